@@ -1,0 +1,3 @@
+pub mod Builtin
+pub mod Definition
+pub mod Device

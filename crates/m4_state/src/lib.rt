@@ -1,0 +1,13 @@
+//! The state of a macro processor: names with their definitions, delimiters, diversions; and the
+//! devices that bytes come from and go to.
+//!
+//! Contracts see a [`state::State`] as one record of lists (`specs/State.antt`), whatever keeps it.
+#![tactic(auto)]
+
+pub mod builtin;
+pub mod bytes;
+pub mod definition;
+pub mod device;
+pub mod memory;
+pub mod standard;
+pub mod transfer;

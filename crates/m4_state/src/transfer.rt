@@ -1,0 +1,61 @@
+//! A reader read to its end, and a whole text put into a writer.
+
+ghost use Rattle.std.specs.Prelude.{◌≡◌, IfOk, IfSome, MatchBool, OnOk, OnErr};
+ghost use Rattle.m4_state.specs.Device.{with_bytes, one_more, HasBegun};
+
+use crate::device::{ByteSink, ByteSource, DeviceFault};
+use std::alloc::{AllocError, Global};
+
+/// How many bytes are asked of a reader at a time.
+const BLOCK: usize = 16384;
+
+/// All that a reader gave, and whether it failed behind that or ended.
+#[derive(Debug, Drop)]
+pub struct Taken {
+    pub bytes: Vec<u8>,
+    pub failed: bool,
+}
+
+/// Reads to the end, or up to the first fault. The bytes grow as they come.
+pub fn take_all<R: ByteSource>(alloc: Global, reader: &mut R) -> Result<Taken, AllocError>
+    ensures bytes { IfOk result (λ t. IfSome (R.script reader.old) (λ s.
+        (t.bytes.items ≡ s.bytes) × (t.failed ≡ s.fails))) }
+    ensures counted { IfOk result (λ t. MatchBool t.failed
+        (R.failures reader.new ≡ one_more (R.failures reader.old))
+        (R.failures reader.new ≡ R.failures reader.old)) }
+{
+    let mut bytes = Vec::new(alloc);
+    let mut block = [0u8; BLOCK];
+    loop {
+        match reader.take(&mut block) {
+            Ok(0) => {
+                return Ok(Taken {
+                    bytes,
+                    failed: false,
+                });
+            }
+            Ok(n) => bytes.extend_from_slice(&block[..n])?,
+            Err(DeviceFault) => {
+                return Ok(Taken {
+                    bytes,
+                    failed: true,
+                });
+            }
+        }
+    }
+}
+
+/// Puts all of the bytes, or fails behind a beginning of them.
+pub fn put_all<W: ByteSink>(writer: &mut W, bytes: &[u8]) -> Result<(), DeviceFault>
+    ensures ok { OnOk result (W.contents writer.new ≡ with_bytes (W.contents writer.old) bytes.now) }
+    ensures begun { OnErr result (HasBegun (W.contents writer.old) (W.contents writer.new) bytes.now) }
+    ensures unfailed { OnOk result (W.failures writer.new ≡ W.failures writer.old) }
+    ensures failed { OnErr result (W.failures writer.new ≡ one_more (W.failures writer.old)) }
+{
+    let mut rest = bytes;
+    while !rest.is_empty() {
+        let n = writer.put(rest)?;
+        rest = rest.split_at(n).1;
+    }
+    Ok(())
+}
