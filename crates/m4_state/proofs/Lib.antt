@@ -1,1 +1,3 @@
+pub mod Places
 pub mod Puts
+pub mod Tables

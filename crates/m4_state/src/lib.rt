@@ -7,7 +7,10 @@
 pub mod builtin;
 pub mod bytes;
 pub mod definition;
+pub mod delimiters;
 pub mod device;
+mod entries;
+mod table;
 pub mod memory;
 pub mod standard;
 pub mod transfer;

@@ -1,0 +1,127 @@
+-- State: what is known between two steps of a run, as one record of lists.
+-- Believed. Manual: "Defining a macro", "Temporarily redefining macros", "Changing the quote
+-- characters", "Changing the comment delimiters", "Diverting and undiverting output".
+-- Words: State, stack_of, pushed, with_quotes, with_comments, diverted, appended, IsState, IsSized.
+-- A list with rising keys is the one list of its finite map: equal states are equal records.
+use Rattle.std.specs.Prelude.{◌≡◌, ◌≢◌, ◌<◌, ◌^◌, ◌-◌, ℕ, ℤ, pos, ◌<ℤ◌, Bool, List, [], ◌∷◌, ◌++◌, length, map, Option, Some, None, IsTrue, unwrap_or, slice_get, if◌then◌else◌, FitsSigned, int_lt}
+use Rattle.std.specs.Int.{w32}
+use Rattle.std.specs.List.{AllByRecursion}
+use Rattle.std.specs.Ordering.{int_cmp}
+use Rattle.std.specs.FinMap.{find, put, is_sorted}
+use Rattle.m4_state.specs.declared.definition.Def.{Def}
+use Rattle.m4_state.specs.declared.delimiters.Delimiters.{Delimiters}
+use Rattle.m4_state.specs.Delimiters.{default_quotes, default_comments, chosen, IsPaired, IsSizedPair}
+use Rattle.m4_state.specs.Table.{Pairs, stack_at, with_push, IsTable, IsSizedTable}
+
+-- a diversion's number and its text
+abbrev pub Diversion : Type 0
+Diversion = ℤ × List ℕ
+
+-- the names in byte order and the diversions by rising number
+pub record State : Type 0 where
+  pub table : Pairs
+  pub quotes : Delimiters
+  pub comments : Delimiters
+  pub diversions : List Diversion
+  pub current : ℤ
+
+-- no names, no diversions, the default delimiters
+abbrev pub empty : State
+empty = record {
+  table = [];
+  quotes = default_quotes;
+  comments = default_comments;
+  diversions = [];
+  current = pos 0;
+}
+
+-- the names, in byte order
+abbrev pub names_of : State → List (List ℕ)
+names_of s = map (λ e. e.0) s.table
+
+-- the definitions of a name, the oldest first
+abbrev pub stack_of : State → List ℕ → List Def
+stack_of s name = stack_at s.table name
+
+-- the last of a list
+abbrev pub last_of : {A : Type 0} → List A → Option A
+last_of xs = slice_get xs (length xs - 1)
+
+-- the definition on top
+abbrev pub top_of : State → List ℕ → Option Def
+top_of s name = last_of (stack_of s name)
+
+-- with one definition more on top of a name's
+abbrev pub pushed : State → List ℕ → Def → State
+pushed s name d = record s { table = with_push s.table name d }
+
+-- with the quotes that two strings choose
+abbrev pub with_quotes : State → List ℕ → List ℕ → State
+with_quotes s begin end = record s { quotes = chosen default_quotes begin end }
+
+-- with the comment delimiters that two strings choose
+abbrev pub with_comments : State → List ℕ → List ℕ → State
+with_comments s begin end = record s { comments = chosen default_comments begin end }
+
+-- the text that a diversion holds
+abbrev pub text_at : List Diversion → ℤ → List ℕ
+text_at diversions number = unwrap_or (find int_cmp number diversions) []
+
+abbrev pub diversion_of : State → ℤ → List ℕ
+diversion_of s number = text_at s.diversions number
+
+-- with another current diversion
+abbrev pub diverted : State → ℤ → State
+diverted s number = record s { current = number }
+
+-- with more text in a diversion of that number; none of them holds an empty text
+abbrev pub with_text : List Diversion → ℤ → List ℕ → List Diversion
+with_text diversions number [] = diversions
+with_text diversions number (b ∷ text) =
+    put int_cmp number (text_at diversions number ++ b ∷ text) diversions
+
+-- whether text goes to a diversion: it does where its number is positive
+abbrev pub holds_text : ℤ → Bool
+holds_text number = int_lt (pos 0) number
+
+-- with more text in the current diversion, if it is one that holds text
+abbrev pub appended : State → List ℕ → State
+appended s text = record s {
+  diversions = if holds_text s.current then with_text s.diversions s.current text else s.diversions;
+}
+
+-- the first diversion behind a number
+abbrev pub next_after : List Diversion → ℤ → Option ℤ
+next_after [] number = None
+next_after (d ∷ diversions) number =
+    if int_lt number d.0 then Some d.0 else next_after diversions number
+
+-- a diversion has a positive number of 32 bits and holds text
+pub record IsDiversion (d : Diversion) : Type 0 where
+  pub positive : IsTrue (holds_text d.0)
+  pub fits : FitsSigned w32 d.0
+  pub some : d.1 ≢ []
+
+-- the numbers rise, and each diversion is in order
+pub record AreDiversions (diversions : List Diversion) : Type 0 where
+  pub sorted : IsTrue (is_sorted int_cmp diversions)
+  pub each : AllByRecursion IsDiversion diversions
+
+abbrev pub AreSizedDiversions : List Diversion → Type 0
+AreSizedDiversions diversions = AllByRecursion (λ d. length d.1 < 2 ^ 64) diversions
+
+-- the invariant: of each pair of delimiters both are empty or neither is, and no placeholder bears
+-- the name of a builtin
+pub record IsState (s : State) : Type 0 where
+  pub table : IsTable s.table
+  pub quotes : IsPaired s.quotes
+  pub comments : IsPaired s.comments
+  pub diversions : AreDiversions s.diversions
+  pub current : FitsSigned w32 s.current
+
+-- no byte string in it is longer than 2^64 - 1
+pub record IsSized (s : State) : Type 0 where
+  pub table : IsSizedTable s.table
+  pub quotes : IsSizedPair s.quotes
+  pub comments : IsSizedPair s.comments
+  pub diversions : AreSizedDiversions s.diversions

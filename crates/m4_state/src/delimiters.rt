@@ -1,0 +1,73 @@
+//! A pair of delimiters, of quotes or of comments.
+
+ghost use Rattle.std.specs.Prelude.{◌≡◌, ◌<◌, ◌^◌, [], length, IfOk};
+
+use crate::bytes::Bytes;
+use std::alloc::{AllocError, Global};
+
+/// What begins and what ends a quoted string, or a comment. Both are empty where it is disabled.
+#[derive(Debug, Drop)]
+pub struct Delimiters {
+    pub begin: Bytes,
+    pub end: Bytes,
+}
+
+impl Delimiters {
+    ghost use Rattle.m4_state.specs.Delimiters.{default_quotes, default_comments, chosen, IsPaired, IsSizedPair};
+
+    /// The quotes of a new state: a backquote and an apostrophe.
+    pub fn default_quotes(alloc: Global) -> Result<Delimiters, AllocError>
+        ensures { IfOk result (λ d. d ≡ default_quotes) }
+    {
+        Ok(Delimiters {
+            begin: Bytes::from_slice(alloc, b"`")?,
+            end: Bytes::from_slice(alloc, b"'")?,
+        })
+    }
+
+    /// The comment delimiters of a new state: a number sign and a newline.
+    pub fn default_comments(alloc: Global) -> Result<Delimiters, AllocError>
+        ensures { IfOk result (λ d. d ≡ default_comments) }
+    {
+        Ok(Delimiters {
+            begin: Bytes::from_slice(alloc, b"#")?,
+            end: Bytes::from_slice(alloc, b"\n")?,
+        })
+    }
+
+    /// Quotes by the two strings that were given for them.
+    pub fn chosen_quotes(alloc: Global, begin: Bytes, end: Bytes) -> Result<Delimiters, AllocError>
+        ensures chosen { IfOk result (λ d. d ≡ chosen default_quotes begin end) }
+        ensures valid { IfOk result (λ d. IsPaired d × IsSizedPair d) }
+    {
+        Delimiters::with_default(alloc, begin, end, b"'")
+    }
+
+    /// Comment delimiters by the two strings that were given for them.
+    pub fn chosen_comments(alloc: Global, begin: Bytes, end: Bytes) -> Result<Delimiters, AllocError>
+        ensures chosen { IfOk result (λ d. d ≡ chosen default_comments begin end) }
+        ensures valid { IfOk result (λ d. IsPaired d × IsSizedPair d) }
+    {
+        Delimiters::with_default(alloc, begin, end, b"\n")
+    }
+    /// Delimiters by two strings, with this end where a begin has none.
+    fn with_default(
+        alloc: Global,
+        begin: Bytes,
+        end: Bytes,
+        default_end: &[u8],
+    ) -> Result<Delimiters, AllocError>
+        requires { (0 < length default_end.now) × (length default_end.now < 2 ^ 64) }
+        ensures chosen { IfOk result (λ d. d ≡ chosen (record { begin = []; end = default_end.now }) begin end) }
+        ensures valid { IfOk result (λ d. IsPaired d × IsSizedPair d) }
+    {
+        let end = if begin.as_slice().is_empty() {
+            Bytes::from(Vec::new(alloc))
+        } else if end.as_slice().is_empty() {
+            Bytes::from_slice(alloc, default_end)?
+        } else {
+            end
+        };
+        Ok(Delimiters { begin, end })
+    }
+}
