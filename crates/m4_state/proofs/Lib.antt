@@ -1,3 +1,4 @@
 pub mod Places
 pub mod Puts
 pub mod Tables
+pub mod TextsByNumber

@@ -17,7 +17,7 @@ pub both : (a b : Bool) → IsTrue (a && b) → IsTrue a × IsTrue b
 both true b h = (refl, h)
 both false b h = absurd cc
 
-less : (r : Ordering) → IsTrue (is_lt r) → r ≡ Less
+pub less : (r : Ordering) → IsTrue (is_lt r) → r ≡ Less
 less Less h = refl
 less Equal h = absurd cc
 less Greater h = absurd cc
@@ -102,7 +102,7 @@ module _ {K X : Type 0} (R : K → K → Ordering) (o : IsTotalOrder R) (same : 
   Places k es (Err i) = IsMissing R k es i
 
   -- a key below all keys is not found
-  missed : (k x : K) (es : List (K × X)) → R k x ≡ Less → IsTrue (below_all R x es) → find R k es ≡ None
+  pub missed : (k x : K) (es : List (K × X)) → R k x ≡ Less → IsTrue (below_all R x es) → find R k es ≡ None
   missed k x [] lt h = refl
   missed k x (e ∷ es) lt h =
       let below : R k e.0 ≡ Less = o.trans k x e.0 lt (less _ (both _ _ h).0) in

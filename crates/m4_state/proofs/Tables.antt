@@ -31,7 +31,7 @@ pub name_placed : (es : List Entry) (name : List ℕ) (r : Result ℕ ℕ) → I
     → record { found : IfOk r (IsFound byte_order name (pairs_of es)); missing : IfErr r (IsMissing byte_order name (pairs_of es)) }
 name_placed es name r sorted bound is =
     let at : Places byte_order nat_list_cmp_total byte_order-IsAntisymmetric name (pairs_of es) r =
-      subst (Places byte_order nat_list_cmp_total byte_order-IsAntisymmetric name (pairs_of es)) (sym (searched byte_order nat_list_cmp_total byte_order-IsAntisymmetric pair_of es name r sorted bound is)) (placed byte_order nat_list_cmp_total byte_order-IsAntisymmetric name (pairs_of es) sorted) in
+    subst (Places byte_order nat_list_cmp_total byte_order-IsAntisymmetric name (pairs_of es)) (sym (searched byte_order nat_list_cmp_total byte_order-IsAntisymmetric pair_of es name r sorted bound is)) (placed byte_order nat_list_cmp_total byte_order-IsAntisymmetric name (pairs_of es) sorted) in
     by r at
   where
     by : (q : Result ℕ ℕ) → Places byte_order nat_list_cmp_total byte_order-IsAntisymmetric name (pairs_of es) q → record { found : IfOk q (IsFound byte_order name (pairs_of es)); missing : IfErr q (IsMissing byte_order name (pairs_of es)) }
@@ -70,8 +70,8 @@ module _ (table : Pairs) (name : List ℕ) (d : Def) where
   IsTable-push h is = record {
     sorted = IsTrue-sorted-put table name (stack_at table name ++ d ∷ []) h.sorted;
     stacks = AllByRecursion-put byte_order nat_list_cmp_total byte_order-IsAntisymmetric IsStack name _ table
-      (record { some = push_is_some (stack_at table name) d; definitions = AllByRecursion-push IsDefinition (stack_at table name) d (stack_holds IsDefinition IsStack table name (λ e p. p.definitions) h.stacks) is })
-      h.stacks;
+        (record { some = push_is_some (stack_at table name) d; definitions = AllByRecursion-push IsDefinition (stack_at table name) d (stack_holds IsDefinition IsStack table name (λ e p. p.definitions) h.stacks) is })
+        h.stacks;
   }
 
   -- and sized
@@ -95,7 +95,7 @@ module _ (es : List Entry) (name : List ℕ) (i : ℕ) where
       → pairs_of (set es i y) ≡ with_push (pairs_of es) name d
   pushed_found e y d found is same_name items =
       let here : pair_of y ≡ (name, stack_at (pairs_of es) name ++ d ∷ []) =
-        λ j. ((same_name ∙ name_found e found is) j, (items ∙ ap (λ (xs : List Def). xs ++ d ∷ []) (sym (stack_found e found is))) j) in
+      λ j. ((same_name ∙ name_found e found is) j, (items ∙ ap (λ (xs : List Def). xs ++ d ∷ []) (sym (stack_found e found is))) j) in
       map-set pair_of es i y ∙ ap (λ (q : Pair). set (pairs_of es) i q) here ∙ sym (found.written (stack_at (pairs_of es) name ++ d ∷ []))
 
   -- a new entry at a missing name's place is a push
@@ -104,7 +104,7 @@ module _ (es : List Entry) (name : List ℕ) (i : ℕ) where
   pushed_missing y d missing same_name items =
       let none : stack_at (pairs_of es) name ≡ [] = ap (λ (o : Option (List Def)). unwrap_or o []) missing.absent in
       let here : pair_of y ≡ (name, stack_at (pairs_of es) name ++ d ∷ []) =
-        λ j. (same_name j, (items ∙ ap (λ (xs : List Def). xs ++ d ∷ []) (sym none)) j) in
+      λ j. (same_name j, (items ∙ ap (λ (xs : List Def). xs ++ d ∷ []) (sym none)) j) in
       map-insert pair_of es i y ∙ ap (λ (q : Pair). insert (pairs_of es) i q) here ∙ sym (missing.written (stack_at (pairs_of es) name ++ d ∷ []))
 
 -- the names of the pairs are those of the entries

@@ -2,7 +2,9 @@ pub mod Builtin
 pub mod Definition
 pub mod Delimiters
 pub mod Device
+pub mod DiversionEntries
 pub mod Entries
 pub mod Place
 pub mod State
+pub mod StateView
 pub mod Table

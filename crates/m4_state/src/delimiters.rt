@@ -44,7 +44,11 @@ impl Delimiters {
     }
 
     /// Comment delimiters by the two strings that were given for them.
-    pub fn chosen_comments(alloc: Global, begin: Bytes, end: Bytes) -> Result<Delimiters, AllocError>
+    pub fn chosen_comments(
+        alloc: Global,
+        begin: Bytes,
+        end: Bytes,
+    ) -> Result<Delimiters, AllocError>
         ensures chosen { IfOk result (λ d. d ≡ chosen default_comments begin end) }
         ensures valid { IfOk result (λ d. IsPaired d × IsSizedPair d) }
     {

@@ -45,7 +45,6 @@ returns-in_ok-insert-in-Err-clause-table c =
     let table = IsTable-push _ c.args.name c.args.def c.requires.table c.requires.definition in
     rw c.in_ok-insert-in-Err.ensures.items (subst IsTable (sym (pushed_missing c.args.entries.now.items c.args.name c.in-Err.i _ c.args.def missing refl (c.in_ok-push-in-Err.ensures.items ∙ ap (λ (xs : List Def). xs ++ c.args.def ∷ []) c.new-stack.ensures.items))) table)
 
-
 pub returns-in_ok-insert-in-Err-clause-sized : goal.returns-in_ok-insert-in-Err-clause-sized
 returns-in_ok-insert-in-Err-clause-sized c =
     let missing = rw (c.as_slice.ensures.value, c.deref.ensures.value) at c.in-Err.ensures.missing in

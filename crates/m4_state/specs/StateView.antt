@@ -1,0 +1,15 @@
+-- What the fields of the code's state stand for.
+-- Not believed: it only puts the fields' values into one record.
+use Rattle.std.specs.Prelude.{ℕ}
+use Rattle.m4_state.specs.State.{State}
+use Rattle.m4_state.specs.declared.state.State.TheInside.{Inside}
+
+-- the record of a state
+abbrev pub view_of : Inside → State
+view_of s = record {
+  table = s.table;
+  quotes = s.quotes;
+  comments = s.comments;
+  diversions = s.diversions;
+  current = s.current;
+}

@@ -1,0 +1,37 @@
+//! Texts by their numbers, as diversions keep them.
+
+ghost use Rattle.std.specs.Prelude.{◌≡◌, ◌<◌, ◌++◌, ◌^◌, length, IsTrue, OnOk, OnErr};
+ghost use Rattle.std.specs.Ordering.{int_cmp};
+ghost use Rattle.std.specs.FinMap.{put, is_sorted};
+ghost use Rattle.m4_state.specs.State.{text_at};
+ghost use Rattle.m4_state.specs.DiversionEntries.{texts_of};
+
+use std::alloc::{AllocError, Global};
+use std::collections::BTreeMap;
+
+/// Adds to the text of a number. What can fail comes first, so a refusal changes nothing.
+pub fn append_in(
+    alloc: Global,
+    texts: &mut BTreeMap<i32, Vec<u8>>,
+    number: i32,
+    text: &[u8],
+) -> Result<(), AllocError>
+    requires { IsTrue (is_sorted int_cmp (texts_of texts.old.entries)) }
+    ensures ok { OnOk result (texts_of texts.new.entries
+        ≡ put int_cmp number (text_at (texts_of texts.old.entries) number ++ text.now) (texts_of texts.old.entries)) }
+    ensures err { OnErr result (texts_of texts.new.entries ≡ texts_of texts.old.entries) }
+    ensures sized { OnOk result (length (text_at (texts_of texts.old.entries) number ++ text.now) < 2 ^ 64) }
+{
+    let _len = text.len();
+    match texts.get_mut(&number) {
+        Some(held) => {
+            held.extend_from_slice(text)?;
+            let _held = held.len();
+        }
+        None => {
+            let held = Vec::from_slice(alloc, text)?;
+            texts.insert(number, held)?;
+        }
+    }
+    Ok(())
+}

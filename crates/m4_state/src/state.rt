@@ -1,0 +1,175 @@
+//! The state of a run between two steps: names with stacks of definitions, both pairs of
+//! delimiters, the diversions and the number of the current one.
+//!
+//! Contracts see one record of lists (specs/State.antt), which doesn't change with what keeps it.
+//! Each call says the whole new record; a refusal leaves it unchanged.
+
+ghost use Rattle.std.specs.Prelude.{◌≡◌, ◌∷◌, [], IfOk, IfSome, IfNone, OnOk, OnErr, option_copied};
+
+use crate::bytes::Bytes;
+use crate::definition::Def;
+use crate::delimiters::Delimiters;
+use crate::diversions::Diversions;
+use crate::fault::StateFault;
+use crate::table::Table;
+use std::alloc::Global;
+use std::marker::Model;
+
+/// Names with their definitions, delimiters and diversions.
+#[derive(Drop)]
+pub struct State {
+    alloc: Global,
+    table: Table,
+    quotes: Delimiters,
+    comments: Delimiters,
+    diversions: Diversions,
+    current: i32,
+}
+
+impl Model for State {
+    ghost use Rattle.m4_state.specs.State.{State as Record, IsState, IsSized};
+    ghost use Rattle.m4_state.specs.StateView.{view_of};
+
+    ghost Value = { Record };
+
+    ghost view = { view_of };
+
+    ghost invariant = { λ s. IsState (view_of s) × IsSized (view_of s) };
+}
+
+impl State {
+    ghost use Rattle.m4_state.specs.Definition.{IsDefinition};
+    ghost use Rattle.m4_state.specs.State.{IsState, IsSized, empty, names_of, stack_of, top_of, pushed, with_quotes, with_comments, diverted, appended, diversion_of, next_after};
+
+    /// No names, no diversions, the default delimiters.
+    pub fn empty(alloc: Global) -> Result<State, StateFault>
+        ensures { IfOk result (λ s. s ≡ empty) }
+    {
+        Ok(State {
+            alloc,
+            table: Table::new(alloc),
+            quotes: Delimiters::default_quotes(alloc)?,
+            comments: Delimiters::default_comments(alloc)?,
+            diversions: Diversions::new(alloc),
+            current: 0,
+        })
+    }
+
+    /// The definitions of a name, the oldest first; none where it has none. Takes time in
+    /// proportion to the name and to the logarithm of the number of names.
+    pub fn stack(&self, name: &[u8]) -> &[Def]
+        ensures { result.now ≡ stack_of self.now name.now }
+    {
+        self.table.stack(name)
+    }
+
+    /// The definition on top of a name's.
+    pub fn top(&self, name: &[u8]) -> Option<&Def>
+        ensures { option_copied result ≡ top_of self.now name.now }
+    {
+        self.stack(name).last()
+    }
+
+    /// The names that have a definition, in byte order.
+    pub fn names(&self) -> Result<Vec<Bytes>, StateFault>
+        ensures { IfOk result (λ names. names.items ≡ names_of self.now) }
+    {
+        Ok(self.table.names()?)
+    }
+
+    /// Puts a definition on top of a name's. Manual: "Temporarily redefining macros".
+    pub fn push(&mut self, name: Bytes, def: Def) -> Result<(), StateFault>
+        requires { IsDefinition def }
+        ensures ok { OnOk result (self.new ≡ pushed self.old name def) }
+        ensures err { OnErr result (self.new ≡ self.old) }
+    {
+        self.table.push(name, def)?;
+        Ok(())
+    }
+
+    /// The begin and the end of quotes; both are empty where they are disabled.
+    pub fn quotes(&self) -> (&[u8], &[u8])
+        ensures begin { result.0.now ≡ self.now.quotes.begin }
+        ensures end { result.1.now ≡ self.now.quotes.end }
+    {
+        (self.quotes.begin.as_slice(), self.quotes.end.as_slice())
+    }
+
+    /// The begin and the end of comments; both are empty where they are disabled.
+    pub fn comments(&self) -> (&[u8], &[u8])
+        ensures begin { result.0.now ≡ self.now.comments.begin }
+        ensures end { result.1.now ≡ self.now.comments.end }
+    {
+        (self.comments.begin.as_slice(), self.comments.end.as_slice())
+    }
+
+    /// Chooses quotes: an empty begin disables them, and an empty end behind a begin is the default
+    /// one. Manual: "Changing the quote characters".
+    pub fn set_quotes(&mut self, begin: Bytes, end: Bytes) -> Result<(), StateFault>
+        ensures ok { OnOk result (self.new ≡ with_quotes self.old begin end) }
+        ensures err { OnErr result (self.new ≡ self.old) }
+    {
+        self.quotes = Delimiters::chosen_quotes(self.alloc, begin, end)?;
+        Ok(())
+    }
+
+    /// Chooses comment delimiters, by the same rule. Manual: "Changing the comment delimiters".
+    pub fn set_comments(&mut self, begin: Bytes, end: Bytes) -> Result<(), StateFault>
+        ensures ok { OnOk result (self.new ≡ with_comments self.old begin end) }
+        ensures err { OnErr result (self.new ≡ self.old) }
+    {
+        self.comments = Delimiters::chosen_comments(self.alloc, begin, end)?;
+        Ok(())
+    }
+
+    /// The number of the current diversion. A state is in order, and no byte string in it is longer
+    /// than 2^64 - 1.
+    pub fn current(&self) -> i32
+        ensures current { result ≡ self.now.current }
+        ensures valid { IsState self.now }
+        ensures sized { IsSized self.now }
+    {
+        self.current
+    }
+
+    /// Makes this diversion the current one. Manual: "Diverting output".
+    pub fn divert(&mut self, number: i32)
+        ensures { self.new ≡ diverted self.old number }
+    {
+        self.current = number;
+    }
+
+    /// Adds text to the current diversion, if its number is positive; else nothing changes.
+    pub fn append(&mut self, text: &[u8]) -> Result<(), StateFault>
+        ensures ok { OnOk result (self.new ≡ appended self.old text.now) }
+        ensures err { OnErr result (self.new ≡ self.old) }
+    {
+        if self.current > 0 {
+            self.diversions.append(self.current, text)?;
+        }
+        Ok(())
+    }
+
+    /// The text that a diversion holds; empty where it holds none.
+    pub fn diversion(&self, number: i32) -> &[u8]
+        ensures { result.now ≡ diversion_of self.now number }
+    {
+        self.diversions.text(number)
+    }
+
+    /// The least number above this one, and above 0, that holds text.
+    pub fn next_diversion(&self, number: i32) -> Option<i32>
+        ensures { result ≡ next_after self.now.diversions number }
+    {
+        self.diversions.next(number)
+    }
+
+    /// Takes out the diversion of the least number, with its text.
+    pub fn take_least(&mut self) -> Option<(i32, Vec<u8>)>
+        ensures some { IfSome result (λ d. self.old
+            ≡ record self.new { diversions = (d.0, d.1.items) ∷ self.new.diversions }) }
+        ensures none { IfNone result ((self.old.diversions ≡ []) × (self.new ≡ self.old)) }
+    {
+        self.diversions.take_least()
+    }
+}
