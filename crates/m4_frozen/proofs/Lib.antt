@@ -1,0 +1,11 @@
+pub mod Digits
+pub mod DirectiveLoop
+pub mod ReadBack
+pub mod Parts
+pub mod Spelled
+pub mod Missed
+pub mod FirstFault
+pub mod LongestFront
+pub mod Settled
+pub mod Unsettled
+pub mod Answered
