@@ -69,8 +69,8 @@ firm_or_not : (b : Bool) → b ≡ true → b ≡ false → ⊥
 firm_or_not b e f = cc
 
 -- A reader that failed has the fault that its bytes settle, else the failure behind them.
-pub cut_says : (given : List ℕ) → IsFaultOfFailed given (failed_answer given (file_at given))
-cut_says given = by_result (FileSays given) (λ r. IsFaultOfFailed given (failed_answer given r)) (file_at given) (file_says given)
+pub failed_answer_says : (given : List ℕ) → IsFaultOfFailed given (failed_answer given (file_at given))
+failed_answer_says given = by_result (FileSays given) (λ r. IsFaultOfFailed given (failed_answer given r)) (file_at given) (file_says given)
     (λ ds h. inr ((λ other s. spelled_no_fault ds given other h (settled_now given other s)), refl))
     (λ e h.
     let here : drop (length given - e.bytes_left) given ≡ h.here = ap (drop (length given - e.bytes_left)) h.spelled ∙ drop_at (h.front ++ h.before) h.here (length given - e.bytes_left) (sym h.place) in
@@ -97,7 +97,7 @@ refused_is_fault failed e bytes closed h = rw closed (err_is_fault e bytes h)
 
 -- the fault of a reader that failed is the one that is made from the answer for what it gave
 pub failed_is_fault : (failed : Bool) (r : Result (List Directive) Refusal) (bytes : List ℕ) → failed ≡ true → file_at bytes ≡ r → IsFaultOf failed bytes (failed_answer bytes r)
-failed_is_fault failed r bytes gave h = rw gave (subst (λ (x : Result (List Directive) Refusal). IsFaultOfFailed bytes (failed_answer bytes x)) h (cut_says bytes))
+failed_is_fault failed r bytes gave h = rw gave (subst (λ (x : Result (List Directive) Refusal). IsFaultOfFailed bytes (failed_answer bytes x)) h (failed_answer_says bytes))
 
 no_memory_row : (bytes : List ℕ) (fault : FrozenFault) → IsFault bytes fault → fault.kind ≡ kinds.OutOfMemory → ⊥
 no_memory_row bytes fault h e = rw e at h.fits
@@ -133,15 +133,15 @@ one_answer = λ bytes. by_result (FileSays bytes) (λ (r : Result (List Directiv
 pub one_answer_of_failed : OneAnswerOfFailed
 one_answer_of_failed = λ given.
     let fault : FrozenFault = failed_answer given (file_at given) in
-    (fault, cut_says given, λ other h. failed_one given other fault h (cut_says given))
+    (fault, failed_answer_says given, λ other h. failed_one given other fault h (failed_answer_says given))
 
 pub reader_steps_tied : TiesReaderSteps
 reader_steps_tied = λ bytes. record {
   directives = λ ds. ok_is_spelled ds bytes;
   fault = λ f. ((λ h. subst (FaultAt bytes) (sym h.2) (err_is_fault h.0 bytes h.1)), λ h. fault_is_err bytes f h);
   failed = λ f. (
-    (λ e. subst (IsFaultOfFailed bytes) (sym e) (cut_says bytes)),
-    λ h. failed_one bytes f (failed_answer bytes (file_at bytes)) h (cut_says bytes),
+    (λ e. subst (IsFaultOfFailed bytes) (sym e) (failed_answer_says bytes)),
+    λ h. failed_one bytes f (failed_answer bytes (file_at bytes)) h (failed_answer_says bytes),
   );
 }
 

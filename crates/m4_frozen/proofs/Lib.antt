@@ -9,3 +9,4 @@ pub mod LongestFront
 pub mod Settled
 pub mod Unsettled
 pub mod Answered
+pub mod Examples
