@@ -52,15 +52,15 @@ fault_is_err bytes fault h = fault_read bytes fault h.is
 pub one_fault : (bytes : List ℕ) (a b : FrozenFault) → FaultAt bytes a → FaultAt bytes b → a ≡ b
 one_fault bytes a b p q = fault_one bytes a b p.is q.is
 
-firm_of : (kind : FrozenKind) (here : List ℕ) → is_settled kind here ≡ true → IsFirm kind here
-firm_of kind [] h = absurd cc
-firm_of kinds.VersionZero (b ∷ bs) h = ((λ e. cc), λ e. not-true (list_all is_ascii_digit (b ∷ bs)) h)
-firm_of kind (b ∷ bs) h = ((λ e. cc), λ e. absurd cc)
+firm_from_settled : (kind : FrozenKind) (here : List ℕ) → is_settled kind here ≡ true → IsFirm kind here
+firm_from_settled kind [] h = absurd cc
+firm_from_settled kinds.VersionZero (b ∷ bs) h = ((λ e. cc), λ e. not-true (list_all is_ascii_digit (b ∷ bs)) h)
+firm_from_settled kind (b ∷ bs) h = ((λ e. cc), λ e. absurd cc)
 
-is_firm-true : (kind : FrozenKind) (here : List ℕ) → IsFirm kind here → is_settled kind here ≡ true
-is_firm-true kind [] h = absurd (h.0 refl)
-is_firm-true kinds.VersionZero (b ∷ bs) h = rw (h.1 refl) refl
-is_firm-true kind (b ∷ bs) h = refl
+is_settled-true : (kind : FrozenKind) (here : List ℕ) → IsFirm kind here → is_settled kind here ≡ true
+is_settled-true kind [] h = absurd (h.0 refl)
+is_settled-true kinds.VersionZero (b ∷ bs) h = rw (h.1 refl) refl
+is_settled-true kind (b ∷ bs) h = refl
 
 settled_now : (given : List ℕ) (fault : FrozenFault) → IsSettledBy given fault → IsFault given fault
 settled_now given fault s = rw append-nil at ((s []).is)
@@ -75,12 +75,12 @@ failed_answer_says given = by_result (FileSays given) (λ r. IsFaultOfFailed giv
     (λ e h.
     let here : drop (length given - e.bytes_left) given ≡ h.here = ap (drop (length given - e.bytes_left)) h.spelled ∙ drop_at (h.front ++ h.before) h.here (length given - e.bytes_left) (sym h.place) in
     by_test (IsFaultOfFailed given) (is_settled e.kind (drop (length given - e.bytes_left) given)) (fault_of given e) (read_fault given)
-    (λ f. inl ((settled_is_firm given (fault_of given e) h).1 (firm_of e.kind h.here (rw here at f))))
+    (λ f. inl ((settled_is_firm given (fault_of given e) h).1 (firm_from_settled e.kind h.here (rw here at f))))
     (λ f. inr (
       (λ other s.
           let same : other ≡ fault_of given e = fault_one given other (fault_of given e) (settled_now given other s) h in
           let firm = (settled_is_firm given (fault_of given e) h).0 (rw same at s) in
-          firm_or_not (is_settled e.kind h.here) (is_firm-true e.kind h.here firm) (rw here at f)),
+          firm_or_not (is_settled e.kind h.here) (is_settled-true e.kind h.here firm) (rw here at f)),
       refl,
     )))
 

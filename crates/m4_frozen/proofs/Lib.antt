@@ -3,7 +3,7 @@ pub mod DirectiveLoop
 pub mod ReadBack
 pub mod Parts
 pub mod Spelled
-pub mod Missed
+pub mod RowsRefused
 pub mod FirstFault
 pub mod LongestFront
 pub mod Settled

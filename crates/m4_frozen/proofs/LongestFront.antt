@@ -8,14 +8,14 @@ use Rattle.m4_frozen.specs.declared.fault.FrozenFault.{FrozenFault}
 use Rattle.m4_frozen.specs.declared.fault.FrozenKind.{FrozenKind}
 use Rattle.m4_frozen.specs.declared.fault.FrozenKind.TheVariants as kinds
 use Rattle.m4_frozen.specs.Directive.{Directive}
-use Rattle.m4_frozen.specs.Spells.{AreSkippedLines, are_skipped}
+use Rattle.m4_frozen.specs.Spells.{AreSkippedLines, are_skipped, SpellsAll}
 use Rattle.m4_frozen.specs.ReaderSteps.{skip_lines, next_at, behind_version}
 use Rattle.m4_frozen.specs.Layout.{first_is}
-use Rattle.m4_frozen.specs.FaultAt.{RowFits, FitsWithin, AreWhole, IsFront, IsFault, FaultAt, IsLongest, is_none_of}
+use Rattle.m4_frozen.specs.FaultAt.{RowFits, FitsWithin, IsFront, IsFault, FaultAt, IsLongest, is_none_of}
 use Rattle.m4_frozen.proofs.Digits.{by_test}
 use Rattle.m4_frozen.proofs.ReadBack.{test, one_is_read, lines_again, first_again, version_again}
 use Rattle.m4_frozen.proofs.Parts.{eq_of}
-use Rattle.m4_frozen.proofs.FirstFault.{no_line, row_missed, row_missed_before, none_of}
+use Rattle.m4_frozen.proofs.FirstFault.{no_line, row_refused, row_refused_before, none_of}
 
 skip_lines-le : (inside : Bool) (bytes : List ℕ) → length (skip_lines inside bytes) ≤ length bytes
 skip_lines-le inside [] = omega arith
@@ -38,7 +38,7 @@ same_next a b e = cc
 no_next : (a : Directive × List ℕ) (e : Refusal) (r : Result (Option (Directive × List ℕ)) Refusal) → r ≡ next a → r ≡ Err e → ⊥
 no_next a e r p q = cc
 
-directives_max : (ds es : List Directive) (front other tail rest : List ℕ) (x : Refusal) → AreWhole ds front → AreWhole es other → front ++ tail ≡ other ++ rest
+directives_max : (ds es : List Directive) (front other tail rest : List ℕ) (x : Refusal) → SpellsAll false ds front → SpellsAll false es other → front ++ tail ≡ other ++ rest
     → next_at (skip_lines false tail) ≡ Err x → skip_lines false tail ≡ tail → length tail ≤ length rest
 directives_max [] [] front other tail rest x a b e f stops = lines_max front other tail rest a b e stops
 directives_max [] (d ∷ es) front other tail rest x a b e f stops =
@@ -170,13 +170,13 @@ front_max kind true true front other before here rest f g h e =
     let a = front_starts front (before ++ here) f in
     let b = front_starts other rest g in
     let same : f.2 ++ (before ++ here) ≡ g.2 ++ rest = same_given _ _ (sym a.gives ∙ ap (λ (bs : List ℕ). behind_version (skip_lines false bs)) e ∙ b.gives) in
-    directives_max f.3 g.3 f.2 g.2 (before ++ here) rest (record { kind = kind; bytes_left = length here }) f.6 g.6 same (row_missed kind before here h) (row_stops kind before here h)
+    directives_max f.3 g.3 f.2 g.2 (before ++ here) rest (record { kind = kind; bytes_left = length here }) f.6 g.6 same (row_refused kind before here h) (row_stops kind before here h)
 front_max kind true false front other before here rest f g h e =
     let a = front_starts front (before ++ here) f in
     omega (arith, lines_max a.lines other (86 ∷ (a.behind ++ (f.2 ++ (before ++ here)))) rest a.are_lines g (sym a.parts ∙ e) refl, length-append a.behind (f.2 ++ (before ++ here)), length-append f.2 (before ++ here))
 front_max kind false true front other before here rest f g h e =
     let b = front_starts other rest g in
-    absurd (not_given (g.2 ++ rest) (record { kind = kind; bytes_left = length here }) (behind_version (skip_lines false (front ++ (before ++ here)))) (rw e b.gives) (rw (lines_again false front (before ++ here) f) (row_missed_before kind before here h)))
+    absurd (not_given (g.2 ++ rest) (record { kind = kind; bytes_left = length here }) (behind_version (skip_lines false (front ++ (before ++ here)))) (rw e b.gives) (rw (lines_again false front (before ++ here) f) (row_refused_before kind before here h)))
 front_max kind false false front other before here rest f g h e = row_max_before kind front other before here rest f g h e
 
 -- The front of a fault is the longest.

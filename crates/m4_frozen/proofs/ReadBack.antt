@@ -183,7 +183,7 @@ first_again d lines one rest are r =
     let e : skip_lines false (lines ++ one ++ rest) ≡ r.letter ∷ r.behind = ap (skip_lines false) (append_assoc lines one rest) ∙ lines_again false lines (one ++ rest) are ∙ ap (skip_lines false) r.begins ∙ r.apart in
     ap (next_at) e ∙ rw r.gives refl
 
-pub directives_again : (ds : List Directive) (bytes : List ℕ) (n : ℕ) → SpellsAll ds bytes → length ds < n → directives_at n bytes ≡ Ok ds
+pub directives_again : (ds : List Directive) (bytes : List ℕ) (n : ℕ) → SpellsAll true ds bytes → length ds < n → directives_at n bytes ≡ Ok ds
 unfolding directives_at
 directives_again ds bytes zero h lt = absurd (omega arith)
 directives_again [] bytes (suc n) h lt = rw (last_again false bytes h) refl
@@ -198,10 +198,11 @@ one_is_some (Text first second) one p = rw p.spelled (omega arith)
 one_is_some (Builtin first second) one p = rw p.spelled (omega arith)
 one_is_some (Diversion number text) one p = rw p.spelled (omega arith)
 
-length-SpellsAll : (ds : List Directive) (bytes : List ℕ) → SpellsAll ds bytes → length ds ≤ length bytes
-length-SpellsAll [] bytes h = omega arith
-length-SpellsAll (d ∷ ds) bytes h =
-    rw h.6 (omega (arith, length-append (h.0 ++ h.1) h.2, length-append h.0 h.1, one_is_some d h.1 h.4, length-SpellsAll ds h.2 h.5))
+-- each directive takes a byte at least
+pub length-SpellsAll : (may_lack : Bool) (ds : List Directive) (bytes : List ℕ) → SpellsAll may_lack ds bytes → length ds ≤ length bytes
+length-SpellsAll may_lack [] bytes h = omega arith
+length-SpellsAll may_lack (d ∷ ds) bytes h =
+    rw h.6 (omega (arith, length-append (h.0 ++ h.1) h.2, length-append h.0 h.1, one_is_some d h.1 h.4, length-SpellsAll may_lack ds h.2 h.5))
 
 pub version_again : (number rest : List ℕ) → IsNumber 1 number → IsTrue (no_digit_first rest) → version_at (number ++ rest) ≡ Ok rest
 unfolding version_at
@@ -215,7 +216,7 @@ pub spells_again : (ds : List Directive) (bytes : List ℕ) → Spells ds bytes 
 unfolding file_at
 spells_again ds bytes p =
     let start : skip_lines false bytes ≡ 86 ∷ p.number ++ 10 ∷ p.rest = ap (skip_lines false) p.spelled ∙ ap (skip_lines false) (append_assoc p.lines (86 ∷ p.number) (10 ∷ p.rest)) ∙ lines_again false p.lines (86 ∷ p.number ++ 10 ∷ p.rest) p.are_lines in
-    rw (start, version_again p.number (10 ∷ p.rest) p.version refl, directives_again ds p.rest (length p.rest + 1) p.others (omega (arith, length-SpellsAll ds p.rest p.others))) refl
+    rw (start, version_again p.number (10 ∷ p.rest) p.version refl, directives_again ds p.rest (length p.rest + 1) p.others (omega (arith, length-SpellsAll true ds p.rest p.others))) refl
 
 abbrev given : List Directive → Result (List Directive) Refusal
 given ds = Ok ds

@@ -106,15 +106,15 @@ ended_more Comma bytes more h k = tt
 ended_more NewLine bytes more h k = tt
 ended_more (String n) bytes more h k = tt
 
-missed_more : {A : Type 0} (kind : FrozenKind) (l : Layout A) (before here more : List ℕ) → IsFirm kind here → IsWrongWithin kind l before here → IsWrongWithin kind l before (here ++ more)
-missed_more kind (Done x) before here more firm h = h
-missed_more kind (Then p behind) before here more firm (inl h) = inl (misses_more kind p before here more firm h)
-missed_more kind (Then p behind) before here more firm (inr h) =
-    inr (h.0, h.1, h.2, h.3, rw (← append_assoc h.2 here more) (ended_more p (h.2 ++ here) more (some_more h.2 here firm.0) h.4), h.5, missed_more kind (behind h.0) h.2 here more firm h.6)
+wrong_more : {A : Type 0} (kind : FrozenKind) (l : Layout A) (before here more : List ℕ) → IsFirm kind here → IsWrongWithin kind l before here → IsWrongWithin kind l before (here ++ more)
+wrong_more kind (Done x) before here more firm h = h
+wrong_more kind (Then p behind) before here more firm (inl h) = inl (misses_more kind p before here more firm h)
+wrong_more kind (Then p behind) before here more firm (inr h) =
+    inr (h.0, h.1, h.2, h.3, rw (← append_assoc h.2 here more) (ended_more p (h.2 ++ here) more (some_more h.2 here firm.0) h.4), h.5, wrong_more kind (behind h.0) h.2 here more firm h.6)
 
 within_more : (kind : FrozenKind) (versioned : Bool) (before here more : List ℕ) → IsFirm kind here → FitsWithin kind versioned before here → FitsWithin kind versioned before (here ++ more)
-within_more kind true before here more firm h = let m = h.3 in (h.0, h.1, h.2, (m.0, m.1, missed_more kind m.0 h.1 here more firm m.2))
-within_more kind false before here more firm h = let m = h.3 in (h.0, h.1, h.2, (m.0, missed_more kind version_layout h.1 here more firm m.1))
+within_more kind true before here more firm h = let m = h.3 in (h.0, h.1, h.2, (m.0, m.1, wrong_more kind m.0 h.1 here more firm m.2))
+within_more kind false before here more firm h = let m = h.3 in (h.0, h.1, h.2, (m.0, wrong_more kind version_layout h.1 here more firm m.1))
 
 row_more : (kind : FrozenKind) (versioned : Bool) (before here more : List ℕ) → IsFirm kind here → RowFits kind versioned before here → RowFits kind versioned before (here ++ more)
 row_more kinds.NoVersion versioned before here more firm (e, inl h) = (e, inl (h.0, starts_more _ here more h.1))

@@ -10,7 +10,7 @@ use Rattle.m4_frozen.specs.Directive.{Directive, Quotes, Comments, Text, Builtin
 use Rattle.m4_frozen.specs.Spells.{IsNumber, IsPair, IsDiversion, SpellsOne, AreSkippedLines, are_skipped, SpellsAll, Spells}
 use Rattle.m4_frozen.specs.ReaderSteps.{◌>>=◌, with_pair, pair_at, diversion_at, directive_at, skip_lines, next_at, directives_at, version_at, expect_byte, behind_version, file_at}
 use Rattle.m4_frozen.specs.Layout.{Part, Layout, Done, Then, IsWrong, pair_layout, diversion_layout, version_layout, layout_of, IsWrongWithin}
-use Rattle.m4_frozen.specs.FaultAt.{RowFits, AreWhole, IsOpenLine, IsFault}
+use Rattle.m4_frozen.specs.FaultAt.{RowFits, IsOpenLine, IsFault}
 use Rattle.m4_frozen.specs.ReaderSteps.{fault_of}
 use Rattle.m4_frozen.proofs.Digits.{by_test}
 use Rattle.m4_frozen.proofs.Parts.{Read, by_bind, layout_at, IsSpelled, LayoutSays, layout_says, eq_of}
@@ -216,8 +216,8 @@ lines_and false (b ∷ lines) rest h k =
 
 -- the directives of all bytes behind the version, or the fault
 abbrev pub DirectivesSay : List ℕ → Result (List Directive) Refusal → Type 0
-DirectivesSay bytes (Ok ds) = SpellsAll ds bytes
-DirectivesSay bytes (Err e) = (front : List ℕ) × (before : List ℕ) × (here : List ℕ) × (ds : List Directive) × AreWhole ds front × RowFits e.kind true before here × (bytes ≡ front ++ before ++ here) × (e.bytes_left ≡ length here)
+DirectivesSay bytes (Ok ds) = SpellsAll true ds bytes
+DirectivesSay bytes (Err e) = (front : List ℕ) × (before : List ℕ) × (here : List ℕ) × (ds : List Directive) × SpellsAll false ds front × RowFits e.kind true before here × (bytes ≡ front ++ before ++ here) × (e.bytes_left ≡ length here)
 
 after_one : (bytes lines one rest : List ℕ) (d : Directive) (r : Result (List Directive) Refusal) → AreSkippedLines lines → SpellsOne d one → bytes ≡ lines ++ one ++ rest
     → DirectivesSay rest r → DirectivesSay bytes (r >>= λ ds. Ok (d ∷ ds))

@@ -44,31 +44,31 @@ misses_end kinds.SeparatorExpected NewLine before h = absurd (let k = h.1 in cc)
 misses_end kinds.SeparatorExpected p before h = absurd h
 misses_end kind p before h = absurd h
 
-missed_end : {A : Type 0} (kind : FrozenKind) (l : Layout A) (before : List ℕ) → IsWrongWithin kind l before [] → kind ≡ kinds.PrematureEnd
-missed_end kind (Done x) before h = absurd h
-missed_end kind (Then p behind) before (inl h) = misses_end kind p before h
-missed_end kind (Then p behind) before (inr h) = missed_end kind (behind h.0) h.2 h.6
+wrong_at_end : {A : Type 0} (kind : FrozenKind) (l : Layout A) (before : List ℕ) → IsWrongWithin kind l before [] → kind ≡ kinds.PrematureEnd
+wrong_at_end kind (Done x) before h = absurd h
+wrong_at_end kind (Then p behind) before (inl h) = misses_end kind p before h
+wrong_at_end kind (Then p behind) before (inr h) = wrong_at_end kind (behind h.0) h.2 h.6
 
 -- what lies in wait at the end of a whole part
-missed_cut : {A : Type 0} (l : Layout A) (before here : List ℕ) → IsWrongWithin kinds.PrematureEnd l before here → here ≡ []
-missed_cut (Done x) before here h = absurd h
-missed_cut (Then p behind) before here (inl h) = h.1
-missed_cut (Then p behind) before here (inr h) = missed_cut (behind h.0) h.2 here h.6
+short_at_end : {A : Type 0} (l : Layout A) (before here : List ℕ) → IsWrongWithin kinds.PrematureEnd l before here → here ≡ []
+short_at_end (Done x) before here h = absurd h
+short_at_end (Then p behind) before here (inl h) = h.1
+short_at_end (Then p behind) before here (inr h) = short_at_end (behind h.0) h.2 here h.6
 
-within_cut : (versioned : Bool) (before here : List ℕ) → FitsWithin kinds.PrematureEnd versioned before here → here ≡ []
-within_cut true before here h = missed_cut h.3.0 h.1 here h.3.2
-within_cut false before here h = missed_cut version_layout h.1 here h.3.1
+short_within : (versioned : Bool) (before here : List ℕ) → FitsWithin kinds.PrematureEnd versioned before here → here ≡ []
+short_within true before here h = short_at_end h.3.0 h.1 here h.3.2
+short_within false before here h = short_at_end version_layout h.1 here h.3.1
 
 -- a zero that is a fault stands there
-missed_zero : {A : Type 0} (l : Layout A) (before here : List ℕ) → IsWrongWithin kinds.VersionZero l before here → HasDigits (λ n. n ≡ 0) here
-missed_zero (Done x) before here h = absurd h
-missed_zero (Then Version behind) before here (inl h) = h.1
-missed_zero (Then p behind) before here (inl h) = absurd h
-missed_zero (Then p behind) before here (inr h) = missed_zero (behind h.0) h.2 here h.6
+zero_within : {A : Type 0} (l : Layout A) (before here : List ℕ) → IsWrongWithin kinds.VersionZero l before here → HasDigits (λ n. n ≡ 0) here
+zero_within (Done x) before here h = absurd h
+zero_within (Then Version behind) before here (inl h) = h.1
+zero_within (Then p behind) before here (inl h) = absurd h
+zero_within (Then p behind) before here (inr h) = zero_within (behind h.0) h.2 here h.6
 
 within_zero : (versioned : Bool) (before here : List ℕ) → FitsWithin kinds.VersionZero versioned before here → HasDigits (λ n. n ≡ 0) here
-within_zero true before here h = missed_zero h.3.0 h.1 here h.3.2
-within_zero false before here h = missed_zero version_layout h.1 here h.3.1
+within_zero true before here h = zero_within h.3.0 h.1 here h.3.2
+within_zero false before here h = zero_within version_layout h.1 here h.3.1
 
 -- digits alone have their value
 all_digits : (ds rest : List ℕ) → IsTrue (list_all is_ascii_digit (ds ++ rest)) → IsTrue (no_digit_first rest) → rest ≡ []
@@ -101,8 +101,8 @@ abbrev EndsSo : FrozenKind → Bool → List ℕ → Type 0
 EndsSo kind versioned before = (kind ≡ kinds.PrematureEnd) ⊎ ((kind ≡ kinds.NoVersion) × (versioned ≡ false) × IsOpenLine before)
 
 within_end : (kind : FrozenKind) (versioned : Bool) (before : List ℕ) → FitsWithin kind versioned before [] → EndsSo kind versioned before
-within_end kind true before h = inl (missed_end kind h.3.0 h.1 h.3.2)
-within_end kind false before h = inl (missed_end kind version_layout h.1 h.3.1)
+within_end kind true before h = inl (wrong_at_end kind h.3.0 h.1 h.3.2)
+within_end kind false before h = inl (wrong_at_end kind version_layout h.1 h.3.1)
 
 row_end : (kind : FrozenKind) (versioned : Bool) (before : List ℕ) → RowFits kind versioned before [] → EndsSo kind versioned before
 row_end kinds.NoVersion versioned before (e, inl h) = absurd (let k = h.1 in cc)
@@ -142,11 +142,11 @@ open_closed : (bytes : List ℕ) → IsOpenLine bytes → IsTrue (are_skipped fa
 open_closed bytes (inl h) = rw h refl
 open_closed bytes (inr h) = rw h.2 (text_closed h.0 h.1)
 
-cut_unsettled : (bytes : List ℕ) (fault : FrozenFault) → (h : IsFault bytes fault) → h.here ≡ [] → fault.kind ≡ kinds.PrematureEnd → IsSettledBy bytes fault → ⊥
-cut_unsettled bytes fault h none is settled =
+short_unsettled : (bytes : List ℕ) (fault : FrozenFault) → (h : IsFault bytes fault) → h.here ≡ [] → fault.kind ≡ kinds.PrematureEnd → IsSettledBy bytes fault → ⊥
+short_unsettled bytes fault h none is settled =
     let q = (settled (0 ∷ [])).is in
     let row : RowFits kinds.PrematureEnd q.versioned q.before q.here = rw is at q.fits in
-    let nothing : q.here ≡ [] = within_cut q.versioned q.before q.here row in
+    let nothing : q.here ≡ [] = short_within q.versioned q.before q.here row in
     omega (arith, ap length q.spelled, ap length h.spelled, ap length nothing, ap length none, h.place, q.place, length-append bytes (0 ∷ []), length-append (q.front ++ q.before) q.here, length-append (h.front ++ h.before) h.here)
 
 open_unsettled : (bytes : List ℕ) (fault : FrozenFault) → (h : IsFault bytes fault) → h.here ≡ [] → h.versioned ≡ false → IsOpenLine h.before → IsSettledBy bytes fault → ⊥
@@ -170,7 +170,7 @@ open_unsettled bytes fault h none first is settled =
 end_unsettled : (bytes : List ℕ) (fault : FrozenFault) → (h : IsFault bytes fault) → h.here ≡ [] → IsSettledBy bytes fault → ⊥
 end_unsettled bytes fault h none settled =
     elim (row_end fault.kind h.versioned h.before (rw none at h.fits)) [
-      | inl e ↦ cut_unsettled bytes fault h none e settled
+      | inl e ↦ short_unsettled bytes fault h none e settled
       | inr e ↦ open_unsettled bytes fault h none e.1 e.2 settled
     ]
 

@@ -9,23 +9,15 @@ use Rattle.m4_frozen.specs.declared.fault.FrozenKind.TheVariants as kinds
 use Rattle.m4_frozen.specs.declared.fault.FrozenFault.{FrozenFault}
 use Rattle.m4_frozen.specs.Ascii.{newline, hash, letter_V}
 use Rattle.m4_frozen.specs.Directive.{Directive}
-use Rattle.m4_frozen.specs.Spells.{AreSkippedLines, SpellsOne, IsNumber}
+use Rattle.m4_frozen.specs.Spells.{AreSkippedLines, SpellsAll, IsNumber}
 use Rattle.m4_frozen.specs.Layout.{Layout, version_layout, layout_of, first_is, IsWrongWithin}
-
--- whole lines and whole directives, in the order of the directives
-abbrev pub AreWhole : List Directive → List ℕ → Type 0
-AreWhole [] bytes = AreSkippedLines bytes
-AreWhole (d ∷ ds) bytes =
-    (lines : List ℕ) × (one : List ℕ) × (rest : List ℕ)
-    × AreSkippedLines lines × SpellsOne d one × AreWhole ds rest
-    × (bytes ≡ lines ++ one ++ rest)
 
 -- what may stand at the front: whole lines, or, once `V` came, these, `V` and what is whole behind it
 abbrev pub IsFront : Bool → List ℕ → Type 0
 IsFront false bytes = AreSkippedLines bytes
 IsFront true bytes =
     (lines : List ℕ) × (number : List ℕ) × (rest : List ℕ) × (ds : List Directive)
-    × AreSkippedLines lines × IsNumber 1 number × AreWhole ds rest
+    × AreSkippedLines lines × IsNumber 1 number × SpellsAll false ds rest
     × (bytes ≡ lines ++ letter_V ∷ number ++ newline ∷ rest)
 
 -- the byte is none of these

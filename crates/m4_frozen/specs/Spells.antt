@@ -105,12 +105,13 @@ are_skipped may_lack true (b ∷ bs) = are_skipped may_lack (not (b == newline))
 abbrev pub AreSkippedLines : List ℕ → Type 0
 AreSkippedLines bytes = IsTrue (are_skipped false false bytes)
 
--- the directives in their order, each behind empty lines and comment lines, and more of these last
-abbrev pub SpellsAll : List Directive → List ℕ → Type 0
-SpellsAll [] bytes = IsTrue (are_skipped true false bytes)
-SpellsAll (d ∷ ds) bytes =
+-- the directives in their order, each behind empty lines and comment lines, and more of these last,
+-- of which the last may lack its newline where `may_lack` is set
+abbrev pub SpellsAll : Bool → List Directive → List ℕ → Type 0
+SpellsAll may_lack [] bytes = IsTrue (are_skipped may_lack false bytes)
+SpellsAll may_lack (d ∷ ds) bytes =
     (lines : List ℕ) × (one : List ℕ) × (rest : List ℕ)
-    × AreSkippedLines lines × SpellsOne d one × SpellsAll ds rest
+    × AreSkippedLines lines × SpellsOne d one × SpellsAll may_lack ds rest
     × (bytes ≡ lines ++ one ++ rest)
 
 -- a frozen file: empty lines and comment lines, `V 1 NL`, and the directives
@@ -120,5 +121,5 @@ pub record Spells (directives : List Directive) (bytes : List ℕ) : Type 0 wher
   pub rest : List ℕ
   pub are_lines : AreSkippedLines lines
   pub version : IsNumber 1 number
-  pub others : SpellsAll directives rest
+  pub others : SpellsAll true directives rest
   pub spelled : bytes ≡ lines ++ letter_V ∷ number ++ newline ∷ rest

@@ -150,48 +150,33 @@ fn directives(alloc: Global, count: usize, bytes: &[u8]) -> Result<Vec<Directive
 }
 
 /// The next directive, if one comes, and the bytes behind it.
+#[tactic(auto, unfolding(crate::specs::ReaderSteps::directive_at))]
 fn next_directive(bytes: &[u8]) -> Result<Option<(Directive<'_>, &[u8])>, Refusal>
     ensures { Gives (option_map (λ x. (directive_of x.0, x.1.now))) result (steps.next_at bytes.now) }
 {
     match bytes {
         [] => Ok(None),
-        [letter, rest @ ..] => Ok(Some(directive_with(*letter, rest)?)),
-    }
-}
-
-/// The directive of a letter, behind which `bytes` stand, and the bytes behind it.
-#[tactic(auto, unfolding(crate::specs::ReaderSteps::directive_at))]
-fn directive_with(letter: u8, bytes: &[u8]) -> Result<(Directive<'_>, &[u8]), Refusal>
-    ensures { Gives (λ x. (directive_of x.0, x.1.now)) result (steps.directive_at letter bytes.now) }
-{
-    match letter {
-        b'Q' => {
-            let ((begin, end), rest) = pair(bytes)?;
-            Ok((Directive::Quotes(begin, end), rest))
+        [b'Q', rest @ ..] => {
+            let ((begin, end), rest) = pair(rest)?;
+            Ok(Some((Directive::Quotes(begin, end), rest)))
         }
-        b'C' => {
-            let ((begin, end), rest) = pair(bytes)?;
-            Ok((Directive::Comments(begin, end), rest))
+        [b'C', rest @ ..] => {
+            let ((begin, end), rest) = pair(rest)?;
+            Ok(Some((Directive::Comments(begin, end), rest)))
         }
-        b'T' => {
-            let ((name, text), rest) = pair(bytes)?;
-            Ok((Directive::Text(name, text), rest))
+        [b'T', rest @ ..] => {
+            let ((name, text), rest) = pair(rest)?;
+            Ok(Some((Directive::Text(name, text), rest)))
         }
-        b'F' => {
-            let ((name, builtin), rest) = pair(bytes)?;
-            Ok((Directive::Builtin(name, builtin), rest))
+        [b'F', rest @ ..] => {
+            let ((name, builtin), rest) = pair(rest)?;
+            Ok(Some((Directive::Builtin(name, builtin), rest)))
         }
-        b'D' => {
-            let ((number, text), rest) = diversion(bytes)?;
-            Ok((Directive::Diversion(number, text), rest))
+        [b'D', rest @ ..] => {
+            let ((number, text), rest) = diversion(rest)?;
+            Ok(Some((Directive::Diversion(number, text), rest)))
         }
-        b'V' => Err(Refusal {
-            kind: FrozenKind::SecondVersion,
-            bytes_left: bytes.len() + 1,
-        }),
-        _ => Err(Refusal {
-            kind: FrozenKind::UnknownDirective,
-            bytes_left: bytes.len() + 1,
-        }),
+        [b'V', ..] => Err(refused_at(FrozenKind::SecondVersion, bytes)),
+        [..] => Err(refused_at(FrozenKind::UnknownDirective, bytes)),
     }
 }

@@ -51,19 +51,19 @@ blanks_apart f before (b ∷ bs) are h =
 blanks_digits : (before digits rest : List ℕ) → AreBlanks before → AreDigits digits → skip_blanks (before ++ (digits ++ rest)) ≡ digits ++ rest
 blanks_digits before digits rest are d = skip_blanks-append before (digits ++ rest) are ∙ skip_blanks-digits digits rest d
 
-newer_missed : (p : Part) (before here : List ℕ) → IsWrongVersion (λ n. 1 < n) p before here → part_at p (before ++ here) ≡ at_fault kinds.Newer here
+newer_refused : (p : Part) (before here : List ℕ) → IsWrongVersion (λ n. 1 < n) p before here → part_at p (before ++ here) ≡ at_fault kinds.Newer here
 unfolding version_at
-newer_missed Version before here h =
+newer_refused Version before here h =
     let d = h.1 in
     rw (d.4, blanks_digits before d.0 d.1 h.0 d.2, some_digits_again d.0 d.1 d.2 d.3, lt-ltb 1 (value_of d.0) d.5) refl
-newer_missed p before here h = absurd h
+newer_refused p before here h = absurd h
 
-zero_missed : (p : Part) (before here : List ℕ) → IsWrongVersion (λ n. n ≡ 0) p before here → part_at p (before ++ here) ≡ at_fault kinds.VersionZero here
+zero_refused : (p : Part) (before here : List ℕ) → IsWrongVersion (λ n. n ≡ 0) p before here → part_at p (before ++ here) ≡ at_fault kinds.VersionZero here
 unfolding version_at
-zero_missed Version before here h =
+zero_refused Version before here h =
     let d = h.1 in
     rw (d.4, blanks_digits before d.0 d.1 h.0 d.2, some_digits_again d.0 d.1 d.2 d.3, d.5) refl
-zero_missed p before here h = absurd h
+zero_refused p before here h = absurd h
 
 -- behind blanks and a sign
 minus_here : (before here : List ℕ) → IsMinus before → skip_blanks (before ++ here) ≡ 45 ∷ here
@@ -90,51 +90,51 @@ other_byte : (c : ℕ) (here : List ℕ) → IsTrue (first_is (λ b. not (eqb b 
 other_byte c [] h = absurd cc
 other_byte c (b ∷ bs) h = rw (not-true (eqb b c) h) refl
 
-no_digit_missed : (p : Part) (before here : List ℕ) → LacksNumber p before here → part_at p (before ++ here) ≡ at_fault kinds.DigitExpected here
+no_digit_refused : (p : Part) (before here : List ℕ) → LacksNumber p before here → part_at p (before ++ here) ≡ at_fault kinds.DigitExpected here
 unfolding version_at length_at
-no_digit_missed Version before here h = let a = blanks_apart (λ b. not (is_ascii_digit b)) before here h.0 h.1 in rw (a.found, no_digits here a.is) refl
-no_digit_missed Length before here h = let a = blanks_apart (λ b. not (is_ascii_digit b)) before here h.0 h.1 in rw (a.found, no_digits here a.is) refl
-no_digit_missed Number before here (inl h) = let a = blanks_apart (λ b. not (is_ascii_digit b) && not (eqb b 45)) before here h.0 h.1 in rw a.found (sign_no_digit here a.is)
-no_digit_missed Number before here (inr h) = rw (minus_here before here h.0, no_digits here h.1) refl
-no_digit_missed p before here h = absurd h
+no_digit_refused Version before here h = let a = blanks_apart (λ b. not (is_ascii_digit b)) before here h.0 h.1 in rw (a.found, no_digits here a.is) refl
+no_digit_refused Length before here h = let a = blanks_apart (λ b. not (is_ascii_digit b)) before here h.0 h.1 in rw (a.found, no_digits here a.is) refl
+no_digit_refused Number before here (inl h) = let a = blanks_apart (λ b. not (is_ascii_digit b) && not (eqb b 45)) before here h.0 h.1 in rw a.found (sign_no_digit here a.is)
+no_digit_refused Number before here (inr h) = rw (minus_here before here h.0, no_digits here h.1) refl
+no_digit_refused p before here h = absurd h
 
-large_missed : (p : Part) (before here : List ℕ) → IsTooLarge p before here → part_at p (before ++ here) ≡ at_fault kinds.NumberTooLarge here
+large_refused : (p : Part) (before here : List ℕ) → IsTooLarge p before here → part_at p (before ++ here) ≡ at_fault kinds.NumberTooLarge here
 unfolding length_at
-large_missed Length before here h =
+large_refused Length before here h =
     let d = h.1 in
     rw (d.4, blanks_digits before d.0 d.1 h.0 d.2, some_digits_again d.0 d.1 d.2 d.3, le-ltb (value_of d.0) (2 ^ 64) d.5) refl
-large_missed Number before here h =
+large_refused Number before here h =
     let d = h.1 in
     rw (d.5, skip_blanks-append before (with_sign d.0 d.1 ++ d.2) h.0) (sign_large d.0 d.1 d.2 d.3 d.4 d.6)
-large_missed p before here h = absurd h
+large_refused p before here h = absurd h
 
-other_missed : (p : Part) (before here : List ℕ) → LacksSeparator p before here → part_at p (before ++ here) ≡ at_fault kinds.SeparatorExpected here
-other_missed Comma before here h = let a = blanks_apart (λ b. not (eqb b 44)) before here h.0 h.1 in rw (a.found, other_byte 44 here a.is) refl
-other_missed NewLine before here h = rw (h.0, other_byte 10 here h.1) refl
-other_missed p before here h = absurd h
+other_refused : (p : Part) (before here : List ℕ) → LacksSeparator p before here → part_at p (before ++ here) ≡ at_fault kinds.SeparatorExpected here
+other_refused Comma before here h = let a = blanks_apart (λ b. not (eqb b 44)) before here h.0 h.1 in rw (a.found, other_byte 44 here a.is) refl
+other_refused NewLine before here h = rw (h.0, other_byte 10 here h.1) refl
+other_refused p before here h = absurd h
 
-cut_missed : (p : Part) (before : List ℕ) → NeedsMore p before → part_at p (before ++ []) ≡ at_fault kinds.PrematureEnd []
+short_refused : (p : Part) (before : List ℕ) → NeedsMore p before → part_at p (before ++ []) ≡ at_fault kinds.PrematureEnd []
 unfolding version_at length_at string_at
-cut_missed Version before h = rw (blanks_end before h) refl
-cut_missed Length before h = rw (blanks_end before h) refl
-cut_missed Number before (inl h) = rw (blanks_end before h) refl
-cut_missed Number before (inr h) = rw (minus_here before [] h) refl
-cut_missed Comma before h = rw (blanks_end before h) refl
-cut_missed NewLine before h = rw h refl
-cut_missed (String n) before h = rw (append-nil before, lt-ltb (length before) n h) refl
+short_refused Version before h = rw (blanks_end before h) refl
+short_refused Length before h = rw (blanks_end before h) refl
+short_refused Number before (inl h) = rw (blanks_end before h) refl
+short_refused Number before (inr h) = rw (minus_here before [] h) refl
+short_refused Comma before h = rw (blanks_end before h) refl
+short_refused NewLine before h = rw h refl
+short_refused (String n) before h = rw (append-nil before, lt-ltb (length before) n h) refl
 
-pub part_missed : (kind : FrozenKind) (p : Part) (before here : List ℕ) → IsWrong kind p before here → part_at p (before ++ here) ≡ at_fault kind here
-part_missed kinds.Newer p before here h = newer_missed p before here h
-part_missed kinds.VersionZero p before here h = zero_missed p before here h
-part_missed kinds.DigitExpected p before here h = no_digit_missed p before here h
-part_missed kinds.NumberTooLarge p before here h = large_missed p before here h
-part_missed kinds.SeparatorExpected p before here h = other_missed p before here h
-part_missed kinds.PrematureEnd p before here h = rw h.1 (cut_missed p before h.0)
-part_missed kind p before here h = absurd h
+pub part_refused : (kind : FrozenKind) (p : Part) (before here : List ℕ) → IsWrong kind p before here → part_at p (before ++ here) ≡ at_fault kind here
+part_refused kinds.Newer p before here h = newer_refused p before here h
+part_refused kinds.VersionZero p before here h = zero_refused p before here h
+part_refused kinds.DigitExpected p before here h = no_digit_refused p before here h
+part_refused kinds.NumberTooLarge p before here h = large_refused p before here h
+part_refused kinds.SeparatorExpected p before here h = other_refused p before here h
+part_refused kinds.PrematureEnd p before here h = rw h.1 (short_refused p before h.0)
+part_refused kind p before here h = absurd h
 
-pub layout_missed : {A : Type 0} (kind : FrozenKind) (l : Layout A) (before here : List ℕ) → IsWrongWithin kind l before here → layout_at l (before ++ here) ≡ at_fault kind here
-layout_missed kind (Done x) before here h = absurd h
-layout_missed kind (Then p behind) before here (inl h) = rw (part_missed kind p before here h) refl
-layout_missed kind (Then p behind) before here (inr h) =
+pub layout_refused : {A : Type 0} (kind : FrozenKind) (l : Layout A) (before here : List ℕ) → IsWrongWithin kind l before here → layout_at l (before ++ here) ≡ at_fault kind here
+layout_refused kind (Done x) before here h = absurd h
+layout_refused kind (Then p behind) before here (inl h) = rw (part_refused kind p before here h) refl
+layout_refused kind (Then p behind) before here (inr h) =
     let parts : before ++ here ≡ h.1 ++ (h.2 ++ here) = rw h.5 (append_assoc h.1 h.2 here) in
-    rw (parts, part_stands p h.0 h.1 (h.2 ++ here) h.3 h.4) (layout_missed kind (behind h.0) h.2 here h.6)
+    rw (parts, part_stands p h.0 h.1 (h.2 ++ here) h.3 h.4) (layout_refused kind (behind h.0) h.2 here h.6)
