@@ -14,3 +14,5 @@ mod lines;
 mod number;
 pub mod reader;
 mod strings;
+#[cfg(test)]
+mod tests;
