@@ -1,0 +1,12 @@
+pub mod Digits
+pub mod DirectiveLoop
+pub mod ReadBack
+pub mod Parts
+pub mod Spelled
+pub mod RowsRefused
+pub mod FirstFault
+pub mod LongestFront
+pub mod Settled
+pub mod Unsettled
+pub mod Answered
+pub mod Examples

@@ -1,0 +1,5 @@
+use Rattle.m4_frozen.proofs.Answered as law
+use Rattle.m4_frozen.proofs.laws.one_answer.Goals as goal
+
+pub returns : goal.returns
+returns c = law.one_answer

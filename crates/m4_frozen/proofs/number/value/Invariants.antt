@@ -1,0 +1,6 @@
+use Rattle.std.proofs.Common.{◌≡◌, ◌<◌, ◌^◌, drop}
+use Rattle.m4_frozen.specs.Spells.{value_from, value_of}
+use Rattle.m4_frozen.proofs.number.value.Given as goal
+
+abbrev pub invariant-loop-b : goal.invariant-loop-b
+invariant-loop-b l = (value_from l.n (drop l.b-index l.digits) ≡ value_of l.digits) × (l.n < 2 ^ 64)

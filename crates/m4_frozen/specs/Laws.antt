@@ -1,0 +1,53 @@
+-- What holds of the definitions alone: the grammar and the table of faults decide each file.
+-- Believed as statements; the functions of the module `laws` carry their proofs.
+-- Words: OneReading, OneAnswer, TiesReaderSteps.
+use Rattle.std.specs.Prelude.{◌≡◌, ◌↔◌, ℕ, List, ◌⊎◌, Ok, Err}
+use Rattle.m4_frozen.specs.declared.fault.FrozenFault.{FrozenFault}
+use Rattle.m4_frozen.specs.declared.fault.Refusal.{Refusal}
+use Rattle.m4_frozen.specs.Directive.{Directive}
+use Rattle.m4_frozen.specs.Spells.{Spells}
+use Rattle.m4_frozen.specs.FaultAt.{FaultAt, IsFaultOfFailed}
+use Rattle.m4_frozen.specs.ReaderSteps.{file_at, fault_of, failed_answer}
+
+-- the same bytes spell one list of directives
+abbrev pub OneReading : Type 0
+OneReading =
+    (bytes : List ℕ) (ds es : List Directive) → Spells ds bytes → Spells es bytes → ds ≡ es
+
+-- the bytes are spelled by these directives alone, and have no fault
+pub record IsOnlyRead (bytes : List ℕ) : Type 0 where
+  pub directives : List Directive
+  pub spelled : Spells directives bytes
+  pub only : (others : List Directive) → Spells others bytes → others ≡ directives
+  pub no_fault : (fault : FrozenFault) → FaultAt bytes fault → ⊥
+
+-- the bytes have this fault alone, and no directives spell them
+pub record IsOnlyRefused (bytes : List ℕ) : Type 0 where
+  pub fault : FrozenFault
+  pub is_fault : FaultAt bytes fault
+  pub only : (other : FrozenFault) → FaultAt bytes other → other ≡ fault
+  pub not_spelled : (directives : List Directive) → Spells directives bytes → ⊥
+
+-- any bytes are read in one way, or refused in one way
+abbrev pub OneAnswer : Type 0
+OneAnswer = (bytes : List ℕ) → IsOnlyRead bytes ⊎ IsOnlyRefused bytes
+
+-- any bytes have one fault where the reader failed behind them
+abbrev pub OneAnswerOfFailed : Type 0
+OneAnswerOfFailed =
+    (given : List ℕ)
+    → (fault : FrozenFault) × IsFaultOfFailed given fault
+    × ((other : FrozenFault) → IsFaultOfFailed given other → other ≡ fault)
+
+-- the reader's steps answer directives exactly where they are spelled, a refusal exactly where it is
+-- the fault, and for a reader that failed its fault
+pub record AreTied (bytes : List ℕ) : Type 0 where
+  pub directives : (ds : List Directive) → (file_at bytes ≡ Ok ds) ↔ Spells ds bytes
+  pub fault : (f : FrozenFault)
+      → ((e : Refusal) × (file_at bytes ≡ Err e) × (f ≡ fault_of bytes e)) ↔ FaultAt bytes f
+  pub failed : (f : FrozenFault)
+      → (f ≡ failed_answer bytes (file_at bytes)) ↔ IsFaultOfFailed bytes f
+
+-- the reader's steps are tied to the definitions at all bytes
+abbrev pub TiesReaderSteps : Type 0
+TiesReaderSteps = (bytes : List ℕ) → AreTied bytes

@@ -1,0 +1,10 @@
+pub mod Ascii
+pub mod Directive
+pub mod DirectiveView
+pub mod Spells
+pub mod Layout
+pub mod FaultAt
+pub mod Outcome
+pub mod ReaderSteps
+pub mod StepOutcome
+pub mod Laws

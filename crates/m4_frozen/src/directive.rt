@@ -1,0 +1,19 @@
+//! What the lines of a frozen file say behind its version.
+//!
+//! Contracts see a directive by `directive_of` (`specs/DirectiveView.antt`): its bytes, without their
+//! place in the file. Manual: "Frozen file format".
+
+/// A directive, whose strings lie in the file.
+#[derive(Clone, Copy, Debug, PartialEq, Eq)]
+pub enum Directive<'a> {
+    /// `Q`: the quotes' begin and end.
+    Quotes(&'a [u8], &'a [u8]),
+    /// `C`: the comments' begin and end.
+    Comments(&'a [u8], &'a [u8]),
+    /// `T`: a name, and the text that is pushed on it.
+    Text(&'a [u8], &'a [u8]),
+    /// `F`: a name, and the name of the builtin that is pushed on it.
+    Builtin(&'a [u8], &'a [u8]),
+    /// `D`: the number of a diversion, and the text that is added to it.
+    Diversion(i32, &'a [u8]),
+}

@@ -1,0 +1,25 @@
+//! What holds of the definitions alone: no code runs here.
+//!
+//! Each function's contract is a law of `specs/Laws.antt`. Manual: "Frozen file format".
+
+ghost use Rattle.m4_frozen.specs.Laws.{OneReading, OneAnswer, OneAnswerOfFailed, TiesReaderSteps};
+
+/// The same bytes hold one list of directives.
+pub fn one_reading()
+    ensures { OneReading }
+{}
+
+/// Any bytes are read in one way and have no fault, or have one fault and aren't read.
+pub fn one_answer()
+    ensures { OneAnswer }
+{}
+
+/// Where a reader failed behind bytes, these have one fault.
+pub fn one_answer_of_failed()
+    ensures { OneAnswerOfFailed }
+{}
+
+/// The reader's own steps answer what the grammar and the table of faults say.
+pub fn reader_steps_tied()
+    ensures { TiesReaderSteps }
+{}

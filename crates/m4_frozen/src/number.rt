@@ -1,0 +1,126 @@
+//! Numbers at the front of bytes: the version, the lengths of strings, the numbers of diversions.
+//!
+//! A number's value is judged before what follows its digits, and a number that is too large is at
+//! fault at its first digit, or at its sign. Manual: "Frozen file format".
+
+ghost use Rattle.std.specs.Prelude.{◌≡◌, ◌<◌, ◌^◌, IsTrue, IfOk};
+ghost use Rattle.std.specs.Option.{SomeIff};
+ghost use Rattle.std.specs.List.{list_all};
+ghost use Rattle.std.specs.Char.{is_ascii_digit};
+ghost use Rattle.m4_frozen.specs.Spells.{value_of};
+ghost use Rattle.m4_frozen.specs.ReaderSteps as steps;
+ghost use Rattle.m4_frozen.specs.StepOutcome.{Gives};
+
+use crate::fault::{FrozenKind, Refusal, refused_at};
+
+/// The magnitude of the least diversion number; the greatest number is below it.
+const MAGNITUDE_LIMIT: u64 = 0x8000_0000;
+
+/// The bytes behind spaces and tabs.
+pub(crate) fn skip_blanks(bytes: &[u8]) -> &[u8]
+    ensures { result.now ≡ steps.skip_blanks bytes.now }
+{
+    for (i, b) in bytes.iter().enumerate() {
+        if *b != b' ' && *b != b'\t' {
+            return bytes.split_at(i).1;
+        }
+    }
+    &[]
+}
+
+/// The digits at the front, and the bytes behind them.
+fn digits(bytes: &[u8]) -> (&[u8], &[u8])
+    ensures digits { result.0.now ≡ (steps.digits_at bytes.now).0 }
+    ensures rest { result.1.now ≡ (steps.digits_at bytes.now).1 }
+{
+    for (i, b) in bytes.iter().enumerate() {
+        if !b.is_ascii_digit() {
+            return bytes.split_at(i);
+        }
+    }
+    (bytes, &[])
+}
+
+/// Whether all bytes are digits.
+pub(crate) fn are_digits(bytes: &[u8]) -> bool
+    ensures { result ≡ list_all is_ascii_digit bytes.now }
+{
+    bytes.iter().all(|b| b.is_ascii_digit())
+}
+
+/// The number that digits stand for, if it fits.
+fn value(digits: &[u8]) -> Option<u64>
+    requires { IsTrue (list_all is_ascii_digit digits.now) }
+    ensures { SomeIff result (value_of digits.now < 2 ^ 64) (value_of digits.now) }
+{
+    let mut n = 0u64;
+    for b in digits {
+        n = n.checked_mul(10)?.checked_add(u64::from(*b - b'0'))?;
+    }
+    Some(n)
+}
+
+/// The digits at the front, at least one, and the bytes behind them.
+fn some_digits(bytes: &[u8]) -> Result<(&[u8], &[u8]), Refusal>
+    ensures gives { Gives (λ x. (x.0.now, x.1.now)) result (steps.some_digits_at bytes.now) }
+    ensures are { IfOk result (λ x. IsTrue (list_all is_ascii_digit x.0.now)) }
+{
+    let (found, rest) = digits(bytes);
+    if !found.is_empty() {
+        return Ok((found, rest));
+    }
+    if bytes.is_empty() {
+        return Err(refused_at(FrozenKind::PrematureEnd, bytes));
+    }
+    Err(refused_at(FrozenKind::DigitExpected, bytes))
+}
+
+/// The length of a string, and the bytes behind it.
+#[tactic(auto, unfolding(crate::specs::ReaderSteps::length_at))]
+pub(crate) fn length(bytes: &[u8]) -> Result<(u64, &[u8]), Refusal>
+    ensures { Gives (λ x. (x.0, x.1.now)) result (steps.length_at bytes.now) }
+{
+    let number = skip_blanks(bytes);
+    let (found, rest) = some_digits(number)?;
+    match value(found) {
+        Some(n) => Ok((n, rest)),
+        None => Err(refused_at(FrozenKind::NumberTooLarge, number)),
+    }
+}
+
+/// The bytes behind the version, which is 1.
+#[tactic(auto, unfolding(crate::specs::ReaderSteps::version_at))]
+pub(crate) fn version(bytes: &[u8]) -> Result<&[u8], Refusal>
+    ensures { Gives (λ x. x.now) result (steps.version_at bytes.now) }
+{
+    let number = skip_blanks(bytes);
+    let (found, rest) = some_digits(number)?;
+    match value(found) {
+        Some(1) => Ok(rest),
+        Some(0) => Err(refused_at(FrozenKind::VersionZero, number)),
+        _ => Err(refused_at(FrozenKind::Newer, number)),
+    }
+}
+
+/// The number whose digits stand at the front, and which with its sign begins at `number`.
+fn magnitude<'a>(number: &[u8], minus: bool, bytes: &'a [u8]) -> Result<(i32, &'a [u8]), Refusal>
+    ensures { Gives (λ x. (x.0, x.1.now)) result (steps.magnitude_at number.now minus bytes.now) }
+{
+    let (found, rest) = some_digits(bytes)?;
+    match value(found) {
+        Some(n) if minus && n <= MAGNITUDE_LIMIT => Ok((-(n as i64) as i32, rest)),
+        Some(n) if !minus && n < MAGNITUDE_LIMIT => Ok((n as i32, rest)),
+        _ => Err(refused_at(FrozenKind::NumberTooLarge, number)),
+    }
+}
+
+/// The number of a diversion, and the bytes behind it.
+pub(crate) fn signed_number(bytes: &[u8]) -> Result<(i32, &[u8]), Refusal>
+    ensures { Gives (λ x. (x.0, x.1.now)) result (steps.signed_at bytes.now) }
+{
+    match bytes {
+        [] => Err(refused_at(FrozenKind::PrematureEnd, bytes)),
+        [b'-', rest @ ..] => magnitude(bytes, true, rest),
+        [..] => magnitude(bytes, false, bytes),
+    }
+}

@@ -1,0 +1,64 @@
+//! Counted strings at the front of bytes, with the numbers that count them.
+//!
+//! A string has exactly the length that is stated and may hold any bytes, newlines and `#` included.
+//! A stated length is only compared with the bytes that are there: nothing is reserved for it.
+//! Manual: "Frozen file format".
+
+ghost use Rattle.std.specs.Prelude.{◌≡◌};
+ghost use Rattle.m4_frozen.specs.ReaderSteps as steps;
+ghost use Rattle.m4_frozen.specs.StepOutcome.{Gives};
+
+use crate::fault::{FrozenKind, Refusal, refused_at};
+use crate::number::{length, signed_number, skip_blanks};
+
+/// The bytes behind the byte that has to stand at the front.
+pub(crate) fn expect_byte(byte: u8, bytes: &[u8]) -> Result<&[u8], Refusal>
+    ensures { Gives (λ x. x.now) result (steps.expect_byte byte bytes.now) }
+{
+    match bytes {
+        [] => Err(refused_at(FrozenKind::PrematureEnd, bytes)),
+        [first, rest @ ..] if *first == byte => Ok(rest),
+        [..] => Err(refused_at(FrozenKind::SeparatorExpected, bytes)),
+    }
+}
+
+/// The string of so many bytes, and the bytes behind it.
+#[tactic(auto, unfolding(crate::specs::ReaderSteps::string_at))]
+fn string(len: u64, bytes: &[u8]) -> Result<(&[u8], &[u8]), Refusal>
+    ensures { Gives (λ x. (x.0.now, x.1.now)) result (steps.string_at len bytes.now) }
+{
+    let len = len as usize;
+    if bytes.len() < len {
+        return Err(refused_at(FrozenKind::PrematureEnd, &[]));
+    }
+    Ok(bytes.split_at(len))
+}
+
+/// Two lengths and the two strings, and the bytes behind them.
+#[tactic(auto, unfolding(crate::specs::ReaderSteps::pair_at))]
+pub(crate) fn pair(bytes: &[u8]) -> Result<((&[u8], &[u8]), &[u8]), Refusal>
+    ensures { Gives (λ x. ((x.0.0.now, x.0.1.now), x.1.now)) result (steps.pair_at bytes.now) }
+{
+    let (n, rest) = length(bytes)?;
+    let rest = expect_byte(b',', skip_blanks(rest))?;
+    let (m, rest) = length(rest)?;
+    let rest = expect_byte(b'\n', rest)?;
+    let (first, rest) = string(n, rest)?;
+    let (second, rest) = string(m, rest)?;
+    let rest = expect_byte(b'\n', rest)?;
+    Ok(((first, second), rest))
+}
+
+/// The number of a diversion, a length and the string, and the bytes behind them.
+#[tactic(auto, unfolding(crate::specs::ReaderSteps::diversion_at))]
+pub(crate) fn diversion(bytes: &[u8]) -> Result<((i32, &[u8]), &[u8]), Refusal>
+    ensures { Gives (λ x. ((x.0.0, x.0.1.now), x.1.now)) result (steps.diversion_at bytes.now) }
+{
+    let (number, rest) = signed_number(skip_blanks(bytes))?;
+    let rest = expect_byte(b',', skip_blanks(rest))?;
+    let (n, rest) = length(rest)?;
+    let rest = expect_byte(b'\n', rest)?;
+    let (text, rest) = string(n, rest)?;
+    let rest = expect_byte(b'\n', rest)?;
+    Ok(((number, text), rest))
+}
