@@ -8,3 +8,6 @@ pub mod Outcome
 pub mod ReaderSteps
 pub mod StepOutcome
 pub mod Laws
+pub mod Denote
+pub mod Freeze
+pub mod Listing

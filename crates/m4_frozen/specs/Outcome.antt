@@ -1,9 +1,13 @@
 -- Words on what a reader of frozen files answers.
 -- Believed: they are cited by public contracts.
--- Words: IfFault, IsFaultOf.
-use Rattle.std.specs.Prelude.{◌≢◌, ℕ, Bool, true, false, List, Result, IfErr}
+-- Words: IfFault, IsFaultOf, Loads.
+use Rattle.std.specs.Prelude.{◌≡◌, ◌≢◌, ℕ, Bool, true, false, List, Result, IfErr}
 use Rattle.m4_frozen.specs.declared.fault.FrozenKind.TheVariants as kinds
 use Rattle.m4_frozen.specs.declared.fault.FrozenFault.{FrozenFault}
+use Rattle.m4_frozen.specs.declared.loading.Loaded.{Loaded}
+use Rattle.m4_frozen.specs.Directive.{Directive}
+use Rattle.m4_frozen.specs.Spells.{Spells}
+use Rattle.m4_frozen.specs.Denote.{denote}
 use Rattle.m4_frozen.specs.FaultAt.{FaultAt, IsFaultOfFailed}
 
 -- of a fault that is not about memory
@@ -14,3 +18,9 @@ IfFault r P = IfErr r (λ f. f.kind ≢ kinds.OutOfMemory → P f)
 abbrev pub IsFaultOf : Bool → List ℕ → FrozenFault → Type 0
 IsFaultOf false bytes fault = FaultAt bytes fault
 IsFaultOf true bytes fault = IsFaultOfFailed bytes fault
+
+-- what is loaded is what some directives denote that the bytes spell
+pub record Loads (bytes : List ℕ) (loaded : Loaded) : Type 0 where
+  pub directives : List Directive
+  pub spelled : Spells directives bytes
+  pub denoted : loaded ≡ denote directives

@@ -5,8 +5,10 @@
 //! (`specs/FaultAt.antt`). Manual: "Frozen file format".
 
 ghost use Rattle.std.specs.Prelude.{◌≡◌, length};
+ghost use Rattle.m4_frozen.specs.declared.fault.FrozenKind.TheVariants as kinds;
 ghost use Rattle.m4_frozen.specs.declared.fault.ReadStop.TheVariants.{OutOfMemory};
 
+use m4_state::fault::StateFault;
 use std::alloc::{AllocError, AllocFailed};
 use thiserror::Error;
 
@@ -57,6 +59,36 @@ pub struct FrozenFault {
     pub offset: u64,
 }
 
+impl From<AllocError> for FrozenFault {
+    ghost use Rattle.m4_frozen.specs.declared.fault.FrozenKind.TheVariants as kinds;
+
+    ghost from_gives = { λ _ fault. fault ≡ record { kind = kinds.OutOfMemory; offset = 0 } };
+
+    fn from(_refused: AllocError) -> FrozenFault {
+        no_memory()
+    }
+}
+
+impl From<StateFault> for FrozenFault {
+    ghost use Rattle.m4_frozen.specs.declared.fault.FrozenKind.TheVariants as kinds;
+
+    ghost from_gives = { λ _ fault. fault ≡ record { kind = kinds.OutOfMemory; offset = 0 } };
+
+    fn from(_refused: StateFault) -> FrozenFault {
+        no_memory()
+    }
+}
+
+/// Want of memory, which no byte is to blame for.
+pub(crate) fn no_memory() -> FrozenFault
+    ensures { result ≡ record { kind = kinds.OutOfMemory; offset = 0 } }
+{
+    FrozenFault {
+        kind: FrozenKind::OutOfMemory,
+        offset: 0,
+    }
+}
+
 /// A fault, and how many bytes stand from its place to the end of the file.
 #[derive(Clone, Copy, Debug, PartialEq, Eq)]
 pub(crate) struct Refusal {
@@ -80,7 +112,8 @@ impl<T: Drop> From<AllocFailed<T>> for ReadStop {
 }
 
 impl From<Refusal> for ReadStop {
-    ghost use Rattle.m4_frozen.specs.declared.fault.ReadStop.TheVariants as stops;
+    ghost use Rattle.m4_frozen.specs.declared.fault.FrozenKind.TheVariants as kinds;
+ghost use Rattle.m4_frozen.specs.declared.fault.ReadStop.TheVariants as stops;
 
     ghost from_gives = { λ r e. e ≡ stops.Refused r };
 

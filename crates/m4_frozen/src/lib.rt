@@ -11,8 +11,10 @@ pub mod directive;
 pub mod fault;
 pub mod laws;
 mod lines;
+pub mod loading;
 mod number;
 pub mod reader;
+pub mod reading;
 mod strings;
 #[cfg(test)]
 mod tests;

@@ -13,11 +13,11 @@ ghost use Rattle.m4_frozen.specs.FaultAt as faults;
 ghost use Rattle.m4_frozen.specs.Outcome.{IfFault, IsFaultOf};
 ghost use Rattle.m4_frozen.specs.ReaderSteps as steps;
 ghost use Rattle.m4_frozen.specs.Spells.{Spells};
-ghost use Rattle.m4_frozen.specs.StepOutcome.{Gives, GivesIfRoom};
 ghost use Rattle.m4_frozen.specs.declared.fault.FrozenKind.TheVariants as kinds;
+ghost use Rattle.m4_frozen.specs.StepOutcome.{Gives, GivesIfRoom};
 
 use crate::directive::Directive;
-use crate::fault::{FrozenFault, FrozenKind, ReadStop, Refusal, refused_at};
+use crate::fault::{FrozenFault, FrozenKind, ReadStop, Refusal, no_memory, refused_at};
 use crate::lines::skip_lines;
 use crate::number::{are_digits, version};
 use crate::strings::{diversion, expect_byte, pair};
@@ -53,16 +53,6 @@ pub fn read_directives(
         Err(ReadStop::Refused(refusal)) => Err(fault_of(bytes, refusal)),
         Ok(_) if reader_failed => Err(read_fault(bytes)),
         Ok(list) => Ok(list),
-    }
-}
-
-/// Want of memory, which no byte is to blame for.
-fn no_memory() -> FrozenFault
-    ensures { result ≡ record { kind = kinds.OutOfMemory; offset = 0 } }
-{
-    FrozenFault {
-        kind: FrozenKind::OutOfMemory,
-        offset: 0,
     }
 }
 
