@@ -1,4 +1,4 @@
 pub mod Places
-pub mod Puts
+pub mod CallerLaws
 pub mod Tables
 pub mod TextsByNumber

@@ -1,7 +1,7 @@
 //! A reader read to its end, and a whole text put into a writer.
 
-ghost use Rattle.std.specs.Prelude.{◌≡◌, IfOk, IfSome, MatchBool, OnOk, OnErr};
-ghost use Rattle.m4_state.specs.Device.{with_bytes, one_more, HasBegun};
+ghost use Rattle.std.specs.Prelude.{◌≡◌, IfOk, IfSome, MatchBool};
+ghost use Rattle.m4_state.specs.Device.{one_more, count_after, Puts, joined};
 
 use crate::device::{ByteSink, ByteSource, DeviceFault};
 use std::alloc::{AllocError, Global};
@@ -47,15 +47,24 @@ pub fn take_all<R: ByteSource>(alloc: Global, reader: &mut R) -> Result<Taken, A
 
 /// Puts all of the bytes, or fails behind a beginning of them.
 pub fn put_all<W: ByteSink>(writer: &mut W, bytes: &[u8]) -> Result<(), DeviceFault>
-    ensures ok { OnOk result (W.contents writer.new ≡ with_bytes (W.contents writer.old) bytes.now) }
-    ensures begun { OnErr result (HasBegun (W.contents writer.old) (W.contents writer.new) bytes.now) }
-    ensures unfailed { OnOk result (W.failures writer.new ≡ W.failures writer.old) }
-    ensures failed { OnErr result (W.failures writer.new ≡ one_more (W.failures writer.old)) }
+    ensures puts { Puts result (W.contents writer.old) (W.contents writer.new) bytes.now }
+    ensures counted { W.failures writer.new ≡ count_after result (W.failures writer.old) }
 {
     let mut rest = bytes;
     while !rest.is_empty() {
         let n = writer.put(rest)?;
         rest = rest.split_at(n).1;
+    }
+    Ok(())
+}
+
+/// Puts the pieces one behind the other, or fails behind a beginning of them all.
+pub fn put_pieces<W: ByteSink>(writer: &mut W, pieces: &[&[u8]]) -> Result<(), DeviceFault>
+    ensures puts { Puts result (W.contents writer.old) (W.contents writer.new) (joined pieces.now) }
+    ensures counted { W.failures writer.new ≡ count_after result (W.failures writer.old) }
+{
+    for piece in pieces {
+        put_all(writer, piece)?;
     }
     Ok(())
 }

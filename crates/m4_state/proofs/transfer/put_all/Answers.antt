@@ -1,5 +1,5 @@
 use Rattle.std.proofs.Common.{arith, ◌∙◌}
-use Rattle.m4_state.proofs.Puts.{HasPut-more}
+use Rattle.m4_state.proofs.CallerLaws.{HasPut-more}
 use Rattle.m4_state.proofs.transfer.put_all.Goals as goal
 
 pub loop-rest-preserved : goal.loop-rest-preserved
