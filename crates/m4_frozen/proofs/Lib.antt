@@ -10,3 +10,4 @@ pub mod Settled
 pub mod Unsettled
 pub mod Answered
 pub mod Examples
+pub mod FreezeParts

@@ -11,3 +11,4 @@ pub mod Laws
 pub mod Denote
 pub mod Freeze
 pub mod Listing
+pub mod WriterSteps

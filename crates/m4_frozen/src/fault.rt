@@ -8,6 +8,7 @@ ghost use Rattle.std.specs.Prelude.{◌≡◌, length};
 ghost use Rattle.m4_frozen.specs.declared.fault.FrozenKind.TheVariants as kinds;
 ghost use Rattle.m4_frozen.specs.declared.fault.ReadStop.TheVariants.{OutOfMemory};
 
+use m4_state::device::DeviceFault;
 use m4_state::fault::StateFault;
 use std::alloc::{AllocError, AllocFailed};
 use thiserror::Error;
@@ -129,5 +130,36 @@ pub(crate) fn refused_at(kind: FrozenKind, rest: &[u8]) -> Refusal
     Refusal {
         kind,
         bytes_left: rest.len(),
+    }
+}
+
+/// Why a text was not written whole.
+#[derive(Clone, Copy, Debug, PartialEq, Eq, Error)]
+pub enum WriteFault {
+    /// The writer failed; it holds a beginning of the text.
+    #[error("G1 Write")]
+    Write,
+    /// A growth was refused, before the first byte was written.
+    #[error("G2 OutOfMemory")]
+    OutOfMemory,
+}
+
+impl From<DeviceFault> for WriteFault {
+    ghost use Rattle.m4_frozen.specs.declared.fault.WriteFault.TheVariants as faults;
+
+    ghost from_gives = { λ _ fault. fault ≡ faults.Write };
+
+    fn from(_fault: DeviceFault) -> WriteFault {
+        WriteFault::Write
+    }
+}
+
+impl From<StateFault> for WriteFault {
+    ghost use Rattle.m4_frozen.specs.declared.fault.WriteFault.TheVariants as faults;
+
+    ghost from_gives = { λ _ fault. fault ≡ faults.OutOfMemory };
+
+    fn from(_refused: StateFault) -> WriteFault {
+        WriteFault::OutOfMemory
     }
 }

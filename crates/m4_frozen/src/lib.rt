@@ -16,5 +16,6 @@ mod number;
 pub mod reader;
 pub mod reading;
 mod strings;
+pub mod writer;
 #[cfg(test)]
 mod tests;

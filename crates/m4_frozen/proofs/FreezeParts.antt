@@ -1,0 +1,217 @@
+-- What the parts of the writer put, joined, is the canonical text.
+use Rattle.std.proofs.Common.{◌≡◌, ◌≢◌, ℕ, ◌+◌, ◌<◌, ◌≤◌, ℤ, pos, Bool, true, false, cond, ◌&&◌, List, [], ◌∷◌, ◌++◌, map, length, Option, Some, None, unwrap_or, refl, sym, ap, subst, ◌∙◌, append_assoc, arith, Ordering, Less, Equal, Greater, inl, inr, ◌⊎◌}
+use Rattle.std.specs.Prelude.{IsTrue, int_lt, FitsSigned}
+use Rattle.std.specs.Int.{w32}
+use Rattle.std.specs.List.{flat_map, filter, AllByRecursion}
+use Rattle.std.specs.Ordering.{int_cmp, int_eq, is_lt, is_eq, eq_by_cmp, ordering_reverse}
+use Rattle.std.specs.FinMap.{find, is_sorted, int_cmp-IsAntisymmetric}
+use Rattle.std.specs.Cmp.{int_cmp_total, tied_itself}
+use Rattle.std.specs.Cmp.Lexicographic.{nat_list_cmp_total}
+use Rattle.std.proofs.lemmas.List.{append-nil}
+use Rattle.std.proofs.lemmas.Grind.{flat_map-append}
+use Rattle.std.proofs.lemmas.Option.{same_Some}
+use Rattle.std.specs.FinMap.Entries.{below_all}
+use Rattle.m4_state.specs.State.{State, IsState, AreDiversions, IsDiversion, text_at, next_after, names_of, stack_of, holds_text, Diversion as NumberedText}
+use Rattle.m4_state.specs.declared.definition.Def.{Def}
+use Rattle.m4_state.specs.declared.delimiters.Delimiters.{Delimiters}
+use Rattle.m4_state.specs.Delimiters.{default_quotes, default_comments}
+use Rattle.m4_state.specs.Table.{Pair, Pairs, byte_order, stack_at}
+use Rattle.m4_frozen.specs.Ascii.{letter_C, letter_Q}
+use Rattle.m4_frozen.specs.Directive.{Directive, Quotes, Comments, Diversion}
+use Rattle.m4_frozen.specs.WriterSteps.{above, delimiters_text, stack_text, names_text, texts_text, current_text, directives_text, frozen_text}
+use Rattle.m4_frozen.specs.Freeze.{last_number, same_delimiters, unless_default, definition, definitions, diversion, current_unless_last, two_strings, spelling, header, end_line, freeze}
+
+-- whether int_cmp says Less is int_lt
+int_lt-less : (x y : ℤ) → IsTrue (is_lt (int_cmp x y)) → int_lt x y ≡ true
+int_lt-less x y h = by (int_lt x y) (int_lt y x) h
+  where
+    by : (a b : Bool) → IsTrue (is_lt (cond a Less (cond b Greater Equal))) → a ≡ true
+    by true b h = refl
+    by false true h = absurd cc
+    by false false h = absurd cc
+
+-- and back
+less-int_lt : (x y : ℤ) → int_lt x y ≡ true → int_cmp x y ≡ Less
+less-int_lt x y e = rw e refl
+
+int_lt-trans : (x y z : ℤ) → int_lt x y ≡ true → int_lt y z ≡ true → int_lt x z ≡ true
+int_lt-trans x y z p q = int_lt-less x z (ap is_lt (int_cmp_total.trans x y z (less-int_lt x y p) (less-int_lt y z q)))
+
+-- no number is below itself
+int_lt-irrefl : (x : ℤ) → int_lt x x ≡ false
+int_lt-irrefl x = by (int_lt x x) refl
+  where
+    by : (b : Bool) → int_lt x x ≡ b → b ≡ false
+    by true e = let less : int_cmp x x ≡ Less = less-int_lt x x e in let tie : int_cmp x x ≡ Equal = tied_itself int_cmp_total x in absurd cc
+    by false e = refl
+
+both : (a b : Bool) → IsTrue (a && b) → IsTrue a × IsTrue b
+both true b h = (refl, h)
+both false b h = absurd cc
+
+-- ---- the diversions one behind the other
+
+-- where the numbers rise from above a number on, all of them lie above it
+above-below : (n m : ℤ) (ds : List NumberedText) → int_lt n m ≡ true → IsTrue (below_all int_cmp m ds) → above n ds ≡ ds
+above-below n m [] lt h = refl
+above-below n m (d ∷ ds) lt h =
+    let next : int_lt m d.0 ≡ true = int_lt-less m d.0 (both _ _ h).0 in
+    let here : int_lt n d.0 ≡ true = int_lt-trans n m d.0 lt next in
+    rw here (ap (λ (xs : List NumberedText). d ∷ xs) (above-below n m ds lt (both _ _ h).1))
+
+-- the same from the number of the first one on
+above-first : (n : ℤ) (ds : List NumberedText) → IsTrue (below_all int_cmp n ds) → above n ds ≡ ds
+above-first n [] h = refl
+above-first n (d ∷ ds) h =
+    let here : int_lt n d.0 ≡ true = int_lt-less n d.0 (both _ _ h).0 in
+    rw here (ap (λ (xs : List NumberedText). d ∷ xs) (above-first n ds (both _ _ h).1))
+
+-- what isn't above a number isn't above a greater one, nor is it that one
+not_below : (n m k : ℤ) → int_lt n k ≡ false → int_lt n m ≡ true → int_lt m k ≡ false
+not_below n m k ge lt = by (int_lt m k) refl
+  where
+    by : (b : Bool) → int_lt m k ≡ b → b ≡ false
+    by true e = let bad : int_lt n k ≡ true = int_lt-trans n m k lt e in absurd cc
+    by false e = refl
+
+not_tied : (n m k : ℤ) → int_lt n k ≡ false → int_lt n m ≡ true → is_eq (int_cmp m k) ≡ false
+not_tied n m k ge lt = by (int_cmp m k) refl
+  where
+    by : (r : Ordering) → int_cmp m k ≡ r → is_eq r ≡ false
+    by Less e = refl
+    by Equal e = let bad : int_lt n k ≡ true = subst (λ (z : ℤ). int_lt n z ≡ true) (int_cmp-IsAntisymmetric m k e) lt in absurd cc
+    by Greater e = refl
+
+-- the diversions above a number are the next one and those above it
+pub record IsNext (n m : ℤ) (ds : List NumberedText) : Type 0 where
+  pub above_is : above n ds ≡ (m, text_at ds m) ∷ above m ds
+  pub later : int_lt n m ≡ true
+
+-- the first one is the next
+first : (n m : ℤ) (d : NumberedText) (ds : List NumberedText) → IsTrue (is_sorted int_cmp (d ∷ ds)) → int_lt n d.0 ≡ true → d.0 ≡ m → IsNext n m (d ∷ ds)
+first n m d ds sorted lt is = subst (λ (k : ℤ). IsNext n k (d ∷ ds)) is (record {
+  above_is =
+    let behind : above n ds ≡ ds = above-below n d.0 ds lt (both _ _ sorted).0 in
+    let own : int_lt d.0 d.0 ≡ false = int_lt-irrefl d.0 in
+    let rest : above d.0 ds ≡ ds = above-first d.0 ds (both _ _ sorted).0 in
+    rw (lt, behind, own, rest) refl;
+  later = lt;
+})
+
+-- a later one is the next
+later : (n m : ℤ) (d : NumberedText) (ds : List NumberedText) → int_lt n d.0 ≡ false → IsNext n m ds → IsNext n m (d ∷ ds)
+later n m d ds ge next = record {
+  above_is = rw (ge, not_tied n m d.0 ge next.later, not_below n m d.0 ge next.later) next.above_is;
+  later = next.later;
+}
+
+pub above-next : (n m : ℤ) (ds : List NumberedText) → IsTrue (is_sorted int_cmp ds) → next_after ds n ≡ Some m → IsNext n m ds
+above-next n m [] sorted is = absurd cc
+above-next n m (d ∷ ds) sorted is = by (int_lt n d.0) refl is (λ next. above-next n m ds (both _ _ sorted).1 next)
+  where
+    by : (b : Bool) → int_lt n d.0 ≡ b → cond b (Some d.0) (next_after ds n) ≡ Some m → (next_after ds n ≡ Some m → IsNext n m ds) → IsNext n m (d ∷ ds)
+    by true lt is rest = first n m d ds sorted lt (same_Some d.0 m is)
+    by false ge is rest = later n m d ds ge (rest is)
+
+-- and none where there is no next one
+pub above-last : (n : ℤ) (ds : List NumberedText) → next_after ds n ≡ None → above n ds ≡ []
+above-last n [] is = refl
+above-last n (d ∷ ds) is = by (int_lt n d.0) is (λ none. above-last n ds none)
+  where
+    by : (b : Bool) → cond b (Some d.0) (next_after ds n) ≡ None → (next_after ds n ≡ None → above n ds ≡ []) → cond b (d ∷ above n ds) (above n ds) ≡ []
+    by true is rest = absurd cc
+    by false is rest = rest is
+
+-- all of them lie above 0
+pub above-all : (ds : List NumberedText) → AllByRecursion IsDiversion ds → above (pos 0) ds ≡ ds
+above-all [] h = refl
+above-all (d ∷ ds) h =
+    let here : int_lt (pos 0) d.0 ≡ true = h.0.positive in
+    rw here (ap (λ (xs : List NumberedText). d ∷ xs) (above-all ds h.1))
+
+-- the next number is one of 32 bits
+pub next_fits : (n m : ℤ) (ds : List NumberedText) → AllByRecursion IsDiversion ds → next_after ds n ≡ Some m → FitsSigned w32 m
+next_fits n m [] h is = absurd cc
+next_fits n m (d ∷ ds) h is = by (int_lt n d.0) is (λ next. next_fits n m ds h.1 next)
+  where
+    by : (b : Bool) → cond b (Some d.0) (next_after ds n) ≡ Some m → (next_after ds n ≡ Some m → FitsSigned w32 m) → FitsSigned w32 m
+    by true is rest = subst (FitsSigned w32) (same_Some d.0 m is) h.0.fits
+    by false is rest = rest is
+
+-- nor is the last one another
+pub last_fits : (n : ℤ) (ds : List NumberedText) → FitsSigned w32 n → AllByRecursion IsDiversion ds → FitsSigned w32 (last_number n ds)
+last_fits n [] fits h = fits
+last_fits n (d ∷ ds) fits h = last_fits d.0 ds h.0.fits h.1
+
+-- ---- the whole text
+
+-- a key behind the first one is another
+not_tied_to_first : (k q : List ℕ) → IsTrue (is_lt (byte_order k q)) → eq_by_cmp byte_order q k ≡ false
+not_tied_to_first k q h = ap is_eq (nat_list_cmp_total.antisymm q k) ∙ by (byte_order k q) h
+  where
+    by : (r : Ordering) → IsTrue (is_lt r) → is_eq (ordering_reverse r) ≡ false
+    by Less h = refl
+    by Equal h = absurd cc
+    by Greater h = absurd cc
+
+-- each pair's stack is found at its name
+abbrev IsFoundIn : Pairs → Pair → Type 0
+IsFoundIn table e = stack_at table e.0 ≡ e.1
+
+found_behind : (first : Pair) (table es : Pairs) → IsTrue (below_all byte_order first.0 es) → AllByRecursion (IsFoundIn table) es → AllByRecursion (IsFoundIn (first ∷ table)) es
+found_behind first table [] below h = tt
+found_behind first table (e ∷ es) below h =
+    let other : eq_by_cmp byte_order e.0 first.0 ≡ false = not_tied_to_first first.0 e.0 (both _ _ below).0 in
+    (rw other h.0, found_behind first table es (both _ _ below).1 h.1)
+
+all_found : (table : Pairs) → IsTrue (is_sorted byte_order table) → AllByRecursion (IsFoundIn table) table
+all_found [] h = tt
+all_found (e ∷ es) h =
+    let tie : byte_order e.0 e.0 ≡ Equal = tied_itself nat_list_cmp_total e.0 in
+    (rw tie refl, found_behind e es es (both _ _ h).0 (all_found es (both _ _ h).1))
+
+-- the texts of a name's definitions
+stack_text-map : (name : List ℕ) (stack : List Def) → stack_text name stack ≡ flat_map spelling (map (definition name) stack)
+stack_text-map name [] = refl
+stack_text-map name (d ∷ stack) = ap (λ (t : List ℕ). spelling (definition name d) ++ t) (stack_text-map name stack)
+
+-- and of all names
+names_text-definitions : (s : State) (es : Pairs) → AllByRecursion (IsFoundIn s.table) es → names_text s (map (λ e. e.0) es) ≡ flat_map spelling (flat_map (λ e. map (definition e.0) e.1) es)
+names_text-definitions s [] h = refl
+names_text-definitions s (e ∷ es) h =
+    ap (λ (stack : List Def). stack_text e.0 stack ++ names_text s (map (λ e. e.0) es)) h.0
+    ∙ ap (λ (t : List ℕ). t ++ names_text s (map (λ e. e.0) es)) (stack_text-map e.0 e.1)
+    ∙ ap (λ (t : List ℕ). flat_map spelling (map (definition e.0) e.1) ++ t) (names_text-definitions s es h.1)
+    ∙ sym (flat_map-append spelling (map (definition e.0) e.1) (flat_map (λ e. map (definition e.0) e.1) es))
+
+delimiters_text-unless : (letter : ℕ) (make : List ℕ → List ℕ → Directive) (default d : Delimiters) → spelling (make d.begin d.end) ≡ two_strings letter d.begin d.end → delimiters_text letter default d ≡ flat_map spelling (unless_default make default d)
+delimiters_text-unless letter make default d is = by (same_delimiters d default)
+  where
+    by : (b : Bool) → cond b [] (two_strings letter d.begin d.end) ≡ flat_map spelling (cond b [] (make d.begin d.end ∷ []))
+    by true = refl
+    by false = sym is ∙ sym (append-nil (spelling (make d.begin d.end)))
+
+texts_text-map : (ds : List NumberedText) → texts_text ds ≡ flat_map spelling (map diversion ds)
+texts_text-map [] = refl
+texts_text-map (d ∷ ds) = ap (λ (t : List ℕ). spelling (diversion d) ++ t) (texts_text-map ds)
+
+current_text-unless : (s : State) → current_text s.current (last_number (pos 0) s.diversions) ≡ flat_map spelling (current_unless_last s)
+current_text-unless s = by (int_eq s.current (last_number (pos 0) s.diversions))
+  where
+    by : (b : Bool) → cond b [] (spelling (Diversion s.current [])) ≡ flat_map spelling (cond b [] (Diversion s.current [] ∷ []))
+    by true = refl
+    by false = sym (append-nil (spelling (Diversion s.current [])))
+
+-- what the parts of the writer put is the canonical text
+pub frozen_text-freeze : (s : State) → IsState s → frozen_text s (names_of s) ≡ freeze s
+unfolding directives_text
+frozen_text-freeze s valid =
+    let quotes = delimiters_text-unless letter_Q Quotes default_quotes s.quotes refl in
+    let comments = delimiters_text-unless letter_C Comments default_comments s.comments refl in
+    let names = names_text-definitions s s.table (all_found s.table valid.table.sorted) in
+    let texts = texts_text-map s.diversions in
+    let current = current_text-unless s in
+    rw (quotes, comments, names, texts, current) (by (unless_default Quotes default_quotes s.quotes) (unless_default Comments default_comments s.comments) (definitions s) (map diversion s.diversions) (current_unless_last s))
+  where
+    by : (q c d t n : List Directive) → header ++ (((flat_map spelling q ++ flat_map spelling c) ++ (flat_map spelling d ++ (flat_map spelling t ++ flat_map spelling n))) ++ end_line) ≡ header ++ flat_map spelling (q ++ c ++ d ++ t ++ n) ++ end_line
+    by q c d t n = simp (flat_map-append {X = Directive} {A = ℕ} spelling, append_assoc) refl

@@ -1,0 +1,17 @@
+use Rattle.std.proofs.Common.{◌≡◌, length, pos}
+use Rattle.std.specs.Prelude.{FitsSigned}
+use Rattle.std.specs.Int.{w32}
+use Rattle.m4_state.specs.Device.{HasPut}
+use Rattle.m4_frozen.specs.Freeze.{last_number}
+use Rattle.m4_frozen.specs.WriterSteps.{texts_text, above}
+use Rattle.m4_frozen.proofs.writer.put_texts.Given as goal
+
+-- the diversions above the last number are the rest of the text
+abbrev pub invariant-loop-number : goal.invariant-loop-number
+invariant-loop-number g l =
+    HasPut (g.W.ByteSink.contents l.initial.writer) (g.W.ByteSink.contents l.writer) (texts_text l.state.diversions) (texts_text (above l.last l.state.diversions))
+    × (last_number l.last (above l.last l.state.diversions) ≡ last_number (pos 0) l.state.diversions)
+    × (g.W.ByteSink.failures l.writer ≡ g.W.ByteSink.failures l.initial.writer)
+
+abbrev pub decreases-loop-number : goal.decreases-loop-number
+decreases-loop-number g l = length (above l.last l.state.diversions)

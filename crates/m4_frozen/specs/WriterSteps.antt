@@ -1,0 +1,58 @@
+-- The texts that the parts of the writer put, as the code goes through a state.
+-- Not believed: `freeze` is these texts joined (proofs/FreezeParts.antt).
+use Rattle.std.specs.Prelude.{ℕ, ℤ, pos, List, [], ◌++◌}
+use Rattle.std.specs.List.{flat_map, filter}
+use Rattle.std.specs.Prelude.{if◌then◌else◌, int_lt}
+use Rattle.std.specs.Ordering.{int_eq}
+use Rattle.m4_state.specs.declared.definition.Def.{Def}
+use Rattle.m4_state.specs.declared.delimiters.Delimiters.{Delimiters}
+use Rattle.m4_state.specs.State.{State, stack_of, Diversion as NumberedText}
+use Rattle.m4_frozen.specs.Directive.{Diversion}
+use Rattle.m4_frozen.specs.Freeze.{same_delimiters, definition, diversion, spelling, two_strings, last_number, header, end_line}
+use Rattle.m4_state.specs.Delimiters.{default_quotes, default_comments}
+use Rattle.m4_frozen.specs.Ascii.{letter_C, letter_Q}
+
+-- a directive of delimiters, or nothing where they are the defaults
+abbrev pub delimiters_text : ℕ → Delimiters → Delimiters → List ℕ
+delimiters_text letter default d =
+    if same_delimiters d default then [] else two_strings letter d.begin d.end
+
+-- the definitions of one name
+abbrev pub stack_text : List ℕ → List Def → List ℕ
+stack_text name stack = flat_map (λ d. spelling (definition name d)) stack
+
+-- the definitions of names, as the state finds them
+abbrev pub names_text : State → List (List ℕ) → List ℕ
+names_text s names = flat_map (λ name. stack_text name (stack_of s name)) names
+
+-- the diversions above a number
+abbrev pub above : ℤ → List NumberedText → List NumberedText
+above number diversions = filter (λ d. int_lt number d.0) diversions
+
+-- their directives
+abbrev pub texts_text : List NumberedText → List ℕ
+texts_text diversions = flat_map (λ d. spelling (diversion d)) diversions
+
+-- the directive of the current number behind those of the texts, the last of which gave this number
+abbrev pub current_text : ℤ → ℤ → List ℕ
+current_text current last =
+    if int_eq current last then [] else spelling (Diversion current [])
+
+-- the directives of both pairs of delimiters
+abbrev pub settings_text : State → List ℕ
+settings_text s =
+    delimiters_text letter_Q default_quotes s.quotes
+    ++ delimiters_text letter_C default_comments s.comments
+
+-- the directives of the diversions and of the current number
+abbrev pub diverted_text : State → List ℕ
+diverted_text s =
+    texts_text s.diversions ++ current_text s.current (last_number (pos 0) s.diversions)
+
+-- all directives, where the names of the state are these
+unfoldable pub directives_text : State → List (List ℕ) → List ℕ
+directives_text s names = settings_text s ++ (names_text s names ++ diverted_text s)
+
+-- all of it
+abbrev pub frozen_text : State → List (List ℕ) → List ℕ
+frozen_text s names = header ++ (directives_text s names ++ end_line)

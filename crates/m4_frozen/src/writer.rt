@@ -1,0 +1,225 @@
+//! The canonical text of a state, put into a writer part by part: nothing of it is held in memory.
+//!
+//! Want of memory can only come while the names are listed, before the first byte. A part that
+//! fails leaves a beginning of the text. Manual: "Frozen file format".
+
+ghost use Rattle.std.specs.Prelude.{◌≡◌, ℤ, pos, IfOk, OnOk, OnErr, [], Err};
+ghost use Rattle.m4_state.specs.Device.{with_bytes, one_more, count_after, HasBegun, Puts};
+ghost use Rattle.m4_state.specs.State.{AreDiversions};
+ghost use Rattle.m4_frozen.specs.Directive as directives;
+ghost use Rattle.m4_frozen.specs.Freeze as texts;
+ghost use Rattle.m4_frozen.specs.WriterSteps as steps;
+
+use crate::fault::WriteFault;
+use itoa::Buffer;
+use m4_state::bytes::Bytes;
+use m4_state::definition::Def;
+use m4_state::device::{ByteSink, DeviceFault};
+use m4_state::state::State;
+use m4_state::transfer::{put_all, put_pieces};
+
+/// The first two lines: a comment, and the version.
+const HEADER: &[u8] = b"# m4 frozen state\nV1\n";
+
+/// The last line.
+const END_LINE: &[u8] = b"# End of frozen state file\n";
+
+/// Writes the canonical text of a state. Manual: "Frozen file format".
+pub fn write_frozen<W: ByteSink>(state: &State, writer: &mut W) -> Result<(), WriteFault>
+    // exact writer: the canonical text, and nothing else
+    ensures written { OnOk result (W.contents writer.new
+        ≡ with_bytes (W.contents writer.old) (texts.freeze state.now)) }
+    // exact writer: a write fault leaves a beginning of it
+    ensures begun { result ≡ Err WriteFault.Write
+        → HasBegun (W.contents writer.old) (W.contents writer.new) (texts.freeze state.now) }
+    // exact writer: want of memory comes before the first byte
+    ensures no_memory { result ≡ Err WriteFault.OutOfMemory
+        → W.contents writer.new ≡ W.contents writer.old }
+
+    // safe and total: a write fault comes only where the writer failed in this call
+    ensures write_fault { result ≡ Err WriteFault.Write
+        → W.failures writer.new ≡ one_more (W.failures writer.old) }
+    ensures unfailed { OnOk result (W.failures writer.new ≡ W.failures writer.old) }
+{
+    let names = state.names()?;
+    let _current = state.current();
+    put_frozen(state, &names, writer)?;
+    Ok(())
+}
+
+/// The header, the directives, the end line.
+fn put_frozen<W: ByteSink>(
+    state: &State,
+    names: &[Bytes],
+    writer: &mut W,
+) -> Result<(), DeviceFault>
+    requires { AreDiversions state.now.diversions }
+    ensures puts { Puts result (W.contents writer.old) (W.contents writer.new) (steps.frozen_text state.now names.now) }
+    ensures counted { W.failures writer.new ≡ count_after result (W.failures writer.old) }
+{
+    put_all(writer, HEADER)?;
+    put_directives(state, names, writer)?;
+    put_all(writer, END_LINE)
+}
+
+/// The delimiters, the definitions, the diversions.
+fn put_directives<W: ByteSink>(
+    state: &State,
+    names: &[Bytes],
+    writer: &mut W,
+) -> Result<(), DeviceFault>
+    requires { AreDiversions state.now.diversions }
+    ensures puts { Puts result (W.contents writer.old) (W.contents writer.new) (steps.directives_text state.now names.now) }
+    ensures counted { W.failures writer.new ≡ count_after result (W.failures writer.old) }
+{
+    put_settings(state, writer)?;
+    put_names(state, names, writer)?;
+    put_diversions(state, writer)
+}
+
+/// Both pairs of delimiters, where they are not the defaults.
+fn put_settings<W: ByteSink>(state: &State, writer: &mut W) -> Result<(), DeviceFault>
+    ensures puts { Puts result (W.contents writer.old) (W.contents writer.new) (steps.settings_text state.now) }
+    ensures counted { W.failures writer.new ≡ count_after result (W.failures writer.old) }
+{
+    put_delimiters(b'Q', state.quotes(), (b"`", b"'"), writer)?;
+    put_delimiters(b'C', state.comments(), (b"#", b"\n"), writer)
+}
+
+/// The diversions that hold text, and the number of the current one.
+fn put_diversions<W: ByteSink>(state: &State, writer: &mut W) -> Result<(), DeviceFault>
+    requires { AreDiversions state.now.diversions }
+    ensures puts { Puts result (W.contents writer.old) (W.contents writer.new) (steps.diverted_text state.now) }
+    ensures counted { W.failures writer.new ≡ count_after result (W.failures writer.old) }
+{
+    let last = put_texts(state, writer)?;
+    put_current(state.current(), last, writer)
+}
+
+/// Delimiters, unless they are the defaults.
+fn put_delimiters<W: ByteSink>(
+    letter: u8,
+    pair: (&[u8], &[u8]),
+    default: (&[u8], &[u8]),
+    writer: &mut W,
+) -> Result<(), DeviceFault>
+    ensures puts { Puts result (W.contents writer.old) (W.contents writer.new)
+        (steps.delimiters_text letter
+            (record { begin = default.entry.0.now; end = default.entry.1.now })
+            (record { begin = pair.entry.0.now; end = pair.entry.1.now })) }
+    ensures counted { W.failures writer.new ≡ count_after result (W.failures writer.old) }
+{
+    let (begin, end) = pair;
+    let (default_begin, default_end) = default;
+    if begin == default_begin && end == default_end {
+        return Ok(());
+    }
+    put_strings(letter, begin, end, writer)
+}
+
+/// The definitions of the names, in their order.
+fn put_names<W: ByteSink>(
+    state: &State,
+    names: &[Bytes],
+    writer: &mut W,
+) -> Result<(), DeviceFault>
+    ensures puts { Puts result (W.contents writer.old) (W.contents writer.new) (steps.names_text state.now names.now) }
+    ensures counted { W.failures writer.new ≡ count_after result (W.failures writer.old) }
+{
+    for name in names {
+        let name = name.as_slice();
+        put_stack(name, state.stack(name), writer)?;
+    }
+    Ok(())
+}
+
+/// The definitions of one name, the oldest first.
+fn put_stack<W: ByteSink>(name: &[u8], stack: &[Def], writer: &mut W) -> Result<(), DeviceFault>
+    ensures puts { Puts result (W.contents writer.old) (W.contents writer.new) (steps.stack_text name.now stack.now) }
+    ensures counted { W.failures writer.new ≡ count_after result (W.failures writer.old) }
+{
+    for definition in stack {
+        put_definition(name, definition, writer)?;
+    }
+    Ok(())
+}
+
+/// The directive that pushes a definition.
+fn put_definition<W: ByteSink>(
+    name: &[u8],
+    definition: &Def,
+    writer: &mut W,
+) -> Result<(), DeviceFault>
+    ensures puts { Puts result (W.contents writer.old) (W.contents writer.new)
+        (texts.spelling (texts.definition name.now definition.now)) }
+    ensures counted { W.failures writer.new ≡ count_after result (W.failures writer.old) }
+{
+    match definition {
+        Def::Text(text) => put_strings(b'T', name, text.as_slice(), writer),
+        Def::Builtin(builtin) => put_strings(b'F', name, builtin.name(), writer),
+        Def::Placeholder(builtin) => put_strings(b'F', name, builtin.as_slice(), writer),
+    }
+}
+
+/// The diversions that hold text, by rising number. Answers the number of the last one, or 0.
+fn put_texts<W: ByteSink>(state: &State, writer: &mut W) -> Result<i32, DeviceFault>
+    requires { AreDiversions state.now.diversions }
+    ensures puts { Puts result (W.contents writer.old) (W.contents writer.new) (steps.texts_text state.now.diversions) }
+    ensures last { IfOk result (λ n. n ≡ texts.last_number (pos 0) state.now.diversions) }
+    ensures counted { W.failures writer.new ≡ count_after result (W.failures writer.old) }
+{
+    let mut last = 0;
+    while let Some(number) = state.next_diversion(last) {
+        put_diversion(number, state.diversion(number), writer)?;
+        last = number;
+    }
+    Ok(last)
+}
+
+/// The current number, unless the last diversion gave it.
+fn put_current<W: ByteSink>(current: i32, last: i32, writer: &mut W) -> Result<(), DeviceFault>
+    ensures puts { Puts result (W.contents writer.old) (W.contents writer.new) (steps.current_text current last) }
+    ensures counted { W.failures writer.new ≡ count_after result (W.failures writer.old) }
+{
+    if current == last {
+        return Ok(());
+    }
+    put_diversion(current, &[], writer)
+}
+
+/// A letter, two lengths and two strings.
+fn put_strings<W: ByteSink>(
+    letter: u8,
+    first: &[u8],
+    second: &[u8],
+    writer: &mut W,
+) -> Result<(), DeviceFault>
+    ensures puts { Puts result (W.contents writer.old) (W.contents writer.new) (texts.two_strings letter first.now second.now) }
+    ensures counted { W.failures writer.new ≡ count_after result (W.failures writer.old) }
+{
+    let mut first_length = Buffer::new();
+    let first_length = first_length.format(first.len()).as_bytes();
+    let mut second_length = Buffer::new();
+    let second_length = second_length.format(second.len()).as_bytes();
+    let letter = [letter];
+    put_pieces(
+        writer,
+        &[&letter, first_length, b",", second_length, b"\n", first, second, b"\n"],
+    )
+}
+
+/// `D`, a number, a length and a text.
+fn put_diversion<W: ByteSink>(
+    number: i32,
+    text: &[u8],
+    writer: &mut W,
+) -> Result<(), DeviceFault>
+    ensures puts { Puts result (W.contents writer.old) (W.contents writer.new) (texts.spelling (directives.Diversion number text.now)) }
+    ensures counted { W.failures writer.new ≡ count_after result (W.failures writer.old) }
+{
+    let mut digits = Buffer::new();
+    let digits = digits.format(number).as_bytes();
+    let mut length = Buffer::new();
+    let length = length.format(text.len()).as_bytes();
+    put_pieces(writer, &[b"D", digits, b",", length, b"\n", text, b"\n"])
+}
