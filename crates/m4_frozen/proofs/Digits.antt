@@ -14,16 +14,26 @@ value_from-ge n [] = omega arith
 value_from-ge n (b ∷ bs) = omega (arith, value_from-ge (10 * n + (b - 48)) bs)
 
 -- the step of a loop over digits
-pub value_from-drop : (n i : ℕ) (bs : List ℕ) → i < length bs → value_from n (drop i bs) ≡ value_from (10 * n + (get_or bs i 0 - 48)) (drop (i + 1) bs)
+pub value_from-drop : (n i : ℕ) (bs : List ℕ) → i < length bs
+    → value_from n (drop i bs) ≡ value_from (10 * n + (get_or bs i 0 - 48)) (drop (i + 1) bs)
 value_from-drop n i bs lt = at_drop_more (value_from n) bs i 0 lt
 
 -- a digit does not fit, so the number does not
-pub value-too_large : (n i : ℕ) (bs : List ℕ) (limit : ℕ) → i < length bs → value_from n (drop i bs) ≡ value_of bs → limit ≤ 10 * n + (get_or bs i 0 - 48) → limit ≤ value_of bs
+pub value-too_large : (n i : ℕ) (bs : List ℕ) (limit : ℕ) → i < length bs
+    → value_from n (drop i bs) ≡ value_of bs → limit ≤ 10 * n + (get_or bs i 0 - 48)
+    → limit ≤ value_of bs
 value-too_large n i bs limit lt so_far le =
-    omega (arith, value_from-drop n i bs lt, value_from-ge (10 * n + (get_or bs i 0 - 48)) (drop (i + 1) bs), so_far)
+    omega (
+      arith,
+      value_from-drop n i bs lt,
+      value_from-ge (10 * n + (get_or bs i 0 - 48))
+          (drop (i + 1) bs),
+      so_far,
+    )
 
 -- what holds on both sides of a test
-pub by_test : {A : Type 0} (P : A → Type 0) (b : Bool) (x y : A) → (b ≡ true → P x) → (b ≡ false → P y) → P (cond b x y)
+pub by_test : {A : Type 0} (P : A → Type 0) (b : Bool) (x y : A) → (b ≡ true → P x)
+    → (b ≡ false → P y) → P (cond b x y)
 by_test P true x y f g = f refl
 by_test P false x y f g = g refl
 
@@ -31,4 +41,5 @@ by_test P false x y f g = g refl
 pub digits_are : (bs : List ℕ) → IsTrue (list_all is_ascii_digit (digits_at bs).0)
 digits_are [] = refl
 digits_are (b ∷ bs) =
-    by_test (λ (p : List ℕ × List ℕ). IsTrue (list_all is_ascii_digit p.0)) (is_ascii_digit b) (b ∷ (digits_at bs).0, (digits_at bs).1) ([], b ∷ bs) (λ e. rw e (digits_are bs)) (λ e. refl)
+    by_test (λ (p : List ℕ × List ℕ). IsTrue (list_all is_ascii_digit p.0)) (is_ascii_digit b)
+    (b ∷ (digits_at bs).0, (digits_at bs).1) ([], b ∷ bs) (λ e. rw e (digits_are bs)) (λ e. refl)
