@@ -3,6 +3,7 @@ use Rattle.std.proofs.Common.{◌≡◌, ℕ, zero, suc, ◌+◌, ◌-◌, ◌<�
 use Rattle.std.specs.Prelude.{IsTrue}
 use Rattle.std.proofs.lemmas.Bool.{not-true}
 use Rattle.std.proofs.lemmas.List.{length-append, append-nil}
+use Rattle.m4_frozen.specs.Ascii.{newline, hash, letter_C, letter_D, letter_F, letter_Q, letter_T, letter_V}
 use Rattle.m4_frozen.specs.declared.fault.Refusal.{Refusal}
 use Rattle.m4_frozen.specs.declared.fault.FrozenFault.{FrozenFault}
 use Rattle.m4_frozen.specs.declared.fault.FrozenKind.{FrozenKind}
@@ -30,23 +31,23 @@ by_letter : (letter : ℕ) (l : Layout Directive) (bytes : List ℕ) → layout_
     → directive_at letter bytes ≡ layout_at l bytes
 unfolding directive_at
 by_letter letter l bytes h =
-    elim (test (eqb letter 81)) [
+    elim (test (eqb letter letter_Q)) [
       | inl e ↦ rw e (pair_is_layout Quotes bytes
           ∙ ap (λ (x : Layout Directive). layout_at x bytes)
           (same_layout (pair_layout Quotes) l (rw e at h)))
-      | inr e1 ↦ elim (test (eqb letter 67)) [
+      | inr e1 ↦ elim (test (eqb letter letter_C)) [
         | inl e ↦ rw (e1, e) (pair_is_layout Comments bytes
             ∙ ap (λ (x : Layout Directive). layout_at x bytes)
             (same_layout (pair_layout Comments) l (rw (e1, e) at h)))
-        | inr e2 ↦ elim (test (eqb letter 84)) [
+        | inr e2 ↦ elim (test (eqb letter letter_T)) [
           | inl e ↦ rw (e1, e2, e) (pair_is_layout Text bytes
               ∙ ap (λ (x : Layout Directive). layout_at x bytes)
               (same_layout (pair_layout Text) l (rw (e1, e2, e) at h)))
-          | inr e3 ↦ elim (test (eqb letter 70)) [
+          | inr e3 ↦ elim (test (eqb letter letter_F)) [
             | inl e ↦ rw (e1, e2, e3, e) (pair_is_layout Builtin bytes
                 ∙ ap (λ (x : Layout Directive). layout_at x bytes)
                 (same_layout (pair_layout Builtin) l (rw (e1, e2, e3, e) at h)))
-            | inr e4 ↦ elim (test (eqb letter 68)) [
+            | inr e4 ↦ elim (test (eqb letter letter_D)) [
               | inl e ↦ rw (e1, e2, e3, e4, e) (diversion_is_layout bytes
                   ∙ ap (λ (x : Layout Directive). layout_at x bytes)
                   (same_layout diversion_layout l (rw (e1, e2, e3, e4, e) at h)))
@@ -61,10 +62,10 @@ by_letter letter l bytes h =
 pub no_line : (letter : ℕ) (l : Layout Directive) (bs : List ℕ) → layout_of letter ≡ Some l
     → skip_lines false (letter ∷ bs) ≡ letter ∷ bs
 no_line letter l bs h =
-    elim (test (eqb letter 10)) [
-      | inl e ↦ absurd (let k = rw (eq_of letter 10 e) at h in cc)
-      | inr e ↦ elim (test (eqb letter 35)) [
-        | inl f ↦ absurd (let k = rw (eq_of letter 35 f) at h in cc)
+    elim (test (eqb letter newline)) [
+      | inl e ↦ absurd (let k = rw (eq_of letter newline e) at h in cc)
+      | inr e ↦ elim (test (eqb letter hash)) [
+        | inl f ↦ absurd (let k = rw (eq_of letter hash f) at h in cc)
         | inr f ↦ rw (e, f) refl
       ]
     ]
@@ -82,11 +83,11 @@ within_refused kind before here h =
     ) refl
 
 -- a second `V` is refused
-second_refused : (here : List ℕ) → IsTrue (first_is (λ b. eqb b 86) here)
+second_refused : (here : List ℕ) → IsTrue (first_is (λ b. eqb b letter_V) here)
     → next_at (skip_lines false here) ≡ refused kinds.SecondVersion here
 unfolding directive_at
 second_refused [] h = absurd cc
-second_refused (b ∷ bs) h = rw (eq_of b 86 h) refl
+second_refused (b ∷ bs) h = rw (eq_of b letter_V h) refl
 
 -- a byte that is none of several
 pub none_of : (c : ℕ) (cs : List ℕ) (b : ℕ) → IsTrue (is_none_of (c ∷ cs) b) → (eqb b c ≡ false)
@@ -96,19 +97,19 @@ none_of c cs b h = let p = both_true (not (eqb b c)) (is_none_of cs b) h in
 
 -- a byte that begins no directive is refused
 unknown_refused : (here : List ℕ)
-    → IsTrue (first_is (is_none_of (10 ∷ 35 ∷ 67 ∷ 68 ∷ 70 ∷ 81 ∷ 84 ∷ 86 ∷ [])) here)
+    → IsTrue (first_is (is_none_of (newline ∷ hash ∷ letter_C ∷ letter_D ∷ letter_F ∷ letter_Q ∷ letter_T ∷ letter_V ∷ [])) here)
     → next_at (skip_lines false here) ≡ refused kinds.UnknownDirective here
 unfolding directive_at
 unknown_refused [] h = absurd cc
 unknown_refused (b ∷ bs) h =
-    let h1 = none_of 10 (35 ∷ 67 ∷ 68 ∷ 70 ∷ 81 ∷ 84 ∷ 86 ∷ []) b h in
-    let h2 = none_of 35 (67 ∷ 68 ∷ 70 ∷ 81 ∷ 84 ∷ 86 ∷ []) b h1.1 in
-    let h3 = none_of 67 (68 ∷ 70 ∷ 81 ∷ 84 ∷ 86 ∷ []) b h2.1 in
-    let h4 = none_of 68 (70 ∷ 81 ∷ 84 ∷ 86 ∷ []) b h3.1 in
-    let h5 = none_of 70 (81 ∷ 84 ∷ 86 ∷ []) b h4.1 in
-    let h6 = none_of 81 (84 ∷ 86 ∷ []) b h5.1 in
-    let h7 = none_of 84 (86 ∷ []) b h6.1 in
-    let h8 = none_of 86 [] b h7.1 in
+    let h1 = none_of newline (hash ∷ letter_C ∷ letter_D ∷ letter_F ∷ letter_Q ∷ letter_T ∷ letter_V ∷ []) b h in
+    let h2 = none_of hash (letter_C ∷ letter_D ∷ letter_F ∷ letter_Q ∷ letter_T ∷ letter_V ∷ []) b h1.1 in
+    let h3 = none_of letter_C (letter_D ∷ letter_F ∷ letter_Q ∷ letter_T ∷ letter_V ∷ []) b h2.1 in
+    let h4 = none_of letter_D (letter_F ∷ letter_Q ∷ letter_T ∷ letter_V ∷ []) b h3.1 in
+    let h5 = none_of letter_F (letter_Q ∷ letter_T ∷ letter_V ∷ []) b h4.1 in
+    let h6 = none_of letter_Q (letter_T ∷ letter_V ∷ []) b h5.1 in
+    let h7 = none_of letter_T (letter_V ∷ []) b h6.1 in
+    let h8 = none_of letter_V [] b h7.1 in
     simp (h1.0, h2.0, h3.0, h4.0, h5.0, h6.0, h7.0, h8.0) refl
 
 -- behind the version a row of the table is answered
@@ -151,13 +152,13 @@ behind_refused : (kind : FrozenKind) (front before here : List ℕ) → IsFront 
 unfolding file_at
 behind_refused kind front before here f h =
     let rest : List ℕ = f.2 ++ (before ++ here) in
-    let parts : front ++ (before ++ here) ≡ f.0 ++ 86 ∷ (f.1 ++ 10 ∷ rest) =
+    let parts : front ++ (before ++ here) ≡ f.0 ++ letter_V ∷ (f.1 ++ newline ∷ rest) =
     rw f.7 (simp append_assoc) in
-    let start : skip_lines false (front ++ (before ++ here)) ≡ 86 ∷ (f.1 ++ 10 ∷ rest) =
-    ap (skip_lines false) parts ∙ skip_lines-append false f.0 (86 ∷ (f.1 ++ 10 ∷ rest)) f.4 in
+    let start : skip_lines false (front ++ (before ++ here)) ≡ letter_V ∷ (f.1 ++ newline ∷ rest) =
+    ap (skip_lines false) parts ∙ skip_lines-append false f.0 (letter_V ∷ (f.1 ++ newline ∷ rest)) f.4 in
     rw (
       start,
-      version_at-number f.1 (10 ∷ rest) f.5 refl,
+      version_at-number f.1 (newline ∷ rest) f.5 refl,
       directives_refused kind f.3 f.2 before here (length rest + 1) f.6 h
           (omega (arith, length-SpellsAll false f.3 f.2 f.6, length-append f.2 (before ++ here))),
     ) refl
@@ -174,13 +175,13 @@ version_refused kind before here h =
     ) refl
 
 -- a byte before `V` is refused
-none_refused : (here : List ℕ) → IsTrue (first_is (is_none_of (10 ∷ 35 ∷ 86 ∷ [])) here)
+none_refused : (here : List ℕ) → IsTrue (first_is (is_none_of (newline ∷ hash ∷ letter_V ∷ [])) here)
     → behind_version (skip_lines false here) ≡ refused kinds.NoVersion here
 none_refused [] h = absurd cc
 none_refused (b ∷ bs) h =
-    let h1 = none_of 10 (35 ∷ 86 ∷ []) b h in
-    let h2 = none_of 35 (86 ∷ []) b h1.1 in
-    let h3 = none_of 86 [] b h2.1 in
+    let h1 = none_of newline (hash ∷ letter_V ∷ []) b h in
+    let h2 = none_of hash (letter_V ∷ []) b h1.1 in
+    let h3 = none_of letter_V [] b h2.1 in
     simp (h1.0, h2.0, h3.0) refl
 
 -- before the version a row of the table is answered

@@ -3,6 +3,7 @@ use Rattle.std.proofs.Common.{◌≡◌, ℕ, ◌≤◌, Bool, true, false, not,
 use Rattle.std.specs.Prelude.{IsTrue}
 use Rattle.std.specs.List.{list_all}
 use Rattle.std.proofs.lemmas.List.{length-append, append-nil}
+use Rattle.m4_frozen.specs.Ascii.{newline, hash, letter_C, letter_D, letter_F, letter_Q, letter_T, letter_V}
 use Rattle.m4_frozen.specs.declared.fault.Refusal.{Refusal}
 use Rattle.m4_frozen.specs.declared.fault.FrozenFault.{FrozenFault}
 use Rattle.m4_frozen.specs.declared.fault.FrozenKind.{FrozenKind}
@@ -20,11 +21,11 @@ use Rattle.m4_frozen.proofs.FirstFault.{no_line, row_refused, row_refused_before
 -- what is skipped is at the front
 skip_lines-le : (inside : Bool) (bytes : List ℕ) → length (skip_lines inside bytes) ≤ length bytes
 skip_lines-le inside [] = omega arith
-skip_lines-le true (b ∷ bs) = omega (arith, skip_lines-le (not (eqb b 10)) bs)
+skip_lines-le true (b ∷ bs) = omega (arith, skip_lines-le (not (eqb b newline)) bs)
 skip_lines-le false (b ∷ bs) =
-    by_test (λ (xs : List ℕ). length xs ≤ length (b ∷ bs)) (eqb b 10) _ _
+    by_test (λ (xs : List ℕ). length xs ≤ length (b ∷ bs)) (eqb b newline) _ _
     (λ e. omega (arith, skip_lines-le false bs))
-    (λ e. by_test (λ (xs : List ℕ). length xs ≤ length (b ∷ bs)) (eqb b 35) _ _
+    (λ e. by_test (λ (xs : List ℕ). length xs ≤ length (b ∷ bs)) (eqb b hash) _ _
     (λ f. omega (arith, skip_lines-le true bs)) (λ f. omega arith))
 
 -- behind whole lines where no line begins, no more lines fit
@@ -95,18 +96,18 @@ within_stops : (kind : FrozenKind) (before here : List ℕ) → FitsWithin kind 
 within_stops kind before here h = rw h.2 (no_line h.0 h.3.0 (h.1 ++ here) h.3.1)
 
 -- nor at a `V`
-letter_stops : (here : List ℕ) → IsTrue (first_is (λ b. eqb b 86) here)
+letter_stops : (here : List ℕ) → IsTrue (first_is (λ b. eqb b letter_V) here)
     → skip_lines false here ≡ here
 letter_stops [] h = refl
-letter_stops (b ∷ bs) h = rw (eq_of b 86 h) refl
+letter_stops (b ∷ bs) h = rw (eq_of b letter_V h) refl
 
 -- nor at an unknown byte
-none_stops : (cs here : List ℕ) → IsTrue (first_is (is_none_of (10 ∷ 35 ∷ cs)) here)
+none_stops : (cs here : List ℕ) → IsTrue (first_is (is_none_of (newline ∷ hash ∷ cs)) here)
     → skip_lines false here ≡ here
 none_stops cs [] h = refl
 none_stops cs (b ∷ bs) h =
-    let p = none_of 10 (35 ∷ cs) b h in
-    rw (p.0, (none_of 35 cs b p.1).0) refl
+    let p = none_of newline (hash ∷ cs) b h in
+    rw (p.0, (none_of hash cs b p.1).0) refl
 
 -- no line begins where a row fits
 row_stops : (kind : FrozenKind) (before here : List ℕ) → RowFits kind true before here
@@ -114,7 +115,7 @@ row_stops : (kind : FrozenKind) (before here : List ℕ) → RowFits kind true b
 row_stops kinds.NoVersion before here h = absurd (let k = h.0 in cc)
 row_stops kinds.SecondVersion before here h = rw h.1 (letter_stops here h.2)
 row_stops kinds.UnknownDirective before here h =
-    rw h.1 (none_stops (67 ∷ 68 ∷ 70 ∷ 81 ∷ 84 ∷ 86 ∷ []) here h.2)
+    rw h.1 (none_stops (letter_C ∷ letter_D ∷ letter_F ∷ letter_Q ∷ letter_T ∷ letter_V ∷ []) here h.2)
 row_stops kinds.Newer before here h = within_stops kinds.Newer before here h
 row_stops kinds.VersionZero before here h = within_stops kinds.VersionZero before here h
 row_stops kinds.DigitExpected before here h = within_stops kinds.DigitExpected before here h
@@ -131,13 +132,13 @@ within_stops_before kind before here h = rw (h.2, h.3.0) refl
 
 -- no line ends here
 abbrev has_no_newline : List ℕ → Bool
-has_no_newline bs = list_all (λ b. not (eqb b 10)) bs
+has_no_newline bs = list_all (λ b. not (eqb b newline)) bs
 
 -- a comment that has no newline is not whole
 not_closed : (bs rest : List ℕ) → IsTrue (has_no_newline (bs ++ rest))
     → IsTrue (are_skipped false true bs) → ⊥
 not_closed [] rest h k = cc
-not_closed (b ∷ bs) rest h k = elim (test (eqb b 10)) [
+not_closed (b ∷ bs) rest h k = elim (test (eqb b newline)) [
   | inl e ↦ (let n = rw e at h in absurd cc)
   | inr e ↦ not_closed bs rest (rw e at h) (rw e at k)
 ]
@@ -153,27 +154,27 @@ tail_is a b cs bs e = cc
 -- behind whole lines, an open line holds no other whole one
 open_max : (inside : Bool) (lines other text rest : List ℕ)
     → IsTrue (are_skipped false inside lines) → IsTrue (are_skipped false inside other)
-    → IsTrue (has_no_newline text) → lines ++ 35 ∷ text ≡ other ++ rest
-    → length (35 ∷ text) ≤ length rest
+    → IsTrue (has_no_newline text) → lines ++ hash ∷ text ≡ other ++ rest
+    → length (hash ∷ text) ≤ length rest
 open_max inside lines [] text rest a b h e =
-    omega (arith, ap length e, length-append lines (35 ∷ text))
+    omega (arith, ap length e, length-append lines (hash ∷ text))
 open_max true [] (c ∷ other) text rest a b h e = absurd cc
 open_max false [] (c ∷ other) text rest a b h e =
-    let k : IsTrue (are_skipped false false (35 ∷ other)) =
+    let k : IsTrue (are_skipped false false (hash ∷ other)) =
     subst (λ (x : ℕ). IsTrue (are_skipped false false (x ∷ other)))
-    (sym (head_is 35 c text (other ++ rest) e)) b in
-    absurd (not_closed other rest (rw (tail_is 35 c text (other ++ rest) e) at h) k)
+    (sym (head_is hash c text (other ++ rest) e)) b in
+    absurd (not_closed other rest (rw (tail_is hash c text (other ++ rest) e) at h) k)
 open_max true (d ∷ lines) (c ∷ other) text rest a b h e =
-    let same = head_is d c (lines ++ 35 ∷ text) (other ++ rest) e in
-    open_max (not (eqb d 10)) lines other text rest a (rw same b) h
-    (tail_is d c (lines ++ 35 ∷ text) (other ++ rest) e)
+    let same = head_is d c (lines ++ hash ∷ text) (other ++ rest) e in
+    open_max (not (eqb d newline)) lines other text rest a (rw same b) h
+    (tail_is d c (lines ++ hash ∷ text) (other ++ rest) e)
 open_max false (d ∷ lines) (c ∷ other) text rest a b h e =
-    let same = head_is d c (lines ++ 35 ∷ text) (other ++ rest) e in
-    let left = tail_is d c (lines ++ 35 ∷ text) (other ++ rest) e in
+    let same = head_is d c (lines ++ hash ∷ text) (other ++ rest) e in
+    let left = tail_is d c (lines ++ hash ∷ text) (other ++ rest) e in
     let k : IsTrue (are_skipped false false (d ∷ other)) = rw same b in
-    elim (test (eqb d 10)) [
+    elim (test (eqb d newline)) [
       | inl f ↦ open_max false lines other text rest (rw f at a) (rw f at k) h left
-      | inr f ↦ elim (test (eqb d 35)) [
+      | inr f ↦ elim (test (eqb d hash)) [
         | inl g ↦ open_max true lines other text rest (rw (f, g) at a) (rw (f, g) at k) h left
         | inr g ↦ (let n = rw (f, g) at a in absurd cc)
       ]
@@ -184,11 +185,11 @@ row_max_before : (kind : FrozenKind) (front other before here rest : List ℕ) �
     → AreSkippedLines other → RowFits kind false before here
     → front ++ (before ++ here) ≡ other ++ rest → length (before ++ here) ≤ length rest
 row_max_before kinds.NoVersion front other before here rest a b (k, inl h) e =
-    lines_max front other (before ++ here) rest a b e (rw h.0 (none_stops (86 ∷ []) here h.1))
+    lines_max front other (before ++ here) rest a b e (rw h.0 (none_stops (letter_V ∷ []) here h.1))
 row_max_before kinds.NoVersion front other before here rest a b (k, inr (inl h, is)) e =
     rw (h, is) (omega arith)
 row_max_before kinds.NoVersion front other before here rest a b (k, inr (inr h, is)) e =
-    let whole : before ++ here ≡ 35 ∷ h.0 = rw (is, h.2, append-nil h.0) refl in
+    let whole : before ++ here ≡ hash ∷ h.0 = rw (is, h.2, append-nil h.0) refl in
     rw whole (open_max false front other h.0 rest a b h.1
     (ap (λ (bs : List ℕ). front ++ bs) (sym whole) ∙ e))
 row_max_before kinds.SecondVersion front other before here rest a b h e = absurd (let k = h.0 in cc)
@@ -220,25 +221,25 @@ record Starts (front tail : List ℕ) (rest : List ℕ) : Type 0 where
   lines : List ℕ
   behind : List ℕ
   are_lines : AreSkippedLines lines
-  parts : front ++ tail ≡ lines ++ 86 ∷ (behind ++ (rest ++ tail))
+  parts : front ++ tail ≡ lines ++ letter_V ∷ (behind ++ (rest ++ tail))
   gives : behind_version (skip_lines false (front ++ tail)) ≡ Ok (rest ++ tail)
 
 -- a front with the version begins so
 front_starts : (front tail : List ℕ) → (f : IsFront true front) → Starts front tail f.2
 front_starts front tail f =
-    let parts : front ++ tail ≡ f.0 ++ 86 ∷ (f.1 ++ 10 ∷ (f.2 ++ tail)) =
+    let parts : front ++ tail ≡ f.0 ++ letter_V ∷ (f.1 ++ newline ∷ (f.2 ++ tail)) =
     rw f.7 (simp append_assoc) in
-    let start : skip_lines false (front ++ tail) ≡ 86 ∷ (f.1 ++ 10 ∷ (f.2 ++ tail)) =
+    let start : skip_lines false (front ++ tail) ≡ letter_V ∷ (f.1 ++ newline ∷ (f.2 ++ tail)) =
     ap (skip_lines false) parts
-    ∙ skip_lines-append false f.0 (86 ∷ (f.1 ++ 10 ∷ (f.2 ++ tail))) f.4 in
+    ∙ skip_lines-append false f.0 (letter_V ∷ (f.1 ++ newline ∷ (f.2 ++ tail))) f.4 in
     record {
       lines = f.0;
-      behind = f.1 ++ 10 ∷ [];
+      behind = f.1 ++ newline ∷ [];
       are_lines = f.4;
       parts =
-          rw (parts, append_assoc f.1 (10 ∷ []) (f.2 ++ tail)) refl;
+          rw (parts, append_assoc f.1 (newline ∷ []) (f.2 ++ tail)) refl;
       gives =
-          rw (start, version_at-number f.1 (10 ∷ (f.2 ++ tail)) f.5 refl) refl;
+          rw (start, version_at-number f.1 (newline ∷ (f.2 ++ tail)) f.5 refl) refl;
     }
 
 -- an answer without a fault
@@ -270,7 +271,7 @@ front_max kind true false front other before here rest f g h e =
     let a = front_starts front (before ++ here) f in
     omega (
       arith,
-      lines_max a.lines other (86 ∷ (a.behind ++ (f.2 ++ (before ++ here)))) rest
+      lines_max a.lines other (letter_V ∷ (a.behind ++ (f.2 ++ (before ++ here)))) rest
           a.are_lines g (sym a.parts ∙ e) refl,
       length-append a.behind (f.2 ++ (before ++ here)),
       length-append f.2 (before ++ here),

@@ -7,6 +7,7 @@ use Rattle.std.specs.Char.{is_ascii_digit}
 use Rattle.std.proofs.lemmas.List.{take-append-drop, length-take-le, append-nil}
 use Rattle.std.proofs.lemmas.Int.{ints}
 use Rattle.std.proofs.lemmas.Bool.Decides.{nat_tests}
+use Rattle.m4_frozen.specs.Ascii.{newline, comma, minus_sign}
 use Rattle.m4_frozen.specs.declared.fault.Refusal.{Refusal}
 use Rattle.m4_frozen.specs.declared.fault.FrozenKind.{FrozenKind}
 use Rattle.m4_frozen.specs.declared.fault.FrozenKind.TheVariants as kinds
@@ -25,8 +26,8 @@ abbrev pub part_at : (p : Part) → List ℕ → Step (Value p)
 part_at Version bytes = version_at bytes >>= λ rest. Ok (tt, rest)
 part_at Length bytes = length_at bytes
 part_at Number bytes = signed_at (skip_blanks bytes)
-part_at Comma bytes = expect_byte 44 (skip_blanks bytes) >>= λ rest. Ok (tt, rest)
-part_at NewLine bytes = expect_byte 10 bytes >>= λ rest. Ok (tt, rest)
+part_at Comma bytes = expect_byte comma (skip_blanks bytes) >>= λ rest. Ok (tt, rest)
+part_at NewLine bytes = expect_byte newline bytes >>= λ rest. Ok (tt, rest)
 part_at (String n) bytes = string_at n bytes
 
 -- all parts of a layout
@@ -289,26 +290,26 @@ module _ (blanks : List ℕ) (are : AreBlanks blanks) where
       f
 
   -- no digit behind a `-`
-  behind_minus : (bs : List ℕ) (e : Refusal) → DigitsSay bs (Err e) → number_part (45 ∷ bs) (Err e)
+  behind_minus : (bs : List ℕ) (e : Refusal) → DigitsSay bs (Err e) → number_part (minus_sign ∷ bs) (Err e)
   behind_minus bs e (inl h) = (
-    blanks ++ 45 ∷ [],
+    blanks ++ minus_sign ∷ [],
     bs,
-    subst (λ (k : FrozenKind). IsWrong k Number (blanks ++ 45 ∷ []) bs)
+    subst (λ (k : FrozenKind). IsWrong k Number (blanks ++ minus_sign ∷ []) bs)
         (sym h.0) (inr ((blanks, are, refl), h.1)),
-    sym (append_assoc blanks (45 ∷ []) bs),
+    sym (append_assoc blanks (minus_sign ∷ []) bs),
     h.2,
   )
   behind_minus bs e (inr h) = (
-    blanks ++ 45 ∷ [],
+    blanks ++ minus_sign ∷ [],
     [],
-    subst (λ (k : FrozenKind). IsWrong k Number (blanks ++ 45 ∷ []) [])
+    subst (λ (k : FrozenKind). IsWrong k Number (blanks ++ minus_sign ∷ []) [])
         (sym h.0) (inr (blanks, are, refl), refl),
-    rw h.1 (sym (append-nil (blanks ++ 45 ∷ []))),
+    rw h.1 (sym (append-nil (blanks ++ minus_sign ∷ []))),
     h.2,
   )
 
   -- neither digit nor `-`
-  no_minus : (b : ℕ) (bs : List ℕ) → not (is_blank b) ≡ true → eqb b 45 ≡ false → (e : Refusal)
+  no_minus : (b : ℕ) (bs : List ℕ) → not (is_blank b) ≡ true → eqb b minus_sign ≡ false → (e : Refusal)
       → DigitsSay (b ∷ bs) (Err e) → number_part (b ∷ bs) (Err e)
   no_minus b bs apart other e (inl h) = (
     blanks,
@@ -323,33 +324,33 @@ module _ (blanks : List ℕ) (are : AreBlanks blanks) where
   -- a diversion's number stands, or a row fits
   sign_says : (rest : List ℕ) → IsTrue (no_blank rest) → number_part rest (signed_at rest)
   sign_says [] apart = (blanks, [], (inl are, refl), refl, refl)
-  sign_says (b ∷ bs) apart = by_test (number_part (b ∷ bs)) (eqb b 45) _ _
-      (λ e. rw (eq_of b 45 e) (magnitude_says true bs (behind_minus bs)))
+  sign_says (b ∷ bs) apart = by_test (number_part (b ∷ bs)) (eqb b minus_sign) _ _
+      (λ e. rw (eq_of b minus_sign e) (magnitude_says true bs (behind_minus bs)))
       (λ e. magnitude_says false (b ∷ bs) (no_minus b bs apart e))
 
   -- a comma stands, or a row fits
   comma_says : (rest : List ℕ) → IsTrue (no_blank rest)
-      → PartSays Comma (blanks ++ rest) (expect_byte 44 rest >>= λ x. Ok (tt, x))
+      → PartSays Comma (blanks ++ rest) (expect_byte comma rest >>= λ x. Ok (tt, x))
   comma_says [] apart = (blanks, [], (are, refl), refl, refl)
   comma_says (b ∷ bs) apart =
       by_test (λ (r : Result (List ℕ) Refusal). PartSays Comma (blanks ++ b ∷ bs)
-      (r >>= λ x. Ok (tt, x))) (eqb b 44) _ _
+      (r >>= λ x. Ok (tt, x))) (eqb b comma) _ _
       (λ e. (
-        blanks ++ 44 ∷ [],
+        blanks ++ comma ∷ [],
         (blanks, are, refl),
         tt,
-        rw (eq_of b 44 e)
-            (sym (append_assoc blanks (44 ∷ []) bs)),
+        rw (eq_of b comma e)
+            (sym (append_assoc blanks (comma ∷ []) bs)),
       ))
       (λ e. (blanks, b ∷ bs, (are, rw (apart, e) refl), refl, refl))
 
 -- a newline stands, or a row fits
-newline_says : (bytes : List ℕ) → PartSays NewLine bytes (expect_byte 10 bytes >>= λ x. Ok (tt, x))
+newline_says : (bytes : List ℕ) → PartSays NewLine bytes (expect_byte newline bytes >>= λ x. Ok (tt, x))
 newline_says [] = ([], [], (refl, refl), refl, refl)
 newline_says (b ∷ bs) =
     by_test (λ (r : Result (List ℕ) Refusal). PartSays NewLine (b ∷ bs) (r >>= λ x. Ok (tt, x)))
-    (eqb b 10) _ _
-    (λ e. (10 ∷ [], refl, tt, rw (eq_of b 10 e) refl))
+    (eqb b newline) _ _
+    (λ e. (newline ∷ [], refl, tt, rw (eq_of b newline e) refl))
     (λ e. ([], b ∷ bs, (refl, rw e refl), refl, refl))
 
 -- a string stands, or the end comes

@@ -11,6 +11,7 @@ use Rattle.std.proofs.lemmas.Int.{ints}
 use Rattle.std.proofs.lemmas.Bool.Decides.{nat_tests}
 use Rattle.std.proofs.lemmas.Str.Parse.{IsNumeralModel, numerals_by_fold}
 use Rattle.std.proofs.lemmas.Fmt.{digits_decimal, digits_value-decimal, decimal_nonempty}
+use Rattle.m4_frozen.specs.Ascii.{newline, hash, comma, minus_sign, letter_C, letter_D, letter_F, letter_Q, letter_T, letter_V}
 use Rattle.m4_frozen.specs.declared.fault.Refusal.{Refusal}
 use Rattle.m4_frozen.specs.Directive.{Directive, Quotes, Comments, Text, Builtin, Diversion}
 use Rattle.m4_frozen.specs.Spells.{is_blank, AreBlanks, AreDigits, value_from, value_of, IsNumber, IsPair, AreSkippedLines, SpellsAll, Spells, signed, with_sign, IsDiversion, SpellsOne, are_skipped}
@@ -46,7 +47,7 @@ digits_at-append (d ∷ ds) rest h apart =
     rw (p.0, digits_at-append ds rest p.1 apart) refl
 
 -- a digit is no `-`
-pub digit_is_no_sign : (d : ℕ) → is_ascii_digit d ≡ true → eqb d 45 ≡ false
+pub digit_is_no_sign : (d : ℕ) → is_ascii_digit d ≡ true → eqb d minus_sign ≡ false
 digit_is_no_sign d e = grind (arith, nat_tests)
 
 -- a digit is no blank
@@ -105,7 +106,7 @@ pair_bytes : (letter : ℕ) (first second bytes rest : List ℕ)
     → (p : IsPair letter first second bytes)
     → (bytes ++ rest ≡ letter
     ∷ (p.first_number
-    ++ (p.blanks ++ 44 ∷ (p.second_number ++ 10 ∷ (first ++ (second ++ 10 ∷ rest))))))
+    ++ (p.blanks ++ comma ∷ (p.second_number ++ newline ∷ (first ++ (second ++ newline ∷ rest))))))
 pair_bytes letter first second bytes rest p = ap (λ (bs : List ℕ). bs ++ rest) p.spelled
     ∙ simp append_assoc
 
@@ -114,24 +115,24 @@ pair_at-spelled : (letter : ℕ) (first second bytes rest : List ℕ)
     → (p : IsPair letter first second bytes)
     → pair_at
     (p.first_number
-    ++ (p.blanks ++ 44 ∷ (p.second_number ++ 10 ∷ (first ++ (second ++ 10 ∷ rest))))) ≡ Ok
+    ++ (p.blanks ++ comma ∷ (p.second_number ++ newline ∷ (first ++ (second ++ newline ∷ rest))))) ≡ Ok
     ((first, second), rest)
 unfolding pair_at
 pair_at-spelled letter first second bytes rest p =
-    let b : List ℕ = second ++ 10 ∷ rest in
+    let b : List ℕ = second ++ newline ∷ rest in
     let a : List ℕ = first ++ b in
-    let blanks : skip_blanks (p.blanks ++ 44 ∷ (p.second_number ++ 10 ∷ a)) ≡ 44
-    ∷ (p.second_number ++ 10 ∷ a) =
-    skip_blanks-append p.blanks (44 ∷ (p.second_number ++ 10 ∷ a)) p.are_blanks in
+    let blanks : skip_blanks (p.blanks ++ comma ∷ (p.second_number ++ newline ∷ a)) ≡ comma
+    ∷ (p.second_number ++ newline ∷ a) =
+    skip_blanks-append p.blanks (comma ∷ (p.second_number ++ newline ∷ a)) p.are_blanks in
     rw (
       length_at-number (length first) p.first_number
-          (p.blanks ++ 44 ∷ (p.second_number ++ 10 ∷ a)) p.first_length p.fits.0
-          (skip_apart p.blanks 44 (p.second_number ++ 10 ∷ a) p.are_blanks refl),
+          (p.blanks ++ comma ∷ (p.second_number ++ newline ∷ a)) p.first_length p.fits.0
+          (skip_apart p.blanks comma (p.second_number ++ newline ∷ a) p.are_blanks refl),
       blanks,
-      length_at-number (length second) p.second_number (10 ∷ a) p.second_length p.fits.1 refl,
+      length_at-number (length second) p.second_number (newline ∷ a) p.second_length p.fits.1 refl,
       string_at-append (length first) first b refl,
       string_at-append (length second) second
-          (10 ∷ rest) refl,
+          (newline ∷ rest) refl,
     ) refl
 
 -- bytes that spell a directive begin with its letter, and the directive is read behind it
@@ -151,7 +152,7 @@ pair_is_read : (letter : ℕ) (make : List ℕ → List ℕ → Directive) (firs
 pair_is_read letter make first second bytes rest p apart is = record {
   letter = letter;
   behind = p.first_number
-      ++ (p.blanks ++ 44 ∷ (p.second_number ++ 10 ∷ (first ++ (second ++ 10 ∷ rest))));
+      ++ (p.blanks ++ comma ∷ (p.second_number ++ newline ∷ (first ++ (second ++ newline ∷ rest))));
   begins = pair_bytes letter first second bytes rest p;
   apart = apart _;
   gives = is _ ∙ rw (pair_at-spelled letter first second bytes rest p) refl;
@@ -179,54 +180,54 @@ pub signed_at-digits : (minus : Bool) (digits rest : List ℕ) (z : ℤ) → Are
     → IsTrue (no_digit_first rest) → signed minus (value_of digits) ≡ z → FitsSigned w32 z
     → signed_at (skip_blanks (with_sign minus digits ++ rest)) ≡ Ok (z, rest)
 signed_at-digits true digits rest z are apart is fits =
-    magnitude_at-digits (45 ∷ digits ++ rest) true digits rest z are apart is fits
+    magnitude_at-digits (minus_sign ∷ digits ++ rest) true digits rest z are apart is fits
 signed_at-digits false [] rest z are apart is fits = absurd (are.0 refl)
 signed_at-digits false (d ∷ ds) rest z are apart is fits =
     let digit : is_ascii_digit d ≡ true =
     (both_true (is_ascii_digit d) (list_all is_ascii_digit ds) are.1).0 in
-    let no_sign : eqb d 45 ≡ false = digit_is_no_sign d digit in
+    let no_sign : eqb d minus_sign ≡ false = digit_is_no_sign d digit in
     rw (skip_blanks-digits (d ∷ ds) rest are, no_sign)
     (magnitude_at-digits (d ∷ ds ++ rest) false (d ∷ ds) rest z are apart is fits)
 
 -- a diversion is read behind its letter
 diversion_at-spelled : (number : ℤ) (text bytes rest : List ℕ) → (p : IsDiversion number text bytes)
     → diversion_at
-    (p.first_number ++ (p.blanks ++ 44 ∷ (p.second_number ++ 10 ∷ (text ++ 10 ∷ rest)))) ≡ Ok
+    (p.first_number ++ (p.blanks ++ comma ∷ (p.second_number ++ newline ∷ (text ++ newline ∷ rest)))) ≡ Ok
     ((number, text), rest)
 unfolding diversion_at
 diversion_at-spelled number text bytes rest p =
-    let a : List ℕ = text ++ 10 ∷ rest in
-    let c : List ℕ = p.blanks ++ 44 ∷ (p.second_number ++ 10 ∷ a) in
+    let a : List ℕ = text ++ newline ∷ rest in
+    let c : List ℕ = p.blanks ++ comma ∷ (p.second_number ++ newline ∷ a) in
     let n = p.number_is in
     let start : skip_blanks (p.first_number ++ c) ≡ skip_blanks (with_sign n.minus n.digits ++ c) =
     ap (λ (bs : List ℕ). skip_blanks (bs ++ c)) n.spelled
     ∙ ap skip_blanks (append_assoc n.blanks (with_sign n.minus n.digits) c)
     ∙ skip_blanks-append n.blanks (with_sign n.minus n.digits ++ c) n.are_blanks in
-    let blanks : skip_blanks c ≡ 44 ∷ (p.second_number ++ 10 ∷ a) =
-    skip_blanks-append p.blanks (44 ∷ (p.second_number ++ 10 ∷ a)) p.are_blanks in
+    let blanks : skip_blanks c ≡ comma ∷ (p.second_number ++ newline ∷ a) =
+    skip_blanks-append p.blanks (comma ∷ (p.second_number ++ newline ∷ a)) p.are_blanks in
     rw (
       start,
       signed_at-digits n.minus n.digits c number n.are_digits
-          (skip_apart p.blanks 44 (p.second_number ++ 10 ∷ a) p.are_blanks refl) n.value p.fits.0,
+          (skip_apart p.blanks comma (p.second_number ++ newline ∷ a) p.are_blanks refl) n.value p.fits.0,
       blanks,
-      length_at-number (length text) p.second_number (10 ∷ a) p.text_length p.fits.1 refl,
-      string_at-append (length text) text (10 ∷ rest) refl,
+      length_at-number (length text) p.second_number (newline ∷ a) p.text_length p.fits.1 refl,
+      string_at-append (length text) text (newline ∷ rest) refl,
     ) refl
 
 -- a directive that is spelled is read
 pub one_is_read : (d : Directive) (bytes rest : List ℕ) → SpellsOne d bytes → IsRead d bytes rest
 unfolding directive_at
-one_is_read (Quotes first second) bytes rest p = pair_is_read 81 Quotes first second bytes rest p
+one_is_read (Quotes first second) bytes rest p = pair_is_read letter_Q Quotes first second bytes rest p
     (λ bs. refl) (λ bs. refl)
 one_is_read (Comments first second) bytes rest p =
-    pair_is_read 67 Comments first second bytes rest p (λ bs. refl) (λ bs. refl)
-one_is_read (Text first second) bytes rest p = pair_is_read 84 Text first second bytes rest p
+    pair_is_read letter_C Comments first second bytes rest p (λ bs. refl) (λ bs. refl)
+one_is_read (Text first second) bytes rest p = pair_is_read letter_T Text first second bytes rest p
     (λ bs. refl) (λ bs. refl)
-one_is_read (Builtin first second) bytes rest p = pair_is_read 70 Builtin first second bytes rest p
+one_is_read (Builtin first second) bytes rest p = pair_is_read letter_F Builtin first second bytes rest p
     (λ bs. refl) (λ bs. refl)
 one_is_read (Diversion number text) bytes rest p = record {
-  letter = 68;
-  behind = p.first_number ++ (p.blanks ++ 44 ∷ (p.second_number ++ 10 ∷ (text ++ 10 ∷ rest)));
+  letter = letter_D;
+  behind = p.first_number ++ (p.blanks ++ comma ∷ (p.second_number ++ newline ∷ (text ++ newline ∷ rest)));
   begins = ap (λ (bs : List ℕ). bs ++ rest) p.spelled ∙ simp append_assoc;
   apart = refl;
   gives = rw (diversion_at-spelled number text bytes rest p) refl;
@@ -238,11 +239,11 @@ pub skip_lines-append : (inside : Bool) (lines rest : List ℕ)
     → skip_lines inside (lines ++ rest) ≡ skip_lines false rest
 skip_lines-append true [] rest h = absurd cc
 skip_lines-append false [] rest h = refl
-skip_lines-append true (b ∷ lines) rest h = skip_lines-append (not (eqb b 10)) lines rest h
+skip_lines-append true (b ∷ lines) rest h = skip_lines-append (not (eqb b newline)) lines rest h
 skip_lines-append false (b ∷ lines) rest h =
-    elim (test (eqb b 10)) [
+    elim (test (eqb b newline)) [
       | inl e ↦ rw e (skip_lines-append false lines rest (rw e at h))
-      | inr e ↦ elim (test (eqb b 35)) [
+      | inr e ↦ elim (test (eqb b hash)) [
         | inl f ↦ rw (e, f) (skip_lines-append true lines rest (rw (e, f) at h))
         | inr f ↦ (let k = rw (e, f) at h in absurd cc)
       ]
@@ -253,11 +254,11 @@ pub skip_lines-last : (inside : Bool) (bs : List ℕ) → IsTrue (are_skipped tr
     → skip_lines inside bs ≡ []
 skip_lines-last true [] h = refl
 skip_lines-last false [] h = refl
-skip_lines-last true (b ∷ bs) h = skip_lines-last (not (eqb b 10)) bs h
+skip_lines-last true (b ∷ bs) h = skip_lines-last (not (eqb b newline)) bs h
 skip_lines-last false (b ∷ bs) h =
-    elim (test (eqb b 10)) [
+    elim (test (eqb b newline)) [
       | inl e ↦ rw e (skip_lines-last false bs (rw e at h))
-      | inr e ↦ elim (test (eqb b 35)) [
+      | inr e ↦ elim (test (eqb b hash)) [
         | inl f ↦ rw (e, f) (skip_lines-last true bs (rw (e, f) at h))
         | inr f ↦ (let k = rw (e, f) at h in absurd cc)
       ]
@@ -323,13 +324,13 @@ pub file_at-spelled : (ds : List Directive) (bytes : List ℕ) → Spells ds byt
     → file_at bytes ≡ Ok ds
 unfolding file_at
 file_at-spelled ds bytes p =
-    let start : skip_lines false bytes ≡ 86 ∷ p.number ++ 10 ∷ p.rest =
+    let start : skip_lines false bytes ≡ letter_V ∷ p.number ++ newline ∷ p.rest =
     ap (skip_lines false) p.spelled
-    ∙ ap (skip_lines false) (append_assoc p.lines (86 ∷ p.number) (10 ∷ p.rest))
-    ∙ skip_lines-append false p.lines (86 ∷ p.number ++ 10 ∷ p.rest) p.are_lines in
+    ∙ ap (skip_lines false) (append_assoc p.lines (letter_V ∷ p.number) (newline ∷ p.rest))
+    ∙ skip_lines-append false p.lines (letter_V ∷ p.number ++ newline ∷ p.rest) p.are_lines in
     rw (
       start,
-      version_at-number p.number (10 ∷ p.rest) p.version refl,
+      version_at-number p.number (newline ∷ p.rest) p.version refl,
       directives_at-spelled ds p.rest (length p.rest + 1) p.others
           (omega (arith, length-SpellsAll true ds p.rest p.others)),
     ) refl

@@ -6,6 +6,7 @@ use Rattle.std.specs.List.{list_all}
 use Rattle.std.specs.Char.{is_ascii_digit}
 use Rattle.std.proofs.lemmas.Bool.{lt-ltb, le-ltb, not-true}
 use Rattle.std.proofs.lemmas.List.{append-nil}
+use Rattle.m4_frozen.specs.Ascii.{newline, comma, minus_sign}
 use Rattle.m4_frozen.specs.declared.fault.Refusal.{Refusal}
 use Rattle.m4_frozen.specs.declared.fault.FrozenKind.{FrozenKind}
 use Rattle.m4_frozen.specs.declared.fault.FrozenKind.TheVariants as kinds
@@ -28,7 +29,7 @@ part_stands Number z one rest h apart =
     ∙ skip_blanks-append n.blanks (with_sign n.minus n.digits ++ rest) n.are_blanks in
     rw start (signed_at-digits n.minus n.digits rest z n.are_digits apart n.value h.1)
 part_stands Comma v one rest h apart =
-    rw (h.2, append_assoc h.0 (44 ∷ []) rest, skip_blanks-append h.0 (44 ∷ rest) h.1) refl
+    rw (h.2, append_assoc h.0 (comma ∷ []) rest, skip_blanks-append h.0 (comma ∷ rest) h.1) refl
 part_stands NewLine v one rest h apart = rw h refl
 part_stands (String n) text one rest h apart = rw h.0 (string_at-append n text rest h.1)
 
@@ -89,18 +90,18 @@ zero_refused Version before here h =
 zero_refused p before here h = absurd h
 
 -- behind blanks and a sign
-minus_here : (before here : List ℕ) → IsMinus before → skip_blanks (before ++ here) ≡ 45 ∷ here
-minus_here before here h = rw (h.2, append_assoc h.0 (45 ∷ []) here)
-    (skip_blanks-append h.0 (45 ∷ here) h.1)
+minus_here : (before here : List ℕ) → IsMinus before → skip_blanks (before ++ here) ≡ minus_sign ∷ here
+minus_here before here h = rw (h.2, append_assoc h.0 (minus_sign ∷ []) here)
+    (skip_blanks-append h.0 (minus_sign ∷ here) h.1)
 
 -- neither digit nor `-`
 sign_no_digit : (here : List ℕ)
-    → IsTrue (first_is (λ b. not (is_ascii_digit b) && not (eqb b 45)) here)
+    → IsTrue (first_is (λ b. not (is_ascii_digit b) && not (eqb b minus_sign)) here)
     → signed_at here ≡ refused kinds.DigitExpected here
 sign_no_digit [] h = absurd cc
 sign_no_digit (b ∷ bs) h =
-    let p = both_true (not (is_ascii_digit b)) (not (eqb b 45)) h in
-    rw (not-true (eqb b 45) p.1, no_digits (b ∷ bs) p.0) refl
+    let p = both_true (not (is_ascii_digit b)) (not (eqb b minus_sign)) h in
+    rw (not-true (eqb b minus_sign) p.1, no_digits (b ∷ bs) p.0) refl
 
 -- a number outside 32 bits fails the test
 unfit : (minus : Bool) (v : ℕ) → (FitsSigned w32 (signed minus v) → ⊥)
@@ -145,7 +146,7 @@ no_digit_refused Length before here h = let a =
     blanks_apart (λ b. not (is_ascii_digit b)) before here h.0 h.1 in
     rw (a.found, no_digits here a.is) refl
 no_digit_refused Number before here (inl h) = let a =
-    blanks_apart (λ b. not (is_ascii_digit b) && not (eqb b 45)) before here h.0 h.1 in
+    blanks_apart (λ b. not (is_ascii_digit b) && not (eqb b minus_sign)) before here h.0 h.1 in
     rw a.found (sign_no_digit here a.is)
 no_digit_refused Number before here (inr h) =
     rw (minus_here before here h.0, no_digits here h.1) refl
@@ -173,9 +174,9 @@ large_refused p before here h = absurd h
 other_refused : (p : Part) (before here : List ℕ) → LacksSeparator p before here
     → part_at p (before ++ here) ≡ refused kinds.SeparatorExpected here
 other_refused Comma before here h = let a =
-    blanks_apart (λ b. not (eqb b 44)) before here h.0 h.1 in
-    rw (a.found, other_byte 44 here a.is) refl
-other_refused NewLine before here h = rw (h.0, other_byte 10 here h.1) refl
+    blanks_apart (λ b. not (eqb b comma)) before here h.0 h.1 in
+    rw (a.found, other_byte comma here a.is) refl
+other_refused NewLine before here h = rw (h.0, other_byte newline here h.1) refl
 other_refused p before here h = absurd h
 
 -- the end is refused

@@ -5,6 +5,7 @@ use Rattle.std.specs.Int.{w32}
 use Rattle.std.specs.List.{list_all}
 use Rattle.std.specs.Char.{is_ascii_digit}
 use Rattle.std.proofs.lemmas.Bool.{lt-ltb}
+use Rattle.m4_frozen.specs.Ascii.{digit_zero}
 use Rattle.m4_frozen.specs.declared.fault.FrozenFault.{FrozenFault}
 use Rattle.m4_frozen.specs.declared.fault.FrozenKind.{FrozenKind}
 use Rattle.m4_frozen.specs.declared.fault.FrozenKind.TheVariants as kinds
@@ -49,7 +50,7 @@ all_digits-append (d ∷ ds) b h k = let p =
 pub value_from-append : (n : ℕ) (a b : List ℕ)
     → value_from n (a ++ b) ≡ value_from (value_from n a) b
 value_from-append n [] b = refl
-value_from-append n (d ∷ ds) b = value_from-append (10 * n + (d - 48)) ds b
+value_from-append n (d ∷ ds) b = value_from-append (10 * n + (d - digit_zero)) ds b
 
 -- more digits make a number no smaller
 value_of-more : (a b : List ℕ) → value_of a ≤ value_of (a ++ b)

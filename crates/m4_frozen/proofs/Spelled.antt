@@ -3,6 +3,7 @@ use Rattle.std.proofs.Common.{◌≡◌, ℕ, zero, suc, ◌+◌, ◌-◌, ◌<�
 use Rattle.std.specs.Prelude.{IsTrue}
 use Rattle.std.specs.List.{list_all}
 use Rattle.std.proofs.lemmas.List.{length-append, append-nil}
+use Rattle.m4_frozen.specs.Ascii.{newline, hash, letter_C, letter_D, letter_F, letter_Q, letter_T, letter_V}
 use Rattle.m4_frozen.specs.declared.fault.Refusal.{Refusal}
 use Rattle.m4_frozen.specs.declared.fault.FrozenKind.{FrozenKind}
 use Rattle.m4_frozen.specs.declared.fault.FrozenKind.TheVariants as kinds
@@ -54,14 +55,14 @@ same_end (Err e) = refl
 
 -- the same of any answer at the number
 version_layout_of : (r : Result (List ℕ) Refusal)
-    → (r >>= expect_byte 10)
-    ≡ (((r >>= unit_and) >>= λ v. ((expect_byte 10 v.1 >>= unit_and) >>= end_of)) >>= rest_of)
-version_layout_of (Ok x) = same_end (expect_byte 10 x)
+    → (r >>= expect_byte newline)
+    ≡ (((r >>= unit_and) >>= λ v. ((expect_byte newline v.1 >>= unit_and) >>= end_of)) >>= rest_of)
+version_layout_of (Ok x) = same_end (expect_byte newline x)
 version_layout_of (Err e) = refl
 
 -- the version is read by its layout
 pub version_is_layout : (bytes : List ℕ)
-    → (version_at bytes >>= expect_byte 10) ≡ (layout_at version_layout bytes >>= λ v. Ok v.1)
+    → (version_at bytes >>= expect_byte newline) ≡ (layout_at version_layout bytes >>= λ v. Ok v.1)
 version_is_layout bytes = version_layout_of (version_at bytes)
 
 -- what the layout of a pair spells is a directive with two strings
@@ -105,14 +106,14 @@ pair_spells letter make view d bytes rest h =
 
 -- what the layout of a diversion spells is a diversion
 diversion_spells : (d : Directive) (bytes rest : List ℕ) → IsSpelled diversion_layout d bytes rest
-    → SpellsOne d (68 ∷ bytes)
+    → SpellsOne d (letter_D ∷ bytes)
 diversion_spells d bytes rest h =
     let h2 = h.6 in
     let h3 = h2.6 in
     let h4 = h3.6 in
     let h5 = h4.6 in
     let h6 = h5.6 in
-    let p : IsDiversion h.0 h5.0 (68 ∷ bytes) = record {
+    let p : IsDiversion h.0 h5.0 (letter_D ∷ bytes) = record {
       first_number = h.1;
       blanks = h2.3.0;
       second_number = h3.1;
@@ -123,7 +124,7 @@ diversion_spells d bytes rest h =
       spelled = rw (h.5, h2.5, h2.3.2, h3.5, h4.5, h4.3, h5.5, h5.3.0, h6.5, h6.3, h6.6.1)
           (simp append_assoc);
     } in
-    subst (λ (x : Directive). SpellsOne x (68 ∷ bytes)) h6.6.0 p
+    subst (λ (x : Directive). SpellsOne x (letter_D ∷ bytes)) h6.6.0 p
 
 -- what follows from an answer
 pub by_result : {A : Type 0} (P Q : Result A Refusal → Type 0) (r : Result A Refusal) → P r
@@ -181,7 +182,7 @@ by_layout letter l bytes (Err x) e f h = (
 )
 
 -- a directive is read, or a row of the table fits
-pub directive_says : (letter : ℕ) (bytes : List ℕ) → eqb letter 10 ≡ false → eqb letter 35 ≡ false
+pub directive_says : (letter : ℕ) (bytes : List ℕ) → eqb letter newline ≡ false → eqb letter hash ≡ false
     → DirectiveSays letter bytes (directive_at letter bytes)
 unfolding directive_at
 directive_says letter bytes nl hash =
@@ -191,18 +192,18 @@ directive_says letter bytes nl hash =
     → SpellsOne (make a b) bs).
     by_layout l (pair_layout make) bytes (with_pair make bytes) is (pair_spells l make view)
     (rw (pair_is_layout make bytes) (layout_says (pair_layout make) bytes)) in
-    by_test D (eqb letter 81) _ _
-    (λ e. rw (eq_of letter 81 e) (pair 81 Quotes refl (λ a b bs p. p))) (λ e1.
-    by_test D (eqb letter 67) _ _
-    (λ e. rw (eq_of letter 67 e) (pair 67 Comments refl (λ a b bs p. p))) (λ e2.
-    by_test D (eqb letter 84) _ _ (λ e. rw (eq_of letter 84 e) (pair 84 Text refl (λ a b bs p. p)))
+    by_test D (eqb letter letter_Q) _ _
+    (λ e. rw (eq_of letter letter_Q e) (pair letter_Q Quotes refl (λ a b bs p. p))) (λ e1.
+    by_test D (eqb letter letter_C) _ _
+    (λ e. rw (eq_of letter letter_C e) (pair letter_C Comments refl (λ a b bs p. p))) (λ e2.
+    by_test D (eqb letter letter_T) _ _ (λ e. rw (eq_of letter letter_T e) (pair letter_T Text refl (λ a b bs p. p)))
     (λ e3.
-    by_test D (eqb letter 70) _ _
-    (λ e. rw (eq_of letter 70 e) (pair 70 Builtin refl (λ a b bs p. p))) (λ e4.
-    by_test D (eqb letter 68) _ _
-    (λ e. rw (eq_of letter 68 e) (by_layout 68 diversion_layout bytes _ refl diversion_spells
+    by_test D (eqb letter letter_F) _ _
+    (λ e. rw (eq_of letter letter_F e) (pair letter_F Builtin refl (λ a b bs p. p))) (λ e4.
+    by_test D (eqb letter letter_D) _ _
+    (λ e. rw (eq_of letter letter_D e) (by_layout letter_D diversion_layout bytes _ refl diversion_spells
     (rw (diversion_is_layout bytes) (layout_says diversion_layout bytes)))) (λ e5.
-    by_test D (eqb letter 86) _ _ (λ e. ([], letter ∷ bytes, (refl, refl, e), refl, refl)) (λ e6. (
+    by_test D (eqb letter letter_V) _ _ (λ e. ([], letter ∷ bytes, (refl, refl, e), refl, refl)) (λ e6. (
       [],
       letter ∷ bytes,
       (refl, refl, simp (nl, hash, e1, e2, e3, e4, e5, e6) refl),
@@ -213,7 +214,7 @@ directive_says letter bytes nl hash =
 -- a directive may begin here
 abbrev pub is_letter : List ℕ → Bool
 is_letter [] = true
-is_letter (b ∷ bs) = not (eqb b 10) && not (eqb b 35)
+is_letter (b ∷ bs) = not (eqb b newline) && not (eqb b hash)
 
 -- whole lines, perhaps an open one at the end of all, and then a directive
 abbrev pub HasLines : Bool → List ℕ → List ℕ → Type 0
@@ -224,7 +225,7 @@ HasLines inside bytes rest = (lines : List ℕ) × (open_line : List ℕ)
 
 -- the rest of a comment line that lacks its newline
 abbrev pub IsOpenRest : Bool → List ℕ → List ℕ → Type 0
-IsOpenRest inside bytes rest = (inside ≡ true) × IsTrue (list_all (λ b. not (eqb b 10)) bytes)
+IsOpenRest inside bytes rest = (inside ≡ true) × IsTrue (list_all (λ b. not (eqb b newline)) bytes)
     × (rest ≡ [])
 
 -- lines, and then a directive; or an open comment
@@ -239,7 +240,7 @@ with_byte inside after b bytes rest e h =
     (b ∷ h.0, h.1, rw (e h.0) h.2, h.3, ap (λ (xs : List ℕ). b ∷ xs) h.4, h.5, h.6)
 
 -- a directive's letter begins no line
-no_line : (b : ℕ) (bs : List ℕ) → eqb b 10 ≡ false → eqb b 35 ≡ false
+no_line : (b : ℕ) (bs : List ℕ) → eqb b newline ≡ false → eqb b hash ≡ false
     → HasLines false (b ∷ bs) (b ∷ bs)
 no_line b bs e f = ([], [], refl, inl refl, refl, inl refl, rw (e, f) refl)
 
@@ -247,7 +248,7 @@ no_line b bs e f = ([], [], refl, inl refl, refl, inl refl, rw (e, f) refl)
 pub lines_say : (inside : Bool) (bytes : List ℕ) → LinesSay inside bytes (skip_lines inside bytes)
 lines_say false [] = inl ([], [], refl, inl refl, refl, inl refl, refl)
 lines_say true [] = inr (refl, refl, refl)
-lines_say true (b ∷ bs) = elim (test (eqb b 10)) [
+lines_say true (b ∷ bs) = elim (test (eqb b newline)) [
   | inl e ↦ rw e (elim (lines_say false bs) [
     | inl h ↦ inl (with_byte true false b bs (skip_lines false bs) (λ lines. rw e refl) h)
     | inr h ↦ absurd (let k = h.0 in cc)
@@ -257,19 +258,19 @@ lines_say true (b ∷ bs) = elim (test (eqb b 10)) [
     | inr h ↦ inr (refl, h.1, h.2)
   ])
 ]
-lines_say false (b ∷ bs) = elim (test (eqb b 10)) [
+lines_say false (b ∷ bs) = elim (test (eqb b newline)) [
   | inl e ↦ rw e (elim (lines_say false bs) [
     | inl h ↦ inl (with_byte false false b bs (skip_lines false bs) (λ lines. rw e refl) h)
     | inr h ↦ absurd (let k = h.0 in cc)
   ])
-  | inr e ↦ elim (test (eqb b 35)) [
+  | inr e ↦ elim (test (eqb b hash)) [
     | inl f ↦ rw (e, f) (elim (lines_say true bs) [
       | inl h ↦ inl (with_byte false true b bs (skip_lines true bs) (λ lines. rw (e, f) refl) h)
       | inr h ↦ inl (
         [],
         b ∷ bs,
         refl,
-        inr (bs, h.1, rw (eq_of b 35 f) refl),
+        inr (bs, h.1, rw (eq_of b hash f) refl),
         rw h.2 (sym (append-nil (b ∷ bs))),
         inr h.2,
         rw h.2 refl,
@@ -284,10 +285,10 @@ pub has_lines : (bytes : List ℕ) → HasLines false bytes (skip_lines false by
 has_lines bytes = elim (lines_say false bytes) [ inl h ↦ h | inr h ↦ absurd (let k = h.0 in cc) ]
 
 -- an open comment is skipped
-open_skipped : (text : List ℕ) → IsTrue (list_all (λ b. not (eqb b 10)) text)
+open_skipped : (text : List ℕ) → IsTrue (list_all (λ b. not (eqb b newline)) text)
     → IsTrue (are_skipped true true text)
 open_skipped [] h = refl
-open_skipped (b ∷ bs) h = elim (test (eqb b 10)) [
+open_skipped (b ∷ bs) h = elim (test (eqb b newline)) [
   | inl e ↦ absurd (let k = rw e at h in cc)
   | inr e ↦ rw e (open_skipped bs (rw e at h))
 ]
@@ -302,11 +303,11 @@ lines_then_last : (inside : Bool) (lines rest : List ℕ) → IsTrue (are_skippe
     → IsTrue (are_skipped true false rest) → IsTrue (are_skipped true inside (lines ++ rest))
 lines_then_last true [] rest h k = absurd cc
 lines_then_last false [] rest h k = k
-lines_then_last true (b ∷ lines) rest h k = lines_then_last (not (eqb b 10)) lines rest h k
+lines_then_last true (b ∷ lines) rest h k = lines_then_last (not (eqb b newline)) lines rest h k
 lines_then_last false (b ∷ lines) rest h k =
-    elim (test (eqb b 10)) [
+    elim (test (eqb b newline)) [
       | inl e ↦ rw e (lines_then_last false lines rest (rw e at h) k)
-      | inr e ↦ elim (test (eqb b 35)) [
+      | inr e ↦ elim (test (eqb b hash)) [
         | inl f ↦ rw (e, f) (lines_then_last true lines rest (rw (e, f) at h) k)
         | inr f ↦ (let k = rw (e, f) at h in absurd cc)
       ]
@@ -367,7 +368,7 @@ directives_say_of n bytes [] ih h =
 directives_say_of n bytes (b ∷ bs) ih h =
     let none : h.1 ≡ [] = no_both_open h.1 b bs h.5 in
     let e : bytes ≡ h.0 ++ b ∷ bs = h.4 ∙ rw (none, append-nil h.0) refl in
-    let apart = and_nots (eqb b 10) (eqb b 35) h.6 in
+    let apart = and_nots (eqb b newline) (eqb b hash) h.6 in
     by_bind (DirectiveSays b bs)
     (λ (r : Result (Option (Directive × List ℕ)) Refusal). DirectivesSay bytes (r >>= behind n))
     (directive_at b bs) _ (directive_says b bs apart.0 apart.1)
@@ -387,20 +388,20 @@ directives_say (suc n) bytes lt = directives_say_of n bytes (skip_lines false by
 
 -- the version at the front, or the fault there
 abbrev pub VersionSays : List ℕ → Result (List ℕ) Refusal → Type 0
-VersionSays bytes (Ok rest) = (number : List ℕ) × IsNumber 1 number × (bytes ≡ number ++ 10 ∷ rest)
+VersionSays bytes (Ok rest) = (number : List ℕ) × IsNumber 1 number × (bytes ≡ number ++ newline ∷ rest)
 VersionSays bytes (Err e) = (before : List ℕ) × (here : List ℕ)
-    × RowFits e.kind false (86 ∷ before) here × (bytes ≡ before ++ here)
+    × RowFits e.kind false (letter_V ∷ before) here × (bytes ≡ before ++ here)
     × (e.bytes_left ≡ length here)
 
 -- a fault within the version is one behind `V`
 within_version : (kind : FrozenKind) (before here : List ℕ)
-    → IsWrongWithin kind version_layout before here → RowFits kind false (86 ∷ before) here
-within_version kinds.Newer before here h = (86, before, refl, (refl, h))
-within_version kinds.VersionZero before here h = (86, before, refl, (refl, h))
-within_version kinds.DigitExpected before here h = (86, before, refl, (refl, h))
-within_version kinds.NumberTooLarge before here h = (86, before, refl, (refl, h))
-within_version kinds.SeparatorExpected before here h = (86, before, refl, (refl, h))
-within_version kinds.PrematureEnd before here h = (86, before, refl, (refl, h))
+    → IsWrongWithin kind version_layout before here → RowFits kind false (letter_V ∷ before) here
+within_version kinds.Newer before here h = (letter_V, before, refl, (refl, h))
+within_version kinds.VersionZero before here h = (letter_V, before, refl, (refl, h))
+within_version kinds.DigitExpected before here h = (letter_V, before, refl, (refl, h))
+within_version kinds.NumberTooLarge before here h = (letter_V, before, refl, (refl, h))
+within_version kinds.SeparatorExpected before here h = (letter_V, before, refl, (refl, h))
+within_version kinds.PrematureEnd before here h = (letter_V, before, refl, (refl, h))
 within_version kinds.NoVersion before here h =
     absurd (never kinds.NoVersion version_layout before here (λ p b x k. k) h)
 within_version kinds.SecondVersion before here h =
@@ -413,7 +414,7 @@ within_version kinds.OutOfMemory before here h = never kinds.OutOfMemory version
     (λ p b x k. k) h
 
 -- the version stands behind `V`, or a row fits
-version_says : (bytes : List ℕ) → VersionSays bytes (version_at bytes >>= expect_byte 10)
+version_says : (bytes : List ℕ) → VersionSays bytes (version_at bytes >>= expect_byte newline)
 version_says bytes =
     rw (version_is_layout bytes) (by_bind (LayoutSays version_layout bytes) (VersionSays bytes)
     (layout_at version_layout bytes) rest_of (layout_says version_layout bytes)
@@ -424,7 +425,7 @@ version_says bytes =
 -- the bytes behind the version, or the fault before
 abbrev pub StartSays : List ℕ → Result (List ℕ) Refusal → Type 0
 StartSays bytes (Ok rest) = (lines : List ℕ) × (number : List ℕ) × AreSkippedLines lines
-    × IsNumber 1 number × (bytes ≡ lines ++ 86 ∷ number ++ 10 ∷ rest)
+    × IsNumber 1 number × (bytes ≡ lines ++ letter_V ∷ number ++ newline ∷ rest)
 StartSays bytes (Err e) = (front : List ℕ) × (before : List ℕ) × (here : List ℕ)
     × AreSkippedLines front × RowFits e.kind false before here × (bytes ≡ front ++ before ++ here)
     × (e.bytes_left ≡ length here)
@@ -436,14 +437,14 @@ start_says_of bytes [] h = (h.0, h.1, [], h.2, (refl, inr (h.3, refl)), h.4, ref
 start_says_of bytes (b ∷ bs) h =
     let none : h.1 ≡ [] = no_both_open h.1 b bs h.5 in
     let e : bytes ≡ h.0 ++ b ∷ bs = h.4 ∙ rw (none, append-nil h.0) refl in
-    let apart = and_nots (eqb b 10) (eqb b 35) h.6 in
-    by_test (StartSays bytes) (eqb b 86) _ _
+    let apart = and_nots (eqb b newline) (eqb b hash) h.6 in
+    by_test (StartSays bytes) (eqb b letter_V) _ _
     (λ f.
-    let letter : b ≡ 86 = eq_of b 86 f in
-    by_result (VersionSays bs) (StartSays bytes) (version_at bs >>= expect_byte 10)
+    let letter : b ≡ letter_V = eq_of b letter_V f in
+    by_result (VersionSays bs) (StartSays bytes) (version_at bs >>= expect_byte newline)
     (version_says bs)
     (λ v k. (h.0, k.0, h.2, k.1, rw (e, letter, k.2) (simp append_assoc)))
-    (λ x k. (h.0, 86 ∷ k.0, k.1, h.2, k.2, rw (e, letter, k.3) (simp append_assoc), k.4)))
+    (λ x k. (h.0, letter_V ∷ k.0, k.1, h.2, k.2, rw (e, letter, k.3) (simp append_assoc), k.4)))
     (λ f. (
       h.0,
       [],
@@ -483,11 +484,11 @@ file_says bytes = by_bind (StartSays bytes) (FileSays bytes)
       spelled = h.4;
     })
     (λ e k.
-    let parts : bytes ≡ (h.0 ++ 86 ∷ h.1 ++ 10 ∷ k.0) ++ k.1 ++ k.2 =
+    let parts : bytes ≡ (h.0 ++ letter_V ∷ h.1 ++ newline ∷ k.0) ++ k.1 ++ k.2 =
     rw (h.4, k.6) (simp append_assoc) in
     record {
       versioned = true;
-      front = h.0 ++ 86 ∷ h.1 ++ 10 ∷ k.0;
+      front = h.0 ++ letter_V ∷ h.1 ++ newline ∷ k.0;
       before = k.1;
       here =
           k.2;
@@ -495,7 +496,7 @@ file_says bytes = by_bind (StartSays bytes) (FileSays bytes)
       is_front = (h.0, h.1, k.0, k.3, h.2, h.3, k.4, refl);
       fits =
           k.5;
-      place = place_of_left (h.0 ++ 86 ∷ h.1 ++ 10 ∷ k.0) k.1 k.2 bytes e.bytes_left parts k.7;
+      place = place_of_left (h.0 ++ letter_V ∷ h.1 ++ newline ∷ k.0) k.1 k.2 bytes e.bytes_left parts k.7;
     }))
     (λ e h. record {
       versioned = false;

@@ -5,6 +5,7 @@ use Rattle.std.specs.List.{list_all}
 use Rattle.std.specs.Char.{is_ascii_digit}
 use Rattle.std.proofs.lemmas.Bool.{not-true}
 use Rattle.std.proofs.lemmas.List.{length-append, append-nil, drop_at}
+use Rattle.m4_frozen.specs.Ascii.{newline, hash}
 use Rattle.m4_frozen.specs.declared.fault.FrozenFault.{FrozenFault}
 use Rattle.m4_frozen.specs.declared.fault.FrozenKind.{FrozenKind}
 use Rattle.m4_frozen.specs.declared.fault.FrozenKind.TheVariants as kinds
@@ -160,29 +161,29 @@ lines_then_lines : (inside : Bool) (lines rest : List ℕ) → IsTrue (are_skipp
     → IsTrue (are_skipped false false rest) → IsTrue (are_skipped false inside (lines ++ rest))
 lines_then_lines true [] rest h k = absurd cc
 lines_then_lines false [] rest h k = k
-lines_then_lines true (b ∷ lines) rest h k = lines_then_lines (not (eqb b 10)) lines rest h k
+lines_then_lines true (b ∷ lines) rest h k = lines_then_lines (not (eqb b newline)) lines rest h k
 lines_then_lines false (b ∷ lines) rest h k =
-    elim (test (eqb b 10)) [
+    elim (test (eqb b newline)) [
       | inl e ↦ rw e (lines_then_lines false lines rest (rw e at h) k)
-      | inr e ↦ elim (test (eqb b 35)) [
+      | inr e ↦ elim (test (eqb b hash)) [
         | inl f ↦ rw (e, f) (lines_then_lines true lines rest (rw (e, f) at h) k)
         | inr f ↦ (let k = rw (e, f) at h in absurd cc)
       ]
     ]
 
 -- a newline closes a comment
-text_closed : (text : List ℕ) → IsTrue (list_all (λ b. not (eqb b 10)) text)
-    → IsTrue (are_skipped false true (text ++ 10 ∷ []))
+text_closed : (text : List ℕ) → IsTrue (list_all (λ b. not (eqb b newline)) text)
+    → IsTrue (are_skipped false true (text ++ newline ∷ []))
 text_closed [] h = refl
-text_closed (b ∷ bs) h = elim (test (eqb b 10)) [
+text_closed (b ∷ bs) h = elim (test (eqb b newline)) [
   | inl e ↦ absurd (let k = rw e at h in cc)
-  | inr e ↦ ap (λ (x : Bool). are_skipped false (not x) (bs ++ 10 ∷ [])) e
+  | inr e ↦ ap (λ (x : Bool). are_skipped false (not x) (bs ++ newline ∷ [])) e
       ∙ text_closed bs (rw e at h)
 ]
 
 -- a newline closes an open line
 open_closed : (bytes : List ℕ) → IsOpenLine bytes
-    → IsTrue (are_skipped false false (bytes ++ 10 ∷ []))
+    → IsTrue (are_skipped false false (bytes ++ newline ∷ []))
 open_closed bytes (inl h) = rw h refl
 open_closed bytes (inr h) = rw h.2 (text_closed h.0 h.1)
 
@@ -211,30 +212,30 @@ open_unsettled : (bytes : List ℕ) (fault : FrozenFault) → (h : IsFault bytes
     → h.versioned ≡ false → IsOpenLine h.before → IsSettledBy bytes fault → ⊥
 open_unsettled bytes fault h none first is settled =
     let lines : AreSkippedLines h.front = rw first at h.is_front in
-    let more : bytes ++ 10 ∷ [] ≡ h.front ++ (h.before ++ 10 ∷ []) =
+    let more : bytes ++ newline ∷ [] ≡ h.front ++ (h.before ++ newline ∷ []) =
     rw (h.spelled, none) (simp append_assoc) in
-    let closed : AreSkippedLines (bytes ++ 10 ∷ []) =
-    rw more (lines_then_lines false h.front (h.before ++ 10 ∷ []) lines (open_closed h.before is))
+    let closed : AreSkippedLines (bytes ++ newline ∷ []) =
+    rw more (lines_then_lines false h.front (h.before ++ newline ∷ []) lines (open_closed h.before is))
     in
-    let r : IsFault (bytes ++ 10 ∷ [])
-    (record { kind = kinds.NoVersion; offset = length (bytes ++ 10 ∷ []) }) = record {
+    let r : IsFault (bytes ++ newline ∷ [])
+    (record { kind = kinds.NoVersion; offset = length (bytes ++ newline ∷ []) }) = record {
       versioned = false;
-      front = bytes ++ 10 ∷ [];
+      front = bytes ++ newline ∷ [];
       before = [];
       here = [];
       spelled = sym (append-nil _ ∙ append-nil _);
       is_front = closed;
       fits = (refl, inr (inl refl, refl));
-      place = ap length (sym (append-nil (bytes ++ 10 ∷ [])));
+      place = ap length (sym (append-nil (bytes ++ newline ∷ [])));
     } in
-    let same = one_fault (bytes ++ 10 ∷ []) fault _ (settled (10 ∷ [])).is r in
+    let same = one_fault (bytes ++ newline ∷ []) fault _ (settled (newline ∷ [])).is r in
     omega (
       arith,
       ap (λ (f : FrozenFault). f.offset) same,
       h.place,
       ap length h.spelled,
       ap length none,
-      length-append bytes (10 ∷ []),
+      length-append bytes (newline ∷ []),
       length-append (h.front ++ h.before) h.here,
     )
 
