@@ -12,7 +12,7 @@ use Rattle.m4_frozen.specs.Directive.{Directive}
 use Rattle.m4_frozen.specs.Spells.{AreSkippedLines, SpellsAll, IsNumber}
 use Rattle.m4_frozen.specs.Layout.{Layout, version_layout, layout_of, first_is, IsWrongWithin}
 
--- what may stand at the front: whole lines, or, once `V` came, these, `V` and what is whole behind it
+-- what may stand at the front: whole lines, and, once `V` came, its line and whole directives too
 abbrev pub IsFront : Bool → List ℕ → Type 0
 IsFront false bytes = AreSkippedLines bytes
 IsFront true bytes =

@@ -60,7 +60,7 @@ pub record IsSigned (z : ℤ) (bytes : List ℕ) : Type 0 where
   pub spelled : bytes ≡ blanks ++ with_sign minus digits
   pub value : signed minus (value_of digits) ≡ z
 
--- `letter len1,len2 NL str1 str2 NL`: the strings have exactly these lengths, and may hold any bytes
+-- `letter len1,len2 NL str1 str2 NL`: the strings have these very lengths, and may hold any bytes
 pub record IsPair (letter : ℕ) (first second bytes : List ℕ) : Type 0 where
   pub first_number : List ℕ
   pub blanks : List ℕ

@@ -1,4 +1,4 @@
-//! Rows by hand: what the clauses mean at some files, and that a call answers where memory is ample.
+//! Rows by hand: what the clauses mean at some files, and that calls answer where memory is ample.
 //!
 //! The offsets were counted by hand from the format. Manual: "Frozen file format".
 
