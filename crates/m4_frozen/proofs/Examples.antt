@@ -1,11 +1,10 @@
 -- Worked rows: what some bytes spell, and which fault some others have, by hand from the format.
 -- Each is computed by the reader's steps, and carried over to the grammar and the table of faults.
-use Rattle.std.proofs.Common.{◌≡◌, ℕ, List, [], ◌∷◌, refl}
+use Rattle.std.proofs.Common.{ℕ, List, [], ◌∷◌, refl}
 use Rattle.std.specs.Prelude.{codes, pos, negsuc}
 use Rattle.m4_frozen.specs.declared.fault.FrozenKind.{FrozenKind}
 use Rattle.m4_frozen.specs.declared.fault.FrozenKind.TheVariants as kinds
-use Rattle.m4_frozen.specs.declared.fault.Refusal.{Refusal}
-use Rattle.m4_frozen.specs.Directive.{Directive, Quotes, Comments, Text, Builtin, Diversion}
+use Rattle.m4_frozen.specs.Directive.{Quotes, Comments, Text, Builtin, Diversion}
 use Rattle.m4_frozen.specs.Spells.{Spells}
 use Rattle.m4_frozen.specs.FaultAt.{FaultAt, IsFaultOfFailed}
 use Rattle.m4_frozen.specs.ReaderSteps.{file_at, length_at, version_at, string_at, pair_at, diversion_at, directive_at, directives_at}

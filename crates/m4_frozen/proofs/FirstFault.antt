@@ -1,5 +1,5 @@
 -- A fault of the bytes is what the reader answers, so there is one at most.
-use Rattle.std.proofs.Common.{◌≡◌, ℕ, zero, suc, ◌+◌, ◌-◌, ◌<◌, ◌≤◌, Bool, true, false, not, eqb, List, [], ◌∷◌, ◌++◌, length, Option, Some, Result, Ok, Err, refl, sym, ap, ◌∙◌, append_assoc, arith, inl, inr}
+use Rattle.std.proofs.Common.{◌≡◌, ℕ, zero, suc, ◌+◌, ◌-◌, ◌<◌, Bool, true, false, not, eqb, List, [], ◌∷◌, ◌++◌, length, Option, Some, Result, Ok, Err, refl, sym, ap, ◌∙◌, append_assoc, arith, inl, inr}
 use Rattle.std.specs.Prelude.{IsTrue}
 use Rattle.std.proofs.lemmas.Bool.{not-true}
 use Rattle.std.proofs.lemmas.List.{length-append, append-nil}
@@ -14,7 +14,7 @@ use Rattle.m4_frozen.specs.ReaderSteps.{refused, directive_at, skip_lines, next_
 use Rattle.m4_frozen.specs.Layout.{Layout, layout_of, pair_layout, diversion_layout, version_layout, first_is}
 use Rattle.m4_frozen.specs.FaultAt.{RowFits, FitsWithin, IsFront, IsFault, is_none_of}
 use Rattle.m4_frozen.proofs.ReadBack.{both_true, test, one_is_read, skip_lines-append, skip_lines-last, next_at-spelled, length-SpellsAll, version_at-number, file_at-spelled}
-use Rattle.m4_frozen.proofs.Parts.{Step, layout_at, eq_of}
+use Rattle.m4_frozen.proofs.Parts.{layout_at, eq_of}
 use Rattle.m4_frozen.proofs.Spelled.{pair_is_layout, diversion_is_layout, version_is_layout, open_line_skipped}
 use Rattle.m4_frozen.proofs.RowsRefused.{layout_refused}
 

@@ -1,4 +1,4 @@
-use Rattle.std.proofs.Common.{◌≤◌, ◌<◌, arith, ℕ, None}
+use Rattle.std.proofs.Common.{◌≤◌, ◌<◌, arith}
 use Rattle.m4_frozen.proofs.Digits.{value-too_large}
 use Rattle.m4_frozen.specs.Spells.{value_of}
 use Rattle.m4_frozen.proofs.number.value.Goals as goal

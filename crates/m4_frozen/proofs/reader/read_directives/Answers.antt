@@ -1,9 +1,6 @@
 -- What is answered is made from the steps of a closed file, whose meaning `Answered` has.
-use Rattle.std.proofs.Common.{◌≡◌, Err, Ok, Result, List}
-use Rattle.m4_frozen.specs.declared.fault.Refusal.{Refusal}
-use Rattle.m4_frozen.specs.Directive.{Directive}
+use Rattle.std.proofs.Common.{Err, Ok}
 use Rattle.m4_frozen.specs.DirectiveView.{directives_of}
-use Rattle.m4_frozen.specs.ReaderSteps.{file_at}
 use Rattle.m4_frozen.specs.Outcome.{IsFaultOf}
 use Rattle.m4_frozen.proofs.Answered.{read_is_spelled, refused_is_fault, failed_is_fault, fault_has_memory, read_fault_failed, refused_not_spelled}
 use Rattle.m4_frozen.proofs.reader.read_directives.Goals as goal
