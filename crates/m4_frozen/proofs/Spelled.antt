@@ -181,32 +181,46 @@ by_layout letter l bytes (Err x) e f h = (
   h.4,
 )
 
+-- two strings are read behind a letter, or a row of the table fits
+pair_says : (letter : ℕ) (make : List ℕ → List ℕ → Directive) (bytes : List ℕ)
+    → layout_of letter ≡ Some (pair_layout make)
+    → ((a b bs : List ℕ) → IsPair letter a b bs → SpellsOne (make a b) bs)
+    → DirectiveSays letter bytes (with_pair make bytes)
+pair_says letter make bytes is view =
+    by_layout letter (pair_layout make) bytes (with_pair make bytes) is
+    (pair_spells letter make view)
+    (rw (pair_is_layout make bytes) (layout_says (pair_layout make) bytes))
+
+-- a diversion is read behind its letter, or a row of the table fits
+diversion_says : (bytes : List ℕ)
+    → DirectiveSays letter_D bytes (diversion_at bytes >>= λ p. Ok (Diversion p.0.0 p.0.1, p.1))
+diversion_says bytes =
+    by_layout letter_D diversion_layout bytes _ refl diversion_spells
+    (rw (diversion_is_layout bytes) (layout_says diversion_layout bytes))
+
 -- a directive is read, or a row of the table fits
-pub directive_says : (letter : ℕ) (bytes : List ℕ) → eqb letter newline ≡ false → eqb letter hash ≡ false
+pub directive_says : (letter : ℕ) (bytes : List ℕ)
+    → eqb letter newline ≡ false → eqb letter hash ≡ false
     → DirectiveSays letter bytes (directive_at letter bytes)
 unfolding directive_at
-directive_says letter bytes nl hash =
+directive_says letter bytes no_newline no_hash =
     let D = DirectiveSays letter bytes in
-    let pair = λ (l : ℕ) (make : List ℕ → List ℕ → Directive)
-    (is : layout_of l ≡ Some (pair_layout make)) (view : (a b bs : List ℕ) → IsPair l a b bs
-    → SpellsOne (make a b) bs).
-    by_layout l (pair_layout make) bytes (with_pair make bytes) is (pair_spells l make view)
-    (rw (pair_is_layout make bytes) (layout_says (pair_layout make) bytes)) in
     by_test D (eqb letter letter_Q) _ _
-    (λ e. rw (eq_of letter letter_Q e) (pair letter_Q Quotes refl (λ a b bs p. p))) (λ e1.
-    by_test D (eqb letter letter_C) _ _
-    (λ e. rw (eq_of letter letter_C e) (pair letter_C Comments refl (λ a b bs p. p))) (λ e2.
-    by_test D (eqb letter letter_T) _ _ (λ e. rw (eq_of letter letter_T e) (pair letter_T Text refl (λ a b bs p. p)))
-    (λ e3.
-    by_test D (eqb letter letter_F) _ _
-    (λ e. rw (eq_of letter letter_F e) (pair letter_F Builtin refl (λ a b bs p. p))) (λ e4.
-    by_test D (eqb letter letter_D) _ _
-    (λ e. rw (eq_of letter letter_D e) (by_layout letter_D diversion_layout bytes _ refl diversion_spells
-    (rw (diversion_is_layout bytes) (layout_says diversion_layout bytes)))) (λ e5.
-    by_test D (eqb letter letter_V) _ _ (λ e. ([], letter ∷ bytes, (refl, refl, e), refl, refl)) (λ e6. (
+    (λ e. rw (eq_of letter letter_Q e) (pair_says letter_Q Quotes bytes refl (λ a b bs p. p)))
+    (λ e1. by_test D (eqb letter letter_C) _ _
+    (λ e. rw (eq_of letter letter_C e) (pair_says letter_C Comments bytes refl (λ a b bs p. p)))
+    (λ e2. by_test D (eqb letter letter_T) _ _
+    (λ e. rw (eq_of letter letter_T e) (pair_says letter_T Text bytes refl (λ a b bs p. p)))
+    (λ e3. by_test D (eqb letter letter_F) _ _
+    (λ e. rw (eq_of letter letter_F e) (pair_says letter_F Builtin bytes refl (λ a b bs p. p)))
+    (λ e4. by_test D (eqb letter letter_D) _ _
+    (λ e. rw (eq_of letter letter_D e) (diversion_says bytes))
+    (λ e5. by_test D (eqb letter letter_V) _ _
+    (λ e. ([], letter ∷ bytes, (refl, refl, e), refl, refl))
+    (λ e6. (
       [],
       letter ∷ bytes,
-      (refl, refl, simp (nl, hash, e1, e2, e3, e4, e5, e6) refl),
+      (refl, refl, simp (no_newline, no_hash, e1, e2, e3, e4, e5, e6) refl),
       refl,
       refl,
     )))))))

@@ -77,7 +77,7 @@ fn read_fault(given: &[u8]) -> FrozenFault
     }
 }
 
-/// The fault that a refusal of these bytes is.
+/// The fault that a refusal of these bytes is, whose place is counted from the front here alone.
 fn fault_of(bytes: &[u8], refusal: Refusal) -> FrozenFault
     ensures { result ≡ steps.fault_of bytes.now refusal }
 {
@@ -118,6 +118,7 @@ fn file(alloc: Global, bytes: &[u8]) -> Result<Vec<Directive<'_>>, ReadStop>
     ensures { GivesIfRoom (λ v. directives_of v.items) result (steps.file_at bytes.now) }
 {
     let rest = behind_version(skip_lines(bytes))?;
+    // Each directive takes a byte at least, so that the last round finds the end.
     directives(alloc, rest.len() + 1, rest)
 }
 
