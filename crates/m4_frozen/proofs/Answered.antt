@@ -15,9 +15,9 @@ use Rattle.m4_frozen.specs.ReaderSteps.{file_at}
 use Rattle.m4_frozen.specs.FaultAt.{IsFault, FaultAt, IsSettledBy, IsFaultOfFailed, read_fault}
 use Rattle.m4_frozen.specs.ReaderSteps.{is_settled, failed_answer}
 use Rattle.m4_frozen.specs.ReaderSteps.{fault_of}
-use Rattle.m4_frozen.proofs.Digits.{by_test}
 use Rattle.m4_frozen.specs.Outcome.{IsFaultOf}
 use Rattle.m4_frozen.specs.Laws.{OneReading, OneAnswer, OneAnswerOfFailed, TiesReaderSteps, IsOnlyRead, IsOnlyRefused}
+use Rattle.m4_frozen.proofs.ByteTests.{by_test}
 use Rattle.m4_frozen.proofs.ReadBack.{file_at-spelled, one_spelling}
 use Rattle.m4_frozen.proofs.Spelled.{by_result, FileSays, file_says}
 use Rattle.m4_frozen.proofs.FirstFault.{fault_read, one_fault, spelled_no_fault}

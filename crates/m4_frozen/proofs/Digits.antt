@@ -1,13 +1,14 @@
 -- What digits stand for.
 use Rattle.std.proofs.Common.{◌≡◌, ℕ, ◌+◌, ◌*◌, ◌-◌, ◌<◌, ◌≤◌, List, [], ◌∷◌, length, get_or, drop, arith}
 use Rattle.std.proofs.lemmas.List.{at_drop_more}
-use Rattle.std.proofs.Common.{Bool, true, false, cond, refl}
+use Rattle.std.proofs.Common.{refl}
 use Rattle.std.specs.Prelude.{IsTrue}
 use Rattle.std.specs.List.{list_all}
 use Rattle.std.specs.Char.{is_ascii_digit}
 use Rattle.m4_frozen.specs.Ascii.{digit_zero}
 use Rattle.m4_frozen.specs.Spells.{value_from, value_of}
 use Rattle.m4_frozen.specs.ReaderSteps.{digits_at}
+use Rattle.m4_frozen.proofs.ByteTests.{by_test}
 
 -- more digits make a number no smaller
 pub value_from-ge : (n : ℕ) (bs : List ℕ) → n ≤ value_from n bs
@@ -31,12 +32,6 @@ value-too_large n i bs limit lt so_far le =
           (drop (i + 1) bs),
       so_far,
     )
-
--- what holds on both sides of a test
-pub by_test : {A : Type 0} (P : A → Type 0) (b : Bool) (x y : A) → (b ≡ true → P x)
-    → (b ≡ false → P y) → P (cond b x y)
-by_test P true x y f g = f refl
-by_test P false x y f g = g refl
 
 -- the digits at the front are digits
 pub digits_are : (bs : List ℕ) → IsTrue (list_all is_ascii_digit (digits_at bs).0)

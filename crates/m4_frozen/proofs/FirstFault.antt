@@ -13,9 +13,11 @@ use Rattle.m4_frozen.specs.Spells.{Spells, SpellsAll}
 use Rattle.m4_frozen.specs.ReaderSteps.{refused, directive_at, skip_lines, next_at, directives_at, behind_version, file_at, fault_of}
 use Rattle.m4_frozen.specs.Layout.{Layout, layout_of, pair_layout, diversion_layout, version_layout, first_is}
 use Rattle.m4_frozen.specs.FaultAt.{RowFits, FitsWithin, IsFront, IsFault, is_none_of}
-use Rattle.m4_frozen.proofs.ReadBack.{both_true, test, one_is_read, skip_lines-append, skip_lines-last, next_at-spelled, length-SpellsAll, version_at-number, file_at-spelled}
-use Rattle.m4_frozen.proofs.Parts.{layout_at, eq_of}
-use Rattle.m4_frozen.proofs.Spelled.{pair_is_layout, diversion_is_layout, version_is_layout, open_line_skipped}
+use Rattle.m4_frozen.proofs.SkippedLines.{skip_lines-append, skip_lines-open}
+use Rattle.m4_frozen.proofs.ByteTests.{test, both_true, eq_of}
+use Rattle.m4_frozen.proofs.ReadBack.{one_is_read, next_at-spelled, length-SpellsAll, version_at-number, file_at-spelled}
+use Rattle.m4_frozen.proofs.Parts.{layout_at}
+use Rattle.m4_frozen.proofs.Spelled.{pair_is_layout, diversion_is_layout, version_is_layout}
 use Rattle.m4_frozen.proofs.RowsRefused.{layout_refused}
 
 -- a letter has a layout
@@ -135,7 +137,7 @@ directives_refused : (kind : FrozenKind) (ds : List Directive) (front before her
 unfolding directives_at
 directives_refused kind ds front before here zero w h lt = absurd (omega arith)
 directives_refused kind [] front before here (suc n) w h lt =
-    rw (skip_lines-append false front (before ++ here) w, row_refused kind before here h) refl
+    rw (skip_lines-append front (before ++ here) w, row_refused kind before here h) refl
 directives_refused kind (d ∷ ds) front before here (suc n) w h lt =
     let rest : List ℕ = w.2 ++ (before ++ here) in
     let parts : front ++ (before ++ here) ≡ w.0 ++ w.1 ++ rest =
@@ -155,7 +157,7 @@ behind_refused kind front before here f h =
     let parts : front ++ (before ++ here) ≡ f.0 ++ letter_V ∷ (f.1 ++ newline ∷ rest) =
     rw f.7 (simp append_assoc) in
     let start : skip_lines false (front ++ (before ++ here)) ≡ letter_V ∷ (f.1 ++ newline ∷ rest) =
-    ap (skip_lines false) parts ∙ skip_lines-append false f.0 (letter_V ∷ (f.1 ++ newline ∷ rest)) f.4 in
+    ap (skip_lines false) parts ∙ skip_lines-append f.0 (letter_V ∷ (f.1 ++ newline ∷ rest)) f.4 in
     rw (
       start,
       version_at-number f.1 (newline ∷ rest) f.5 refl,
@@ -189,7 +191,7 @@ pub row_refused_before : (kind : FrozenKind) (before here : List ℕ) → RowFit
     → behind_version (skip_lines false (before ++ here)) ≡ refused kind here
 row_refused_before kinds.NoVersion before here (e, inl h) = rw h.0 (none_refused here h.1)
 row_refused_before kinds.NoVersion before here (e, inr h) =
-    rw (h.1, append-nil before, skip_lines-last false before (open_line_skipped before h.0)) refl
+    rw (h.1, append-nil before, skip_lines-open before h.0) refl
 row_refused_before kinds.SecondVersion before here h = absurd (let k = h.0 in cc)
 row_refused_before kinds.UnknownDirective before here h = absurd (let k = h.0 in cc)
 row_refused_before kinds.Newer before here h = version_refused kinds.Newer before here h
@@ -212,7 +214,7 @@ file_refused : (kind : FrozenKind) (versioned : Bool) (front before here : List 
 unfolding file_at
 file_refused kind true front before here f h = behind_refused kind front before here f h
 file_refused kind false front before here f h =
-    rw (skip_lines-append false front (before ++ here) f, row_refused_before kind before here h)
+    rw (skip_lines-append front (before ++ here) f, row_refused_before kind before here h)
     refl
 
 -- The reader answers a fault of the bytes.

@@ -9,13 +9,13 @@ use Rattle.m4_frozen.specs.declared.fault.FrozenFault.{FrozenFault}
 use Rattle.m4_frozen.specs.declared.fault.FrozenKind.{FrozenKind}
 use Rattle.m4_frozen.specs.declared.fault.FrozenKind.TheVariants as kinds
 use Rattle.m4_frozen.specs.Directive.{Directive}
-use Rattle.m4_frozen.specs.Spells.{AreSkippedLines, are_skipped, SpellsAll}
+use Rattle.m4_frozen.specs.Spells.{AreSkippedLines, SpellsAll}
 use Rattle.m4_frozen.specs.ReaderSteps.{skip_lines, next_at, behind_version}
 use Rattle.m4_frozen.specs.Layout.{first_is}
 use Rattle.m4_frozen.specs.FaultAt.{RowFits, FitsWithin, IsFront, IsFault, FaultAt, IsLongest, is_none_of}
-use Rattle.m4_frozen.proofs.Digits.{by_test}
-use Rattle.m4_frozen.proofs.ReadBack.{test, one_is_read, skip_lines-append, next_at-spelled, version_at-number}
-use Rattle.m4_frozen.proofs.Parts.{eq_of}
+use Rattle.m4_frozen.proofs.SkippedLines.{are_skipped, skipped_pass, skip_lines-append}
+use Rattle.m4_frozen.proofs.ByteTests.{by_test, test, eq_of}
+use Rattle.m4_frozen.proofs.ReadBack.{one_is_read, next_at-spelled, version_at-number}
 use Rattle.m4_frozen.proofs.FirstFault.{no_line, row_refused, row_refused_before, none_of}
 
 -- what is skipped is at the front
@@ -32,8 +32,8 @@ skip_lines-le false (b ∷ bs) =
 lines_max : (lines other tail rest : List ℕ) → AreSkippedLines lines → AreSkippedLines other
     → lines ++ tail ≡ other ++ rest → skip_lines false tail ≡ tail → length tail ≤ length rest
 lines_max lines other tail rest a b e stops =
-    let same : tail ≡ skip_lines false rest = sym stops ∙ sym (skip_lines-append false lines tail a)
-    ∙ ap (skip_lines false) e ∙ skip_lines-append false other rest b in
+    let same : tail ≡ skip_lines false rest = sym stops ∙ sym (skip_lines-append lines tail a)
+    ∙ ap (skip_lines false) e ∙ skip_lines-append other rest b in
     omega (arith, ap length same, skip_lines-le false rest)
 
 -- a directive comes
@@ -62,7 +62,7 @@ directives_max [] (d ∷ es) front other tail rest x a b e f stops =
     let there : next_at (skip_lines false (front ++ tail)) ≡ next (d, b.2 ++ rest) =
     rw (e, parts)
     (next_at-spelled d b.0 b.1 (b.2 ++ rest) b.3 (one_is_read d b.1 (b.2 ++ rest) b.4)) in
-    absurd (no_next (d, b.2 ++ rest) x _ there (rw (skip_lines-append false front tail a) f))
+    absurd (no_next (d, b.2 ++ rest) x _ there (rw (skip_lines-append front tail a) f))
 directives_max (d ∷ ds) [] front other tail rest x a b e f stops =
     let r = one_is_read d a.1 (a.2 ++ tail) a.4 in
     let parts : front ++ tail ≡ a.0 ++ (a.1 ++ (a.2 ++ tail)) =
@@ -190,7 +190,7 @@ row_max_before kinds.NoVersion front other before here rest a b (k, inr (inl h, 
     rw (h, is) (omega arith)
 row_max_before kinds.NoVersion front other before here rest a b (k, inr (inr h, is)) e =
     let whole : before ++ here ≡ hash ∷ h.0 = rw (is, h.2, append-nil h.0) refl in
-    rw whole (open_max false front other h.0 rest a b h.1
+    rw whole (open_max false front other h.0 rest (skipped_pass front a) (skipped_pass other b) h.1
     (ap (λ (bs : List ℕ). front ++ bs) (sym whole) ∙ e))
 row_max_before kinds.SecondVersion front other before here rest a b h e = absurd (let k = h.0 in cc)
 row_max_before kinds.UnknownDirective front other before here rest a b h e =
@@ -231,7 +231,7 @@ front_starts front tail f =
     rw f.7 (simp append_assoc) in
     let start : skip_lines false (front ++ tail) ≡ letter_V ∷ (f.1 ++ newline ∷ (f.2 ++ tail)) =
     ap (skip_lines false) parts
-    ∙ skip_lines-append false f.0 (letter_V ∷ (f.1 ++ newline ∷ (f.2 ++ tail))) f.4 in
+    ∙ skip_lines-append f.0 (letter_V ∷ (f.1 ++ newline ∷ (f.2 ++ tail))) f.4 in
     record {
       lines = f.0;
       behind = f.1 ++ newline ∷ [];
@@ -280,7 +280,7 @@ front_max kind false true front other before here rest f g h e =
     let b = front_starts other rest g in
     absurd (not_given (g.2 ++ rest) (record { kind = kind; bytes_left = length here })
     (behind_version (skip_lines false (front ++ (before ++ here)))) (rw e b.gives)
-    (rw (skip_lines-append false front (before ++ here) f)
+    (rw (skip_lines-append front (before ++ here) f)
     (row_refused_before kind before here h)))
 front_max kind false false front other before here rest f g h e =
     row_max_before kind front other before here rest f g h e

@@ -1,5 +1,5 @@
 -- A part is read, or a row of the table fits there.
-use Rattle.std.proofs.Common.{◌≡◌, ℕ, zero, suc, ◌+◌, ◌<◌, ◌≤◌, ◌^◌, Bool, true, false, cond, ◌&&◌, not, ltb, eqb, List, [], ◌∷◌, ◌++◌, length, take, Result, Ok, Err, refl, sym, ap, subst, ◌∙◌, append_assoc, arith, inl, inr, ◌⊎◌}
+use Rattle.std.proofs.Common.{◌≡◌, ℕ, zero, suc, ◌+◌, ◌<◌, ◌^◌, Bool, true, false, cond, ◌&&◌, not, ltb, eqb, List, [], ◌∷◌, ◌++◌, length, take, Result, Ok, Err, refl, sym, ap, subst, ◌∙◌, append_assoc, arith, inl, inr, ◌⊎◌}
 use Rattle.std.specs.Prelude.{IsTrue, FitsSigned, ℤ}
 use Rattle.std.specs.Int.{w32}
 use Rattle.std.specs.List.{list_all}
@@ -14,8 +14,9 @@ use Rattle.m4_frozen.specs.declared.fault.FrozenKind.TheVariants as kinds
 use Rattle.m4_frozen.specs.Spells.{is_blank, AreBlanks, AreDigits, value_of, signed, with_sign}
 use Rattle.m4_frozen.specs.ReaderSteps.{◌>>=◌, refused, skip_blanks, digits_at, some_digits_at, one_at_least, length_at, expect_byte, string_at, magnitude_at, signed_at, version_at}
 use Rattle.m4_frozen.specs.Layout.{Part, Version, Length, Number, Comma, NewLine, String, Value, Layout, Done, Then, IsPart, IsEnded, no_digit_first, first_is, IsWrong, IsWrongWithin}
-use Rattle.m4_frozen.proofs.Digits.{digits_are, by_test}
-use Rattle.m4_frozen.proofs.ReadBack.{magnitude_fits, test}
+use Rattle.m4_frozen.proofs.ByteTests.{by_test, test, eq_of, lt_of, ge_of}
+use Rattle.m4_frozen.proofs.Digits.{digits_are}
+use Rattle.m4_frozen.proofs.ReadBack.{magnitude_fits}
 
 -- what a step answers: a value and the bytes behind it, or a refusal
 abbrev pub Step : Type 0 → Type 0
@@ -52,18 +53,6 @@ pub record HasBlanks (bytes : List ℕ) : Type 0 where
   pub are_blanks : AreBlanks blanks
   pub spelled : bytes ≡ blanks ++ skip_blanks bytes
   pub apart : IsTrue (no_blank (skip_blanks bytes))
-
--- what the test for equality says
-pub eq_of : (a b : ℕ) → eqb a b ≡ true → a ≡ b
-eq_of a b e = grind (arith, nat_tests)
-
--- what the test for `<` says
-pub lt_of : (a b : ℕ) → ltb a b ≡ true → a < b
-lt_of a b e = grind (arith, nat_tests)
-
--- what it says where it fails
-pub ge_of : (a b : ℕ) → ltb a b ≡ false → b ≤ a
-ge_of a b e = grind (arith, nat_tests)
 
 -- neither 1 nor above
 zero_of : (v : ℕ) → ltb 1 v ≡ false → eqb v 1 ≡ false → v ≡ 0

@@ -1,5 +1,5 @@
 -- What is spelled is read again.
-use Rattle.std.proofs.Common.{◌≡◌, ℕ, zero, suc, ◌+◌, ◌<◌, ◌≤◌, ◌^◌, Bool, true, false, cond, ◌&&◌, not, ltb, eqb, List, [], ◌∷◌, ◌++◌, length, Some, Result, Ok, refl, sym, ap, ◌∙◌, append_assoc, arith, inl, inr, ◌⊎◌}
+use Rattle.std.proofs.Common.{◌≡◌, ℕ, zero, suc, ◌+◌, ◌<◌, ◌≤◌, ◌^◌, Bool, true, false, cond, ltb, eqb, List, [], ◌∷◌, ◌++◌, length, Some, Result, Ok, refl, sym, ap, ◌∙◌, append_assoc, arith}
 use Rattle.std.specs.Prelude.{IsTrue}
 use Rattle.std.specs.Prelude.{FitsSigned, ℤ}
 use Rattle.std.specs.Int.{w32}
@@ -9,22 +9,14 @@ use Rattle.std.proofs.lemmas.Bool.{lt-ltb, le-ltb, not-true}
 use Rattle.std.proofs.lemmas.List.{take_at, drop_at, length-append}
 use Rattle.std.proofs.lemmas.Int.{ints}
 use Rattle.std.proofs.lemmas.Bool.Decides.{nat_tests}
-use Rattle.m4_frozen.specs.Ascii.{newline, hash, comma, minus_sign, letter_C, letter_D, letter_F, letter_Q, letter_T, letter_V}
+use Rattle.m4_frozen.specs.Ascii.{newline, comma, minus_sign, letter_C, letter_D, letter_F, letter_Q, letter_T, letter_V}
 use Rattle.m4_frozen.specs.declared.fault.Refusal.{Refusal}
 use Rattle.m4_frozen.specs.Directive.{Directive, Quotes, Comments, Text, Builtin, Diversion}
-use Rattle.m4_frozen.specs.Spells.{is_blank, AreBlanks, AreDigits, value_of, IsNumber, IsPair, AreSkippedLines, SpellsAll, Spells, signed, with_sign, IsDiversion, SpellsOne, are_skipped}
+use Rattle.m4_frozen.specs.Spells.{is_blank, AreBlanks, AreDigits, value_of, IsNumber, IsPair, AreSkippedLines, SpellsAll, Spells, signed, with_sign, IsDiversion, SpellsOne}
 use Rattle.m4_frozen.specs.Layout.{no_digit_first}
 use Rattle.m4_frozen.specs.ReaderSteps.{skip_blanks, digits_at, some_digits_at, one_at_least, length_at, string_at, pair_at, with_pair, magnitude_at, signed_at, diversion_at, directive_at, skip_lines, next_at, directives_at, version_at, file_at}
-
--- both sides of a conjunction hold
-pub both_true : (a b : Bool) → a && b ≡ true → (a ≡ true) × (b ≡ true)
-both_true true b e = (refl, e)
-both_true false b e = absurd cc
-
--- a test comes out one way or the other
-pub test : (b : Bool) → (b ≡ true) ⊎ (b ≡ false)
-test true = inl refl
-test false = inr refl
+use Rattle.m4_frozen.proofs.SkippedLines.{skip_lines-append, skip_lines-last}
+use Rattle.m4_frozen.proofs.ByteTests.{both_true}
 
 -- blanks at the front are skipped
 pub skip_blanks-append : (bs rest : List ℕ) → AreBlanks bs
@@ -231,44 +223,13 @@ one_is_read (Diversion number text) bytes rest p = record {
   gives = rw (diversion_at-spelled number text bytes rest p) refl;
 }
 
--- whole lines at the front are skipped
-pub skip_lines-append : (inside : Bool) (lines rest : List ℕ)
-    → IsTrue (are_skipped false inside lines)
-    → skip_lines inside (lines ++ rest) ≡ skip_lines false rest
-skip_lines-append true [] rest h = absurd cc
-skip_lines-append false [] rest h = refl
-skip_lines-append true (b ∷ lines) rest h = skip_lines-append (not (eqb b newline)) lines rest h
-skip_lines-append false (b ∷ lines) rest h =
-    elim (test (eqb b newline)) [
-      | inl e ↦ rw e (skip_lines-append false lines rest (rw e at h))
-      | inr e ↦ elim (test (eqb b hash)) [
-        | inl f ↦ rw (e, f) (skip_lines-append true lines rest (rw (e, f) at h))
-        | inr f ↦ (let k = rw (e, f) at h in absurd cc)
-      ]
-    ]
-
--- lines up to the end are skipped, the last without its newline too
-pub skip_lines-last : (inside : Bool) (bs : List ℕ) → IsTrue (are_skipped true inside bs)
-    → skip_lines inside bs ≡ []
-skip_lines-last true [] h = refl
-skip_lines-last false [] h = refl
-skip_lines-last true (b ∷ bs) h = skip_lines-last (not (eqb b newline)) bs h
-skip_lines-last false (b ∷ bs) h =
-    elim (test (eqb b newline)) [
-      | inl e ↦ rw e (skip_lines-last false bs (rw e at h))
-      | inr e ↦ elim (test (eqb b hash)) [
-        | inl f ↦ rw (e, f) (skip_lines-last true bs (rw (e, f) at h))
-        | inr f ↦ (let k = rw (e, f) at h in absurd cc)
-      ]
-    ]
-
 -- behind whole lines a directive is read
 pub next_at-spelled : (d : Directive) (lines one rest : List ℕ) → AreSkippedLines lines
     → IsRead d one rest → next_at (skip_lines false (lines ++ one ++ rest)) ≡ Ok (Some (d, rest))
 next_at-spelled d lines one rest are r =
     let e : skip_lines false (lines ++ one ++ rest) ≡ r.letter ∷ r.behind =
     ap (skip_lines false) (append_assoc lines one rest)
-    ∙ skip_lines-append false lines (one ++ rest) are ∙ ap (skip_lines false) r.begins
+    ∙ skip_lines-append lines (one ++ rest) are ∙ ap (skip_lines false) r.begins
     ∙ r.apart in
     ap (next_at) e ∙ rw r.gives refl
 
@@ -277,7 +238,7 @@ pub directives_at-spelled : (ds : List Directive) (bytes : List ℕ) (n : ℕ) �
     → length ds < n → directives_at n bytes ≡ Ok ds
 unfolding directives_at
 directives_at-spelled ds bytes zero h lt = absurd (omega arith)
-directives_at-spelled [] bytes (suc n) h lt = rw (skip_lines-last false bytes h) refl
+directives_at-spelled [] bytes (suc n) h lt = rw (skip_lines-last bytes h) refl
 directives_at-spelled (d ∷ ds) bytes (suc n) h lt =
     let first : next_at (skip_lines false bytes) ≡ Ok (Some (d, h.2)) =
     ap (λ (bs : List ℕ). next_at (skip_lines false bs)) h.6
@@ -325,7 +286,7 @@ file_at-spelled ds bytes p =
     let start : skip_lines false bytes ≡ letter_V ∷ p.number ++ newline ∷ p.rest =
     ap (skip_lines false) p.spelled
     ∙ ap (skip_lines false) (append_assoc p.lines (letter_V ∷ p.number) (newline ∷ p.rest))
-    ∙ skip_lines-append false p.lines (letter_V ∷ p.number ++ newline ∷ p.rest) p.are_lines in
+    ∙ skip_lines-append p.lines (letter_V ∷ p.number ++ newline ∷ p.rest) p.are_lines in
     rw (
       start,
       version_at-number p.number (newline ∷ p.rest) p.version refl,

@@ -13,9 +13,10 @@ use Rattle.m4_frozen.specs.Spells.{AreDigits, value_of, value_from, signed, with
 use Rattle.m4_frozen.specs.ReaderSteps.{digits_at}
 use Rattle.m4_frozen.specs.Layout.{Part, Version, Length, Number, Comma, NewLine, String, Layout, Done, Then, version_layout, IsEnded, no_digit_first, first_is, HasDigits, HasSigned, IsWrong, IsWrongWithin}
 use Rattle.m4_frozen.specs.FaultAt.{RowFits, FitsWithin, IsFault}
+use Rattle.m4_frozen.proofs.ByteTests.{both_true, lt_of}
 use Rattle.m4_frozen.proofs.Digits.{digits_are, value_from-ge}
-use Rattle.m4_frozen.proofs.ReadBack.{both_true, magnitude_fits}
-use Rattle.m4_frozen.proofs.Parts.{has_front, fits_of, lt_of, sign_append}
+use Rattle.m4_frozen.proofs.ReadBack.{magnitude_fits}
+use Rattle.m4_frozen.proofs.Parts.{has_front, fits_of, sign_append}
 
 -- The fault doesn't lie at the end, and is not a zero that digits may still follow.
 abbrev pub IsFirm : FrozenKind → List ℕ → Type 0

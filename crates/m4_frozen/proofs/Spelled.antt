@@ -8,14 +8,14 @@ use Rattle.m4_frozen.specs.declared.fault.Refusal.{Refusal}
 use Rattle.m4_frozen.specs.declared.fault.FrozenKind.{FrozenKind}
 use Rattle.m4_frozen.specs.declared.fault.FrozenKind.TheVariants as kinds
 use Rattle.m4_frozen.specs.Directive.{Directive, Quotes, Comments, Text, Builtin, Diversion}
-use Rattle.m4_frozen.specs.Spells.{IsNumber, IsPair, IsDiversion, SpellsOne, AreSkippedLines, are_skipped, SpellsAll, Spells}
+use Rattle.m4_frozen.specs.Spells.{IsSkippedLine, IsNumber, IsPair, IsDiversion, SpellsOne, AreSkippedLines, SpellsAll, Spells}
 use Rattle.m4_frozen.specs.ReaderSteps.{◌>>=◌, with_pair, pair_at, diversion_at, directive_at, skip_lines, next_at, directives_at, version_at, expect_byte, behind_version, file_at}
 use Rattle.m4_frozen.specs.Layout.{Part, Layout, Done, Then, IsWrong, pair_layout, diversion_layout, version_layout, layout_of, IsWrongWithin}
-use Rattle.m4_frozen.specs.FaultAt.{RowFits, IsOpenLine, IsFault}
+use Rattle.m4_frozen.specs.FaultAt.{RowFits, IsFault}
 use Rattle.m4_frozen.specs.ReaderSteps.{fault_of}
-use Rattle.m4_frozen.proofs.Digits.{by_test}
-use Rattle.m4_frozen.proofs.Parts.{Step, by_bind, layout_at, IsSpelled, LayoutSays, layout_says, eq_of}
-use Rattle.m4_frozen.proofs.ReadBack.{test}
+use Rattle.m4_frozen.proofs.SkippedLines.{are_skipped, passed_skipped}
+use Rattle.m4_frozen.proofs.ByteTests.{by_test, test, eq_of}
+use Rattle.m4_frozen.proofs.Parts.{Step, by_bind, layout_at, IsSpelled, LayoutSays, layout_says}
 
 -- steps in a row need no brackets
 pub bind_assoc : {A B C : Type 0} (r : Result A Refusal) (f : A → Result B Refusal) (g : B
@@ -233,7 +233,7 @@ is_letter (b ∷ bs) = not (eqb b newline) && not (eqb b hash)
 -- whole lines, perhaps an open one at the end of all, and then a directive
 abbrev pub HasLines : Bool → List ℕ → List ℕ → Type 0
 HasLines inside bytes rest = (lines : List ℕ) × (open_line : List ℕ)
-    × IsTrue (are_skipped false inside lines) × IsOpenLine open_line
+    × IsTrue (are_skipped false inside lines) × IsSkippedLine open_line
     × (bytes ≡ lines ++ open_line ++ rest) × ((open_line ≡ []) ⊎ (rest ≡ []))
     × IsTrue (is_letter rest)
 
@@ -298,35 +298,6 @@ lines_say false (b ∷ bs) = elim (test (eqb b newline)) [
 pub has_lines : (bytes : List ℕ) → HasLines false bytes (skip_lines false bytes)
 has_lines bytes = elim (lines_say false bytes) [ inl h ↦ h | inr h ↦ absurd (let k = h.0 in cc) ]
 
--- an open comment is skipped
-open_skipped : (text : List ℕ) → IsTrue (list_all (λ b. not (eqb b newline)) text)
-    → IsTrue (are_skipped true true text)
-open_skipped [] h = refl
-open_skipped (b ∷ bs) h = elim (test (eqb b newline)) [
-  | inl e ↦ absurd (let k = rw e at h in cc)
-  | inr e ↦ rw e (open_skipped bs (rw e at h))
-]
-
--- so is an open comment line
-pub open_line_skipped : (bytes : List ℕ) → IsOpenLine bytes → IsTrue (are_skipped true false bytes)
-open_line_skipped bytes (inl h) = rw h refl
-open_line_skipped bytes (inr h) = rw h.2 (open_skipped h.0 h.1)
-
--- whole lines and then last ones
-lines_then_last : (inside : Bool) (lines rest : List ℕ) → IsTrue (are_skipped false inside lines)
-    → IsTrue (are_skipped true false rest) → IsTrue (are_skipped true inside (lines ++ rest))
-lines_then_last true [] rest h k = absurd cc
-lines_then_last false [] rest h k = k
-lines_then_last true (b ∷ lines) rest h k = lines_then_last (not (eqb b newline)) lines rest h k
-lines_then_last false (b ∷ lines) rest h k =
-    elim (test (eqb b newline)) [
-      | inl e ↦ rw e (lines_then_last false lines rest (rw e at h) k)
-      | inr e ↦ elim (test (eqb b hash)) [
-        | inl f ↦ rw (e, f) (lines_then_last true lines rest (rw (e, f) at h) k)
-        | inr f ↦ (let k = rw (e, f) at h in absurd cc)
-      ]
-    ]
-
 -- the directives of all bytes behind the version, or the fault
 abbrev pub DirectivesSay : List ℕ → Result (List Directive) Refusal → Type 0
 DirectivesSay bytes (Ok ds) = SpellsAll true ds bytes
@@ -377,8 +348,7 @@ directives_say_of : (n : ℕ) (bytes rest : List ℕ)
     → ((after : List ℕ) → length after < length bytes → DirectivesSay after (directives_at n after))
     → HasLines false bytes rest → DirectivesSay bytes (next_at rest >>= behind n)
 directives_say_of n bytes [] ih h =
-    rw (h.4, append-nil (h.0 ++ h.1))
-    (lines_then_last false h.0 h.1 h.2 (open_line_skipped h.1 h.3))
+    (h.0, h.1, passed_skipped h.0 h.2, h.3, h.4 ∙ append-nil (h.0 ++ h.1))
 directives_say_of n bytes (b ∷ bs) ih h =
     let none : h.1 ≡ [] = no_both_open h.1 b bs h.5 in
     let e : bytes ≡ h.0 ++ b ∷ bs = h.4 ∙ rw (none, append-nil h.0) refl in
@@ -388,9 +358,10 @@ directives_say_of n bytes (b ∷ bs) ih h =
     (directive_at b bs) _ (directive_says b bs apart.0 apart.1)
     (λ d k.
     let parts : bytes ≡ h.0 ++ (b ∷ k.0) ++ d.1 = e ∙ rw k.2 (simp append_assoc) in
-    after_one bytes h.0 (b ∷ k.0) d.1 d.0 (directives_at n d.1) h.2 k.1 parts
+    after_one bytes h.0 (b ∷ k.0) d.1 d.0 (directives_at n d.1)
+    (passed_skipped h.0 h.2) k.1 parts
     (ih d.1 (shorter h.0 k.0 d.1 bytes b parts)))
-    (λ x k. (h.0, k.0, k.1, [], h.2, k.2, rw (e, k.3) (simp append_assoc), k.4))
+    (λ x k. (h.0, k.0, k.1, [], passed_skipped h.0 h.2, k.2, rw (e, k.3) (simp append_assoc), k.4))
 
 -- the directives up to the end are spelled, or the fault has its front
 pub directives_say : (n : ℕ) (bytes : List ℕ) → length bytes < n
@@ -447,7 +418,7 @@ StartSays bytes (Err e) = (front : List ℕ) × (before : List ℕ) × (here : L
 -- lines and the version stand, or a row fits
 start_says_of : (bytes rest : List ℕ) → HasLines false bytes rest
     → StartSays bytes (behind_version rest)
-start_says_of bytes [] h = (h.0, h.1, [], h.2, (refl, inr (h.3, refl)), h.4, refl)
+start_says_of bytes [] h = (h.0, h.1, [], passed_skipped h.0 h.2, (refl, inr (h.3, refl)), h.4, refl)
 start_says_of bytes (b ∷ bs) h =
     let none : h.1 ≡ [] = no_both_open h.1 b bs h.5 in
     let e : bytes ≡ h.0 ++ b ∷ bs = h.4 ∙ rw (none, append-nil h.0) refl in
@@ -457,13 +428,13 @@ start_says_of bytes (b ∷ bs) h =
     let letter : b ≡ letter_V = eq_of b letter_V f in
     by_result (VersionSays bs) (StartSays bytes) (version_at bs >>= expect_byte newline)
     (version_says bs)
-    (λ v k. (h.0, k.0, h.2, k.1, rw (e, letter, k.2) (simp append_assoc)))
-    (λ x k. (h.0, letter_V ∷ k.0, k.1, h.2, k.2, rw (e, letter, k.3) (simp append_assoc), k.4)))
+    (λ v k. (h.0, k.0, passed_skipped h.0 h.2, k.1, rw (e, letter, k.2) (simp append_assoc)))
+    (λ x k. (h.0, letter_V ∷ k.0, k.1, passed_skipped h.0 h.2, k.2, rw (e, letter, k.3) (simp append_assoc), k.4)))
     (λ f. (
       h.0,
       [],
       b ∷ bs,
-      h.2,
+      passed_skipped h.0 h.2,
       (refl, inl (refl, simp (apart.0, apart.1, f) refl)),
       rw (append-nil h.0) e,
       refl,

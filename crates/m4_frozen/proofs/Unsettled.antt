@@ -1,18 +1,19 @@
 -- A fault is settled by the bytes that have it just where it is firm.
-use Rattle.std.proofs.Common.{◌≡◌, ℕ, ◌<◌, ◌≤◌, ◌^◌, Bool, true, false, not, eqb, List, [], ◌∷◌, ◌++◌, length, drop, refl, sym, ap, ◌∙◌, append_assoc, arith, inl, inr, ◌⊎◌}
+use Rattle.std.proofs.Common.{◌≡◌, ℕ, ◌<◌, ◌≤◌, ◌^◌, Bool, true, false, List, [], ◌∷◌, ◌++◌, length, drop, refl, sym, ap, ◌∙◌, append_assoc, arith, inl, inr, ◌⊎◌}
 use Rattle.std.specs.Prelude.{IsTrue, ◌↔◌}
 use Rattle.std.specs.List.{list_all}
 use Rattle.std.specs.Char.{is_ascii_digit}
 use Rattle.std.proofs.lemmas.Bool.{not-true}
 use Rattle.std.proofs.lemmas.List.{length-append, append-nil, drop_at}
-use Rattle.m4_frozen.specs.Ascii.{newline, hash}
+use Rattle.m4_frozen.specs.Ascii.{newline}
 use Rattle.m4_frozen.specs.declared.fault.FrozenFault.{FrozenFault}
 use Rattle.m4_frozen.specs.declared.fault.FrozenKind.{FrozenKind}
 use Rattle.m4_frozen.specs.declared.fault.FrozenKind.TheVariants as kinds
-use Rattle.m4_frozen.specs.Spells.{AreDigits, value_of, AreSkippedLines, are_skipped, with_sign}
+use Rattle.m4_frozen.specs.Spells.{IsSkippedLine, AreDigits, value_of, AreSkippedLines, with_sign}
 use Rattle.m4_frozen.specs.Layout.{Part, Version, Length, Number, Comma, NewLine, Layout, Done, Then, version_layout, no_digit_first, HasDigits, IsWrong, IsWrongWithin}
-use Rattle.m4_frozen.specs.FaultAt.{RowFits, FitsWithin, IsOpenLine, IsFault, IsSettledBy}
-use Rattle.m4_frozen.proofs.ReadBack.{test, both_true}
+use Rattle.m4_frozen.specs.FaultAt.{RowFits, FitsWithin, IsFault, IsSettledBy}
+use Rattle.m4_frozen.proofs.SkippedLines.{AreSkippedLines-push}
+use Rattle.m4_frozen.proofs.ByteTests.{test, both_true}
 use Rattle.m4_frozen.proofs.FirstFault.{one_fault}
 use Rattle.m4_frozen.proofs.Settled.{IsFirm, firm_stays, value_from-append, all_digits-append}
 use Rattle.m4_frozen.proofs.LongestFront.{fault_at}
@@ -131,7 +132,7 @@ zero_unsettled bytes fault h is all settled =
 -- what can be wrong at the end
 abbrev EndsSo : FrozenKind → Bool → List ℕ → Type 0
 EndsSo kind versioned before = (kind ≡ kinds.PrematureEnd)
-    ⊎ ((kind ≡ kinds.NoVersion) × (versioned ≡ false) × IsOpenLine before)
+    ⊎ ((kind ≡ kinds.NoVersion) × (versioned ≡ false) × IsSkippedLine before)
 
 -- so it is within a directive
 within_end : (kind : FrozenKind) (versioned : Bool) (before : List ℕ)
@@ -156,37 +157,6 @@ row_end kinds.PrematureEnd versioned before h = inl refl
 row_end kinds.Read versioned before h = absurd h
 row_end kinds.OutOfMemory versioned before h = absurd h
 
--- whole lines and whole lines
-lines_then_lines : (inside : Bool) (lines rest : List ℕ) → IsTrue (are_skipped false inside lines)
-    → IsTrue (are_skipped false false rest) → IsTrue (are_skipped false inside (lines ++ rest))
-lines_then_lines true [] rest h k = absurd cc
-lines_then_lines false [] rest h k = k
-lines_then_lines true (b ∷ lines) rest h k = lines_then_lines (not (eqb b newline)) lines rest h k
-lines_then_lines false (b ∷ lines) rest h k =
-    elim (test (eqb b newline)) [
-      | inl e ↦ rw e (lines_then_lines false lines rest (rw e at h) k)
-      | inr e ↦ elim (test (eqb b hash)) [
-        | inl f ↦ rw (e, f) (lines_then_lines true lines rest (rw (e, f) at h) k)
-        | inr f ↦ (let k = rw (e, f) at h in absurd cc)
-      ]
-    ]
-
--- a newline closes a comment
-text_closed : (text : List ℕ) → IsTrue (list_all (λ b. not (eqb b newline)) text)
-    → IsTrue (are_skipped false true (text ++ newline ∷ []))
-text_closed [] h = refl
-text_closed (b ∷ bs) h = elim (test (eqb b newline)) [
-  | inl e ↦ absurd (let k = rw e at h in cc)
-  | inr e ↦ ap (λ (x : Bool). are_skipped false (not x) (bs ++ newline ∷ [])) e
-      ∙ text_closed bs (rw e at h)
-]
-
--- a newline closes an open line
-open_closed : (bytes : List ℕ) → IsOpenLine bytes
-    → IsTrue (are_skipped false false (bytes ++ newline ∷ []))
-open_closed bytes (inl h) = rw h refl
-open_closed bytes (inr h) = rw h.2 (text_closed h.0 h.1)
-
 -- where a byte is missing, one more moves the fault
 short_unsettled : (bytes : List ℕ) (fault : FrozenFault) → (h : IsFault bytes fault) → h.here ≡ []
     → fault.kind ≡ kinds.PrematureEnd → IsSettledBy bytes fault → ⊥
@@ -209,14 +179,13 @@ short_unsettled bytes fault h none is settled =
 
 -- where a line is open, its newline moves the fault
 open_unsettled : (bytes : List ℕ) (fault : FrozenFault) → (h : IsFault bytes fault) → h.here ≡ []
-    → h.versioned ≡ false → IsOpenLine h.before → IsSettledBy bytes fault → ⊥
+    → h.versioned ≡ false → IsSkippedLine h.before → IsSettledBy bytes fault → ⊥
 open_unsettled bytes fault h none first is settled =
     let lines : AreSkippedLines h.front = rw first at h.is_front in
     let more : bytes ++ newline ∷ [] ≡ h.front ++ (h.before ++ newline ∷ []) =
     rw (h.spelled, none) (simp append_assoc) in
     let closed : AreSkippedLines (bytes ++ newline ∷ []) =
-    rw more (lines_then_lines false h.front (h.before ++ newline ∷ []) lines (open_closed h.before is))
-    in
+    rw more (AreSkippedLines-push h.front h.before lines is) in
     let r : IsFault (bytes ++ newline ∷ [])
     (record { kind = kinds.NoVersion; offset = length (bytes ++ newline ∷ []) }) = record {
       versioned = false;
