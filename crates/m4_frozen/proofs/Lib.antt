@@ -1,5 +1,7 @@
+pub mod ByteTests
 pub mod Digits
 pub mod DirectiveLoop
+pub mod SkippedLines
 pub mod ReadBack
 pub mod Parts
 pub mod Spelled

@@ -1,7 +1,7 @@
 -- What is spelled is read again.
-use Rattle.std.proofs.Common.{◌≡◌, ◌≢◌, ℕ, zero, suc, ◌+◌, ◌-◌, ◌*◌, ◌<◌, ◌≤◌, ◌^◌, Bool, true, false, cond, ◌&&◌, ◌||◌, not, ltb, eqb, List, [], ◌∷◌, ◌++◌, length, take, drop, Option, Some, None, Result, Ok, Err, refl, sym, ap, subst, ◌∙◌, append_assoc, arith, rules, inl, inr, ◌⊎◌}
+use Rattle.std.proofs.Common.{◌≡◌, ℕ, zero, suc, ◌+◌, ◌<◌, ◌≤◌, ◌^◌, Bool, true, false, cond, ltb, eqb, List, [], ◌∷◌, ◌++◌, length, Some, Result, Ok, refl, sym, ap, ◌∙◌, append_assoc, arith}
 use Rattle.std.specs.Prelude.{IsTrue}
-use Rattle.std.specs.Prelude.{FitsSigned, ℤ, pos}
+use Rattle.std.specs.Prelude.{FitsSigned, ℤ}
 use Rattle.std.specs.Int.{w32}
 use Rattle.std.specs.List.{list_all}
 use Rattle.std.specs.Char.{is_ascii_digit}
@@ -9,85 +9,121 @@ use Rattle.std.proofs.lemmas.Bool.{lt-ltb, le-ltb, not-true}
 use Rattle.std.proofs.lemmas.List.{take_at, drop_at, length-append}
 use Rattle.std.proofs.lemmas.Int.{ints}
 use Rattle.std.proofs.lemmas.Bool.Decides.{nat_tests}
-use Rattle.std.proofs.lemmas.Str.Parse.{IsNumeralModel, numerals_by_fold}
-use Rattle.std.proofs.lemmas.Fmt.{digits_decimal, digits_value-decimal, decimal_nonempty}
+use Rattle.m4_frozen.specs.Ascii.{newline, comma, minus_sign, letter_C, letter_D, letter_F, letter_Q, letter_T, letter_V}
 use Rattle.m4_frozen.specs.declared.fault.Refusal.{Refusal}
 use Rattle.m4_frozen.specs.Directive.{Directive, Quotes, Comments, Text, Builtin, Diversion}
-use Rattle.m4_frozen.specs.Spells.{is_blank, AreBlanks, AreDigits, value_from, value_of, IsNumber, IsPair, AreSkippedLines, SpellsAll, Spells, signed, with_sign, IsDiversion, SpellsOne, are_skipped}
+use Rattle.m4_frozen.specs.Spells.{is_blank, AreBlanks, AreDigits, value_of, IsNumber, IsPair, AreSkippedLines, SpellsAll, Spells, signed, with_sign, IsDiversion, SpellsOne}
 use Rattle.m4_frozen.specs.Layout.{no_digit_first}
-use Rattle.m4_frozen.specs.ReaderSteps.{◌>>=◌, skip_blanks, digits_at, some_digits_at, one_at_least, length_at, expect_byte, string_at, pair_at, with_pair, magnitude_at, signed_at, diversion_at, directive_at, skip_lines, next_at, directives_at, version_at, behind_version, file_at}
+use Rattle.m4_frozen.specs.ReaderSteps.{skip_blanks, digits_at, some_digits_at, one_at_least, length_at, string_at, pair_at, with_pair, magnitude_at, signed_at, diversion_at, directive_at, skip_lines, next_at, directives_at, version_at, file_at}
+use Rattle.m4_frozen.proofs.SkippedLines.{skip_lines-append, skip_lines-last}
+use Rattle.m4_frozen.proofs.ByteTests.{both_true}
 
-pub both_true : (a b : Bool) → a && b ≡ true → (a ≡ true) × (b ≡ true)
-both_true true b e = (refl, e)
-both_true false b e = absurd cc
-
-pub test : (b : Bool) → (b ≡ true) ⊎ (b ≡ false)
-test true = inl refl
-test false = inr refl
-
-pub skip_blanks-append : (bs rest : List ℕ) → AreBlanks bs → skip_blanks (bs ++ rest) ≡ skip_blanks rest
+-- blanks at the front are skipped
+pub skip_blanks-append : (bs rest : List ℕ) → AreBlanks bs
+    → skip_blanks (bs ++ rest) ≡ skip_blanks rest
 skip_blanks-append [] rest h = refl
 skip_blanks-append (b ∷ bs) rest h =
     let p = both_true (is_blank b) (list_all is_blank bs) h in
     rw p.0 (skip_blanks-append bs rest p.1)
 
-pub digits_at-append : (ds rest : List ℕ) → IsTrue (list_all is_ascii_digit ds) → IsTrue (no_digit_first rest) → digits_at (ds ++ rest) ≡ (ds, rest)
+-- digits that no digit follows are found
+pub digits_at-append : (ds rest : List ℕ) → IsTrue (list_all is_ascii_digit ds)
+    → IsTrue (no_digit_first rest) → digits_at (ds ++ rest) ≡ (ds, rest)
 digits_at-append [] [] h apart = refl
-digits_at-append [] (b ∷ rest) h apart = let e : is_ascii_digit b ≡ false = not-true (is_ascii_digit b) apart in rw e refl
+digits_at-append [] (b ∷ rest) h apart = let e : is_ascii_digit b ≡ false =
+    not-true (is_ascii_digit b) apart in rw e refl
 digits_at-append (d ∷ ds) rest h apart =
     let p = both_true (is_ascii_digit d) (list_all is_ascii_digit ds) h in
     rw (p.0, digits_at-append ds rest p.1 apart) refl
 
-pub digit_is_no_sign : (d : ℕ) → is_ascii_digit d ≡ true → eqb d 45 ≡ false
+-- a digit is no `-`
+pub digit_is_no_sign : (d : ℕ) → is_ascii_digit d ≡ true → eqb d minus_sign ≡ false
 digit_is_no_sign d e = grind (arith, nat_tests)
 
+-- a digit is no blank
 digit_is_no_blank : (d : ℕ) → is_ascii_digit d ≡ true → is_blank d ≡ false
 digit_is_no_blank d e = grind (arith, nat_tests)
-
-pub own : IsNumeralModel (λ ds. IsTrue (list_all is_ascii_digit ds)) value_of
-own = numerals_by_fold _ (search rules) value_from (search rules)
 
 -- digits at the front are found behind blanks
 pub skip_blanks-digits : (ds rest : List ℕ) → AreDigits ds → skip_blanks (ds ++ rest) ≡ ds ++ rest
 skip_blanks-digits [] rest h = absurd (h.0 refl)
-skip_blanks-digits (d ∷ ds) rest h = rw (digit_is_no_blank d (both_true (is_ascii_digit d) (list_all is_ascii_digit ds) h.1).0) refl
+skip_blanks-digits (d ∷ ds) rest h =
+    rw (digit_is_no_blank d (both_true (is_ascii_digit d) (list_all is_ascii_digit ds) h.1).0) refl
 
-pub some_digits_again : (ds rest : List ℕ) → AreDigits ds → IsTrue (no_digit_first rest) → some_digits_at (ds ++ rest) ≡ Ok (ds, rest)
-some_digits_again [] rest h apart = absurd (h.0 refl)
-some_digits_again (d ∷ ds) rest h apart = ap (λ (p : List ℕ × List ℕ). one_at_least (d ∷ ds ++ rest) p.0 p.1) (digits_at-append (d ∷ ds) rest h.1 apart)
+-- digits at the front are read
+pub some_digits_at-digits : (ds rest : List ℕ) → AreDigits ds → IsTrue (no_digit_first rest)
+    → some_digits_at (ds ++ rest) ≡ Ok (ds, rest)
+some_digits_at-digits [] rest h apart = absurd (h.0 refl)
+some_digits_at-digits (d ∷ ds) rest h apart =
+    ap (λ (p : List ℕ × List ℕ). one_at_least (d ∷ ds ++ rest) p.0 p.1)
+    (digits_at-append (d ∷ ds) rest h.1 apart)
 
-pub length_again : (n : ℕ) (number rest : List ℕ) → IsNumber n number → n < 2 ^ 64 → IsTrue (no_digit_first rest) → length_at (number ++ rest) ≡ Ok (n, rest)
+-- a length is read
+pub length_at-number : (n : ℕ) (number rest : List ℕ) → IsNumber n number → n < 2 ^ 64
+    → IsTrue (no_digit_first rest) → length_at (number ++ rest) ≡ Ok (n, rest)
 unfolding length_at
-length_again n number rest p lt apart =
+length_at-number n number rest p lt apart =
     let blanks : skip_blanks (number ++ rest) ≡ p.digits ++ rest =
-    ap (λ (bs : List ℕ). skip_blanks (bs ++ rest)) p.spelled ∙ ap skip_blanks (append_assoc p.blanks p.digits rest) ∙ skip_blanks-append p.blanks (p.digits ++ rest) p.are_blanks ∙ skip_blanks-digits p.digits rest p.are_digits in
+    ap (λ (bs : List ℕ). skip_blanks (bs ++ rest)) p.spelled
+    ∙ ap skip_blanks (append_assoc p.blanks p.digits rest)
+    ∙ skip_blanks-append p.blanks (p.digits ++ rest) p.are_blanks
+    ∙ skip_blanks-digits p.digits rest p.are_digits in
     let fits : ltb (value_of p.digits) (2 ^ 64) ≡ true = lt-ltb _ _ (omega (arith, p.value)) in
-    rw (blanks, some_digits_again p.digits rest p.are_digits apart, fits, p.value) refl
+    rw (blanks, some_digits_at-digits p.digits rest p.are_digits apart, fits, p.value) refl
 
+-- a blank is no digit
 blank_is_no_digit : (c : ℕ) → is_blank c ≡ true → is_ascii_digit c ≡ false
 blank_is_no_digit c e = grind (arith, nat_tests)
 
-skip_apart : (bs : List ℕ) (b : ℕ) (rest : List ℕ) → AreBlanks bs → is_ascii_digit b ≡ false → IsTrue (no_digit_first (bs ++ b ∷ rest))
+-- no digit comes first where blanks lead to another byte
+skip_apart : (bs : List ℕ) (b : ℕ) (rest : List ℕ) → AreBlanks bs → is_ascii_digit b ≡ false
+    → IsTrue (no_digit_first (bs ++ b ∷ rest))
 skip_apart [] b rest h e = rw e refl
-skip_apart (c ∷ bs) b rest h e = rw (blank_is_no_digit c (both_true (is_blank c) (list_all is_blank bs) h).0) refl
+skip_apart (c ∷ bs) b rest h e =
+    rw (blank_is_no_digit c (both_true (is_blank c) (list_all is_blank bs) h).0) refl
 
-pub string_again : (n : ℕ) (text rest : List ℕ) → length text ≡ n → string_at n (text ++ rest) ≡ Ok (text, rest)
+-- a string of the stated length is read
+pub string_at-append : (n : ℕ) (text rest : List ℕ) → length text ≡ n
+    → string_at n (text ++ rest) ≡ Ok (text, rest)
 unfolding string_at
-string_again n text rest e =
-    let long : ltb (length (text ++ rest)) n ≡ false = le-ltb _ _ (omega (arith, length-append text rest)) in
+string_at-append n text rest e =
+    let long : ltb (length (text ++ rest)) n ≡ false =
+    le-ltb _ _ (omega (arith, length-append text rest)) in
     rw (long, take_at text rest n e, drop_at text rest n e) refl
 
-pair_regroup : (letter : ℕ) (first second bytes rest : List ℕ) → (p : IsPair letter first second bytes) → (bytes ++ rest ≡ letter ∷ (p.first_number ++ (p.blanks ++ 44 ∷ (p.second_number ++ 10 ∷ (first ++ (second ++ 10 ∷ rest))))))
-pair_regroup letter first second bytes rest p = ap (λ (bs : List ℕ). bs ++ rest) p.spelled ∙ simp append_assoc
+-- the bytes of a pair, in one row
+pair_bytes : (letter : ℕ) (first second bytes rest : List ℕ)
+    → (p : IsPair letter first second bytes)
+    → (bytes ++ rest ≡ letter
+    ∷ (p.first_number
+    ++ (p.blanks ++ comma ∷ (p.second_number ++ newline ∷ (first ++ (second ++ newline ∷ rest))))))
+pair_bytes letter first second bytes rest p = ap (λ (bs : List ℕ). bs ++ rest) p.spelled
+    ∙ simp append_assoc
 
-pair_at_again : (letter : ℕ) (first second bytes rest : List ℕ) → (p : IsPair letter first second bytes)
-    → pair_at (p.first_number ++ (p.blanks ++ 44 ∷ (p.second_number ++ 10 ∷ (first ++ (second ++ 10 ∷ rest))))) ≡ Ok ((first, second), rest)
+-- a pair is read behind its letter
+pair_at-spelled : (letter : ℕ) (first second bytes rest : List ℕ)
+    → (p : IsPair letter first second bytes)
+    → pair_at
+    (p.first_number
+    ++ (p.blanks ++ comma ∷ (p.second_number ++ newline ∷ (first ++ (second ++ newline ∷ rest))))) ≡ Ok
+    ((first, second), rest)
 unfolding pair_at
-pair_at_again letter first second bytes rest p =
-    let b : List ℕ = second ++ 10 ∷ rest in
+pair_at-spelled letter first second bytes rest p =
+    let b : List ℕ = second ++ newline ∷ rest in
     let a : List ℕ = first ++ b in
-    let blanks : skip_blanks (p.blanks ++ 44 ∷ (p.second_number ++ 10 ∷ a)) ≡ 44 ∷ (p.second_number ++ 10 ∷ a) = skip_blanks-append p.blanks (44 ∷ (p.second_number ++ 10 ∷ a)) p.are_blanks in
-    rw (length_again (length first) p.first_number (p.blanks ++ 44 ∷ (p.second_number ++ 10 ∷ a)) p.first_length p.fits.0 (skip_apart p.blanks 44 (p.second_number ++ 10 ∷ a) p.are_blanks refl), blanks, length_again (length second) p.second_number (10 ∷ a) p.second_length p.fits.1 refl, string_again (length first) first b refl, string_again (length second) second (10 ∷ rest) refl) refl
+    let blanks : skip_blanks (p.blanks ++ comma ∷ (p.second_number ++ newline ∷ a)) ≡ comma
+    ∷ (p.second_number ++ newline ∷ a) =
+    skip_blanks-append p.blanks (comma ∷ (p.second_number ++ newline ∷ a)) p.are_blanks in
+    rw (
+      length_at-number (length first) p.first_number
+          (p.blanks ++ comma ∷ (p.second_number ++ newline ∷ a)) p.first_length p.fits.0
+          (skip_apart p.blanks comma (p.second_number ++ newline ∷ a) p.are_blanks refl),
+      blanks,
+      length_at-number (length second) p.second_number (newline ∷ a) p.second_length p.fits.1 refl,
+      string_at-append (length first) first b refl,
+      string_at-append (length second) second
+          (newline ∷ rest) refl,
+    ) refl
 
 -- bytes that spell a directive begin with its letter, and the directive is read behind it
 pub record IsRead (d : Directive) (bytes rest : List ℕ) : Type 0 where
@@ -97,133 +133,177 @@ pub record IsRead (d : Directive) (bytes rest : List ℕ) : Type 0 where
   pub apart : (skip_lines false (letter ∷ behind) ≡ letter ∷ behind)
   pub gives : directive_at letter behind ≡ Ok (d, rest)
 
-pair_is_read : (letter : ℕ) (make : List ℕ → List ℕ → Directive) (first second bytes rest : List ℕ) → (p : IsPair letter first second bytes)
-    → ((bs : List ℕ) → skip_lines false (letter ∷ bs) ≡ letter ∷ bs) → ((bs : List ℕ) → directive_at letter bs ≡ with_pair make bs) → IsRead (make first second) bytes rest
+-- a directive with two strings is read
+pair_is_read : (letter : ℕ) (make : List ℕ → List ℕ → Directive) (first second bytes rest : List ℕ)
+    → (p : IsPair letter first second bytes)
+    → ((bs : List ℕ) → skip_lines false (letter ∷ bs) ≡ letter ∷ bs)
+    → ((bs : List ℕ) → directive_at letter bs ≡ with_pair make bs)
+    → IsRead (make first second) bytes rest
 pair_is_read letter make first second bytes rest p apart is = record {
   letter = letter;
-  behind = p.first_number ++ (p.blanks ++ 44 ∷ (p.second_number ++ 10 ∷ (first ++ (second ++ 10 ∷ rest))));
-  begins = pair_regroup letter first second bytes rest p;
+  behind = p.first_number
+      ++ (p.blanks ++ comma ∷ (p.second_number ++ newline ∷ (first ++ (second ++ newline ∷ rest))));
+  begins = pair_bytes letter first second bytes rest p;
   apart = apart _;
-  gives = is _ ∙ rw (pair_at_again letter first second bytes rest p) refl;
+  gives = is _ ∙ rw (pair_at-spelled letter first second bytes rest p) refl;
 }
 
-pub magnitude_fits : (minus : Bool) (v : ℕ) → FitsSigned w32 (signed minus v) → ltb v (cond minus (2 ^ 31 + 1) (2 ^ 31)) ≡ true
+-- a number of 32 bits passes the test of its digits
+pub magnitude_fits : (minus : Bool) (v : ℕ) → FitsSigned w32 (signed minus v)
+    → ltb v (cond minus (2 ^ 31 + 1) (2 ^ 31)) ≡ true
 magnitude_fits true zero h = refl
 magnitude_fits true (suc v) h = lt-ltb (suc v) (2 ^ 31 + 1) (omega (arith, ints))
 magnitude_fits false v h = lt-ltb v (2 ^ 31) (omega (arith, ints))
 
-magnitude_again : (number : List ℕ) (minus : Bool) (digits rest : List ℕ) (z : ℤ) → AreDigits digits → IsTrue (no_digit_first rest) → signed minus (value_of digits) ≡ z → FitsSigned w32 z
+-- the digits of a diversion's number are read
+magnitude_at-digits : (number : List ℕ) (minus : Bool) (digits rest : List ℕ) (z : ℤ)
+    → AreDigits digits → IsTrue (no_digit_first rest) → signed minus (value_of digits) ≡ z
+    → FitsSigned w32 z
     → magnitude_at number minus (digits ++ rest) ≡ Ok (z, rest)
-magnitude_again number minus digits rest z are apart is fits =
-    let lt : ltb (value_of digits) (cond minus (2 ^ 31 + 1) (2 ^ 31)) ≡ true = magnitude_fits minus (value_of digits) (rw is fits) in
-    rw (some_digits_again digits rest are apart, lt, is) refl
+magnitude_at-digits number minus digits rest z are apart is fits =
+    let lt : ltb (value_of digits) (cond minus (2 ^ 31 + 1) (2 ^ 31)) ≡ true =
+    magnitude_fits minus (value_of digits) (rw is fits) in
+    rw (some_digits_at-digits digits rest are apart, lt, is) refl
 
-pub sign_again : (minus : Bool) (digits rest : List ℕ) (z : ℤ) → AreDigits digits → IsTrue (no_digit_first rest) → signed minus (value_of digits) ≡ z → FitsSigned w32 z
+-- so is the number with its sign
+pub signed_at-digits : (minus : Bool) (digits rest : List ℕ) (z : ℤ) → AreDigits digits
+    → IsTrue (no_digit_first rest) → signed minus (value_of digits) ≡ z → FitsSigned w32 z
     → signed_at (skip_blanks (with_sign minus digits ++ rest)) ≡ Ok (z, rest)
-sign_again true digits rest z are apart is fits = magnitude_again (45 ∷ digits ++ rest) true digits rest z are apart is fits
-sign_again false [] rest z are apart is fits = absurd (are.0 refl)
-sign_again false (d ∷ ds) rest z are apart is fits =
-    let digit : is_ascii_digit d ≡ true = (both_true (is_ascii_digit d) (list_all is_ascii_digit ds) are.1).0 in
-    let no_sign : eqb d 45 ≡ false = digit_is_no_sign d digit in
-    rw (skip_blanks-digits (d ∷ ds) rest are, no_sign) (magnitude_again (d ∷ ds ++ rest) false (d ∷ ds) rest z are apart is fits)
+signed_at-digits true digits rest z are apart is fits =
+    magnitude_at-digits (minus_sign ∷ digits ++ rest) true digits rest z are apart is fits
+signed_at-digits false [] rest z are apart is fits = absurd (are.0 refl)
+signed_at-digits false (d ∷ ds) rest z are apart is fits =
+    let digit : is_ascii_digit d ≡ true =
+    (both_true (is_ascii_digit d) (list_all is_ascii_digit ds) are.1).0 in
+    let no_sign : eqb d minus_sign ≡ false = digit_is_no_sign d digit in
+    rw (skip_blanks-digits (d ∷ ds) rest are, no_sign)
+    (magnitude_at-digits (d ∷ ds ++ rest) false (d ∷ ds) rest z are apart is fits)
 
-diversion_again : (number : ℤ) (text bytes rest : List ℕ) → (p : IsDiversion number text bytes)
-    → diversion_at (p.first_number ++ (p.blanks ++ 44 ∷ (p.second_number ++ 10 ∷ (text ++ 10 ∷ rest)))) ≡ Ok ((number, text), rest)
+-- a diversion is read behind its letter
+diversion_at-spelled : (number : ℤ) (text bytes rest : List ℕ) → (p : IsDiversion number text bytes)
+    → diversion_at
+    (p.first_number ++ (p.blanks ++ comma ∷ (p.second_number ++ newline ∷ (text ++ newline ∷ rest)))) ≡ Ok
+    ((number, text), rest)
 unfolding diversion_at
-diversion_again number text bytes rest p =
-    let a : List ℕ = text ++ 10 ∷ rest in
-    let c : List ℕ = p.blanks ++ 44 ∷ (p.second_number ++ 10 ∷ a) in
+diversion_at-spelled number text bytes rest p =
+    let a : List ℕ = text ++ newline ∷ rest in
+    let c : List ℕ = p.blanks ++ comma ∷ (p.second_number ++ newline ∷ a) in
     let n = p.number_is in
-    let start : skip_blanks (p.first_number ++ c) ≡ skip_blanks (with_sign n.minus n.digits ++ c) = ap (λ (bs : List ℕ). skip_blanks (bs ++ c)) n.spelled ∙ ap skip_blanks (append_assoc n.blanks (with_sign n.minus n.digits) c) ∙ skip_blanks-append n.blanks (with_sign n.minus n.digits ++ c) n.are_blanks in
-    let blanks : skip_blanks c ≡ 44 ∷ (p.second_number ++ 10 ∷ a) = skip_blanks-append p.blanks (44 ∷ (p.second_number ++ 10 ∷ a)) p.are_blanks in
-    rw (start, sign_again n.minus n.digits c number n.are_digits (skip_apart p.blanks 44 (p.second_number ++ 10 ∷ a) p.are_blanks refl) n.value p.fits.0, blanks, length_again (length text) p.second_number (10 ∷ a) p.text_length p.fits.1 refl, string_again (length text) text (10 ∷ rest) refl) refl
+    let start : skip_blanks (p.first_number ++ c) ≡ skip_blanks (with_sign n.minus n.digits ++ c) =
+    ap (λ (bs : List ℕ). skip_blanks (bs ++ c)) n.spelled
+    ∙ ap skip_blanks (append_assoc n.blanks (with_sign n.minus n.digits) c)
+    ∙ skip_blanks-append n.blanks (with_sign n.minus n.digits ++ c) n.are_blanks in
+    let blanks : skip_blanks c ≡ comma ∷ (p.second_number ++ newline ∷ a) =
+    skip_blanks-append p.blanks (comma ∷ (p.second_number ++ newline ∷ a)) p.are_blanks in
+    rw (
+      start,
+      signed_at-digits n.minus n.digits c number n.are_digits
+          (skip_apart p.blanks comma (p.second_number ++ newline ∷ a) p.are_blanks refl) n.value p.fits.0,
+      blanks,
+      length_at-number (length text) p.second_number (newline ∷ a) p.text_length p.fits.1 refl,
+      string_at-append (length text) text (newline ∷ rest) refl,
+    ) refl
 
+-- a directive that is spelled is read
 pub one_is_read : (d : Directive) (bytes rest : List ℕ) → SpellsOne d bytes → IsRead d bytes rest
 unfolding directive_at
-one_is_read (Quotes first second) bytes rest p = pair_is_read 81 Quotes first second bytes rest p (λ bs. refl) (λ bs. refl)
-one_is_read (Comments first second) bytes rest p = pair_is_read 67 Comments first second bytes rest p (λ bs. refl) (λ bs. refl)
-one_is_read (Text first second) bytes rest p = pair_is_read 84 Text first second bytes rest p (λ bs. refl) (λ bs. refl)
-one_is_read (Builtin first second) bytes rest p = pair_is_read 70 Builtin first second bytes rest p (λ bs. refl) (λ bs. refl)
+one_is_read (Quotes first second) bytes rest p = pair_is_read letter_Q Quotes first second bytes rest p
+    (λ bs. refl) (λ bs. refl)
+one_is_read (Comments first second) bytes rest p =
+    pair_is_read letter_C Comments first second bytes rest p (λ bs. refl) (λ bs. refl)
+one_is_read (Text first second) bytes rest p = pair_is_read letter_T Text first second bytes rest p
+    (λ bs. refl) (λ bs. refl)
+one_is_read (Builtin first second) bytes rest p = pair_is_read letter_F Builtin first second bytes rest p
+    (λ bs. refl) (λ bs. refl)
 one_is_read (Diversion number text) bytes rest p = record {
-  letter = 68;
-  behind = p.first_number ++ (p.blanks ++ 44 ∷ (p.second_number ++ 10 ∷ (text ++ 10 ∷ rest)));
+  letter = letter_D;
+  behind = p.first_number ++ (p.blanks ++ comma ∷ (p.second_number ++ newline ∷ (text ++ newline ∷ rest)));
   begins = ap (λ (bs : List ℕ). bs ++ rest) p.spelled ∙ simp append_assoc;
   apart = refl;
-  gives = rw (diversion_again number text bytes rest p) refl;
+  gives = rw (diversion_at-spelled number text bytes rest p) refl;
 }
 
-pub lines_again : (inside : Bool) (lines rest : List ℕ) → IsTrue (are_skipped false inside lines) → skip_lines inside (lines ++ rest) ≡ skip_lines false rest
-lines_again true [] rest h = absurd cc
-lines_again false [] rest h = refl
-lines_again true (b ∷ lines) rest h = lines_again (not (eqb b 10)) lines rest h
-lines_again false (b ∷ lines) rest h =
-    elim (test (eqb b 10)) [
-      | inl e ↦ rw e (lines_again false lines rest (rw e at h))
-      | inr e ↦ elim (test (eqb b 35)) [
-        | inl f ↦ rw (e, f) (lines_again true lines rest (rw (e, f) at h))
-        | inr f ↦ (let k = rw (e, f) at h in absurd cc)
-      ]
-    ]
-
-pub last_again : (inside : Bool) (bs : List ℕ) → IsTrue (are_skipped true inside bs) → skip_lines inside bs ≡ []
-last_again true [] h = refl
-last_again false [] h = refl
-last_again true (b ∷ bs) h = last_again (not (eqb b 10)) bs h
-last_again false (b ∷ bs) h =
-    elim (test (eqb b 10)) [
-      | inl e ↦ rw e (last_again false bs (rw e at h))
-      | inr e ↦ elim (test (eqb b 35)) [
-        | inl f ↦ rw (e, f) (last_again true bs (rw (e, f) at h))
-        | inr f ↦ (let k = rw (e, f) at h in absurd cc)
-      ]
-    ]
-
-pub first_again : (d : Directive) (lines one rest : List ℕ) → AreSkippedLines lines → IsRead d one rest → next_at (skip_lines false (lines ++ one ++ rest)) ≡ Ok (Some (d, rest))
-first_again d lines one rest are r =
-    let e : skip_lines false (lines ++ one ++ rest) ≡ r.letter ∷ r.behind = ap (skip_lines false) (append_assoc lines one rest) ∙ lines_again false lines (one ++ rest) are ∙ ap (skip_lines false) r.begins ∙ r.apart in
+-- behind whole lines a directive is read
+pub next_at-spelled : (d : Directive) (lines one rest : List ℕ) → AreSkippedLines lines
+    → IsRead d one rest → next_at (skip_lines false (lines ++ one ++ rest)) ≡ Ok (Some (d, rest))
+next_at-spelled d lines one rest are r =
+    let e : skip_lines false (lines ++ one ++ rest) ≡ r.letter ∷ r.behind =
+    ap (skip_lines false) (append_assoc lines one rest)
+    ∙ skip_lines-append lines (one ++ rest) are ∙ ap (skip_lines false) r.begins
+    ∙ r.apart in
     ap (next_at) e ∙ rw r.gives refl
 
-pub directives_again : (ds : List Directive) (bytes : List ℕ) (n : ℕ) → SpellsAll true ds bytes → length ds < n → directives_at n bytes ≡ Ok ds
+-- directives that are spelled are read, if there are fewer than are asked for
+pub directives_at-spelled : (ds : List Directive) (bytes : List ℕ) (n : ℕ) → SpellsAll true ds bytes
+    → length ds < n → directives_at n bytes ≡ Ok ds
 unfolding directives_at
-directives_again ds bytes zero h lt = absurd (omega arith)
-directives_again [] bytes (suc n) h lt = rw (last_again false bytes h) refl
-directives_again (d ∷ ds) bytes (suc n) h lt =
-    let first : next_at (skip_lines false bytes) ≡ Ok (Some (d, h.2)) = ap (λ (bs : List ℕ). next_at (skip_lines false bs)) h.6 ∙ first_again d h.0 h.1 h.2 h.3 (one_is_read d h.1 h.2 h.4) in
-    rw (first, directives_again ds h.2 n h.5 (omega arith)) refl
+directives_at-spelled ds bytes zero h lt = absurd (omega arith)
+directives_at-spelled [] bytes (suc n) h lt = rw (skip_lines-last bytes h) refl
+directives_at-spelled (d ∷ ds) bytes (suc n) h lt =
+    let first : next_at (skip_lines false bytes) ≡ Ok (Some (d, h.2)) =
+    ap (λ (bs : List ℕ). next_at (skip_lines false bs)) h.6
+    ∙ next_at-spelled d h.0 h.1 h.2 h.3 (one_is_read d h.1 h.2 h.4) in
+    rw (first, directives_at-spelled ds h.2 n h.5 (omega arith)) refl
 
-pub one_is_some : (d : Directive) (one : List ℕ) → SpellsOne d one → 0 < length one
-one_is_some (Quotes first second) one p = rw p.spelled (omega arith)
-one_is_some (Comments first second) one p = rw p.spelled (omega arith)
-one_is_some (Text first second) one p = rw p.spelled (omega arith)
-one_is_some (Builtin first second) one p = rw p.spelled (omega arith)
-one_is_some (Diversion number text) one p = rw p.spelled (omega arith)
+-- a directive takes a byte at least
+pub some_SpellsOne : (d : Directive) (one : List ℕ) → SpellsOne d one → 0 < length one
+some_SpellsOne (Quotes first second) one p = rw p.spelled (omega arith)
+some_SpellsOne (Comments first second) one p = rw p.spelled (omega arith)
+some_SpellsOne (Text first second) one p = rw p.spelled (omega arith)
+some_SpellsOne (Builtin first second) one p = rw p.spelled (omega arith)
+some_SpellsOne (Diversion number text) one p = rw p.spelled (omega arith)
 
 -- each directive takes a byte at least
-pub length-SpellsAll : (may_lack : Bool) (ds : List Directive) (bytes : List ℕ) → SpellsAll may_lack ds bytes → length ds ≤ length bytes
+pub length-SpellsAll : (may_lack : Bool) (ds : List Directive) (bytes : List ℕ)
+    → SpellsAll may_lack ds bytes → length ds ≤ length bytes
 length-SpellsAll may_lack [] bytes h = omega arith
 length-SpellsAll may_lack (d ∷ ds) bytes h =
-    rw h.6 (omega (arith, length-append (h.0 ++ h.1) h.2, length-append h.0 h.1, one_is_some d h.1 h.4, length-SpellsAll may_lack ds h.2 h.5))
+    rw h.6 (omega (
+      arith,
+      length-append (h.0 ++ h.1) h.2,
+      length-append h.0 h.1,
+      some_SpellsOne d h.1 h.4,
+      length-SpellsAll may_lack ds h.2 h.5,
+    ))
 
-pub version_again : (number rest : List ℕ) → IsNumber 1 number → IsTrue (no_digit_first rest) → version_at (number ++ rest) ≡ Ok rest
+-- the version is read
+pub version_at-number : (number rest : List ℕ) → IsNumber 1 number → IsTrue (no_digit_first rest)
+    → version_at (number ++ rest) ≡ Ok rest
 unfolding version_at
-version_again number rest p apart =
+version_at-number number rest p apart =
     let blanks : skip_blanks (number ++ rest) ≡ p.digits ++ rest =
-    ap (λ (bs : List ℕ). skip_blanks (bs ++ rest)) p.spelled ∙ ap skip_blanks (append_assoc p.blanks p.digits rest) ∙ skip_blanks-append p.blanks (p.digits ++ rest) p.are_blanks ∙ skip_blanks-digits p.digits rest p.are_digits in
-    rw (blanks, some_digits_again p.digits rest p.are_digits apart, p.value) refl
+    ap (λ (bs : List ℕ). skip_blanks (bs ++ rest)) p.spelled
+    ∙ ap skip_blanks (append_assoc p.blanks p.digits rest)
+    ∙ skip_blanks-append p.blanks (p.digits ++ rest) p.are_blanks
+    ∙ skip_blanks-digits p.digits rest p.are_digits in
+    rw (blanks, some_digits_at-digits p.digits rest p.are_digits apart, p.value) refl
 
 -- what spells directives is read as these
-pub spells_again : (ds : List Directive) (bytes : List ℕ) → Spells ds bytes → file_at bytes ≡ Ok ds
+pub file_at-spelled : (ds : List Directive) (bytes : List ℕ) → Spells ds bytes
+    → file_at bytes ≡ Ok ds
 unfolding file_at
-spells_again ds bytes p =
-    let start : skip_lines false bytes ≡ 86 ∷ p.number ++ 10 ∷ p.rest = ap (skip_lines false) p.spelled ∙ ap (skip_lines false) (append_assoc p.lines (86 ∷ p.number) (10 ∷ p.rest)) ∙ lines_again false p.lines (86 ∷ p.number ++ 10 ∷ p.rest) p.are_lines in
-    rw (start, version_again p.number (10 ∷ p.rest) p.version refl, directives_again ds p.rest (length p.rest + 1) p.others (omega (arith, length-SpellsAll true ds p.rest p.others))) refl
+file_at-spelled ds bytes p =
+    let start : skip_lines false bytes ≡ letter_V ∷ p.number ++ newline ∷ p.rest =
+    ap (skip_lines false) p.spelled
+    ∙ ap (skip_lines false) (append_assoc p.lines (letter_V ∷ p.number) (newline ∷ p.rest))
+    ∙ skip_lines-append p.lines (letter_V ∷ p.number ++ newline ∷ p.rest) p.are_lines in
+    rw (
+      start,
+      version_at-number p.number (newline ∷ p.rest) p.version refl,
+      directives_at-spelled ds p.rest (length p.rest + 1) p.others
+          (omega (arith, length-SpellsAll true ds p.rest p.others)),
+    ) refl
 
+-- an answer without a fault
 abbrev given : List Directive → Result (List Directive) Refusal
 given ds = Ok ds
 
+-- two such answers that are one have the same directives
 same_given : (a b : List Directive) → given a ≡ given b → a ≡ b
 same_given a b e = cc
 
 -- no bytes spell two lists of directives
-pub spells_one : (ds es : List Directive) (bytes : List ℕ) → Spells ds bytes → Spells es bytes → ds ≡ es
-spells_one ds es bytes p q = same_given ds es (sym (spells_again ds bytes p) ∙ spells_again es bytes q)
+pub one_spelling : (ds es : List Directive) (bytes : List ℕ) → Spells ds bytes → Spells es bytes
+    → ds ≡ es
+one_spelling ds es bytes p q = same_given ds es (sym (file_at-spelled ds bytes p)
+    ∙ file_at-spelled es bytes q)

@@ -3,53 +3,73 @@ use Rattle.std.proofs.Common.{◌≡◌, ℕ, zero, suc, ◌+◌, ◌-◌, ◌<�
 use Rattle.std.specs.Prelude.{IsTrue}
 use Rattle.std.specs.List.{list_all}
 use Rattle.std.proofs.lemmas.List.{length-append, append-nil}
+use Rattle.m4_frozen.specs.Ascii.{newline, hash, letter_C, letter_D, letter_F, letter_Q, letter_T, letter_V}
 use Rattle.m4_frozen.specs.declared.fault.Refusal.{Refusal}
 use Rattle.m4_frozen.specs.declared.fault.FrozenKind.{FrozenKind}
 use Rattle.m4_frozen.specs.declared.fault.FrozenKind.TheVariants as kinds
 use Rattle.m4_frozen.specs.Directive.{Directive, Quotes, Comments, Text, Builtin, Diversion}
-use Rattle.m4_frozen.specs.Spells.{IsNumber, IsPair, IsDiversion, SpellsOne, AreSkippedLines, are_skipped, SpellsAll, Spells}
+use Rattle.m4_frozen.specs.Spells.{IsSkippedLine, IsNumber, IsPair, IsDiversion, SpellsOne, AreSkippedLines, SpellsAll, Spells}
 use Rattle.m4_frozen.specs.ReaderSteps.{◌>>=◌, with_pair, pair_at, diversion_at, directive_at, skip_lines, next_at, directives_at, version_at, expect_byte, behind_version, file_at}
 use Rattle.m4_frozen.specs.Layout.{Part, Layout, Done, Then, IsWrong, pair_layout, diversion_layout, version_layout, layout_of, IsWrongWithin}
-use Rattle.m4_frozen.specs.FaultAt.{RowFits, IsOpenLine, IsFault}
+use Rattle.m4_frozen.specs.FaultAt.{RowFits, IsFault}
 use Rattle.m4_frozen.specs.ReaderSteps.{fault_of}
-use Rattle.m4_frozen.proofs.Digits.{by_test}
-use Rattle.m4_frozen.proofs.Parts.{Read, by_bind, layout_at, IsSpelled, LayoutSays, layout_says, eq_of}
-use Rattle.m4_frozen.proofs.ReadBack.{test}
+use Rattle.m4_frozen.proofs.SkippedLines.{are_skipped, passed_skipped}
+use Rattle.m4_frozen.proofs.ByteTests.{by_test, test, eq_of}
+use Rattle.m4_frozen.proofs.Parts.{Step, by_bind, layout_at, IsSpelled, LayoutSays, layout_says}
 
-pub bind_assoc : {A B C : Type 0} (r : Result A Refusal) (f : A → Result B Refusal) (g : B → Result C Refusal) → ((r >>= f) >>= g) ≡ (r >>= λ x. (f x >>= g))
+-- steps in a row need no brackets
+pub bind_assoc : {A B C : Type 0} (r : Result A Refusal) (f : A → Result B Refusal) (g : B
+    → Result C Refusal) → ((r >>= f) >>= g) ≡ (r >>= λ x. (f x >>= g))
 bind_assoc (Ok x) f g = refl
 bind_assoc (Err e) f g = refl
 
-pub pair_is_layout : (make : List ℕ → List ℕ → Directive) (bytes : List ℕ) → with_pair make bytes ≡ layout_at (pair_layout make) bytes
+-- two strings are read by their layout
+pub pair_is_layout : (make : List ℕ → List ℕ → Directive) (bytes : List ℕ)
+    → with_pair make bytes ≡ layout_at (pair_layout make) bytes
 unfolding pair_at
 pair_is_layout make bytes = simp bind_assoc refl
 
-pub diversion_is_layout : (bytes : List ℕ) → (diversion_at bytes >>= λ p. Ok (Diversion p.0.0 p.0.1, p.1)) ≡ layout_at diversion_layout bytes
+-- a diversion is read by its layout
+pub diversion_is_layout : (bytes : List ℕ)
+    → (diversion_at bytes >>= λ p. Ok (Diversion p.0.0 p.0.1, p.1))
+    ≡ layout_at diversion_layout bytes
 unfolding diversion_at
 diversion_is_layout bytes = simp bind_assoc refl
 
-abbrev unit_and : List ℕ → Read (Unit {0})
+-- nothing, and the bytes behind it
+abbrev unit_and : List ℕ → Step (Unit {0})
 unit_and x = Ok (tt, x)
 
+-- the bytes behind
 abbrev rest_of : Unit {0} × List ℕ → Result (List ℕ) Refusal
 rest_of v = Ok v.1
 
-abbrev end_of : Unit {0} × List ℕ → Read (Unit {0})
+-- the end of a layout
+abbrev end_of : Unit {0} × List ℕ → Step (Unit {0})
 end_of v = Ok (tt, v.1)
 
+-- the end adds nothing
 same_end : (s : Result (List ℕ) Refusal) → s ≡ (((s >>= unit_and) >>= end_of) >>= rest_of)
 same_end (Ok x) = refl
 same_end (Err e) = refl
 
-version_layout_of : (r : Result (List ℕ) Refusal) → (r >>= expect_byte 10) ≡ (((r >>= unit_and) >>= λ v. ((expect_byte 10 v.1 >>= unit_and) >>= end_of)) >>= rest_of)
-version_layout_of (Ok x) = same_end (expect_byte 10 x)
+-- the same of any answer at the number
+version_layout_of : (r : Result (List ℕ) Refusal)
+    → (r >>= expect_byte newline)
+    ≡ (((r >>= unit_and) >>= λ v. ((expect_byte newline v.1 >>= unit_and) >>= end_of)) >>= rest_of)
+version_layout_of (Ok x) = same_end (expect_byte newline x)
 version_layout_of (Err e) = refl
 
-pub version_is_layout : (bytes : List ℕ) → (version_at bytes >>= expect_byte 10) ≡ (layout_at version_layout bytes >>= λ v. Ok v.1)
+-- the version is read by its layout
+pub version_is_layout : (bytes : List ℕ)
+    → (version_at bytes >>= expect_byte newline) ≡ (layout_at version_layout bytes >>= λ v. Ok v.1)
 version_is_layout bytes = version_layout_of (version_at bytes)
 
-pair_spells : (letter : ℕ) (make : List ℕ → List ℕ → Directive) → ((a b bytes : List ℕ) → IsPair letter a b bytes → SpellsOne (make a b) bytes)
-    → (d : Directive) (bytes rest : List ℕ) → IsSpelled (pair_layout make) d bytes rest → SpellsOne d (letter ∷ bytes)
+-- what the layout of a pair spells is a directive with two strings
+pair_spells : (letter : ℕ) (make : List ℕ → List ℕ → Directive)
+    → ((a b bytes : List ℕ) → IsPair letter a b bytes → SpellsOne (make a b) bytes)
+    → (d : Directive) (bytes rest : List ℕ) → IsSpelled (pair_layout make) d bytes rest
+    → SpellsOne d (letter ∷ bytes)
 pair_spells letter make view d bytes rest h =
     let h2 = h.6 in
     let h3 = h2.6 in
@@ -65,18 +85,35 @@ pair_spells letter make view d bytes rest h =
       are_blanks = h2.3.1;
       second_length = rw h6.3.1 h3.3.0;
       fits = (rw h5.3.1 h.3.1, rw h6.3.1 h3.3.1);
-      spelled = rw (h.5, h2.5, h2.3.2, h3.5, h4.5, h4.3, h5.5, h5.3.0, h6.5, h6.3.0, h7.5, h7.3, h7.6.1) (simp append_assoc);
+      spelled = rw (
+        h.5,
+        h2.5,
+        h2.3.2,
+        h3.5,
+        h4.5,
+        h4.3,
+        h5.5,
+        h5.3.0,
+        h6.5,
+        h6.3.0,
+        h7.5,
+        h7.3,
+        h7.6.1,
+      ) (simp append_assoc);
     } in
-    subst (λ (x : Directive). SpellsOne x (letter ∷ bytes)) h7.6.0 (view h5.0 h6.0 (letter ∷ bytes) p)
+    subst (λ (x : Directive). SpellsOne x (letter ∷ bytes)) h7.6.0
+    (view h5.0 h6.0 (letter ∷ bytes) p)
 
-diversion_spells : (d : Directive) (bytes rest : List ℕ) → IsSpelled diversion_layout d bytes rest → SpellsOne d (68 ∷ bytes)
+-- what the layout of a diversion spells is a diversion
+diversion_spells : (d : Directive) (bytes rest : List ℕ) → IsSpelled diversion_layout d bytes rest
+    → SpellsOne d (letter_D ∷ bytes)
 diversion_spells d bytes rest h =
     let h2 = h.6 in
     let h3 = h2.6 in
     let h4 = h3.6 in
     let h5 = h4.6 in
     let h6 = h5.6 in
-    let p : IsDiversion h.0 h5.0 (68 ∷ bytes) = record {
+    let p : IsDiversion h.0 h5.0 (letter_D ∷ bytes) = record {
       first_number = h.1;
       blanks = h2.3.0;
       second_number = h3.1;
@@ -84,86 +121,148 @@ diversion_spells d bytes rest h =
       are_blanks = h2.3.1;
       text_length = rw h5.3.1 h3.3.0;
       fits = (h.3.1, rw h5.3.1 h3.3.1);
-      spelled = rw (h.5, h2.5, h2.3.2, h3.5, h4.5, h4.3, h5.5, h5.3.0, h6.5, h6.3, h6.6.1) (simp append_assoc);
+      spelled = rw (h.5, h2.5, h2.3.2, h3.5, h4.5, h4.3, h5.5, h5.3.0, h6.5, h6.3, h6.6.1)
+          (simp append_assoc);
     } in
-    subst (λ (x : Directive). SpellsOne x (68 ∷ bytes)) h6.6.0 p
+    subst (λ (x : Directive). SpellsOne x (letter_D ∷ bytes)) h6.6.0 p
 
 -- what follows from an answer
-pub by_result : {A : Type 0} (P Q : Result A Refusal → Type 0) (r : Result A Refusal) → P r → ((x : A) → P (Ok x) → Q (Ok x)) → ((e : Refusal) → P (Err e) → Q (Err e)) → Q r
+pub by_result : {A : Type 0} (P Q : Result A Refusal → Type 0) (r : Result A Refusal) → P r
+    → ((x : A) → P (Ok x) → Q (Ok x)) → ((e : Refusal) → P (Err e) → Q (Err e)) → Q r
 by_result P Q (Ok x) p g h = g x p
 by_result P Q (Err e) p g h = h e p
 
 -- a directive at the front, or a row of the table
-abbrev pub DirectiveSays : ℕ → List ℕ → Read Directive → Type 0
-DirectiveSays letter bytes (Ok v) = (one : List ℕ) × SpellsOne v.0 (letter ∷ one) × (bytes ≡ one ++ v.1)
-DirectiveSays letter bytes (Err e) = (before : List ℕ) × (here : List ℕ) × RowFits e.kind true before here × (letter ∷ bytes ≡ before ++ here) × (e.bytes_left ≡ length here)
+abbrev pub DirectiveSays : ℕ → List ℕ → Step Directive → Type 0
+DirectiveSays letter bytes (Ok v) = (one : List ℕ) × SpellsOne v.0 (letter ∷ one)
+    × (bytes ≡ one ++ v.1)
+DirectiveSays letter bytes (Err e) = (before : List ℕ) × (here : List ℕ)
+    × RowFits e.kind true before here × (letter ∷ bytes ≡ before ++ here)
+    × (e.bytes_left ≡ length here)
 
-never : {A : Type 0} (kind : FrozenKind) (l : Layout A) (before here : List ℕ) → ((p : Part) (b x : List ℕ) → IsWrong kind p b x → ⊥) → IsWrongWithin kind l before here → ⊥
+-- a kind that no part has is none within a layout
+never : {A : Type 0} (kind : FrozenKind) (l : Layout A) (before here : List ℕ)
+    → ((p : Part) (b x : List ℕ) → IsWrong kind p b x → ⊥) → IsWrongWithin kind l before here → ⊥
 never kind (Done x) before here f h = h
 never kind (Then p behind) before here f (inl h) = f p before here h
 never kind (Then p behind) before here f (inr h) = never kind (behind h.0) h.2 here f h.6
 
-within : (kind : FrozenKind) (letter : ℕ) (l : Layout Directive) (before here : List ℕ) → layout_of letter ≡ Some l → IsWrongWithin kind l before here → RowFits kind true (letter ∷ before) here
+-- a fault within a layout is one behind the letter
+within : (kind : FrozenKind) (letter : ℕ) (l : Layout Directive) (before here : List ℕ)
+    → layout_of letter ≡ Some l → IsWrongWithin kind l before here
+    → RowFits kind true (letter ∷ before) here
 within kinds.Newer letter l before here e h = (letter, before, refl, (l, e, h))
 within kinds.VersionZero letter l before here e h = (letter, before, refl, (l, e, h))
 within kinds.DigitExpected letter l before here e h = (letter, before, refl, (l, e, h))
 within kinds.NumberTooLarge letter l before here e h = (letter, before, refl, (l, e, h))
 within kinds.SeparatorExpected letter l before here e h = (letter, before, refl, (l, e, h))
 within kinds.PrematureEnd letter l before here e h = (letter, before, refl, (l, e, h))
-within kinds.NoVersion letter l before here e h = absurd (never kinds.NoVersion l before here (λ p b x k. k) h)
-within kinds.SecondVersion letter l before here e h = absurd (never kinds.SecondVersion l before here (λ p b x k. k) h)
-within kinds.UnknownDirective letter l before here e h = absurd (never kinds.UnknownDirective l before here (λ p b x k. k) h)
+within kinds.NoVersion letter l before here e h =
+    absurd (never kinds.NoVersion l before here (λ p b x k. k) h)
+within kinds.SecondVersion letter l before here e h =
+    absurd (never kinds.SecondVersion l before here (λ p b x k. k) h)
+within kinds.UnknownDirective letter l before here e h =
+    absurd (never kinds.UnknownDirective l before here (λ p b x k. k) h)
 within kinds.Read letter l before here e h = never kinds.Read l before here (λ p b x k. k) h
-within kinds.OutOfMemory letter l before here e h = never kinds.OutOfMemory l before here (λ p b x k. k) h
+within kinds.OutOfMemory letter l before here e h = never kinds.OutOfMemory l before here
+    (λ p b x k. k) h
 
-by_layout : (letter : ℕ) (l : Layout Directive) (bytes : List ℕ) (r : Read Directive) → layout_of letter ≡ Some l
+-- what a layout says, its letter says
+by_layout : (letter : ℕ) (l : Layout Directive) (bytes : List ℕ) (r : Step Directive)
+    → layout_of letter ≡ Some l
     → ((d : Directive) (one rest : List ℕ) → IsSpelled l d one rest → SpellsOne d (letter ∷ one))
     → LayoutSays l bytes r → DirectiveSays letter bytes r
 by_layout letter l bytes (Ok v) e f h = (h.0, f v.0 h.0 v.1 h.1, h.2)
-by_layout letter l bytes (Err x) e f h = (letter ∷ h.0, h.1, within x.kind letter l h.0 h.1 e h.2, ap (λ (xs : List ℕ). letter ∷ xs) h.3, h.4)
+by_layout letter l bytes (Err x) e f h = (
+  letter ∷ h.0,
+  h.1,
+  within x.kind letter l h.0 h.1 e h.2,
+  ap (λ (xs : List ℕ). letter ∷ xs) h.3,
+  h.4,
+)
 
-pub directive_says : (letter : ℕ) (bytes : List ℕ) → eqb letter 10 ≡ false → eqb letter 35 ≡ false → DirectiveSays letter bytes (directive_at letter bytes)
+-- two strings are read behind a letter, or a row of the table fits
+pair_says : (letter : ℕ) (make : List ℕ → List ℕ → Directive) (bytes : List ℕ)
+    → layout_of letter ≡ Some (pair_layout make)
+    → ((a b bs : List ℕ) → IsPair letter a b bs → SpellsOne (make a b) bs)
+    → DirectiveSays letter bytes (with_pair make bytes)
+pair_says letter make bytes is view =
+    by_layout letter (pair_layout make) bytes (with_pair make bytes) is
+    (pair_spells letter make view)
+    (rw (pair_is_layout make bytes) (layout_says (pair_layout make) bytes))
+
+-- a diversion is read behind its letter, or a row of the table fits
+diversion_says : (bytes : List ℕ)
+    → DirectiveSays letter_D bytes (diversion_at bytes >>= λ p. Ok (Diversion p.0.0 p.0.1, p.1))
+diversion_says bytes =
+    by_layout letter_D diversion_layout bytes _ refl diversion_spells
+    (rw (diversion_is_layout bytes) (layout_says diversion_layout bytes))
+
+-- a directive is read, or a row of the table fits
+pub directive_says : (letter : ℕ) (bytes : List ℕ)
+    → eqb letter newline ≡ false → eqb letter hash ≡ false
+    → DirectiveSays letter bytes (directive_at letter bytes)
 unfolding directive_at
-directive_says letter bytes nl hash =
+directive_says letter bytes no_newline no_hash =
     let D = DirectiveSays letter bytes in
-    let pair = λ (l : ℕ) (make : List ℕ → List ℕ → Directive) (is : layout_of l ≡ Some (pair_layout make)) (view : (a b bs : List ℕ) → IsPair l a b bs → SpellsOne (make a b) bs).
-    by_layout l (pair_layout make) bytes (with_pair make bytes) is (pair_spells l make view) (rw (pair_is_layout make bytes) (layout_says (pair_layout make) bytes)) in
-    by_test D (eqb letter 81) _ _ (λ e. rw (eq_of letter 81 e) (pair 81 Quotes refl (λ a b bs p. p))) (λ e1.
-    by_test D (eqb letter 67) _ _ (λ e. rw (eq_of letter 67 e) (pair 67 Comments refl (λ a b bs p. p))) (λ e2.
-    by_test D (eqb letter 84) _ _ (λ e. rw (eq_of letter 84 e) (pair 84 Text refl (λ a b bs p. p))) (λ e3.
-    by_test D (eqb letter 70) _ _ (λ e. rw (eq_of letter 70 e) (pair 70 Builtin refl (λ a b bs p. p))) (λ e4.
-    by_test D (eqb letter 68) _ _ (λ e. rw (eq_of letter 68 e) (by_layout 68 diversion_layout bytes _ refl diversion_spells (rw (diversion_is_layout bytes) (layout_says diversion_layout bytes)))) (λ e5.
-    by_test D (eqb letter 86) _ _ (λ e. ([], letter ∷ bytes, (refl, refl, e), refl, refl)) (λ e6.
-    ([], letter ∷ bytes, (refl, refl, simp (nl, hash, e1, e2, e3, e4, e5, e6) refl), refl, refl)))))))
+    by_test D (eqb letter letter_Q) _ _
+    (λ e. rw (eq_of letter letter_Q e) (pair_says letter_Q Quotes bytes refl (λ a b bs p. p)))
+    (λ e1. by_test D (eqb letter letter_C) _ _
+    (λ e. rw (eq_of letter letter_C e) (pair_says letter_C Comments bytes refl (λ a b bs p. p)))
+    (λ e2. by_test D (eqb letter letter_T) _ _
+    (λ e. rw (eq_of letter letter_T e) (pair_says letter_T Text bytes refl (λ a b bs p. p)))
+    (λ e3. by_test D (eqb letter letter_F) _ _
+    (λ e. rw (eq_of letter letter_F e) (pair_says letter_F Builtin bytes refl (λ a b bs p. p)))
+    (λ e4. by_test D (eqb letter letter_D) _ _
+    (λ e. rw (eq_of letter letter_D e) (diversion_says bytes))
+    (λ e5. by_test D (eqb letter letter_V) _ _
+    (λ e. ([], letter ∷ bytes, (refl, refl, e), refl, refl))
+    (λ e6. (
+      [],
+      letter ∷ bytes,
+      (refl, refl, simp (no_newline, no_hash, e1, e2, e3, e4, e5, e6) refl),
+      refl,
+      refl,
+    )))))))
 
 -- a directive may begin here
 abbrev pub is_letter : List ℕ → Bool
 is_letter [] = true
-is_letter (b ∷ bs) = not (eqb b 10) && not (eqb b 35)
+is_letter (b ∷ bs) = not (eqb b newline) && not (eqb b hash)
 
 -- whole lines, perhaps an open one at the end of all, and then a directive
 abbrev pub HasLines : Bool → List ℕ → List ℕ → Type 0
-HasLines inside bytes rest = (lines : List ℕ) × (open_line : List ℕ) × IsTrue (are_skipped false inside lines) × IsOpenLine open_line
-    × (bytes ≡ lines ++ open_line ++ rest) × ((open_line ≡ []) ⊎ (rest ≡ [])) × IsTrue (is_letter rest)
+HasLines inside bytes rest = (lines : List ℕ) × (open_line : List ℕ)
+    × IsTrue (are_skipped false inside lines) × IsSkippedLine open_line
+    × (bytes ≡ lines ++ open_line ++ rest) × ((open_line ≡ []) ⊎ (rest ≡ []))
+    × IsTrue (is_letter rest)
 
 -- the rest of a comment line that lacks its newline
 abbrev pub IsOpenRest : Bool → List ℕ → List ℕ → Type 0
-IsOpenRest inside bytes rest = (inside ≡ true) × IsTrue (list_all (λ b. not (eqb b 10)) bytes) × (rest ≡ [])
+IsOpenRest inside bytes rest = (inside ≡ true) × IsTrue (list_all (λ b. not (eqb b newline)) bytes)
+    × (rest ≡ [])
 
+-- lines, and then a directive; or an open comment
 abbrev pub LinesSay : Bool → List ℕ → List ℕ → Type 0
 LinesSay inside bytes rest = HasLines inside bytes rest ⊎ IsOpenRest inside bytes rest
 
-with_byte : (inside after : Bool) (b : ℕ) (bytes rest : List ℕ) → ((lines : List ℕ) → are_skipped false inside (b ∷ lines) ≡ are_skipped false after lines)
+-- one more byte in front of lines
+with_byte : (inside after : Bool) (b : ℕ) (bytes rest : List ℕ)
+    → ((lines : List ℕ) → are_skipped false inside (b ∷ lines) ≡ are_skipped false after lines)
     → HasLines after bytes rest → HasLines inside (b ∷ bytes) rest
-with_byte inside after b bytes rest e h = (b ∷ h.0, h.1, rw (e h.0) h.2, h.3, ap (λ (xs : List ℕ). b ∷ xs) h.4, h.5, h.6)
+with_byte inside after b bytes rest e h =
+    (b ∷ h.0, h.1, rw (e h.0) h.2, h.3, ap (λ (xs : List ℕ). b ∷ xs) h.4, h.5, h.6)
 
-no_line : (b : ℕ) (bs : List ℕ) → eqb b 10 ≡ false → eqb b 35 ≡ false → HasLines false (b ∷ bs) (b ∷ bs)
+-- a directive's letter begins no line
+no_line : (b : ℕ) (bs : List ℕ) → eqb b newline ≡ false → eqb b hash ≡ false
+    → HasLines false (b ∷ bs) (b ∷ bs)
 no_line b bs e f = ([], [], refl, inl refl, refl, inl refl, rw (e, f) refl)
 
+-- what is skipped are lines
 pub lines_say : (inside : Bool) (bytes : List ℕ) → LinesSay inside bytes (skip_lines inside bytes)
 lines_say false [] = inl ([], [], refl, inl refl, refl, inl refl, refl)
 lines_say true [] = inr (refl, refl, refl)
-lines_say true (b ∷ bs) = elim (test (eqb b 10)) [
+lines_say true (b ∷ bs) = elim (test (eqb b newline)) [
   | inl e ↦ rw e (elim (lines_say false bs) [
     | inl h ↦ inl (with_byte true false b bs (skip_lines false bs) (λ lines. rw e refl) h)
     | inr h ↦ absurd (let k = h.0 in cc)
@@ -173,148 +272,226 @@ lines_say true (b ∷ bs) = elim (test (eqb b 10)) [
     | inr h ↦ inr (refl, h.1, h.2)
   ])
 ]
-lines_say false (b ∷ bs) = elim (test (eqb b 10)) [
+lines_say false (b ∷ bs) = elim (test (eqb b newline)) [
   | inl e ↦ rw e (elim (lines_say false bs) [
     | inl h ↦ inl (with_byte false false b bs (skip_lines false bs) (λ lines. rw e refl) h)
     | inr h ↦ absurd (let k = h.0 in cc)
   ])
-  | inr e ↦ elim (test (eqb b 35)) [
+  | inr e ↦ elim (test (eqb b hash)) [
     | inl f ↦ rw (e, f) (elim (lines_say true bs) [
       | inl h ↦ inl (with_byte false true b bs (skip_lines true bs) (λ lines. rw (e, f) refl) h)
-      | inr h ↦ inl ([], b ∷ bs, refl, inr (bs, h.1, rw (eq_of b 35 f) refl), rw h.2 (sym (append-nil (b ∷ bs))), inr h.2, rw h.2 refl)
+      | inr h ↦ inl (
+        [],
+        b ∷ bs,
+        refl,
+        inr (bs, h.1, rw (eq_of b hash f) refl),
+        rw h.2 (sym (append-nil (b ∷ bs))),
+        inr h.2,
+        rw h.2 refl,
+      )
     ])
     | inr f ↦ rw (e, f) (inl (no_line b bs e f))
   ]
 ]
 
+-- the same where no comment has begun
 pub has_lines : (bytes : List ℕ) → HasLines false bytes (skip_lines false bytes)
 has_lines bytes = elim (lines_say false bytes) [ inl h ↦ h | inr h ↦ absurd (let k = h.0 in cc) ]
-
-open_skipped : (text : List ℕ) → IsTrue (list_all (λ b. not (eqb b 10)) text) → IsTrue (are_skipped true true text)
-open_skipped [] h = refl
-open_skipped (b ∷ bs) h = elim (test (eqb b 10)) [
-  | inl e ↦ absurd (let k = rw e at h in cc)
-  | inr e ↦ rw e (open_skipped bs (rw e at h))
-]
-
-pub open_line_skipped : (bytes : List ℕ) → IsOpenLine bytes → IsTrue (are_skipped true false bytes)
-open_line_skipped bytes (inl h) = rw h refl
-open_line_skipped bytes (inr h) = rw h.2 (open_skipped h.0 h.1)
-
-lines_and : (inside : Bool) (lines rest : List ℕ) → IsTrue (are_skipped false inside lines) → IsTrue (are_skipped true false rest) → IsTrue (are_skipped true inside (lines ++ rest))
-lines_and true [] rest h k = absurd cc
-lines_and false [] rest h k = k
-lines_and true (b ∷ lines) rest h k = lines_and (not (eqb b 10)) lines rest h k
-lines_and false (b ∷ lines) rest h k =
-    elim (test (eqb b 10)) [
-      | inl e ↦ rw e (lines_and false lines rest (rw e at h) k)
-      | inr e ↦ elim (test (eqb b 35)) [
-        | inl f ↦ rw (e, f) (lines_and true lines rest (rw (e, f) at h) k)
-        | inr f ↦ (let k = rw (e, f) at h in absurd cc)
-      ]
-    ]
 
 -- the directives of all bytes behind the version, or the fault
 abbrev pub DirectivesSay : List ℕ → Result (List Directive) Refusal → Type 0
 DirectivesSay bytes (Ok ds) = SpellsAll true ds bytes
-DirectivesSay bytes (Err e) = (front : List ℕ) × (before : List ℕ) × (here : List ℕ) × (ds : List Directive) × SpellsAll false ds front × RowFits e.kind true before here × (bytes ≡ front ++ before ++ here) × (e.bytes_left ≡ length here)
+DirectivesSay bytes (Err e) = (front : List ℕ) × (before : List ℕ) × (here : List ℕ)
+    × (ds : List Directive) × SpellsAll false ds front × RowFits e.kind true before here
+    × (bytes ≡ front ++ before ++ here) × (e.bytes_left ≡ length here)
 
-after_one : (bytes lines one rest : List ℕ) (d : Directive) (r : Result (List Directive) Refusal) → AreSkippedLines lines → SpellsOne d one → bytes ≡ lines ++ one ++ rest
+-- a directive goes before the others
+after_one : (bytes lines one rest : List ℕ) (d : Directive) (r : Result (List Directive) Refusal)
+    → AreSkippedLines lines → SpellsOne d one → bytes ≡ lines ++ one ++ rest
     → DirectivesSay rest r → DirectivesSay bytes (r >>= λ ds. Ok (d ∷ ds))
 after_one bytes lines one rest d (Ok ds) are h e k = (lines, one, rest, are, h, k, e)
-after_one bytes lines one rest d (Err x) are h e k =
-    (lines ++ one ++ k.0, k.1, k.2, d ∷ k.3, (lines, one, k.0, are, h, k.4, refl), k.5, rw (e, k.6) (simp append_assoc), k.7)
+after_one bytes lines one rest d (Err x) are h e k = (
+  lines ++ one ++ k.0,
+  k.1,
+  k.2,
+  d ∷ k.3,
+  (lines, one, k.0, are, h, k.4, refl),
+  k.5,
+  rw (e, k.6) (simp append_assoc),
+  k.7,
+)
 
+-- what is read behind a directive, if one came
 abbrev behind : ℕ → Option (Directive × List ℕ) → Result (List Directive) Refusal
 behind n None = Ok []
 behind n (Some d) = directives_at n d.1 >>= λ ds. Ok (d.0 ∷ ds)
 
-shorter : (lines one rest bytes : List ℕ) (b : ℕ) → bytes ≡ lines ++ (b ∷ one) ++ rest → length rest < length bytes
+-- fewer bytes stand behind a directive
+shorter : (lines one rest bytes : List ℕ) (b : ℕ) → bytes ≡ lines ++ (b ∷ one) ++ rest
+    → length rest < length bytes
 shorter lines one rest bytes b e = rw e (simp length-append (omega arith))
 
-no_both_open : (open_line : List ℕ) (b : ℕ) (bs : List ℕ) → (open_line ≡ []) ⊎ (b ∷ bs ≡ []) → open_line ≡ []
+-- a line is open only at the end
+no_both_open : (open_line : List ℕ) (b : ℕ) (bs : List ℕ) → (open_line ≡ []) ⊎ (b ∷ bs ≡ [])
+    → open_line ≡ []
 no_both_open open_line b bs (inl e) = e
 no_both_open open_line b bs (inr e) = absurd cc
 
+-- two tests that fail
 and_nots : (a b : Bool) → not a && not b ≡ true → (a ≡ false) × (b ≡ false)
 and_nots false false e = (refl, refl)
 and_nots true b e = absurd cc
 and_nots false true e = absurd cc
 
-directives_say_of : (n : ℕ) (bytes rest : List ℕ) → ((after : List ℕ) → length after < length bytes → DirectivesSay after (directives_at n after))
+-- the same behind the lines
+directives_say_of : (n : ℕ) (bytes rest : List ℕ)
+    → ((after : List ℕ) → length after < length bytes → DirectivesSay after (directives_at n after))
     → HasLines false bytes rest → DirectivesSay bytes (next_at rest >>= behind n)
-directives_say_of n bytes [] ih h = rw (h.4, append-nil (h.0 ++ h.1)) (lines_and false h.0 h.1 h.2 (open_line_skipped h.1 h.3))
+directives_say_of n bytes [] ih h =
+    (h.0, h.1, passed_skipped h.0 h.2, h.3, h.4 ∙ append-nil (h.0 ++ h.1))
 directives_say_of n bytes (b ∷ bs) ih h =
     let none : h.1 ≡ [] = no_both_open h.1 b bs h.5 in
     let e : bytes ≡ h.0 ++ b ∷ bs = h.4 ∙ rw (none, append-nil h.0) refl in
-    let apart = and_nots (eqb b 10) (eqb b 35) h.6 in
-    by_bind (DirectiveSays b bs) (λ (r : Result (Option (Directive × List ℕ)) Refusal). DirectivesSay bytes (r >>= behind n)) (directive_at b bs) _ (directive_says b bs apart.0 apart.1)
+    let apart = and_nots (eqb b newline) (eqb b hash) h.6 in
+    by_bind (DirectiveSays b bs)
+    (λ (r : Result (Option (Directive × List ℕ)) Refusal). DirectivesSay bytes (r >>= behind n))
+    (directive_at b bs) _ (directive_says b bs apart.0 apart.1)
     (λ d k.
     let parts : bytes ≡ h.0 ++ (b ∷ k.0) ++ d.1 = e ∙ rw k.2 (simp append_assoc) in
-    after_one bytes h.0 (b ∷ k.0) d.1 d.0 (directives_at n d.1) h.2 k.1 parts (ih d.1 (shorter h.0 k.0 d.1 bytes b parts)))
-    (λ x k. (h.0, k.0, k.1, [], h.2, k.2, rw (e, k.3) (simp append_assoc), k.4))
+    after_one bytes h.0 (b ∷ k.0) d.1 d.0 (directives_at n d.1)
+    (passed_skipped h.0 h.2) k.1 parts
+    (ih d.1 (shorter h.0 k.0 d.1 bytes b parts)))
+    (λ x k. (h.0, k.0, k.1, [], passed_skipped h.0 h.2, k.2, rw (e, k.3) (simp append_assoc), k.4))
 
-pub directives_say : (n : ℕ) (bytes : List ℕ) → length bytes < n → DirectivesSay bytes (directives_at n bytes)
+-- the directives up to the end are spelled, or the fault has its front
+pub directives_say : (n : ℕ) (bytes : List ℕ) → length bytes < n
+    → DirectivesSay bytes (directives_at n bytes)
 unfolding directives_at
 directives_say zero bytes lt = absurd (omega arith)
-directives_say (suc n) bytes lt = directives_say_of n bytes (skip_lines false bytes) (λ after less. directives_say n after (omega arith)) (has_lines bytes)
+directives_say (suc n) bytes lt = directives_say_of n bytes (skip_lines false bytes)
+    (λ after less. directives_say n after (omega arith)) (has_lines bytes)
 
 -- the version at the front, or the fault there
 abbrev pub VersionSays : List ℕ → Result (List ℕ) Refusal → Type 0
-VersionSays bytes (Ok rest) = (number : List ℕ) × IsNumber 1 number × (bytes ≡ number ++ 10 ∷ rest)
-VersionSays bytes (Err e) = (before : List ℕ) × (here : List ℕ) × RowFits e.kind false (86 ∷ before) here × (bytes ≡ before ++ here) × (e.bytes_left ≡ length here)
+VersionSays bytes (Ok rest) = (number : List ℕ) × IsNumber 1 number × (bytes ≡ number ++ newline ∷ rest)
+VersionSays bytes (Err e) = (before : List ℕ) × (here : List ℕ)
+    × RowFits e.kind false (letter_V ∷ before) here × (bytes ≡ before ++ here)
+    × (e.bytes_left ≡ length here)
 
-within_version : (kind : FrozenKind) (before here : List ℕ) → IsWrongWithin kind version_layout before here → RowFits kind false (86 ∷ before) here
-within_version kinds.Newer before here h = (86, before, refl, (refl, h))
-within_version kinds.VersionZero before here h = (86, before, refl, (refl, h))
-within_version kinds.DigitExpected before here h = (86, before, refl, (refl, h))
-within_version kinds.NumberTooLarge before here h = (86, before, refl, (refl, h))
-within_version kinds.SeparatorExpected before here h = (86, before, refl, (refl, h))
-within_version kinds.PrematureEnd before here h = (86, before, refl, (refl, h))
-within_version kinds.NoVersion before here h = absurd (never kinds.NoVersion version_layout before here (λ p b x k. k) h)
-within_version kinds.SecondVersion before here h = absurd (never kinds.SecondVersion version_layout before here (λ p b x k. k) h)
-within_version kinds.UnknownDirective before here h = absurd (never kinds.UnknownDirective version_layout before here (λ p b x k. k) h)
-within_version kinds.Read before here h = never kinds.Read version_layout before here (λ p b x k. k) h
-within_version kinds.OutOfMemory before here h = never kinds.OutOfMemory version_layout before here (λ p b x k. k) h
+-- a fault within the version is one behind `V`
+within_version : (kind : FrozenKind) (before here : List ℕ)
+    → IsWrongWithin kind version_layout before here → RowFits kind false (letter_V ∷ before) here
+within_version kinds.Newer before here h = (letter_V, before, refl, (refl, h))
+within_version kinds.VersionZero before here h = (letter_V, before, refl, (refl, h))
+within_version kinds.DigitExpected before here h = (letter_V, before, refl, (refl, h))
+within_version kinds.NumberTooLarge before here h = (letter_V, before, refl, (refl, h))
+within_version kinds.SeparatorExpected before here h = (letter_V, before, refl, (refl, h))
+within_version kinds.PrematureEnd before here h = (letter_V, before, refl, (refl, h))
+within_version kinds.NoVersion before here h =
+    absurd (never kinds.NoVersion version_layout before here (λ p b x k. k) h)
+within_version kinds.SecondVersion before here h =
+    absurd (never kinds.SecondVersion version_layout before here (λ p b x k. k) h)
+within_version kinds.UnknownDirective before here h =
+    absurd (never kinds.UnknownDirective version_layout before here (λ p b x k. k) h)
+within_version kinds.Read before here h = never kinds.Read version_layout before here
+    (λ p b x k. k) h
+within_version kinds.OutOfMemory before here h = never kinds.OutOfMemory version_layout before here
+    (λ p b x k. k) h
 
-version_says : (bytes : List ℕ) → VersionSays bytes (version_at bytes >>= expect_byte 10)
-version_says bytes = rw (version_is_layout bytes) (by_bind (LayoutSays version_layout bytes) (VersionSays bytes) (layout_at version_layout bytes) rest_of (layout_says version_layout bytes)
-    (λ v h. let h1 = h.1 in let h2 = h1.6 in (h1.1, h1.3, rw (h.2, h1.5, h2.5, h2.3, h2.6.1) (simp append_assoc)))
+-- the version stands behind `V`, or a row fits
+version_says : (bytes : List ℕ) → VersionSays bytes (version_at bytes >>= expect_byte newline)
+version_says bytes =
+    rw (version_is_layout bytes) (by_bind (LayoutSays version_layout bytes) (VersionSays bytes)
+    (layout_at version_layout bytes) rest_of (layout_says version_layout bytes)
+    (λ v h. let h1 = h.1 in let h2 = h1.6 in
+    (h1.1, h1.3, rw (h.2, h1.5, h2.5, h2.3, h2.6.1) (simp append_assoc)))
     (λ e h. (h.0, h.1, within_version e.kind h.0 h.1 h.2, h.3, h.4)))
 
 -- the bytes behind the version, or the fault before
 abbrev pub StartSays : List ℕ → Result (List ℕ) Refusal → Type 0
-StartSays bytes (Ok rest) = (lines : List ℕ) × (number : List ℕ) × AreSkippedLines lines × IsNumber 1 number × (bytes ≡ lines ++ 86 ∷ number ++ 10 ∷ rest)
-StartSays bytes (Err e) = (front : List ℕ) × (before : List ℕ) × (here : List ℕ) × AreSkippedLines front × RowFits e.kind false before here × (bytes ≡ front ++ before ++ here) × (e.bytes_left ≡ length here)
+StartSays bytes (Ok rest) = (lines : List ℕ) × (number : List ℕ) × AreSkippedLines lines
+    × IsNumber 1 number × (bytes ≡ lines ++ letter_V ∷ number ++ newline ∷ rest)
+StartSays bytes (Err e) = (front : List ℕ) × (before : List ℕ) × (here : List ℕ)
+    × AreSkippedLines front × RowFits e.kind false before here × (bytes ≡ front ++ before ++ here)
+    × (e.bytes_left ≡ length here)
 
-start_says_of : (bytes rest : List ℕ) → HasLines false bytes rest → StartSays bytes (behind_version rest)
-start_says_of bytes [] h = (h.0, h.1, [], h.2, (refl, inr (h.3, refl)), h.4, refl)
+-- lines and the version stand, or a row fits
+start_says_of : (bytes rest : List ℕ) → HasLines false bytes rest
+    → StartSays bytes (behind_version rest)
+start_says_of bytes [] h = (h.0, h.1, [], passed_skipped h.0 h.2, (refl, inr (h.3, refl)), h.4, refl)
 start_says_of bytes (b ∷ bs) h =
     let none : h.1 ≡ [] = no_both_open h.1 b bs h.5 in
     let e : bytes ≡ h.0 ++ b ∷ bs = h.4 ∙ rw (none, append-nil h.0) refl in
-    let apart = and_nots (eqb b 10) (eqb b 35) h.6 in
-    by_test (StartSays bytes) (eqb b 86) _ _
+    let apart = and_nots (eqb b newline) (eqb b hash) h.6 in
+    by_test (StartSays bytes) (eqb b letter_V) _ _
     (λ f.
-    let letter : b ≡ 86 = eq_of b 86 f in
-    by_result (VersionSays bs) (StartSays bytes) (version_at bs >>= expect_byte 10) (version_says bs)
-    (λ v k. (h.0, k.0, h.2, k.1, rw (e, letter, k.2) (simp append_assoc)))
-    (λ x k. (h.0, 86 ∷ k.0, k.1, h.2, k.2, rw (e, letter, k.3) (simp append_assoc), k.4)))
-    (λ f. (h.0, [], b ∷ bs, h.2, (refl, inl (refl, simp (apart.0, apart.1, f) refl)), rw (append-nil h.0) e, refl))
+    let letter : b ≡ letter_V = eq_of b letter_V f in
+    by_result (VersionSays bs) (StartSays bytes) (version_at bs >>= expect_byte newline)
+    (version_says bs)
+    (λ v k. (h.0, k.0, passed_skipped h.0 h.2, k.1, rw (e, letter, k.2) (simp append_assoc)))
+    (λ x k. (h.0, letter_V ∷ k.0, k.1, passed_skipped h.0 h.2, k.2, rw (e, letter, k.3) (simp append_assoc), k.4)))
+    (λ f. (
+      h.0,
+      [],
+      b ∷ bs,
+      passed_skipped h.0 h.2,
+      (refl, inl (refl, simp (apart.0, apart.1, f) refl)),
+      rw (append-nil h.0) e,
+      refl,
+    ))
 
+-- what the answer for a file says
 abbrev pub FileSays : List ℕ → Result (List Directive) Refusal → Type 0
 FileSays bytes (Ok ds) = Spells ds bytes
 FileSays bytes (Err e) = IsFault bytes (fault_of bytes e)
 
-place_of_left : (front before here bytes : List ℕ) (left : ℕ) → bytes ≡ front ++ before ++ here → left ≡ length here → length bytes - left ≡ length (front ++ before)
+-- the place of a fault, counted from the front
+place_of_left : (front before here bytes : List ℕ) (left : ℕ) → bytes ≡ front ++ before ++ here
+    → left ≡ length here → length bytes - left ≡ length (front ++ before)
 place_of_left front before here bytes left e f = rw (e, f) (simp length-append (omega arith))
 
 -- What the reader answers for a whole file are directives that it spells, or its fault.
 pub file_says : (bytes : List ℕ) → FileSays bytes (file_at bytes)
 unfolding file_at
-file_says bytes = by_bind (StartSays bytes) (FileSays bytes) (behind_version (skip_lines false bytes)) _ (start_says_of bytes (skip_lines false bytes) (has_lines bytes))
-    (λ rest h. by_result (DirectivesSay rest) (FileSays bytes) (directives_at (length rest + 1) rest) (directives_say (length rest + 1) rest (omega arith))
-    (λ ds k. record { lines = h.0; number = h.1; rest = rest; are_lines = h.2; version = h.3; others = k; spelled = h.4 })
+file_says bytes = by_bind (StartSays bytes) (FileSays bytes)
+    (behind_version (skip_lines false bytes)) _
+    (start_says_of bytes (skip_lines false bytes) (has_lines bytes))
+    (λ rest h. by_result (DirectivesSay rest) (FileSays bytes)
+    (directives_at (length rest + 1) rest) (directives_say (length rest + 1) rest (omega arith))
+    (λ ds k. record {
+      lines = h.0;
+      number = h.1;
+      rest = rest;
+      are_lines = h.2;
+      version =
+          h.3;
+      others = k;
+      spelled = h.4;
+    })
     (λ e k.
-    let parts : bytes ≡ (h.0 ++ 86 ∷ h.1 ++ 10 ∷ k.0) ++ k.1 ++ k.2 = rw (h.4, k.6) (simp append_assoc) in
-    record { versioned = true; front = h.0 ++ 86 ∷ h.1 ++ 10 ∷ k.0; before = k.1; here = k.2; spelled = parts; is_front = (h.0, h.1, k.0, k.3, h.2, h.3, k.4, refl); fits = k.5; place = place_of_left (h.0 ++ 86 ∷ h.1 ++ 10 ∷ k.0) k.1 k.2 bytes e.bytes_left parts k.7 }))
-    (λ e h. record { versioned = false; front = h.0; before = h.1; here = h.2; spelled = h.5; is_front = h.3; fits = h.4; place = place_of_left h.0 h.1 h.2 bytes e.bytes_left h.5 h.6 })
+    let parts : bytes ≡ (h.0 ++ letter_V ∷ h.1 ++ newline ∷ k.0) ++ k.1 ++ k.2 =
+    rw (h.4, k.6) (simp append_assoc) in
+    record {
+      versioned = true;
+      front = h.0 ++ letter_V ∷ h.1 ++ newline ∷ k.0;
+      before = k.1;
+      here =
+          k.2;
+      spelled = parts;
+      is_front = (h.0, h.1, k.0, k.3, h.2, h.3, k.4, refl);
+      fits =
+          k.5;
+      place = place_of_left (h.0 ++ letter_V ∷ h.1 ++ newline ∷ k.0) k.1 k.2 bytes e.bytes_left parts k.7;
+    }))
+    (λ e h. record {
+      versioned = false;
+      front = h.0;
+      before = h.1;
+      here = h.2;
+      spelled =
+          h.5;
+      is_front = h.3;
+      fits = h.4;
+      place =
+          place_of_left h.0 h.1 h.2 bytes e.bytes_left h.5 h.6;
+    })

@@ -39,8 +39,8 @@ OneAnswerOfFailed =
     → (fault : FrozenFault) × IsFaultOfFailed given fault
     × ((other : FrozenFault) → IsFaultOfFailed given other → other ≡ fault)
 
--- the reader's steps answer directives exactly where they are spelled, a refusal exactly where it is
--- the fault, and for a reader that failed its fault
+-- the reader's steps answer directives exactly where they are spelled, a refusal exactly where it
+-- is the fault, and for a reader that failed its fault
 pub record AreTied (bytes : List ℕ) : Type 0 where
   pub directives : (ds : List Directive) → (file_at bytes ≡ Ok ds) ↔ Spells ds bytes
   pub fault : (f : FrozenFault)

@@ -79,7 +79,8 @@ expect_byte byte (b ∷ bs) =
 -- a string of n bytes, and the bytes behind it
 unfoldable pub string_at : ℕ → List ℕ → Result (List ℕ × List ℕ) Refusal
 string_at n bytes =
-    if nat_lt (length bytes) n then refused kinds.PrematureEnd [] else Ok (take n bytes, drop n bytes)
+    if nat_lt (length bytes) n then refused kinds.PrematureEnd []
+    else Ok (take n bytes, drop n bytes)
 
 -- `len1,len2 NL str1 str2 NL`, and the bytes behind it
 unfoldable pub pair_at : List ℕ → Result ((List ℕ × List ℕ) × List ℕ) Refusal

@@ -1,7 +1,7 @@
 //! What the lines of a frozen file say behind its version.
 //!
-//! Contracts see a directive by `directive_of` (`specs/DirectiveView.antt`): its bytes, without their
-//! place in the file. Manual: "Frozen file format".
+//! Contracts see a directive by `directive_of` (`specs/DirectiveView.antt`): its bytes, without
+//! their place in the file. Manual: "Frozen file format".
 
 /// A directive, whose strings lie in the file.
 #[derive(Clone, Copy, Debug, PartialEq, Eq)]

@@ -1,7 +1,7 @@
 //! Why a frozen file was refused, and where.
 //!
-//! While a file is read a refusal carries how many bytes are left from its place to the end, so that
-//! no step has to count the bytes before it. Which fault a file has is `FaultAt`
+//! While a file is read, a refusal carries how many bytes are left from its place to the end, so
+//! that no step has to count the bytes before it. Which fault a file has is `FaultAt`
 //! (`specs/FaultAt.antt`). Manual: "Frozen file format".
 
 ghost use Rattle.std.specs.Prelude.{◌≡◌, length};

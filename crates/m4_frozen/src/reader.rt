@@ -1,9 +1,9 @@
 //! Directives read from the bytes of a whole file.
 //!
-//! Each step takes the bytes from its place on and gives back those behind it, so a file is read once
-//! from front to end and nothing is copied. The steps' private contracts speak of
-//! `specs/ReaderSteps.antt`; [`read_directives`] alone speaks of the grammar, `Spells`, and of the
-//! table of faults, `FaultAt`. Manual: "Frozen file format".
+//! Each step takes the bytes from its place on and gives back those behind it, so a file is read
+//! once, from front to end, and nothing is copied. The private contracts speak of the reader's own
+//! steps, `specs/ReaderSteps.antt`; [`read_directives`] alone speaks of the grammar, `Spells`, and of
+//! the table of faults, `FaultAt`. Manual: "Frozen file format".
 
 ghost use Rattle.std.specs.Prelude.{◌≡◌, IfOk, IfErr, List, Err, true, false};
 ghost use Rattle.std.specs.Option.{option_map};
@@ -25,9 +25,10 @@ use std::alloc::Global;
 
 /// The directives of a frozen file, or of what a reader gave before it failed.
 ///
-/// The strings of the directives lie in `bytes`. Where the reader failed there are no directives, and
-/// the fault is the one that stays whatever bytes would have followed, if the bytes have such a one.
-/// Takes time in proportion to the bytes, and memory to the directives, whatever lengths are stated.
+/// The strings of the directives lie in `bytes`. Where the reader failed there are no directives:
+/// the fault is the one that stays whatever bytes would have followed, if the bytes have such a
+/// one, else the failure. Takes time in proportion to the bytes and memory in proportion to the
+/// directives, whatever lengths are stated.
 /// Manual: "Frozen file format".
 pub fn read_directives(
     alloc: Global,
@@ -66,7 +67,7 @@ fn read_fault(given: &[u8]) -> FrozenFault
     }
 }
 
-/// The fault that a refusal of these bytes is.
+/// The fault that a refusal of these bytes is, whose place is counted from the front here alone.
 fn fault_of(bytes: &[u8], refusal: Refusal) -> FrozenFault
     ensures { result ≡ steps.fault_of bytes.now refusal }
 {
@@ -107,6 +108,7 @@ fn file(alloc: Global, bytes: &[u8]) -> Result<Vec<Directive<'_>>, ReadStop>
     ensures { GivesIfRoom (λ v. directives_of v.items) result (steps.file_at bytes.now) }
 {
     let rest = behind_version(skip_lines(bytes))?;
+    // Each directive takes a byte at least, so that the last round finds the end.
     directives(alloc, rest.len() + 1, rest)
 }
 
@@ -123,7 +125,8 @@ fn behind_version(bytes: &[u8]) -> Result<&[u8], Refusal>
 
 /// The directives up to the end, at most so many.
 fn directives(alloc: Global, count: usize, bytes: &[u8]) -> Result<Vec<Directive<'_>>, ReadStop>
-    ensures { GivesIfRoom (λ v. directives_of v.items) result (steps.directives_at count bytes.now) }
+    ensures { GivesIfRoom (λ v. directives_of v.items) result
+        (steps.directives_at count bytes.now) }
 {
     let mut list = Vec::new(alloc);
     let mut rest = bytes;
@@ -142,7 +145,8 @@ fn directives(alloc: Global, count: usize, bytes: &[u8]) -> Result<Vec<Directive
 /// The next directive, if one comes, and the bytes behind it.
 #[tactic(auto, unfolding(crate::specs::ReaderSteps::directive_at))]
 fn next_directive(bytes: &[u8]) -> Result<Option<(Directive<'_>, &[u8])>, Refusal>
-    ensures { Gives (option_map (λ x. (directive_of x.0, x.1.now))) result (steps.next_at bytes.now) }
+    ensures { Gives (option_map (λ x. (directive_of x.0, x.1.now))) result
+        (steps.next_at bytes.now) }
 {
     match bytes {
         [] => Ok(None),

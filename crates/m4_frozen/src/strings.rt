@@ -1,7 +1,8 @@
 //! Counted strings at the front of bytes, with the numbers that count them.
 //!
-//! A string has exactly the length that is stated and may hold any bytes, newlines and `#` included.
+//! A string has exactly the length that is stated, and may hold any bytes, newlines and `#` too.
 //! A stated length is only compared with the bytes that are there: nothing is reserved for it.
+//! Contracts speak of the reader's own steps, `specs/ReaderSteps.antt`.
 //! Manual: "Frozen file format".
 
 ghost use Rattle.std.specs.Prelude.{◌≡◌};

@@ -1,4 +1,4 @@
-//! Rows by hand: what the clauses mean at some files, and that a call answers where memory is ample.
+//! Rows by hand: what the clauses mean at some files, and that calls answer where memory is ample.
 //!
 //! The offsets were counted by hand from the format. Manual: "Frozen file format".
 
@@ -134,4 +134,28 @@ fn a_file_is_cut_at_each_byte(rt: HostRuntime) {
         };
         assert_eq!(rt; failed, Some(read), "failed after {len} bytes");
     }
+}
+
+// Each kind and its text, as a message prints it.
+const TEXTS: [(FrozenKind, &str); 11] = [
+    (FrozenKind::NoVersion, "F1 NoVersion"),
+    (FrozenKind::Newer, "F2 Newer"),
+    (FrozenKind::VersionZero, "F3 VersionZero"),
+    (FrozenKind::SecondVersion, "F4 SecondVersion"),
+    (FrozenKind::UnknownDirective, "F5 UnknownDirective"),
+    (FrozenKind::DigitExpected, "F6 DigitExpected"),
+    (FrozenKind::NumberTooLarge, "F7 NumberTooLarge"),
+    (FrozenKind::SeparatorExpected, "F8 SeparatorExpected"),
+    (FrozenKind::PrematureEnd, "F9 PrematureEnd"),
+    (FrozenKind::Read, "F10 Read"),
+    (FrozenKind::OutOfMemory, "F11 OutOfMemory"),
+];
+
+#[test]
+fn kinds_are_printed(rt: HostRuntime) -> Result<(), Fail> {
+    for (kind, text) in TEXTS {
+        let got = format!(in rt.alloc(); "{kind}")?;
+        assert_eq!(rt; got.as_str(), text);
+    }
+    Ok(())
 }

@@ -5,4 +5,5 @@ use Rattle.m4_frozen.proofs.DirectiveLoop.{with_front}
 use Rattle.m4_frozen.proofs.reader.directives.Given as goal
 
 abbrev pub invariant-loop : goal.invariant-loop
-invariant-loop l = with_front (directives_of l.list.items) (directives_at (l.count - l.counter) l.rest) ≡ directives_at l.count l.bytes
+invariant-loop l = with_front (directives_of l.list.items)
+    (directives_at (l.count - l.counter) l.rest) ≡ directives_at l.count l.bytes
