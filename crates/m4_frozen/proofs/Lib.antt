@@ -13,3 +13,4 @@ pub mod Unsettled
 pub mod Answered
 pub mod Examples
 pub mod FreezeParts
+pub mod ListingParts

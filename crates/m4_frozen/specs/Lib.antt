@@ -12,3 +12,4 @@ pub mod Denote
 pub mod Freeze
 pub mod Listing
 pub mod WriterSteps
+pub mod InspectorSteps

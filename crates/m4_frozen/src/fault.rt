@@ -114,7 +114,7 @@ impl<T: Drop> From<AllocFailed<T>> for ReadStop {
 
 impl From<Refusal> for ReadStop {
     ghost use Rattle.m4_frozen.specs.declared.fault.FrozenKind.TheVariants as kinds;
-ghost use Rattle.m4_frozen.specs.declared.fault.ReadStop.TheVariants as stops;
+    ghost use Rattle.m4_frozen.specs.declared.fault.ReadStop.TheVariants as stops;
 
     ghost from_gives = { λ r e. e ≡ stops.Refused r };
 

@@ -9,6 +9,7 @@
 
 pub mod directive;
 pub mod fault;
+pub mod inspector;
 pub mod laws;
 mod lines;
 pub mod loading;
@@ -16,6 +17,6 @@ mod number;
 pub mod reader;
 pub mod reading;
 mod strings;
-pub mod writer;
 #[cfg(test)]
 mod tests;
+pub mod writer;

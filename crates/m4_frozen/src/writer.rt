@@ -105,8 +105,8 @@ fn put_delimiters<W: ByteSink>(
 ) -> Result<(), DeviceFault>
     ensures puts { Puts result (W.contents writer.old) (W.contents writer.new)
         (steps.delimiters_text letter
-            (record { begin = default.entry.0.now; end = default.entry.1.now })
-            (record { begin = pair.entry.0.now; end = pair.entry.1.now })) }
+        (record { begin = default.entry.0.now; end = default.entry.1.now })
+        (record { begin = pair.entry.0.now; end = pair.entry.1.now })) }
     ensures counted { W.failures writer.new ≡ count_after result (W.failures writer.old) }
 {
     let (begin, end) = pair;
@@ -118,11 +118,7 @@ fn put_delimiters<W: ByteSink>(
 }
 
 /// The definitions of the names, in their order.
-fn put_names<W: ByteSink>(
-    state: &State,
-    names: &[Bytes],
-    writer: &mut W,
-) -> Result<(), DeviceFault>
+fn put_names<W: ByteSink>(state: &State, names: &[Bytes], writer: &mut W) -> Result<(), DeviceFault>
     ensures puts { Puts result (W.contents writer.old) (W.contents writer.new) (steps.names_text state.now names.now) }
     ensures counted { W.failures writer.new ≡ count_after result (W.failures writer.old) }
 {
@@ -204,16 +200,21 @@ fn put_strings<W: ByteSink>(
     let letter = [letter];
     put_pieces(
         writer,
-        &[&letter, first_length, b",", second_length, b"\n", first, second, b"\n"],
+        &[
+            &letter,
+            first_length,
+            b",",
+            second_length,
+            b"\n",
+            first,
+            second,
+            b"\n",
+        ],
     )
 }
 
 /// `D`, a number, a length and a text.
-fn put_diversion<W: ByteSink>(
-    number: i32,
-    text: &[u8],
-    writer: &mut W,
-) -> Result<(), DeviceFault>
+fn put_diversion<W: ByteSink>(number: i32, text: &[u8], writer: &mut W) -> Result<(), DeviceFault>
     ensures puts { Puts result (W.contents writer.old) (W.contents writer.new) (texts.spelling (directives.Diversion number text.now)) }
     ensures counted { W.failures writer.new ≡ count_after result (W.failures writer.old) }
 {

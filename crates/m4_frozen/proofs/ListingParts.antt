@@ -1,0 +1,60 @@
+-- What the parts of the inspector put, joined, is the listing.
+use Rattle.std.proofs.Common.{◌≡◌, ◌≢◌, ℕ, Bool, true, false, List, [], ◌∷◌, ◌++◌, map, length, refl, sym, ap, ◌∙◌, append_assoc, add-one, ◌+◌, arith}
+use Rattle.std.proofs.lemmas.Bool.{eqb-true}
+use Rattle.std.specs.Prelude.{codes, decimal, nat_eq, IsTrue}
+use Rattle.std.specs.List.{flat_map, AllByRecursion}
+use Rattle.std.specs.FinMap.{is_sorted}
+use Rattle.std.proofs.lemmas.List.{append-nil}
+use Rattle.m4_state.specs.declared.definition.Def.{Def}
+use Rattle.m4_state.specs.Table.{Pair, Pairs, byte_order, stack_at}
+use Rattle.m4_state.specs.State.{State, IsState, names_of}
+use Rattle.m4_frozen.specs.declared.loading.Loaded.{Loaded}
+use Rattle.m4_frozen.specs.Listing.{show, pair_line, delimiters_line, definition_line, listing, show_byte}
+use Rattle.m4_frozen.specs.InspectorSteps.{two_words_line, begin_end_line, counted_line, stack_lines, names_lines, settings_lines, listing_text}
+use Rattle.m4_frozen.proofs.FreezeParts.{IsFoundIn, all_found}
+
+-- two strings behind a word, grouped as the listing groups them
+pub two_words_line-flat : (word first second : List ℕ) → two_words_line word first second ≡ word ++ show first ++ codes " " ++ show second ++ codes "\n"
+two_words_line-flat word first second = by word (show first) (codes " ") (show second) (codes "\n")
+  where
+    by : (w f b s n : List ℕ) → (w ++ f) ++ ((b ++ s) ++ n) ≡ w ++ f ++ b ++ s ++ n
+    by w f b s n = simp append_assoc refl
+
+pub counted_line-flat : (name text : List ℕ) → counted_line name text ≡ codes "text " ++ show name ++ codes " " ++ decimal (length text) ++ codes "\n"
+counted_line-flat name text = by (codes "text ") (show name) (codes " ") (decimal (length text)) (codes "\n")
+  where
+    by : (w f b s n : List ℕ) → (w ++ f) ++ (b ++ (s ++ n)) ≡ w ++ f ++ b ++ s ++ n
+    by w f b s n = simp append_assoc refl
+
+quotes_line : (begin end : List ℕ) → begin_end_line (codes "quotes ") begin end ≡ pair_line (codes "quotes") begin end
+quotes_line [] end = refl
+quotes_line (b ∷ begin) end = two_words_line-flat (codes "quotes ") (b ∷ begin) end
+
+comments_line : (begin end : List ℕ) → begin_end_line (codes "comments ") begin end ≡ pair_line (codes "comments") begin end
+comments_line [] end = refl
+comments_line (b ∷ begin) end = two_words_line-flat (codes "comments ") (b ∷ begin) end
+
+names_lines-table : (s : State) (es : Pairs) → AllByRecursion (IsFoundIn s.table) es → names_lines s (map (λ e. e.0) es) ≡ flat_map (λ e. flat_map (definition_line e.0) e.1) es
+names_lines-table s [] h = refl
+names_lines-table s (e ∷ es) h =
+    ap (λ (stack : List Def). stack_lines e.0 stack ++ names_lines s (map (λ e. e.0) es)) h.0
+    ∙ ap (λ (t : List ℕ). stack_lines e.0 e.1 ++ t) (names_lines-table s es h.1)
+
+-- what the parts of the inspector put is the listing
+pub listing_text-listing : (l : Loaded) → IsState l.state → listing_text l (names_of l.state) ≡ listing l
+listing_text-listing l valid =
+    rw (quotes_line l.state.quotes.begin l.state.quotes.end, comments_line l.state.comments.begin l.state.comments.end, names_lines-table l.state l.state.table (all_found l.state.table valid.table.sorted)) (simp append_assoc refl)
+
+-- a string that is not empty is shown byte by byte
+pub show-some : (bytes : List ℕ) (b : Bool) → b ≡ nat_eq (length bytes) 0 → b ≡ false → show bytes ≡ flat_map show_byte bytes
+show-some [] b is f = let bad : true ≡ false = sym is ∙ f in absurd cc
+show-some (x ∷ bytes) b is f = refl
+
+-- and the empty one by its sign
+pub show-none : (bytes : List ℕ) (b : Bool) → b ≡ nat_eq (length bytes) 0 → b ≡ true → show bytes ≡ codes "\\."
+show-none [] b is t = refl
+show-none (x ∷ bytes) b is t = let none : length bytes + 1 ≡ 0 = eqb-true (length bytes + 1) 0 (rw add-one (sym is ∙ t)) in absurd (omega arith)
+
+pub begin_end_line-some : (word begin end : List ℕ) (b : Bool) → b ≡ nat_eq (length begin) 0 → b ≡ false → two_words_line word begin end ≡ begin_end_line word begin end
+begin_end_line-some word [] end b is f = let bad : true ≡ false = sym is ∙ f in absurd cc
+begin_end_line-some word (x ∷ begin) end b is f = refl

@@ -1,0 +1,268 @@
+//! The inspector's lines: what a frozen file holds, for people to read.
+//!
+//! A line is put part by part, so nothing of the listing is held in memory. Want of memory can only
+//! come while the names are listed, before the first byte.
+
+ghost use Rattle.std.specs.Prelude.{◌≡◌, ◌<◌, OnOk, Err};
+ghost use Rattle.std.specs.List.{flat_map};
+ghost use Rattle.m4_state.specs.Device.{with_bytes, one_more, count_after, HasBegun, Puts};
+ghost use Rattle.m4_state.specs.State.{AreDiversions};
+ghost use Rattle.m4_frozen.specs.InspectorSteps as steps;
+ghost use Rattle.m4_frozen.specs.Listing as lines;
+
+use crate::fault::WriteFault;
+use crate::loading::Loaded;
+use itoa::Buffer;
+use m4_state::bytes::Bytes;
+use m4_state::definition::Def;
+use m4_state::device::{ByteSink, DeviceFault};
+use m4_state::state::State;
+use m4_state::transfer::{put_all, put_pieces};
+
+/// Writes a line for each thing that a frozen file gave: the delimiters, the definitions, the
+/// diversions, the current number, the length of the issued text.
+pub fn list<W: ByteSink>(loaded: &Loaded, writer: &mut W) -> Result<(), WriteFault>
+    // exact writer: the lines, and nothing else
+    ensures written { OnOk result (W.contents writer.new
+        ≡ with_bytes (W.contents writer.old) (lines.listing loaded.now)) }
+    // exact writer: a write fault leaves a beginning of them
+    ensures begun { result ≡ Err WriteFault.Write
+        → HasBegun (W.contents writer.old) (W.contents writer.new) (lines.listing loaded.now) }
+    // exact writer: want of memory comes before the first byte
+    ensures no_memory { result ≡ Err WriteFault.OutOfMemory
+        → W.contents writer.new ≡ W.contents writer.old }
+
+    // safe and total: a write fault comes only where the writer failed in this call
+    ensures write_fault { result ≡ Err WriteFault.Write
+        → W.failures writer.new ≡ one_more (W.failures writer.old) }
+    ensures unfailed { OnOk result (W.failures writer.new ≡ W.failures writer.old) }
+{
+    let names = loaded.state.names()?;
+    let _current = loaded.state.current();
+    put_listing(loaded, &names, writer)?;
+    Ok(())
+}
+
+/// The delimiters, the definitions, the diversions.
+fn put_listing<W: ByteSink>(
+    loaded: &Loaded,
+    names: &[Bytes],
+    writer: &mut W,
+) -> Result<(), DeviceFault>
+    requires { AreDiversions loaded.now.state.diversions }
+    ensures puts { Puts result (W.contents writer.old) (W.contents writer.new) (steps.listing_text loaded.now names.now) }
+    ensures counted { W.failures writer.new ≡ count_after result (W.failures writer.old) }
+{
+    put_settings(&loaded.state, writer)?;
+    put_names(&loaded.state, names, writer)?;
+    put_diverted(loaded, writer)
+}
+
+/// Both pairs of delimiters.
+fn put_settings<W: ByteSink>(state: &State, writer: &mut W) -> Result<(), DeviceFault>
+    ensures puts { Puts result (W.contents writer.old) (W.contents writer.new) (steps.settings_lines state.now) }
+    ensures counted { W.failures writer.new ≡ count_after result (W.failures writer.old) }
+{
+    let (begin, end) = state.quotes();
+    put_delimiters(b"quotes ", begin, end, writer)?;
+    let (begin, end) = state.comments();
+    put_delimiters(b"comments ", begin, end, writer)
+}
+
+/// What begins and what ends, or that they are disabled.
+fn put_delimiters<W: ByteSink>(
+    word: &[u8],
+    begin: &[u8],
+    end: &[u8],
+    writer: &mut W,
+) -> Result<(), DeviceFault>
+    ensures puts { Puts result (W.contents writer.old) (W.contents writer.new) (steps.begin_end_line word.now begin.now end.now) }
+    ensures counted { W.failures writer.new ≡ count_after result (W.failures writer.old) }
+{
+    if begin.is_empty() {
+        return put_pieces(writer, &[word, b"none\n"]);
+    }
+    put_two_words(word, begin, end, writer)
+}
+
+/// The definitions of the names, in their order.
+fn put_names<W: ByteSink>(state: &State, names: &[Bytes], writer: &mut W) -> Result<(), DeviceFault>
+    ensures puts { Puts result (W.contents writer.old) (W.contents writer.new) (steps.names_lines state.now names.now) }
+    ensures counted { W.failures writer.new ≡ count_after result (W.failures writer.old) }
+{
+    for name in names {
+        let name = name.as_slice();
+        put_stack(name, state.stack(name), writer)?;
+    }
+    Ok(())
+}
+
+/// The definitions of one name, the oldest first.
+fn put_stack<W: ByteSink>(name: &[u8], stack: &[Def], writer: &mut W) -> Result<(), DeviceFault>
+    ensures puts { Puts result (W.contents writer.old) (W.contents writer.new) (steps.stack_lines name.now stack.now) }
+    ensures counted { W.failures writer.new ≡ count_after result (W.failures writer.old) }
+{
+    for definition in stack {
+        put_definition(name, definition, writer)?;
+    }
+    Ok(())
+}
+
+/// What kind of definition a name has: the length of a text, or a builtin's name.
+fn put_definition<W: ByteSink>(
+    name: &[u8],
+    definition: &Def,
+    writer: &mut W,
+) -> Result<(), DeviceFault>
+    ensures puts { Puts result (W.contents writer.old) (W.contents writer.new) (lines.definition_line name.now definition.now) }
+    ensures counted { W.failures writer.new ≡ count_after result (W.failures writer.old) }
+{
+    match definition {
+        Def::Text(text) => put_counted(name, text.as_slice(), writer),
+        Def::Builtin(builtin) => put_two_words(b"builtin ", name, builtin.name(), writer),
+        Def::Placeholder(builtin) => {
+            put_two_words(b"placeholder ", name, builtin.as_slice(), writer)
+        }
+    }
+}
+
+/// A name and the length of its text.
+fn put_counted<W: ByteSink>(name: &[u8], text: &[u8], writer: &mut W) -> Result<(), DeviceFault>
+    ensures puts { Puts result (W.contents writer.old) (W.contents writer.new)
+        (steps.counted_line name.now text.now) }
+    ensures counted { W.failures writer.new ≡ count_after result (W.failures writer.old) }
+{
+    put_word(b"text ", name, writer)?;
+    put_length(text, writer)
+}
+
+/// The length of a text, which ends a line.
+fn put_length<W: ByteSink>(text: &[u8], writer: &mut W) -> Result<(), DeviceFault>
+    ensures puts { Puts result (W.contents writer.old) (W.contents writer.new) (steps.length_end text.now) }
+    ensures counted { W.failures writer.new ≡ count_after result (W.failures writer.old) }
+{
+    let mut length = Buffer::new();
+    let length = length.format(text.len()).as_bytes();
+    put_pieces(writer, &[b" ", length, b"\n"])
+}
+
+/// The diversions that hold text, the current number, and the length of the issued text.
+fn put_diverted<W: ByteSink>(loaded: &Loaded, writer: &mut W) -> Result<(), DeviceFault>
+    requires { AreDiversions loaded.now.state.diversions }
+    ensures puts { Puts result (W.contents writer.old) (W.contents writer.new) (steps.diverted_lines loaded.now) }
+    ensures counted { W.failures writer.new ≡ count_after result (W.failures writer.old) }
+{
+    put_texts(&loaded.state, writer)?;
+    put_current(&loaded.state, writer)?;
+    put_issued(loaded.issued.as_slice(), writer)
+}
+
+/// The diversions that hold text, by rising number.
+fn put_texts<W: ByteSink>(state: &State, writer: &mut W) -> Result<(), DeviceFault>
+    requires { AreDiversions state.now.diversions }
+    ensures puts { Puts result (W.contents writer.old) (W.contents writer.new) (steps.texts_lines state.now.diversions) }
+    ensures counted { W.failures writer.new ≡ count_after result (W.failures writer.old) }
+{
+    let mut last = 0;
+    while let Some(number) = state.next_diversion(last) {
+        put_diversion(number, state.diversion(number), writer)?;
+        last = number;
+    }
+    Ok(())
+}
+
+/// A diversion's number and the length of its text.
+fn put_diversion<W: ByteSink>(number: i32, text: &[u8], writer: &mut W) -> Result<(), DeviceFault>
+    ensures puts { Puts result (W.contents writer.old) (W.contents writer.new) (lines.diversion_line (number, text.now)) }
+    ensures counted { W.failures writer.new ≡ count_after result (W.failures writer.old) }
+{
+    let mut digits = Buffer::new();
+    let digits = digits.format(number).as_bytes();
+    let mut length = Buffer::new();
+    let length = length.format(text.len()).as_bytes();
+    put_pieces(writer, &[b"diversion ", digits, b" ", length, b"\n"])
+}
+
+/// The current number.
+fn put_current<W: ByteSink>(state: &State, writer: &mut W) -> Result<(), DeviceFault>
+    ensures puts { Puts result (W.contents writer.old) (W.contents writer.new) (steps.current_line state.now.current) }
+    ensures counted { W.failures writer.new ≡ count_after result (W.failures writer.old) }
+{
+    let mut digits = Buffer::new();
+    let digits = digits.format(state.current()).as_bytes();
+    put_pieces(writer, &[b"current ", digits, b"\n"])
+}
+
+/// The length of the issued text, if there is any.
+fn put_issued<W: ByteSink>(issued: &[u8], writer: &mut W) -> Result<(), DeviceFault>
+    ensures puts { Puts result (W.contents writer.old) (W.contents writer.new) (lines.issued_line issued.now) }
+    ensures counted { W.failures writer.new ≡ count_after result (W.failures writer.old) }
+{
+    if issued.is_empty() {
+        return Ok(());
+    }
+    let mut length = Buffer::new();
+    let length = length.format(issued.len()).as_bytes();
+    put_pieces(writer, &[b"issued ", length, b"\n"])
+}
+
+/// A word and two strings.
+fn put_two_words<W: ByteSink>(
+    word: &[u8],
+    first: &[u8],
+    second: &[u8],
+    writer: &mut W,
+) -> Result<(), DeviceFault>
+    ensures puts { Puts result (W.contents writer.old) (W.contents writer.new) (steps.two_words_line word.now first.now second.now) }
+    ensures counted { W.failures writer.new ≡ count_after result (W.failures writer.old) }
+{
+    put_word(word, first, writer)?;
+    put_word(b" ", second, writer)?;
+    put_all(writer, b"\n")
+}
+
+/// A word and a string, so that each byte of it can be seen.
+fn put_word<W: ByteSink>(word: &[u8], bytes: &[u8], writer: &mut W) -> Result<(), DeviceFault>
+    ensures puts { Puts result (W.contents writer.old) (W.contents writer.new) (steps.word_line word.now bytes.now) }
+    ensures counted { W.failures writer.new ≡ count_after result (W.failures writer.old) }
+{
+    put_all(writer, word)?;
+    if bytes.is_empty() {
+        return put_all(writer, b"\\.");
+    }
+    put_shown(bytes, writer)
+}
+
+/// The bytes, each as it is or as a backslash and two hexadecimal digits.
+fn put_shown<W: ByteSink>(bytes: &[u8], writer: &mut W) -> Result<(), DeviceFault>
+    ensures puts { Puts result (W.contents writer.old) (W.contents writer.new) (flat_map lines.show_byte bytes.now) }
+    ensures counted { W.failures writer.new ≡ count_after result (W.failures writer.old) }
+{
+    for byte in bytes {
+        put_byte(*byte, writer)?;
+    }
+    Ok(())
+}
+
+/// One byte, as it is or as a backslash and two hexadecimal digits.
+fn put_byte<W: ByteSink>(byte: u8, writer: &mut W) -> Result<(), DeviceFault>
+    ensures puts { Puts result (W.contents writer.old) (W.contents writer.new) (lines.show_byte byte) }
+    ensures counted { W.failures writer.new ≡ count_after result (W.failures writer.old) }
+{
+    if byte >= 33 && byte <= 126 && byte != b'\\' {
+        return put_all(writer, &[byte]);
+    }
+    put_all(writer, &[b'\\', hex_digit(byte / 16), hex_digit(byte % 16)])
+}
+
+/// A digit below 16, in lower case.
+fn hex_digit(digit: u8) -> u8
+    requires { digit < 16 }
+    ensures { result ≡ lines.hex_digit digit }
+{
+    if digit < 10 {
+        b'0' + digit
+    } else {
+        b'a' - 10 + digit
+    }
+}
