@@ -1,6 +1,6 @@
 -- A fault of the bytes is what the reader answers, so there is one at most.
 use Rattle.std.proofs.Common.{◌≡◌, ℕ, zero, suc, ◌+◌, ◌-◌, ◌<◌, Bool, true, false, not, eqb, List, [], ◌∷◌, ◌++◌, length, Option, Some, Result, Ok, Err, refl, sym, ap, ◌∙◌, append_assoc, arith, inl, inr}
-use Rattle.std.specs.Prelude.{IsTrue}
+use Rattle.std.specs.Prelude.{IsTrue, codes}
 use Rattle.std.proofs.lemmas.Bool.{not-true}
 use Rattle.std.proofs.lemmas.List.{length-append, append-nil}
 use Rattle.m4_frozen.specs.Ascii.{newline, hash, letter_C, letter_D, letter_F, letter_Q, letter_T, letter_V}
@@ -97,20 +97,24 @@ pub none_of : (c : ℕ) (cs : List ℕ) (b : ℕ) → IsTrue (is_none_of (c ∷ 
 none_of c cs b h = let p = both_true (not (eqb b c)) (is_none_of cs b) h in
     (not-true (eqb b c) p.0, p.1)
 
+-- the letters of directives
+abbrev letters : List ℕ
+letters = codes "CDFQTV"
+
 -- a byte that begins no directive is refused
 unknown_refused : (here : List ℕ)
-    → IsTrue (first_is (is_none_of (newline ∷ hash ∷ letter_C ∷ letter_D ∷ letter_F ∷ letter_Q ∷ letter_T ∷ letter_V ∷ [])) here)
+    → IsTrue (first_is (is_none_of (newline ∷ hash ∷ letters)) here)
     → next_at (skip_lines false here) ≡ refused kinds.UnknownDirective here
 unfolding directive_at
 unknown_refused [] h = absurd cc
 unknown_refused (b ∷ bs) h =
-    let h1 = none_of newline (hash ∷ letter_C ∷ letter_D ∷ letter_F ∷ letter_Q ∷ letter_T ∷ letter_V ∷ []) b h in
-    let h2 = none_of hash (letter_C ∷ letter_D ∷ letter_F ∷ letter_Q ∷ letter_T ∷ letter_V ∷ []) b h1.1 in
-    let h3 = none_of letter_C (letter_D ∷ letter_F ∷ letter_Q ∷ letter_T ∷ letter_V ∷ []) b h2.1 in
-    let h4 = none_of letter_D (letter_F ∷ letter_Q ∷ letter_T ∷ letter_V ∷ []) b h3.1 in
-    let h5 = none_of letter_F (letter_Q ∷ letter_T ∷ letter_V ∷ []) b h4.1 in
-    let h6 = none_of letter_Q (letter_T ∷ letter_V ∷ []) b h5.1 in
-    let h7 = none_of letter_T (letter_V ∷ []) b h6.1 in
+    let h1 = none_of newline (hash ∷ letters) b h in
+    let h2 = none_of hash letters b h1.1 in
+    let h3 = none_of letter_C (codes "DFQTV") b h2.1 in
+    let h4 = none_of letter_D (codes "FQTV") b h3.1 in
+    let h5 = none_of letter_F (codes "QTV") b h4.1 in
+    let h6 = none_of letter_Q (codes "TV") b h5.1 in
+    let h7 = none_of letter_T (codes "V") b h6.1 in
     let h8 = none_of letter_V [] b h7.1 in
     simp (h1.0, h2.0, h3.0, h4.0, h5.0, h6.0, h7.0, h8.0) refl
 

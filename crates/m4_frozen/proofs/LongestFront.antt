@@ -1,9 +1,9 @@
 -- No front is longer than one behind which a row of the table fits.
 use Rattle.std.proofs.Common.{◌≡◌, ℕ, ◌≤◌, Bool, true, false, not, eqb, List, [], ◌∷◌, ◌++◌, length, Option, Some, Result, Ok, Err, refl, sym, ap, subst, ◌∙◌, append_assoc, arith, inl, inr}
-use Rattle.std.specs.Prelude.{IsTrue}
+use Rattle.std.specs.Prelude.{IsTrue, codes}
 use Rattle.std.specs.List.{list_all}
 use Rattle.std.proofs.lemmas.List.{length-append, append-nil}
-use Rattle.m4_frozen.specs.Ascii.{newline, hash, letter_C, letter_D, letter_F, letter_Q, letter_T, letter_V}
+use Rattle.m4_frozen.specs.Ascii.{newline, hash, letter_V}
 use Rattle.m4_frozen.specs.declared.fault.Refusal.{Refusal}
 use Rattle.m4_frozen.specs.declared.fault.FrozenFault.{FrozenFault}
 use Rattle.m4_frozen.specs.declared.fault.FrozenKind.{FrozenKind}
@@ -115,7 +115,7 @@ row_stops : (kind : FrozenKind) (before here : List ℕ) → RowFits kind true b
 row_stops kinds.NoVersion before here h = absurd (let k = h.0 in cc)
 row_stops kinds.SecondVersion before here h = rw h.1 (letter_stops here h.2)
 row_stops kinds.UnknownDirective before here h =
-    rw h.1 (none_stops (letter_C ∷ letter_D ∷ letter_F ∷ letter_Q ∷ letter_T ∷ letter_V ∷ []) here h.2)
+    rw h.1 (none_stops (codes "CDFQTV") here h.2)
 row_stops kinds.Newer before here h = within_stops kinds.Newer before here h
 row_stops kinds.VersionZero before here h = within_stops kinds.VersionZero before here h
 row_stops kinds.DigitExpected before here h = within_stops kinds.DigitExpected before here h
@@ -185,7 +185,7 @@ row_max_before : (kind : FrozenKind) (front other before here rest : List ℕ) �
     → AreSkippedLines other → RowFits kind false before here
     → front ++ (before ++ here) ≡ other ++ rest → length (before ++ here) ≤ length rest
 row_max_before kinds.NoVersion front other before here rest a b (k, inl h) e =
-    lines_max front other (before ++ here) rest a b e (rw h.0 (none_stops (letter_V ∷ []) here h.1))
+    lines_max front other (before ++ here) rest a b e (rw h.0 (none_stops (codes "V") here h.1))
 row_max_before kinds.NoVersion front other before here rest a b (k, inr (inl h, is)) e =
     rw (h, is) (omega arith)
 row_max_before kinds.NoVersion front other before here rest a b (k, inr (inr h, is)) e =

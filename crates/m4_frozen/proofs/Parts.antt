@@ -279,7 +279,8 @@ module _ (blanks : List ℕ) (are : AreBlanks blanks) where
       f
 
   -- no digit behind a `-`
-  behind_minus : (bs : List ℕ) (e : Refusal) → DigitsSay bs (Err e) → number_part (minus_sign ∷ bs) (Err e)
+  behind_minus : (bs : List ℕ) (e : Refusal) → DigitsSay bs (Err e)
+      → number_part (minus_sign ∷ bs) (Err e)
   behind_minus bs e (inl h) = (
     blanks ++ minus_sign ∷ [],
     bs,
@@ -298,8 +299,8 @@ module _ (blanks : List ℕ) (are : AreBlanks blanks) where
   )
 
   -- neither digit nor `-`
-  no_minus : (b : ℕ) (bs : List ℕ) → not (is_blank b) ≡ true → eqb b minus_sign ≡ false → (e : Refusal)
-      → DigitsSay (b ∷ bs) (Err e) → number_part (b ∷ bs) (Err e)
+  no_minus : (b : ℕ) (bs : List ℕ) → not (is_blank b) ≡ true → eqb b minus_sign ≡ false
+      → (e : Refusal) → DigitsSay (b ∷ bs) (Err e) → number_part (b ∷ bs) (Err e)
   no_minus b bs apart other e (inl h) = (
     blanks,
     b ∷ bs,
@@ -334,7 +335,8 @@ module _ (blanks : List ℕ) (are : AreBlanks blanks) where
       (λ e. (blanks, b ∷ bs, (are, rw (apart, e) refl), refl, refl))
 
 -- a newline stands, or a row fits
-newline_says : (bytes : List ℕ) → PartSays NewLine bytes (expect_byte newline bytes >>= λ x. Ok (tt, x))
+newline_says : (bytes : List ℕ)
+    → PartSays NewLine bytes (expect_byte newline bytes >>= λ x. Ok (tt, x))
 newline_says [] = ([], [], (refl, refl), refl, refl)
 newline_says (b ∷ bs) =
     by_test (λ (r : Result (List ℕ) Refusal). PartSays NewLine (b ∷ bs) (r >>= λ x. Ok (tt, x)))

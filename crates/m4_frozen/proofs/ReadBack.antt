@@ -91,38 +91,53 @@ string_at-append n text rest e =
     le-ltb _ _ (omega (arith, length-append text rest)) in
     rw (long, take_at text rest n e, drop_at text rest n e) refl
 
--- the bytes of a pair, in one row
+-- what stands from the first string on, and what stands from the comma on
+abbrev strings_of : List ℕ → List ℕ → List ℕ → List ℕ
+strings_of first second rest = first ++ (second ++ newline ∷ rest)
+
+abbrev comma_on : List ℕ → List ℕ → List ℕ → List ℕ
+comma_on blanks number rest = blanks ++ comma ∷ (number ++ newline ∷ rest)
+
+-- what stands behind the letter of a pair, grouped as it is read
+abbrev pair_text : (letter : ℕ) (first second bytes : List ℕ) → IsPair letter first second bytes
+    → List ℕ → List ℕ
+pair_text letter first second bytes p rest =
+    p.first_number ++ comma_on p.blanks p.second_number (strings_of first second rest)
+
+-- the bytes of a pair are its letter and that
 pair_bytes : (letter : ℕ) (first second bytes rest : List ℕ)
     → (p : IsPair letter first second bytes)
-    → (bytes ++ rest ≡ letter
-    ∷ (p.first_number
-    ++ (p.blanks ++ comma ∷ (p.second_number ++ newline ∷ (first ++ (second ++ newline ∷ rest))))))
-pair_bytes letter first second bytes rest p = ap (λ (bs : List ℕ). bs ++ rest) p.spelled
-    ∙ simp append_assoc
+    → bytes ++ rest ≡ letter ∷ pair_text letter first second bytes p rest
+pair_bytes letter first second bytes rest p =
+    ap (λ (bs : List ℕ). bs ++ rest) p.spelled ∙ simp append_assoc
+
+-- behind blanks the comma is found
+comma_found : (blanks number rest : List ℕ) → AreBlanks blanks
+    → skip_blanks (comma_on blanks number rest) ≡ comma ∷ (number ++ newline ∷ rest)
+comma_found blanks number rest are =
+    skip_blanks-append blanks (comma ∷ (number ++ newline ∷ rest)) are
+
+-- and no digit comes before it
+comma_apart : (blanks number rest : List ℕ) → AreBlanks blanks
+    → IsTrue (no_digit_first (comma_on blanks number rest))
+comma_apart blanks number rest are = skip_apart blanks comma (number ++ newline ∷ rest) are refl
 
 -- a pair is read behind its letter
 pair_at-spelled : (letter : ℕ) (first second bytes rest : List ℕ)
     → (p : IsPair letter first second bytes)
-    → pair_at
-    (p.first_number
-    ++ (p.blanks ++ comma ∷ (p.second_number ++ newline ∷ (first ++ (second ++ newline ∷ rest))))) ≡ Ok
-    ((first, second), rest)
+    → pair_at (pair_text letter first second bytes p rest) ≡ Ok ((first, second), rest)
 unfolding pair_at
 pair_at-spelled letter first second bytes rest p =
-    let b : List ℕ = second ++ newline ∷ rest in
-    let a : List ℕ = first ++ b in
-    let blanks : skip_blanks (p.blanks ++ comma ∷ (p.second_number ++ newline ∷ a)) ≡ comma
-    ∷ (p.second_number ++ newline ∷ a) =
-    skip_blanks-append p.blanks (comma ∷ (p.second_number ++ newline ∷ a)) p.are_blanks in
+    let second_on : List ℕ = second ++ newline ∷ rest in
+    let first_on : List ℕ = first ++ second_on in
     rw (
-      length_at-number (length first) p.first_number
-          (p.blanks ++ comma ∷ (p.second_number ++ newline ∷ a)) p.first_length p.fits.0
-          (skip_apart p.blanks comma (p.second_number ++ newline ∷ a) p.are_blanks refl),
-      blanks,
-      length_at-number (length second) p.second_number (newline ∷ a) p.second_length p.fits.1 refl,
-      string_at-append (length first) first b refl,
-      string_at-append (length second) second
-          (newline ∷ rest) refl,
+      length_at-number (length first) p.first_number (comma_on p.blanks p.second_number first_on)
+          p.first_length p.fits.0 (comma_apart p.blanks p.second_number first_on p.are_blanks),
+      comma_found p.blanks p.second_number first_on p.are_blanks,
+      length_at-number (length second) p.second_number (newline ∷ first_on)
+          p.second_length p.fits.1 refl,
+      string_at-append (length first) first second_on refl,
+      string_at-append (length second) second (newline ∷ rest) refl,
     ) refl
 
 -- bytes that spell a directive begin with its letter, and the directive is read behind it
@@ -141,8 +156,7 @@ pair_is_read : (letter : ℕ) (make : List ℕ → List ℕ → Directive) (firs
     → IsRead (make first second) bytes rest
 pair_is_read letter make first second bytes rest p apart is = record {
   letter = letter;
-  behind = p.first_number
-      ++ (p.blanks ++ comma ∷ (p.second_number ++ newline ∷ (first ++ (second ++ newline ∷ rest))));
+  behind = pair_text letter first second bytes p rest;
   begins = pair_bytes letter first second bytes rest p;
   apart = apart _;
   gives = is _ ∙ rw (pair_at-spelled letter first second bytes rest p) refl;
@@ -179,45 +193,47 @@ signed_at-digits false (d ∷ ds) rest z are apart is fits =
     rw (skip_blanks-digits (d ∷ ds) rest are, no_sign)
     (magnitude_at-digits (d ∷ ds ++ rest) false (d ∷ ds) rest z are apart is fits)
 
+-- what stands behind the letter of a diversion, grouped as it is read
+abbrev diversion_text : (number : ℤ) (text bytes : List ℕ) → IsDiversion number text bytes
+    → List ℕ → List ℕ
+diversion_text number text bytes p rest =
+    p.first_number ++ comma_on p.blanks p.second_number (text ++ newline ∷ rest)
+
 -- a diversion is read behind its letter
 diversion_at-spelled : (number : ℤ) (text bytes rest : List ℕ) → (p : IsDiversion number text bytes)
-    → diversion_at
-    (p.first_number ++ (p.blanks ++ comma ∷ (p.second_number ++ newline ∷ (text ++ newline ∷ rest)))) ≡ Ok
-    ((number, text), rest)
+    → diversion_at (diversion_text number text bytes p rest) ≡ Ok ((number, text), rest)
 unfolding diversion_at
 diversion_at-spelled number text bytes rest p =
-    let a : List ℕ = text ++ newline ∷ rest in
-    let c : List ℕ = p.blanks ++ comma ∷ (p.second_number ++ newline ∷ a) in
+    let text_on : List ℕ = text ++ newline ∷ rest in
+    let c : List ℕ = comma_on p.blanks p.second_number text_on in
     let n = p.number_is in
     let start : skip_blanks (p.first_number ++ c) ≡ skip_blanks (with_sign n.minus n.digits ++ c) =
     ap (λ (bs : List ℕ). skip_blanks (bs ++ c)) n.spelled
     ∙ ap skip_blanks (append_assoc n.blanks (with_sign n.minus n.digits) c)
     ∙ skip_blanks-append n.blanks (with_sign n.minus n.digits ++ c) n.are_blanks in
-    let blanks : skip_blanks c ≡ comma ∷ (p.second_number ++ newline ∷ a) =
-    skip_blanks-append p.blanks (comma ∷ (p.second_number ++ newline ∷ a)) p.are_blanks in
     rw (
       start,
       signed_at-digits n.minus n.digits c number n.are_digits
-          (skip_apart p.blanks comma (p.second_number ++ newline ∷ a) p.are_blanks refl) n.value p.fits.0,
-      blanks,
-      length_at-number (length text) p.second_number (newline ∷ a) p.text_length p.fits.1 refl,
+          (comma_apart p.blanks p.second_number text_on p.are_blanks) n.value p.fits.0,
+      comma_found p.blanks p.second_number text_on p.are_blanks,
+      length_at-number (length text) p.second_number (newline ∷ text_on) p.text_length p.fits.1 refl,
       string_at-append (length text) text (newline ∷ rest) refl,
     ) refl
 
 -- a directive that is spelled is read
 pub one_is_read : (d : Directive) (bytes rest : List ℕ) → SpellsOne d bytes → IsRead d bytes rest
 unfolding directive_at
-one_is_read (Quotes first second) bytes rest p = pair_is_read letter_Q Quotes first second bytes rest p
-    (λ bs. refl) (λ bs. refl)
+one_is_read (Quotes first second) bytes rest p =
+    pair_is_read letter_Q Quotes first second bytes rest p (λ bs. refl) (λ bs. refl)
 one_is_read (Comments first second) bytes rest p =
     pair_is_read letter_C Comments first second bytes rest p (λ bs. refl) (λ bs. refl)
-one_is_read (Text first second) bytes rest p = pair_is_read letter_T Text first second bytes rest p
-    (λ bs. refl) (λ bs. refl)
-one_is_read (Builtin first second) bytes rest p = pair_is_read letter_F Builtin first second bytes rest p
-    (λ bs. refl) (λ bs. refl)
+one_is_read (Text first second) bytes rest p =
+    pair_is_read letter_T Text first second bytes rest p (λ bs. refl) (λ bs. refl)
+one_is_read (Builtin first second) bytes rest p =
+    pair_is_read letter_F Builtin first second bytes rest p (λ bs. refl) (λ bs. refl)
 one_is_read (Diversion number text) bytes rest p = record {
   letter = letter_D;
-  behind = p.first_number ++ (p.blanks ++ comma ∷ (p.second_number ++ newline ∷ (text ++ newline ∷ rest)));
+  behind = diversion_text number text bytes p rest;
   begins = ap (λ (bs : List ℕ). bs ++ rest) p.spelled ∙ simp append_assoc;
   apart = refl;
   gives = rw (diversion_at-spelled number text bytes rest p) refl;

@@ -90,7 +90,8 @@ zero_refused Version before here h =
 zero_refused p before here h = absurd h
 
 -- behind blanks and a sign
-minus_here : (before here : List ℕ) → IsMinus before → skip_blanks (before ++ here) ≡ minus_sign ∷ here
+minus_here : (before here : List ℕ) → IsMinus before
+    → skip_blanks (before ++ here) ≡ minus_sign ∷ here
 minus_here before here h = rw (h.2, append_assoc h.0 (minus_sign ∷ []) here)
     (skip_blanks-append h.0 (minus_sign ∷ here) h.1)
 

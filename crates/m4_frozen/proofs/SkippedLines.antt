@@ -61,8 +61,11 @@ more_text b bs e r =
 -- a line goes before the others
 more_lines : (line rest bytes : List ℕ) → IsSkippedLine line → AreSkippedLines rest
     → bytes ≡ ended line ++ rest → AreSkippedLines bytes
-more_lines line rest bytes h r e =
-    (line ∷ r.0, All-cons IsSkippedLine line r.0 h r.1, e ∙ ap (λ (xs : List ℕ). ended line ++ xs) r.2)
+more_lines line rest bytes h r e = (
+  line ∷ r.0,
+  All-cons IsSkippedLine line r.0 h r.1,
+  e ∙ ap (λ (xs : List ℕ). ended line ++ xs) r.2,
+)
 
 passed : (inside : Bool) (bytes : List ℕ) → IsTrue (are_skipped false inside bytes)
     → Passed inside bytes

@@ -373,7 +373,8 @@ directives_say (suc n) bytes lt = directives_say_of n bytes (skip_lines false by
 
 -- the version at the front, or the fault there
 abbrev pub VersionSays : List ℕ → Result (List ℕ) Refusal → Type 0
-VersionSays bytes (Ok rest) = (number : List ℕ) × IsNumber 1 number × (bytes ≡ number ++ newline ∷ rest)
+VersionSays bytes (Ok rest) = (number : List ℕ) × IsNumber 1 number
+    × (bytes ≡ number ++ newline ∷ rest)
 VersionSays bytes (Err e) = (before : List ℕ) × (here : List ℕ)
     × RowFits e.kind false (letter_V ∷ before) here × (bytes ≡ before ++ here)
     × (e.bytes_left ≡ length here)
@@ -429,7 +430,15 @@ start_says_of bytes (b ∷ bs) h =
     by_result (VersionSays bs) (StartSays bytes) (version_at bs >>= expect_byte newline)
     (version_says bs)
     (λ v k. (h.0, k.0, passed_skipped h.0 h.2, k.1, rw (e, letter, k.2) (simp append_assoc)))
-    (λ x k. (h.0, letter_V ∷ k.0, k.1, passed_skipped h.0 h.2, k.2, rw (e, letter, k.3) (simp append_assoc), k.4)))
+    (λ x k. (
+      h.0,
+      letter_V ∷ k.0,
+      k.1,
+      passed_skipped h.0 h.2,
+      k.2,
+      rw (e, letter, k.3) (simp append_assoc),
+      k.4,
+    )))
     (λ f. (
       h.0,
       [],
@@ -475,23 +484,20 @@ file_says bytes = by_bind (StartSays bytes) (FileSays bytes)
       versioned = true;
       front = h.0 ++ letter_V ∷ h.1 ++ newline ∷ k.0;
       before = k.1;
-      here =
-          k.2;
+      here = k.2;
       spelled = parts;
       is_front = (h.0, h.1, k.0, k.3, h.2, h.3, k.4, refl);
-      fits =
-          k.5;
-      place = place_of_left (h.0 ++ letter_V ∷ h.1 ++ newline ∷ k.0) k.1 k.2 bytes e.bytes_left parts k.7;
+      fits = k.5;
+      place = place_of_left (h.0 ++ letter_V ∷ h.1 ++ newline ∷ k.0) k.1 k.2 bytes e.bytes_left
+          parts k.7;
     }))
     (λ e h. record {
       versioned = false;
       front = h.0;
       before = h.1;
       here = h.2;
-      spelled =
-          h.5;
+      spelled = h.5;
       is_front = h.3;
       fits = h.4;
-      place =
-          place_of_left h.0 h.1 h.2 bytes e.bytes_left h.5 h.6;
+      place = place_of_left h.0 h.1 h.2 bytes e.bytes_left h.5 h.6;
     })

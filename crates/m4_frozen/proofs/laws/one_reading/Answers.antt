@@ -1,3 +1,4 @@
+-- The law, from `Answered`.
 use Rattle.m4_frozen.proofs.Answered as law
 use Rattle.m4_frozen.proofs.laws.one_reading.Goals as goal
 

@@ -1,3 +1,4 @@
+-- The law, from `Answered`.
 use Rattle.m4_frozen.proofs.Answered as law
 use Rattle.m4_frozen.proofs.laws.reader_steps_tied.Goals as goal
 

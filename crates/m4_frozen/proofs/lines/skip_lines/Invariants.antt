@@ -1,3 +1,4 @@
+-- What is left to skip is skipped as all was.
 use Rattle.std.proofs.Common.{◌≡◌, false, drop}
 use Rattle.m4_frozen.specs.ReaderSteps.{skip_lines}
 use Rattle.m4_frozen.proofs.lines.skip_lines.Given as goal

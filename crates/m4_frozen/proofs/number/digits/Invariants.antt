@@ -1,3 +1,4 @@
+-- The digits so far, and those that are found in what is left, are those of all.
 use Rattle.std.proofs.Common.{◌≡◌, ◌++◌, drop, take}
 use Rattle.m4_frozen.specs.ReaderSteps.{digits_at}
 use Rattle.m4_frozen.proofs.number.digits.Given as goal

@@ -1,3 +1,4 @@
+-- What is left to skip is skipped as all was.
 use Rattle.std.proofs.Common.{◌≡◌, drop}
 use Rattle.m4_frozen.specs.ReaderSteps.{skip_blanks}
 use Rattle.m4_frozen.proofs.number.skip_blanks.Given as goal

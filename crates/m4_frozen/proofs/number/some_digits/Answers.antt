@@ -1,3 +1,4 @@
+-- The digits that are found are digits.
 use Rattle.m4_frozen.proofs.Digits.{digits_are}
 use Rattle.m4_frozen.proofs.number.some_digits.Goals as goal
 

@@ -1,3 +1,4 @@
+-- Where the next digit overflows, the number is too large, since more digits only make it larger.
 use Rattle.std.proofs.Common.{◌≤◌, ◌<◌, arith}
 use Rattle.m4_frozen.proofs.Digits.{value-too_large}
 use Rattle.m4_frozen.specs.Spells.{value_of}

@@ -1,3 +1,4 @@
+-- A round ends the list, adds a directive, or refuses, as the steps do.
 use Rattle.std.proofs.Common.{◌≡◌, ◌++◌, ◌∷◌, []}
 use Rattle.std.proofs.lemmas.Result.{err_from_is_err_and}
 use Rattle.std.proofs.lemmas.List.{map_push}

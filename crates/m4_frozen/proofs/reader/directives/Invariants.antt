@@ -1,3 +1,4 @@
+-- What was read, and then what the steps read in what is left, is what they read in all.
 use Rattle.std.proofs.Common.{◌≡◌, ◌-◌}
 use Rattle.m4_frozen.specs.DirectiveView.{directives_of}
 use Rattle.m4_frozen.specs.ReaderSteps.{directives_at}
