@@ -17,7 +17,7 @@ m4r: $(SOURCES)
 check:
 	tests/promises
 	tests/examples
-	tests/frozen_page
+	tests/pages
 	rt ci
 
 # The main job on a real file, with what goes in, what comes out, and whether it is as expected.
