@@ -1,6 +1,41 @@
-# m4r: proved frozen states of GNU M4.
-.PHONY: check
+# m4r: proved frozen states of GNU M4. Needs the Rattle toolchain (`rt` on the path), nothing else.
+
+PREFIX = /usr/local
+DESTDIR =
+
+SOURCES := crates.txt $(shell find crates -name out -prune -o -type f -print)
+
+.PHONY: check demo install uninstall bench real-files
+
+# The program: proved, then built. A crate that is not proved is not built.
+m4r: $(SOURCES)
+	cd crates/m4_tool && rt run -- --help > /dev/null
+	cp crates/m4_tool/out/m4_tool m4r
 
 # Every proof from nothing, every must-fail edit, every test, and the program.
+# The last line is the gate's own: N passed, M failed.
 check:
+	tests/promises
+	tests/examples
+	tests/pages
 	rt ci
+
+# The main job on a real file, with what goes in, what comes out, and whether it is as expected.
+demo: m4r
+	tests/demo
+
+# m4r and GNU m4 side by side, in time and memory. Give BENCH=--save to keep the numbers.
+bench: m4r
+	bench/run $(BENCH)
+
+# The frozen files of autoconf, where they are installed.
+real-files: m4r
+	tests/real_files
+
+install: m4r
+	install -d $(DESTDIR)$(PREFIX)/bin $(DESTDIR)$(PREFIX)/share/man/man1
+	install -m 755 m4r $(DESTDIR)$(PREFIX)/bin/m4r
+	install -m 644 man/m4r.1 $(DESTDIR)$(PREFIX)/share/man/man1/m4r.1
+
+uninstall:
+	rm -f $(DESTDIR)$(PREFIX)/bin/m4r $(DESTDIR)$(PREFIX)/share/man/man1/m4r.1
