@@ -45,6 +45,8 @@ pub fn read_directives(
     // exact reader: else the first fault from the front, at its byte; for a reader that failed the
     // one that is settled, else the failure, behind the last byte
     ensures fault { IfFault result (λ f. IsFaultOf reader_failed bytes.now f) }
+
+    // safe and total: want of memory is at no byte, and a failure comes only from the reader
     ensures no_memory { IfErr result (λ f. f.kind ≡ kinds.OutOfMemory → f.offset ≡ 0) }
     ensures read_fault { IfErr result (λ f. f.kind ≡ kinds.Read → reader_failed ≡ true) }
 {
