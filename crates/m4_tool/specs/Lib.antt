@@ -1,2 +1,4 @@
 pub mod CommandLine
 pub mod LineSteps
+pub mod ModeFault
+pub mod Modes

@@ -1,12 +1,14 @@
 //! Why a mode did not do its work, with the line and the status that tell it.
 
-ghost use Rattle.std.specs.Prelude.{◌≡◌};
-ghost use Rattle.m4_state.specs.Device.{HasBegun, with_bytes};
+ghost use Rattle.std.specs.Prelude.{◌≡◌, ◌++◌, codes, decimal};
+ghost use Rattle.m4_state.specs.Device.{Puts, count_after};
+ghost use Rattle.m4_tool.specs.ModeFault.{line_of, text_of};
+ghost use Rattle.m4_tool.specs.declared.fault.ModeFault.TheVariants as faults;
 
 use itoa::Buffer;
 use m4_frozen::fault::{FrozenFault, FrozenKind, WriteFault};
-use m4_state::device::ByteSink;
-use m4_state::transfer::put_pieces;
+use m4_state::device::{ByteSink, DeviceFault};
+use m4_state::transfer::{put_all, put_pieces};
 
 /// What kept a mode from its work.
 #[derive(Clone, Copy, Debug, PartialEq, Eq)]
@@ -45,7 +47,7 @@ impl From<WriteFault> for ModeFault {
 }
 
 impl ModeFault {
-    ghost use Rattle.m4_tool.specs.ModeFault.{status_of_fault, line_of};
+    ghost use Rattle.m4_tool.specs.ModeFault.{status_of_fault};
 
     /// The exit status: 63 for a newer format, else 1.
     pub fn status(self) -> u8
@@ -57,20 +59,80 @@ impl ModeFault {
         }
     }
 
-    /// Puts the line that tells the fault of this file, or a beginning of it if the writer fails.
-    pub fn report<M: ByteSink>(self, file: &[u8], messages: &mut M)
-        ensures said { HasBegun (M.contents messages.old) (M.contents messages.new) (line_of file.now self) }
-        ensures whole { M.failures messages.new ≡ M.failures messages.old
-            → M.contents messages.new ≡ with_bytes (M.contents messages.old) (line_of file.now self) }
+    /// Puts the line that tells the fault of this file.
+    pub fn report<M: ByteSink>(self, file: &[u8], messages: &mut M) -> Result<(), DeviceFault>
+        ensures puts { Puts result (M.contents messages.old) (M.contents messages.new) (line_of file.now self) }
+        ensures counted { M.failures messages.new ≡ count_after result (M.failures messages.old) }
     {
-        let _put = match self {
+        match self {
             ModeFault::Frozen(fault) => put_frozen_fault(fault, file, messages),
-            ModeFault::Issues => put_pieces(
-                messages,
-                &[b"m4: ", file, b": K1 text would be issued at reload\n"],
-            ),
-            ModeFault::Write => put_pieces(messages, &[b"m4: write fault\n"]),
-            ModeFault::OutOfMemory => put_pieces(messages, &[b"m4: out of memory\n"]),
-        };
+            ModeFault::Issues => put_line(file, b"K1 text would be issued at reload", messages),
+            ModeFault::Write => put_all(messages, b"m4: write fault\n"),
+            ModeFault::OutOfMemory => put_all(messages, b"m4: out of memory\n"),
+        }
+    }
+}
+
+/// Puts the line of a frozen file's fault.
+fn put_frozen_fault<M: ByteSink>(
+    fault: FrozenFault,
+    file: &[u8],
+    messages: &mut M,
+) -> Result<(), DeviceFault>
+    ensures puts { Puts result (M.contents messages.old) (M.contents messages.new) (line_of file.now (faults.Frozen fault)) }
+    ensures counted { M.failures messages.new ≡ count_after result (M.failures messages.old) }
+{
+    let text = text_of(fault.kind);
+    match fault.kind {
+        FrozenKind::Read | FrozenKind::OutOfMemory => put_line(file, text, messages),
+        _ => put_line_at(file, text, fault.offset, messages),
+    }
+}
+
+/// A file and what is wrong with it as a whole.
+fn put_line<M: ByteSink>(file: &[u8], text: &[u8], messages: &mut M) -> Result<(), DeviceFault>
+    ensures puts { Puts result (M.contents messages.old) (M.contents messages.new)
+        (codes "m4: " ++ (file.now ++ (codes ": " ++ (text.now ++ codes "\n")))) }
+    ensures counted { M.failures messages.new ≡ count_after result (M.failures messages.old) }
+{
+    put_pieces(messages, &[b"m4: ", file, b": ", text, b"\n"])
+}
+
+/// A file and what is wrong with it at a byte.
+fn put_line_at<M: ByteSink>(
+    file: &[u8],
+    text: &[u8],
+    offset: u64,
+    messages: &mut M,
+) -> Result<(), DeviceFault>
+    ensures puts { Puts result (M.contents messages.old) (M.contents messages.new)
+        (codes "m4: " ++ (file.now ++ (codes ": " ++ (text.now
+            ++ ((codes " at byte " ++ decimal offset) ++ codes "\n"))))) }
+    ensures counted { M.failures messages.new ≡ count_after result (M.failures messages.old) }
+{
+    let mut digits = Buffer::new();
+    let digits = digits.format(offset).as_bytes();
+    put_pieces(
+        messages,
+        &[b"m4: ", file, b": ", text, b" at byte ", digits, b"\n"],
+    )
+}
+
+/// The number and the name of a kind, as the kind itself shows them.
+fn text_of(kind: FrozenKind) -> &'static [u8]
+    ensures { result.now ≡ text_of kind }
+{
+    match kind {
+        FrozenKind::NoVersion => b"F1 NoVersion",
+        FrozenKind::Newer => b"F2 Newer",
+        FrozenKind::VersionZero => b"F3 VersionZero",
+        FrozenKind::SecondVersion => b"F4 SecondVersion",
+        FrozenKind::UnknownDirective => b"F5 UnknownDirective",
+        FrozenKind::DigitExpected => b"F6 DigitExpected",
+        FrozenKind::NumberTooLarge => b"F7 NumberTooLarge",
+        FrozenKind::SeparatorExpected => b"F8 SeparatorExpected",
+        FrozenKind::PrematureEnd => b"F9 PrematureEnd",
+        FrozenKind::Read => b"F10 Read",
+        FrozenKind::OutOfMemory => b"F11 OutOfMemory",
     }
 }

@@ -4,7 +4,9 @@
 //! m4".
 #![tactic(auto)]
 
+mod fault;
 mod line;
+mod modes;
 
 use line::{Line, LineFault};
 use std::alloc::{AllocError, Global};

@@ -1,0 +1,72 @@
+-- What the modes do with the bytes of a frozen file.
+-- Believed: public contracts cite it. Words: CanonEnds, InspectEnds, Tells.
+-- own: a file that would issue text has no canonical text.
+use Rattle.std.specs.Prelude.{◌≡◌, ◌≢◌, ℕ, Bool, false, List, [], Option, Result, Ok, Err, IfSome}
+use Rattle.m4_state.specs.Device.{Script, with_bytes, count_after, one_more, HasBegun, Puts}
+use Rattle.m4_state.specs.declared.device.DeviceFault.{DeviceFault}
+use Rattle.m4_frozen.specs.declared.fault.FrozenFault.{FrozenFault}
+use Rattle.m4_frozen.specs.declared.fault.FrozenKind.TheVariants as kinds
+use Rattle.m4_frozen.specs.declared.loading.Loaded.{Loaded}
+use Rattle.m4_frozen.specs.Freeze.{freeze}
+use Rattle.m4_frozen.specs.Listing.{listing}
+use Rattle.m4_frozen.specs.Outcome.{Loads, IsFaultOf}
+use Rattle.m4_tool.specs.declared.fault.ModeFault.{ModeFault}
+use Rattle.m4_tool.specs.declared.fault.ModeFault.TheVariants as faults
+use Rattle.m4_tool.specs.ModeFault.{line_of, status_of}
+
+-- what a frozen file holds whose reader ended behind its bytes
+pub record Holds (script : Script) (loaded : Loaded) : Type 0 where
+  pub ended : script.fails ≡ false
+  pub loads : Loads script.bytes loaded
+
+-- the file is refused for this fault, unless memory was
+abbrev pub IsRefused : FrozenFault → Script → Type 0
+IsRefused fault script =
+    fault.kind ≢ kinds.OutOfMemory → IsFaultOf script.fails script.bytes fault
+
+-- how `--canon` ends, for a file that its reader tells and an output that held `old`: the canonical
+-- text of what the file holds, where nothing is issued; else nothing, or where the output failed a
+-- beginning of it
+abbrev pub CanonEnds : Result (Unit {0}) ModeFault → Script → Option (List ℕ) → Option (List ℕ) → Type 0
+CanonEnds (Ok done) script old new =
+    (l : Loaded) × Holds script l × (l.issued ≡ []) × (new ≡ with_bytes old (freeze l.state))
+CanonEnds (Err (faults.Frozen f)) script old new = (new ≡ old) × IsRefused f script
+CanonEnds (Err faults.Issues) script old new =
+    (new ≡ old) × ((l : Loaded) × Holds script l × (l.issued ≢ []))
+CanonEnds (Err faults.Write) script old new =
+    (l : Loaded) × Holds script l × (l.issued ≡ []) × HasBegun old new (freeze l.state)
+CanonEnds (Err faults.OutOfMemory) script old new = new ≡ old
+
+-- how `--inspect` ends: the lines of what the file holds, whatever is issued; else the same
+abbrev pub InspectEnds : Result (Unit {0}) ModeFault → Script → Option (List ℕ) → Option (List ℕ) → Type 0
+InspectEnds (Ok done) script old new =
+    (l : Loaded) × Holds script l × (new ≡ with_bytes old (listing l))
+InspectEnds (Err (faults.Frozen f)) script old new = (new ≡ old) × IsRefused f script
+InspectEnds (Err faults.Issues) script old new = ⊥
+InspectEnds (Err faults.Write) script old new =
+    (l : Loaded) × Holds script l × HasBegun old new (listing l)
+InspectEnds (Err faults.OutOfMemory) script old new = new ≡ old
+
+-- what stands on the messages: nothing where the mode did its work, else the line of its fault, or
+-- where the messages failed too a beginning of that line
+abbrev pub Tells : Result (Unit {0}) ModeFault → List ℕ → Option (List ℕ) → Option (List ℕ) → ℕ → ℕ → Type 0
+Tells (Ok done) file old new failures failures' = (new ≡ old) × (failures' ≡ failures)
+Tells (Err fault) file old new failures failures' =
+    (put : Result (Unit {0}) DeviceFault) × Puts put old new (line_of file fault)
+    × (failures' ≡ count_after put failures)
+
+-- a fault of a device comes only where that device failed in this call, by its count of failures
+abbrev pub IsOfDevice : Result (Unit {0}) ModeFault → ℕ → ℕ → ℕ → ℕ → Type 0
+IsOfDevice (Ok done) reads reads' writes writes' = Unit {0}
+IsOfDevice (Err (faults.Frozen f)) reads reads' writes writes' =
+    f.kind ≡ kinds.Read → reads' ≡ one_more reads
+IsOfDevice (Err faults.Issues) reads reads' writes writes' = Unit {0}
+IsOfDevice (Err faults.Write) reads reads' writes writes' = writes' ≡ one_more writes
+IsOfDevice (Err faults.OutOfMemory) reads reads' writes writes' = Unit {0}
+
+-- a mode ended in one of these ways, as its status and its messages tell
+pub record Ended (Ends : Result (Unit {0}) ModeFault → Type 0) (Says : Result (Unit {0}) ModeFault → Type 0) (answer : ℕ) : Type 0 where
+  pub end : Result (Unit {0}) ModeFault
+  pub status : answer ≡ status_of end
+  pub says : Says end
+  pub ends : Ends end

@@ -1,0 +1,113 @@
+//! The modes: the canonical text of a frozen file, and the lines of the inspector.
+//!
+//! A mode reads its file whole, writes all of its output or none of it, and says on the messages why
+//! it wrote none. An output that fails may hold a beginning.
+
+ghost use Rattle.std.specs.Prelude.{◌≡◌, IfSome};
+ghost use Rattle.m4_tool.specs.ModeFault.{status_of};
+ghost use Rattle.m4_tool.specs.Modes.{CanonEnds, InspectEnds, IsOfDevice, Tells, Ended};
+
+use crate::fault::ModeFault;
+use m4_frozen::inspector::list;
+use m4_frozen::reading::read_frozen;
+use m4_frozen::writer::write_frozen;
+use m4_state::device::{ByteSink, ByteSource};
+use std::alloc::Global;
+
+/// Writes the canonical text of the state in a frozen file, and answers the exit status.
+pub fn canon<R: ByteSource, O: ByteSink, M: ByteSink>(
+    alloc: Global,
+    file: &[u8],
+    reader: &mut R,
+    out: &mut O,
+    messages: &mut M,
+) -> u8
+    // exact writer: the canonical text of a file that is read and issues nothing, and status 0; else
+    // nothing, and the line and the status of the fault
+    // safe and total: a fault of a device comes only where that device failed in this call
+    ensures { Ended
+        (λ end. IfSome (R.script reader.old) (λ script.
+                CanonEnds end script (O.contents out.old) (O.contents out.new))
+            × IsOfDevice end (R.failures reader.old) (R.failures reader.new)
+                (O.failures out.old) (O.failures out.new))
+        (λ end. Tells end file.now (M.contents messages.old) (M.contents messages.new)
+            (M.failures messages.old) (M.failures messages.new))
+        result }
+{
+    let end = canonicalise(alloc, reader, out);
+    answer(end, file, messages)
+}
+
+/// Writes the lines that tell what a frozen file holds, and answers the exit status.
+pub fn inspect<R: ByteSource, O: ByteSink, M: ByteSink>(
+    alloc: Global,
+    file: &[u8],
+    reader: &mut R,
+    out: &mut O,
+    messages: &mut M,
+) -> u8
+    // exact writer: the lines of a file that is read, and status 0; else nothing, and the line and the
+    // status of the fault
+    // safe and total: a fault of a device comes only where that device failed in this call
+    ensures { Ended
+        (λ end. IfSome (R.script reader.old) (λ script.
+                InspectEnds end script (O.contents out.old) (O.contents out.new))
+            × IsOfDevice end (R.failures reader.old) (R.failures reader.new)
+                (O.failures out.old) (O.failures out.new))
+        (λ end. Tells end file.now (M.contents messages.old) (M.contents messages.new)
+            (M.failures messages.old) (M.failures messages.new))
+        result }
+{
+    let end = list_file(alloc, reader, out);
+    answer(end, file, messages)
+}
+
+/// The canonical text of what the reader's file holds.
+fn canonicalise<R: ByteSource, O: ByteSink>(
+    alloc: Global,
+    reader: &mut R,
+    out: &mut O,
+) -> Result<(), ModeFault>
+    ensures ends { IfSome (R.script reader.old) (λ script.
+        CanonEnds result script (O.contents out.old) (O.contents out.new)) }
+    ensures of_device { IsOfDevice result (R.failures reader.old) (R.failures reader.new)
+        (O.failures out.old) (O.failures out.new) }
+{
+    let loaded = read_frozen(alloc, reader)?;
+    if !loaded.issued.as_slice().is_empty() {
+        return Err(ModeFault::Issues);
+    }
+    write_frozen(&loaded.state, out)?;
+    Ok(())
+}
+
+/// The lines that tell what the reader's file holds.
+fn list_file<R: ByteSource, O: ByteSink>(
+    alloc: Global,
+    reader: &mut R,
+    out: &mut O,
+) -> Result<(), ModeFault>
+    ensures ends { IfSome (R.script reader.old) (λ script.
+        InspectEnds result script (O.contents out.old) (O.contents out.new)) }
+    ensures of_device { IsOfDevice result (R.failures reader.old) (R.failures reader.new)
+        (O.failures out.old) (O.failures out.new) }
+{
+    let loaded = read_frozen(alloc, reader)?;
+    list(&loaded, out)?;
+    Ok(())
+}
+
+/// The status of an end, whose fault is said on the messages.
+fn answer<M: ByteSink>(end: Result<(), ModeFault>, file: &[u8], messages: &mut M) -> u8
+    ensures status { result ≡ status_of end }
+    ensures tells { Tells end file.now (M.contents messages.old) (M.contents messages.new)
+        (M.failures messages.old) (M.failures messages.new) }
+{
+    match end {
+        Ok(()) => 0,
+        Err(fault) => {
+            let _put = fault.report(file, messages);
+            fault.status()
+        }
+    }
+}
