@@ -5,7 +5,7 @@ DESTDIR =
 
 SOURCES := crates.txt $(shell find crates -name out -prune -o -type f -print)
 
-.PHONY: check demo install uninstall bench real-files
+.PHONY: check demo install uninstall bench real-files mutants
 
 # The program: proved, then built. A crate that is not proved is not built.
 m4r: $(SOURCES)
@@ -31,6 +31,10 @@ bench: m4r
 # The frozen files of autoconf, where they are installed.
 real-files: m4r
 	tests/real_files
+
+# Damaged frozen files, made by chance, against the second reader.
+mutants: m4r
+	tests/mutants
 
 install: m4r
 	install -d $(DESTDIR)$(PREFIX)/bin $(DESTDIR)$(PREFIX)/share/man/man1

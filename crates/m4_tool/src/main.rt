@@ -4,6 +4,10 @@
 //! m4".
 #![tactic(auto)]
 
+ghost use Rattle.std.specs.Prelude.{◌≡◌, IfErr, IfOk, map, string_bytes};
+ghost use Rattle.clap.specs.Walk.{texts};
+ghost use Rattle.m4_tool.specs.CommandLine.{HasOneModeAtMost, IsRefusal, Says};
+
 mod fault;
 mod line;
 mod modes;
@@ -45,13 +49,19 @@ fn status_of_words(rt: &(impl Alloc<A = Global> + Print + Eprint), words: &[Stri
 }
 
 // The line that these words spell.
-fn line_of(alloc: Global, words: &[String]) -> Result<Line, LineFault> {
+fn line_of(alloc: Global, words: &[String]) -> Result<Line, LineFault>
+    ensures says { IfOk result (Says (map string_bytes words.now)) }
+    ensures one_mode { IfOk result HasOneModeAtMost }
+    ensures refused { IfErr result (IsRefusal (map string_bytes words.now)) }
+{
     let texts = borrowed(alloc, words)?;
     line::read_line(alloc, texts.as_slice())
 }
 
 // The same words, as `read_line` takes them.
-fn borrowed<'a>(alloc: Global, words: &'a [String]) -> Result<Vec<&'a str>, AllocError> {
+fn borrowed<'a>(alloc: Global, words: &'a [String]) -> Result<Vec<&'a str>, AllocError>
+    ensures { IfOk result (λ same. texts same.items ≡ map string_bytes words.now) }
+{
     let mut texts = Vec::new(alloc);
     for word in words {
         texts.push(word.as_str())?;
@@ -60,7 +70,9 @@ fn borrowed<'a>(alloc: Global, words: &'a [String]) -> Result<Vec<&'a str>, Allo
 }
 
 // Does what the line asks for. A line with no mode reads nothing and writes nothing.
-fn run_mode(_line: &Line) -> u8 {
+fn run_mode(_line: &Line) -> u8
+    ensures { result ≡ FAILED }
+{
     FAILED
 }
 
@@ -82,7 +94,9 @@ fn print_answer(rt: &(impl Print + Eprint), error: &clap::Error) -> u8 {
 }
 
 // Says why the words of the process could not be read.
-fn report_unread_words(rt: &impl Eprint, fault: &io::Error) -> u8 {
+fn report_unread_words(rt: &impl Eprint, fault: &io::Error) -> u8
+    ensures { result ≡ FAILED }
+{
     if fault.kind() == ErrorKind::OutOfMemory {
         report(rt, "out of memory")
     } else {
@@ -92,7 +106,9 @@ fn report_unread_words(rt: &impl Eprint, fault: &io::Error) -> u8 {
 
 // One line on standard error, and the status of a run that failed. Where standard error cannot be
 // written either, the status alone tells.
-fn report(rt: &impl Eprint, text: &str) -> u8 {
+fn report(rt: &impl Eprint, text: &str) -> u8
+    ensures { result ≡ FAILED }
+{
     let _printed = eprintln!(rt; "m4: {text}");
     FAILED
 }
