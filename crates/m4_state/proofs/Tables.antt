@@ -1,5 +1,5 @@
 -- What a table keeps under a push, and what a search in its entries says.
-use Rattle.std.proofs.Common.{◌≡◌, ◌≢◌, ℕ, ◌<◌, ◌^◌, Bool, true, false, T, List, [], ◌∷◌, ◌++◌, map, length, Option, Some, None, unwrap_or, Result, Ok, Err, zero, suc, get_or, set, refl, sym, ap, subst, ◌∙◌, arith, IfOk, IfErr}
+use Rattle.std.proofs.Common.{◌≡◌, ◌≢◌, ℕ, ◌<◌, ◌^◌, Bool, true, false, T, List, [], ◌∷◌, ◌++◌, map, length, Option, Some, None, unwrap_or, Result, Ok, Err, zero, suc, get_or, set, refl, sym, ap, subst, ◌∙◌, IfOk, IfErr}
 use Rattle.std.specs.Prelude.{IsTrue}
 use Rattle.std.specs.List.{AllByRecursion, insert}
 use Rattle.std.specs.List.Sorted.{IsSearchInRange, IsBinarySearchResult}
@@ -14,7 +14,7 @@ use Rattle.m4_state.specs.Definition.{IsDefinition, IsSizedDefinition}
 use Rattle.m4_state.specs.Entries.{pair_of, pairs_of}
 use Rattle.m4_state.specs.Place.{IsFound, IsMissing}
 use Rattle.m4_state.specs.Table.{Pair, Pairs, byte_order, stack_at, with_push, IsStack, IsSizedStack, IsTable, IsSizedTable}
-use Rattle.m4_state.proofs.Places.{Places, place, placed, searched, AllByRecursion-put, AllByRecursion-find}
+use Rattle.m4_state.proofs.Places.{Places, placed, searched, AllByRecursion-put, AllByRecursion-find}
 
 -- only equal names tie
 pub byte_order-IsAntisymmetric : IsAntisymmetric byte_order

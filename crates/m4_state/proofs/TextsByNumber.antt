@@ -1,20 +1,19 @@
 -- A `BTreeMap` of texts, seen as diversions: what its look-ups and edits say in the words of lists.
 use Rattle.std.proofs.lemmas.Option.{same_Some}
-use Rattle.std.proofs.Common.{◌≡◌, ◌≢◌, ℕ, ◌<◌, ◌^◌, ℤ, Bool, true, false, cond, ◌&&◌, not, T, List, [], ◌∷◌, ◌++◌, map, length, Option, Some, None, unwrap_or, Ordering, Less, Equal, Greater, refl, sym, ap, subst, ◌∙◌, arith, rules}
+use Rattle.std.proofs.Common.{◌≡◌, ◌≢◌, ℕ, ◌<◌, ◌^◌, ℤ, Bool, true, false, cond, ◌&&◌, not, T, List, [], ◌∷◌, ◌++◌, length, Option, Some, None, unwrap_or, Ordering, Less, Equal, Greater, refl, sym, ap, subst, ◌∙◌}
 use Rattle.std.specs.Prelude.{IsTrue, Vec, FitsSigned, int_lt, Result, Ok, Err, OnOk, OnErr, nat_eq}
 use Rattle.std.specs.Int.{w32}
 use Rattle.std.specs.List.{AllByRecursion, filter}
-use Rattle.std.specs.Option.{option_map}
 use Rattle.std.specs.Map.{lookup, set_value}
 use Rattle.std.specs.BTreeMap.{is_at, insert_entry}
 use Rattle.std.specs.Ordering.{int_cmp, is_eq, is_lt, match_ordering}
-use Rattle.std.specs.Cmp.{IsTotalOrder, int_cmp_total}
+use Rattle.std.specs.Cmp.{int_cmp_total}
 use Rattle.std.specs.FinMap.{find, put, is_sorted, int_cmp-IsAntisymmetric}
 use Rattle.std.specs.FinMap.Entries.{by_order, below_all, is_sorted-put}
 use Rattle.std.specs.declared.alloc.Global.{Global}
 use Rattle.m4_state.specs.DiversionEntries.{texts_of, diversion_of_entry}
 use Rattle.m4_state.specs.State.{Diversion, text_at, with_text, holds_text, next_after, IsDiversion, AreDiversions, AreSizedDiversions}
-use Rattle.m4_state.proofs.Places.{both, less, missed, AllByRecursion-put, AllByRecursion-find}
+use Rattle.m4_state.proofs.Places.{both, less, AllByRecursion-put}
 
 abbrev Text : Type 0
 Text = Vec ℕ Global

@@ -1,7 +1,6 @@
 -- The entries of the code's table, seen as pairs.
 -- Not believed: it only says which fields hold a pair.
-use Rattle.std.specs.Prelude.{ℕ, List, map}
-use Rattle.m4_state.specs.declared.definition.Def.{Def}
+use Rattle.std.specs.Prelude.{List, map}
 use Rattle.m4_state.specs.declared.entries.Entry.{Entry}
 use Rattle.m4_state.specs.Table.{Pair, Pairs}
 

@@ -3,7 +3,7 @@
 -- characters", "Changing the comment delimiters", "Diverting and undiverting output".
 -- Words: State, stack_of, pushed, with_quotes, with_comments, diverted, appended, IsState, IsSized.
 -- A list with rising keys is the one list of its finite map: equal states are equal records.
-use Rattle.std.specs.Prelude.{◌≡◌, ◌≢◌, ◌<◌, ◌^◌, ◌-◌, ℕ, ℤ, pos, ◌<ℤ◌, Bool, List, [], ◌∷◌, ◌++◌, length, map, Option, Some, None, IsTrue, unwrap_or, slice_get, if◌then◌else◌, FitsSigned, int_lt}
+use Rattle.std.specs.Prelude.{◌≢◌, ◌<◌, ◌^◌, ◌-◌, ℕ, ℤ, pos, Bool, List, [], ◌∷◌, ◌++◌, length, map, Option, Some, None, IsTrue, unwrap_or, slice_get, if◌then◌else◌, FitsSigned, int_lt}
 use Rattle.std.specs.Int.{w32}
 use Rattle.std.specs.List.{AllByRecursion}
 use Rattle.std.specs.Ordering.{int_cmp}

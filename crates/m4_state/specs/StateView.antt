@@ -1,6 +1,5 @@
 -- What the fields of the code's state stand for.
 -- Not believed: it only puts the fields' values into one record.
-use Rattle.std.specs.Prelude.{ℕ}
 use Rattle.m4_state.specs.State.{State}
 use Rattle.m4_state.specs.declared.state.State.TheInside.{Inside}
 

@@ -3,12 +3,12 @@
 
 ghost use Rattle.std.specs.Prelude.{◌≡◌};
 
-/// A builtin of the table.
-#[derive(Clone, Copy, Debug, PartialEq, Eq)]
+/// A builtin of the table. There is none yet, so no value is one.
+#[derive(Clone, Copy)]
 pub enum Builtin {}
 
 impl Builtin {
-    ghost use Rattle.m4_state.specs.Builtin.{builtin_named, name_of};
+    ghost use Rattle.m4_state.specs.Builtin.{builtin_named};
 
     /// The builtin of that name, if the table has it.
     pub fn by_name(name: &[u8]) -> Option<Builtin>
@@ -16,12 +16,5 @@ impl Builtin {
     {
         let _ = name;
         None
-    }
-
-    /// The builtin's own name.
-    pub fn name(self) -> &'static [u8]
-        ensures { result.now ≡ name_of self }
-    {
-        match self {}
     }
 }

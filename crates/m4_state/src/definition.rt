@@ -7,7 +7,7 @@ use crate::bytes::Bytes;
 use std::alloc::AllocError;
 
 /// A definition.
-#[derive(Debug, Drop)]
+#[derive(Drop)]
 pub enum Def {
     /// A text, which a call expands to.
     Text(Bytes),
@@ -38,7 +38,7 @@ impl Def {
     {
         match self {
             Def::Text(text) => text.as_slice().len(),
-            Def::Builtin(builtin) => builtin.name().len(),
+            Def::Builtin(builtin) => match *builtin {},
             Def::Placeholder(name) => name.as_slice().len(),
         }
     }

@@ -1,4 +1,4 @@
-use Rattle.std.proofs.Common.{◌≡◌, List, ◌++◌, ℕ, ℤ, Vec, Option, Some, None, length, ap, sym, ◌∙◌, rules, refl, subst, arith}
+use Rattle.std.proofs.Common.{◌≡◌, List, ◌++◌, ℕ, ℤ, Vec, Option, Some, None, ap, sym, ◌∙◌, rules, subst, arith}
 use Rattle.std.specs.Int.{w32}
 use Rattle.std.specs.BTreeMap.{is_at, insert_entry, BTreeMap}
 use Rattle.std.specs.Map.{lookup, set_value}

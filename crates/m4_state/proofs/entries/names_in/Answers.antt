@@ -1,4 +1,4 @@
-use Rattle.std.proofs.Common.{◌≡◌, List, map, take, ap, sym, ◌∙◌, arith, refl, []}
+use Rattle.std.proofs.Common.{List, map, ap, sym, ◌∙◌, arith}
 use Rattle.std.proofs.lemmas.List.{take_all}
 use Rattle.m4_state.specs.declared.entries.Entry.{Entry}
 use Rattle.m4_state.proofs.Tables.{names_of_pairs}

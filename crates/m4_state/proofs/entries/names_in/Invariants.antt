@@ -1,5 +1,4 @@
 use Rattle.std.proofs.Common.{◌≡◌, map, take}
-use Rattle.m4_state.specs.Entries.{pairs_of}
 use Rattle.m4_state.proofs.entries.names_in.Given as goal
 
 -- the names of the entries so far

@@ -1,7 +1,5 @@
 use Rattle.std.proofs.Common.{◌≡◌, rules, refl}
-use Rattle.std.proofs.lemmas.List.Sorted.{answers_always}
 use Rattle.std.proofs.lemmas.Fn.{answers_by}
-use Rattle.m4_state.specs.Entries.{pair_of}
 use Rattle.m4_state.specs.Table.{byte_order}
 use Rattle.m4_state.proofs.Tables.{name_placed}
 use Rattle.m4_state.proofs.entries.place_of.Goals as goal

@@ -1,4 +1,4 @@
-use Rattle.std.proofs.Common.{arith, ◌∙◌}
+use Rattle.std.proofs.Common.{◌∙◌}
 use Rattle.m4_state.proofs.CallerLaws.{HasPut-more}
 use Rattle.m4_state.proofs.transfer.put_all.Goals as goal
 

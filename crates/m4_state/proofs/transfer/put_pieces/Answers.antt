@@ -1,6 +1,5 @@
-use Rattle.std.proofs.Common.{◌≡◌, ◌++◌, ◌+◌, List, [], ℕ, drop, get_or, arith, ◌∙◌, rules}
+use Rattle.std.proofs.Common.{List, [], ℕ, ◌∙◌}
 use Rattle.std.specs.Borrow.{Bor}
-use Rattle.m4_state.specs.Device.{HasPut, joined, Puts}
 use Rattle.m4_state.proofs.CallerLaws.{HasPut-put, HasPut-cut, Puts-refused, flat_map-drop}
 use Rattle.m4_state.proofs.transfer.put_pieces.Goals as goal
 

@@ -1,4 +1,4 @@
-use Rattle.std.proofs.Common.{◌≡◌, List, ℕ, ℤ, Vec, Option, Some, None, Bool, ◌&&◌, not, false, ap, sym, ◌∙◌, rules, refl}
+use Rattle.std.proofs.Common.{◌≡◌, List, ℕ, ℤ, Vec, Some, None, ◌&&◌, not, false, ap, sym, ◌∙◌}
 use Rattle.std.specs.Int.{w32}
 use Rattle.std.specs.List.{filter}
 use Rattle.std.specs.Ordering.{int_cmp, is_lt}

@@ -1,9 +1,8 @@
-use Rattle.std.proofs.Common.{◌≡◌, List, ℕ, Some, None, ap, sym, ◌∙◌, rules, refl}
+use Rattle.std.proofs.Common.{◌≡◌, List, Some, None, ap, sym, ◌∙◌}
 use Rattle.std.specs.Int.{w32}
 use Rattle.std.specs.BTreeMap.{is_at}
 use Rattle.std.specs.Map.{lookup}
 use Rattle.std.specs.Ordering.{int_cmp}
-use Rattle.std.specs.Option.{option_copied}
 use Rattle.std.proofs.lemmas.Int.{to_z-of_z}
 use Rattle.m4_state.specs.State.{text_at, Diversion}
 use Rattle.m4_state.proofs.TextsByNumber.{find-texts_of, bytes_of}
