@@ -5,7 +5,7 @@ DESTDIR =
 
 SOURCES := crates.txt $(shell find crates -name out -prune -o -type f -print)
 
-.PHONY: check demo install uninstall bench real-files mutants
+.PHONY: check demo install uninstall bench real-files mutants refused-memory
 
 # The program: proved, then built. A crate that is not proved is not built.
 m4r: $(SOURCES)
@@ -35,6 +35,10 @@ real-files: m4r
 # Damaged frozen files, made by chance, against the second reader.
 mutants: m4r
 	tests/mutants
+
+# Each request for memory of a run refused in turn.
+refused-memory: m4r
+	tests/refused_memory
 
 install: m4r
 	install -d $(DESTDIR)$(PREFIX)/bin $(DESTDIR)$(PREFIX)/share/man/man1
