@@ -1,8 +1,7 @@
 -- The lines and statuses that tell why a mode did not do its work.
 -- Believed. Words: line_of, status_of_fault, status_of.
 -- own: all of it; the manual has no such modes.
-use Rattle.std.specs.Prelude.{ℕ, Bool, List, [], ◌++◌, codes, decimal, Result, Ok, Err}
-use Rattle.m4_frozen.specs.declared.fault.FrozenFault.{FrozenFault}
+use Rattle.std.specs.Prelude.{ℕ, List, [], ◌++◌, codes, decimal, Result, Ok, Err}
 use Rattle.m4_frozen.specs.declared.fault.FrozenKind.{FrozenKind}
 use Rattle.m4_frozen.specs.declared.fault.FrozenKind.TheVariants as kinds
 use Rattle.m4_frozen.specs.declared.fault.WriteFault.{WriteFault}

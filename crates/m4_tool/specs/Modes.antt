@@ -1,7 +1,7 @@
 -- What the modes do with the bytes of a frozen file.
 -- Believed: public contracts cite it. Words: CanonEnds, InspectEnds, Tells.
 -- own: a file that would issue text has no canonical text.
-use Rattle.std.specs.Prelude.{◌≡◌, ◌≢◌, ℕ, Bool, false, List, [], Option, Result, Ok, Err, IfSome}
+use Rattle.std.specs.Prelude.{◌≡◌, ◌≢◌, ℕ, false, List, [], Option, Result, Ok, Err}
 use Rattle.m4_state.specs.Device.{Script, with_bytes, count_after, one_more, HasBegun, Puts}
 use Rattle.m4_state.specs.declared.device.DeviceFault.{DeviceFault}
 use Rattle.m4_frozen.specs.declared.fault.FrozenFault.{FrozenFault}

@@ -107,7 +107,7 @@ fn put_line_at<M: ByteSink>(
 ) -> Result<(), DeviceFault>
     ensures puts { Puts result (M.contents messages.old) (M.contents messages.new)
         (codes "m4: " ++ (file.now ++ (codes ": " ++ (text.now
-            ++ ((codes " at byte " ++ decimal offset) ++ codes "\n"))))) }
+        ++ ((codes " at byte " ++ decimal offset) ++ codes "\n"))))) }
     ensures counted { M.failures messages.new ≡ count_after result (M.failures messages.old) }
 {
     let mut digits = Buffer::new();
@@ -136,3 +136,6 @@ fn text_of(kind: FrozenKind) -> &'static [u8]
         FrozenKind::OutOfMemory => b"F11 OutOfMemory",
     }
 }
+
+#[cfg(test)]
+mod tests;

@@ -16,11 +16,10 @@ use line::{Line, LineFault};
 use m4_state::standard::{StdSink, StdSource};
 use std::alloc::{AllocError, Global};
 use std::env::Env;
-use std::fs;
-use std::io;
 use std::io::{BufReader, BufWriter, ErrorKind, Read, Write};
-use std::rt::Files;
 use std::process::ExitCode;
+use std::rt::Files;
+use std::{fs, io};
 
 // The status of a run that did not do what its line asked for.
 const FAILED: u8 = 1;
@@ -112,8 +111,10 @@ fn run_mode<E: Write + Drop>(
     file: &str,
 ) -> u8 {
     match fs::open(rt, file) {
-        Ok(opened) => run_opened(rt, errors, mode, file, opened)
-            .unwrap_or_else(|_refused| report(rt, "out of memory")),
+        Ok(opened) => run_opened(rt, errors, mode, file, opened).unwrap_or_else(|_refused| report(
+            rt,
+            "out of memory",
+        )),
         Err(_fault) => {
             let _printed = eprintln!(rt; "m4: cannot open `{file}'");
             FAILED

@@ -27,11 +27,11 @@ pub fn canon<R: ByteSource, O: ByteSink, M: ByteSink>(
     // safe and total: a fault of a device comes only where that device failed in this call
     ensures { Ended
         (λ end. IfSome (R.script reader.old) (λ script.
-                CanonEnds end script (O.contents out.old) (O.contents out.new))
-            × IsOfDevice end (R.failures reader.old) (R.failures reader.new)
-                (O.failures out.old) (O.failures out.new))
+        CanonEnds end script (O.contents out.old) (O.contents out.new))
+        × IsOfDevice end (R.failures reader.old) (R.failures reader.new)
+        (O.failures out.old) (O.failures out.new))
         (λ end. Tells end file.now (M.contents messages.old) (M.contents messages.new)
-            (M.failures messages.old) (M.failures messages.new))
+        (M.failures messages.old) (M.failures messages.new))
         result }
 {
     let end = canonicalise(alloc, reader, out);
@@ -51,11 +51,11 @@ pub fn inspect<R: ByteSource, O: ByteSink, M: ByteSink>(
     // safe and total: a fault of a device comes only where that device failed in this call
     ensures { Ended
         (λ end. IfSome (R.script reader.old) (λ script.
-                InspectEnds end script (O.contents out.old) (O.contents out.new))
-            × IsOfDevice end (R.failures reader.old) (R.failures reader.new)
-                (O.failures out.old) (O.failures out.new))
+        InspectEnds end script (O.contents out.old) (O.contents out.new))
+        × IsOfDevice end (R.failures reader.old) (R.failures reader.new)
+        (O.failures out.old) (O.failures out.new))
         (λ end. Tells end file.now (M.contents messages.old) (M.contents messages.new)
-            (M.failures messages.old) (M.failures messages.new))
+        (M.failures messages.old) (M.failures messages.new))
         result }
 {
     let end = list_file(alloc, reader, out);

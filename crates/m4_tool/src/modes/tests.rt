@@ -8,6 +8,7 @@ use std::process::Abort;
 use std::test::Fail;
 
 const HEADER: &str = "# m4 frozen state\nV1\n";
+
 const END_LINE: &str = "# End of frozen state file\n";
 
 // A file, and what its canonical text has between the header and the end line.
