@@ -1,0 +1,4 @@
+pub mod Bounds
+pub mod Beside
+pub mod MachineIsNesting
+pub mod TurnsCounted

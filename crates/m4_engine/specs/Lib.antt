@@ -1,0 +1,3 @@
+pub mod Nesting
+pub mod OpenCalls
+pub mod Laws
