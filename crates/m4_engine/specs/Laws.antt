@@ -1,8 +1,18 @@
 -- What holds of the definitions alone: the laws of expansions and runs.
 -- Believed as statements; the functions of the module `laws` carry their proofs.
--- Words: ExpansionRules.
-use Rattle.std.specs.Prelude.{◌≡◌, ℕ}
+-- Words: ExpansionRules, ExpandRules, OneStart, SameDenotation, SettledBegins.
+use Rattle.std.specs.Prelude.{◌≡◌, ◌≢◌, ◌↔◌, ℕ, Bool, List, ◌∷◌, ◌++◌, Option, Some}
+use Rattle.m4_frozen.specs.Directive.{Directive}
+use Rattle.m4_frozen.specs.Spells.{Spells}
+use Rattle.m4_frozen.specs.Denote.{denote}
+use Rattle.m4_engine.specs.declared.options.Options.{Options}
 use Rattle.m4_engine.specs.Nesting.{Turn, Outcome, after, expansion, Falls}
+use Rattle.m4_engine.specs.Expansion.{Expansion, Kept, Ended, WantsMore}
+use Rattle.m4_engine.specs.Expand.{turn, join, expand}
+use Rattle.m4_engine.specs.File.{Source, Opened}
+use Rattle.m4_engine.specs.Start.{Start, IsStart, start_of}
+use Rattle.m4_engine.specs.Run.{RunResult, run, run_from}
+use Rattle.m4_engine.specs.Settled.{SettledSoFar, settled}
 
 -- where the bounds are enough, an expansion is what follows its first turn, with no bound in sight
 abbrev pub ExpansionRules : Type 0 → Type 0 → Type 0 → Type 0
@@ -12,3 +22,38 @@ ExpansionRules S F D =
     → (s : S)
     → expansion S F D turn join spent size left s
     ≡ after S F D join (expansion S F D turn join spent size left) (expansion S F D turn join spent size left) (turn s)
+
+-- x is a beginning of y, perhaps all of it
+abbrev pub IsBeginning : List ℕ → List ℕ → Type 0
+IsBeginning x y = (rest : List ℕ) × (y ≡ x ++ rest)
+
+-- each expansion is what its turns say
+abbrev pub ExpandRules : Type 0
+ExpandRules = (s : Expansion) → expand s ≡ after Expansion Kept Ended join expand expand (turn s)
+
+-- the start of each run is one, and it is the one that the definition of a run takes
+abbrev pub OneStart : Type 0
+OneStart =
+    (prefix : Bool) (frozen : Option (List ℕ)) (start : Start)
+    → IsStart prefix frozen start ↔ (start ≡ start_of prefix frozen)
+
+-- frozen files that spell directives of one state and one issued text give the same run
+abbrev pub SameDenotation : Type 0
+SameDenotation =
+    (o : Options) (a b : List ℕ) (ds es : List Directive) (sources : List Source)
+    → Spells ds a → Spells es b → denote ds ≡ denote es
+    → run o (Some a) sources ≡ run o (Some b) sources
+
+-- what a beginning settled is a beginning of what the run writes, and a run whose end it decides ends
+-- so, with nothing more
+pub record AreSettled (s : SettledSoFar) (r : RunResult) : Type 0 where
+  pub output : IsBeginning s.output r.output
+  pub messages : IsBeginning s.messages r.messages
+  pub ending : s.how ≢ WantsMore → (r.how ≡ s.how) × (r.output ≡ s.output) × (r.messages ≡ s.messages)
+
+-- what w settles stands whatever bytes follow it and whatever sources come later
+abbrev pub SettledBegins : Type 0
+SettledBegins =
+    (o : Options) (start : Start) (before : List Source) (name w more : List ℕ) (later : List Source)
+    → AreSettled (settled o start before name w)
+    (run_from o start (before ++ Opened name (w ++ more) ∷ later))

@@ -4,4 +4,6 @@
 //! Manual: "Macro invocation", "Macro arguments".
 #![tactic(auto)]
 
+pub mod ending;
 pub mod laws;
+pub mod options;
