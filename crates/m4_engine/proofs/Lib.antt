@@ -6,3 +6,4 @@ pub mod CallsFall
 pub mod ByRules
 pub mod Growth
 pub mod OnlyGrows
+pub mod Continues

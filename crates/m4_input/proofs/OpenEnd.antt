@@ -1,5 +1,5 @@
 -- OpenEnd: what an open end decides, more bytes don't change.
-use Rattle.std.proofs.Common.{◌≡◌, ◌⊎◌, inl, inr, ⊎_elim, Option, ℕ, zero, suc, ◌+◌, ◌-◌, ◌<◌, ◌≤◌, Bool, true, false, ◌&&◌, ◌||◌, eqb, eq-eqb, List, [], ◌∷◌, ◌++◌, length, take, drop, Some, None, refl, sym, ap, ◌∙◌, subst, arith, length-append, length-drop}
+use Rattle.std.proofs.Common.{◌≡◌, ◌≢◌, ◌⊎◌, inl, inr, ⊎_elim, Option, ℕ, zero, suc, ◌+◌, ◌-◌, ◌<◌, ◌≤◌, Bool, true, false, ◌&&◌, ◌||◌, eqb, eq-eqb, List, [], ◌∷◌, ◌++◌, length, take, drop, Some, None, refl, sym, ap, ◌∙◌, subst, arith, length-append, length-drop}
 use Rattle.std.specs.Prelude.{nat_lt}
 use Rattle.std.proofs.lemmas.Bool.Decides.{nat_tests}
 use Rattle.std.proofs.lemmas.Bool.{eqb-true}
@@ -395,3 +395,38 @@ paren_in_stays q c p (b ∷ y) z =
       either_false _ _ (no_start_stays (is_enabled c) c.begin (b ∷ y) z g.0 h.0) (no_start_stays (is_enabled q) q.begin (b ∷ y) z g.1 h.1),
       either_false _ _ (no_cut_stays p (is_enabled c) c.begin (b ∷ y) z h.0) (no_cut_stays p (is_enabled q) q.begin (b ∷ y) z h.1),
     ))
+
+-- a scan that doesn't find the end of the input
+unfoldable pub NoEnd : Scan → Type 0
+NoEnd (Found t n) = t ≢ End
+NoEnd (Broken what) = Unit {0}
+NoEnd NeedsMore = Unit {0}
+
+comment_no_end : (c : Delimiters) (x : List ℕ) (o : Option ℕ) → NoEnd (comment_found c true x o)
+unfolding NoEnd
+comment_no_end c x None = tt
+comment_no_end c x (Some n) = λ e. cc
+
+name_no_end : (v : Bool) (n : ℕ) (x : List ℕ) → NoEnd (name_unless v n x)
+unfolding NoEnd
+name_no_end true n x = tt
+name_no_end false n x = λ e. cc
+
+string_no_end : (q : Delimiters) (y : List ℕ) (o : Option ℕ) → NoEnd (string_found q true y o)
+unfolding NoEnd
+string_no_end q y None = tt
+string_no_end q y (Some n) = λ e. cc
+
+kind_no_end : (k : Kind) (q c : Delimiters) (b : ℕ) (y : List ℕ) → NoEnd (scan_kind k q c true b y)
+unfolding NoEnd
+kind_no_end CommentHere q c b y = comment_no_end c (b ∷ y) (before c.end (drop (length c.begin) (b ∷ y)))
+kind_no_end NameHere q c b y = name_no_end _ (run_length is_name_byte (b ∷ y)) (b ∷ y)
+kind_no_end StringHere q c b y = string_no_end q (drop (length q.begin) (b ∷ y)) (level q true 0 0 (drop (length q.begin) (b ∷ y)))
+kind_no_end ByteHere q c b y = λ e. cc
+kind_no_end Undecided q c b y = tt
+
+-- an open end is never the end of the input
+pub scan_no_end : (q c : Delimiters) (x : List ℕ) → NoEnd (scan q c true x)
+unfolding NoEnd
+scan_no_end q c [] = tt
+scan_no_end q c (b ∷ y) = kind_no_end (kind_of q c true b y) q c b y
