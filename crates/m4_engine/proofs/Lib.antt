@@ -7,3 +7,4 @@ pub mod ByRules
 pub mod Growth
 pub mod OnlyGrows
 pub mod Continues
+pub mod OnePass

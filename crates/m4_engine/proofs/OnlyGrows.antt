@@ -46,7 +46,7 @@ extends_more a b c f g = record {
 writes : (a b : RunSoFar) (x y : List ℕ) → b.output ≡ a.output ++ x → b.messages ≡ a.messages ++ y → Extends a b
 writes a b x y e f = record { more = x; output = e; told = y; messages = f }
 
-tells : (a b : RunSoFar) (y : List ℕ) → b.output ≡ a.output → b.messages ≡ a.messages ++ y → Extends a b
+pub tells : (a b : RunSoFar) (y : List ℕ) → b.output ≡ a.output → b.messages ≡ a.messages ++ y → Extends a b
 tells a b y e f = writes a b [] y (e ∙ sym (append-nil a.output)) f
 
 puts : (a b : RunSoFar) (x : List ℕ) → b.output ≡ a.output ++ x → b.messages ≡ a.messages → Extends a b

@@ -32,17 +32,16 @@ read_saved limits saved p =
     after_input (expand_input limits (record p.so_far { saved = [] }) (wrapped_pending (joined_back saved)))
     p.missed
 
+-- the next round, behind which `go` goes on: none where the run is over, or no text is saved
+abbrev pub next_round : (Progress → Progress) → Limits → Option How → List (List ℕ) → Progress → Progress
+next_round go limits (Some how) saved p = p
+next_round go limits None [] p = p
+next_round go limits None (x ∷ xs) p = go (read_saved limits (x ∷ xs) p)
+
 -- at most n rounds
 abbrev pub rounds : ℕ → Limits → Progress → Progress
 rounds zero limits p = p
-rounds (suc n) limits p =
-    elim p.over [
-      | Some how ↦ p
-      | None ↦ elim (p.so_far).saved [
-        | [] ↦ p
-        | x ∷ xs ↦ rounds n limits (read_saved limits (x ∷ xs) p)
-      ]
-    ]
+rounds (suc n) limits p = next_round (rounds n limits) limits p.over (p.so_far).saved p
 
 -- a run behind its saved texts: a round that saves text makes a call, so that one round more than
 -- there may be calls is enough

@@ -2,9 +2,20 @@
 //!
 //! Each function's contract is a law of `specs/Laws.antt`.
 
-ghost use Rattle.m4_engine.specs.Laws.{ExpansionRules};
+ghost use Rattle.m4_engine.specs.Laws.{ExpansionRules, ExpandRules, SettledBegins};
 
 /// An expansion whose calls nest is what its turns say, and no bound on them is ever reached.
 pub fn expansion_rules<S, F, D>()
     ensures { ExpansionRules S F D }
+{}
+
+/// The expansion of an input is what its turns say.
+pub fn expand_rules()
+    ensures { ExpandRules }
+{}
+
+/// What a beginning of an input settles is a beginning of what the run writes, whatever follows;
+/// and where it decides how the run ends, the run ends so and writes nothing more.
+pub fn settled_begins()
+    ensures { SettledBegins }
 {}
