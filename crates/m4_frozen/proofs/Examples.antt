@@ -1,10 +1,15 @@
--- Worked rows: what some bytes spell, and which fault some others have, by hand from the format.
--- Each is computed by the reader's steps, and carried over to the grammar and the table of faults.
-use Rattle.std.proofs.Common.{ℕ, List, [], ◌∷◌, refl}
+-- Worked rows: what some bytes spell, which fault some others have, and what a file holds, by hand
+-- from the format. Each is computed: what bytes spell and their faults by the reader's steps, and
+-- carried over to the grammar and the table of faults.
+use Rattle.std.proofs.Common.{◌≡◌, ℕ, List, [], ◌∷◌, ◌++◌, refl}
 use Rattle.std.specs.Prelude.{codes, pos, negsuc}
+use Rattle.std.specs.Fmt.{digits}
 use Rattle.m4_frozen.specs.declared.fault.FrozenKind.{FrozenKind}
 use Rattle.m4_frozen.specs.declared.fault.FrozenKind.TheVariants as kinds
-use Rattle.m4_frozen.specs.Directive.{Quotes, Comments, Text, Builtin, Diversion}
+use Rattle.m4_frozen.specs.Directive.{Directive, Quotes, Comments, Text, Builtin, Diversion}
+use Rattle.m4_frozen.specs.Denote.{denote}
+use Rattle.m4_frozen.specs.Freeze.{freeze}
+use Rattle.m4_frozen.specs.Listing.{listing}
 use Rattle.m4_frozen.specs.Spells.{Spells}
 use Rattle.m4_frozen.specs.FaultAt.{FaultAt, IsFaultOfFailed}
 use Rattle.m4_frozen.specs.ReaderSteps.{file_at, length_at, version_at, string_at, pair_at, diversion_at, directive_at, directives_at}
@@ -306,3 +311,141 @@ separator_is_settled = failed_answer_is_fault (codes "V1\nT1,1\nabc")
 pub digit_is_settled : FailsWith (codes "V1\nD-x") kinds.DigitExpected 5
 unfolding file_at length_at version_at string_at pair_at diversion_at directive_at directives_at
 digit_is_settled = failed_answer_is_fault (codes "V1\nD-x")
+
+-- What files hold: the canonical text of the state that they leave, and the inspector's lines.
+
+-- the bytes are read, and between the first two lines and the last one the canonical text of the
+-- state that they leave is this
+abbrev Canonises : List ℕ → List ℕ → Type 0
+Canonises bytes text =
+    (ds : List Directive) × Spells ds bytes
+    × (freeze (denote ds).state
+    ≡ codes "# m4 frozen state\nV1\n" ++ text ++ codes "# End of frozen state file\n")
+
+-- and the inspector lists the lines of this text
+abbrev Shows : List ℕ → List ℕ → Type 0
+Shows bytes lines =
+    (ds : List Directive) × Spells ds bytes × (listing (denote ds) ≡ lines)
+
+-- the names in byte order, and the definitions of a name in the order in which they came
+pub names_in_byte_order : Canonises
+    (codes "V1\nT1,1\nbx\nT1,1\nay\nT1,1\nbz\n")
+    (codes "T1,1\nay\nT1,1\nbx\nT1,1\nbz\n")
+unfolding file_at length_at version_at string_at pair_at diversion_at directive_at directives_at digits
+names_in_byte_order = (
+  Text (codes "b") (codes "x") ∷ Text (codes "a") (codes "y") ∷ Text (codes "b") (codes "z") ∷ [],
+  (read_is_spelled _ _).0 refl,
+  refl,
+)
+
+-- a begin without an end has the default end, and an end without a begin disables
+pub halves_of_delimiters : Canonises
+    (codes "V1\nQ1,0\n[\nC0,1\n#\n")
+    (codes "Q1,1\n['\nC0,0\n\n")
+unfolding file_at length_at version_at string_at pair_at diversion_at directive_at directives_at digits
+halves_of_delimiters = (
+  Quotes (codes "[") [] ∷ Comments [] (codes "#") ∷ [],
+  (read_is_spelled _ _).0 refl,
+  refl,
+)
+
+-- a name with a newline, and a text that looks like a comment
+pub strings_with_any_bytes : Canonises (codes "V1\nT2,3\na\n# b\n") (codes "T2,3\na\n# b\n")
+unfolding digits
+strings_with_any_bytes =
+    (Text (codes "a\n") (codes "# b") ∷ [], a_comment_in_a_string, refl)
+
+-- the last quotes are the default ones, so they aren't written
+pub the_last_quotes_stand : Canonises (codes "V1\nQ1,1\n[]\nQ1,1\n`'\n# c") []
+unfolding digits
+the_last_quotes_stand = (
+  Quotes (codes "[") (codes "]") ∷ Quotes (codes "`") (codes "'") ∷ [],
+  an_open_last_comment,
+  refl,
+)
+
+-- blanks and leading zeros are gone
+pub no_blanks_and_zeros : Canonises (codes "V1\nT1 , 01\nab\n") (codes "T1,1\nab\n")
+unfolding digits
+no_blanks_and_zeros = (Text (codes "a") (codes "b") ∷ [], blanks_and_zeros, refl)
+
+-- the usual producer's text: other comments, and comment delimiters that are the defaults
+pub the_usual_producer_again : Canonises
+    (codes "# any\nV1\nC1,1\n#\n\n\n\nF3,3\ndnldnl\nF6,6\nformatformat\n# End of frozen state file\n")
+    (codes "F3,3\ndnldnl\nF6,6\nformatformat\n")
+unfolding digits
+the_usual_producer_again = (
+  Comments (codes "#") (codes "\n")
+      ∷ Builtin (codes "dnl") (codes "dnl")
+      ∷ Builtin (codes "format") (codes "format")
+      ∷ [],
+  the_usual_producer,
+  refl,
+)
+
+-- text of number 0 and of a negative number is gone, that of a positive one is joined, and the
+-- number that is current is written behind the last diversion
+abbrev pub diverted_bytes : List ℕ
+diverted_bytes = codes "V1\nD0,2\nab\nD0,1\nc\nD2,1\nx\nD2,1\ny\nD-1,2\nzz\n"
+
+abbrev diverted : List Directive
+diverted =
+    Diversion (pos 0) (codes "ab")
+    ∷ Diversion (pos 0) (codes "c")
+    ∷ Diversion (pos 2) (codes "x")
+    ∷ Diversion (pos 2) (codes "y")
+    ∷ Diversion (negsuc 0) (codes "zz")
+    ∷ []
+
+diverted_spelled : Spells diverted diverted_bytes
+unfolding file_at length_at version_at string_at pair_at diversion_at directive_at directives_at
+diverted_spelled = (read_is_spelled _ _).0 refl
+
+pub diversions_joined : Canonises diverted_bytes (codes "D2,2\nxy\nD-1,0\n\n")
+unfolding digits
+diversions_joined = (diverted, diverted_spelled, refl)
+
+pub text_of_zero_is_issued : (denote diverted).issued ≡ codes "abc"
+text_of_zero_is_issued = refl
+
+-- number 0 is current again, so it is written
+pub back_to_number_zero : Canonises
+    (codes "V1\nD1,1\nx\nD0,0\n\n")
+    (codes "D1,1\nx\nD0,0\n\n")
+unfolding file_at length_at version_at string_at pair_at diversion_at directive_at directives_at digits
+back_to_number_zero = (
+  Diversion (pos 1) (codes "x") ∷ Diversion (pos 0) [] ∷ [],
+  (read_is_spelled _ _).0 refl,
+  refl,
+)
+
+pub diversions_shown : Shows
+    diverted_bytes
+    (codes "quotes ` '\ncomments # \\0a\ndiversion 2 2\ncurrent -1\nissued 3\n")
+unfolding digits
+diversions_shown = (diverted, diverted_spelled, refl)
+
+-- a line for each definition; no builtin is in the table yet, so each is a placeholder
+pub definitions_shown : Shows
+    (codes "V1\nT1,1\nab\nF3,5\ncutshift\nD2,4\ntwo\n\n")
+    (codes "quotes ` '\ncomments # \\0a\ntext a 1\nplaceholder cut shift\ndiversion 2 4\ncurrent 2\n")
+unfolding file_at length_at version_at string_at pair_at diversion_at directive_at directives_at digits
+definitions_shown = (
+  Text (codes "a") (codes "b")
+      ∷ Builtin (codes "cut") (codes "shift")
+      ∷ Diversion (pos 2) (codes "two\n")
+      ∷ [],
+  (read_is_spelled _ _).0 refl,
+  refl,
+)
+
+-- disabled delimiters, a name that is a blank, and one that is empty
+pub nothing_shown : Shows
+    (codes "V1\nQ0,0\n\nC0,0\n\nT1,0\n \nT0,0\n\n")
+    (codes "quotes none\ncomments none\ntext \\. 0\ntext \\20 0\ncurrent 0\n")
+unfolding file_at length_at version_at string_at pair_at diversion_at directive_at directives_at digits
+nothing_shown = (
+  Quotes [] [] ∷ Comments [] [] ∷ Text (codes " ") [] ∷ Text [] [] ∷ [],
+  (read_is_spelled _ _).0 refl,
+  refl,
+)

@@ -14,3 +14,7 @@ pub mod Answered
 pub mod Examples
 pub mod FreezeParts
 pub mod ListingParts
+pub mod CanonicalSpelled
+pub mod CanonicalDenoted
+pub mod LastPlace
+pub mod RoundTrip

@@ -1,10 +1,14 @@
--- What holds of the definitions alone: the grammar and the table of faults decide each file.
+-- What holds of the definitions alone: the grammar and the table of faults decide each file, and
+-- the canonical text of a state loads as that state.
 -- Believed as statements; the functions of the module `laws` carry their proofs.
--- Words: OneReading, OneAnswer, TiesReaderSteps.
-use Rattle.std.specs.Prelude.{◌≡◌, ◌↔◌, ℕ, List, ◌⊎◌, Ok, Err}
+-- Words: OneReading, OneAnswer, TiesReaderSteps, FreezeLoads, CanonAgain.
+use Rattle.std.specs.Prelude.{◌≡◌, ◌↔◌, ℕ, List, [], ◌⊎◌, Ok, Err}
+use Rattle.m4_state.specs.State.{State, IsState, IsSized}
 use Rattle.m4_frozen.specs.declared.fault.FrozenFault.{FrozenFault}
 use Rattle.m4_frozen.specs.declared.fault.Refusal.{Refusal}
+use Rattle.m4_frozen.specs.Denote.{denote}
 use Rattle.m4_frozen.specs.Directive.{Directive}
+use Rattle.m4_frozen.specs.Freeze.{freeze}
 use Rattle.m4_frozen.specs.Spells.{Spells}
 use Rattle.m4_frozen.specs.FaultAt.{FaultAt, IsFaultOfFailed}
 use Rattle.m4_frozen.specs.ReaderSteps.{file_at, fault_of, failed_answer}
@@ -51,3 +55,21 @@ pub record AreTied (bytes : List ℕ) : Type 0 where
 -- the reader's steps are tied to the definitions at all bytes
 abbrev pub TiesReaderSteps : Type 0
 TiesReaderSteps = (bytes : List ℕ) → AreTied bytes
+
+-- some directives are spelled by the canonical text of a state, they denote that state with nothing
+-- issued, and no others are spelled by it
+pub record LoadsBack (s : State) : Type 0 where
+  pub directives : List Directive
+  pub spelled : Spells directives (freeze s)
+  pub denoted : denote directives ≡ record { state = s; issued = [] }
+  pub only : (others : List Directive) → Spells others (freeze s) → others ≡ directives
+
+-- the canonical text of a state that is in order and sized loads as that state
+abbrev pub FreezeLoads : Type 0
+FreezeLoads = (s : State) → IsState s → IsSized s → LoadsBack s
+
+-- so a canonical text comes back byte for byte
+abbrev pub CanonAgain : Type 0
+CanonAgain =
+    (s : State) (ds : List Directive)
+    → IsState s → IsSized s → Spells ds (freeze s) → freeze (denote ds).state ≡ freeze s

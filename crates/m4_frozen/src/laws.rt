@@ -2,7 +2,7 @@
 //!
 //! Each function's contract is a law of `specs/Laws.antt`. Manual: "Frozen file format".
 
-ghost use Rattle.m4_frozen.specs.Laws.{OneReading, OneAnswer, OneAnswerOfFailed, TiesReaderSteps};
+ghost use Rattle.m4_frozen.specs.Laws.{OneReading, OneAnswer, OneAnswerOfFailed, TiesReaderSteps, FreezeLoads, CanonAgain};
 
 /// The same bytes hold one list of directives.
 pub fn one_reading()
@@ -22,4 +22,17 @@ pub fn one_answer_of_failed()
 /// The reader's own steps answer what the grammar and the table of faults say.
 pub fn reader_steps_tied()
     ensures { TiesReaderSteps }
+{}
+
+/// The canonical text of a state loads as that state with nothing issued, and spells nothing else.
+/// Manual: "Fast loading of frozen state".
+pub fn freeze_loads()
+    // canonical round trip: text, directives and state go into each other
+    ensures { FreezeLoads }
+{}
+
+/// A canonical text that is loaded and frozen again comes back byte for byte.
+pub fn canon_again()
+    // canonical round trip: freezing what was loaded gives the same bytes
+    ensures { CanonAgain }
 {}

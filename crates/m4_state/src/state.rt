@@ -45,6 +45,7 @@ impl State {
 
     /// No names, no diversions, the default delimiters.
     pub fn empty(alloc: Global) -> Result<State, StateFault>
+        // exact steps: the empty record
         ensures { IfOk result (λ s. s ≡ empty) }
     {
         Ok(State {
@@ -86,6 +87,7 @@ impl State {
     /// The definitions of a name, the oldest first; none where it has none. Takes time in
     /// proportion to the name and to the logarithm of the number of names.
     pub fn stack(&self, name: &[u8]) -> &[Def]
+        // exact steps: what the record has at the name
         ensures { result.now ≡ stack_of self.now name.now }
     {
         self.table.stack(name)
@@ -93,6 +95,7 @@ impl State {
 
     /// The definition on top of a name's.
     pub fn top(&self, name: &[u8]) -> Option<&Def>
+        // exact steps: the last of what the record has at the name
         ensures { option_copied result ≡ top_of self.now name.now }
     {
         self.stack(name).last()
@@ -100,6 +103,7 @@ impl State {
 
     /// The names that have a definition, in byte order.
     pub fn names(&self) -> Result<Vec<Bytes>, StateFault>
+        // exact steps: the names of the record, in its order
         ensures { IfOk result (λ names. names.items ≡ names_of self.now) }
     {
         Ok(self.table.names()?)
@@ -108,6 +112,7 @@ impl State {
     /// Puts a definition on top of a name's. Manual: "Temporarily redefining macros".
     pub fn push(&mut self, name: Bytes, def: Def) -> Result<(), StateFault>
         requires { IsDefinition def }
+        // exact steps: the whole new record; a refusal leaves it unchanged
         ensures ok { OnOk result (self.new ≡ pushed self.old name def) }
         ensures err { OnErr result (self.new ≡ self.old) }
     {
@@ -117,6 +122,7 @@ impl State {
 
     /// The begin and the end of quotes; both are empty where they are disabled.
     pub fn quotes(&self) -> (&[u8], &[u8])
+        // exact steps: what the record has
         ensures begin { result.0.now ≡ self.now.quotes.begin }
         ensures end { result.1.now ≡ self.now.quotes.end }
     {
@@ -125,6 +131,7 @@ impl State {
 
     /// The begin and the end of comments; both are empty where they are disabled.
     pub fn comments(&self) -> (&[u8], &[u8])
+        // exact steps: what the record has
         ensures begin { result.0.now ≡ self.now.comments.begin }
         ensures end { result.1.now ≡ self.now.comments.end }
     {
@@ -134,6 +141,7 @@ impl State {
     /// Chooses quotes: an empty begin disables them, and an empty end behind a begin is the default
     /// one. Manual: "Changing the quote characters".
     pub fn set_quotes(&mut self, begin: Bytes, end: Bytes) -> Result<(), StateFault>
+        // exact steps: the whole new record; a refusal leaves it unchanged
         ensures ok { OnOk result (self.new ≡ with_quotes self.old begin end) }
         ensures err { OnErr result (self.new ≡ self.old) }
     {
@@ -143,6 +151,7 @@ impl State {
 
     /// Chooses comment delimiters, by the same rule. Manual: "Changing the comment delimiters".
     pub fn set_comments(&mut self, begin: Bytes, end: Bytes) -> Result<(), StateFault>
+        // exact steps: the whole new record; a refusal leaves it unchanged
         ensures ok { OnOk result (self.new ≡ with_comments self.old begin end) }
         ensures err { OnErr result (self.new ≡ self.old) }
     {
@@ -153,6 +162,7 @@ impl State {
     /// The number of the current diversion. A state is in order, and no byte string in it is longer
     /// than 2^64 - 1.
     pub fn current(&self) -> i32
+        // exact steps: what the record has
         ensures current { result ≡ self.now.current }
         ensures valid { IsState self.now }
         ensures sized { IsSized self.now }
@@ -162,6 +172,7 @@ impl State {
 
     /// Makes this diversion the current one. Manual: "Diverting output".
     pub fn divert(&mut self, number: i32)
+        // exact steps: the whole new record
         ensures { self.new ≡ diverted self.old number }
     {
         self.current = number;
@@ -169,6 +180,7 @@ impl State {
 
     /// Adds text to the current diversion, if its number is positive; else nothing changes.
     pub fn append(&mut self, text: &[u8]) -> Result<(), StateFault>
+        // exact steps: the whole new record; a refusal leaves it unchanged
         ensures ok { OnOk result (self.new ≡ appended self.old text.now) }
         ensures err { OnErr result (self.new ≡ self.old) }
     {
@@ -180,6 +192,7 @@ impl State {
 
     /// The text that a diversion holds; empty where it holds none.
     pub fn diversion(&self, number: i32) -> &[u8]
+        // exact steps: what the record has at the number
         ensures { result.now ≡ diversion_of self.now number }
     {
         self.diversions.text(number)
@@ -187,6 +200,7 @@ impl State {
 
     /// The least number above this one, and above 0, that holds text.
     pub fn next_diversion(&self, number: i32) -> Option<i32>
+        // exact steps: the first number behind this one
         ensures { result ≡ next_after self.now.diversions number }
     {
         self.diversions.next(number)
@@ -194,6 +208,7 @@ impl State {
 
     /// Takes out the diversion of the least number, with its text.
     pub fn take_least(&mut self) -> Option<(i32, Vec<u8>)>
+        // exact steps: the first diversion, and the record without it
         ensures some { IfSome result (λ d. self.old
             ≡ record self.new { diversions = (d.0, d.1.items) ∷ self.new.diversions }) }
         ensures none { IfNone result ((self.old.diversions ≡ []) × (self.new ≡ self.old)) }

@@ -13,23 +13,39 @@ mod line;
 mod modes;
 
 use line::{Line, LineFault};
+use m4_state::standard::{StdSink, StdSource};
 use std::alloc::{AllocError, Global};
 use std::env::Env;
+use std::fs;
 use std::io;
-use std::io::ErrorKind;
+use std::io::{BufReader, BufWriter, ErrorKind, Read, Write};
+use std::rt::Files;
 use std::process::ExitCode;
 
 // The status of a run that did not do what its line asked for.
 const FAILED: u8 = 1;
 
-fn main(rt: HostRuntime) -> ExitCode {
-    ExitCode::from(status_of_run(&rt))
+// Which of the modes a line asks for.
+#[derive(Clone, Copy)]
+enum Mode {
+    Canon,
+    Inspect,
 }
 
-// The whole run, from the words of the process to its status.
-fn status_of_run(rt: &(impl Env + Alloc<A = Global> + Print + Eprint)) -> u8 {
+// How many bytes are read or written at a time.
+const BLOCK: usize = 65536;
+
+fn main(rt: HostRuntime) -> ExitCode {
+    ExitCode::from(status_of_run(&rt, rt.stderr()))
+}
+
+// The whole run, from the words of the process to its status. `errors` is standard error.
+fn status_of_run<E: Write + Drop>(
+    rt: &(impl Env + Files + Alloc<A = Global> + Print + Eprint),
+    errors: E,
+) -> u8 {
     match words_of_process(rt) {
-        Ok(words) => status_of_words(rt, words.as_slice()),
+        Ok(words) => status_of_words(rt, errors, words.as_slice()),
         Err(fault) => report_unread_words(rt, &fault),
     }
 }
@@ -41,9 +57,13 @@ fn words_of_process(rt: &(impl Env + Alloc<A = Global>)) -> io::Result<Vec<Strin
 }
 
 // Follows the line that the words spell, or says why not.
-fn status_of_words(rt: &(impl Alloc<A = Global> + Print + Eprint), words: &[String]) -> u8 {
+fn status_of_words<E: Write + Drop>(
+    rt: &(impl Files + Alloc<A = Global> + Print + Eprint),
+    errors: E,
+    words: &[String],
+) -> u8 {
     match line_of(rt.alloc(), words) {
-        Ok(line) => run_mode(&line),
+        Ok(line) => run_line(rt, errors, &line),
         Err(fault) => report_line_fault(rt, &fault),
     }
 }
@@ -70,10 +90,58 @@ fn borrowed<'a>(alloc: Global, words: &'a [String]) -> Result<Vec<&'a str>, Allo
 }
 
 // Does what the line asks for. A line with no mode reads nothing and writes nothing.
-fn run_mode(_line: &Line) -> u8
-    ensures { result ≡ FAILED }
-{
+fn run_line<E: Write + Drop>(
+    rt: &(impl Files + Alloc<A = Global> + Print + Eprint),
+    errors: E,
+    line: &Line,
+) -> u8 {
+    if let Some(file) = &line.canon {
+        return run_mode(rt, errors, Mode::Canon, file.as_str());
+    }
+    if let Some(file) = &line.inspect {
+        return run_mode(rt, errors, Mode::Inspect, file.as_str());
+    }
     FAILED
+}
+
+// Runs a mode on a file, or says that it can't be opened.
+fn run_mode<E: Write + Drop>(
+    rt: &(impl Files + Alloc<A = Global> + Print + Eprint),
+    errors: E,
+    mode: Mode,
+    file: &str,
+) -> u8 {
+    match fs::open(rt, file) {
+        Ok(opened) => run_opened(rt, errors, mode, file, opened)
+            .unwrap_or_else(|_refused| report(rt, "out of memory")),
+        Err(_fault) => {
+            let _printed = eprintln!(rt; "m4: cannot open `{file}'");
+            FAILED
+        }
+    }
+}
+
+// Runs a mode on an opened file. What the mode wrote is flushed before its status stands.
+fn run_opened<F: Read + Drop, E: Write + Drop>(
+    rt: &(impl Alloc<A = Global> + Print + Eprint),
+    errors: E,
+    mode: Mode,
+    file: &str,
+    opened: F,
+) -> io::Result<u8> {
+    let alloc = rt.alloc();
+    let mut reader = StdSource::new(BufReader::with_capacity(alloc, BLOCK, opened)?);
+    let mut out = StdSink::new(BufWriter::with_capacity(alloc, BLOCK, io::writer(rt))?);
+    let mut messages = StdSink::new(errors);
+    let name = file.as_bytes();
+    let status = match mode {
+        Mode::Canon => modes::canon(alloc, name, &mut reader, &mut out, &mut messages),
+        Mode::Inspect => modes::inspect(alloc, name, &mut reader, &mut out, &mut messages),
+    };
+    if status == 0 && out.into_inner().flush().is_err() {
+        return Ok(report(rt, "write fault"));
+    }
+    Ok(status)
 }
 
 // Says why a line is not followed. Help that was asked for is an answer and no fault.

@@ -111,3 +111,6 @@ fn answer<M: ByteSink>(end: Result<(), ModeFault>, file: &[u8], messages: &mut M
         }
     }
 }
+
+#[cfg(test)]
+mod tests;
