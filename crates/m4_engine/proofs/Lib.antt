@@ -8,3 +8,6 @@ pub mod Growth
 pub mod OnlyGrows
 pub mod Continues
 pub mod OnePass
+pub mod SameStart
+pub mod Rows
+pub mod RowsFrozen

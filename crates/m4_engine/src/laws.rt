@@ -2,7 +2,7 @@
 //!
 //! Each function's contract is a law of `specs/Laws.antt`.
 
-ghost use Rattle.m4_engine.specs.Laws.{ExpansionRules, ExpandRules, SettledBegins};
+ghost use Rattle.m4_engine.specs.Laws.{ExpansionRules, ExpandRules, OneStart, SameDenotation, SettledBegins};
 
 /// An expansion whose calls nest is what its turns say, and no bound on them is ever reached.
 pub fn expansion_rules<S, F, D>()
@@ -18,4 +18,15 @@ pub fn expand_rules()
 /// and where it decides how the run ends, the run ends so and writes nothing more.
 pub fn settled_begins()
     ensures { SettledBegins }
+{}
+
+/// A run starts from the fresh state, or from what directives denote that its frozen file spells,
+/// or with the file's fault. Manual: "Fast loading of frozen state".
+pub fn one_start()
+    ensures { OneStart }
+{}
+
+/// Two frozen files that spell directives of one state and one issued text give the same run.
+pub fn same_denotation()
+    ensures { SameDenotation }
 {}
