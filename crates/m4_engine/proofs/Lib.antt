@@ -11,3 +11,4 @@ pub mod OnePass
 pub mod SameStart
 pub mod Rows
 pub mod RowsFrozen
+pub mod Shifts
