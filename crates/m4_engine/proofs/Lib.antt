@@ -12,3 +12,4 @@ pub mod SameStart
 pub mod Rows
 pub mod RowsFrozen
 pub mod Shifts
+pub mod RunsBehind
