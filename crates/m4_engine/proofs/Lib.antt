@@ -13,3 +13,5 @@ pub mod Rows
 pub mod RowsFrozen
 pub mod Shifts
 pub mod RunsBehind
+pub mod Split
+pub mod SavesCount

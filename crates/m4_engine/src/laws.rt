@@ -2,7 +2,7 @@
 //!
 //! Each function's contract is a law of `specs/Laws.antt`.
 
-ghost use Rattle.m4_engine.specs.Laws.{ExpansionRules, ExpandRules, OneStart, SameDenotation, SettledBegins};
+ghost use Rattle.m4_engine.specs.Laws.{ExpansionRules, ExpandRules, OneStart, SameDenotation, SettledBegins, SplitStates};
 
 /// An expansion whose calls nest is what its turns say, and no bound on them is ever reached.
 pub fn expansion_rules<S, F, D>()
@@ -29,4 +29,10 @@ pub fn one_start()
 /// Two frozen files that spell directives of one state and one issued text give the same run.
 pub fn same_denotation()
     ensures { SameDenotation }
+{}
+
+/// Where a freezing run carries, a run that goes on from the state that it froze joins it to one run
+/// over the sources of both.
+pub fn split_states()
+    ensures { SplitStates }
 {}
