@@ -15,3 +15,4 @@ pub mod Shifts
 pub mod RunsBehind
 pub mod Split
 pub mod SavesCount
+pub mod Limits

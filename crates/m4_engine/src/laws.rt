@@ -2,7 +2,7 @@
 //!
 //! Each function's contract is a law of `specs/Laws.antt`.
 
-ghost use Rattle.m4_engine.specs.Laws.{ExpansionRules, ExpandRules, OneStart, SameDenotation, SettledBegins, SplitStates};
+ghost use Rattle.m4_engine.specs.Laws.{ExpansionRules, ExpandRules, LargerCalls, LargerNesting, OneStart, SameDenotation, SettledBegins, SplitStates};
 
 /// An expansion whose calls nest is what its turns say, and no bound on them is ever reached.
 pub fn expansion_rules<S, F, D>()
@@ -35,4 +35,15 @@ pub fn same_denotation()
 /// over the sources of both.
 pub fn split_states()
     ensures { SplitStates }
+{}
+
+/// A run that doesn't end by the limit of calls is the same under a larger one.
+pub fn larger_calls()
+    ensures { LargerCalls }
+{}
+
+/// A run that doesn't end by the limit of nesting is the same under a larger one, of which 0 is the
+/// largest.
+pub fn larger_nesting()
+    ensures { LargerNesting }
 {}
