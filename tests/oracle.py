@@ -18,7 +18,7 @@ DEFAULT_QUOTES = (b"`", b"'")
 DEFAULT_COMMENTS = (b"#", b"\n")
 
 # The builtins that m4r has. A name that is not among them is listed as a placeholder.
-BUILTINS = frozenset()
+BUILTINS = frozenset((b"define", b"undefine", b"dnl", b"changequote", b"changecom"))
 
 
 class Fault(Exception):

@@ -17,6 +17,7 @@ use Rattle.m4_state.specs.declared.definition.Def.{Def}
 use Rattle.m4_state.specs.declared.definition.Def.TheVariants as defs
 use Rattle.m4_state.specs.declared.delimiters.Delimiters.{Delimiters}
 use Rattle.m4_state.specs.Builtin.{builtin_named, name_of}
+use Rattle.m4_state.proofs.CallerLaws.{builtin_named-name_of}
 use Rattle.m4_state.specs.Definition.{IsDefinition}
 use Rattle.m4_state.specs.Delimiters.{default_quotes, default_comments, chosen, IsPaired}
 use Rattle.m4_state.specs.State.{State, Diversion as NumberedText, IsDiversion, IsState, empty, pushed, with_text, holds_text}
@@ -77,10 +78,6 @@ comments_denoted t d default paired = by (same_delimiters d default_comments) re
     by false is = ap (commented t) (chosen-paired default_comments d paired)
 
 -- ---- the definitions
-
--- a builtin of the table is found by its name
-builtin_named-name_of : (b : BuiltinOfTable) → builtin_named (name_of b) ≡ Some b
-builtin_named-name_of b = elim b [ ]
 
 definition_denoted : (t : State) (name : List ℕ) (d : Def) → IsDefinition d
     → with_directive t (definition name d) ≡ pushed t name d

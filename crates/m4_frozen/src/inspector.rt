@@ -119,7 +119,7 @@ fn put_definition<W: ByteSink>(
 {
     match definition {
         Def::Text(text) => put_counted(name, text.as_slice(), writer),
-        Def::Builtin(builtin) => match *builtin {},
+        Def::Builtin(builtin) => put_two_words(b"builtin ", name, builtin.name(), writer),
         Def::Placeholder(builtin) => {
             put_two_words(b"placeholder ", name, builtin.as_slice(), writer)
         }

@@ -152,7 +152,7 @@ fn put_definition<W: ByteSink>(
 {
     match definition {
         Def::Text(text) => put_strings(b'T', name, text.as_slice(), writer),
-        Def::Builtin(builtin) => match *builtin {},
+        Def::Builtin(builtin) => put_strings(b'F', name, builtin.name(), writer),
         Def::Placeholder(builtin) => put_strings(b'F', name, builtin.as_slice(), writer),
     }
 }

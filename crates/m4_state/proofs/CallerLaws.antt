@@ -1,9 +1,21 @@
--- Laws that crates above cite: a text that is put piece by piece into a writer.
+-- Laws that crates above cite: a builtin is found by its name; a text is put piece by piece into a
+-- writer.
 use Rattle.std.proofs.Common.{◌≡◌, ℕ, ◌+◌, ◌<◌, List, [], ◌++◌, length, get_or, take, drop, drop-cons, add-one, Option, Some, None, Result, Ok, Err, refl, sym, ap, ◌∙◌, append_assoc}
 use Rattle.std.specs.List.{flat_map}
 use Rattle.std.specs.Prelude.{IsErr}
 use Rattle.std.proofs.lemmas.List.{take-append-drop, append-nil}
+use Rattle.m4_state.specs.declared.builtin.Builtin.{Builtin}
+use Rattle.m4_state.specs.declared.builtin.Builtin.TheVariants.{Define, Undefine, Dnl, Changequote, Changecom}
+use Rattle.m4_state.specs.Builtin.{builtin_named, name_of}
 use Rattle.m4_state.specs.Device.{with_bytes, HasPut, HasBegun, Puts}
+
+-- each builtin is found by its own name
+pub builtin_named-name_of : (b : Builtin) → builtin_named (name_of b) ≡ Some b
+builtin_named-name_of Define = refl
+builtin_named-name_of Undefine = refl
+builtin_named-name_of Dnl = refl
+builtin_named-name_of Changequote = refl
+builtin_named-name_of Changecom = refl
 
 pub with_bytes-append : (old : Option (List ℕ)) (a b : List ℕ) → with_bytes (with_bytes old a) b ≡ with_bytes old (a ++ b)
 with_bytes-append None a b = refl

@@ -4,6 +4,7 @@ pub mod Delimiters
 pub mod Device
 pub mod DiversionEntries
 pub mod Entries
+pub mod Fresh
 pub mod Place
 pub mod State
 pub mod StateView

@@ -1,7 +1,8 @@
 -- State: what is known between two steps of a run, as one record of lists.
 -- Believed. Manual: "Defining a macro", "Temporarily redefining macros", "Changing the quote
 -- characters", "Changing the comment delimiters", "Diverting and undiverting output".
--- Words: State, stack_of, pushed, with_quotes, with_comments, diverted, appended, IsState, IsSized.
+-- Words: State, stack_of, pushed, defined, undefined, with_quotes, with_comments, diverted, appended,
+-- IsState, IsSized.
 -- A list with rising keys is the one list of its finite map: equal states are equal records.
 use Rattle.std.specs.Prelude.{◌≢◌, ◌<◌, ◌^◌, ◌-◌, ℕ, ℤ, pos, Bool, List, [], ◌∷◌, ◌++◌, length, map, Option, Some, None, IsTrue, unwrap_or, slice_get, if◌then◌else◌, FitsSigned, int_lt}
 use Rattle.std.specs.Int.{w32}
@@ -11,7 +12,7 @@ use Rattle.std.specs.FinMap.{find, put, is_sorted}
 use Rattle.m4_state.specs.declared.definition.Def.{Def}
 use Rattle.m4_state.specs.declared.delimiters.Delimiters.{Delimiters}
 use Rattle.m4_state.specs.Delimiters.{default_quotes, default_comments, chosen, IsPaired, IsSizedPair}
-use Rattle.m4_state.specs.Table.{Pairs, stack_at, with_push, IsTable, IsSizedTable}
+use Rattle.m4_state.specs.Table.{Pairs, stack_at, with_push, with_top, without, IsTable, IsSizedTable}
 
 -- a diversion's number and its text
 abbrev pub Diversion : Type 0
@@ -54,6 +55,14 @@ top_of s name = last_of (stack_of s name)
 -- with one definition more on top of a name's
 abbrev pub pushed : State → List ℕ → Def → State
 pushed s name d = record s { table = with_push s.table name d }
+
+-- with another definition in place of the one on top of a name's, or the first one
+abbrev pub defined : State → List ℕ → Def → State
+defined s name d = record s { table = with_top s.table name d }
+
+-- without a name's definitions
+abbrev pub undefined : State → List ℕ → State
+undefined s name = record s { table = without s.table name }
 
 -- with the quotes that two strings choose
 abbrev pub with_quotes : State → List ℕ → List ℕ → State

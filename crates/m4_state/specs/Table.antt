@@ -1,11 +1,13 @@
 -- A table of names: pairs of a name and its definitions, in the byte order of the names.
--- Believed. Manual: "Defining a macro", "Temporarily redefining macros".
--- Words: stack_at, with_push, IsTable, IsSizedTable.
-use Rattle.std.specs.Prelude.{◌≢◌, ◌<◌, ◌^◌, ℕ, List, [], ◌∷◌, ◌++◌, length, IsTrue, unwrap_or}
+-- Believed. Manual: "Defining a macro", "Deleting a macro",
+-- "Temporarily redefining macros".
+-- Words: stack_at, with_push, with_top, without, IsTable, IsSizedTable.
+use Rattle.std.specs.Prelude.{◌≡◌, ◌≢◌, ◌<◌, ◌^◌, ◌-◌, ℕ, List, [], ◌∷◌, ◌++◌, length, take, filter, not, IsTrue, unwrap_or}
 use Rattle.std.specs.List.{AllByRecursion}
 use Rattle.std.specs.Ordering.{nat_cmp}
 use Rattle.std.specs.Cmp.Lexicographic.{slice_cmp}
 use Rattle.std.specs.FinMap.{find, put, is_sorted}
+use Rattle.std.specs.Str.{bytes_eq}
 use Rattle.std.specs.declared.cmp.Ordering.{Ordering}
 use Rattle.m4_state.specs.declared.definition.Def.{Def}
 use Rattle.m4_state.specs.Definition.{IsDefinition, IsSizedDefinition}
@@ -28,6 +30,18 @@ stack_at table name = unwrap_or (find byte_order name table) []
 -- one definition more on top of the name's; a new name goes to its place
 abbrev pub with_push : Pairs → List ℕ → Def → Pairs
 with_push table name d = put byte_order name (stack_at table name ++ d ∷ []) table
+
+-- all but the last of a list
+abbrev pub but_last : {A : Type 0} → List A → List A
+but_last xs = take (length xs - 1) xs
+
+-- another definition in place of the one on top of the name's, or the first one
+abbrev pub with_top : Pairs → List ℕ → Def → Pairs
+with_top table name d = put byte_order name (but_last (stack_at table name) ++ d ∷ []) table
+
+-- without the name and all its definitions
+abbrev pub without : Pairs → List ℕ → Pairs
+without table name = filter (λ e. not (bytes_eq name e.0)) table
 
 -- a name that stands in a table has a definition, and no placeholder bears a builtin's name
 pub record IsStack (pair : Pair) : Type 0 where

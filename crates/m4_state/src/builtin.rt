@@ -1,20 +1,102 @@
-//! The builtins that this processor has. None yet, so each builtin that a frozen file names is
-//! kept as a placeholder.
+//! The builtins that this processor has. One that a frozen file names and that isn't among them is
+//! kept as a placeholder. Manual: "Builtins".
+//!
+//! The columns are those of `specs/Builtin.antt`, which the definitions read too.
 
 ghost use Rattle.std.specs.Prelude.{◌≡◌};
 
-/// A builtin of the table. There is none yet, so no value is one.
-#[derive(Clone, Copy)]
-pub enum Builtin {}
+/// A builtin of the table.
+#[derive(Clone, Copy, Debug, PartialEq, Eq)]
+pub enum Builtin {
+    /// Gives a name a text, or another definition. Manual: "Defining a macro".
+    Define,
+    /// Takes all definitions of names away. Manual: "Deleting a macro".
+    Undefine,
+    /// Drops the rest of the line. Manual: "Deleting whitespace in input".
+    Dnl,
+    /// Chooses the quotes. Manual: "Changing the quote characters".
+    Changequote,
+    /// Chooses the comment delimiters. Manual: "Changing the comment delimiters".
+    Changecom,
+}
 
 impl Builtin {
-    ghost use Rattle.m4_state.specs.Builtin.{builtin_named};
+    ghost use Rattle.m4_state.specs.Builtin.{table, builtin_named, name_of, needs_args, takes_tokens, least_of, most_of};
+
+    /// All of them.
+    pub const TABLE: [Builtin; 5] = [
+        Builtin::Define,
+        Builtin::Undefine,
+        Builtin::Dnl,
+        Builtin::Changequote,
+        Builtin::Changecom,
+    ];
 
     /// The builtin of that name, if the table has it.
     pub fn by_name(name: &[u8]) -> Option<Builtin>
         ensures { result ≡ builtin_named name.now }
     {
-        let _ = name;
-        None
+        match name {
+            b"define" => Some(Builtin::Define),
+            b"undefine" => Some(Builtin::Undefine),
+            b"dnl" => Some(Builtin::Dnl),
+            b"changequote" => Some(Builtin::Changequote),
+            b"changecom" => Some(Builtin::Changecom),
+            _ => None,
+        }
+    }
+
+    /// The builtin's own name.
+    pub fn name(self) -> &'static [u8]
+        ensures { result.now ≡ name_of self }
+    {
+        match self {
+            Builtin::Define => b"define",
+            Builtin::Undefine => b"undefine",
+            Builtin::Dnl => b"dnl",
+            Builtin::Changequote => b"changequote",
+            Builtin::Changecom => b"changecom",
+        }
+    }
+
+    /// Whether it is recognised only with parameters.
+    pub fn needs_args(self) -> bool
+        ensures { result ≡ needs_args self }
+    {
+        match self {
+            Builtin::Define | Builtin::Undefine => true,
+            Builtin::Dnl | Builtin::Changequote | Builtin::Changecom => false,
+        }
+    }
+
+    /// Whether a definition that is an argument is taken as such, and not as an empty text.
+    pub fn takes_tokens(self) -> bool
+        ensures { result ≡ takes_tokens self }
+    {
+        match self {
+            Builtin::Define => true,
+            Builtin::Undefine | Builtin::Dnl | Builtin::Changequote | Builtin::Changecom => false,
+        }
+    }
+
+    /// How many arguments it has at least.
+    pub fn least_args(self) -> usize
+        ensures { result ≡ least_of self }
+    {
+        match self {
+            Builtin::Define | Builtin::Undefine => 1,
+            Builtin::Dnl | Builtin::Changequote | Builtin::Changecom => 0,
+        }
+    }
+
+    /// How many arguments it has at most; none where any number is right.
+    pub fn most_args(self) -> Option<usize>
+        ensures { result ≡ most_of self }
+    {
+        match self {
+            Builtin::Define | Builtin::Changequote | Builtin::Changecom => Some(2),
+            Builtin::Undefine => None,
+            Builtin::Dnl => Some(0),
+        }
     }
 }

@@ -7,7 +7,7 @@ use crate::bytes::Bytes;
 use std::alloc::AllocError;
 
 /// A definition.
-#[derive(Drop)]
+#[derive(Debug, Drop)]
 pub enum Def {
     /// A text, which a call expands to.
     Text(Bytes),
@@ -38,7 +38,7 @@ impl Def {
     {
         match self {
             Def::Text(text) => text.as_slice().len(),
-            Def::Builtin(builtin) => match *builtin {},
+            Def::Builtin(builtin) => builtin.name().len(),
             Def::Placeholder(name) => name.as_slice().len(),
         }
     }

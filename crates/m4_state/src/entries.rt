@@ -13,7 +13,7 @@ use std::alloc::{AllocError, Global};
 use std::cmp::Ordering;
 
 /// A name and its definitions, the oldest first. There is at least one.
-#[derive(Drop)]
+#[derive(Debug, Drop)]
 pub struct Entry {
     pub name: Bytes,
     pub stack: Vec<Def>,

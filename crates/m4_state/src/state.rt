@@ -4,8 +4,9 @@
 //! Contracts see one record of lists (specs/State.antt), which doesn't change with what keeps it.
 //! Each call says the whole new record; a refusal leaves it unchanged.
 
-ghost use Rattle.std.specs.Prelude.{◌≡◌, ◌∷◌, [], IfOk, IfSome, IfNone, OnOk, OnErr, option_copied};
+ghost use Rattle.std.specs.Prelude.{◌≡◌, ◌∷◌, [], false, IfOk, IfSome, IfNone, OnOk, OnErr, option_copied};
 
+use crate::builtin::Builtin;
 use crate::bytes::Bytes;
 use crate::definition::Def;
 use crate::delimiters::Delimiters;
@@ -39,6 +40,7 @@ impl Model for State {
 
 impl State {
     ghost use Rattle.m4_state.specs.Definition.{IsDefinition};
+    ghost use Rattle.m4_state.specs.Fresh.{fresh, with_builtin};
     ghost use Rattle.m4_state.specs.State.{IsState, IsSized, empty, names_of, stack_of, top_of, pushed, with_quotes, with_comments, diverted, appended, diversion_of, next_after};
 
     /// No names, no diversions, the default delimiters.
@@ -54,6 +56,32 @@ impl State {
             diversions: Diversions::new(alloc),
             current: 0,
         })
+    }
+
+    /// Each builtin under its name, and `__gnu__` and `__unix__` as empty texts. No prefix can be
+    /// asked for yet.
+    pub fn fresh(alloc: Global, prefix: bool) -> Result<State, StateFault>
+        requires { prefix ≡ false }
+        ensures { IfOk result (λ s. s ≡ fresh prefix) }
+    {
+        let _ = prefix;
+        let mut state = State::empty(alloc)?;
+        let empty = Bytes::from(Vec::new(alloc));
+        state.push(Bytes::from_slice(alloc, b"__gnu__")?, Def::Text(empty))?;
+        let empty = Bytes::from(Vec::new(alloc));
+        state.push(Bytes::from_slice(alloc, b"__unix__")?, Def::Text(empty))?;
+        for builtin in Builtin::TABLE {
+            state.push_builtin(alloc, builtin)?;
+        }
+        Ok(state)
+    }
+
+    /// Puts a builtin on top of its own name's definitions.
+    fn push_builtin(&mut self, alloc: Global, builtin: Builtin) -> Result<(), StateFault>
+        ensures { OnOk result (self.new ≡ with_builtin false self.old builtin) }
+    {
+        let name = Bytes::from_slice(alloc, builtin.name())?;
+        self.push(name, Def::Builtin(builtin))
     }
 
     /// The definitions of a name, the oldest first; none where it has none. Takes time in

@@ -12,7 +12,7 @@ use std::alloc::{AllocError, Global};
 use std::marker::Model;
 
 /// Names with their definitions, which contracts see as a list of pairs in byte order.
-#[derive(Drop)]
+#[derive(Debug, Drop)]
 pub struct Table {
     entries: Vec<Entry>,
 }

@@ -35,7 +35,8 @@ fn starts_empty(rt: HostRuntime) -> Result<(), Fail> {
     assert_eq!(rt; state.next_diversion(0), None);
     assert!(rt; state.top(b"a").is_none());
     assert!(rt; state.stack(b"a").is_empty());
-    assert!(rt; Builtin::by_name(b"dnl").is_none());
+    assert_eq!(rt; Builtin::by_name(b"dnl"), Some(Builtin::Dnl));
+    assert_eq!(rt; Builtin::by_name(b"format"), None);
     Ok(())
 }
 

@@ -1,0 +1,41 @@
+-- Args: what the arguments of a call give, by their numbers.
+-- Believed. Manual: "Macro arguments". Words: text_of_arg, text_at, definition_at, joined, quoted.
+use Rattle.std.specs.Prelude.{ℕ, List, [], ◌∷◌, ◌++◌, Option, Some, None, slice_get, map}
+use Rattle.m4_state.specs.declared.definition.Def.{Def}
+use Rattle.m4_state.specs.declared.definition.Def.TheVariants as defs
+use Rattle.m4_state.specs.declared.delimiters.Delimiters.{Delimiters}
+use Rattle.m4_builtins.specs.declared.args.Arg.{Arg}
+use Rattle.m4_builtins.specs.declared.args.Arg.TheVariants as args
+
+-- an argument as text: a definition counts as empty
+abbrev pub text_of_arg : Arg → List ℕ
+text_of_arg (args.Text x) = x
+text_of_arg (args.Definition d) = []
+
+-- an argument of a builtin that takes no definitions
+abbrev pub only_text : Arg → Arg
+only_text a = args.Text (text_of_arg a)
+
+-- an argument as a definition
+abbrev pub definition_of_arg : Arg → Def
+definition_of_arg (args.Text x) = defs.Text x
+definition_of_arg (args.Definition d) = d
+
+-- a text, or an empty one where there is none
+abbrev pub or_empty : Option (List ℕ) → List ℕ
+or_empty None = []
+or_empty (Some x) = x
+
+-- the text of the argument at index n, from 0; empty where it is missing
+abbrev pub text_at : List Arg → ℕ → List ℕ
+text_at list n = or_empty (slice_get (map text_of_arg list) n)
+
+-- texts with a separator between any two of them
+abbrev pub joined : List ℕ → List (List ℕ) → List ℕ
+joined separator [] = []
+joined separator (x ∷ []) = x
+joined separator (x ∷ y ∷ ys) = x ++ separator ++ joined separator (y ∷ ys)
+
+-- a text between quotes
+abbrev pub quoted : Delimiters → List ℕ → List ℕ
+quoted q x = q.begin ++ x ++ q.end

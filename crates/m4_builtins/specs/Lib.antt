@@ -1,0 +1,4 @@
+pub mod Args
+pub mod Subst
+pub mod Messages
+pub mod Act

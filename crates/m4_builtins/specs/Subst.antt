@@ -1,0 +1,54 @@
+-- Subst: a text definition with the arguments of a call put in.
+-- Believed. Manual: "Arguments to macros", "Special arguments to macros". Words: piece, subst.
+-- own: `$` and the longest run of digits is one number.
+use Rattle.std.specs.Prelude.{ℕ, zero, suc, ◌+◌, ◌-◌, ◌*◌, ◌==◌, List, [], ◌∷◌, ◌++◌, length, take, fold, map, if◌then◌else◌, slice_get}
+use Rattle.std.specs.Fmt.{decimal}
+use Rattle.m4_state.specs.declared.delimiters.Delimiters.{Delimiters}
+use Rattle.m4_input.specs.Ascii.{dollar, hash, star, at_sign, comma, digit_zero, is_digit}
+use Rattle.m4_input.specs.Token.{run_length}
+use Rattle.m4_builtins.specs.declared.args.Arg.{Arg}
+use Rattle.m4_builtins.specs.Args.{text_of_arg, or_empty, joined, quoted}
+
+-- the number that digits stand for, in decimal
+abbrev pub number_of : List ℕ → ℕ
+number_of digits = fold (λ n d. n * 10 + (d - digit_zero)) 0 digits
+
+-- number 0 is the name, the others are the arguments; nothing above their count
+abbrev pub nth_text : List ℕ → List (List ℕ) → ℕ → List ℕ
+nth_text name texts zero = name
+nth_text name texts (suc n) = or_empty (slice_get texts n)
+
+-- the arguments joined by commas
+abbrev pub with_commas : List (List ℕ) → List ℕ
+with_commas texts = joined (comma ∷ []) texts
+
+-- what a `$` stands for before these bytes, and how many of them belong to it
+abbrev pub behind_dollar : List ℕ → List (List ℕ) → Delimiters → List ℕ → List ℕ × ℕ
+behind_dollar name texts q [] = (dollar ∷ [], 0)
+behind_dollar name texts q (b ∷ x) =
+    if is_digit b then (
+    let n = run_length is_digit (b ∷ x) in (nth_text name texts (number_of (take n (b ∷ x))), n)
+    ) else (
+    if b == hash then (decimal (length texts), 1)
+    else (
+    if b == star then (with_commas texts, 1)
+    else (
+    if b == at_sign then (with_commas (map (quoted q) texts), 1) else (dollar ∷ [], 0)
+    )
+    )
+    )
+
+-- what a byte stands for before these, and how many of them belong to it
+abbrev pub piece : List ℕ → List (List ℕ) → Delimiters → ℕ → List ℕ → List ℕ × ℕ
+piece name texts q b x = if b == dollar then behind_dollar name texts q x else (b ∷ [], 0)
+
+-- the text behind its first `skip` bytes, with the arguments put in
+abbrev pub subst_from : List ℕ → List (List ℕ) → Delimiters → ℕ → List ℕ → List ℕ
+subst_from name texts q skip [] = []
+subst_from name texts q (suc skip) (b ∷ x) = subst_from name texts q skip x
+subst_from name texts q zero (b ∷ x) =
+    let p = piece name texts q b x in p.0 ++ subst_from name texts q p.1 x
+
+-- a text with a call's name and arguments put in, by the current quotes
+abbrev pub subst : List ℕ → List ℕ → List Arg → Delimiters → List ℕ
+subst text name list q = subst_from name (map text_of_arg list) q 0 text

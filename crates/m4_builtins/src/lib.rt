@@ -1,0 +1,10 @@
+//! What a call does: the texts with their arguments put in, and the builtins.
+//!
+//! So far the crate has the types and the definitions: `specs/Subst.antt` says what a text expands
+//! to, `specs/Act.antt` what each call does, `specs/Messages.antt` what is told of it.
+//! Manual: "Definitions", "Conditionals", "Input control", and the chapters of the builtins.
+#![tactic(auto)]
+
+pub mod args;
+pub mod effect;
+pub mod place;

@@ -1,0 +1,35 @@
+-- Growth: words on what an expansion adds to what was written, and on longer inputs.
+use Rattle.std.proofs.Common.{◌≡◌, ◌≢◌, ℕ, Bool, true, List, ◌++◌, ◌⊎◌}
+use Rattle.m4_input.specs.Pending.{Pending}
+use Rattle.m4_engine.specs.declared.ending.Cause.TheVariants as causes
+use Rattle.m4_engine.specs.Nesting.{Outcome, Halted, Closed}
+use Rattle.m4_engine.specs.Expansion.{RunSoFar, Expansion, Ended, Ends, WantsMore}
+
+-- the new one has the old one's output and messages, and maybe more
+pub record Extends (old new : RunSoFar) : Type 0 where
+  pub more : List ℕ
+  pub output : new.output ≡ old.output ++ more
+  pub told : List ℕ
+  pub messages : new.messages ≡ old.messages ++ told
+
+-- what an outcome has made
+abbrev pub made_out : Outcome Expansion Ended → RunSoFar
+made_out (Halted d) = d.so_far
+made_out (Closed t) = t.so_far
+
+-- a pending input with more bytes behind it, and an end
+abbrev pub longer : List ℕ → Bool → Pending → Pending
+longer z b p = record p { unread = p.unread ++ z; may_follow = b }
+
+abbrev pub longer_level : List ℕ → Bool → Expansion → Expansion
+longer_level z b s = record s { pending = longer z b s.pending }
+
+-- how an end stands to what a longer input comes to: more is wanted, and the other goes on from what
+-- was written; or both end alike, and not at the end of the input
+abbrev pub Continues : Ended → Outcome Expansion Ended → Type 0
+Continues d o = ((d.how ≡ WantsMore) × Extends d.so_far (made_out o)) ⊎ ((o ≡ Halted d) × (d.how ≢ Ends causes.Done))
+
+-- the same of outcomes
+abbrev pub Begins : List ℕ → Bool → Outcome Expansion Ended → Outcome Expansion Ended → Type 0
+Begins z b (Halted d) o = Continues d o
+Begins z b (Closed s) o = (t : Expansion) × (o ≡ Closed t) × ((s.pending).may_follow ≡ true) × (t ≡ longer_level z b s)

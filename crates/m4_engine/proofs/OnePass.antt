@@ -1,0 +1,163 @@
+-- OnePass: what a beginning of an input settles stands whatever follows it.
+use Rattle.std.proofs.Common.{◌≡◌, ◌≢◌, ◌⊎◌, inl, inr, ⊎_elim, ℕ, zero, suc, Bool, true, false, List, [], ◌∷◌, ◌++◌, Option, Some, None, refl, sym, ap, ◌∙◌, subst, append_assoc, append-nil}
+use Rattle.m4_input.specs.Pending.{Pending}
+use Rattle.m4_engine.specs.declared.options.Options.{Options}
+use Rattle.m4_engine.specs.declared.ending.Cause.{Cause}
+use Rattle.m4_engine.specs.declared.ending.Cause.TheVariants as causes
+use Rattle.m4_engine.specs.Nesting.{Outcome, Halted, Closed}
+use Rattle.m4_engine.specs.Expansion.{RunSoFar, Limits, Expansion, How, Ends, WantsMore, Spent, Ended, with_message}
+use Rattle.m4_engine.specs.Expand.{expand, expansion_of, ended_of, expand_input, spent_at}
+use Rattle.m4_engine.specs.File.{Source, Opened, Unopened, Progress, file, file_pending, over_by, over_of, after_input, read_source, unless_over, after_source, after_sources, cannot_open}
+use Rattle.m4_engine.specs.Wraps.{read_saved, next_round, rounds, after_wraps, joined_back, wrapped_pending, close}
+use Rattle.m4_engine.specs.Start.{Start, begun}
+use Rattle.m4_engine.specs.Run.{RunResult, limits_of, closed_output, result_by, result_of, saved_behind, finished, run_from}
+use Rattle.m4_engine.specs.Settled.{SettledSoFar, settled_of, settled_ended, settled_by, settled_in, settled}
+use Rattle.m4_engine.specs.Laws.{IsBeginning, AreSettled}
+use Rattle.m4_engine.proofs.Growth.{Extends, made_out, longer_level, Begins}
+use Rattle.m4_engine.proofs.OnlyGrows.{extends_same, extends_more, tells, input_keeps}
+use Rattle.m4_engine.proofs.Continues.{law}
+
+-- a run behind a source has what it had
+unless_keeps : (r : RunSoFar) (o : Option How) (old new : Progress) → Extends r old.so_far → Extends r new.so_far → Extends r (unless_over o old new).so_far
+unless_keeps r None old new e f = f
+unless_keeps r (Some h) old new e f = e
+
+read_keeps : (limits : Limits) (s : Source) (r : RunSoFar) (missed : Bool) → Extends r (read_source limits s r missed).so_far
+read_keeps limits (Opened name bytes) r missed = input_keeps limits r (file_pending name bytes false)
+read_keeps limits (Unopened name) r missed = tells r (with_message (cannot_open name) r) (cannot_open name) refl refl
+
+source_keeps : (limits : Limits) (s : Source) (p : Progress) → Extends p.so_far (after_source limits s p).so_far
+source_keeps limits s p = unless_keeps p.so_far p.over p (read_source limits s p.so_far p.missed) (extends_same p.so_far) (read_keeps limits s p.so_far p.missed)
+
+pub sources_keep : (limits : Limits) (ss : List Source) (p : Progress) → Extends p.so_far (after_sources limits ss p).so_far
+sources_keep limits [] p = extends_same p.so_far
+sources_keep limits (s ∷ ss) p = extends_more p.so_far (after_source limits s p).so_far _ (source_keeps limits s p) (sources_keep limits ss (after_source limits s p))
+
+-- a round of saved texts is an input
+round_keeps : (limits : Limits) (saved : List (List ℕ)) (p : Progress) → Extends p.so_far (read_saved limits saved p).so_far
+round_keeps limits saved p =
+    let k = input_keeps limits (record p.so_far { saved = [] }) (wrapped_pending (joined_back saved)) in
+    record { more = k.more; output = k.output; told = k.told; messages = k.messages }
+
+next_keeps : (go : Progress → Progress) (limits : Limits) → ((q : Progress) → Extends q.so_far (go q).so_far) → (o : Option How) (saved : List (List ℕ)) (p : Progress) → Extends p.so_far (next_round go limits o saved p).so_far
+next_keeps go limits h (Some how) saved p = extends_same p.so_far
+next_keeps go limits h None [] p = extends_same p.so_far
+next_keeps go limits h None (x ∷ xs) p = extends_more p.so_far (read_saved limits (x ∷ xs) p).so_far _ (round_keeps limits (x ∷ xs) p) (h (read_saved limits (x ∷ xs) p))
+
+rounds_keep : (n : ℕ) (limits : Limits) (p : Progress) → Extends p.so_far (rounds n limits p).so_far
+rounds_keep zero limits p = extends_same p.so_far
+rounds_keep (suc n) limits p = next_keeps (rounds n limits) limits (rounds_keep n limits) p.over (p.so_far).saved p
+
+-- a run that is over stays as it is
+over_source : (limits : Limits) (s : Source) (p : Progress) (h : How) → p.over ≡ Some h → after_source limits s p ≡ p
+over_source limits s p h e = ap (λ o. unless_over o p (read_source limits s p.so_far p.missed)) e
+
+pub over_sources : (limits : Limits) (ss : List Source) (p : Progress) (h : How) → p.over ≡ Some h → after_sources limits ss p ≡ p
+over_sources limits [] p h e = refl
+over_sources limits (s ∷ ss) p h e = ap (after_sources limits ss) (over_source limits s p h e) ∙ over_sources limits ss p h e
+
+pub over_wraps : (limits : Limits) (p : Progress) (h : How) → p.over ≡ Some h → after_wraps limits p ≡ p
+over_wraps limits p h e = ap (λ o. next_round (rounds limits.calls limits) limits o (p.so_far).saved p) e
+
+-- sources one behind the other
+pub sources_append : (limits : Limits) (ss ts : List Source) (p : Progress) → after_sources limits (ss ++ ts) p ≡ after_sources limits ts (after_sources limits ss p)
+sources_append limits [] ts p = refl
+sources_append limits (s ∷ ss) ts p = sources_append limits ss ts (after_source limits s p)
+
+-- what the result has of the run's output and messages
+result_output : (o : Option How) (freezes : Bool) (saved : List (List ℕ)) (r : RunSoFar) (missed : Bool) → IsBeginning r.output (result_by o freezes saved r missed).output
+result_output (Some h) freezes saved r missed = ([], sym (append-nil r.output))
+result_output None true saved r missed = ([], sym (append-nil r.output))
+result_output None false saved r missed = (close r.state, refl)
+
+result_messages : (o : Option How) (freezes : Bool) (saved : List (List ℕ)) (r : RunSoFar) (missed : Bool) → (result_by o freezes saved r missed).messages ≡ r.messages
+result_messages (Some h) freezes saved r missed = refl
+result_messages None freezes saved r missed = refl
+
+finish_begins : (freezes : Bool) (saved : List (List ℕ)) (limits : Limits) (r : RunSoFar) (p : Progress) → Extends r p.so_far → IsBeginning r.output (result_of freezes saved (after_wraps limits p)).output × IsBeginning r.messages (result_of freezes saved (after_wraps limits p)).messages
+finish_begins freezes saved limits r p e =
+    let q : Progress = after_wraps limits p in
+    let f : Extends r q.so_far = extends_more r p.so_far q.so_far e (rounds_keep (suc limits.calls) limits p) in
+    let o = result_output q.over freezes saved q.so_far q.missed in (
+      (f.more ++ o.0, o.1 ∙ ap (λ (x : List ℕ). x ++ o.0) f.output ∙ append_assoc r.output f.more o.0),
+      (f.told, result_messages q.over freezes saved q.so_far q.missed ∙ f.messages),
+    )
+
+-- an end other than that of the input ends the run
+over_by_cause : (c : Cause) → Ends c ≢ Ends causes.Done → over_by c ≡ Some (Ends c)
+over_by_cause causes.Done n = absurd (n refl)
+over_by_cause (causes.Exited code) n = refl
+over_by_cause causes.EndInString n = refl
+over_by_cause causes.EndInComment n = refl
+over_by_cause causes.EndInArguments n = refl
+over_by_cause causes.ExpansionLimit n = refl
+over_by_cause causes.NestingLimit n = refl
+over_by_cause (causes.Frozen f) n = refl
+over_by_cause causes.Read n = refl
+over_by_cause causes.Write n = refl
+over_by_cause causes.OutOfMemory n = refl
+
+over_unless_done : (h : How) → h ≢ Ends causes.Done → over_of h ≡ Some h
+over_unless_done (Ends c) n = over_by_cause c n
+over_unless_done WantsMore n = refl
+over_unless_done Spent n = refl
+
+-- the ends of an expansion and of the one with more bytes
+abbrev Goes : Ended → Ended → Type 0
+Goes e d = ((e.how ≡ WantsMore) × Extends e.so_far d.so_far) ⊎ ((d ≡ e) × (e.how ≢ Ends causes.Done))
+
+made_ended : (o : Outcome Expansion Ended) → made_out o ≡ (ended_of o).so_far
+made_ended (Halted d) = refl
+made_ended (Closed s) = refl
+
+ended_goes : (more : List ℕ) (o o' : Outcome Expansion Ended) → Begins more false o o' → Goes (ended_of o) (ended_of o')
+ended_goes more (Halted d) o' (inl h) = inl (h.0, subst (Extends d.so_far) (made_ended o') h.1)
+ended_goes more (Halted d) o' (inr h) = inr (ap ended_of h.0, h.1)
+ended_goes more (Closed s) o' h = inr (ap ended_of h.1 ∙ ap spent_at h.3, λ e. cc)
+
+input_goes : (limits : Limits) (r : RunSoFar) (name w more : List ℕ) → Goes (expand_input limits r (file_pending name w true)) (file limits r name (w ++ more))
+input_goes limits r name w more =
+    let s : Expansion = expansion_of limits r (file_pending name w true) in
+    ended_goes more (expand s) (expand (longer_level more false s)) (law more false s refl)
+
+-- a run that is over keeps what is settled
+over_settled : (freezes : Bool) (saved : List (List ℕ)) (limits : Limits) (p : Progress) (h : How) → p.over ≡ Some h → AreSettled (settled_of p.so_far h) (result_of freezes saved (after_wraps limits p))
+over_settled freezes saved limits p h e =
+    let f : result_of freezes saved (after_wraps limits p) ≡ result_by (Some h) freezes saved p.so_far p.missed = ap (result_of freezes saved) (over_wraps limits p h e) ∙ ap (λ o. result_by o freezes saved p.so_far p.missed) e in
+    subst (AreSettled (settled_of p.so_far h)) (sym f) (record {
+      output = ([], sym (append-nil (p.so_far).output));
+      messages = ([], sym (append-nil (p.so_far).messages));
+      ending = λ n. (refl, refl, refl);
+    })
+
+-- the file that begins with these bytes, and what follows it
+file_settled : (freezes missed : Bool) (saved : List (List ℕ)) (limits : Limits) (later : List Source) (e d : Ended) → Goes e d → AreSettled (settled_ended e) (result_of freezes saved (after_wraps limits (after_sources limits later (after_input d missed))))
+file_settled freezes missed saved limits later e d (inl h) =
+    let k = finish_begins freezes saved limits e.so_far (after_sources limits later (after_input d missed)) (extends_more e.so_far d.so_far _ h.1 (sources_keep limits later (after_input d missed))) in
+    record { output = k.0; messages = k.1; ending = λ n. absurd (n h.0) }
+file_settled freezes missed saved limits later e d (inr h) =
+    let f : over_of d.how ≡ Some e.how = ap (λ (x : Ended). over_of x.how) h.0 ∙ over_unless_done e.how h.1 in
+    let g : after_sources limits later (after_input d missed) ≡ after_input d missed = over_sources limits later (after_input d missed) e.how f in
+    subst (λ p. AreSettled (settled_ended e) (result_of freezes saved (after_wraps limits p))) (sym g)
+    (subst (λ (x : Ended). AreSettled (settled_of x.so_far e.how) (result_of freezes saved (after_wraps limits (after_input d missed)))) h.0
+    (over_settled freezes saved limits (after_input d missed) e.how f))
+
+-- at a run behind the sources before
+settled_here : (freezes : Bool) (saved : List (List ℕ)) (limits : Limits) (p : Progress) (name w more : List ℕ) (later : List Source) (o : Option How) → p.over ≡ o → AreSettled (settled_by o limits p.so_far name w) (result_of freezes saved (after_wraps limits (after_sources limits later (after_source limits (Opened name (w ++ more)) p))))
+settled_here freezes saved limits p name w more later (Some h) e =
+    let g : after_sources limits later (after_source limits (Opened name (w ++ more)) p) ≡ p = over_sources limits (Opened name (w ++ more) ∷ later) p h e in
+    subst (λ q. AreSettled (settled_of p.so_far h) (result_of freezes saved (after_wraps limits q))) (sym g) (over_settled freezes saved limits p h e)
+settled_here freezes saved limits p name w more later None e =
+    let new : Progress = read_source limits (Opened name (w ++ more)) p.so_far p.missed in
+    let g : after_source limits (Opened name (w ++ more)) p ≡ new = ap (λ o. unless_over o p new) e in
+    subst (λ q. AreSettled (settled_by None limits p.so_far name w) (result_of freezes saved (after_wraps limits (after_sources limits later q)))) (sym g)
+    (file_settled freezes p.missed saved limits later _ _ (input_goes limits p.so_far name w more))
+
+pub settled_begins : (o : Options) (start : Start) (before : List Source) (name w more : List ℕ) (later : List Source) → AreSettled (settled o start before name w) (run_from o start (before ++ Opened name (w ++ more) ∷ later))
+settled_begins o start before name w more later =
+    let limits : Limits = limits_of o in
+    let p : Progress = after_sources limits before (begun start) in
+    let all : List Source = before ++ Opened name (w ++ more) ∷ later in
+    subst (λ q. AreSettled (settled_in limits p name w) (result_of o.freeze (saved_behind all q) (after_wraps limits q)))
+    (sym (sources_append limits before (Opened name (w ++ more) ∷ later) (begun start)))
+    (settled_here o.freeze (saved_behind all (after_sources limits (Opened name (w ++ more) ∷ later) p)) limits p name w more later p.over refl)

@@ -1,0 +1,199 @@
+-- OnlyGrows: what an expansion has written stays.
+use Rattle.std.proofs.Common.{◌≡◌, Option, ℕ, zero, suc, Bool, true, false, List, [], ◌++◌, Some, None, refl, sym, ap, ◌∙◌, subst, append_assoc, append-nil}
+use Rattle.std.specs.Prelude.{nat_lt}
+use Rattle.m4_state.specs.declared.definition.Def.{Def}
+use Rattle.m4_state.specs.declared.delimiters.Delimiters.{Delimiters}
+use Rattle.m4_input.specs.declared.token.Token.{Token}
+use Rattle.m4_input.specs.declared.token.Token.TheVariants.{Name, Str, Comment, Byte, Definition, End}
+use Rattle.m4_input.specs.declared.front.Scan.{Scan}
+use Rattle.m4_input.specs.declared.front.Scan.TheVariants.{Found, Broken, NeedsMore}
+use Rattle.m4_input.specs.declared.front.Unended.{Unended}
+use Rattle.m4_input.specs.declared.front.Mark.{Mark}
+use Rattle.m4_input.specs.declared.front.Mark.TheVariants.{EndQuote, BeginQuote, PlainByte, CutQuote}
+use Rattle.m4_input.specs.declared.front.Kind.{Kind}
+use Rattle.m4_input.specs.declared.front.Kind.TheVariants.{CommentHere, NameHere, StringHere, ByteHere, Undecided}
+use Rattle.m4_input.specs.declared.front.Answer.{Answer}
+use Rattle.m4_input.specs.declared.front.Answer.TheVariants.{Yes, No, Unknown}
+use Rattle.m4_input.specs.Ascii.{is_letter, is_name_byte, newline}
+use Rattle.m4_input.specs.Pending.{Pending, text_of, consumed, line_length, one_more, newlines_in}
+use Rattle.m4_input.specs.Token.{begins, is_cut, is_enabled, starts_with, may_start, run_length, before, mark_by, mark_at, level, unended, comment_found, name_unless, name_at, string_found, string_at, kind_by, kind_of, scan_kind, scan, Front, Taken, Refused, More, front_by, front_from, token_at}
+use Rattle.m4_input.specs.Paren.{answer_by, paren_in, paren_from, paren_at}
+use Rattle.m4_state.specs.State.{State, top_of}
+use Rattle.m4_input.specs.declared.pushed.Pushed.{Pushed}
+use Rattle.m4_input.specs.declared.pushed.Pushed.TheVariants as pushes
+use Rattle.m4_engine.specs.declared.ending.Cause.{Cause}
+use Rattle.m4_engine.specs.declared.ending.Cause.TheVariants as causes
+use Rattle.m4_engine.specs.Nesting.{Turn, Halt, Close, GoOn, Bare, Opens, Outcome, Halted, Closed, then_on, after, Falls}
+use Rattle.m4_engine.specs.Expansion.{RunSoFar, Limits, Call, Mode, Outside, Collecting, Expansion, Kept, How, Ends, WantsMore, Spent, Ended, place_at, with_message, with_call, reading, put_text, put_token}
+use Rattle.m4_engine.specs.Args.{with_argument, dropped_if_any, end_argument, with_parenthesis, Role, Opening, Closing, Separator, Blank, Other, role_of, take_closing, take_byte}
+use Rattle.m4_engine.specs.Expand.{with_pushed, with_acted, skip_all, skip_line, skip_or_push, effected, acted_at, kept_of, behind_call, called, join_by, join, call_of, bare, collect, call_unless_deep, is_deep, call_if_room, call, needs_list, call_without_list, take_call, take_name, take_other, take_end, take_token, take_front, unended_cause, turn, definition_size, pending_size, size_of, calls_left, spent_at, expand}
+use Rattle.m4_engine.specs.Expand.{expansion_of, ended_of, expand_input}
+use Rattle.m4_engine.proofs.Growth.{Extends, made_out}
+use Rattle.m4_engine.proofs.ByRules.{Rules, holds}
+use Rattle.m4_engine.proofs.CallsFall.{falls}
+
+pub extends_same : (r : RunSoFar) → Extends r r
+extends_same r = record { more = []; output = sym (append-nil r.output); told = []; messages = sym (append-nil r.messages) }
+
+pub extends_more : (a b c : RunSoFar) → Extends a b → Extends b c → Extends a c
+extends_more a b c f g = record {
+  more = f.more ++ g.more;
+  output = g.output ∙ ap (λ x. x ++ g.more) f.output ∙ append_assoc a.output f.more g.more;
+  told = f.told ++ g.told;
+  messages = g.messages ∙ ap (λ x. x ++ g.told) f.messages ∙ append_assoc a.messages f.told g.told;
+}
+
+writes : (a b : RunSoFar) (x y : List ℕ) → b.output ≡ a.output ++ x → b.messages ≡ a.messages ++ y → Extends a b
+writes a b x y e f = record { more = x; output = e; told = y; messages = f }
+
+pub tells : (a b : RunSoFar) (y : List ℕ) → b.output ≡ a.output → b.messages ≡ a.messages ++ y → Extends a b
+tells a b y e f = writes a b [] y (e ∙ sym (append-nil a.output)) f
+
+puts : (a b : RunSoFar) (x : List ℕ) → b.output ≡ a.output ++ x → b.messages ≡ a.messages → Extends a b
+puts a b x e f = writes a b x [] e (f ∙ sym (append-nil a.messages))
+
+quiet : (a b : RunSoFar) → b.output ≡ a.output → b.messages ≡ a.messages → Extends a b
+quiet a b e f = tells a b [] e (f ∙ sym (append-nil a.messages))
+
+-- what a turn has made
+abbrev pub made : Turn Expansion Kept Ended → RunSoFar
+made (Halt d) = d.so_far
+made (Close t) = t.so_far
+made (GoOn t) = t.so_far
+made (Bare t) = t.so_far
+made (Opens f t) = t.so_far
+
+skipped_all_keeps : (b : Bool) (s : Expansion) → Extends s.so_far (made_out (skip_all b s))
+skipped_all_keeps true s = extends_same _
+skipped_all_keeps false s = extends_same _
+
+pub skipped_keeps : (o : Option ℕ) (s : Expansion) → Extends s.so_far (made_out (skip_line o s))
+skipped_keeps None s = skipped_all_keeps (s.pending).may_follow s
+skipped_keeps (Some n) s = extends_same _
+
+pushed_keeps : (skip : Bool) (v : Option Pushed) (s : Expansion) → Extends s.so_far (made_out (skip_or_push skip v s))
+pushed_keeps true v s = skipped_keeps (line_length (text_of s.pending)) s
+pushed_keeps false v s = extends_same _
+
+effected_keeps : (n : Option ℕ) (skip : Bool) (v : Option Pushed) (s : Expansion) → Extends s.so_far (made_out (effected n skip v s))
+effected_keeps (Some n) skip v s = extends_same _
+effected_keeps None skip v s = pushed_keeps skip v s
+
+pub called_keeps : (c : Call) (t : Expansion) (s : Kept) → Extends t.so_far (made_out (called c t s))
+called_keeps c t s = extends_more _ _ _ (writes t.so_far (behind_call c t s).so_far ((acted_at c t).effect).output ((acted_at c t).effect).messages refl refl) (effected_keeps _ _ _ (behind_call c t s))
+
+pub bare_made : (o : Outcome Expansion Ended) → made (bare o) ≡ made_out o
+bare_made (Halted d) = refl
+bare_made (Closed t) = refl
+
+enter_list_keeps : (listed : Bool) (c : Call) (p : Pending) (s : Expansion) → Extends s.so_far (made (collect listed c p s))
+enter_list_keeps true c p s = extends_same _
+enter_list_keeps false c p s = subst (Extends s.so_far) (sym (bare_made (called c (reading p s) (kept_of s)))) (called_keeps c (reading p s) (kept_of s))
+
+enter_keeps : (deep listed : Bool) (c : Call) (p : Pending) (s : Expansion) → Extends s.so_far (made (call_unless_deep deep listed c p s))
+enter_keeps true listed c p s = tells _ _ _ refl refl
+enter_keeps false listed c p s = enter_list_keeps listed c p s
+
+call_if_keeps : (room listed : Bool) (c : Call) (p : Pending) (s : Expansion) → Extends s.so_far (made (call_if_room room listed c p s))
+call_if_keeps true listed c p s = extends_more s.so_far (with_call s).so_far _ (quiet _ _ refl refl) (enter_keeps (is_deep s) listed c p (with_call s))
+call_if_keeps false listed c p s = tells _ _ _ refl refl
+
+call_keeps : (listed : Bool) (c : Call) (p : Pending) (s : Expansion) → Extends s.so_far (made (call listed c p s))
+call_keeps listed c p s = call_if_keeps (nat_lt (s.so_far).calls (s.limits).calls) listed c p s
+
+unlisted_keeps : (b : Bool) (c : Call) (p : Pending) (s : Expansion) → Extends s.so_far (made (call_without_list b c p s))
+unlisted_keeps true c p s = puts _ _ _ refl refl
+unlisted_keeps false c p s = call_keeps false c p s
+
+pub on_answer_keeps : (a : Answer) (c : Call) (p : Pending) (s : Expansion) → Extends s.so_far (made (take_call a c p s))
+on_answer_keeps Unknown c p s = extends_same _
+on_answer_keeps Yes c p s = call_keeps true c p s
+on_answer_keeps No c p s = unlisted_keeps (needs_list c.definition) c p s
+
+on_name_keeps : (o : Option Def) (x : List ℕ) (p : Pending) (s : Expansion) → Extends s.so_far (made (take_name o x p s))
+on_name_keeps None x p s = puts _ _ _ refl refl
+on_name_keeps (Some d) x p s = on_answer_keeps (paren_at ((s.so_far).state).quotes ((s.so_far).state).comments p) (call_of d x (place_at s.pending)) p s
+
+on_closing_keeps : (n b : ℕ) (c : Call) (s : Expansion) → Extends s.so_far (made (take_closing n b c s))
+on_closing_keeps zero b c s = tells _ _ _ refl refl
+on_closing_keeps (suc n) b c s = extends_same _
+
+take_byte_keeps : (r : Role) (b : ℕ) (c : Call) (s : Expansion) → Extends s.so_far (made (take_byte r b c s))
+take_byte_keeps Opening b c s = extends_same _
+take_byte_keeps Closing b c s = on_closing_keeps c.parentheses b c s
+take_byte_keeps Separator b c s = tells _ _ _ refl refl
+take_byte_keeps Blank b c s = extends_same _
+take_byte_keeps Other b c s = puts _ _ _ refl refl
+
+on_byte_keeps : (m : Mode) (b : ℕ) (s : Expansion) → Extends s.so_far (made (take_other m b s))
+on_byte_keeps Outside b s = puts _ _ _ refl refl
+on_byte_keeps (Collecting c) b s = take_byte_keeps (role_of b c) b c s
+
+on_end_keeps : (m : Mode) (s : Expansion) → Extends s.so_far (made (take_end m s))
+on_end_keeps Outside s = extends_same _
+on_end_keeps (Collecting c) s = tells _ _ _ refl refl
+
+on_token_keeps : (t : Token) (p : Pending) (s : Expansion) → Extends s.so_far (made (take_token t p s))
+on_token_keeps (Name x) p s = on_name_keeps (top_of (s.so_far).state x) x p s
+on_token_keeps (Str x) p s = puts _ _ _ refl refl
+on_token_keeps (Comment x) p s = puts _ _ _ refl refl
+on_token_keeps (Byte b) p s = on_byte_keeps s.mode b (reading p s)
+on_token_keeps (Definition d) p s = extends_same _
+on_token_keeps End p s = on_end_keeps s.mode s
+
+pub on_seen_keeps : (v : Front) (s : Expansion) → Extends s.so_far (made (take_front v s))
+on_seen_keeps (Taken t p) s = on_token_keeps t p s
+on_seen_keeps (Refused f n) s = tells _ _ _ refl refl
+on_seen_keeps More s = extends_same _
+
+pub turn_keeps : (s : Expansion) → Extends s.so_far (made (turn s))
+turn_keeps s = on_seen_keeps (token_at ((s.so_far).state).quotes ((s.so_far).state).comments s.pending) s
+
+pub join_keeps : (m : Mode) (s : Kept) (t : Expansion) → Extends t.so_far (made_out (join_by m s t))
+join_keeps Outside s t = extends_same _
+join_keeps (Collecting c) s t = called_keeps c t s
+
+turned : (s : Expansion) (v : Turn Expansion Kept Ended) → turn s ≡ v → Extends s.so_far (made v)
+turned s v e = subst (λ w. Extends s.so_far (made w)) e (turn_keeps s)
+
+joined : (k : Kept) (t : Expansion) (v : Outcome Expansion Ended) → join k t ≡ v → Extends t.so_far (made_out v)
+joined k t v e = subst (λ w. Extends t.so_far (made_out w)) e (join_keeps t.mode k t)
+
+abbrev Post : Expansion → Outcome Expansion Ended → Type 0
+Post s o = Extends s.so_far (made_out o)
+
+rules : Rules Expansion Kept Ended turn join Post
+rules = record {
+  halt = λ s d e. turned s (Halt d) e;
+  close = λ s t e. turned s (Close t) e;
+  go_on = λ s t o e p. extends_more s.so_far t.so_far (made_out o) (turned s (GoOn t) e) p;
+  bare = λ s t o e p. extends_more s.so_far t.so_far (made_out o) (turned s (Bare t) e) p;
+  list_halts = λ s t f d e p. extends_more s.so_far t.so_far d.so_far (turned s (Opens f t) e) p;
+  call_halts = λ s t u f d e p j. extends_more s.so_far t.so_far d.so_far (turned s (Opens f t) e) (extends_more t.so_far u.so_far d.so_far p (joined f u (Halted d) j));
+  joins = λ s t u w f o e p j q. extends_more s.so_far t.so_far (made_out o) (turned s (Opens f t) e) (extends_more t.so_far u.so_far (made_out o) p (extends_more u.so_far w.so_far (made_out o) (joined f u (Closed w) j) q));
+}
+
+pub whole_keeps : (s : Expansion) → Extends s.so_far (made_out (expand s))
+whole_keeps = holds Expansion Kept Ended turn join spent_at size_of calls_left falls Post rules
+
+pub then_keeps : (o : Outcome Expansion Ended) (f : Expansion → Outcome Expansion Ended) → ((u : Expansion) → Extends u.so_far (made_out (f u))) → Extends (made_out o) (made_out (then_on o f))
+then_keeps (Halted d) f g = extends_same d.so_far
+then_keeps (Closed u) f g = g u
+
+pub list_keeps : (k : Kept) (o : Outcome Expansion Ended) → Extends (made_out o) (made_out (then_on (then_on o (join k)) expand))
+list_keeps k o = extends_more _ _ _ (then_keeps o (join k) (λ u. join_keeps u.mode k u)) (then_keeps (then_on o (join k)) expand whole_keeps)
+
+pub turn_goes : (v : Turn Expansion Kept Ended) → Extends (made v) (made_out (after Expansion Kept Ended join expand expand v))
+turn_goes (Halt d) = extends_same d.so_far
+turn_goes (Close u) = extends_same u.so_far
+turn_goes (GoOn u) = whole_keeps u
+turn_goes (Bare u) = whole_keeps u
+turn_goes (Opens f u) = extends_more _ _ _ (whole_keeps u) (list_keeps f (expand u))
+
+-- the expansion of an input
+pub input_keeps : (limits : Limits) (r : RunSoFar) (p : Pending) → Extends r (expand_input limits r p).so_far
+input_keeps limits r p = go (expand (expansion_of limits r p)) (whole_keeps (expansion_of limits r p))
+  where
+    go : (o : Outcome Expansion Ended) → Extends r (made_out o) → Extends r (ended_of o).so_far
+    go (Halted d) h = h
+    go (Closed s) h = h

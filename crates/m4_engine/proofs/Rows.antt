@@ -1,0 +1,144 @@
+-- Rows: worked runs, computed from the definitions. Each says the whole result, or the parts named.
+use Rattle.std.proofs.Common.{Some, None, ◌≡◌, ℕ, List, [], ◌∷◌, false, true, refl}
+use Rattle.std.specs.Prelude.{codes, Option}
+use Rattle.std.specs.Fmt.{digits}
+use Rattle.m4_engine.specs.declared.options.Options.{Options}
+use Rattle.m4_engine.specs.declared.ending.Cause.TheVariants as causes
+use Rattle.m4_engine.specs.Expansion.{How, Ends, WantsMore}
+use Rattle.m4_engine.specs.File.{Source, Opened, Unopened}
+use Rattle.m4_engine.specs.Start.{Start, start_of}
+use Rattle.m4_engine.specs.Run.{RunResult, run}
+use Rattle.m4_engine.specs.Settled.{SettledSoFar, settled}
+
+-- the default limits, but for these
+abbrev pub limited : ℕ → ℕ → Options
+limited calls nesting = record { calls = calls; nesting = nesting; freeze = false; prefix = false }
+
+abbrev pub usual : Options
+usual = limited 4294967295 1024
+
+abbrev pub freezing : Options
+freezing = record usual { freeze = true }
+
+-- a run over one file
+abbrev pub over_a : Options → List ℕ → RunResult
+over_a o a = run o None (Opened (codes "a.m4") a ∷ [])
+
+-- a run over two files
+abbrev pub over_both : List ℕ → List ℕ → RunResult
+over_both a b = run usual None (Opened (codes "a.m4") a ∷ Opened (codes "b.m4") b ∷ [])
+
+-- a run that ends by itself, with this output, these messages and so many calls
+abbrev pub done : List ℕ → List ℕ → ℕ → RunResult
+done output messages calls = record {
+  output = output;
+  messages = messages;
+  how = Ends causes.Done;
+  status = 0;
+  frozen = None;
+  calls = calls;
+  saved = [];
+}
+
+-- a greeting that is defined in one file and made in the other
+greeting : over_both (codes "define(`hi',`Hello $1.')dnl\n") (codes "hi(`you')\n") ≡ done (codes "Hello you.\n") [] 3
+greeting = refl
+
+-- the second file doesn't join the first one's name
+files_are_apart : over_both (codes "define(`f',`<$#>')dnl\nf") (codes "(1)\n") ≡ done (codes "<0>(1)\n") [] 3
+unfolding digits
+files_are_apart = refl
+
+-- the definition is the one before the arguments
+definition_before_arguments : over_a usual (codes "define(`f',`first')f(define(`f',`second')) f\n") ≡ done (codes "first second\n") [] 4
+definition_before_arguments = refl
+
+-- three nested calls within a limit of two, and of three
+too_deep : over_a (limited 4294967295 2) (codes "define(`f',`$1')f(f(f(`x')))\n") ≡ record {
+  output = [];
+  messages = codes "m4:a.m4:1: ERROR: more than 2 nested calls\n";
+  how = Ends causes.NestingLimit;
+  status = 1;
+  frozen = None;
+  calls = 4;
+  saved = [];
+}
+unfolding digits
+too_deep = refl
+
+deep_enough : over_a (limited 4294967295 3) (codes "define(`f',`$1')f(f(f(`x')))\n") ≡ done (codes "x\n") [] 4
+deep_enough = refl
+
+-- a call that calls itself, within a limit of a hundred
+too_many : over_a (limited 100 1024) (codes "define(`l',`l')l\n") ≡ record {
+  output = [];
+  messages = codes "m4:a.m4:1: ERROR: more than 100 calls\n";
+  how = Ends causes.ExpansionLimit;
+  status = 1;
+  frozen = None;
+  calls = 100;
+  saved = [];
+}
+unfolding digits
+too_many = refl
+
+-- the count, all arguments, an argument's number of two digits, and a `$` that means itself
+dollars : over_a usual (codes "define(`g',`[$#|$*|$2$11|$x]')g(a,`b',)\n") ≡ done (codes "[3|a,b,|b|$x]\n") [] 2
+unfolding digits
+dollars = refl
+
+-- a source that can't be opened
+unopened : run usual None (Unopened (codes "nofile") ∷ Opened (codes "b.m4") (codes "z\n") ∷ []) ≡ record (done (codes "z\n") (codes "m4: cannot open `nofile'\n") 0) { status = 1 }
+unopened = refl
+
+-- a string without its end, in a run that freezes
+string_without_end : over_a freezing (codes "`abc") ≡ record {
+  output = [];
+  messages = codes "m4:a.m4:1: ERROR: end of input in string\n";
+  how = Ends causes.EndInString;
+  status = 1;
+  frozen = None;
+  calls = 0;
+  saved = [];
+}
+unfolding digits
+string_without_end = refl
+
+-- white space before an argument is dropped, behind it kept
+blanks : over_a usual (codes "define(`f',`$1$1')f( a , b)\n") ≡ done (codes "a a \n") [] 2
+blanks = refl
+
+-- parentheses keep a comma within an argument
+parentheses : over_a usual (codes "define(`f',`$#:$1')f((a,b),c)\n") ≡ done (codes "2:(a,b)\n") [] 2
+unfolding digits
+parentheses = refl
+
+-- nothing in a comment ends an argument
+comment_in_argument : over_a usual (codes "define(`f',`<$1>')f(a#,)\n)\n") ≡ done (codes "<a#,)\n>\n") [] 2
+comment_in_argument = refl
+
+-- a result is read again, and joins what follows; a string that is quoted apart does not
+joined_names : over_a usual (codes "define(`a',`x')define(`xy',`Z')a`'y a()y\n") ≡ done (codes "xy Z\n") [] 5
+joined_names = refl
+
+-- the rest of a line is dropped
+rest_of_line : over_a usual (codes "a dnl b\nc\n") ≡ done (codes "a c\n") [] 1
+rest_of_line = refl
+
+-- one argument too many
+excess_arguments : over_a usual (codes "define(`a',`b',`c')a\n") ≡ done (codes "b\n") (codes "m4:a.m4:1: Warning: excess arguments to builtin `define' ignored\n") 2
+unfolding digits
+excess_arguments = refl
+
+-- an argument list without its end: the line is that of the call
+list_without_end : over_a usual (codes "define(`f',`$1')\nf(a\n") ≡ record {
+  output = codes "\n";
+  messages = codes "m4:a.m4:2: ERROR: end of input in argument list\n";
+  how = Ends causes.EndInArguments;
+  status = 1;
+  frozen = None;
+  calls = 2;
+  saved = [];
+}
+unfolding digits
+list_without_end = refl

@@ -1,0 +1,91 @@
+-- RowsFrozen: worked runs that freeze and reload, and what beginnings settle, computed.
+use Rattle.std.proofs.Common.{Some, None, ◌≡◌, ℕ, List, [], ◌∷◌, false, true, refl}
+use Rattle.std.specs.Prelude.{codes, Option}
+use Rattle.std.specs.Fmt.{digits}
+use Rattle.m4_frozen.specs.ReaderSteps as steps
+use Rattle.m4_frozen.specs.declared.fault.FrozenKind.TheVariants as kinds
+use Rattle.m4_engine.specs.declared.ending.Cause.TheVariants as causes
+use Rattle.m4_engine.specs.Expansion.{Ends, WantsMore}
+use Rattle.m4_engine.specs.File.{Opened}
+use Rattle.m4_engine.specs.Start.{start_of}
+use Rattle.m4_engine.specs.Run.{run}
+use Rattle.m4_engine.specs.Settled.{SettledSoFar, settled}
+use Rattle.m4_engine.proofs.Rows.{usual, freezing, over_a, done}
+
+-- what the beginning of a file settles in a run from the fresh state
+abbrev settled_by_a : List ℕ → SettledSoFar
+settled_by_a w = settled usual (start_of false None) [] (codes "a.m4") w
+
+-- so much is written, and more is wanted
+abbrev wanting : List ℕ → SettledSoFar
+wanting output = record { output = output; messages = []; how = WantsMore }
+
+-- a name may go on
+cut_name : settled_by_a (codes "ab") ≡ wanting []
+cut_name = refl
+
+ended_name : settled_by_a (codes "ab ") ≡ wanting (codes "ab ")
+ended_name = refl
+
+-- a comment may go on
+cut_comment : settled_by_a (codes "x#c") ≡ wanting (codes "x")
+cut_comment = refl
+
+-- a byte may turn out to begin a quote
+cut_quote : settled_by_a (codes "changequote(<<,>>)a<") ≡ wanting (codes "a")
+cut_quote = refl
+
+-- a call whose list is cut
+cut_list : settled_by_a (codes "x define(`a") ≡ wanting (codes "x ")
+cut_list = refl
+
+-- a line that is cut behind `dnl`
+cut_line : settled_by_a (codes "x dnl a") ≡ wanting (codes "x ")
+cut_line = refl
+
+-- a refused call decides how the run ends, whatever follows
+decided : settled (record usual { calls = 0 }) (start_of false None) [] (codes "a.m4") (codes "x dnl ") ≡ record {
+  output = codes "x ";
+  messages = codes "m4:a.m4:1: ERROR: more than 0 calls\n";
+  how = Ends causes.ExpansionLimit;
+}
+unfolding digits
+decided = refl
+
+-- the frozen text of a run that changes the delimiters
+delimiters_text : List ℕ
+delimiters_text = codes "# m4 frozen state\nV1\nQ1,1\n[]\nC0,0\n\nT7,0\n__gnu__\nT8,0\n__unix__\nF9,9\nchangecomchangecom\nF11,11\nchangequotechangequote\nF6,6\ndefinedefine\nF3,3\ndnldnl\nF8,8\nundefineundefine\n# End of frozen state file\n"
+
+delimiters_frozen : (over_a freezing (codes "changequote([,])changecom(,)dnl\n")).frozen ≡ Some delimiters_text
+unfolding digits delimiters_text
+delimiters_frozen = refl
+
+-- the run that goes on from it
+delimiters_reloaded : run usual (Some delimiters_text) (Opened (codes "b.m4") (codes "# [define]\n") ∷ []) ≡ done (codes "# define\n") [] 0
+unfolding digits delimiters_text steps.file_at steps.version_at steps.directives_at steps.directive_at steps.pair_at steps.diversion_at steps.length_at steps.string_at
+delimiters_reloaded = refl
+
+-- a frozen file without builtins: `define` is a plain word
+only_what_is_frozen : run usual (Some (codes "V1\n")) (Opened (codes "a.m4") (codes "define(`a',`b')a\n") ∷ []) ≡ done (codes "define(a,b)a\n") [] 0
+unfolding steps.file_at steps.version_at steps.directives_at steps.directive_at steps.pair_at steps.diversion_at steps.length_at steps.string_at
+only_what_is_frozen = refl
+
+-- text that a frozen file issues
+issued_text : run usual (Some (codes "V1\nD0,3\nhi\n\n")) (Opened (codes "a.m4") [] ∷ []) ≡ done (codes "hi\n") [] 0
+unfolding steps.file_at steps.version_at steps.directives_at steps.directive_at steps.pair_at steps.diversion_at steps.length_at steps.string_at
+issued_text = refl
+
+-- a frozen file of a newer version: nothing is read
+newer_file : run usual (Some (codes "# c\n\nV2\n")) (Opened (codes "a.m4") (codes "x") ∷ []) ≡ record (done [] [] 0) { how = Ends (causes.Frozen (record { kind = kinds.Newer; offset = 6 })); status = 63 }
+unfolding steps.file_at steps.version_at steps.directives_at steps.directive_at steps.pair_at steps.diversion_at steps.length_at steps.string_at
+newer_file = refl
+
+-- a builtin of another m4
+placeholder : run freezing (Some (codes "V1\nF6,6\nregexpregexp\n")) (Opened (codes "b.m4") (codes "regexp(`a',`b')!\n") ∷ []) ≡ record (done (codes "!\n") (codes "m4:b.m4:1: Warning: builtin `regexp' requested by frozen file is not supported\n") 1) { frozen = Some (codes "# m4 frozen state\nV1\nF6,6\nregexpregexp\n# End of frozen state file\n") }
+unfolding digits steps.file_at steps.version_at steps.directives_at steps.directive_at steps.pair_at steps.diversion_at steps.length_at steps.string_at
+placeholder = refl
+
+-- what was reloaded is frozen again, with what was defined since
+frozen_again : run freezing (Some (codes "V1\nF6,6\ndefinedefine\nT1,1\nab\n")) (Opened (codes "b.m4") (codes "a define(`c',`d$1')a\n") ∷ []) ≡ record (done (codes "b b\n") [] 3) { frozen = Some (codes "# m4 frozen state\nV1\nT1,1\nab\nT1,3\ncd$1\nF6,6\ndefinedefine\n# End of frozen state file\n") }
+unfolding digits steps.file_at steps.version_at steps.directives_at steps.directive_at steps.pair_at steps.diversion_at steps.length_at steps.string_at
+frozen_again = refl

@@ -1,0 +1,145 @@
+-- Split: a run that stops at a frozen file, and the one that goes on from it, are one run.
+use Rattle.std.proofs.Common.{◌≡◌, ◌≢◌, ◌⊎◌, inl, inr, ⊎_elim, Option, ℕ, zero, suc, ◌+◌, ◌<◌, Bool, true, false, ◌&&◌, List, [], ◌∷◌, ◌++◌, Some, None, refl, sym, ap, ◌∙◌, subst, arith, append_assoc, append-nil}
+use Rattle.m4_state.specs.State.{State}
+use Rattle.m4_frozen.specs.Freeze.{freeze}
+use Rattle.m4_engine.specs.declared.options.Options.{Options}
+use Rattle.m4_engine.specs.declared.ending.Cause.TheVariants as causes
+use Rattle.m4_engine.specs.Expansion.{RunSoFar, Limits, How, Ends}
+use Rattle.m4_engine.specs.File.{Source, Progress, over_of, after_sources}
+use Rattle.m4_engine.specs.Wraps.{next_round, rounds, after_wraps, close}
+use Rattle.m4_engine.specs.Start.{Start, From, Faulty, begun, so_far_from}
+use Rattle.m4_engine.specs.Run.{RunResult, limits_of, status_by, closed_output, result_by, result_of, saved_unless_over, saved_behind, run_from}
+use Rattle.m4_engine.specs.Carries.{Carries, frozen_state}
+use Rattle.m4_engine.specs.Laws.{freezing, Joins}
+use Rattle.m4_engine.proofs.OnePass.{over_wraps, sources_append}
+use Rattle.m4_engine.proofs.RunsBehind.{Bp, Behind, sources_behind, rounds_behind}
+
+-- a run that froze is not over, and froze its state
+frozen_by : (v : Option How) (saved : List (List ℕ)) (r : RunSoFar) (missed : Bool) (text : List ℕ) → (result_by v true saved r missed).frozen ≡ Some text → (v ≡ None) × (text ≡ freeze r.state)
+frozen_by None saved r missed text e = (refl, cc)
+frozen_by (Some h) saved r missed text e = cc
+
+saved_by : (v : Option How) (freezes : Bool) (saved : List (List ℕ)) (r : RunSoFar) (missed : Bool) → (result_by v freezes saved r missed).saved ≡ saved
+saved_by None freezes saved r missed = refl
+saved_by (Some h) freezes saved r missed = refl
+
+none_not_some : {A : Type 0} (x : A) (v : Option A) → v ≡ None → v ≡ Some x → ⊥
+none_not_some x v e f = cc
+
+-- where the run behind its saved texts isn't over, the run before them wasn't
+not_over_before : (limits : Limits) (p : Progress) → (after_wraps limits p).over ≡ None → p.over ≡ None
+not_over_before limits p e = go p.over refl
+  where
+    go : (v : Option How) → p.over ≡ v → v ≡ None
+    go None f = refl
+    go (Some h) f = absurd (none_not_some h (after_wraps limits p).over e (ap (λ (q : Progress). q.over) (over_wraps limits p h f) ∙ f))
+
+-- what stands saved where no source saved anything
+saved_here : (sources : List Source) (start : Start) (limits : Limits) (p : Progress) → p ≡ after_sources limits sources (begun start) → p.over ≡ None → saved_behind sources p ≡ [] → (p.so_far).saved ≡ []
+saved_here [] (From s issued) limits p e f g = ap (λ (q : Progress). (q.so_far).saved) e
+saved_here [] (Faulty fault) limits p e f g = absurd (none_not_some (Ends (causes.Frozen fault)) p.over f (ap (λ (q : Progress). q.over) e))
+saved_here (s ∷ ss) start limits p e f g = ap (λ o. saved_unless_over o p.so_far) (sym f) ∙ g
+
+-- then no round is read
+no_round : (limits : Limits) (p : Progress) → p.over ≡ None → (p.so_far).saved ≡ [] → after_wraps limits p ≡ p
+no_round limits p e f =
+    ap (λ o. next_round (rounds limits.calls limits) limits o (p.so_far).saved p) e
+    ∙ ap (λ saved. next_round (rounds limits.calls limits) limits None saved p) f
+
+status_zero : (v : Option How) (saved : List (List ℕ)) (r : RunSoFar) (missed : Bool) → v ≡ None → (result_by v true saved r missed).status ≡ 0 → missed ≡ false
+status_zero None saved r true e f = absurd (let g : 1 ≡ 0 = f in omega arith)
+status_zero None saved r false e f = refl
+status_zero (Some h) saved r missed e f = cc
+
+module _ (limits : Limits) where
+  Excused : How → Type 0
+  Excused h = h ≡ Ends causes.ExpansionLimit
+
+  ends : (h : How) → Excused h → over_of h ≡ Some h
+  unfolding Excused
+  ends h e = subst (λ x. over_of x ≡ Some x) (sym e) refl
+
+  excused : Excused (Ends causes.ExpansionLimit)
+  unfolding Excused
+  excused = refl
+
+  opened : (h : How) → Excused h → h ≡ Ends causes.ExpansionLimit
+  unfolding Excused
+  opened h e = e
+
+  fewer : (c k : ℕ) → c + k < limits.calls → k < limits.calls
+  fewer c k h = omega arith
+
+  abbrev BehindRun : RunSoFar → Progress → Progress → Type 0
+  BehindRun r = Behind r.output r.messages r.calls limits.calls limits.calls limits.nesting limits.nesting (fewer r.calls) (λ k e. e) Excused (inl excused) (inr refl) ends
+
+  abbrev Bp' : RunSoFar → Progress → Progress
+  Bp' r = Bp r.output r.messages r.calls limits.calls limits.calls limits.nesting limits.nesting (fewer r.calls) (λ k e. e) Excused (inl excused) (inr refl) ends
+
+  -- the run goes on from what was made, as from nothing
+  goes_on : (p : Progress) → p.over ≡ None → (p.so_far).saved ≡ [] → p.missed ≡ false → p ≡ Bp' p.so_far (begun (From (p.so_far).state []))
+  goes_on p e f g =
+      ap (λ (o : Option How). let q : Progress = record { so_far = p.so_far; over = o; missed = p.missed } in q) e
+      ∙ ap (λ (b : Bool). let q : Progress = record { so_far = p.so_far; over = None; missed = b } in q) g
+      ∙ ap (λ (x : List (List ℕ)). let q : Progress = record { so_far = record p.so_far { saved = x }; over = None; missed = false } in q) f
+      ∙ ap (λ (x : List ℕ). let q : Progress = record { so_far = record p.so_far { saved = []; output = x }; over = None; missed = false } in q) (sym (append-nil (p.so_far).output))
+      ∙ ap (λ (x : List ℕ). let q : Progress = record { so_far = record p.so_far { saved = []; output = (p.so_far).output ++ []; messages = x }; over = None; missed = false } in q) (sym (append-nil (p.so_far).messages))
+      ∙ ap (λ (n : ℕ). let q : Progress = record { so_far = record p.so_far { saved = []; output = (p.so_far).output ++ []; messages = (p.so_far).messages ++ []; calls = n }; over = None; missed = false } in q) (let h : (p.so_far).calls ≡ (p.so_far).calls + 0 = omega arith in h)
+
+  sources_go_on : (bs : List Source) (p : Progress) → p.over ≡ None → (p.so_far).saved ≡ [] → p.missed ≡ false → BehindRun p.so_far (after_wraps limits (after_sources limits bs p)) (after_wraps limits (after_sources limits bs (begun (From (p.so_far).state []))))
+  sources_go_on bs p e f g =
+      let r : RunSoFar = p.so_far in
+      rounds_behind r.output r.messages r.calls limits.calls limits.calls limits.nesting limits.nesting (fewer r.calls) (λ k e. e) Excused (inl excused) (inr refl) ends (suc limits.calls)
+      (after_sources limits bs p) (after_sources limits bs (begun (From r.state [])))
+      (sources_behind r.output r.messages r.calls limits.calls limits.calls limits.nesting limits.nesting (fewer r.calls) (λ k e. e) Excused (inl excused) (inr refl) ends bs p (begun (From r.state [])) (inr (goes_on p e f g)))
+
+-- the result of a run that froze with nothing saved and status 0
+first_result : List (List ℕ) → RunSoFar → RunResult
+first_result saved r = result_by None true saved r false
+
+output_joins : (freezes : Bool) (r q : RunSoFar) → closed_output freezes (record q { output = r.output ++ q.output; messages = r.messages ++ q.messages; calls = r.calls + q.calls }) ≡ r.output ++ closed_output freezes q
+output_joins true r q = refl
+output_joins false r q = append_assoc r.output q.output (close q.state)
+
+-- the results of the three runs
+results_join : (freezes : Bool) (saved saved' saved'' : List (List ℕ)) (r : RunSoFar) (v : Option How) (q : RunSoFar) (missed : Bool) → Joins (first_result saved r) (result_by v freezes saved' q missed) (result_by v freezes saved'' (record q { output = r.output ++ q.output; messages = r.messages ++ q.messages; calls = r.calls + q.calls }) missed)
+unfolding first_result
+results_join freezes saved saved' saved'' r None q missed = record { output = output_joins freezes r q; messages = refl; how = refl; status = refl; frozen = refl; calls = refl }
+results_join freezes saved saved' saved'' r (Some h) q missed = record { output = refl; messages = refl; how = refl; status = refl; frozen = refl; calls = refl }
+
+over_how : (v : Option How) (h : How) (freezes : Bool) (saved : List (List ℕ)) (r : RunSoFar) (missed : Bool) → v ≡ Some h → (result_by v freezes saved r missed).how ≡ h
+over_how None h freezes saved r missed e = cc
+over_how (Some x) h freezes saved r missed e = cc
+
+joined_results : (limits : Limits) (freezes : Bool) (saved saved' saved'' : List (List ℕ)) (r : RunSoFar) (j b : Progress) → BehindRun limits r j b → (result_of freezes saved'' j).how ≢ Ends causes.ExpansionLimit → Joins (first_result saved r) (result_of freezes saved' b) (result_of freezes saved'' j)
+joined_results limits freezes saved saved' saved'' r j b (inl h) n = absurd (n (over_how j.over h.0 freezes saved'' j.so_far j.missed h.1 ∙ opened limits h.0 h.2))
+joined_results limits freezes saved saved' saved'' r j b (inr e) n =
+    subst (λ (x : Progress). Joins (first_result saved r) (result_of freezes saved' b) (result_of freezes saved'' x)) (sym e)
+    (results_join freezes saved saved' saved'' r b.over b.so_far b.missed)
+
+pub split_states : (o : Options) (freezes : Bool) (start : Start) (as' bs : List Source) (text : List ℕ) → Carries (freezing true o) start as' → (run_from (freezing true o) start as').frozen ≡ Some text → (run_from (freezing freezes o) start (as' ++ bs)).how ≢ Ends causes.ExpansionLimit → Joins (run_from (freezing true o) start as') (run_from (freezing freezes o) (From (frozen_state (freezing true o) start as') []) bs) (run_from (freezing freezes o) start (as' ++ bs))
+unfolding first_result
+split_states o freezes start as' bs text carries frozen joint =
+    let limits : Limits = limits_of o in
+    let p : Progress = after_sources limits as' (begun start) in
+    let e : Progress = after_wraps limits p in
+    let at_end : e.over ≡ None = (frozen_by e.over (saved_behind as' p) e.so_far e.missed text frozen).0 in
+    let here : p.over ≡ None = not_over_before limits p at_end in
+    let nothing : saved_behind as' p ≡ [] = sym (saved_by e.over true (saved_behind as' p) e.so_far e.missed) ∙ carries.nothing_saved in
+    let saved : (p.so_far).saved ≡ [] = saved_here as' start limits p refl here nothing in
+    let same : e ≡ p = no_round limits p here saved in
+    let opened' : e.missed ≡ false = status_zero e.over (saved_behind as' p) e.so_far e.missed at_end carries.status in
+    let missed : p.missed ≡ false = ap (λ (q : Progress). q.missed) (sym same) ∙ opened' in
+    let all : Progress = after_sources limits (as' ++ bs) (begun start) in
+    let apart : all ≡ after_sources limits bs p = sources_append limits as' bs (begun start) in
+    let saved'' : List (List ℕ) = saved_behind (as' ++ bs) all in
+    let first : run_from (freezing true o) start as' ≡ first_result (saved_behind as' p) p.so_far =
+    ap (λ (q : Progress). result_of true (saved_behind as' p) q) same
+    ∙ ap (λ v. result_by v true (saved_behind as' p) p.so_far p.missed) here
+    ∙ ap (result_by None true (saved_behind as' p) p.so_far) missed in
+    let b : Progress = after_wraps limits (after_sources limits bs (begun (From (p.so_far).state []))) in
+    let limit : (result_of freezes saved'' (after_wraps limits (after_sources limits bs p))).how ≢ Ends causes.ExpansionLimit = λ x. joint (ap (λ (q : Progress). (result_of freezes saved'' (after_wraps limits q)).how) apart ∙ x) in
+    subst (λ (s : State). Joins (run_from (freezing true o) start as') (run_from (freezing freezes o) (From s []) bs) (run_from (freezing freezes o) start (as' ++ bs))) (ap (λ (q : Progress). (q.so_far).state) (sym same))
+    (subst (λ (x : RunResult). Joins x (run_from (freezing freezes o) (From (p.so_far).state []) bs) (run_from (freezing freezes o) start (as' ++ bs))) (sym first)
+    (subst (λ (q : Progress). Joins (first_result (saved_behind as' p) p.so_far) (run_from (freezing freezes o) (From (p.so_far).state []) bs) (result_of freezes saved'' (after_wraps limits q))) (sym apart)
+    (joined_results limits freezes (saved_behind as' p) (saved_behind bs (after_sources limits bs (begun (From (p.so_far).state [])))) saved'' p.so_far (after_wraps limits (after_sources limits bs p)) b (sources_go_on limits bs p here saved missed) limit)))

@@ -1,0 +1,261 @@
+-- Expand: what the expansion of an input comes to.
+-- Believed. Its law: `ExpandRules` (no bound is reached: an expansion is what its turns say).
+-- Manual: "Macro invocation", "Macro arguments", "How m4 copies input to output".
+-- A turn takes the first token. A name with a definition is a call: it is counted, its arguments
+-- are collected, it is acted on, and what it gives is read again. All other tokens are text.
+-- Words: called, call, turn, expand.
+use Rattle.std.specs.Prelude.{ℕ, zero, suc, ◌+◌, ◌-◌, Bool, true, false, ◌&&◌, nat_lt, List, [], ◌∷◌, ◌++◌, Option, Some, None, length, codes}
+use Rattle.std.specs.Fmt.{decimal}
+use Rattle.m4_state.specs.declared.definition.Def.{Def}
+use Rattle.m4_state.specs.declared.definition.Def.TheVariants as defs
+use Rattle.m4_state.specs.Builtin.{needs_args}
+use Rattle.m4_state.specs.State.{State, top_of}
+use Rattle.m4_input.specs.declared.token.Token.{Token}
+use Rattle.m4_input.specs.declared.token.Token.TheVariants.{Name, Str, Comment, Byte, Definition, End}
+use Rattle.m4_input.specs.declared.front.Unended.{Unended}
+use Rattle.m4_input.specs.declared.front.Unended.TheVariants.{InString, InComment}
+use Rattle.m4_input.specs.declared.front.Answer.{Answer}
+use Rattle.m4_input.specs.declared.front.Answer.TheVariants.{Yes, No, Unknown}
+use Rattle.m4_input.specs.declared.pushed.Pushed.{Pushed}
+use Rattle.m4_input.specs.declared.pushed.Pushed.TheVariants as pushes
+use Rattle.m4_input.specs.Pending.{Pending, text_of, consumed, with_text, with_definition, line_length}
+use Rattle.m4_input.specs.Token.{Front, Taken, Refused, More, token_at}
+use Rattle.m4_input.specs.Paren.{paren_at}
+use Rattle.m4_builtins.specs.declared.place.Place.{Place}
+use Rattle.m4_builtins.specs.Args.{or_empty}
+use Rattle.m4_builtins.specs.Act.{Acted, act}
+use Rattle.m4_engine.specs.declared.ending.Cause.{Cause}
+use Rattle.m4_engine.specs.declared.ending.Cause.TheVariants as causes
+use Rattle.m4_engine.specs.Nesting.{Turn, Halt, Close, GoOn, Bare, Opens, Outcome, Halted, Closed, expansion}
+use Rattle.m4_engine.specs.Expansion.{RunSoFar, Limits, Call, Mode, Outside, Collecting, Expansion, Kept, How, Ends, WantsMore, Spent, Ended, place_at, with_message, with_call, reading, stop, fail, put_text, put_token}
+use Rattle.m4_engine.specs.Args.{take_byte, role_of}
+
+-- a value is put in front of what is pending
+abbrev pub with_pushed : Option Pushed → Pending → Pending
+with_pushed None p = p
+with_pushed (Some (pushes.Text x)) p = with_text x p
+with_pushed (Some (pushes.Definition d)) p = with_definition d p
+
+-- a text is saved for the end
+abbrev pub with_saved : Option (List ℕ) → List (List ℕ) → List (List ℕ)
+with_saved None saved = saved
+with_saved (Some x) saved = saved ++ x ∷ []
+
+-- what a call has made
+abbrev pub with_acted : Acted → RunSoFar → RunSoFar
+with_acted a r = record r {
+  state = a.state;
+  output = r.output ++ (a.effect).output;
+  messages = r.messages ++ (a.effect).messages;
+  saved = with_saved (a.effect).wrap r.saved;
+}
+
+-- no newline is pending: all is skipped, unless more may follow
+abbrev pub skip_all : Bool → Expansion → Outcome Expansion Ended
+skip_all true s = Halted (record { so_far = s.so_far; how = WantsMore })
+skip_all false s = Closed (reading (consumed (length (text_of s.pending)) s.pending) s)
+
+-- the rest of a line of so many bytes is skipped
+abbrev pub skip_line : Option ℕ → Expansion → Outcome Expansion Ended
+skip_line None s = skip_all (s.pending).may_follow s
+skip_line (Some n) s = Closed (reading (consumed n s.pending) s)
+
+-- behind a call: the rest of the line is skipped, or a value is read before everything else
+abbrev pub skip_or_push : Bool → Option Pushed → Expansion → Outcome Expansion Ended
+skip_or_push true v s = skip_line (line_length (text_of s.pending)) s
+skip_or_push false v s = Closed (reading (with_pushed v s.pending) s)
+
+-- behind a call that may end the run
+abbrev pub effected : Option ℕ → Bool → Option Pushed → Expansion → Outcome Expansion Ended
+effected (Some code) skip v s = Halted (record { so_far = s.so_far; how = Ends (causes.Exited code) })
+effected None skip v s = skip_or_push skip v s
+
+-- a call is a token: it begins the argument that it stands in
+abbrev pub mode_behind_call : Mode → Mode
+mode_behind_call Outside = Outside
+mode_behind_call (Collecting c) = Collecting (record c { begun = true })
+
+-- what a call does where the expansion stands at t
+abbrev pub acted_at : Call → Expansion → Acted
+acted_at c t = act c.definition c.name c.done c.place (t.so_far).state
+
+-- what goes on behind a call
+abbrev pub kept_of : Expansion → Kept
+kept_of s = record { open_calls = s.open_calls; mode = s.mode }
+
+-- behind a call that was acted on at t, where `kept` goes on
+abbrev pub behind_call : Call → Expansion → Kept → Expansion
+behind_call c t kept = record {
+  limits = t.limits;
+  so_far = with_acted (acted_at c t) t.so_far;
+  pending = t.pending;
+  open_calls = kept.open_calls;
+  mode = mode_behind_call kept.mode;
+}
+
+-- a call is acted on at t, with the definition that it had before its arguments
+abbrev pub called : Call → Expansion → Kept → Outcome Expansion Ended
+called c t kept =
+    effected ((acted_at c t).effect).exit ((acted_at c t).effect).skip
+    ((acted_at c t).effect).push (behind_call c t kept)
+
+-- the list that was collected at t is complete
+abbrev pub join_by : Mode → Kept → Expansion → Outcome Expansion Ended
+join_by Outside kept t = Closed t
+join_by (Collecting c) kept t = called c t kept
+
+abbrev pub join : Kept → Expansion → Outcome Expansion Ended
+join kept t = join_by t.mode kept t
+
+-- a call before its arguments
+abbrev pub call_of : Def → List ℕ → Place → Call
+call_of d name p = record {
+  definition = d;
+  name = name;
+  place = p;
+  done = [];
+  parentheses = 0;
+  begun = false;
+  bytes = [];
+  tokens = [];
+}
+
+-- a call without a list, as a turn
+abbrev pub bare : Outcome Expansion Ended → Turn Expansion Kept Ended
+bare (Halted d) = Halt d
+bare (Closed s) = Bare s
+
+-- a call within the limits; `listed` says that an argument list follows
+abbrev pub collect : Bool → Call → Pending → Expansion → Turn Expansion Kept Ended
+collect true c p s = Opens (kept_of s) (record s {
+  pending = consumed 1 p;
+  open_calls = suc s.open_calls;
+  mode = Collecting c;
+})
+collect false c p s = bare (called c (reading p s) (kept_of s))
+
+-- a call that was counted; `deep` says that too many calls are open
+abbrev pub call_unless_deep : Bool → Bool → Call → Pending → Expansion → Turn Expansion Kept Ended
+call_unless_deep true listed c p s =
+    fail s c.place (codes "more than " ++ decimal (s.limits).nesting ++ codes " nested calls")
+    causes.NestingLimit
+call_unless_deep false listed c p s = collect listed c p s
+
+-- whether one open call more is above the limit
+abbrev pub is_deep : Expansion → Bool
+is_deep s = nat_lt 0 (s.limits).nesting && nat_lt (s.limits).nesting (suc s.open_calls)
+
+-- a call; `room` says that the limit leaves one
+abbrev pub call_if_room : Bool → Bool → Call → Pending → Expansion → Turn Expansion Kept Ended
+call_if_room true listed c p s = call_unless_deep (is_deep s) listed c p (with_call s)
+call_if_room false listed c p s =
+    fail s c.place (codes "more than " ++ decimal (s.limits).calls ++ codes " calls")
+    causes.ExpansionLimit
+
+abbrev pub call : Bool → Call → Pending → Expansion → Turn Expansion Kept Ended
+call listed c p s = call_if_room (nat_lt (s.so_far).calls (s.limits).calls) listed c p s
+
+-- whether a definition is recognised only with parameters
+abbrev pub needs_list : Def → Bool
+needs_list (defs.Text x) = false
+needs_list (defs.Builtin b) = needs_args b
+needs_list (defs.Placeholder x) = false
+
+-- a name with a definition and no list: text, if the definition is recognised only with one
+abbrev pub call_without_list : Bool → Call → Pending → Expansion → Turn Expansion Kept Ended
+call_without_list true c p s = GoOn (put_text c.name (reading p s))
+call_without_list false c p s = call false c p s
+
+-- a name with a definition, by whether an argument list follows
+abbrev pub take_call : Answer → Call → Pending → Expansion → Turn Expansion Kept Ended
+take_call Unknown c p s = stop s WantsMore
+take_call Yes c p s = call true c p s
+take_call No c p s = call_without_list (needs_list c.definition) c p s
+
+-- a name, by the definition on top of it
+abbrev pub take_name : Option Def → List ℕ → Pending → Expansion → Turn Expansion Kept Ended
+take_name None name p s = GoOn (put_text name (reading p s))
+take_name (Some d) name p s =
+    take_call (paren_at ((s.so_far).state).quotes ((s.so_far).state).comments p)
+    (call_of d name (place_at s.pending)) p s
+
+-- a byte that belongs to no other token
+abbrev pub take_other : Mode → ℕ → Expansion → Turn Expansion Kept Ended
+take_other Outside b s = GoOn (put_text (b ∷ []) s)
+take_other (Collecting c) b s = take_byte (role_of b c) b c s
+
+-- the end of the input
+abbrev pub take_end : Mode → Expansion → Turn Expansion Kept Ended
+take_end Outside s = stop s (Ends causes.Done)
+take_end (Collecting c) s = fail s c.place (codes "end of input in argument list") causes.EndInArguments
+
+-- a token, behind which p is pending
+abbrev pub take_token : Token → Pending → Expansion → Turn Expansion Kept Ended
+take_token (Name x) p s = take_name (top_of (s.so_far).state x) x p s
+take_token (Str x) p s = GoOn (put_text x (reading p s))
+take_token (Comment x) p s = GoOn (put_text x (reading p s))
+take_token (Byte b) p s = take_other s.mode b (reading p s)
+take_token (Definition d) p s = GoOn (put_token d (reading p s))
+take_token End p s = take_end s.mode s
+
+-- what is told of a string or comment that has no end, and the cause
+abbrev pub unended_text : Unended → List ℕ
+unended_text InString = codes "end of input in string"
+unended_text InComment = codes "end of input in comment"
+
+abbrev pub unended_cause : Unended → Cause
+unended_cause InString = causes.EndInString
+unended_cause InComment = causes.EndInComment
+
+-- a turn, by what stands at the front
+abbrev pub take_front : Front → Expansion → Turn Expansion Kept Ended
+take_front (Taken t p) s = take_token t p s
+take_front (Refused what line) s =
+    fail s (record { file = or_empty (s.pending).file; line = line }) (unended_text what)
+    (unended_cause what)
+take_front More s = stop s WantsMore
+
+-- one turn of an expansion
+abbrev pub turn : Expansion → Turn Expansion Kept Ended
+turn s = take_front (token_at ((s.so_far).state).quotes ((s.so_far).state).comments s.pending) s
+
+-- how much is pending
+abbrev pub definition_size : Option Def → ℕ
+definition_size None = 0
+definition_size (Some d) = 1
+
+abbrev pub pending_size : Pending → ℕ
+pending_size p = length (text_of p) + definition_size p.definition
+
+abbrev pub size_of : Expansion → ℕ
+size_of s = pending_size s.pending
+
+-- how many calls the limit leaves
+abbrev pub calls_left : Expansion → ℕ
+calls_left s = (s.limits).calls - (s.so_far).calls
+
+-- where a bound runs out
+abbrev pub spent_at : Expansion → Ended
+spent_at s = record { so_far = s.so_far; how = Spent }
+
+-- what an expansion comes to
+abbrev pub expand : Expansion → Outcome Expansion Ended
+expand = expansion Expansion Kept Ended turn join spent_at size_of calls_left
+
+-- an expansion that stands in no call: that it closes doesn't happen
+abbrev pub ended_of : Outcome Expansion Ended → Ended
+ended_of (Halted d) = d
+ended_of (Closed s) = spent_at s
+
+-- the expansion of what is pending, outside of calls
+abbrev pub expansion_of : Limits → RunSoFar → Pending → Expansion
+expansion_of limits r p = record {
+  limits = limits;
+  so_far = r;
+  pending = p;
+  open_calls = 0;
+  mode = Outside;
+}
+
+abbrev pub expand_input : Limits → RunSoFar → Pending → Ended
+expand_input limits r p = ended_of (expand (expansion_of limits r p))

@@ -1,0 +1,106 @@
+-- What holds of the definitions alone: the laws of expansions and runs.
+-- Believed as statements; the functions of the module `laws` carry their proofs.
+-- Words: ExpansionRules, ExpandRules, OneStart, SameDenotation, SettledBegins.
+use Rattle.std.specs.Prelude.{◌≡◌, ◌≢◌, ◌↔◌, ◌⊎◌, ℕ, ◌+◌, ◌<◌, ◌≤◌, Bool, true, List, [], ◌∷◌, ◌++◌, Option, Some}
+use Rattle.m4_frozen.specs.Directive.{Directive}
+use Rattle.m4_frozen.specs.Spells.{Spells}
+use Rattle.m4_frozen.specs.Denote.{denote}
+use Rattle.m4_engine.specs.declared.options.Options.{Options}
+use Rattle.m4_engine.specs.Nesting.{Turn, Outcome, after, expansion, Falls}
+use Rattle.m4_engine.specs.declared.ending.Cause.TheVariants as causes
+use Rattle.m4_engine.specs.Expansion.{Expansion, Kept, Ended, Ends, WantsMore}
+use Rattle.m4_engine.specs.Expand.{turn, join, expand}
+use Rattle.m4_engine.specs.File.{Source, Opened}
+use Rattle.m4_engine.specs.Start.{Start, From, IsStart, start_of}
+use Rattle.m4_engine.specs.Run.{RunResult, run, run_from}
+use Rattle.m4_engine.specs.Settled.{SettledSoFar, settled}
+use Rattle.m4_engine.specs.Carries.{Carries, frozen_state}
+
+-- where the bounds are enough, an expansion is what follows its first turn, with no bound in sight
+abbrev pub ExpansionRules : Type 0 → Type 0 → Type 0 → Type 0
+ExpansionRules S F D =
+    (turn : S → Turn S F D) (join : F → S → Outcome S D) (spent : S → D) (size left : S → ℕ)
+    → Falls S F D turn join size left
+    → (s : S)
+    → expansion S F D turn join spent size left s
+    ≡ after S F D join (expansion S F D turn join spent size left) (expansion S F D turn join spent size left) (turn s)
+
+-- x is a beginning of y, perhaps all of it
+abbrev pub IsBeginning : List ℕ → List ℕ → Type 0
+IsBeginning x y = (rest : List ℕ) × (y ≡ x ++ rest)
+
+-- each expansion is what its turns say
+abbrev pub ExpandRules : Type 0
+ExpandRules = (s : Expansion) → expand s ≡ after Expansion Kept Ended join expand expand (turn s)
+
+-- the start of each run is one, and it is the one that the definition of a run takes
+abbrev pub OneStart : Type 0
+OneStart =
+    (prefix : Bool) (frozen : Option (List ℕ)) (start : Start)
+    → IsStart prefix frozen start ↔ (start ≡ start_of prefix frozen)
+
+-- frozen files that spell directives of one state and one issued text give the same run
+abbrev pub SameDenotation : Type 0
+SameDenotation =
+    (o : Options) (a b : List ℕ) (ds es : List Directive) (sources : List Source)
+    → Spells ds a → Spells es b → denote ds ≡ denote es
+    → run o (Some a) sources ≡ run o (Some b) sources
+
+-- what a beginning settled is a beginning of what the run writes, and a run whose end it decides ends
+-- so, with nothing more
+pub record AreSettled (s : SettledSoFar) (r : RunResult) : Type 0 where
+  pub output : IsBeginning s.output r.output
+  pub messages : IsBeginning s.messages r.messages
+  pub ending : s.how ≢ WantsMore → (r.how ≡ s.how) × (r.output ≡ s.output) × (r.messages ≡ s.messages)
+
+-- what w settles stands whatever bytes follow it and whatever sources come later
+abbrev pub SettledBegins : Type 0
+SettledBegins =
+    (o : Options) (start : Start) (before : List Source) (name w more : List ℕ) (later : List Source)
+    → AreSettled (settled o start before name w)
+    (run_from o start (before ++ Opened name (w ++ more) ∷ later))
+
+-- the options, for a run that freezes or not
+abbrev pub freezing : Bool → Options → Options
+freezing freezes o = record o { freeze = freezes }
+
+-- a joint run writes what two runs write, one behind the other, and ends as the later one; the calls
+-- of the two are its calls
+pub record Joins (first second joint : RunResult) : Type 0 where
+  pub output : joint.output ≡ first.output ++ second.output
+  pub messages : joint.messages ≡ first.messages ++ second.messages
+  pub how : joint.how ≡ second.how
+  pub status : joint.status ≡ second.status
+  pub frozen : joint.frozen ≡ second.frozen
+  pub calls : joint.calls ≡ first.calls + second.calls
+
+-- Where a freezing run over `as` carries, a run from the state that it froze over `bs` joins it to
+-- the run over both. That run has the same limits, and doesn't end by that of calls.
+abbrev pub SplitStates : Type 0
+SplitStates =
+    (o : Options) (freezes : Bool) (start : Start) (as' bs : List Source) (text : List ℕ)
+    → Carries (freezing true o) start as'
+    → (run_from (freezing true o) start as').frozen ≡ Some text
+    → (run_from (freezing freezes o) start (as' ++ bs)).how ≢ Ends causes.ExpansionLimit
+    → Joins (run_from (freezing true o) start as')
+    (run_from (freezing freezes o) (From (frozen_state (freezing true o) start as') []) bs)
+    (run_from (freezing freezes o) start (as' ++ bs))
+
+-- a limit of nesting that is as large, where 0 is the largest
+abbrev pub IsAsDeep : ℕ → ℕ → Type 0
+IsAsDeep n m = (m ≡ 0) ⊎ ((0 < n) × (n ≤ m))
+
+-- a run that doesn't end by a limit is the same under a larger one
+abbrev pub LargerNesting : Type 0
+LargerNesting =
+    (o : Options) (nesting : ℕ) (start : Start) (sources : List Source)
+    → IsAsDeep o.nesting nesting
+    → (run_from o start sources).how ≢ Ends causes.NestingLimit
+    → run_from (record o { nesting = nesting }) start sources ≡ run_from o start sources
+
+abbrev pub LargerCalls : Type 0
+LargerCalls =
+    (o : Options) (calls : ℕ) (start : Start) (sources : List Source)
+    → o.calls ≤ calls
+    → (run_from o start sources).how ≢ Ends causes.ExpansionLimit
+    → run_from (record o { calls = calls }) start sources ≡ run_from o start sources

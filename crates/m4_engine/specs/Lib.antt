@@ -1,0 +1,12 @@
+pub mod Nesting
+pub mod OpenCalls
+pub mod Expansion
+pub mod Args
+pub mod Expand
+pub mod File
+pub mod Wraps
+pub mod Start
+pub mod Run
+pub mod Settled
+pub mod Carries
+pub mod Laws

@@ -1,0 +1,49 @@
+//! What holds of the definitions alone: no code runs here.
+//!
+//! Each function's contract is a law of `specs/Laws.antt`.
+
+ghost use Rattle.m4_engine.specs.Laws.{ExpansionRules, ExpandRules, LargerCalls, LargerNesting, OneStart, SameDenotation, SettledBegins, SplitStates};
+
+/// An expansion whose calls nest is what its turns say, and no bound on them is ever reached.
+pub fn expansion_rules<S, F, D>()
+    ensures { ExpansionRules S F D }
+{}
+
+/// The expansion of an input is what its turns say.
+pub fn expand_rules()
+    ensures { ExpandRules }
+{}
+
+/// What a beginning of an input settles is a beginning of what the run writes, whatever follows;
+/// and where it decides how the run ends, the run ends so and writes nothing more.
+pub fn settled_begins()
+    ensures { SettledBegins }
+{}
+
+/// A run starts from the fresh state, or from what directives denote that its frozen file spells,
+/// or with the file's fault. Manual: "Fast loading of frozen state".
+pub fn one_start()
+    ensures { OneStart }
+{}
+
+/// Two frozen files that spell directives of one state and one issued text give the same run.
+pub fn same_denotation()
+    ensures { SameDenotation }
+{}
+
+/// Where a freezing run carries, a run that goes on from the state that it froze joins it to one run
+/// over the sources of both.
+pub fn split_states()
+    ensures { SplitStates }
+{}
+
+/// A run that doesn't end by the limit of calls is the same under a larger one.
+pub fn larger_calls()
+    ensures { LargerCalls }
+{}
+
+/// A run that doesn't end by the limit of nesting is the same under a larger one, of which 0 is the
+/// largest.
+pub fn larger_nesting()
+    ensures { LargerNesting }
+{}

@@ -1,0 +1,9 @@
+//! Calls, their arguments and whole runs of the macro processor, and what holds of them.
+//!
+//! So far the crate has the definitions (`specs/`) and, in [`laws`], what is proved of them alone.
+//! Manual: "Macro invocation", "Macro arguments".
+#![tactic(auto)]
+
+pub mod ending;
+pub mod laws;
+pub mod options;

@@ -1,0 +1,121 @@
+-- Consumed: a token takes at least a byte, and leaves less of the text.
+use Rattle.std.proofs.Common.{◌≡◌, ◌⊎◌, ⊎_elim, inl, inr, le_refl, Option, ℕ, zero, suc, ◌+◌, ◌-◌, ◌<◌, ◌≤◌, Bool, true, false, cond, ◌&&◌, List, [], ◌∷◌, length, drop, Some, None, refl, ap, subst, arith, length-append, length-drop}
+use Rattle.std.specs.Prelude.{nat_lt}
+use Rattle.std.proofs.lemmas.Bool.Decides.{nat_tests}
+use Rattle.m4_state.specs.declared.definition.Def.{Def}
+use Rattle.m4_state.specs.declared.delimiters.Delimiters.{Delimiters}
+use Rattle.m4_input.specs.declared.token.Token.{Token}
+use Rattle.m4_input.specs.declared.token.Token.TheVariants.{Name, Str, Comment, Byte, Definition, End}
+use Rattle.m4_input.specs.declared.front.Scan.{Scan}
+use Rattle.m4_input.specs.declared.front.Scan.TheVariants.{Found, Broken, NeedsMore}
+use Rattle.m4_input.specs.declared.front.Unended.{Unended}
+use Rattle.m4_input.specs.declared.front.Mark.{Mark}
+use Rattle.m4_input.specs.declared.front.Mark.TheVariants.{EndQuote, BeginQuote, PlainByte, CutQuote}
+use Rattle.m4_input.specs.declared.front.Kind.{Kind}
+use Rattle.m4_input.specs.declared.front.Kind.TheVariants.{CommentHere, NameHere, StringHere, ByteHere, Undecided}
+use Rattle.m4_input.specs.declared.front.Answer.{Answer}
+use Rattle.m4_input.specs.declared.front.Answer.TheVariants.{Yes, No, Unknown}
+use Rattle.m4_input.specs.Ascii.{is_letter, is_name_byte, newline}
+use Rattle.m4_input.specs.Pending.{Pending, text_of, consumed, line_length, one_more, newlines_in}
+use Rattle.m4_input.specs.Token.{begins, is_cut, is_enabled, starts_with, may_start, run_length, before, mark_by, mark_at, level, unended, comment_found, name_unless, name_at, string_found, string_at, kind_by, kind_of, scan_kind, scan, Front, Taken, Refused, More, front_by, front_from, token_at}
+use Rattle.m4_input.specs.Paren.{answer_by, paren_in, paren_from, paren_at}
+
+pub text-consumed : (n : ℕ) (p : Pending) → length (text_of (consumed n p)) ≡ length (text_of p) - n
+text-consumed n p =
+    let a : length (text_of (consumed n p)) ≡ length (drop n p.pushed) + length (drop (n - length p.pushed) p.unread) = length-append (drop n p.pushed) (drop (n - length p.pushed) p.unread) in
+    let b : length (text_of p) ≡ length p.pushed + length p.unread = length-append p.pushed p.unread in
+    let c : length (drop n p.pushed) ≡ length p.pushed - n = length-drop n p.pushed in
+    let d : length (drop (n - length p.pushed) p.unread) ≡ length p.unread - (n - length p.pushed) = length-drop (n - length p.pushed) p.unread in
+    omega arith
+
+-- a text that isn't empty gives a token of reading least a byte, but for the end
+unfoldable pub HasBytes : Scan → Type 0
+HasBytes (Found End n) = Unit {0}
+HasBytes (Found (Name x) n) = 0 < n
+HasBytes (Found (Str x) n) = 0 < n
+HasBytes (Found (Comment x) n) = 0 < n
+HasBytes (Found (Byte b) n) = 0 < n
+HasBytes (Found (Definition d) n) = 0 < n
+HasBytes (Broken f) = Unit {0}
+HasBytes NeedsMore = Unit {0}
+
+needs_bytes : HasBytes NeedsMore
+unfolding HasBytes
+needs_bytes = tt
+
+broken_bytes : (f : Unended) → HasBytes (Broken f)
+unfolding HasBytes
+broken_bytes f = tt
+
+end_bytes : (n : ℕ) → HasBytes (Found End n)
+unfolding HasBytes
+end_bytes n = tt
+
+found_bytes : (t : Token) (n : ℕ) → 0 < n → HasBytes (Found t n)
+unfolding HasBytes
+found_bytes (Name x) n h = h
+found_bytes (Str x) n h = h
+found_bytes (Comment x) n h = h
+found_bytes (Byte x) n h = h
+found_bytes (Definition x) n h = h
+found_bytes End n h = tt
+
+enabled_long : (p : Delimiters) (b : Bool) → (is_enabled p && b) ≡ true → 0 < length p.begin
+enabled_long p b e = grind (arith, nat_tests)
+
+unended_bytes : (may_follow : Bool) (f : Unended) → HasBytes (unended may_follow f)
+unended_bytes true f = needs_bytes
+unended_bytes false f = broken_bytes f
+
+comment_bytes : (c : Delimiters) (may_follow : Bool) (x : List ℕ) → 0 < length c.begin → (o : Option ℕ) → HasBytes (comment_found c may_follow x o)
+comment_bytes c may_follow x h None = unended_bytes may_follow _
+comment_bytes c may_follow x h (Some n) = found_bytes _ _ (omega arith)
+
+string_bytes : (q : Delimiters) (may_follow : Bool) (y : List ℕ) → 0 < length q.begin → (o : Option ℕ) → HasBytes (string_found q may_follow y o)
+string_bytes q may_follow y h None = unended_bytes may_follow _
+string_bytes q may_follow y h (Some n) = found_bytes _ _ (omega arith)
+
+letter_named : (b : ℕ) → is_letter b ≡ true → is_name_byte b ≡ true
+letter_named b e = rw e refl
+
+run_starts : (b : ℕ) (x : List ℕ) → is_letter b ≡ true → 0 < run_length is_name_byte (b ∷ x)
+run_starts b x e = rw (letter_named b e, run_length) (omega arith)
+
+name_bytes : (b : Bool) (n : ℕ) (x : List ℕ) → 0 < n → HasBytes (name_unless b n x)
+name_bytes true n x h = needs_bytes
+name_bytes false n x h = found_bytes _ _ h
+
+-- what each front says of the text
+FrontSays : Delimiters → Delimiters → ℕ → Kind → Type 0
+FrontSays q c b CommentHere = 0 < length c.begin
+FrontSays q c b NameHere = is_letter b ≡ true
+FrontSays q c b StringHere = 0 < length q.begin
+FrontSays q c b ByteHere = Unit {0}
+FrontSays q c b Undecided = Unit {0}
+
+front_says : (q c : Delimiters) (b : ℕ) (t u v w x : Bool) → (t ≡ true → 0 < length c.begin) → (v ≡ true → is_letter b ≡ true) → (w ≡ true → 0 < length q.begin) → FrontSays q c b (kind_by t u v w x)
+unfolding FrontSays
+front_says q c b true u v w x f g h = f refl
+front_says q c b false true v w x f g h = tt
+front_says q c b false false true w x f g h = g refl
+front_says q c b false false false true x f g h = h refl
+front_says q c b false false false false true f g h = tt
+front_says q c b false false false false false f g h = tt
+
+scan_front_bytes : (f : Kind) (q c : Delimiters) (may_follow : Bool) (b : ℕ) (y : List ℕ) → FrontSays q c b f → HasBytes (scan_kind f q c may_follow b y)
+unfolding FrontSays
+scan_front_bytes CommentHere q c may_follow b y h = comment_bytes c may_follow (b ∷ y) h (before c.end (drop (length c.begin) (b ∷ y)))
+scan_front_bytes NameHere q c may_follow b y h = name_bytes _ (run_length is_name_byte (b ∷ y)) (b ∷ y) (run_starts b y h)
+scan_front_bytes StringHere q c may_follow b y h = string_bytes q may_follow (drop (length q.begin) (b ∷ y)) h (level q may_follow 0 0 (drop (length q.begin) (b ∷ y)))
+scan_front_bytes ByteHere q c may_follow b y h = found_bytes (Byte b) 1 (omega arith)
+scan_front_bytes Undecided q c may_follow b y h = needs_bytes
+
+at_nothing : (may_follow : Bool) → HasBytes (cond may_follow NeedsMore (Found End 0))
+at_nothing true = needs_bytes
+at_nothing false = end_bytes 0
+
+pub scan_bytes : (q c : Delimiters) (may_follow : Bool) (x : List ℕ) → HasBytes (scan q c may_follow x)
+scan_bytes q c may_follow [] = at_nothing may_follow
+scan_bytes q c may_follow (b ∷ y) =
+    scan_front_bytes (kind_of q c may_follow b y) q c may_follow b y
+    (front_says q c b _ _ _ _ _ (enabled_long c (begins c.begin (b ∷ y))) (λ e. e) (enabled_long q (begins q.begin (b ∷ y))))

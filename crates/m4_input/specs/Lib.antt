@@ -1,0 +1,5 @@
+pub mod Ascii
+pub mod DelimsView
+pub mod Pending
+pub mod Token
+pub mod Paren
