@@ -1,5 +1,5 @@
 -- Consumed: a token takes at least a byte, and leaves less of the text.
-use Rattle.std.proofs.Common.{◌≡◌, ◌⊎◌, ⊎_elim, inl, inr, le_refl, Option, ℕ, zero, suc, ◌+◌, ◌-◌, ◌<◌, ◌≤◌, Bool, true, false, cond, ◌&&◌, List, [], ◌∷◌, length, drop, Some, None, refl, ap, subst, arith, length-append, length-drop}
+use Rattle.std.proofs.Common.{◌≡◌, ◌≢◌, ◌⊎◌, ⊎_elim, inl, inr, le_refl, Option, ℕ, zero, suc, ◌+◌, ◌-◌, ◌<◌, ◌≤◌, Bool, true, false, cond, ◌&&◌, List, [], ◌∷◌, length, drop, Some, None, refl, ap, subst, arith, length-append, length-drop}
 use Rattle.std.specs.Prelude.{nat_lt}
 use Rattle.std.proofs.lemmas.Bool.Decides.{nat_tests}
 use Rattle.m4_state.specs.declared.definition.Def.{Def}
@@ -119,3 +119,43 @@ scan_bytes q c may_follow [] = at_nothing may_follow
 scan_bytes q c may_follow (b ∷ y) =
     scan_front_bytes (kind_of q c may_follow b y) q c may_follow b y
     (front_says q c b _ _ _ _ _ (enabled_long c (begins c.begin (b ∷ y))) (λ e. e) (enabled_long q (begins q.begin (b ∷ y))))
+
+-- a scan finds no definition: only what was put in front is one
+unfoldable pub NoDefinition : Scan → Type 0
+NoDefinition (Found t n) = (d : Def) → t ≢ Definition d
+NoDefinition (Broken what) = Unit {0}
+NoDefinition NeedsMore = Unit {0}
+
+unended_plain : (b : Bool) (u : Unended) → NoDefinition (unended b u)
+unfolding NoDefinition
+unended_plain true u = tt
+unended_plain false u = tt
+
+comment_plain : (c : Delimiters) (b : Bool) (x : List ℕ) (o : Option ℕ) → NoDefinition (comment_found c b x o)
+unfolding NoDefinition
+comment_plain c b x None = unended_plain b _
+comment_plain c b x (Some n) = λ d e. cc
+
+name_plain : (v : Bool) (n : ℕ) (x : List ℕ) → NoDefinition (name_unless v n x)
+unfolding NoDefinition
+name_plain true n x = tt
+name_plain false n x = λ d e. cc
+
+string_plain : (q : Delimiters) (b : Bool) (y : List ℕ) (o : Option ℕ) → NoDefinition (string_found q b y o)
+unfolding NoDefinition
+string_plain q b y None = unended_plain b _
+string_plain q b y (Some n) = λ d e. cc
+
+kind_plain : (k : Kind) (q c : Delimiters) (m : Bool) (b : ℕ) (y : List ℕ) → NoDefinition (scan_kind k q c m b y)
+unfolding NoDefinition
+kind_plain CommentHere q c m b y = comment_plain c m (b ∷ y) (before c.end (drop (length c.begin) (b ∷ y)))
+kind_plain NameHere q c m b y = name_plain _ (run_length is_name_byte (b ∷ y)) (b ∷ y)
+kind_plain StringHere q c m b y = string_plain q m (drop (length q.begin) (b ∷ y)) (level q m 0 0 (drop (length q.begin) (b ∷ y)))
+kind_plain ByteHere q c m b y = λ d e. cc
+kind_plain Undecided q c m b y = tt
+
+pub scan_plain : (q c : Delimiters) (m : Bool) (x : List ℕ) → NoDefinition (scan q c m x)
+unfolding NoDefinition
+scan_plain q c true [] = tt
+scan_plain q c false [] = λ d e. cc
+scan_plain q c m (b ∷ y) = kind_plain (kind_of q c m b y) q c m b y

@@ -2,3 +2,4 @@ pub mod Places
 pub mod CallerLaws
 pub mod Tables
 pub mod TextsByNumber
+pub mod StaysInOrder

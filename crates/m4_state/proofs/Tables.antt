@@ -44,12 +44,12 @@ AllByRecursion-push P [] y h p = (p, tt)
 AllByRecursion-push P (x ∷ xs) y h p = (h.0, AllByRecursion-push P xs y h.1 p)
 
 -- a push leaves something
-push_is_some : {X : Type 0} (xs : List X) (y : X) → xs ++ y ∷ [] ≢ []
+pub push_is_some : {X : Type 0} (xs : List X) (y : X) → xs ++ y ∷ [] ≢ []
 push_is_some [] y e = absurd cc
 push_is_some (x ∷ xs) y e = absurd cc
 
 -- what holds of each definition of each name holds of those of one
-stack_holds : (P : Def → Type 0) (Q : Pair → Type 0) (table : Pairs) (name : List ℕ) → ((e : Pair) → Q e → AllByRecursion P e.1) → AllByRecursion Q table → AllByRecursion P (stack_at table name)
+pub stack_holds : (P : Def → Type 0) (Q : Pair → Type 0) (table : Pairs) (name : List ℕ) → ((e : Pair) → Q e → AllByRecursion P e.1) → AllByRecursion Q table → AllByRecursion P (stack_at table name)
 stack_holds P Q table name all h = by (find byte_order name table) refl
   where
     by : (r : Option (List Def)) → find byte_order name table ≡ r → AllByRecursion P (unwrap_or r [])
@@ -57,7 +57,7 @@ stack_holds P Q table name all h = by (find byte_order name table) refl
     by (Some stack) e = all (name, stack) (AllByRecursion-find byte_order nat_list_cmp_total byte_order-IsAntisymmetric Q name stack table h e)
 
 -- the names still rise behind a write
-IsTrue-sorted-put : (table : Pairs) (name : List ℕ) (stack : List Def) → IsTrue (is_sorted byte_order table) → IsTrue (is_sorted byte_order (put byte_order name stack table))
+pub IsTrue-sorted-put : (table : Pairs) (name : List ℕ) (stack : List Def) → IsTrue (is_sorted byte_order table) → IsTrue (is_sorted byte_order (put byte_order name stack table))
 IsTrue-sorted-put table name stack h = from_T _ (is_sorted-put byte_order nat_list_cmp_total name stack table (subst T (sym h) tt))
   where
     from_T : (b : Bool) → T b → b ≡ true
