@@ -2,7 +2,7 @@
 //!
 //! Each function's contract is a law of `specs/Laws.antt`.
 
-ghost use Rattle.m4_engine.specs.Laws.{ExpansionRules, ExpandRules, LargerCalls, LargerNesting, OneStart, SameDenotation, SettledBegins, SplitStates};
+ghost use Rattle.m4_engine.specs.Laws.{ExpansionRules, ExpandRules, LargerCalls, LargerNesting, OneStart, SameDenotation, SettledBegins, Split, SplitStates};
 
 /// An expansion whose calls nest is what its turns say, and no bound on them is ever reached.
 pub fn expansion_rules<S, F, D>()
@@ -46,4 +46,11 @@ pub fn larger_calls()
 /// largest.
 pub fn larger_nesting()
     ensures { LargerNesting }
+{}
+
+/// Where a freezing run carries, from whatever start, a run that reloads the text that it froze joins
+/// it to one run over the sources of both: output, messages, ending, status, frozen text and calls.
+/// Manual: "Fast loading of frozen state".
+pub fn split()
+    ensures { Split }
 {}
