@@ -37,15 +37,10 @@ pub fn split_states()
     ensures { SplitStates }
 {}
 
-/// A run that doesn't end by the limit of calls is the same under a larger one.
-pub fn larger_calls()
-    ensures { LargerCalls }
-{}
-
-/// A run that doesn't end by the limit of nesting is the same under a larger one, of which 0 is the
-/// largest.
-pub fn larger_nesting()
-    ensures { LargerNesting }
+/// A run that doesn't end by a limit is the same under a larger one; of nesting 0 is the largest.
+pub fn larger_limits()
+    ensures calls { LargerCalls }
+    ensures nesting { LargerNesting }
 {}
 
 /// Where a freezing run carries, from whatever start, a run that reloads the text that it froze joins
