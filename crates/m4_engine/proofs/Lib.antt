@@ -16,3 +16,5 @@ pub mod RunsBehind
 pub mod Split
 pub mod SavesCount
 pub mod Limits
+pub mod InOrder
+pub mod Reloads

@@ -27,7 +27,7 @@ is_start prefix None start e = e
 is_start prefix (Some bytes) start (inl h) = h.2 ∙ sym (start-spelled prefix bytes h.0 h.1)
 is_start prefix (Some bytes) start (inr h) = h.2 ∙ sym (start-faulty prefix bytes h.0 h.1)
 
-starts_so : (prefix : Bool) (frozen : Option (List ℕ)) → IsStart prefix frozen (start_of prefix frozen)
+pub starts_so : (prefix : Bool) (frozen : Option (List ℕ)) → IsStart prefix frozen (start_of prefix frozen)
 starts_so prefix None = refl
 starts_so prefix (Some bytes) =
     ⊎_elim

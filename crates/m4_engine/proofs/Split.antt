@@ -15,7 +15,7 @@ use Rattle.m4_engine.proofs.OnePass.{over_wraps, sources_append}
 use Rattle.m4_engine.proofs.RunsBehind.{Bp, Behind, sources_behind, rounds_behind}
 
 -- a run that froze is not over, and froze its state
-frozen_by : (v : Option How) (saved : List (List ℕ)) (r : RunSoFar) (missed : Bool) (text : List ℕ) → (result_by v true saved r missed).frozen ≡ Some text → (v ≡ None) × (text ≡ freeze r.state)
+pub frozen_by : (v : Option How) (saved : List (List ℕ)) (r : RunSoFar) (missed : Bool) (text : List ℕ) → (result_by v true saved r missed).frozen ≡ Some text → (v ≡ None) × (text ≡ freeze r.state)
 frozen_by None saved r missed text e = (refl, cc)
 frozen_by (Some h) saved r missed text e = cc
 

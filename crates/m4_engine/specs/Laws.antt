@@ -1,6 +1,7 @@
 -- What holds of the definitions alone: the laws of expansions and runs.
 -- Believed as statements; the functions of the module `laws` carry their proofs.
--- Words: ExpansionRules, ExpandRules, OneStart, SameDenotation, SettledBegins.
+-- Words: ExpansionRules, ExpandRules, OneStart, SameDenotation, SettledBegins, SplitStates, Split,
+-- LargerNesting, LargerCalls.
 use Rattle.std.specs.Prelude.{◌≡◌, ◌≢◌, ◌↔◌, ◌⊎◌, ℕ, ◌+◌, ◌<◌, ◌≤◌, Bool, true, List, [], ◌∷◌, ◌++◌, Option, Some}
 use Rattle.m4_frozen.specs.Directive.{Directive}
 use Rattle.m4_frozen.specs.Spells.{Spells}
@@ -85,6 +86,17 @@ SplitStates =
     → Joins (run_from (freezing true o) start as')
     (run_from (freezing freezes o) (From (frozen_state (freezing true o) start as') []) bs)
     (run_from (freezing freezes o) start (as' ++ bs))
+
+-- The same of the frozen text: from any start, fresh, prefixed or reloaded, where a freezing run over
+-- `as` carries, a run from the text that it froze over `bs` joins it to the run over both.
+abbrev pub Split : Type 0
+Split =
+    (o : Options) (freezes : Bool) (frozen : Option (List ℕ)) (as' bs : List Source) (text : List ℕ)
+    → Carries (freezing true o) (start_of o.prefix frozen) as'
+    → (run (freezing true o) frozen as').frozen ≡ Some text
+    → (run (freezing freezes o) frozen (as' ++ bs)).how ≢ Ends causes.ExpansionLimit
+    → Joins (run (freezing true o) frozen as') (run (freezing freezes o) (Some text) bs)
+    (run (freezing freezes o) frozen (as' ++ bs))
 
 -- a limit of nesting that is as large, where 0 is the largest
 abbrev pub IsAsDeep : ℕ → ℕ → Type 0

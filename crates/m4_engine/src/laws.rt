@@ -2,7 +2,7 @@
 //!
 //! Each function's contract is a law of `specs/Laws.antt`.
 
-ghost use Rattle.m4_engine.specs.Laws.{ExpansionRules, ExpandRules, LargerCalls, LargerNesting, OneStart, SameDenotation, SettledBegins, SplitStates};
+ghost use Rattle.m4_engine.specs.Laws.{ExpansionRules, ExpandRules, LargerCalls, LargerNesting, OneStart, SameDenotation, SettledBegins, Split, SplitStates};
 
 /// An expansion whose calls nest is what its turns say, and no bound on them is ever reached.
 pub fn expansion_rules<S, F, D>()
@@ -37,13 +37,15 @@ pub fn split_states()
     ensures { SplitStates }
 {}
 
-/// A run that doesn't end by the limit of calls is the same under a larger one.
-pub fn larger_calls()
-    ensures { LargerCalls }
+/// A run that doesn't end by a limit is the same under a larger one; of nesting 0 is the largest.
+pub fn larger_limits()
+    ensures calls { LargerCalls }
+    ensures nesting { LargerNesting }
 {}
 
-/// A run that doesn't end by the limit of nesting is the same under a larger one, of which 0 is the
-/// largest.
-pub fn larger_nesting()
-    ensures { LargerNesting }
+/// Where a freezing run carries, from whatever start, a run that reloads the text that it froze joins
+/// it to one run over the sources of both: output, messages, ending, status, frozen text and calls.
+/// Manual: "Fast loading of frozen state".
+pub fn split()
+    ensures { Split }
 {}
