@@ -1,5 +1,5 @@
 -- ActKeeps: a call leaves a state in order in order, and pushes definitions in order.
-use Rattle.std.proofs.Common.{◌≡◌, ℕ, Bool, true, false, List, [], ◌∷◌, ◌++◌, map, length, Option, Some, None, refl, sym, ap, subst, fold}
+use Rattle.std.proofs.Common.{ℕ, Bool, true, false, List, [], ◌∷◌, length, Option, Some, None, fold}
 use Rattle.std.specs.Prelude.{nat_lt}
 use Rattle.std.specs.List.{AllByRecursion}
 use Rattle.m4_state.specs.declared.builtin.Builtin.{Builtin}
@@ -7,7 +7,7 @@ use Rattle.m4_state.specs.declared.builtin.Builtin.TheVariants.{Define, Undefine
 use Rattle.m4_state.specs.declared.definition.Def.{Def}
 use Rattle.m4_state.specs.declared.definition.Def.TheVariants as defs
 use Rattle.m4_state.specs.Definition.{IsDefinition}
-use Rattle.m4_state.specs.Builtin.{takes_tokens, least_of, most_of}
+use Rattle.m4_state.specs.Builtin.{takes_tokens, least_of}
 use Rattle.m4_state.specs.State.{State, undefined, IsState}
 use Rattle.m4_state.proofs.StaysInOrder.{IsState-defined, IsState-undefined, IsState-with_quotes, IsState-with_comments, IsState-default_quotes}
 use Rattle.m4_input.specs.declared.pushed.Pushed.{Pushed}
@@ -15,8 +15,8 @@ use Rattle.m4_input.specs.declared.pushed.Pushed.TheVariants as pushes
 use Rattle.m4_builtins.specs.declared.args.Arg.{Arg}
 use Rattle.m4_builtins.specs.declared.args.Arg.TheVariants as args
 use Rattle.m4_builtins.specs.declared.place.Place.{Place}
-use Rattle.m4_builtins.specs.Args.{text_of_arg, only_text, definition_of_arg, text_at}
-use Rattle.m4_builtins.specs.Act.{Acted, act, act_unless, row, define, definition_in, changequote, taken, is_above, excess_if}
+use Rattle.m4_builtins.specs.Args.{text_of_arg, definition_of_arg, text_at}
+use Rattle.m4_builtins.specs.Act.{act, act_unless, row, define, definition_in, changequote, taken}
 
 -- an argument that is a definition is one that is in order
 abbrev pub IsArg : Arg → Type 0

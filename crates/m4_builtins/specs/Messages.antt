@@ -2,7 +2,7 @@
 -- Believed. Manual: "Location within input" (where a message says that it comes from).
 -- Words: warning, error, too_few, excess, unsupported, dropped, bad_name.
 -- own: the texts, and that wrapped text, whose line is 0, tells no place.
-use Rattle.std.specs.Prelude.{ℕ, ◌==◌, List, [], ◌∷◌, ◌++◌, codes, if◌then◌else◌}
+use Rattle.std.specs.Prelude.{ℕ, ◌==◌, List, [], ◌++◌, codes, if◌then◌else◌}
 use Rattle.std.specs.Fmt.{decimal}
 use Rattle.m4_state.specs.declared.builtin.Builtin.{Builtin}
 use Rattle.m4_state.specs.Builtin.{name_of}

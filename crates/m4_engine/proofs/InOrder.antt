@@ -1,5 +1,5 @@
 -- InOrder: an expansion leaves a state in order, and so does a run.
-use Rattle.std.proofs.Common.{◌≡◌, ◌≢◌, ◌⊎◌, inl, inr, ⊎_elim, Option, ℕ, zero, suc, ◌+◌, ◌<◌, Bool, true, false, List, [], ◌∷◌, ◌++◌, length, Some, None, refl, sym, ap, ◌∙◌, subst, fold}
+use Rattle.std.proofs.Common.{◌≡◌, ◌≢◌, inl, inr, Option, ℕ, zero, suc, Bool, true, false, List, [], ◌∷◌, Some, None, refl, sym, subst, fold}
 use Rattle.std.specs.Prelude.{nat_lt, FitsSigned}
 use Rattle.std.specs.Int.{w32}
 use Rattle.std.specs.List.{AllByRecursion}
@@ -9,46 +9,36 @@ use Rattle.m4_input.specs.declared.token.Token.{Token}
 use Rattle.m4_input.specs.declared.token.Token.TheVariants.{Name, Str, Comment, Byte, Definition, End}
 use Rattle.m4_input.specs.declared.front.Scan.{Scan}
 use Rattle.m4_input.specs.declared.front.Scan.TheVariants.{Found, Broken, NeedsMore}
-use Rattle.m4_input.specs.declared.front.Unended.{Unended}
-use Rattle.m4_input.specs.declared.front.Mark.{Mark}
-use Rattle.m4_input.specs.declared.front.Mark.TheVariants.{EndQuote, BeginQuote, PlainByte, CutQuote}
-use Rattle.m4_input.specs.declared.front.Kind.{Kind}
-use Rattle.m4_input.specs.declared.front.Kind.TheVariants.{CommentHere, NameHere, StringHere, ByteHere, Undecided}
 use Rattle.m4_input.specs.declared.front.Answer.{Answer}
 use Rattle.m4_input.specs.declared.front.Answer.TheVariants.{Yes, No, Unknown}
-use Rattle.m4_input.specs.Ascii.{is_letter, is_name_byte, newline}
-use Rattle.m4_input.specs.Pending.{Pending, text_of, consumed, line_length, one_more, newlines_in}
-use Rattle.m4_input.specs.Token.{begins, is_cut, is_enabled, starts_with, may_start, run_length, before, mark_by, mark_at, level, unended, comment_found, name_unless, name_at, string_found, string_at, kind_by, kind_of, scan_kind, scan, Front, Taken, Refused, More, front_by, front_from, token_at}
-use Rattle.m4_input.specs.Paren.{answer_by, paren_in, paren_from, paren_at}
+use Rattle.m4_input.specs.Pending.{Pending, text_of, line_length}
+use Rattle.m4_input.specs.Token.{scan, Front, Taken, Refused, More, front_by, front_from, token_at}
+use Rattle.m4_input.specs.Paren.{paren_at}
 use Rattle.m4_state.specs.State.{State, top_of}
 use Rattle.m4_input.specs.declared.pushed.Pushed.{Pushed}
 use Rattle.m4_input.specs.declared.pushed.Pushed.TheVariants as pushes
-use Rattle.m4_engine.specs.declared.ending.Cause.{Cause}
-use Rattle.m4_engine.specs.declared.ending.Cause.TheVariants as causes
-use Rattle.m4_engine.specs.Nesting.{Turn, Halt, Close, GoOn, Bare, Opens, Outcome, Halted, Closed, then_on, after, Falls}
-use Rattle.m4_engine.specs.Expansion.{RunSoFar, Limits, Call, Mode, Outside, Collecting, Expansion, Kept, How, Ends, WantsMore, Spent, Ended, place_at, with_message, with_call, reading, put_text, put_token}
-use Rattle.m4_engine.specs.Args.{with_argument, dropped_if_any, end_argument, with_parenthesis, Role, Opening, Closing, Separator, Blank, Other, role_of, take_closing, take_byte}
-use Rattle.m4_engine.specs.Expand.{with_pushed, with_acted, skip_all, skip_line, skip_or_push, effected, acted_at, kept_of, behind_call, called, join_by, join, call_of, bare, collect, call_unless_deep, is_deep, call_if_room, call, needs_list, call_without_list, take_call, take_name, take_other, take_end, take_token, take_front, unended_cause, turn, definition_size, pending_size, size_of, calls_left, spent_at, expand}
+use Rattle.m4_engine.specs.Nesting.{Turn, Halt, Close, GoOn, Bare, Opens, Outcome, Halted, Closed}
+use Rattle.m4_engine.specs.Expansion.{RunSoFar, Limits, Call, Mode, Outside, Collecting, Expansion, Kept, How, Ended, place_at, with_call, reading, put_text}
+use Rattle.m4_engine.specs.Args.{end_argument, with_parenthesis, Role, Opening, Closing, Separator, Blank, Other, role_of, take_closing, take_byte}
+use Rattle.m4_engine.specs.Expand.{with_pushed, skip_all, skip_line, skip_or_push, effected, acted_at, kept_of, behind_call, called, join_by, join, call_of, bare, collect, call_unless_deep, is_deep, call_if_room, needs_list, call_without_list, take_call, take_name, take_other, take_end, take_token, take_front, turn, size_of, calls_left, spent_at, expand}
 use Rattle.m4_state.specs.declared.definition.Def.TheVariants as defs
 use Rattle.m4_state.specs.declared.builtin.Builtin.{Builtin}
 use Rattle.m4_state.specs.Builtin.{builtin_named}
 use Rattle.m4_state.specs.Definition.{IsDefinition}
 use Rattle.m4_state.specs.State.{IsState, empty}
-use Rattle.m4_state.specs.Fresh.{fresh}
 use Rattle.m4_state.proofs.Tables.{AllByRecursion-push}
 use Rattle.m4_state.proofs.StaysInOrder.{IsState-appended, IsState-pushed, IsState-with_quotes, IsState-with_comments, IsState-diverted, IsState-empty, IsState-fresh, top_definition}
 use Rattle.m4_input.proofs.Consumed.{NoDefinition, scan_plain}
-use Rattle.m4_builtins.specs.declared.args.Arg.{Arg}
 use Rattle.m4_builtins.proofs.ActKeeps.{IsArg, IsPushed, act_keeps, act_pushes}
 use Rattle.m4_frozen.specs.Directive.{Directive, Quotes, Comments, Text, Builtin as NamedBuiltin, Diversion}
-use Rattle.m4_frozen.specs.Spells.{Spells, SpellsAll, SpellsOne}
-use Rattle.m4_frozen.specs.Denote.{denote, with_directive, definition_named, builtin_or_placeholder}
+use Rattle.m4_frozen.specs.Spells.{SpellsAll, SpellsOne}
+use Rattle.m4_frozen.specs.Denote.{with_directive, definition_named, builtin_or_placeholder}
 use Rattle.m4_engine.specs.Expansion.{diverted_in, mode_with_text, mode_with_token}
 use Rattle.m4_engine.specs.Args.{argument_of}
 use Rattle.m4_engine.specs.Expand.{mode_behind_call, expansion_of, ended_of, expand_input}
 use Rattle.m4_engine.specs.File.{Source, Opened, Unopened, Progress, file_pending, unless_over, read_source, after_source, after_sources}
 use Rattle.m4_engine.specs.Wraps.{read_saved, next_round, rounds, after_wraps, wrapped_pending, joined_back}
-use Rattle.m4_engine.specs.Start.{Start, From, Faulty, IsStart, reloaded, start_of, begun}
+use Rattle.m4_engine.specs.Start.{Start, IsStart, begun}
 use Rattle.m4_engine.proofs.ByRules.{Rules, holds}
 use Rattle.m4_engine.proofs.CallsFall.{falls}
 

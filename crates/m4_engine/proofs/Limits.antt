@@ -1,5 +1,5 @@
 -- Limits: a run that doesn't end by a limit is the same under a larger one.
-use Rattle.std.proofs.Common.{◌≡◌, ◌≢◌, ◌⊎◌, inl, inr, ⊎_elim, Option, ℕ, zero, suc, ◌+◌, ◌-◌, ◌<◌, ◌≤◌, Bool, true, false, ◌&&◌, List, [], ◌∷◌, ◌++◌, Some, None, refl, sym, ap, ◌∙◌, subst, arith}
+use Rattle.std.proofs.Common.{◌≡◌, ◌≢◌, ◌⊎◌, inl, inr, ⊎_elim, Option, ℕ, zero, suc, ◌+◌, ◌-◌, ◌<◌, ◌≤◌, Bool, true, false, ◌&&◌, List, [], ◌∷◌, Some, None, refl, sym, ap, ◌∙◌, subst, arith}
 use Rattle.std.specs.Prelude.{nat_lt}
 use Rattle.std.proofs.lemmas.Bool.Decides.{nat_tests}
 use Rattle.m4_engine.specs.declared.options.Options.{Options}
@@ -7,13 +7,13 @@ use Rattle.m4_engine.specs.declared.ending.Cause.TheVariants as causes
 use Rattle.m4_engine.specs.Expansion.{RunSoFar, Limits as TheLimits, How, Ends}
 use Rattle.m4_engine.specs.File.{Source, Progress, over_of, after_sources}
 use Rattle.m4_engine.specs.Wraps.{read_saved, next_round, rounds, after_wraps, joined_back, wrapped_pending}
-use Rattle.m4_engine.specs.Start.{Start, From, Faulty, begun}
-use Rattle.m4_engine.specs.Run.{RunResult, limits_of, result_by, result_of, saved_unless_over, saved_behind, run_from}
+use Rattle.m4_engine.specs.Start.{Start, begun}
+use Rattle.m4_engine.specs.Run.{result_by, result_of, saved_behind, run_from}
 use Rattle.m4_engine.specs.Laws.{IsAsDeep}
 use Rattle.m4_engine.proofs.OnePass.{over_wraps}
-use Rattle.m4_engine.proofs.SavesCount.{Saves, input_saves}
+use Rattle.m4_engine.proofs.SavesCount.{input_saves}
 use Rattle.m4_engine.proofs.Shifts.{behind_record}
-use Rattle.m4_engine.proofs.RunsBehind.{Bp, Behind, sources_behind, rounds_behind, over_rounds}
+use Rattle.m4_engine.proofs.RunsBehind.{Behind, sources_behind, rounds_behind, over_rounds}
 
 -- ---- the rounds are enough
 

@@ -1,6 +1,5 @@
 -- OnePass: what a beginning of an input settles stands whatever follows it.
-use Rattle.std.proofs.Common.{◌≡◌, ◌≢◌, ◌⊎◌, inl, inr, ⊎_elim, ℕ, zero, suc, Bool, true, false, List, [], ◌∷◌, ◌++◌, Option, Some, None, refl, sym, ap, ◌∙◌, subst, append_assoc, append-nil}
-use Rattle.m4_input.specs.Pending.{Pending}
+use Rattle.std.proofs.Common.{◌≡◌, ◌≢◌, ◌⊎◌, inl, inr, ℕ, zero, suc, Bool, true, false, List, [], ◌∷◌, ◌++◌, Option, Some, None, refl, sym, ap, ◌∙◌, subst, append_assoc, append-nil}
 use Rattle.m4_engine.specs.declared.options.Options.{Options}
 use Rattle.m4_engine.specs.declared.ending.Cause.{Cause}
 use Rattle.m4_engine.specs.declared.ending.Cause.TheVariants as causes
@@ -10,8 +9,8 @@ use Rattle.m4_engine.specs.Expand.{expand, expansion_of, ended_of, expand_input,
 use Rattle.m4_engine.specs.File.{Source, Opened, Unopened, Progress, file, file_pending, over_by, over_of, after_input, read_source, unless_over, after_source, after_sources, cannot_open}
 use Rattle.m4_engine.specs.Wraps.{read_saved, next_round, rounds, after_wraps, joined_back, wrapped_pending, close}
 use Rattle.m4_engine.specs.Start.{Start, begun}
-use Rattle.m4_engine.specs.Run.{RunResult, limits_of, closed_output, result_by, result_of, saved_behind, finished, run_from}
-use Rattle.m4_engine.specs.Settled.{SettledSoFar, settled_of, settled_ended, settled_by, settled_in, settled}
+use Rattle.m4_engine.specs.Run.{limits_of, result_by, result_of, saved_behind, run_from}
+use Rattle.m4_engine.specs.Settled.{settled_of, settled_ended, settled_by, settled_in, settled}
 use Rattle.m4_engine.specs.Laws.{IsBeginning, AreSettled}
 use Rattle.m4_engine.proofs.Growth.{Extends, made_out, longer_level, Begins}
 use Rattle.m4_engine.proofs.OnlyGrows.{extends_same, extends_more, tells, input_keeps}

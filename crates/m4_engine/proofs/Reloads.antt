@@ -1,5 +1,5 @@
 -- Reloads: a run that reloads the text that another froze goes on from the state that this left.
-use Rattle.std.proofs.Common.{◌≡◌, ◌≢◌, ℕ, Bool, true, List, [], ◌++◌, Option, Some, refl, sym, ap, ◌∙◌, subst}
+use Rattle.std.proofs.Common.{◌≡◌, ◌≢◌, ℕ, Bool, true, List, [], ◌++◌, Option, Some, sym, ap, ◌∙◌, subst}
 use Rattle.m4_state.specs.State.{State, IsState, IsSized}
 use Rattle.m4_frozen.specs.declared.loading.Loaded.{Loaded}
 use Rattle.m4_frozen.specs.Freeze.{freeze}
@@ -9,7 +9,6 @@ use Rattle.m4_engine.specs.declared.options.Options.{Options}
 use Rattle.m4_engine.specs.declared.ending.Cause.TheVariants as causes
 use Rattle.m4_engine.specs.Expansion.{Limits, Ends}
 use Rattle.m4_engine.specs.File.{Source, Progress, after_sources}
-use Rattle.m4_engine.specs.Wraps.{after_wraps}
 use Rattle.m4_engine.specs.Start.{Start, From, start_of, begun}
 use Rattle.m4_engine.specs.Run.{limits_of, saved_behind, run, run_from}
 use Rattle.m4_engine.specs.Carries.{Carries, end_of, frozen_state}

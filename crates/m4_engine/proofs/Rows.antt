@@ -1,14 +1,12 @@
 -- Rows: worked runs, computed from the definitions. Each says the whole result, or the parts named.
-use Rattle.std.proofs.Common.{Some, None, ◌≡◌, ℕ, List, [], ◌∷◌, false, true, refl}
-use Rattle.std.specs.Prelude.{codes, Option}
+use Rattle.std.proofs.Common.{None, ◌≡◌, ℕ, List, [], ◌∷◌, false, true, refl}
+use Rattle.std.specs.Prelude.{codes}
 use Rattle.std.specs.Fmt.{digits}
 use Rattle.m4_engine.specs.declared.options.Options.{Options}
 use Rattle.m4_engine.specs.declared.ending.Cause.TheVariants as causes
-use Rattle.m4_engine.specs.Expansion.{How, Ends, WantsMore}
-use Rattle.m4_engine.specs.File.{Source, Opened, Unopened}
-use Rattle.m4_engine.specs.Start.{Start, start_of}
+use Rattle.m4_engine.specs.Expansion.{Ends}
+use Rattle.m4_engine.specs.File.{Opened, Unopened}
 use Rattle.m4_engine.specs.Run.{RunResult, run}
-use Rattle.m4_engine.specs.Settled.{SettledSoFar, settled}
 
 -- the default limits, but for these
 abbrev pub limited : ℕ → ℕ → Options

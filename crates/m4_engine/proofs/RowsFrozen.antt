@@ -1,6 +1,6 @@
 -- RowsFrozen: worked runs that freeze and reload, and what beginnings settle, computed.
-use Rattle.std.proofs.Common.{Some, None, ◌≡◌, ℕ, List, [], ◌∷◌, false, true, refl}
-use Rattle.std.specs.Prelude.{codes, Option}
+use Rattle.std.proofs.Common.{Some, None, ◌≡◌, ℕ, List, [], ◌∷◌, false, refl}
+use Rattle.std.specs.Prelude.{codes}
 use Rattle.std.specs.Fmt.{digits}
 use Rattle.m4_frozen.specs.ReaderSteps as steps
 use Rattle.m4_frozen.specs.declared.fault.FrozenKind.TheVariants as kinds

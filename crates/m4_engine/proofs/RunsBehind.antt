@@ -1,10 +1,10 @@
 -- RunsBehind: a run that goes on from what was made before does what the run from nothing does.
-use Rattle.std.proofs.Common.{◌≡◌, ◌⊎◌, inl, inr, ⊎_elim, Option, ℕ, zero, suc, ◌+◌, ◌<◌, Bool, true, false, ◌&&◌, List, [], ◌∷◌, ◌++◌, Some, None, refl, sym, ap, ◌∙◌, subst, append_assoc}
+use Rattle.std.proofs.Common.{◌≡◌, ◌⊎◌, inl, inr, Option, ℕ, zero, suc, ◌+◌, ◌<◌, Bool, true, false, ◌&&◌, List, [], ◌∷◌, Some, None, refl, sym, ap, ◌∙◌, subst, append_assoc}
 use Rattle.std.specs.Prelude.{nat_lt}
 use Rattle.m4_input.specs.Pending.{Pending}
 use Rattle.m4_engine.specs.declared.ending.Cause.TheVariants as causes
 use Rattle.m4_engine.specs.Nesting.{Outcome, Halted, Closed}
-use Rattle.m4_engine.specs.Expansion.{RunSoFar, Limits, Expansion, How, Ends, Ended, with_message}
+use Rattle.m4_engine.specs.Expansion.{RunSoFar, Limits, Expansion, How, Ends, Ended}
 use Rattle.m4_engine.specs.Expand.{expand, expansion_of, ended_of, expand_input, spent_at}
 use Rattle.m4_engine.specs.File.{Source, Opened, Unopened, Progress, file_pending, over_of, after_input, read_source, unless_over, after_source, after_sources, cannot_open}
 use Rattle.m4_engine.specs.Wraps.{read_saved, next_round, rounds, wrapped_pending, joined_back}

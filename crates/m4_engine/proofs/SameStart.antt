@@ -1,12 +1,12 @@
 -- SameStart: the start of a run is what the grammar of frozen files and the table of faults say.
-use Rattle.std.proofs.Common.{◌≡◌, ◌⊎◌, inl, inr, ⊎_elim, ◌↔◌, ℕ, Bool, List, Option, Some, None, Result, Ok, Err, refl, sym, ap, ◌∙◌, subst}
+use Rattle.std.proofs.Common.{◌≡◌, inl, inr, ⊎_elim, ◌↔◌, ℕ, Bool, List, Option, Some, None, refl, sym, ap, ◌∙◌, subst}
 use Rattle.m4_frozen.specs.declared.loading.Loaded.{Loaded}
 use Rattle.m4_frozen.specs.declared.fault.FrozenFault.{FrozenFault}
 use Rattle.m4_frozen.specs.Directive.{Directive}
 use Rattle.m4_frozen.specs.Spells.{Spells}
 use Rattle.m4_frozen.specs.Denote.{denote}
 use Rattle.m4_frozen.specs.FaultAt.{FaultAt}
-use Rattle.m4_frozen.specs.ReaderSteps.{file_at, fault_of}
+use Rattle.m4_frozen.specs.ReaderSteps.{fault_of}
 use Rattle.m4_frozen.proofs.Answered as frozen
 use Rattle.m4_engine.specs.declared.options.Options.{Options}
 use Rattle.m4_engine.specs.File.{Source}

@@ -1,5 +1,5 @@
 -- Split: a run that stops at a frozen file, and the one that goes on from it, are one run.
-use Rattle.std.proofs.Common.{◌≡◌, ◌≢◌, ◌⊎◌, inl, inr, ⊎_elim, Option, ℕ, zero, suc, ◌+◌, ◌<◌, Bool, true, false, ◌&&◌, List, [], ◌∷◌, ◌++◌, Some, None, refl, sym, ap, ◌∙◌, subst, arith, append_assoc, append-nil}
+use Rattle.std.proofs.Common.{◌≡◌, ◌≢◌, inl, inr, Option, ℕ, suc, ◌+◌, ◌<◌, Bool, true, false, List, [], ◌∷◌, ◌++◌, Some, None, refl, sym, ap, ◌∙◌, subst, arith, append_assoc, append-nil}
 use Rattle.m4_state.specs.State.{State}
 use Rattle.m4_frozen.specs.Freeze.{freeze}
 use Rattle.m4_engine.specs.declared.options.Options.{Options}
@@ -7,8 +7,8 @@ use Rattle.m4_engine.specs.declared.ending.Cause.TheVariants as causes
 use Rattle.m4_engine.specs.Expansion.{RunSoFar, Limits, How, Ends}
 use Rattle.m4_engine.specs.File.{Source, Progress, over_of, after_sources}
 use Rattle.m4_engine.specs.Wraps.{next_round, rounds, after_wraps, close}
-use Rattle.m4_engine.specs.Start.{Start, From, Faulty, begun, so_far_from}
-use Rattle.m4_engine.specs.Run.{RunResult, limits_of, status_by, closed_output, result_by, result_of, saved_unless_over, saved_behind, run_from}
+use Rattle.m4_engine.specs.Start.{Start, From, Faulty, begun}
+use Rattle.m4_engine.specs.Run.{RunResult, limits_of, closed_output, result_by, result_of, saved_unless_over, saved_behind, run_from}
 use Rattle.m4_engine.specs.Carries.{Carries, frozen_state}
 use Rattle.m4_engine.specs.Laws.{freezing, Joins}
 use Rattle.m4_engine.proofs.OnePass.{over_wraps, sources_append}

@@ -4,12 +4,12 @@
 -- A turn takes the first token. A name with a definition is a call: it is counted, its arguments
 -- are collected, it is acted on, and what it gives is read again. All other tokens are text.
 -- Words: called, call, turn, expand.
-use Rattle.std.specs.Prelude.{ℕ, zero, suc, ◌+◌, ◌-◌, Bool, true, false, ◌&&◌, nat_lt, List, [], ◌∷◌, ◌++◌, Option, Some, None, length, codes}
+use Rattle.std.specs.Prelude.{ℕ, suc, ◌+◌, ◌-◌, Bool, true, false, ◌&&◌, nat_lt, List, [], ◌∷◌, ◌++◌, Option, Some, None, length, codes}
 use Rattle.std.specs.Fmt.{decimal}
 use Rattle.m4_state.specs.declared.definition.Def.{Def}
 use Rattle.m4_state.specs.declared.definition.Def.TheVariants as defs
 use Rattle.m4_state.specs.Builtin.{needs_args}
-use Rattle.m4_state.specs.State.{State, top_of}
+use Rattle.m4_state.specs.State.{top_of}
 use Rattle.m4_input.specs.declared.token.Token.{Token}
 use Rattle.m4_input.specs.declared.token.Token.TheVariants.{Name, Str, Comment, Byte, Definition, End}
 use Rattle.m4_input.specs.declared.front.Unended.{Unended}
@@ -26,8 +26,8 @@ use Rattle.m4_builtins.specs.Args.{or_empty}
 use Rattle.m4_builtins.specs.Act.{Acted, act}
 use Rattle.m4_engine.specs.declared.ending.Cause.{Cause}
 use Rattle.m4_engine.specs.declared.ending.Cause.TheVariants as causes
-use Rattle.m4_engine.specs.Nesting.{Turn, Halt, Close, GoOn, Bare, Opens, Outcome, Halted, Closed, expansion}
-use Rattle.m4_engine.specs.Expansion.{RunSoFar, Limits, Call, Mode, Outside, Collecting, Expansion, Kept, How, Ends, WantsMore, Spent, Ended, place_at, with_message, with_call, reading, stop, fail, put_text, put_token}
+use Rattle.m4_engine.specs.Nesting.{Turn, Halt, GoOn, Bare, Opens, Outcome, Halted, Closed, expansion}
+use Rattle.m4_engine.specs.Expansion.{RunSoFar, Limits, Call, Mode, Outside, Collecting, Expansion, Kept, Ends, WantsMore, Spent, Ended, place_at, with_call, reading, stop, fail, put_text, put_token}
 use Rattle.m4_engine.specs.Args.{take_byte, role_of}
 
 -- a value is put in front of what is pending

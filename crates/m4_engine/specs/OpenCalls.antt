@@ -1,7 +1,7 @@
 -- OpenCalls: an expansion as a machine that keeps its open calls on a stack.
 -- Not believed: it is tied to the nested expansion by `MachineIsNesting`.
 -- Words: Stacked, Move, move, resume, meaning.
-use Rattle.std.specs.Prelude.{◌≡◌, ℕ, List, [], ◌∷◌}
+use Rattle.std.specs.Prelude.{List, [], ◌∷◌}
 use Rattle.m4_engine.specs.Nesting.{Turn, Halt, Close, GoOn, Bare, Opens, Outcome, Halted, Closed, then_on}
 
 -- what is kept of the levels whose lists are open, the innermost first, and where the innermost stands

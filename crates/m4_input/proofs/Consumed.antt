@@ -1,6 +1,5 @@
 -- Consumed: a token takes at least a byte, and leaves less of the text.
-use Rattle.std.proofs.Common.{◌≡◌, ◌≢◌, ◌⊎◌, ⊎_elim, inl, inr, le_refl, Option, ℕ, zero, suc, ◌+◌, ◌-◌, ◌<◌, ◌≤◌, Bool, true, false, cond, ◌&&◌, List, [], ◌∷◌, length, drop, Some, None, refl, ap, subst, arith, length-append, length-drop}
-use Rattle.std.specs.Prelude.{nat_lt}
+use Rattle.std.proofs.Common.{◌≡◌, ◌≢◌, Option, ℕ, ◌+◌, ◌-◌, ◌<◌, Bool, true, false, cond, ◌&&◌, List, [], ◌∷◌, length, drop, Some, None, refl, arith, length-append, length-drop}
 use Rattle.std.proofs.lemmas.Bool.Decides.{nat_tests}
 use Rattle.m4_state.specs.declared.definition.Def.{Def}
 use Rattle.m4_state.specs.declared.delimiters.Delimiters.{Delimiters}
@@ -9,16 +8,11 @@ use Rattle.m4_input.specs.declared.token.Token.TheVariants.{Name, Str, Comment, 
 use Rattle.m4_input.specs.declared.front.Scan.{Scan}
 use Rattle.m4_input.specs.declared.front.Scan.TheVariants.{Found, Broken, NeedsMore}
 use Rattle.m4_input.specs.declared.front.Unended.{Unended}
-use Rattle.m4_input.specs.declared.front.Mark.{Mark}
-use Rattle.m4_input.specs.declared.front.Mark.TheVariants.{EndQuote, BeginQuote, PlainByte, CutQuote}
 use Rattle.m4_input.specs.declared.front.Kind.{Kind}
 use Rattle.m4_input.specs.declared.front.Kind.TheVariants.{CommentHere, NameHere, StringHere, ByteHere, Undecided}
-use Rattle.m4_input.specs.declared.front.Answer.{Answer}
-use Rattle.m4_input.specs.declared.front.Answer.TheVariants.{Yes, No, Unknown}
-use Rattle.m4_input.specs.Ascii.{is_letter, is_name_byte, newline}
-use Rattle.m4_input.specs.Pending.{Pending, text_of, consumed, line_length, one_more, newlines_in}
-use Rattle.m4_input.specs.Token.{begins, is_cut, is_enabled, starts_with, may_start, run_length, before, mark_by, mark_at, level, unended, comment_found, name_unless, name_at, string_found, string_at, kind_by, kind_of, scan_kind, scan, Front, Taken, Refused, More, front_by, front_from, token_at}
-use Rattle.m4_input.specs.Paren.{answer_by, paren_in, paren_from, paren_at}
+use Rattle.m4_input.specs.Ascii.{is_letter, is_name_byte}
+use Rattle.m4_input.specs.Pending.{Pending, text_of, consumed}
+use Rattle.m4_input.specs.Token.{begins, is_enabled, run_length, before, level, unended, comment_found, name_unless, string_found, kind_by, kind_of, scan_kind, scan}
 
 pub text-consumed : (n : ℕ) (p : Pending) → length (text_of (consumed n p)) ≡ length (text_of p) - n
 text-consumed n p =
