@@ -28,3 +28,6 @@ impl<'a> Delims<'a> {
         }
     }
 }
+
+#[cfg(test)]
+mod tests;

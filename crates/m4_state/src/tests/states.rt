@@ -41,6 +41,47 @@ fn starts_empty(rt: HostRuntime) -> Result<(), Fail> {
 }
 
 #[test]
+fn starts_fresh(rt: HostRuntime) -> Result<(), Fail> {
+    let state = State::fresh(rt.alloc(), false)?;
+    assert_eq!(rt; state.names()?.len(), 7);
+    for name in [b"__gnu__".as_slice(), b"__unix__"] {
+        assert_eq!(rt; state.stack(name).len(), 1);
+        assert_eq!(rt; text_of(&state.stack(name)[0]), b"".as_slice());
+    }
+    for name in [
+        b"define".as_slice(),
+        b"undefine",
+        b"dnl",
+        b"changequote",
+        b"changecom",
+    ] {
+        let Some(Def::Builtin(builtin)) = state.top(name) else {
+            return Err(Fail::from("a builtin is not under its name"));
+        };
+        assert_eq!(rt; builtin.name(), name);
+    }
+    Ok(())
+}
+
+#[test]
+fn columns_of_the_builtins(rt: HostRuntime) -> Result<(), Fail> {
+    let rows = [
+        (Builtin::Define, true, true, 1, Some(2)),
+        (Builtin::Undefine, true, false, 1, None),
+        (Builtin::Dnl, false, false, 0, Some(0)),
+        (Builtin::Changequote, false, false, 0, Some(2)),
+        (Builtin::Changecom, false, false, 0, Some(2)),
+    ];
+    for (builtin, needs_args, takes_tokens, least, most) in rows {
+        assert_eq!(rt; builtin.needs_args(), needs_args);
+        assert_eq!(rt; builtin.takes_tokens(), takes_tokens);
+        assert_eq!(rt; builtin.least_args(), least);
+        assert_eq!(rt; builtin.most_args(), most);
+    }
+    Ok(())
+}
+
+#[test]
 fn keeps_names_in_byte_order(rt: HostRuntime) -> Result<(), Fail> {
     let alloc = rt.alloc();
     let mut state = State::empty(alloc)?;
