@@ -18,3 +18,4 @@ pub mod SavesCount
 pub mod Limits
 pub mod InOrder
 pub mod Reloads
+pub mod RunsEnd

@@ -140,3 +140,15 @@ list_without_end : over_a usual (codes "define(`f',`$1')\nf(a\n") ≡ record {
 }
 unfolding digits
 list_without_end = refl
+
+-- a quoted string loses one level of quotes, and nothing in it is expanded
+quotes_nest : over_a usual (codes "define(`f',`x')`f' ``f''\n") ≡ done (codes "f `f'\n") [] 1
+quotes_nest = refl
+
+-- a comment is copied, with its delimiters
+comments_are_copied : over_a usual (codes "define(`f',`x')# `f' f\nf\n") ≡ done (codes "# `f' f\nx\n") [] 2
+comments_are_copied = refl
+
+-- a builtin that needs parameters is text without them
+without_parameters : over_a usual (codes "define dnl\n`a'\n") ≡ done (codes "define a\n") [] 1
+without_parameters = refl

@@ -89,3 +89,13 @@ placeholder = refl
 frozen_again : run freezing (Some (codes "V1\nF6,6\ndefinedefine\nT1,1\nab\n")) (Opened (codes "b.m4") (codes "a define(`c',`d$1')a\n") ∷ []) ≡ record (done (codes "b b\n") [] 3) { frozen = Some (codes "# m4 frozen state\nV1\nT1,1\nab\nT1,3\ncd$1\nF6,6\ndefinedefine\n# End of frozen state file\n") }
 unfolding digits steps.file_at steps.version_at steps.directives_at steps.directive_at steps.pair_at steps.diversion_at steps.length_at steps.string_at
 frozen_again = refl
+
+-- text goes to the diversion that a frozen file left current, and is issued at the end
+into_a_diversion : run usual (Some (codes "V1\nD2,4\ntwo\n\n")) (Opened (codes "b.m4") (codes "more\n") ∷ []) ≡ done (codes "two\nmore\n") [] 0
+unfolding steps.file_at steps.version_at steps.directives_at steps.directive_at steps.pair_at steps.diversion_at steps.length_at steps.string_at
+into_a_diversion = refl
+
+-- a negative number discards it
+discarded : run usual (Some (codes "V1\nD-1,0\n\n")) (Opened (codes "b.m4") (codes "x\n") ∷ []) ≡ done [] [] 0
+unfolding steps.file_at steps.version_at steps.directives_at steps.directive_at steps.pair_at steps.diversion_at steps.length_at steps.string_at
+discarded = refl

@@ -1,13 +1,14 @@
 -- What holds of the definitions alone: the laws of expansions and runs.
 -- Believed as statements; the functions of the module `laws` carry their proofs.
 -- Words: ExpansionRules, ExpandRules, OneStart, SameDenotation, SettledBegins, SplitStates, Split,
--- LargerNesting, LargerCalls.
+-- LargerNesting, LargerCalls, RunEnds.
 use Rattle.std.specs.Prelude.{◌≡◌, ◌≢◌, ◌↔◌, ◌⊎◌, ℕ, ◌+◌, ◌<◌, ◌≤◌, Bool, true, List, [], ◌∷◌, ◌++◌, Option, Some}
 use Rattle.m4_frozen.specs.Directive.{Directive}
 use Rattle.m4_frozen.specs.Spells.{Spells}
 use Rattle.m4_frozen.specs.Denote.{denote}
 use Rattle.m4_engine.specs.declared.options.Options.{Options}
 use Rattle.m4_engine.specs.Nesting.{Turn, Outcome, after, expansion, Falls}
+use Rattle.m4_engine.specs.declared.ending.Cause.{Cause}
 use Rattle.m4_engine.specs.declared.ending.Cause.TheVariants as causes
 use Rattle.m4_engine.specs.Expansion.{Expansion, Kept, Ended, Ends, WantsMore}
 use Rattle.m4_engine.specs.Expand.{turn, join, expand}
@@ -116,3 +117,9 @@ LargerCalls =
     → o.calls ≤ calls
     → (run_from o start sources).how ≢ Ends causes.ExpansionLimit
     → run_from (record o { calls = calls }) start sources ≡ run_from o start sources
+
+-- each run ends by a cause: it never wants more, and no bound on its turns or rounds is reached
+abbrev pub RunEnds : Type 0
+RunEnds =
+    (o : Options) (start : Start) (sources : List Source)
+    → (cause : Cause) × ((run_from o start sources).how ≡ Ends cause)

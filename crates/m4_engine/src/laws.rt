@@ -2,7 +2,7 @@
 //!
 //! Each function's contract is a law of `specs/Laws.antt`.
 
-ghost use Rattle.m4_engine.specs.Laws.{ExpansionRules, ExpandRules, LargerCalls, LargerNesting, OneStart, SameDenotation, SettledBegins, Split, SplitStates};
+ghost use Rattle.m4_engine.specs.Laws.{ExpansionRules, ExpandRules, LargerCalls, LargerNesting, OneStart, RunEnds, SameDenotation, SettledBegins, Split, SplitStates};
 
 /// An expansion whose calls nest is what its turns say, and no bound on them is ever reached.
 pub fn expansion_rules<S, F, D>()
@@ -48,4 +48,9 @@ pub fn larger_limits()
 /// Manual: "Fast loading of frozen state".
 pub fn split()
     ensures { Split }
+{}
+
+/// Each run ends by a cause: it never wants more, and no bound on its turns or rounds is reached.
+pub fn run_ends()
+    ensures { RunEnds }
 {}
