@@ -109,7 +109,7 @@ fn top_is_the_newest(rt: HostRuntime) -> Result<(), Fail> {
     push(alloc, &mut state, b"x", b"old")?;
     state.push(
         bytes(alloc, b"x")?,
-        Def::Placeholder(bytes(alloc, b"format")?),
+        Def::Placeholder(Bytes::from_slice(alloc, b"format")?),
     )?;
     let top = state.top(b"x").ok_or("no definition")?;
     assert_eq!(rt; top.len(), 6);
