@@ -17,6 +17,7 @@ pub fn expand_rules()
 /// What a beginning of an input settles is a beginning of what the run writes, whatever follows;
 /// and where it decides how the run ends, the run ends so and writes nothing more.
 pub fn settled_begins()
+    // one pass: whatever follows, and with whatever sources behind it
     ensures { SettledBegins }
 {}
 
@@ -28,18 +29,22 @@ pub fn one_start()
 
 /// Two frozen files that spell directives of one state and one issued text give the same run.
 pub fn same_denotation()
+    // same denotation: the whole result
     ensures { SameDenotation }
 {}
 
 /// Where a freezing run carries, a run that goes on from the state that it froze joins it to one run
 /// over the sources of both.
 pub fn split_states()
+    // split: through the state itself
     ensures { SplitStates }
 {}
 
 /// A run that doesn't end by a limit is the same under a larger one; of nesting 0 is the largest.
 pub fn larger_limits()
+    // limits: of calls
     ensures calls { LargerCalls }
+    // limits: of nesting
     ensures nesting { LargerNesting }
 {}
 
@@ -47,6 +52,7 @@ pub fn larger_limits()
 /// it to one run over the sources of both: output, messages, ending, status, frozen text and calls.
 /// Manual: "Fast loading of frozen state".
 pub fn split()
+    // split: through the frozen text
     ensures { Split }
 {}
 

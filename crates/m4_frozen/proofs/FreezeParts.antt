@@ -1,17 +1,17 @@
 -- What the parts of the writer put, joined, is the canonical text.
-use Rattle.std.proofs.Common.{◌≡◌, ◌≢◌, ℕ, ◌+◌, ◌<◌, ◌≤◌, ℤ, pos, Bool, true, false, cond, ◌&&◌, List, [], ◌∷◌, ◌++◌, map, length, Option, Some, None, unwrap_or, refl, sym, ap, subst, ◌∙◌, append_assoc, arith, Ordering, Less, Equal, Greater, inl, inr, ◌⊎◌}
+use Rattle.std.proofs.Common.{◌≡◌, ℕ, ℤ, pos, Bool, true, false, cond, ◌&&◌, List, [], ◌∷◌, ◌++◌, map, Some, None, refl, sym, ap, subst, ◌∙◌, append_assoc, Ordering, Less, Equal, Greater}
 use Rattle.std.specs.Prelude.{IsTrue, int_lt, FitsSigned}
 use Rattle.std.specs.Int.{w32}
-use Rattle.std.specs.List.{flat_map, filter, AllByRecursion}
+use Rattle.std.specs.List.{flat_map, AllByRecursion}
 use Rattle.std.specs.Ordering.{int_cmp, int_eq, is_lt, is_eq, eq_by_cmp, ordering_reverse}
-use Rattle.std.specs.FinMap.{find, is_sorted, int_cmp-IsAntisymmetric}
+use Rattle.std.specs.FinMap.{is_sorted, int_cmp-IsAntisymmetric}
 use Rattle.std.specs.Cmp.{int_cmp_total, tied_itself}
 use Rattle.std.specs.Cmp.Lexicographic.{nat_list_cmp_total}
 use Rattle.std.proofs.lemmas.List.{append-nil}
 use Rattle.std.proofs.lemmas.Grind.{flat_map-append}
 use Rattle.std.proofs.lemmas.Option.{same_Some}
 use Rattle.std.specs.FinMap.Entries.{below_all}
-use Rattle.m4_state.specs.State.{State, IsState, AreDiversions, IsDiversion, text_at, next_after, names_of, stack_of, holds_text, Diversion as NumberedText}
+use Rattle.m4_state.specs.State.{State, IsState, IsDiversion, text_at, next_after, names_of, Diversion as NumberedText}
 use Rattle.m4_state.specs.declared.definition.Def.{Def}
 use Rattle.m4_state.specs.declared.delimiters.Delimiters.{Delimiters}
 use Rattle.m4_state.specs.Delimiters.{default_quotes, default_comments}

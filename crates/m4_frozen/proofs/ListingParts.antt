@@ -1,16 +1,14 @@
 -- What the parts of the inspector put, joined, is the listing.
-use Rattle.std.proofs.Common.{◌≡◌, ◌≢◌, ℕ, Bool, true, false, List, [], ◌∷◌, ◌++◌, map, length, refl, sym, ap, ◌∙◌, append_assoc, add-one, ◌+◌, arith}
+use Rattle.std.proofs.Common.{◌≡◌, ℕ, Bool, true, false, List, [], ◌∷◌, ◌++◌, map, length, refl, sym, ap, ◌∙◌, append_assoc, add-one, ◌+◌, arith}
 use Rattle.std.proofs.lemmas.Bool.{eqb-true}
-use Rattle.std.specs.Prelude.{codes, decimal, nat_eq, IsTrue}
+use Rattle.std.specs.Prelude.{codes, decimal, nat_eq}
 use Rattle.std.specs.List.{flat_map, AllByRecursion}
-use Rattle.std.specs.FinMap.{is_sorted}
-use Rattle.std.proofs.lemmas.List.{append-nil}
 use Rattle.m4_state.specs.declared.definition.Def.{Def}
-use Rattle.m4_state.specs.Table.{Pair, Pairs, byte_order, stack_at}
+use Rattle.m4_state.specs.Table.{Pairs}
 use Rattle.m4_state.specs.State.{State, IsState, names_of}
 use Rattle.m4_frozen.specs.declared.loading.Loaded.{Loaded}
-use Rattle.m4_frozen.specs.Listing.{show, pair_line, delimiters_line, definition_line, listing, show_byte}
-use Rattle.m4_frozen.specs.InspectorSteps.{two_words_line, begin_end_line, counted_line, stack_lines, names_lines, settings_lines, listing_text}
+use Rattle.m4_frozen.specs.Listing.{show, pair_line, definition_line, listing, show_byte}
+use Rattle.m4_frozen.specs.InspectorSteps.{two_words_line, begin_end_line, counted_line, stack_lines, names_lines, listing_text}
 use Rattle.m4_frozen.proofs.FreezeParts.{IsFoundIn, all_found}
 
 -- two strings behind a word, grouped as the listing groups them

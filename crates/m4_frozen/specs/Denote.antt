@@ -4,7 +4,7 @@
 -- Manual: "Frozen file format". Words: with_directive, issued_by, denote.
 -- own: the text of a `D` is added to its diversion; that of number 0 is issued, that of a negative
 -- one is discarded. An `F` of a builtin that isn't in the table is a placeholder.
-use Rattle.std.specs.Prelude.{ℕ, zero, ℤ, pos, List, [], Option, Some, None, fold}
+use Rattle.std.specs.Prelude.{ℕ, zero, pos, List, [], Option, Some, None, fold}
 use Rattle.std.specs.List.{flat_map}
 use Rattle.m4_state.specs.declared.builtin.Builtin.{Builtin}
 use Rattle.m4_state.specs.declared.definition.Def.{Def}

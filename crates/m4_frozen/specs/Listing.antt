@@ -1,14 +1,14 @@
 -- Listing: the inspector's lines, which tell what a frozen file holds.
 -- Believed. Words: show, listing.
 -- own: all of it; the manual has no inspector.
-use Rattle.std.specs.Prelude.{ℕ, ◌+◌, ◌/◌, ◌%◌, ℤ, Bool, ◌&&◌, not, nat_le, nat_lt, ◌==◌, List, [], ◌∷◌, ◌++◌, length, map, codes, decimal, if◌then◌else◌}
+use Rattle.std.specs.Prelude.{ℕ, ◌+◌, ◌/◌, ◌%◌, Bool, ◌&&◌, not, nat_le, nat_lt, ◌==◌, List, [], ◌∷◌, ◌++◌, length, codes, decimal, if◌then◌else◌}
 use Rattle.std.specs.Fmt.{signed_decimal}
 use Rattle.std.specs.List.{flat_map}
 use Rattle.m4_state.specs.declared.definition.Def.{Def}
 use Rattle.m4_state.specs.declared.definition.Def.TheVariants as defs
 use Rattle.m4_state.specs.declared.delimiters.Delimiters.{Delimiters}
 use Rattle.m4_state.specs.Builtin.{name_of}
-use Rattle.m4_state.specs.State.{State, Diversion}
+use Rattle.m4_state.specs.State.{Diversion}
 use Rattle.m4_frozen.specs.declared.loading.Loaded.{Loaded}
 
 -- b'\\'

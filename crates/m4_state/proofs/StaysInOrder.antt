@@ -1,5 +1,5 @@
 -- StaysInOrder: each change of a state leaves one that is in order.
-use Rattle.std.proofs.Common.{◌≡◌, ◌≢◌, ℕ, zero, suc, ◌-◌, Bool, true, false, cond, not, T, List, [], ◌∷◌, ◌++◌, map, length, take, Option, Some, None, refl, sym, ap, subst, ◌∙◌, arith, fold, rules}
+use Rattle.std.proofs.Common.{◌≡◌, ◌≢◌, ℕ, zero, suc, ◌-◌, Bool, true, false, cond, not, T, List, [], ◌∷◌, ◌++◌, length, take, Some, refl, sym, subst, fold, rules}
 use Rattle.std.specs.Prelude.{codes, IsTrue, FitsSigned, ℤ, pos}
 use Rattle.std.specs.Int.{w32}
 use Rattle.std.specs.List.{AllByRecursion}
@@ -12,9 +12,9 @@ use Rattle.m4_state.specs.declared.definition.Def.{Def}
 use Rattle.m4_state.specs.declared.definition.Def.TheVariants as defs
 use Rattle.m4_state.specs.declared.delimiters.Delimiters.{Delimiters}
 use Rattle.m4_state.specs.Definition.{IsDefinition}
-use Rattle.m4_state.specs.Delimiters.{chosen, disabled, default_quotes, default_comments, IsPaired}
+use Rattle.m4_state.specs.Delimiters.{chosen, default_quotes, default_comments, IsPaired}
 use Rattle.m4_state.specs.Table.{Pair, Pairs, byte_order, stack_at, with_push, with_top, without, but_last, IsStack, IsTable}
-use Rattle.m4_state.specs.State.{State, empty, pushed, defined, undefined, with_quotes, with_comments, diverted, appended, with_text, holds_text, stack_of, top_of, last_of, IsState, IsDiversion, AreDiversions, text_at, Diversion}
+use Rattle.m4_state.specs.State.{State, empty, pushed, defined, undefined, with_quotes, with_comments, diverted, appended, with_text, holds_text, stack_of, top_of, IsState, AreDiversions, text_at, Diversion}
 use Rattle.m4_state.specs.Builtin.{table}
 use Rattle.m4_state.specs.Fresh.{fresh, fresh_name, with_builtin, platform}
 use Rattle.m4_state.proofs.Places.{AllByRecursion-put}

@@ -2,7 +2,7 @@
 -- Believed. Manual: "Defining a macro", "Deleting a macro",
 -- "Temporarily redefining macros".
 -- Words: stack_at, with_push, with_top, without, IsTable, IsSizedTable.
-use Rattle.std.specs.Prelude.{◌≡◌, ◌≢◌, ◌<◌, ◌^◌, ◌-◌, ℕ, List, [], ◌∷◌, ◌++◌, length, take, filter, not, IsTrue, unwrap_or}
+use Rattle.std.specs.Prelude.{◌≢◌, ◌<◌, ◌^◌, ◌-◌, ℕ, List, [], ◌∷◌, ◌++◌, length, take, filter, not, IsTrue, unwrap_or}
 use Rattle.std.specs.List.{AllByRecursion}
 use Rattle.std.specs.Ordering.{nat_cmp}
 use Rattle.std.specs.Cmp.Lexicographic.{slice_cmp}

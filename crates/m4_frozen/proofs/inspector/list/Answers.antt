@@ -1,6 +1,5 @@
-use Rattle.std.proofs.Common.{◌≡◌, ap, subst, ◌∙◌}
+use Rattle.std.proofs.Common.{ap, subst, ◌∙◌}
 use Rattle.m4_state.specs.Device.{with_bytes, HasBegun}
-use Rattle.m4_frozen.specs.Listing.{listing}
 use Rattle.m4_frozen.specs.InspectorSteps.{listing_text}
 use Rattle.m4_frozen.proofs.ListingParts.{listing_text-listing}
 use Rattle.m4_frozen.proofs.inspector.list.Goals as goal

@@ -1,4 +1,4 @@
-use Rattle.std.proofs.Common.{◌≡◌, List, ℕ, subst}
+use Rattle.std.proofs.Common.{List, ℕ, subst}
 use Rattle.std.specs.Prelude.{codes}
 use Rattle.m4_state.specs.Device.{Puts}
 use Rattle.m4_frozen.proofs.ListingParts.{two_words_line-flat, counted_line-flat}

@@ -1,4 +1,4 @@
-use Rattle.std.proofs.Common.{◌≡◌, ◌∙◌}
+use Rattle.std.proofs.Common.{◌∙◌}
 use Rattle.m4_state.proofs.CallerLaws.{HasPut-put, HasPut-cut, Puts-refused, flat_map-drop}
 use Rattle.m4_frozen.specs.Listing.{show_byte}
 use Rattle.m4_frozen.proofs.inspector.put_shown.Goals as goal

@@ -1,4 +1,4 @@
-use Rattle.std.proofs.Common.{◌≡◌, ◌++◌, List, ℕ, ap, sym, subst}
+use Rattle.std.proofs.Common.{◌++◌, List, ℕ, sym, subst}
 use Rattle.m4_state.proofs.CallerLaws.{HasPut-start, HasPut-put, HasPut-cut, HasPut-last, Puts-refused}
 use Rattle.m4_state.specs.Device.{Puts}
 use Rattle.m4_frozen.proofs.ListingParts.{show-some, show-none}

@@ -1,4 +1,4 @@
-use Rattle.std.proofs.Common.{◌≡◌, pos}
+use Rattle.std.proofs.Common.{pos}
 use Rattle.std.specs.Prelude.{FitsSigned}
 use Rattle.std.specs.Int.{w32}
 use Rattle.std.proofs.Math.Facts.{sfits_lit}

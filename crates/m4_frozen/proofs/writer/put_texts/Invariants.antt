@@ -1,6 +1,4 @@
 use Rattle.std.proofs.Common.{◌≡◌, length, pos}
-use Rattle.std.specs.Prelude.{FitsSigned}
-use Rattle.std.specs.Int.{w32}
 use Rattle.m4_state.specs.Device.{HasPut}
 use Rattle.m4_frozen.specs.Freeze.{last_number}
 use Rattle.m4_frozen.specs.WriterSteps.{texts_text, above}

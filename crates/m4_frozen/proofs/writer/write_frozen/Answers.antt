@@ -1,6 +1,5 @@
-use Rattle.std.proofs.Common.{◌≡◌, ap, subst, ◌∙◌}
+use Rattle.std.proofs.Common.{ap, subst, ◌∙◌}
 use Rattle.m4_state.specs.Device.{with_bytes, HasBegun}
-use Rattle.m4_frozen.specs.Freeze.{freeze}
 use Rattle.m4_frozen.specs.WriterSteps.{frozen_text}
 use Rattle.m4_frozen.proofs.FreezeParts.{frozen_text-freeze}
 use Rattle.m4_frozen.proofs.writer.write_frozen.Goals as goal
