@@ -3,3 +3,4 @@ pub mod DelimsView
 pub mod Pending
 pub mod Token
 pub mod Paren
+pub mod Input
