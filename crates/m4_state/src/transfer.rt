@@ -1,7 +1,7 @@
 //! A reader read to its end, and a whole text put into a writer.
 
-ghost use Rattle.std.specs.Prelude.{◌≡◌, IfOk, IfSome, MatchBool};
-ghost use Rattle.m4_state.specs.Device.{one_more, count_after, Puts, joined};
+ghost use Rattle.std.specs.Prelude.{◌≡◌, ℕ, List, IfOk, OnErr, IfSome, MatchBool};
+ghost use Rattle.m4_state.specs.Device.{one_more, count_after, after_bytes, IsAtEnd, IsAtFault, Puts, joined};
 
 use crate::device::{ByteSink, ByteSource, DeviceFault};
 use std::alloc::{AllocError, Global};
@@ -23,6 +23,14 @@ pub fn take_all<R: ByteSource>(alloc: Global, reader: &mut R) -> Result<Taken, A
     ensures counted { IfOk result (λ t. MatchBool t.failed
         (R.failures reader.new ≡ one_more (R.failures reader.old))
         (R.failures reader.new ≡ R.failures reader.old)) }
+
+    // where the reader stands behind the call
+    ensures given { IfOk result (λ t. R.script reader.old ≡ after_bytes t.bytes.items (R.script reader.new)) }
+    ensures ended { IfOk result (λ t. MatchBool t.failed
+        (IsAtFault (R.script reader.new))
+        (IsAtEnd (R.script reader.new))) }
+    ensures refused { OnErr result ((x : List ℕ) × (R.script reader.old ≡ after_bytes x (R.script reader.new))) }
+    ensures kept { OnErr result (R.failures reader.new ≡ R.failures reader.old) }
 {
     let mut bytes = Vec::new(alloc);
     let mut block = [0u8; BLOCK];
