@@ -1,2 +1,4 @@
 pub mod Consumed
 pub mod OpenEnd
+pub mod Scans
+pub mod Parts

@@ -9,4 +9,6 @@ pub mod delims;
 pub mod fault;
 pub mod front;
 pub mod pushed;
+mod scan;
 pub mod token;
+mod window;

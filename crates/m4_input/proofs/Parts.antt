@@ -1,0 +1,72 @@
+-- Parts: a text of two parts, of which the first is kept with its last byte first.
+use Rattle.std.proofs.Common.{◌≡◌, ℕ, zero, suc, ◌+◌, ◌-◌, ◌<◌, ◌≤◌, List, [], ◌∷◌, ◌++◌, length, take, drop, refl, sym, ap, ◌∙◌, arith, length-append, length-drop, min}
+use Rattle.std.proofs.Math.ListN.{drop_of_length-le}
+use Rattle.std.proofs.Math.Seq.{drop-append_seam, take-append_seam, drop-nil}
+use Rattle.std.proofs.lemmas.List.{take-append-drop, reverse-append, length-reverse, length-take, reverse-reverse, append-nil}
+use Rattle.std.specs.Prelude.{reverse}
+
+pub drop_parts : (n : ℕ) (x y : List ℕ) → drop n (x ++ y) ≡ drop n x ++ drop (n - length x) y
+drop_parts zero x y = let e : 0 ≡ 0 - length x = omega arith in ap (λ m. x ++ drop m y) e
+drop_parts (suc n) [] y = let e : suc n ≡ suc n - 0 = omega arith in ap (λ m. drop m y) e
+drop_parts (suc n) (b ∷ x) y = let e : n - length x ≡ suc n - suc (length x) = omega arith in drop_parts n x y ∙ ap (λ m. drop n x ++ drop m y) e
+
+pub take_parts : (n : ℕ) (x y : List ℕ) → take n (x ++ y) ≡ take n x ++ take (n - length x) y
+take_parts zero x y = let e : 0 ≡ 0 - length x = omega arith in ap (λ m. take m y) e
+take_parts (suc n) [] y = let e : suc n ≡ suc n - 0 = omega arith in ap (λ m. take m y) e
+take_parts (suc n) (b ∷ x) y = let e : n - length x ≡ suc n - suc (length x) = omega arith in ap (λ (z : List ℕ). b ∷ z) (take_parts n x y ∙ ap (λ m. take n x ++ take m y) e)
+
+pub take_long : (n : ℕ) (x : List ℕ) → length x ≤ n → take n x ≡ x
+take_long zero [] h = refl
+take_long zero (b ∷ x) h = absurd (omega arith)
+take_long (suc n) [] h = refl
+take_long (suc n) (b ∷ x) h = ap (λ (z : List ℕ). b ∷ z) (take_long n x (omega arith))
+
+-- the two halves, turned round
+turned : (m : ℕ) (p : List ℕ) → reverse p ≡ reverse (drop m p) ++ reverse (take m p)
+turned m p = ap reverse (sym (take-append-drop m p)) ∙ reverse-append (take m p) (drop m p)
+
+tail_length : (n : ℕ) (p : List ℕ) → n ≤ length p → n ≡ length (reverse (drop (length p - n) p))
+tail_length n p h =
+    let a : length (reverse (drop (length p - n) p)) ≡ length (drop (length p - n) p) = length-reverse (drop (length p - n) p) in
+    let b : length (drop (length p - n) p) ≡ length p - (length p - n) = length-drop (length p - n) p in
+    omega arith
+
+pub drop_reverse : (n : ℕ) (p : List ℕ) → n ≤ length p → drop n (reverse p) ≡ reverse (take (length p - n) p)
+drop_reverse n p h =
+    ap (drop n) (turned (length p - n) p)
+    ∙ ap (λ m. drop m (reverse (drop (length p - n) p) ++ reverse (take (length p - n) p))) (tail_length n p h)
+    ∙ drop-append_seam (reverse (drop (length p - n) p)) (reverse (take (length p - n) p))
+
+pub take_reverse : (n : ℕ) (p : List ℕ) → n ≤ length p → take n (reverse p) ≡ reverse (drop (length p - n) p)
+take_reverse n p h =
+    ap (take n) (turned (length p - n) p)
+    ∙ ap (λ m. take m (reverse (drop (length p - n) p) ++ reverse (take (length p - n) p))) (tail_length n p h)
+    ∙ take-append_seam (reverse (drop (length p - n) p)) (reverse (take (length p - n) p))
+
+take_min : (n m : ℕ) (x : List ℕ) → m ≡ min n (length x) → take m x ≡ take n x
+take_min zero m [] e = ap (λ k. take k []) e
+take_min zero m (b ∷ x) e = let f : m ≡ 0 = omega arith in ap (λ k. take k (b ∷ x)) f
+take_min (suc n) m [] e = let f : m ≡ 0 = omega arith in ap (λ k. take k []) f
+take_min (suc n) zero (b ∷ x) e = absurd (omega arith)
+take_min (suc n) (suc m) (b ∷ x) e = ap (λ (z : List ℕ). b ∷ z) (take_min n m x (omega arith))
+
+-- a copy from the second part alone
+pub copied_file : (p f : List ℕ) (at len : ℕ) → length p ≤ at → take len (drop (at - length p) f) ≡ take len (drop at (reverse p ++ f))
+copied_file p f at len h =
+    let l : length (reverse p) ≡ length p = length-reverse p in
+    let none : drop at (reverse p) ≡ [] = drop_of_length-le (reverse p) (omega arith) in
+    ap (take len) (sym (drop_parts at (reverse p) f ∙ ap (λ (z : List ℕ). z ++ drop (at - length (reverse p)) f) none ∙ ap (λ n. drop (at - n) f) l))
+
+-- a copy from the first part, and perhaps the second
+pub copied_both : (p f front tail : List ℕ) (at len k : ℕ) → at < length p → front ≡ take (length p - at) p → k ≡ min len (length front) → tail ≡ drop (length front - k) front → reverse tail ++ take (len - k) f ≡ take len (drop at (reverse p ++ f))
+copied_both p f front tail at len k h e g t =
+    let r : drop at (reverse p) ≡ reverse front = drop_reverse at p (omega arith) ∙ ap reverse (sym e) in
+    let l : length (reverse front) ≡ length front = length-reverse front in
+    let whole : drop at (reverse p ++ f) ≡ reverse front ++ f =
+    drop_parts at (reverse p) f ∙ ap (λ (z : List ℕ). z ++ drop (at - length (reverse p)) f) r
+    ∙ ap (λ n. reverse front ++ drop n f) (let m : length (reverse p) ≡ length p = length-reverse p in let z : at - length (reverse p) ≡ 0 = omega arith in z) in
+    let a : reverse tail ≡ take k (reverse front) = ap reverse t ∙ sym (take_reverse k front (omega arith)) in
+    let b : take k (reverse front) ≡ take len (reverse front) = take_min len k (reverse front) (g ∙ ap (min len) (sym l)) in
+    let c : len - k ≡ len - length (reverse front) = omega arith in
+    ap (λ (z : List ℕ). z ++ take (len - k) f) (a ∙ b) ∙ ap (λ n. take len (reverse front) ++ take n f) c
+    ∙ sym (ap (take len) whole ∙ take_parts len (reverse front) f)

@@ -1,0 +1,182 @@
+//! The first token of a text: what stands at its front, where that ends, and a copy of it.
+//!
+//! Strings that stand one within another are followed by a count of those that are open, so that a
+//! string takes one pass. Where more bytes may follow (`may_follow`), what they could change is not
+//! decided. Manual: "Quoted strings", "Comments", "Names".
+
+ghost use Rattle.std.specs.Prelude.{◌≡◌, ◌+◌, ◌<◌, ◌≤◌, ◌∷◌, IfSome, IfOk, IsTrue, length, drop};
+ghost use Rattle.m4_input.specs.DelimsView.{pair_of};
+ghost use Rattle.m4_input.specs.Token.{level, mark_at, starts_with, may_start, kind_of, name_at, comment_at, string_at, scan};
+
+use crate::delims::Delims;
+use crate::front::{Kind, Mark, Scan, Unended};
+use crate::token::Token;
+use crate::window::{Window, is_letter_byte};
+use std::alloc::{AllocError, Global};
+
+/// A begin and an end.
+type Pair<'a> = (&'a [u8], &'a [u8]);
+
+impl<'a> Window<'a> {
+    /// What stands at a place within a string.
+    fn mark(&self, at: usize, quotes: &Pair<'_>, may_follow: bool) -> Mark
+        requires { at ≤ length self.now }
+        ensures value { result ≡ mark_at (pair_of quotes.now) may_follow (drop at self.now) }
+        ensures ends { result ≡ Mark.EndQuote → at + length quotes.now.1.now ≤ length self.now }
+        ensures begins { result ≡ Mark.BeginQuote → at + length quotes.now.0.now ≤ length self.now }
+    {
+        if self.starts(at, quotes.1) {
+            Mark::EndQuote
+        } else if may_follow && (self.cut(at, quotes.1) || self.cut(at, quotes.0)) {
+            Mark::CutQuote
+        } else if self.starts(at, quotes.0) {
+            Mark::BeginQuote
+        } else {
+            Mark::PlainByte
+        }
+    }
+
+    /// How many bytes stand before the end-quote that closes the string. An end-quote that is empty
+    /// stands at each byte.
+    fn string_len(&self, at: usize, quotes: &Pair<'_>, may_follow: bool) -> Option<usize>
+        requires within { at ≤ length self.now }
+        requires begin { 0 < length quotes.now.0.now }
+        ensures value { result ≡ level (pair_of quotes.now) may_follow 0 0 (drop at self.now) }
+        ensures closed { IfSome result (λ n. at + (n + length quotes.now.1.now) ≤ length self.now) }
+    {
+        if quotes.1.is_empty() {
+            return self.byte(at).map(|_| 0);
+        }
+        let mut open = 0usize;
+        let mut k = at;
+        'places: while let Some(_) = self.byte(k) {
+            match self.mark(k, quotes, may_follow) {
+                Mark::EndQuote => {
+                    if open == 0 {
+                        return Some(k - at);
+                    }
+                    open -= 1;
+                    k += quotes.1.len();
+                }
+                Mark::BeginQuote => {
+                    open += 1;
+                    k += quotes.0.len();
+                }
+                Mark::PlainByte => k += 1,
+                Mark::CutQuote => return None,
+            }
+        }
+        None
+    }
+
+    /// Whether a pair that is not disabled begins here.
+    fn opens(&self, pair: &Pair<'_>) -> bool
+        ensures value { result ≡ starts_with (pair_of pair.now) self.now }
+        ensures within { IsTrue result → (0 < length pair.now.0.now) × (length pair.now.0.now ≤ length self.now) }
+    {
+        !pair.0.is_empty() && self.starts(0, pair.0)
+    }
+
+    /// Whether, with more bytes, it may turn out to begin here.
+    fn may_open(&self, pair: &Pair<'_>, may_follow: bool) -> bool
+        ensures { result ≡ may_start (pair_of pair.now) may_follow self.now }
+    {
+        may_follow && !pair.0.is_empty() && self.cut(0, pair.0)
+    }
+
+    /// Which kind of token begins here.
+    fn kind(&self, delims: &Delims<'_>, may_follow: bool, first: u8) -> Kind
+        requires { self.now ≡ first ∷ drop 1 self.now }
+        ensures value { result ≡ kind_of (pair_of delims.now.quotes) (pair_of delims.now.comments) may_follow first (drop 1 self.now) }
+        ensures comment { result ≡ Kind.CommentHere → length delims.now.comments.0.now ≤ length self.now }
+        ensures string { result ≡ Kind.StringHere → (0 < length delims.now.quotes.0.now) × (length delims.now.quotes.0.now ≤ length self.now) }
+    {
+        if self.opens(&delims.comments) {
+            Kind::CommentHere
+        } else if self.may_open(&delims.comments, may_follow) {
+            Kind::Undecided
+        } else if is_letter_byte(first) {
+            Kind::NameHere
+        } else if self.opens(&delims.quotes) {
+            Kind::StringHere
+        } else if self.may_open(&delims.quotes, may_follow) {
+            Kind::Undecided
+        } else {
+            Kind::ByteHere
+        }
+    }
+
+    /// The first token, and how many bytes it takes.
+    pub fn scan(
+        &self,
+        alloc: Global,
+        delims: &Delims<'_>,
+        may_follow: bool,
+    ) -> Result<Scan, AllocError>
+        ensures { IfOk result (λ s. s ≡ scan (pair_of delims.now.quotes) (pair_of delims.now.comments) may_follow self.now) }
+    {
+        let Some(first) = self.byte(0) else {
+            return Ok(if may_follow {
+                Scan::NeedsMore
+            } else {
+                Scan::Found(Token::End, 0)
+            });
+        };
+        match self.kind(delims, may_follow, first) {
+            Kind::CommentHere => self.comment(alloc, &delims.comments, may_follow),
+            Kind::NameHere => self.name(alloc, may_follow),
+            Kind::StringHere => self.string(alloc, &delims.quotes, may_follow),
+            Kind::ByteHere => Ok(Scan::Found(Token::Byte(first), 1)),
+            Kind::Undecided => Ok(Scan::NeedsMore),
+        }
+    }
+
+    /// The name at the front.
+    fn name(&self, alloc: Global, may_follow: bool) -> Result<Scan, AllocError>
+        ensures { IfOk result (λ s. s ≡ name_at may_follow self.now) }
+    {
+        let len = self.word_len(0);
+        if may_follow && len == self.len() {
+            return Ok(Scan::NeedsMore);
+        }
+        Ok(Scan::Found(Token::Name(self.copy(alloc, 0, len)?), len))
+    }
+
+    /// The comment at the front, with its delimiters.
+    fn comment(
+        &self,
+        alloc: Global,
+        pair: &Pair<'_>,
+        may_follow: bool,
+    ) -> Result<Scan, AllocError>
+        requires { length pair.now.0.now ≤ length self.now }
+        ensures { IfOk result (λ s. s ≡ comment_at (pair_of pair.now) may_follow self.now) }
+    {
+        let _small = self.len();
+        match self.find(pair.0.len(), pair.1) {
+            None if may_follow => Ok(Scan::NeedsMore),
+            None => Ok(Scan::Broken(Unended::InComment)),
+            Some(n) => {
+                let len = pair.0.len() + (n + pair.1.len());
+                Ok(Scan::Found(Token::Comment(self.copy(alloc, 0, len)?), len))
+            }
+        }
+    }
+
+    /// The string at the front, without its outermost quotes.
+    fn string(&self, alloc: Global, pair: &Pair<'_>, may_follow: bool) -> Result<Scan, AllocError>
+        requires starts { length pair.now.0.now ≤ length self.now }
+        requires begin { 0 < length pair.now.0.now }
+        ensures { IfOk result (λ s. s ≡ string_at (pair_of pair.now) may_follow self.now) }
+    {
+        let _small = self.len();
+        match self.string_len(pair.0.len(), pair, may_follow) {
+            None if may_follow => Ok(Scan::NeedsMore),
+            None => Ok(Scan::Broken(Unended::InString)),
+            Some(n) => {
+                let text = self.copy(alloc, pair.0.len(), n)?;
+                Ok(Scan::Found(Token::Str(text), pair.0.len() + (n + pair.1.len())))
+            }
+        }
+    }
+}

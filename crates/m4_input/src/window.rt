@@ -1,0 +1,173 @@
+//! The bytes that are pending, seen from the front: pushed text, whose last byte comes first, and
+//! then what is unread of the file.
+//!
+//! Contracts see a window as one list of bytes, so that the tests and searches on it speak of lists
+//! alone. Only `byte` and `copy` know of the two parts.
+
+ghost use Rattle.std.specs.Prelude.{◌≡◌, ◌+◌, ◌^◌, ◌<◌, ◌≤◌, ◌∷◌, ◌++◌, [], IfSome, IfNone, IfOk, IsTrue, length, drop, take, reverse, slice_get};
+ghost use Rattle.m4_input.specs.Ascii.{is_letter, is_name_byte};
+ghost use Rattle.m4_input.specs.Token.{begins, is_cut, run_length, before};
+
+use m4_state::bytes::Bytes;
+use std::alloc::{AllocError, Global};
+use std::marker::Model;
+
+/// Two slices, seen as one text.
+#[derive(Drop)]
+pub struct Window<'a> {
+    pushed: &'a [u8],
+    file: &'a [u8],
+}
+
+impl<'a> Model for Window<'a> {
+    ghost use Rattle.std.specs.Prelude.{List, ℕ, ◌++◌, ◌+◌, ◌<◌, ◌^◌, reverse, length};
+
+    ghost Value = { List ℕ };
+
+    ghost view = { λ w. reverse w.pushed.now ++ w.file.now };
+
+    ghost invariant = { λ w. length w.pushed.now + length w.file.now < 2 ^ 64 };
+}
+
+/// A letter of ASCII or an underscore, which begins a name.
+pub fn is_letter_byte(b: u8) -> bool
+    ensures { result ≡ is_letter b }
+{
+    b.is_ascii_alphabetic() || b == b'_'
+}
+
+/// A byte that may stand within a name.
+pub fn is_word_byte(b: u8) -> bool
+    ensures { result ≡ is_name_byte b }
+{
+    is_letter_byte(b) || b.is_ascii_digit()
+}
+
+impl<'a> Window<'a> {
+    /// The text of these two parts.
+    pub fn new(pushed: &'a [u8], file: &'a [u8]) -> Window<'a>
+        requires { length pushed.now + length file.now < 2 ^ 64 }
+        ensures { result ≡ reverse pushed.now ++ file.now }
+    {
+        Window { pushed, file }
+    }
+
+    /// How many bytes there are.
+    pub fn len(&self) -> usize
+        ensures len { result ≡ length self.now }
+        ensures small { result < 2 ^ 64 }
+    {
+        self.pushed.len() + self.file.len()
+    }
+
+    /// The byte at a place, if there is one.
+    #[tactic(auto, using(crate::proofs::Scans::got_some, crate::proofs::Scans::got_none))]
+    pub fn byte(&self, at: usize) -> Option<u8>
+        ensures value { result ≡ slice_get self.now at }
+        ensures some { IfSome result (λ b. drop at self.now ≡ b ∷ drop (at + 1) self.now) }
+        ensures none { IfNone result (drop at self.now ≡ []) }
+        ensures within { IfSome result (λ b. at < length self.now) }
+        ensures past { IfNone result (length self.now ≤ at) }
+        ensures small { length self.now < 2 ^ 64 }
+    {
+        if at < self.pushed.len() {
+            Some(self.pushed[self.pushed.len() - 1 - at])
+        } else {
+            self.file.get(at - self.pushed.len()).copied()
+        }
+    }
+
+    /// Whether a delimiter stands at a place.
+    pub fn starts(&self, at: usize, delimiter: &[u8]) -> bool
+        requires { at ≤ length self.now }
+        ensures value { result ≡ begins delimiter.now (drop at self.now) }
+        ensures within { IsTrue result → at + length delimiter.now ≤ length self.now }
+    {
+        let mut k = at;
+        for b in delimiter {
+            match self.byte(k) {
+                None => return false,
+                Some(c) if c == *b => k += 1,
+                Some(_) => return false,
+            }
+        }
+        true
+    }
+
+    /// Whether what is left at a place is a beginning of a delimiter, and not all of it.
+    pub fn cut(&self, at: usize, delimiter: &[u8]) -> bool
+        requires { at ≤ length self.now }
+        ensures { result ≡ is_cut (drop at self.now) delimiter.now }
+    {
+        let short = self.len() - at < delimiter.len();
+        self.begins(at, delimiter) && short
+    }
+
+    /// Whether what is left at a place is a beginning of a delimiter.
+    fn begins(&self, at: usize, delimiter: &[u8]) -> bool
+        requires { at ≤ length self.now }
+        ensures { result ≡ begins (drop at self.now) delimiter.now }
+    {
+        let mut k = at;
+        for b in delimiter {
+            match self.byte(k) {
+                None => return true,
+                Some(c) if c == *b => k += 1,
+                Some(_) => return false,
+            }
+        }
+        k == self.len()
+    }
+
+    /// How many bytes of a name stand at a place.
+    pub fn word_len(&self, at: usize) -> usize
+        requires { at ≤ length self.now }
+        ensures value { result ≡ run_length is_name_byte (drop at self.now) }
+        ensures within { at + result ≤ length self.now }
+    {
+        let mut k = at;
+        while let Some(b) = self.byte(k) {
+            if !is_word_byte(b) {
+                break;
+            }
+            k += 1;
+        }
+        k - at
+    }
+
+    /// How many bytes stand before the first such delimiter.
+    #[tactic(auto, using(crate::proofs::Scans::before_step, crate::proofs::Scans::before_none))]
+    pub fn find(&self, at: usize, delimiter: &[u8]) -> Option<usize>
+        requires { at ≤ length self.now }
+        ensures value { result ≡ before delimiter.now (drop at self.now) }
+        ensures within { IfSome result (λ n. at + (n + length delimiter.now) ≤ length self.now) }
+    {
+        let mut k = at;
+        while let Some(_) = self.byte(k) {
+            if self.starts(k, delimiter) {
+                return Some(k - at);
+            }
+            k += 1;
+        }
+        None
+    }
+
+    /// The bytes at a place. One copy where they lie in the file alone.
+    pub fn copy(&self, alloc: Global, at: usize, len: usize) -> Result<Bytes, AllocError>
+        requires { at + len ≤ length self.now }
+        ensures { IfOk result (λ b. b ≡ take len (drop at self.now)) }
+    {
+        if at >= self.pushed.len() {
+            let rest = self.file.split_at(at - self.pushed.len()).1;
+            return Bytes::from_slice(alloc, rest.split_at(len).0);
+        }
+        let front = self.pushed.split_at(self.pushed.len() - at).0;
+        let from_pushed = len.min(front.len());
+        let tail = front.split_at(front.len() - from_pushed).1;
+        let mut bytes = Vec::with_capacity(alloc, len)?;
+        bytes.extend_from_slice(tail)?;
+        bytes.reverse();
+        bytes.extend_from_slice(self.file.split_at(len - from_pushed).0)?;
+        Ok(Bytes::from(bytes))
+    }
+}
