@@ -1,9 +1,13 @@
 -- Parts: a text of two parts, of which the first is kept with its last byte first.
-use Rattle.std.proofs.Common.{◌≡◌, ℕ, zero, suc, ◌+◌, ◌-◌, ◌<◌, ◌≤◌, List, [], ◌∷◌, ◌++◌, length, take, drop, refl, sym, ap, ◌∙◌, arith, length-append, length-drop, min}
+use Rattle.std.proofs.Common.{◌≡◌, ℕ, zero, suc, ◌+◌, ◌-◌, ◌<◌, ◌≤◌, List, [], ◌∷◌, ◌++◌, length, take, drop, refl, sym, ap, ◌∙◌, arith, length-append, length-drop, min, add-zero}
 use Rattle.std.proofs.Math.ListN.{drop_of_length-le}
-use Rattle.std.proofs.Math.Seq.{drop-append_seam, take-append_seam, drop-nil}
+use Rattle.std.proofs.Math.Seq.{drop-append_seam, take-append_seam, take-add}
+use Rattle.m4_input.specs.Pending.{newlines_in}
 use Rattle.std.proofs.lemmas.List.{take-append-drop, reverse-append, length-reverse, length-take, reverse-reverse, append-nil}
-use Rattle.std.specs.Prelude.{reverse}
+use Rattle.std.proofs.lemmas.List.Sums.{sum_by-append}
+use Rattle.std.specs.Prelude.{reverse, cond, ◌==◌}
+use Rattle.m4_input.specs.Ascii.{newline}
+use Rattle.m4_input.specs.Text.{HeldText, text_behind}
 
 pub drop_parts : (n : ℕ) (x y : List ℕ) → drop n (x ++ y) ≡ drop n x ++ drop (n - length x) y
 drop_parts zero x y = let e : 0 ≡ 0 - length x = omega arith in ap (λ m. x ++ drop m y) e
@@ -70,3 +74,42 @@ copied_both p f front tail at len k h e g t =
     let c : len - k ≡ len - length (reverse front) = omega arith in
     ap (λ (z : List ℕ). z ++ take (len - k) f) (a ∙ b) ∙ ap (λ n. take len (reverse front) ++ take n f) c
     ∙ sym (ap (take len) whole ∙ take_parts len (reverse front) f)
+
+newlines_append : (x y : List ℕ) → newlines_in (x ++ y) ≡ newlines_in x + newlines_in y
+newlines_append x y = sum_by-append (λ b. cond (b == newline) 1 0) x y
+
+-- the newlines up to a place that moves on
+pub newlines_further : (x : List ℕ) (at n : ℕ) → newlines_in (take (at + n) x) ≡ newlines_in (take at x) + newlines_in (take n (drop at x))
+newlines_further x at n = ap newlines_in (take-add at n x) ∙ newlines_append (take at x) (take n (drop at x))
+
+-- what is left where all that is taken was pushed
+pub pushed_behind : (t : HeldText) (p : List ℕ) (n : ℕ) → n ≤ length t.pushed → p ≡ drop n t.pushed → record t { pushed = p } ≡ text_behind n t
+pushed_behind t p n h e =
+    let none : 0 ≡ n - length t.pushed = omega arith in
+    ap (λ (q : List ℕ). let u : HeldText = record { pushed = q; unread = t.unread; newlines = t.newlines } in u) e
+    ∙ ap (λ m. let u : HeldText = record { pushed = drop n t.pushed; unread = t.unread; newlines = m } in u) (sym (add-zero t.newlines))
+    ∙ ap (λ m. let u : HeldText = record { pushed = drop n t.pushed; unread = drop m t.unread; newlines = t.newlines + newlines_in (take m t.unread) } in u) none
+
+same_front : (p front x y : List ℕ) → length front ≡ length p → front ++ y ≡ p ++ x → (front ≡ p) × (y ≡ x)
+same_front [] [] x y l e = (refl, e)
+same_front [] (b ∷ front) x y l e = absurd (omega arith)
+same_front (b ∷ p) [] x y l e = absurd (omega arith)
+same_front (b ∷ p) (d ∷ front) x y l e =
+    let rest : front ++ y ≡ p ++ x = cc in
+    let first : d ≡ b = cc in
+    let both = same_front p front x y (omega arith) rest in
+    (ap (λ (z : List ℕ). d ∷ z) both.0 ∙ ap (λ a. a ∷ p) first, both.1)
+
+-- text put behind the pushed bytes, and turned round there
+pub turned_onto : (p text front back turned_back : List ℕ) → length front ≡ length p → front ++ back ≡ p ++ text → turned_back ≡ reverse back → reverse (front ++ turned_back) ≡ text ++ reverse p
+turned_onto p text front back turned_back l e h =
+    let both = same_front p front text back l e in
+    reverse-append front turned_back
+    ∙ ap (λ (z : List ℕ). z ++ reverse front) (ap reverse h ∙ reverse-reverse back ∙ both.1)
+    ∙ ap (λ (z : List ℕ). text ++ reverse z) both.0
+
+-- a list that is as long as what it stands in place of
+pub refilled : (n : ℕ) (x y : List ℕ) → length x ≡ n → take n (x ++ y) ≡ x
+refilled n x y h =
+    let none : n - length x ≡ 0 = omega arith in
+    take_parts n x y ∙ ap (λ m. take n x ++ take m y) none ∙ append-nil (take n x) ∙ take_long n x (omega arith)

@@ -4,3 +4,4 @@ pub mod Pending
 pub mod Token
 pub mod Paren
 pub mod Input
+pub mod Text

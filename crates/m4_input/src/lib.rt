@@ -10,5 +10,6 @@ pub mod fault;
 pub mod front;
 pub mod pushed;
 mod scan;
+mod text;
 pub mod token;
 mod window;
