@@ -2,3 +2,4 @@ pub mod Consumed
 pub mod OpenEnd
 pub mod Scans
 pub mod Parts
+pub mod Lines

@@ -5,3 +5,4 @@ pub mod Token
 pub mod Paren
 pub mod Input
 pub mod Text
+pub mod InputView

@@ -1,7 +1,9 @@
 -- Text: the bytes that an input holds, as its code keeps them.
 -- Not believed: it only bridges the code and specs/Pending.antt. Words: HeldText, text_in,
--- text_behind, view_of.
-use Rattle.std.specs.Prelude.{ℕ, ◌+◌, ◌-◌, List, ◌++◌, length, take, drop, reverse}
+-- text_behind, LiesIn, view_of.
+use Rattle.std.specs.Prelude.{ℕ, ◌+◌, ◌-◌, ◌≤◌, List, ◌++◌, length, take, drop, reverse}
+use Rattle.m4_input.specs.declared.front.Scan.{Scan}
+use Rattle.m4_input.specs.declared.front.Scan.TheVariants.{Found, Broken, NeedsMore}
 use Rattle.m4_input.specs.declared.text.Text.TheInside.{Inside}
 use Rattle.m4_input.specs.Pending.{newlines_in}
 
@@ -30,6 +32,12 @@ text_behind n t = record {
   unread = drop (n - length t.pushed) t.unread;
   newlines = t.newlines + newlines_in (take (n - length t.pushed) t.unread);
 }
+
+-- a token lies within so many bytes
+abbrev pub LiesIn : ℕ → Scan → Type 0
+LiesIn len (Found t n) = n ≤ len
+LiesIn len (Broken what) = Unit {0}
+LiesIn len NeedsMore = Unit {0}
 
 -- the fields: the pushed bytes, the last byte first; the file's; and how many of these were read
 abbrev pub view_of : Inside → HeldText

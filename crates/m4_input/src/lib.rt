@@ -7,7 +7,9 @@
 
 pub mod delims;
 pub mod fault;
+mod follows;
 pub mod front;
+pub mod input;
 pub mod pushed;
 mod scan;
 mod text;

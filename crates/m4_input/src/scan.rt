@@ -7,6 +7,7 @@
 ghost use Rattle.std.specs.Prelude.{◌≡◌, ◌+◌, ◌<◌, ◌≤◌, ◌∷◌, IfSome, IfOk, IsTrue, length, drop};
 ghost use Rattle.m4_input.specs.DelimsView.{pair_of};
 ghost use Rattle.m4_input.specs.Token.{level, mark_at, starts_with, may_start, kind_of, name_at, comment_at, string_at, scan};
+ghost use Rattle.m4_input.specs.Text.{LiesIn};
 
 use crate::delims::Delims;
 use crate::front::{Kind, Mark, Scan, Unended};
@@ -70,7 +71,7 @@ impl<'a> Window<'a> {
     }
 
     /// Whether a pair that is not disabled begins here.
-    fn opens(&self, pair: &Pair<'_>) -> bool
+    pub fn opens(&self, pair: &Pair<'_>) -> bool
         ensures value { result ≡ starts_with (pair_of pair.now) self.now }
         ensures within { IsTrue result → (0 < length pair.now.0.now) × (length pair.now.0.now ≤ length self.now) }
     {
@@ -113,7 +114,8 @@ impl<'a> Window<'a> {
         delims: &Delims<'_>,
         may_follow: bool,
     ) -> Result<Scan, AllocError>
-        ensures { IfOk result (λ s. s ≡ scan (pair_of delims.now.quotes) (pair_of delims.now.comments) may_follow self.now) }
+        ensures value { IfOk result (λ s. s ≡ scan (pair_of delims.now.quotes) (pair_of delims.now.comments) may_follow self.now) }
+        ensures within { IfOk result (λ s. LiesIn (length self.now) s) }
     {
         let Some(first) = self.byte(0) else {
             return Ok(if may_follow {
@@ -133,7 +135,8 @@ impl<'a> Window<'a> {
 
     /// The name at the front.
     fn name(&self, alloc: Global, may_follow: bool) -> Result<Scan, AllocError>
-        ensures { IfOk result (λ s. s ≡ name_at may_follow self.now) }
+        ensures value { IfOk result (λ s. s ≡ name_at may_follow self.now) }
+        ensures within { IfOk result (λ s. LiesIn (length self.now) s) }
     {
         let len = self.word_len(0);
         if may_follow && len == self.len() {
@@ -150,7 +153,8 @@ impl<'a> Window<'a> {
         may_follow: bool,
     ) -> Result<Scan, AllocError>
         requires { length pair.now.0.now ≤ length self.now }
-        ensures { IfOk result (λ s. s ≡ comment_at (pair_of pair.now) may_follow self.now) }
+        ensures value { IfOk result (λ s. s ≡ comment_at (pair_of pair.now) may_follow self.now) }
+        ensures within { IfOk result (λ s. LiesIn (length self.now) s) }
     {
         let _small = self.len();
         match self.find(pair.0.len(), pair.1) {
@@ -167,7 +171,8 @@ impl<'a> Window<'a> {
     fn string(&self, alloc: Global, pair: &Pair<'_>, may_follow: bool) -> Result<Scan, AllocError>
         requires starts { length pair.now.0.now ≤ length self.now }
         requires begin { 0 < length pair.now.0.now }
-        ensures { IfOk result (λ s. s ≡ string_at (pair_of pair.now) may_follow self.now) }
+        ensures value { IfOk result (λ s. s ≡ string_at (pair_of pair.now) may_follow self.now) }
+        ensures within { IfOk result (λ s. LiesIn (length self.now) s) }
     {
         let _small = self.len();
         match self.string_len(pair.0.len(), pair, may_follow) {

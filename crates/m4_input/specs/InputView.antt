@@ -1,0 +1,61 @@
+-- InputView: what the fields of an input stand for, and what the parts of its calls do.
+-- Not believed: it only bridges the code and specs/Input.antt. Words: view_of, IsUnread, unread_again, Fills, Takes.
+use Rattle.std.specs.Prelude.{◌≡◌, ℕ, true, false, List, [], Option, Some, None, Result, Ok, Err}
+use Rattle.m4_state.specs.Device.{Script}
+use Rattle.m4_state.specs.declared.delimiters.Delimiters.{Delimiters}
+use Rattle.m4_input.specs.declared.fault.InputFault.{InputFault}
+use Rattle.m4_input.specs.declared.fault.InputFault.TheVariants as faults
+use Rattle.m4_input.specs.declared.front.Unended.{Unended}
+use Rattle.m4_input.specs.declared.front.Unended.TheVariants.{InString, InComment}
+use Rattle.m4_input.specs.declared.input.Input.TheInside.{Inside}
+use Rattle.m4_input.specs.declared.token.Token.{Token}
+use Rattle.m4_input.specs.Pending.{Pending}
+use Rattle.m4_input.specs.Input.{Held, Reads, Stopped, all_read}
+use Rattle.m4_input.specs.Token.{Taken, Refused, token_at}
+
+-- the fields, with the text's parts
+abbrev pub view_of : Inside → Held
+view_of i = record {
+  pending = record {
+    definition = i.definition;
+    pushed = (i.text).pushed;
+    unread = (i.text).unread;
+    may_follow = i.may_follow;
+    file = i.name;
+    newlines = (i.text).newlines;
+  };
+  fault = i.fault;
+}
+
+-- before the reader is read, no byte of the file is there
+abbrev pub IsUnread : Pending → Type 0
+IsUnread p = (p.unread ≡ []) × (p.newlines ≡ 0)
+
+-- back to where no byte of the file was there
+abbrev pub unread_again : Held → Held
+unread_again h = record h { pending = record h.pending { unread = []; may_follow = true; newlines = 0 } }
+
+-- the reader is read to its end, or the call stopped
+abbrev pub Fills : Option Script → Option Script → Held → Held → Result Unit InputFault → Type 0
+Fills before behind old new (Ok done) =
+    (x : List ℕ) × Reads before behind old.pending x new.pending
+    × ((new.pending).may_follow ≡ false) × (new.fault ≡ None)
+    × ((old.pending).may_follow ≡ true → IsUnread old.pending)
+Fills before behind old new (Err fault) = (x : List ℕ) × Stopped fault before behind old new x
+
+-- the fault of what has no end
+abbrev pub fault_of : Unended → ℕ → InputFault
+fault_of InString line = faults.EndInString line
+fault_of InComment line = faults.EndInComment line
+
+-- the token at the front is taken, where all bytes are there
+abbrev pub Takes : Delimiters → Delimiters → Held → Held → Result Token InputFault → Type 0
+Takes q c old new (Ok t) = (token_at q c old.pending ≡ Taken t new.pending) × (new.fault ≡ None)
+Takes q c old new (Err (faults.EndInString line)) =
+    (token_at q c old.pending ≡ Refused InString line)
+    × (new.pending ≡ all_read old.pending) × (new.fault ≡ None)
+Takes q c old new (Err (faults.EndInComment line)) =
+    (token_at q c old.pending ≡ Refused InComment line)
+    × (new.pending ≡ all_read old.pending) × (new.fault ≡ None)
+Takes q c old new (Err faults.Read) = ⊥
+Takes q c old new (Err faults.OutOfMemory) = new ≡ record old { fault = Some faults.OutOfMemory }

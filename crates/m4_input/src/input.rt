@@ -1,0 +1,169 @@
+//! What a run still has to read: a definition in front, pushed text, and the rest of one file.
+//!
+//! A reader is read whole at the first call that needs a byte of it, and not asked again. A call
+//! that fails for want of a byte or of memory leaves what is pending as it was, and its fault is
+//! answered from then on.
+//!
+//! Contracts see `Held` (`specs/Input.antt`). Manual: "How m4 copies input to output".
+
+ghost use Rattle.std.specs.Prelude.{◌≡◌, Some, None, OnOk, OnErr, IfErr, IfSome, Err, true, false};
+ghost use Rattle.m4_state.specs.Device.{Script};
+ghost use Rattle.m4_input.specs.DelimsView.{pair_of};
+ghost use Rattle.m4_input.specs.Pending.{line_of, name_of};
+
+use crate::delims::Delims;
+use crate::fault::InputFault;
+use crate::front::{Scan, Unended};
+use crate::pushed::Pushed;
+use crate::text::Text;
+use crate::token::Token;
+use m4_state::bytes::Bytes;
+use m4_state::definition::Def;
+use m4_state::device::ByteSource;
+use m4_state::transfer::take_all;
+use std::alloc::{AllocError, Global};
+use std::marker::Model;
+
+/// A file or wrapped text that is being read, with what calls have put in front of it.
+#[derive(Drop)]
+pub struct Input {
+    alloc: Global,
+    definition: Option<Def>,
+    text: Text,
+    name: Option<Bytes>,
+    may_follow: bool,
+    fault: Option<InputFault>,
+}
+
+impl Model for Input {
+    ghost use Rattle.std.specs.Prelude.{◌≡◌, true};
+    ghost use Rattle.m4_input.specs.Input.{Held};
+    ghost use Rattle.m4_input.specs.InputView.{view_of, IsUnread};
+
+    ghost Value = { Held };
+
+    ghost view = { view_of };
+
+    ghost invariant = { λ i. i.may_follow ≡ true → IsUnread ((view_of i).pending) };
+}
+
+impl Input {
+    ghost use Rattle.m4_input.specs.Input.{Held, unread_file, with_pushed, all_read, NextGives, ParenGives, SkipGives, failures_behind};
+    ghost use Rattle.m4_input.specs.InputView.{unread_again, fault_of, Fills, Takes};
+
+    /// A file that is read from its start.
+    pub fn file(alloc: Global, name: Bytes) -> Input
+        ensures { result ≡ unread_file name }
+    {
+        Input {
+            alloc,
+            definition: None,
+            text: Text::new(alloc),
+            name: Some(name),
+            may_follow: true,
+            fault: None,
+        }
+    }
+
+    /// The line at the front, counted from 1; 0 in wrapped text. It counts the newlines of the file
+    /// that were read, and stays at its greatest value. Manual: "Location within input".
+    pub fn line(&self) -> u64
+        ensures { result ≡ line_of self.now.pending }
+    {
+        match self.name {
+            None => 0,
+            Some(_) => (self.text.newlines() as u64).saturating_add(1),
+        }
+    }
+
+    /// The file's name; empty in wrapped text.
+    pub fn name(&self) -> &[u8]
+        ensures { result.now ≡ name_of self.now.pending }
+    {
+        match &self.name {
+            Some(name) => name.as_slice(),
+            None => &[],
+        }
+    }
+
+    /// Puts a value in front, to be read before everything else. `OutOfMemory` where a growth is
+    /// refused, and the fault that an earlier call met; the input then stays as it was. Takes time
+    /// in proportion to the value.
+    pub fn push_front(&mut self, value: Pushed) -> Result<(), InputFault>
+        requires { self.old.pending.definition ≡ None }
+        // exact steps: the value in front; a refusal leaves it as it was
+        ensures ok { OnOk result ((self.new ≡ record self.old { pending = with_pushed value self.old.pending }) × (self.old.fault ≡ None)) }
+        ensures err { OnErr result (self.new ≡ self.old) }
+        // the answer: an earlier fault again, else OutOfMemory
+        ensures again { IfSome self.old.fault (λ f. result ≡ Err f) }
+        ensures fault { self.old.fault ≡ None → IfErr result (λ f. f ≡ InputFault.OutOfMemory) }
+    {
+        if let Some(fault) = self.fault {
+            return Err(fault);
+        }
+        match value {
+            Pushed::Text(text) => match self.text.push(text.as_slice()) {
+                Ok(()) => Ok(()),
+                Err(AllocError) => Err(InputFault::OutOfMemory),
+            },
+            Pushed::Definition(def) => {
+                self.definition = Some(def);
+                Ok(())
+            }
+        }
+    }
+
+    /// A fault that is answered from now on.
+    fn stop(&mut self, fault: InputFault) -> InputFault
+        ensures fault { result ≡ fault }
+        ensures stopped { self.new ≡ record self.old { fault = Some fault } }
+    {
+        self.fault = Some(fault);
+        fault
+    }
+
+    /// Reads the reader to its end, unless that is done.
+    fn fill<R: ByteSource>(&mut self, reader: &mut R) -> Result<(), InputFault>
+        requires { self.old.fault ≡ None }
+        ensures gives { Fills (R.script reader.old) (R.script reader.new) self.old self.new result }
+        ensures counted { R.failures reader.new ≡ failures_behind self.old.fault self.new.fault (R.failures reader.old) }
+    {
+        if !self.may_follow {
+            return Ok(());
+        }
+        match take_all(self.alloc, reader) {
+            Err(AllocError) => Err(self.stop(InputFault::OutOfMemory)),
+            Ok(taken) => {
+                if taken.failed {
+                    return Err(self.stop(InputFault::Read));
+                }
+                self.text.set_file(taken.bytes);
+                self.may_follow = false;
+                Ok(())
+            }
+        }
+    }
+
+    /// Drops the file's bytes, as if the reader had not been read.
+    fn forget_file(&mut self)
+        ensures { self.new ≡ unread_again self.old }
+    {
+        self.text.set_file(Vec::new(self.alloc));
+        self.may_follow = true;
+    }
+
+    /// The fault of what has no end. All bytes are read.
+    fn end_inside(&mut self, what: Unended) -> InputFault
+        ensures fault { result ≡ fault_of what (line_of self.old.pending) }
+        ensures nothing { self.new ≡ record self.old { pending = all_read self.old.pending } }
+    {
+        let line = self.line();
+        let len = self.text.window().len();
+        self.definition = None;
+        self.text.consume(len);
+        match what {
+            Unended::InString => InputFault::EndInString { line },
+            Unended::InComment => InputFault::EndInComment { line },
+        }
+    }
+}
