@@ -3,3 +3,4 @@ pub mod OpenEnd
 pub mod Scans
 pub mod Parts
 pub mod Lines
+pub mod Calls

@@ -1,6 +1,6 @@
 -- InputView: what the fields of an input stand for, and what the parts of its calls do.
--- Not believed: it only bridges the code and specs/Input.antt. Words: view_of, IsUnread, unread_again, Fills, Takes.
-use Rattle.std.specs.Prelude.{◌≡◌, ℕ, true, false, List, [], Option, Some, None, Result, Ok, Err}
+-- Not believed: it only bridges the code and specs/Input.antt. Words: view_of, IsUnread, IsLasting, IsHeld, unread_again, Fills, Takes.
+use Rattle.std.specs.Prelude.{◌≡◌, ℕ, true, false, List, [], Option, Some, None, Result, Ok, Err, IfSome}
 use Rattle.m4_state.specs.Device.{Script}
 use Rattle.m4_state.specs.declared.delimiters.Delimiters.{Delimiters}
 use Rattle.m4_input.specs.declared.fault.InputFault.{InputFault}
@@ -31,6 +31,18 @@ view_of i = record {
 abbrev pub IsUnread : Pending → Type 0
 IsUnread p = (p.unread ≡ []) × (p.newlines ≡ 0)
 
+-- a fault that is answered from now on
+abbrev pub IsLasting : InputFault → Type 0
+IsLasting (faults.EndInString line) = ⊥
+IsLasting (faults.EndInComment line) = ⊥
+IsLasting faults.Read = Unit {0}
+IsLasting faults.OutOfMemory = Unit {0}
+
+-- what is true of each input
+abbrev pub IsHeld : Held → Type 0
+IsHeld h =
+    ((h.pending).may_follow ≡ true → IsUnread h.pending) × IfSome h.fault IsLasting
+
 -- back to where no byte of the file was there
 abbrev pub unread_again : Held → Held
 unread_again h = record h { pending = record h.pending { unread = []; may_follow = true; newlines = 0 } }
@@ -41,7 +53,8 @@ Fills before behind old new (Ok done) =
     (x : List ℕ) × Reads before behind old.pending x new.pending
     × ((new.pending).may_follow ≡ false) × (new.fault ≡ None)
     × ((old.pending).may_follow ≡ true → IsUnread old.pending)
-Fills before behind old new (Err fault) = (x : List ℕ) × Stopped fault before behind old new x
+Fills before behind old new (Err fault) =
+    (x : List ℕ) × Stopped fault before behind old new x × IsLasting fault
 
 -- the fault of what has no end
 abbrev pub fault_of : Unended → ℕ → InputFault

@@ -36,20 +36,19 @@ pub struct Input {
 }
 
 impl Model for Input {
-    ghost use Rattle.std.specs.Prelude.{◌≡◌, true};
     ghost use Rattle.m4_input.specs.Input.{Held};
-    ghost use Rattle.m4_input.specs.InputView.{view_of, IsUnread};
+    ghost use Rattle.m4_input.specs.InputView.{view_of, IsHeld};
 
     ghost Value = { Held };
 
     ghost view = { view_of };
 
-    ghost invariant = { λ i. i.may_follow ≡ true → IsUnread ((view_of i).pending) };
+    ghost invariant = { λ i. IsHeld (view_of i) };
 }
 
 impl Input {
     ghost use Rattle.m4_input.specs.Input.{Held, unread_file, with_pushed, all_read, NextGives, ParenGives, SkipGives, failures_behind};
-    ghost use Rattle.m4_input.specs.InputView.{unread_again, fault_of, Fills, Takes};
+    ghost use Rattle.m4_input.specs.InputView.{IsLasting, unread_again, fault_of, Fills, Takes};
 
     /// A file that is read from its start.
     pub fn file(alloc: Global, name: Bytes) -> Input
@@ -113,8 +112,67 @@ impl Input {
         }
     }
 
+    /// The token at the front, which is taken. `EndInString` and `EndInComment` where the end comes
+    /// first, and then nothing is pending; `Read` where the reader fails and `OutOfMemory` where a
+    /// growth is refused, and from then on at each call. Takes time in proportion to what it takes,
+    /// and to what the reader gives at its first call. Manual: "Lexical and syntactic conventions".
+    pub fn next<R: ByteSource>(&mut self, reader: &mut R, delims: &Delims<'_>) -> Result<Token, InputFault>
+        // exact steps: the token, and what is left behind it
+        ensures gives { NextGives (pair_of delims.now.quotes) (pair_of delims.now.comments) (R.script reader.old) (R.script reader.new) self.old self.new result }
+        ensures counted { R.failures reader.new ≡ failures_behind self.old.fault self.new.fault (R.failures reader.old) }
+    {
+        if let Some(fault) = self.fault {
+            return Err(fault);
+        }
+        if let Some(def) = self.definition.take() {
+            return Ok(Token::Definition(def));
+        }
+        let was_unread = self.may_follow;
+        self.fill(reader)?;
+        let taken = self.take_token(delims);
+        if was_unread && self.fault.is_some() {
+            self.forget_file();
+        }
+        taken
+    }
+
+    /// Whether an argument list follows: a parenthesis, with no blank before it. Nothing is taken.
+    /// `Read` and `OutOfMemory` as in `next`. Manual: "Macro invocation".
+    pub fn sees_paren<R: ByteSource>(&mut self, reader: &mut R, delims: &Delims<'_>) -> Result<bool, InputFault>
+        // exact steps: whether a list follows; nothing is taken
+        ensures gives { ParenGives (pair_of delims.now.quotes) (pair_of delims.now.comments) (R.script reader.old) (R.script reader.new) self.old self.new result }
+        ensures counted { R.failures reader.new ≡ failures_behind self.old.fault self.new.fault (R.failures reader.old) }
+    {
+        if let Some(fault) = self.fault {
+            return Err(fault);
+        }
+        if self.definition.is_some() {
+            return Ok(false);
+        }
+        self.fill(reader)?;
+        Ok(self.text.window().sees_paren(delims))
+    }
+
+    /// Drops a definition and the rest of the line, with its newline; all where no newline is left.
+    /// `Read` and `OutOfMemory` as in `next`. Manual: "Deleting whitespace in input".
+    pub fn skip_line<R: ByteSource>(&mut self, reader: &mut R) -> Result<(), InputFault>
+        // exact steps: what is left behind the line
+        ensures gives { SkipGives (R.script reader.old) (R.script reader.new) self.old self.new result }
+        ensures counted { R.failures reader.new ≡ failures_behind self.old.fault self.new.fault (R.failures reader.old) }
+    {
+        if let Some(fault) = self.fault {
+            return Err(fault);
+        }
+        self.fill(reader)?;
+        let len = self.text.window().line_len();
+        self.definition = None;
+        self.text.consume(len);
+        Ok(())
+    }
+
     /// A fault that is answered from now on.
     fn stop(&mut self, fault: InputFault) -> InputFault
+        requires { IsLasting fault }
         ensures fault { result ≡ fault }
         ensures stopped { self.new ≡ record self.old { fault = Some fault } }
     {
@@ -164,6 +222,24 @@ impl Input {
         match what {
             Unended::InString => InputFault::EndInString { line },
             Unended::InComment => InputFault::EndInComment { line },
+        }
+    }
+
+    /// Takes the token at the front, where all bytes are there.
+    fn take_token(&mut self, delims: &Delims<'_>) -> Result<Token, InputFault>
+        requires closed { self.old.pending.may_follow ≡ false }
+        requires plain { self.old.pending.definition ≡ None }
+        requires sound { self.old.fault ≡ None }
+        ensures { Takes (pair_of delims.now.quotes) (pair_of delims.now.comments) self.old self.new result }
+    {
+        match self.text.window().scan(self.alloc, delims, false) {
+            Err(AllocError) => Err(self.stop(InputFault::OutOfMemory)),
+            Ok(Scan::Found(token, len)) => {
+                self.text.consume(len);
+                Ok(token)
+            }
+            Ok(Scan::Broken(what)) => Err(self.end_inside(what)),
+            Ok(Scan::NeedsMore) => unreachable!(),
         }
     }
 }
