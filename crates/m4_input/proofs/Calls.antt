@@ -1,13 +1,12 @@
 -- Calls: a call that takes what stands in front asks no reader.
-use Rattle.std.proofs.Common.{◌≡◌, ℕ, true, false, List, [], ◌∷◌, ◌++◌, Option, Some, None, Result, Ok, Err, refl, sym, ap, ◌∙◌, subst}
+use Rattle.std.proofs.Common.{◌≡◌, ℕ, List, [], Option, Some, None, Ok, refl, sym, ap, ◌∙◌}
 use Rattle.std.proofs.lemmas.List.{append-nil}
 use Rattle.m4_state.specs.Device.{Script, after_bytes}
 use Rattle.m4_state.specs.declared.definition.Def.{Def}
 use Rattle.m4_state.specs.declared.delimiters.Delimiters.{Delimiters}
-use Rattle.m4_input.specs.declared.token.Token.{Token}
 use Rattle.m4_input.specs.declared.token.Token.TheVariants.{Definition}
 use Rattle.m4_input.specs.Pending.{Pending}
-use Rattle.m4_input.specs.Token.{Taken, token_at, front_from}
+use Rattle.m4_input.specs.Token.{Taken, front_from}
 use Rattle.m4_input.specs.Input.{Held, Reads, NextGives}
 
 -- a call that asks no reader

@@ -116,7 +116,11 @@ impl Input {
     /// first, and then nothing is pending; `Read` where the reader fails and `OutOfMemory` where a
     /// growth is refused, and from then on at each call. Takes time in proportion to what it takes,
     /// and to what the reader gives at its first call. Manual: "Lexical and syntactic conventions".
-    pub fn next<R: ByteSource>(&mut self, reader: &mut R, delims: &Delims<'_>) -> Result<Token, InputFault>
+    pub fn next<R: ByteSource>(
+        &mut self,
+        reader: &mut R,
+        delims: &Delims<'_>,
+    ) -> Result<Token, InputFault>
         // exact steps: the token, and what is left behind it
         ensures gives { NextGives (pair_of delims.now.quotes) (pair_of delims.now.comments) (R.script reader.old) (R.script reader.new) self.old self.new result }
         ensures counted { R.failures reader.new ≡ failures_behind self.old.fault self.new.fault (R.failures reader.old) }
@@ -138,7 +142,11 @@ impl Input {
 
     /// Whether an argument list follows: a parenthesis, with no blank before it. Nothing is taken.
     /// `Read` and `OutOfMemory` as in `next`. Manual: "Macro invocation".
-    pub fn sees_paren<R: ByteSource>(&mut self, reader: &mut R, delims: &Delims<'_>) -> Result<bool, InputFault>
+    pub fn sees_paren<R: ByteSource>(
+        &mut self,
+        reader: &mut R,
+        delims: &Delims<'_>,
+    ) -> Result<bool, InputFault>
         // exact steps: whether a list follows; nothing is taken
         ensures gives { ParenGives (pair_of delims.now.quotes) (pair_of delims.now.comments) (R.script reader.old) (R.script reader.new) self.old self.new result }
         ensures counted { R.failures reader.new ≡ failures_behind self.old.fault self.new.fault (R.failures reader.old) }
@@ -243,3 +251,6 @@ impl Input {
         }
     }
 }
+
+#[cfg(test)]
+mod tests;

@@ -1,7 +1,8 @@
 //! What a run still has to read, and the tokens at its front.
 //!
-//! So far the crate has the types and the definitions: `specs/Pending.antt` says what is pending,
-//! `specs/Token.antt` which token stands first, `specs/Paren.antt` whether an argument list follows.
+//! An [`input::Input`] is one file, with what calls have put in front of it. `specs/Pending.antt`
+//! says what is pending, `specs/Token.antt` which token stands first, `specs/Paren.antt` whether an
+//! argument list follows, and `specs/Input.antt` what each call takes and leaves.
 //! Manual: "Lexical and syntactic conventions", "How m4 copies input to output".
 #![tactic(auto)]
 

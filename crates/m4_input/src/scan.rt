@@ -146,12 +146,7 @@ impl<'a> Window<'a> {
     }
 
     /// The comment at the front, with its delimiters.
-    fn comment(
-        &self,
-        alloc: Global,
-        pair: &Pair<'_>,
-        may_follow: bool,
-    ) -> Result<Scan, AllocError>
+    fn comment(&self, alloc: Global, pair: &Pair<'_>, may_follow: bool) -> Result<Scan, AllocError>
         requires { length pair.now.0.now ≤ length self.now }
         ensures value { IfOk result (λ s. s ≡ comment_at (pair_of pair.now) may_follow self.now) }
         ensures within { IfOk result (λ s. LiesIn (length self.now) s) }

@@ -1,7 +1,7 @@
-use Rattle.std.proofs.Common.{◌≡◌, ◌≤◌, ◌-◌, sym, ◌∙◌, ap, subst, arith, length, drop, take, List, ℕ}
+use Rattle.std.proofs.Common.{◌≡◌, ◌≤◌, ◌-◌, sym, ◌∙◌, ap, arith, length, drop, take, List, ℕ}
 use Rattle.std.specs.Prelude.{reverse}
 use Rattle.std.proofs.lemmas.List.{length-reverse}
-use Rattle.m4_input.specs.Text.{HeldText, view_of, text_behind}
+use Rattle.m4_input.specs.Text.{view_of, text_behind}
 use Rattle.m4_input.proofs.Parts.{drop_reverse, pushed_behind}
 use Rattle.m4_input.proofs.text.Text.consume.Goals as goal
 

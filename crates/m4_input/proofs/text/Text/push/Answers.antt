@@ -1,4 +1,4 @@
-use Rattle.std.proofs.Common.{◌≡◌, ◌++◌, sym, ◌∙◌, ap, arith, length, drop, take, List, ℕ, length-append}
+use Rattle.std.proofs.Common.{◌≡◌, ◌++◌, sym, ◌∙◌, ap, arith, length, drop, List, ℕ, length-append}
 use Rattle.std.specs.Prelude.{reverse}
 use Rattle.m4_input.specs.Text.{HeldText, view_of}
 use Rattle.m4_input.proofs.Parts.{turned_onto, refilled}

@@ -1,4 +1,4 @@
-use Rattle.std.proofs.Common.{◌≡◌, ◌+◌, ◌-◌, sym, ◌∙◌, ap, arith, length, drop, take, length-drop, ℕ, List}
+use Rattle.std.proofs.Common.{◌≡◌, ◌+◌, ◌-◌, ◌∙◌, ap, arith, length, drop, take, length-drop, ℕ, List}
 use Rattle.m4_input.specs.Pending.{newlines_in}
 use Rattle.m4_input.specs.Text.{HeldText}
 use Rattle.m4_input.proofs.Parts.{newlines_further}

@@ -1,4 +1,4 @@
-use Rattle.std.proofs.Common.{sym, ◌∙◌, ap, subst, take, drop, ◌++◌, ◌-◌, ◌≡◌, List, ℕ, length}
+use Rattle.std.proofs.Common.{◌∙◌, ap, subst, take, drop, ◌++◌, ◌≡◌, List, ℕ}
 use Rattle.std.specs.Prelude.{reverse, IfOk}
 use Rattle.m4_input.proofs.Parts.{copied_file, copied_both}
 use Rattle.m4_input.proofs.window.Window.copy.Goals as goal
