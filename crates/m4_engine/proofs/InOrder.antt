@@ -19,7 +19,9 @@ use Rattle.m4_input.specs.declared.pushed.Pushed.{Pushed}
 use Rattle.m4_input.specs.declared.pushed.Pushed.TheVariants as pushes
 use Rattle.m4_engine.specs.Nesting.{Turn, Halt, Close, GoOn, Bare, Opens, Outcome, Halted, Closed}
 use Rattle.m4_engine.specs.Expansion.{RunSoFar, Limits, Call, Mode, Outside, Collecting, Expansion, Kept, How, Ended, place_at, with_call, reading, put_text}
-use Rattle.m4_engine.specs.Args.{end_argument, with_parenthesis, Role, Opening, Closing, Separator, Blank, Other, role_of, take_closing, take_byte}
+use Rattle.m4_engine.specs.declared.role.Role.{Role}
+use Rattle.m4_engine.specs.declared.role.Role.TheVariants.{Opening, Closing, Separator, Blank, Other}
+use Rattle.m4_engine.specs.Args.{end_argument, with_parenthesis, role_of, take_closing, take_byte}
 use Rattle.m4_engine.specs.Expand.{with_pushed, skip_all, skip_line, skip_or_push, effected, acted_at, kept_of, behind_call, called, join_by, join, call_of, bare, collect, call_unless_deep, is_deep, call_if_room, needs_list, call_without_list, take_call, take_name, take_other, take_end, take_token, take_front, turn, size_of, calls_left, spent_at, expand}
 use Rattle.m4_state.specs.declared.definition.Def.TheVariants as defs
 use Rattle.m4_state.specs.declared.builtin.Builtin.{Builtin}
@@ -29,7 +31,9 @@ use Rattle.m4_state.specs.State.{IsState, empty}
 use Rattle.m4_state.proofs.Tables.{AllByRecursion-push}
 use Rattle.m4_state.proofs.StaysInOrder.{IsState-appended, IsState-pushed, IsState-with_quotes, IsState-with_comments, IsState-diverted, IsState-empty, IsState-fresh, top_definition}
 use Rattle.m4_input.proofs.Consumed.{NoDefinition, scan_plain}
-use Rattle.m4_builtins.proofs.ActKeeps.{IsArg, IsPushed, act_keeps, act_pushes}
+use Rattle.m4_builtins.specs.Args.{IsArg}
+use Rattle.m4_builtins.specs.Act.{IsPushed}
+use Rattle.m4_builtins.proofs.ActKeeps.{ act_keeps, act_pushes}
 use Rattle.m4_frozen.specs.Directive.{Directive, Quotes, Comments, Text, Builtin as NamedBuiltin, Diversion}
 use Rattle.m4_frozen.specs.Spells.{SpellsAll, SpellsOne}
 use Rattle.m4_frozen.specs.Denote.{with_directive, definition_named, builtin_or_placeholder}
@@ -90,7 +94,7 @@ token_valid d (Collecting c) i h = (h.0, h.1, AllByRecursion-push IsDefinition c
 put_valid : (x : List ℕ) (s : Expansion) → Valid s → Valid (put_text x s)
 put_valid x s h = (diverted_valid s.mode (s.so_far).state x h.0, h.1, text_valid x s.mode h.2)
 
-argument_valid : (x : List ℕ) (ds : List Def) → AllByRecursion IsDefinition ds → IsArg (argument_of x ds)
+pub argument_valid : (x : List ℕ) (ds : List Def) → AllByRecursion IsDefinition ds → IsArg (argument_of x ds)
 argument_valid [] [] h = tt
 argument_valid [] (d ∷ []) h = h.0
 argument_valid [] (d ∷ e ∷ ds) h = tt

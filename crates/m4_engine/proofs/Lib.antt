@@ -19,3 +19,8 @@ pub mod Limits
 pub mod InOrder
 pub mod Reloads
 pub mod RunsEnd
+pub mod Calls
+pub mod Inputs
+pub mod Acts
+pub mod Taken
+pub mod Calling

@@ -1,5 +1,5 @@
 -- RunsEnd: an expansion outside of calls ends by a cause, and never for want of a bound.
-use Rattle.std.proofs.Common.{◌≡◌, ◌≢◌, ◌⊎◌, inl, inr, ⊎_elim, Option, ℕ, zero, suc, ◌<◌, Bool, true, false, List, [], ◌∷◌, length, Some, None, refl, sym, ap, ◌∙◌, subst}
+use Rattle.std.proofs.Common.{◌≡◌, ◌≢◌, Option, ℕ, zero, suc, Bool, true, false, List, [], ◌∷◌, Some, None, refl, sym, ap, ◌∙◌, subst}
 use Rattle.std.specs.Prelude.{nat_lt}
 use Rattle.m4_state.specs.declared.definition.Def.{Def}
 use Rattle.m4_state.specs.declared.delimiters.Delimiters.{Delimiters}
@@ -7,33 +7,29 @@ use Rattle.m4_input.specs.declared.token.Token.{Token}
 use Rattle.m4_input.specs.declared.token.Token.TheVariants.{Name, Str, Comment, Byte, Definition, End}
 use Rattle.m4_input.specs.declared.front.Scan.{Scan}
 use Rattle.m4_input.specs.declared.front.Scan.TheVariants.{Found, Broken, NeedsMore}
-use Rattle.m4_input.specs.declared.front.Unended.{Unended}
-use Rattle.m4_input.specs.declared.front.Mark.{Mark}
-use Rattle.m4_input.specs.declared.front.Mark.TheVariants.{EndQuote, BeginQuote, PlainByte, CutQuote}
-use Rattle.m4_input.specs.declared.front.Kind.{Kind}
-use Rattle.m4_input.specs.declared.front.Kind.TheVariants.{CommentHere, NameHere, StringHere, ByteHere, Undecided}
 use Rattle.m4_input.specs.declared.front.Answer.{Answer}
 use Rattle.m4_input.specs.declared.front.Answer.TheVariants.{Yes, No, Unknown}
-use Rattle.m4_input.specs.Ascii.{is_letter, is_name_byte, newline}
-use Rattle.m4_input.specs.Pending.{Pending, text_of, consumed, line_length, one_more, newlines_in}
-use Rattle.m4_input.specs.Token.{begins, is_cut, is_enabled, starts_with, may_start, run_length, before, mark_by, mark_at, level, unended, comment_found, name_unless, name_at, string_found, string_at, kind_by, kind_of, scan_kind, scan, Front, Taken, Refused, More, front_by, front_from, token_at}
+use Rattle.m4_input.specs.Ascii.{is_letter}
+use Rattle.m4_input.specs.Pending.{Pending, text_of, line_length}
+use Rattle.m4_input.specs.Token.{starts_with, comment_found, string_found, kind_by, scan_kind, scan, Front, Taken, Refused, More, front_by, front_from, token_at}
 use Rattle.m4_input.specs.Paren.{answer_by, paren_in, paren_from, paren_at}
-use Rattle.m4_state.specs.State.{State, top_of}
+use Rattle.m4_state.specs.State.{top_of}
 use Rattle.m4_input.specs.declared.pushed.Pushed.{Pushed}
 use Rattle.m4_input.specs.declared.pushed.Pushed.TheVariants as pushes
 use Rattle.m4_engine.specs.declared.ending.Cause.{Cause}
 use Rattle.m4_engine.specs.declared.ending.Cause.TheVariants as causes
-use Rattle.m4_engine.specs.Nesting.{Turn, Halt, Close, GoOn, Bare, Opens, Outcome, Halted, Closed, then_on, after, Falls}
+use Rattle.m4_engine.specs.Nesting.{Turn, Halt, Close, GoOn, Bare, Opens, Outcome, Halted, Closed}
 use Rattle.m4_engine.specs.Expansion.{RunSoFar, Limits, Call, Mode, Outside, Collecting, Expansion, Kept, How, Ends, WantsMore, Spent, Ended, place_at, with_message, with_call, reading, put_text, put_token}
-use Rattle.m4_engine.specs.Args.{with_argument, dropped_if_any, end_argument, with_parenthesis, Role, Opening, Closing, Separator, Blank, Other, role_of, take_closing, take_byte}
-use Rattle.m4_engine.specs.Expand.{with_pushed, with_acted, skip_all, skip_line, skip_or_push, effected, acted_at, kept_of, behind_call, called, join_by, join, call_of, bare, collect, call_unless_deep, is_deep, call_if_room, call, needs_list, call_without_list, take_call, take_name, take_other, take_end, take_token, take_front, unended_cause, turn, definition_size, pending_size, size_of, calls_left, spent_at, expand}
-use Rattle.m4_input.proofs.OpenEnd.{paren_in_stays}
+use Rattle.m4_engine.specs.declared.role.Role.{Role}
+use Rattle.m4_engine.specs.declared.role.Role.TheVariants.{Opening, Closing, Separator, Blank, Other}
+use Rattle.m4_engine.specs.Args.{role_of, take_closing, take_byte}
+use Rattle.m4_engine.specs.Expand.{with_pushed, skip_all, skip_line, skip_or_push, effected, kept_of, behind_call, called, join_by, join, call_of, bare, collect, call_unless_deep, is_deep, call_if_room, needs_list, call_without_list, take_call, take_name, take_other, take_end, take_token, take_front, unended_cause, turn, size_of, calls_left, spent_at, expand}
 use Rattle.m4_engine.specs.Expand.{mode_behind_call, expansion_of, ended_of, expand_input}
 use Rattle.m4_engine.specs.declared.options.Options.{Options}
-use Rattle.m4_engine.specs.File.{Source, Opened, Unopened, Progress, file_pending, over_by, over_of, after_input, unless_over, read_source, after_source, after_sources}
+use Rattle.m4_engine.specs.File.{Source, Opened, Unopened, Progress, file_pending, over_by, over_of, unless_over, read_source, after_source, after_sources}
 use Rattle.m4_engine.specs.Wraps.{read_saved, next_round, rounds, after_wraps, wrapped_pending, joined_back}
 use Rattle.m4_engine.specs.Start.{Start, From, Faulty, begun}
-use Rattle.m4_engine.specs.Run.{RunResult, limits_of, result_by, saved_behind, run_from}
+use Rattle.m4_engine.specs.Run.{limits_of, result_by, saved_behind, run_from}
 use Rattle.m4_engine.proofs.ByRules.{Rules, holds}
 use Rattle.m4_engine.proofs.CallsFall.{falls}
 

@@ -10,3 +10,6 @@ pub mod Run
 pub mod Settled
 pub mod Carries
 pub mod Laws
+pub mod CallView
+pub mod Engine
+pub mod MachineView

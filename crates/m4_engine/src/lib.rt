@@ -4,6 +4,11 @@
 //! Manual: "Macro invocation", "Macro arguments".
 #![tactic(auto)]
 
+pub mod call;
 pub mod ending;
 pub mod laws;
+pub mod machine;
 pub mod options;
+pub mod role;
+pub mod turn;
+pub mod turned;

@@ -1,0 +1,86 @@
+-- Acts: what a call leaves is what the definitions' move leaves.
+use Rattle.std.proofs.Common.{◌≡◌, ◌++◌, length, ℕ, List, [], ◌∷◌, length, None, refl, sym, ap, ◌∙◌, append_assoc}
+use Rattle.m4_state.specs.State.{State}
+use Rattle.m4_input.specs.Pending.{Pending}
+use Rattle.m4_builtins.specs.Act.{Acted, act}
+use Rattle.std.specs.Prelude.{Result, Ok, Err, IfOk}
+use Rattle.m4_engine.specs.declared.turned.Turned.{Turned}
+use Rattle.m4_engine.specs.declared.turned.TurnFault.{TurnFault}
+use Rattle.m4_engine.specs.declared.turned.Turned.TheVariants as turns
+use Rattle.m4_engine.specs.Args.{dropped_if_any, with_argument, end_argument}
+use Rattle.m4_engine.specs.Nesting.{Close, Outcome, Closed}
+use Rattle.m4_engine.specs.OpenCalls.{Stacked, Move, Goes, pop}
+use Rattle.m4_engine.specs.Expansion.{Call, Limits, Expansion, Kept, Ended, reading}
+use Rattle.m4_engine.specs.Expand.{turn, join, effected, skip_or_push, with_acted, mode_behind_call}
+use Rattle.m4_engine.specs.Engine.{Engine, so_far_of, mode_of, kept_in, outer_of, here_of, configuration, with_made, called_within, ending_in, ending_argument, beginning, close_in, step, Moves}
+
+-- where an expansion stands behind a call that did this
+abbrev behind : Acted → List ℕ → List ℕ → Engine → Pending → Expansion
+behind a o m e p = record {
+  limits = e.limits;
+  so_far = with_acted a (so_far_of o m e);
+  pending = p;
+  open_calls = length e.open_calls;
+  mode = mode_behind_call (mode_of e.open_calls);
+}
+
+abbrev popped : List Call → Outcome Expansion Ended → Move Expansion Kept Ended
+popped cs v = pop Expansion Kept Ended turn join (outer_of cs) v
+
+-- the call is a token of what stands around it
+around : (a : Acted) (o m : List ℕ) (limits : Limits) (s : State) (saved : List (List ℕ)) (n : ℕ) (cs : List Call) (output messages : List ℕ) (p p' : Pending) → let e : Engine = record { limits = limits; state = s; saved = saved; calls = n; open_calls = cs; output = output; messages = messages } in let c : Stacked Expansion Kept = record { outer = outer_of cs; here = reading p' (behind a o m e p) } in c ≡ configuration o m (with_made (a.effect).messages (a.effect).output (a.effect).wrap (record e { state = a.state })) p'
+around a o m limits s saved n [] output messages p p' = rw (append_assoc o output (a.effect).output, append_assoc m messages (a.effect).messages) refl
+around a o m limits s saved n (c ∷ cs) output messages p p' = rw (append_assoc o output (a.effect).output, append_assoc m messages (a.effect).messages) refl
+
+abbrev effect_at : Acted → List ℕ → List ℕ → Engine → Pending → Outcome Expansion Ended
+effect_at a o m e p = effected (a.effect).exit (a.effect).skip (a.effect).push (behind a o m e p)
+
+called_is : (e : Engine) (c : Call) (a : Acted) (p : Pending) (o m : List ℕ) → act c.definition c.name c.done c.place e.state ≡ a → called_within e.open_calls c (here_of o m e p) ≡ popped e.open_calls (effect_at a o m e p)
+called_is e c a p o m h = ap (λ (a : Acted). popped e.open_calls (effect_at a o m e p)) h
+
+-- a call behind which the expansion goes on
+pub called_goes : (e e1 : Engine) (c : Call) (a : Acted) (p p' : Pending) → act c.definition c.name c.done c.place e.state ≡ a → (a.effect).exit ≡ None → e1 ≡ with_made (a.effect).messages (a.effect).output (a.effect).wrap (record e { state = a.state }) → ((s : Expansion) → s.pending ≡ p → skip_or_push (a.effect).skip (a.effect).push s ≡ Closed (reading p' s)) → (o m : List ℕ) → called_within e.open_calls c (here_of o m e p) ≡ Goes (configuration o m e1 p')
+called_goes e e1 c a p p' h x i r o m =
+    called_is e c a p o m h
+    ∙ ap (λ v. popped e.open_calls (effected v (a.effect).skip (a.effect).push (behind a o m e p))) x
+    ∙ ap (popped e.open_calls) (r (behind a o m e p) refl)
+    ∙ ap Goes (around a o m e.limits e.state e.saved e.calls e.open_calls e.output e.messages p p' ∙ ap (λ (d : Engine). configuration o m d p') (sym i))
+
+abbrev head_or : Call → List Call → Call
+head_or c [] = c
+head_or c (d ∷ ds) = d
+
+abbrev tail_of : List Call → List Call
+tail_of [] = []
+tail_of (d ∷ ds) = ds
+
+abbrev without_innermost : Engine → Engine
+without_innermost e = record e { open_calls = tail_of e.open_calls }
+
+-- the innermost call is made where its list is closed
+joined_is : (d : Call) (ds : List Call) (o m : List ℕ) (e : Engine) (p : Pending) (s : Expansion) → s ≡ here_of o m e p → step (kept_in ds ∷ outer_of ds) (Close (end_argument d s)) ≡ called_within ds (with_argument d) (here_of o m (record e { messages = e.messages ++ dropped_if_any d.place d.bytes d.tokens; open_calls = ds }) p)
+joined_is d ds o m e p s h = ap (λ (s : Expansion). step (kept_in ds ∷ outer_of ds) (Close (end_argument d s))) h ∙ (rw (append_assoc m e.messages (dropped_if_any d.place d.bytes d.tokens)) refl)
+
+closing_in : (cs : List Call) (e e2 : Engine) (c : Call) (p : Pending) → ending_in cs e ≡ beginning c e2 → e.open_calls ≡ cs → (o m : List ℕ) → step (outer_of cs) (close_in cs (here_of o m e p)) ≡ called_within e2.open_calls c (here_of o m e2 p)
+closing_in [] e e2 c p h i o m =
+    let f : [] ≡ c ∷ e2.open_calls = sym i ∙ ap (λ (x : Engine). x.open_calls) h in
+    cc
+closing_in (d ∷ ds) e e2 c p h i o m =
+    let f : with_argument d ≡ c = ap (λ (x : Engine). head_or c x.open_calls) h in
+    let e1 : Engine = record e { messages = e.messages ++ dropped_if_any d.place d.bytes d.tokens; open_calls = ds } in
+    let g : e1 ≡ e2 = ap without_innermost h in
+    joined_is d ds o m e p (here_of o m e p) refl
+    ∙ ap (λ (x : Call). called_within ds x (here_of o m e1 p)) f
+    ∙ ap (λ (x : Engine). called_within x.open_calls c (here_of o m x p)) g
+
+pub moves_by : (e : Engine) (p : Pending) (t : Turned) (f g : List ℕ → List ℕ → Move Expansion Kept Ended) → ((o m : List ℕ) → g o m ≡ f o m) → Moves e p t f → Moves e p t g
+moves_by e p turns.GoesOn f g h k = λ o m. h o m ∙ k o m
+moves_by e p (turns.Ends cause) f g h k = λ o m. h o m ∙ k o m
+
+pub closing : (e e2 e3 : Engine) (c : Call) (p p' : Pending) (t : Turned) → ending_argument e ≡ beginning c e2 → Moves e3 p' t (λ o m. called_within e2.open_calls c (here_of o m e2 p)) → Moves e3 p' t (λ o m. step (outer_of e.open_calls) (close_in e.open_calls (here_of o m e p)))
+closing e e2 e3 c p p' t h k = moves_by e3 p' t _ _ (closing_in e.open_calls e e2 c p h refl) k
+
+-- the same of an answer
+pub closing_result : (e e2 e3 : Engine) (c : Call) (p p' : Pending) (r : Result Turned TurnFault) → ending_argument e ≡ beginning c e2 → IfOk r (λ t. Moves e3 p' t (λ o m. called_within e2.open_calls c (here_of o m e2 p))) → IfOk r (λ t. Moves e3 p' t (λ o m. step (outer_of e.open_calls) (close_in e.open_calls (here_of o m e p))))
+closing_result e e2 e3 c p p' (Ok t) h k = closing e e2 e3 c p p' t h k
+closing_result e e2 e3 c p p' (Err x) h k = tt

@@ -1,0 +1,17 @@
+-- CallView: a call of the code as the definitions' call.
+-- Not believed: it only says which fields are which.
+use Rattle.m4_engine.specs.declared.call.OpenCall.TheInside.{Inside}
+use Rattle.m4_engine.specs.Expansion.{Call}
+
+-- a call whose arguments are being collected
+abbrev pub call_view : Inside → Call
+call_view c = record {
+  definition = c.definition;
+  name = c.name;
+  place = c.place;
+  done = c.done.items;
+  parentheses = c.parentheses;
+  begun = c.begun;
+  bytes = c.bytes.items;
+  tokens = c.tokens.items;
+}

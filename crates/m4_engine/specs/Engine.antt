@@ -1,0 +1,182 @@
+-- Engine: a run as the machine holds it between two turns, and the steps of a turn.
+-- Not believed: it stands between the code and `Expand`, tied to it by the turns' lemmas.
+use Rattle.std.specs.Fmt.{decimal}
+use Rattle.std.specs.Prelude.{◌≡◌, codes, nat_lt, ◌&&◌, suc, Option, Some, None, ℕ, Bool, true, false, List, [], ◌∷◌, ◌++◌, length}
+use Rattle.m4_state.specs.declared.definition.Def.{Def}
+use Rattle.m4_state.specs.State.{State, appended}
+use Rattle.m4_input.specs.Pending.{Pending}
+use Rattle.m4_builtins.specs.declared.place.Place.{Place}
+use Rattle.m4_builtins.specs.Messages.{dropped}
+use Rattle.m4_engine.specs.Expansion.{Call, Limits, RunSoFar, Mode, Outside, Collecting, Kept, Expansion, Ended, Ends, issued}
+use Rattle.m4_state.specs.Definition.{IsDefinition}
+use Rattle.m4_input.specs.Input.{Held}
+use Rattle.m4_engine.specs.declared.turned.Turned.{Turned}
+use Rattle.m4_engine.specs.declared.turned.Turned.TheVariants as turns
+use Rattle.m4_engine.specs.Args.{dropped_if_any, with_argument, end_argument}
+use Rattle.m4_engine.specs.Nesting.{Turn, GoOn, Close, Halted}
+use Rattle.m4_engine.specs.OpenCalls.{Stacked, Move, Stops, Goes, pop, take_turn}
+use Rattle.m4_engine.specs.Expand.{turn, join, called, with_saved}
+use Rattle.std.specs.List.{AllByRecursion}
+use Rattle.m4_builtins.specs.Args.{IsArg}
+
+-- the warning on dropped definitions, where some were
+abbrev pub told_if : Bool → Place → List ℕ
+told_if true p = dropped p
+told_if false p = []
+
+-- a run as the machine holds it: the calls whose lists are open, the innermost first; and the output
+-- and the messages that were not handed on yet
+pub record Engine : Type 0 where
+  pub limits : Limits
+  pub state : State
+  pub saved : List (List ℕ)
+  pub calls : ℕ
+  pub open_calls : List Call
+  pub output : List ℕ
+  pub messages : List ℕ
+
+-- what a run has made: what was handed on, and what the machine still holds
+abbrev pub so_far_of : List ℕ → List ℕ → Engine → RunSoFar
+so_far_of o m e = record {
+  state = e.state;
+  output = o ++ e.output;
+  messages = m ++ e.messages;
+  saved = e.saved;
+  calls = e.calls;
+}
+
+-- where text goes
+abbrev pub mode_of : List Call → Mode
+mode_of [] = Outside
+mode_of (c ∷ cs) = Collecting c
+
+-- what goes on behind a call that stands within these
+abbrev pub kept_in : List Call → Kept
+kept_in cs = record { open_calls = length cs; mode = mode_of cs }
+
+-- what goes on behind each of these
+abbrev pub outer_of : List Call → List Kept
+outer_of [] = []
+outer_of (c ∷ cs) = kept_in cs ∷ outer_of cs
+
+-- where the expansion stands
+abbrev pub here_of : List ℕ → List ℕ → Engine → Pending → Expansion
+here_of o m e p = record {
+  limits = e.limits;
+  so_far = so_far_of o m e;
+  pending = p;
+  open_calls = length e.open_calls;
+  mode = mode_of e.open_calls;
+}
+
+-- the machine as the definitions' stack of open calls
+abbrev pub configuration : List ℕ → List ℕ → Engine → Pending → Stacked Expansion Kept
+configuration o m e p = record { outer = outer_of e.open_calls; here = here_of o m e p }
+
+-- with text where it goes
+abbrev pub put_in : List Call → List ℕ → Engine → Engine
+put_in [] x e = record e { state = appended e.state x; output = e.output ++ issued (e.state).current x }
+put_in (c ∷ cs) x e = record e { open_calls = record c { begun = true; bytes = c.bytes ++ x } ∷ cs }
+
+abbrev pub with_text : List ℕ → Engine → Engine
+with_text x e = put_in e.open_calls x e
+
+-- with a definition where it goes
+abbrev pub put_token_in : List Call → Def → Engine → Engine
+put_token_in [] d e = e
+put_token_in (c ∷ cs) d e = record e { open_calls = record c { begun = true; tokens = c.tokens ++ d ∷ [] } ∷ cs }
+
+abbrev pub with_token : Def → Engine → Engine
+with_token d e = put_token_in e.open_calls d e
+
+-- with a message more
+abbrev pub telling : List ℕ → Engine → Engine
+telling x e = record e { messages = e.messages ++ x }
+
+-- with a call more that was made
+abbrev pub counting : Engine → Engine
+counting e = record e { calls = suc e.calls }
+
+-- with another list open
+abbrev pub beginning : Call → Engine → Engine
+beginning c e = record e { open_calls = c ∷ e.open_calls }
+
+-- a turn's effect on the stack of open calls
+abbrev pub step : List Kept → Turn Expansion Kept Ended → Move Expansion Kept Ended
+step fs v = take_turn Expansion Kept Ended turn join fs v
+
+-- what a turn leaves and answers, where f is the definitions' move
+abbrev pub Moves : Engine → Pending → Turned → (List ℕ → List ℕ → Move Expansion Kept Ended) → Type 0
+Moves e p turns.GoesOn f = (o m : List ℕ) → f o m ≡ Goes (configuration o m e p)
+Moves e p (turns.Ends cause) f =
+    (o m : List ℕ) → f o m ≡ Stops (Halted (record { so_far = so_far_of o m e; how = Ends cause }))
+
+-- an input of which nothing more is asked of a reader, and at whose front no definition out of order stands
+abbrev pub IsFront : Option Def → Type 0
+IsFront None = Unit {0}
+IsFront (Some d) = IsDefinition d
+
+pub record IsReady (i : Held) : Type 0 where
+  pub sound : i.fault ≡ None
+  pub closed : (i.pending).may_follow ≡ false
+  pub front : IsFront (i.pending).definition
+
+-- the definitions that a call holds are in order
+pub record IsCall (c : Call) : Type 0 where
+  pub definition : IsDefinition c.definition
+  pub done : AllByRecursion IsArg c.done
+  pub tokens : AllByRecursion IsDefinition c.tokens
+
+-- the state and the effect of a call are put where they go; a call is a token of the argument around it
+abbrev pub begun_in : List Call → List Call
+begun_in [] = []
+begun_in (c ∷ cs) = record c { begun = true } ∷ cs
+
+abbrev pub with_made : List ℕ → List ℕ → Option (List ℕ) → Engine → Engine
+with_made messages output wrap e = record e {
+  output = e.output ++ output;
+  messages = e.messages ++ messages;
+  saved = with_saved wrap e.saved;
+  open_calls = begun_in e.open_calls;
+}
+
+-- what a call comes to, as a move, where these are open around it
+abbrev pub called_within : List Call → Call → Expansion → Move Expansion Kept Ended
+called_within cs c s = pop Expansion Kept Ended turn join (outer_of cs) (called c s (kept_in cs))
+
+-- an input that is asked for no reader's byte stays so
+pub record Stays (old new : Held) : Type 0 where
+  pub ready : IsReady new
+  pub file : (new.pending).file ≡ (old.pending).file
+
+-- of the innermost call, if a list is open
+abbrev pub IfHead : List Call → (Call → Type 0) → Type 0
+IfHead [] P = Unit {0}
+IfHead (c ∷ cs) P = P c
+
+-- with an argument of the innermost call complete
+abbrev pub ending_in : List Call → Engine → Engine
+ending_in [] e = e
+ending_in (c ∷ cs) e = record e {
+  messages = e.messages ++ dropped_if_any c.place c.bytes c.tokens;
+  open_calls = with_argument c ∷ cs;
+}
+
+abbrev pub ending_argument : Engine → Engine
+ending_argument e = ending_in e.open_calls e
+
+-- the innermost list is closed
+abbrev pub close_in : List Call → Expansion → Turn Expansion Kept Ended
+close_in [] s = GoOn s
+close_in (c ∷ cs) s = Close (end_argument c s)
+
+-- whether one open call more is above the limit
+abbrev pub is_deep_in : Engine → Bool
+is_deep_in e = nat_lt 0 (e.limits).nesting && nat_lt (e.limits).nesting (suc (length e.open_calls))
+
+-- what is told of a call that a limit refuses
+abbrev pub calls_text : ℕ → List ℕ
+calls_text n = codes "more than " ++ decimal n ++ codes " calls"
+
+abbrev pub nested_text : ℕ → List ℕ
+nested_text n = codes "more than " ++ decimal n ++ codes " nested calls"

@@ -1,0 +1,190 @@
+//! A call whose arguments are being collected. Manual: "Macro arguments", "Quoting arguments".
+
+ghost use Rattle.std.specs.Prelude.{◌≡◌, ◌<◌, ◌-◌, suc, ◌++◌, ◌∷◌, [], true, false, OnOk, IfOk};
+ghost use Rattle.std.specs.List.{AllByRecursion};
+ghost use Rattle.m4_state.specs.Definition.{IsDefinition};
+ghost use Rattle.m4_builtins.specs.Args.{IsArg};
+ghost use Rattle.m4_input.specs.Ascii.{open_parenthesis, close_parenthesis};
+ghost use Rattle.m4_engine.specs.Args.{role_of, argument_of, dropped_if_any, with_argument};
+ghost use Rattle.m4_engine.specs.Engine.{IsCall, told_if};
+ghost use Rattle.m4_engine.specs.Expand.{call_of};
+
+use crate::role::Role;
+use m4_builtins::args::{Arg, ArgList, Args};
+use m4_builtins::place::Place;
+use m4_state::bytes::Bytes;
+use m4_state::definition::Def;
+use std::alloc::{AllocError, Global};
+use std::marker::Model;
+
+/// A call before its list is closed: the definition, the name and the place as they were when the
+/// name was read, the arguments that are complete, and what the next one has so far.
+#[derive(Debug, Drop)]
+pub struct OpenCall {
+    pub definition: Def,
+    pub name: Bytes,
+    pub place: Place,
+    pub done: Vec<Arg>,
+    pub parentheses: usize,
+    pub begun: bool,
+    pub bytes: Vec<u8>,
+    pub tokens: Vec<Def>,
+}
+
+impl Model for OpenCall {
+    ghost use Rattle.std.specs.Prelude.{◌≤◌, length};
+    ghost use Rattle.m4_engine.specs.Expansion.{Call};
+    ghost use Rattle.m4_engine.specs.CallView.{call_view};
+    ghost use Rattle.m4_engine.specs.Engine.{IsCall};
+
+    ghost Value = { Call };
+
+    ghost view = { call_view };
+
+    ghost invariant = { λ c. (c.parentheses ≤ length c.bytes.items) × IsCall (call_view c) };
+}
+
+impl OpenCall {
+    /// A call of which no argument was read yet.
+    pub fn new(alloc: Global, definition: Def, name: Bytes, place: Place) -> OpenCall
+        requires { IsDefinition definition }
+        ensures { result ≡ call_of definition name place }
+    {
+        OpenCall {
+            definition,
+            name,
+            place,
+            done: Vec::new(alloc),
+            parentheses: 0,
+            begun: false,
+            bytes: Vec::new(alloc),
+            tokens: Vec::new(alloc),
+        }
+    }
+
+    /// Where the call stands.
+    pub fn place(&self) -> &Place
+        ensures { result.now ≡ self.now.place }
+    {
+        &self.place
+    }
+
+    /// What a byte means here, where it belongs to no other token.
+    pub fn role(&self, byte: u8) -> Role
+        ensures { result ≡ role_of byte self.now }
+    {
+        match byte {
+            b'(' => Role::Opening,
+            b')' => Role::Closing,
+            b',' if self.parentheses == 0 => Role::Separator,
+            b' ' | 9..=13 if !self.begun => Role::Blank,
+            _ => Role::Other,
+        }
+    }
+
+    /// Adds text to the argument.
+    pub fn put(&mut self, text: &[u8]) -> Result<(), AllocError>
+        ensures { OnOk result (self.new ≡ record self.old { begun = true; bytes = self.old.bytes ++ text.now }) }
+    {
+        self.begun = true;
+        self.bytes.extend_from_slice(text)
+    }
+
+    /// Adds a definition to the argument.
+    pub fn put_token(&mut self, definition: Def) -> Result<(), AllocError>
+        requires { IsDefinition definition }
+        ensures { OnOk result (self.new ≡ record self.old { begun = true; tokens = self.old.tokens ++ definition ∷ [] }) }
+    {
+        self.begun = true;
+        self.tokens.push(definition)?;
+        Ok(())
+    }
+
+    /// Adds a parenthesis that opens within the argument.
+    pub fn put_opening(&mut self) -> Result<(), AllocError>
+        ensures { OnOk result (self.new ≡ record self.old {
+            parentheses = suc self.old.parentheses; begun = true; bytes = self.old.bytes ++ open_parenthesis ∷ [] }) }
+    {
+        self.begun = true;
+        self.bytes.push(b'(')?;
+        self.parentheses += 1;
+        Ok(())
+    }
+
+    /// Adds a parenthesis that closes one within the argument.
+    pub fn put_closing(&mut self) -> Result<(), AllocError>
+        requires { 0 < self.old.parentheses }
+        ensures { OnOk result (self.new ≡ record self.old {
+            parentheses = self.old.parentheses - 1; begun = true; bytes = self.old.bytes ++ close_parenthesis ∷ [] }) }
+    {
+        self.begun = true;
+        self.bytes.push(b')')?;
+        self.parentheses -= 1;
+        Ok(())
+    }
+
+    /// Whether definitions stand in the argument that it drops: one alone is the argument.
+    fn drops(&self) -> bool
+        ensures { dropped_if_any self.now.place self.now.bytes self.now.tokens ≡ told_if result self.now.place }
+    {
+        match self.tokens.len() {
+            0 => false,
+            1 => !self.bytes.is_empty(),
+            _ => true,
+        }
+    }
+
+    /// Takes what was collected as an argument, with no copy.
+    #[tactic(auto, using(crate::proofs::InOrder::argument_valid))]
+    fn argument(&mut self) -> Arg
+        requires { self.old.parentheses ≡ 0 }
+        ensures value { result ≡ argument_of self.old.bytes self.old.tokens }
+        ensures valid { IsArg result }
+        ensures call { IsCall self.new }
+        ensures rest { self.new ≡ record self.old { bytes = []; tokens = [] } }
+    {
+        let alloc = *self.bytes.allocator();
+        let bytes = std::mem::replace(&mut self.bytes, Vec::new(alloc));
+        let mut tokens = std::mem::replace(&mut self.tokens, Vec::new(alloc));
+        if bytes.is_empty() && tokens.len() == 1 {
+            if let Some(definition) = tokens.pop() {
+                return Arg::Definition(definition);
+            }
+        }
+        Arg::Text(Bytes::from(bytes))
+    }
+
+    /// Ends the argument, and answers whether definitions in it were dropped.
+    #[tactic(auto, using(crate::proofs::Calls::done_valid))]
+    pub fn end_argument(&mut self) -> Result<bool, AllocError>
+        requires { self.old.parentheses ≡ 0 }
+        ensures { IfOk result (λ drops. (self.new ≡ with_argument self.old)
+            × (dropped_if_any self.old.place self.old.bytes self.old.tokens ≡ told_if drops self.old.place)) }
+    {
+        let drops = self.drops();
+        let argument = self.argument();
+        self.begun = false;
+        self.done.push(argument)?;
+        Ok(drops)
+    }
+
+    /// The definition, the name with the arguments, and the place of a call whose list is complete.
+    pub fn into_parts(self) -> (Def, Args, Place)
+        ensures definition { result.0 ≡ self.definition }
+        ensures name { result.1.name ≡ self.name }
+        ensures list { result.1.list ≡ self.done }
+        ensures place { result.2 ≡ self.place }
+        ensures valid { IsDefinition result.0 }
+        ensures arguments { AllByRecursion IsArg result.1.list }
+    {
+        let OpenCall {
+            definition,
+            name,
+            place,
+            done,
+            ..
+        } = self;
+        let list = ArgList::from(done);
+        (definition, Args { name, list }, place)
+    }
+}

@@ -1,0 +1,109 @@
+//! A run's expansion, turn by turn, with its open calls on a stack. Manual: "Macro invocation".
+//!
+//! What a turn puts out is held until it is handed on, so that a turn asks no writer.
+
+ghost use Rattle.std.specs.Prelude.{◌≡◌, suc, [], OnOk, IfSome, IfNone};
+ghost use Rattle.m4_state.specs.Definition.{IsDefinition};
+ghost use Rattle.m4_builtins.specs.Messages.{error};
+ghost use Rattle.m4_engine.specs.Engine.{with_text, with_token, telling, beginning};
+
+use crate::call::OpenCall;
+use crate::turned::TurnFault;
+use m4_builtins::act::error_message;
+use m4_builtins::place::Place;
+use m4_state::bytes::Bytes;
+use m4_state::definition::Def;
+use m4_state::fault::StateFault;
+use m4_state::state::State;
+use std::alloc::{AllocError, Global};
+use std::marker::Model;
+
+/// What a run has made so far, and the calls whose lists are open.
+#[derive(Drop)]
+pub struct Machine {
+    pub alloc: Global,
+    pub most_calls: u64,
+    pub most_nested: u64,
+    pub state: State,
+    pub saved: Vec<Bytes>,
+    pub calls: u64,
+    pub innermost: Option<OpenCall>,
+    pub outer: Vec<OpenCall>,
+    pub output: Vec<u8>,
+    pub messages: Vec<u8>,
+}
+
+impl Model for Machine {
+    ghost use Rattle.std.specs.Prelude.{◌≡◌, [], None};
+    ghost use Rattle.m4_engine.specs.Engine.{Engine};
+    ghost use Rattle.m4_engine.specs.MachineView.{engine_view};
+
+    ghost Value = { Engine };
+
+    ghost view = { engine_view };
+
+    ghost invariant = { λ m. m.innermost ≡ None → m.outer.items ≡ [] };
+}
+
+impl Machine {
+    /// Puts text where it goes: into an argument, or to the output or a diversion.
+    pub fn put_text(&mut self, text: &[u8]) -> Result<(), StateFault>
+        ensures { OnOk result (self.new ≡ with_text text.now self.old) }
+    {
+        if let Some(call) = &mut self.innermost {
+            call.put(text)?;
+        } else {
+            self.state.append(text)?;
+            if self.state.current() == 0 {
+                self.output.extend_from_slice(text)?;
+            }
+        }
+        Ok(())
+    }
+
+    /// Puts a definition where it goes: into an argument, or nowhere.
+    pub fn put_token(&mut self, definition: Def) -> Result<(), AllocError>
+        requires { IsDefinition definition }
+        ensures { OnOk result (self.new ≡ with_token definition self.old) }
+    {
+        if let Some(call) = &mut self.innermost {
+            call.put_token(definition)?;
+        }
+        Ok(())
+    }
+
+    /// Adds a message.
+    pub fn tell(&mut self, message: &[u8]) -> Result<(), AllocError>
+        ensures { OnOk result (self.new ≡ telling message.now self.old) }
+    {
+        self.messages.extend_from_slice(message)
+    }
+
+    /// Adds the message of an error.
+    pub fn tell_error(&mut self, place: &Place, text: &[u8]) -> Result<(), TurnFault>
+        ensures { OnOk result (self.new ≡ telling (error place.now text.now) self.old) }
+    {
+        let message = error_message(self.alloc, place, text)?;
+        self.tell(message.as_slice())?;
+        Ok(())
+    }
+
+    /// A list begins: its call becomes the innermost.
+    pub fn begin(&mut self, call: OpenCall) -> Result<(), AllocError>
+        ensures { OnOk result (self.new ≡ beginning call self.old) }
+    {
+        if let Some(outer) = std::mem::replace(&mut self.innermost, Some(call)) {
+            self.outer.push(outer)?;
+        }
+        Ok(())
+    }
+
+    /// The innermost list is closed: its call is taken out.
+    pub fn close(&mut self) -> Option<OpenCall>
+        ensures some { IfSome result (λ c. self.old ≡ beginning c self.new) }
+        ensures none { IfNone result ((self.old.open_calls ≡ []) × (self.new ≡ self.old)) }
+    {
+        let around = self.outer.pop();
+        std::mem::replace(&mut self.innermost, around)
+    }
+}

@@ -1,0 +1,272 @@
+//! One turn of an expansion: the first token of what is pending, and what it does.
+//! Manual: "Macro invocation", "Macro arguments", "How m4 copies input to output".
+
+ghost use Rattle.std.specs.Prelude.{◌≡◌, ◌<◌, nat_lt, suc, [], ◌∷◌, ◌++◌, None, Ok, IfOk, OnOk, IfSome, true, length, codes};
+ghost use Rattle.std.specs.Fmt.{decimal};
+ghost use Rattle.m4_input.specs.Paren.{paren_at};
+ghost use Rattle.m4_builtins.specs.Messages.{error};
+ghost use Rattle.m4_input.specs.Input.{Held};
+ghost use Rattle.m4_input.specs.Pending.{Pending, line_of, consumed};
+ghost use Rattle.m4_engine.specs.Engine.{Moves, IsReady, Stays, with_made, ending_argument, telling, counting, calls_text, nested_text, is_deep_in, IfHead, mode_of, close_in, step, here_of, outer_of, called_within};
+ghost use Rattle.m4_builtins.specs.Act.{IsPushed};
+ghost use Rattle.m4_engine.specs.Nesting.{Closed};
+ghost use Rattle.m4_engine.specs.Expansion.{Expansion, reading};
+ghost use Rattle.m4_engine.specs.Expand.{skip_or_push, take_name, take_other, take_end, call as call_turn, call_of, needs_list};
+
+use crate::call::OpenCall;
+use crate::ending::Cause;
+use crate::machine::Machine;
+use crate::role::Role;
+use crate::turned::{TurnFault, Turned};
+use itoa::Buffer;
+use m4_builtins::act::{act, dropped_message, error_message};
+use m4_builtins::effect::Effect;
+use m4_builtins::place::Place;
+use m4_input::delims::Delims;
+use m4_input::fault::InputFault;
+use m4_input::front::Answer;
+use m4_input::input::Input;
+use m4_input::pushed::Pushed;
+use m4_input::token::Token;
+use m4_state::bytes::Bytes;
+use m4_state::definition::Def;
+use m4_state::device::ByteSource;
+use std::alloc::AllocError;
+
+/// Whether a definition is recognised only with parameters.
+fn needs_list(definition: &Def) -> bool
+    ensures { result ≡ needs_list definition.now }
+{
+    match definition {
+        Def::Builtin(builtin) => builtin.needs_args(),
+        Def::Text(_) | Def::Placeholder(_) => false,
+    }
+}
+
+/// What is read behind a call: what follows the line, or first the value that the call pushes.
+#[tactic(auto, using(crate::proofs::Inputs::skipped, crate::proofs::Inputs::pushed))]
+fn read_on<R: ByteSource>(input: &mut Input, reader: &mut R, skip: bool, push: Option<Pushed>) -> Result<(), TurnFault>
+    requires ready { IsReady input.old }
+    requires taken { input.old.pending.definition ≡ None }
+    requires valid { IsPushed push }
+    ensures reads { OnOk result ((s : Expansion) → s.pending ≡ input.old.pending
+        → skip_or_push skip push s ≡ Closed (reading input.new.pending s)) }
+    ensures stays { OnOk result (Stays input.old input.new) }
+{
+    if skip {
+        input.skip_line(reader)?;
+    } else if let Some(value) = push {
+        input.push_front(value)?;
+    }
+    Ok(())
+}
+
+impl Machine {
+    /// The end of the input.
+    fn take_end(&mut self) -> Result<Turned, TurnFault>
+        ensures { IfOk result (λ t. (p : Pending) → Moves self.new p t
+            (λ o m. step (outer_of self.old.open_calls) (take_end (here_of o m self.old p).mode (here_of o m self.old p)))) }
+    {
+        let Some(call) = &self.innermost else {
+            return Ok(Turned::Ends(Cause::Done));
+        };
+        let message = error_message(self.alloc, &call.place, b"end of input in argument list")?;
+        self.tell(message.as_slice())?;
+        Ok(Turned::Ends(Cause::EndInArguments))
+    }
+
+    /// Saves a text to be read at the end.
+    fn save(&mut self, text: Bytes) -> Result<(), AllocError>
+        ensures { OnOk result (self.new ≡ record self.old { saved = self.old.saved ++ text ∷ [] }) }
+    {
+        self.saved.push(text)?;
+        Ok(())
+    }
+
+    /// Puts what a call has made where it goes, beside what it pushes and skips.
+    fn put_effect(&mut self, messages: &[u8], output: &[u8], wrap: Option<Bytes>) -> Result<(), TurnFault>
+        ensures { OnOk result (self.new ≡ with_made messages.now output.now wrap self.old) }
+    {
+        self.tell(messages)?;
+        self.output.extend_from_slice(output)?;
+        if let Some(text) = wrap {
+            self.save(text)?;
+        }
+        if let Some(around) = &mut self.innermost {
+            around.begun = true;
+        }
+        Ok(())
+    }
+
+    /// Does what a definition does whose arguments are complete.
+    fn call<R: ByteSource>(&mut self, call: OpenCall, input: &mut Input, reader: &mut R) -> Result<Turned, TurnFault>
+        requires ready { IsReady input.old }
+        requires taken { input.old.pending.definition ≡ None }
+        ensures moves { IfOk result (λ t. Moves self.new input.new.pending t
+            (λ o m. called_within self.old.open_calls call (here_of o m self.old input.old.pending))) }
+        ensures ready { result ≡ Ok Turned.GoesOn → Stays input.old input.new }
+    {
+        let (definition, args, place) = call.into_parts();
+        let Effect {
+            push,
+            messages,
+            output,
+            wrap,
+            skip,
+            exit,
+        } = act(self.alloc, &definition, &args, &place, &mut self.state)?;
+        self.put_effect(messages.as_slice(), output.as_slice(), wrap)?;
+        if let Some(code) = exit {
+            return Ok(Turned::Ends(Cause::Exited(code)));
+        }
+        read_on(input, reader, skip, push)?;
+        Ok(Turned::GoesOn)
+    }
+
+    /// Ends an argument of the innermost call.
+    fn end_argument(&mut self) -> Result<(), TurnFault>
+        requires { IfHead self.old.open_calls (λ c. c.parentheses ≡ 0) }
+        ensures { OnOk result (self.new ≡ ending_argument self.old) }
+    {
+        let Some(call) = &mut self.innermost else {
+            return Ok(());
+        };
+        if call.end_argument()? {
+            let message = dropped_message(self.alloc, &call.place)?;
+            self.tell(message.as_slice())?;
+        }
+        Ok(())
+    }
+
+    /// A byte that belongs to no other token.
+    fn take_byte<R: ByteSource>(&mut self, byte: u8, input: &mut Input, reader: &mut R) -> Result<Turned, TurnFault>
+        requires ready { IsReady input.old }
+        requires taken { input.old.pending.definition ≡ None }
+        ensures moves { IfOk result (λ t. Moves self.new input.new.pending t
+            (λ o m. step (outer_of self.old.open_calls)
+                (take_other (mode_of self.old.open_calls) byte (here_of o m self.old input.old.pending)))) }
+        ensures ready { result ≡ Ok Turned.GoesOn → Stays input.old input.new }
+    {
+        let Some(call) = &mut self.innermost else {
+            self.put_text(&[byte])?;
+            return Ok(Turned::GoesOn);
+        };
+        match call.role(byte) {
+            Role::Blank => {}
+            Role::Opening => call.put_opening()?,
+            Role::Closing if call.parentheses > 0 => call.put_closing()?,
+            Role::Closing => return self.take_closing(input, reader),
+            Role::Separator => self.end_argument()?,
+            Role::Other => self.put_text(&[byte])?,
+        }
+        Ok(Turned::GoesOn)
+    }
+
+    /// The parenthesis that closes the innermost list: its call is made.
+    #[tactic(auto, using(crate::proofs::Acts::closing_result))]
+    fn take_closing<R: ByteSource>(&mut self, input: &mut Input, reader: &mut R) -> Result<Turned, TurnFault>
+        requires list { IfHead self.old.open_calls (λ c. c.parentheses ≡ 0) }
+        requires ready { IsReady input.old }
+        requires taken { input.old.pending.definition ≡ None }
+        ensures moves { IfOk result (λ t. Moves self.new input.new.pending t
+            (λ o m. step (outer_of self.old.open_calls)
+                (close_in self.old.open_calls (here_of o m self.old input.old.pending)))) }
+        ensures ready { result ≡ Ok Turned.GoesOn → Stays input.old input.new }
+    {
+        self.end_argument()?;
+        let Some(call) = self.close() else {
+            return Ok(Turned::GoesOn);
+        };
+        self.call(call, input, reader)
+    }
+
+    /// Tells that a call is one more than a limit allows.
+    fn refuse(&mut self, place: &Place, limit: u64, what: &[u8]) -> Result<(), TurnFault>
+        ensures { OnOk result (self.new
+            ≡ telling (error place.now (codes "more than " ++ decimal limit ++ what.now)) self.old) }
+    {
+        let mut buffer = Buffer::new();
+        let mut text = Vec::new(self.alloc);
+        text.extend_from_slice(b"more than ")?;
+        text.extend_from_slice(buffer.format(limit).as_bytes())?;
+        text.extend_from_slice(what)?;
+        self.tell_error(place, &text)
+    }
+
+    /// Tells that there are too many calls.
+    fn refuse_calls(&mut self, call: &OpenCall) -> Result<(), TurnFault>
+        ensures { OnOk result (self.new ≡ telling (error call.now.place (calls_text self.old.limits.calls)) self.old) }
+    {
+        self.refuse(call.place(), self.most_calls, b" calls")
+    }
+
+    /// Tells that too many calls are open.
+    fn refuse_depth(&mut self, call: &OpenCall) -> Result<(), TurnFault>
+        ensures { OnOk result (self.new ≡ telling (error call.now.place (nested_text self.old.limits.nesting)) self.old) }
+    {
+        self.refuse(call.place(), self.most_nested, b" nested calls")
+    }
+
+    /// Whether the limit leaves a call.
+    fn has_room(&self) -> bool
+        ensures { result ≡ nat_lt self.now.calls self.now.limits.calls }
+    {
+        self.calls < self.most_calls
+    }
+
+    /// Counts a call.
+    fn count(&mut self)
+        requires { nat_lt self.old.calls self.old.limits.calls ≡ true }
+        ensures { self.new ≡ counting self.old }
+    {
+        self.calls += 1;
+    }
+
+    /// Whether one open call more is above the limit.
+    fn is_deep(&self) -> bool
+        ensures { result ≡ is_deep_in self.now }
+    {
+        let around = usize::from(self.innermost.is_some());
+        let open = self.outer.len() + around;
+        self.most_nested > 0 && open as u64 >= self.most_nested
+    }
+
+    /// Takes the parenthesis that begins a list.
+    fn take_parenthesis<R: ByteSource>(&self, input: &mut Input, reader: &mut R) -> Result<(), TurnFault>
+        requires ready { IsReady input.old }
+        requires taken { input.old.pending.definition ≡ None }
+        requires stands { paren_at self.now.state.quotes self.now.state.comments input.old.pending ≡ Answer.Yes }
+        ensures taken { OnOk result (input.new.pending ≡ consumed 1 input.old.pending) }
+        ensures ready { OnOk result (Stays input.old input.new) }
+    {
+        input.next(reader, &Delims::of(&self.state))?;
+        Ok(())
+    }
+
+    /// A name that is called, whose list follows or not.
+    fn take_call<R: ByteSource>(&mut self, call: OpenCall, listed: bool, input: &mut Input, reader: &mut R) -> Result<Turned, TurnFault>
+        requires ready { IsReady input.old }
+        requires taken { input.old.pending.definition ≡ None }
+        requires list { listed ≡ true → paren_at self.old.state.quotes self.old.state.comments input.old.pending ≡ Answer.Yes }
+        requires fresh { call ≡ call_of call.definition call.name call.place }
+        ensures moves { IfOk result (λ t. (before : Pending) → Moves self.new input.new.pending t
+            (λ o m. step (outer_of self.old.open_calls) (call_turn listed call input.old.pending (here_of o m self.old before)))) }
+        ensures ready { result ≡ Ok Turned.GoesOn → Stays input.old input.new }
+    {
+        if !self.has_room() {
+            self.refuse_calls(&call)?;
+            return Ok(Turned::Ends(Cause::ExpansionLimit));
+        }
+        self.count();
+        if self.is_deep() {
+            self.refuse_depth(&call)?;
+            return Ok(Turned::Ends(Cause::NestingLimit));
+        }
+        if !listed {
+            return self.call(call, input, reader);
+        }
+        self.take_parenthesis(input, reader)?;
+        self.begin(call)?;
+        Ok(Turned::GoesOn)
+    }
+}
