@@ -1,1 +1,2 @@
 pub mod ActKeeps
+pub mod Joins

@@ -7,4 +7,6 @@
 
 pub mod args;
 pub mod effect;
+pub mod fault;
 pub mod place;
+pub mod substitute;
