@@ -32,12 +32,14 @@ number_grows n (d ∷ digits) = let more : n * 10 + (d - digit_zero) ≤ number_
 pub number_next : (n i : ℕ) (digits : List ℕ) → i < length digits → number_from n (drop i digits) ≡ number_from (n * 10 + (get_or digits i 0 - digit_zero)) (drop (i + 1) digits)
 number_next n i digits h = ap (number_from n) (drop-cons digits i 0 h) ∙ ap (λ (j : ℕ). number_from (n * 10 + (get_or digits i 0 - digit_zero)) (drop j digits)) (sym (add-one i))
 
-get_map : (xs : List Arg) (k : ℕ) (d : Arg) → k < length xs → slice_get (map text_of_arg xs) k ≡ Some (text_of_arg (get_or xs k d))
+-- the text of an argument that is there
+pub get_map : (xs : List Arg) (k : ℕ) (d : Arg) → k < length xs → slice_get (map text_of_arg xs) k ≡ Some (text_of_arg (get_or xs k d))
 get_map [] k d h = absurd (omega arith)
 get_map (x ∷ xs) zero d h = refl
 get_map (x ∷ xs) (suc k) d h = get_map xs k d (omega arith)
 
-get_past : (xs : List Arg) (k : ℕ) → length xs ≤ k → slice_get (map text_of_arg xs) k ≡ None
+-- there is none past the last
+pub get_past : (xs : List Arg) (k : ℕ) → length xs ≤ k → slice_get (map text_of_arg xs) k ≡ None
 get_past [] zero h = refl
 get_past [] (suc k) h = refl
 get_past (x ∷ xs) zero h = absurd (omega arith)
