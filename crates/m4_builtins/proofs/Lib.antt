@@ -1,2 +1,3 @@
 pub mod ActKeeps
 pub mod Joins
+pub mod RowsTaken
