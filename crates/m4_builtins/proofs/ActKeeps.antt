@@ -1,5 +1,5 @@
 -- ActKeeps: a call leaves a state in order in order, and pushes definitions in order.
-use Rattle.std.proofs.Common.{ℕ, Bool, true, false, List, [], ◌∷◌, length, Option, Some, None, fold}
+use Rattle.std.proofs.Common.{ℕ, Bool, true, false, List, [], ◌∷◌, length, fold}
 use Rattle.std.specs.Prelude.{nat_lt}
 use Rattle.std.specs.List.{AllByRecursion}
 use Rattle.m4_state.specs.declared.builtin.Builtin.{Builtin}
@@ -10,30 +10,17 @@ use Rattle.m4_state.specs.Definition.{IsDefinition}
 use Rattle.m4_state.specs.Builtin.{takes_tokens, least_of}
 use Rattle.m4_state.specs.State.{State, undefined, IsState}
 use Rattle.m4_state.proofs.StaysInOrder.{IsState-defined, IsState-undefined, IsState-with_quotes, IsState-with_comments, IsState-default_quotes}
-use Rattle.m4_input.specs.declared.pushed.Pushed.{Pushed}
-use Rattle.m4_input.specs.declared.pushed.Pushed.TheVariants as pushes
 use Rattle.m4_builtins.specs.declared.args.Arg.{Arg}
 use Rattle.m4_builtins.specs.declared.args.Arg.TheVariants as args
 use Rattle.m4_builtins.specs.declared.place.Place.{Place}
-use Rattle.m4_builtins.specs.Args.{text_of_arg, definition_of_arg, text_at}
-use Rattle.m4_builtins.specs.Act.{act, act_unless, row, define, definition_in, changequote, taken}
-
--- an argument that is a definition is one that is in order
-abbrev pub IsArg : Arg → Type 0
-IsArg (args.Text x) = Unit {0}
-IsArg (args.Definition d) = IsDefinition d
-
--- so is a definition that is pushed
-abbrev pub IsPushed : Option Pushed → Type 0
-IsPushed None = Unit {0}
-IsPushed (Some (pushes.Text x)) = Unit {0}
-IsPushed (Some (pushes.Definition d)) = IsDefinition d
+use Rattle.m4_builtins.specs.Args.{IsArg, text_of_arg, definition_of_arg, text_at}
+use Rattle.m4_builtins.specs.Act.{IsPushed, act, act_unless, row, define, definition_in, changequote, taken}
 
 definition_valid : (a : Arg) → IsArg a → IsDefinition (definition_of_arg a)
 definition_valid (args.Text x) h = tt
 definition_valid (args.Definition d) h = h
 
-second_valid : (rest : List Arg) → AllByRecursion IsArg rest → IsDefinition (definition_in rest)
+pub second_valid : (rest : List Arg) → AllByRecursion IsArg rest → IsDefinition (definition_in rest)
 second_valid [] h = tt
 second_valid (a ∷ rest) h = definition_valid a h.0
 

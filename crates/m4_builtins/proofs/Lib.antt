@@ -1,1 +1,3 @@
 pub mod ActKeeps
+pub mod Joins
+pub mod RowsTaken

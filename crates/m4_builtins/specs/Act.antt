@@ -2,7 +2,7 @@
 -- Believed. Its lemmas: `ActKeeps` (a state in order stays so).
 -- Manual: "Defining a macro", "Deleting a macro", "Deleting whitespace in input", "Changing the
 -- quote characters", "Changing the comment delimiters", "Arguments to macros".
--- Words: row, act. One line a builtin, one a kind of definition.
+-- Words: row, act, IsPushed. One line a builtin, one a kind of definition.
 -- own: a placeholder, which stands for a builtin of another m4, expands to nothing with a warning.
 use Rattle.std.specs.Prelude.{ℕ, Bool, true, false, nat_lt, List, [], ◌∷◌, ◌++◌, Option, Some, None, length, map, fold}
 use Rattle.m4_state.specs.declared.builtin.Builtin.{Builtin}
@@ -10,8 +10,10 @@ use Rattle.m4_state.specs.declared.builtin.Builtin.TheVariants.{Define, Undefine
 use Rattle.m4_state.specs.declared.definition.Def.{Def}
 use Rattle.m4_state.specs.declared.definition.Def.TheVariants as defs
 use Rattle.m4_state.specs.Builtin.{takes_tokens, least_of, most_of}
+use Rattle.m4_state.specs.Definition.{IsDefinition}
 use Rattle.m4_state.specs.Delimiters.{default_quotes}
 use Rattle.m4_state.specs.State.{State, defined, undefined, with_quotes, with_comments}
+use Rattle.m4_input.specs.declared.pushed.Pushed.{Pushed}
 use Rattle.m4_input.specs.declared.pushed.Pushed.TheVariants as pushes
 use Rattle.m4_builtins.specs.declared.args.Arg.{Arg}
 use Rattle.m4_builtins.specs.declared.args.Arg.TheVariants as args
@@ -25,6 +27,12 @@ use Rattle.m4_builtins.specs.Messages.{too_few, excess, unsupported, bad_name}
 pub record Acted : Type 0 where
   pub state : State
   pub effect : Effect
+
+-- a definition that is pushed is one that is in order
+abbrev pub IsPushed : Option Pushed → Type 0
+IsPushed None = Unit {0}
+IsPushed (Some (pushes.Text x)) = Unit {0}
+IsPushed (Some (pushes.Definition d)) = IsDefinition d
 
 -- nothing is left to be done
 abbrev pub nothing : Effect

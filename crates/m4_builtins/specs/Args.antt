@@ -1,11 +1,18 @@
 -- Args: what the arguments of a call give, by their numbers.
--- Believed. Manual: "Macro arguments". Words: text_of_arg, text_at, definition_at, joined, quoted.
+-- Believed. Manual: "Macro arguments". Words: IsArg, text_of_arg, text_at,
+-- definition_of_arg, joined, quoted.
 use Rattle.std.specs.Prelude.{ℕ, List, [], ◌∷◌, ◌++◌, Option, Some, None, slice_get, map}
 use Rattle.m4_state.specs.declared.definition.Def.{Def}
 use Rattle.m4_state.specs.declared.definition.Def.TheVariants as defs
+use Rattle.m4_state.specs.Definition.{IsDefinition}
 use Rattle.m4_state.specs.declared.delimiters.Delimiters.{Delimiters}
 use Rattle.m4_builtins.specs.declared.args.Arg.{Arg}
 use Rattle.m4_builtins.specs.declared.args.Arg.TheVariants as args
+
+-- an argument that is a definition is one that is in order
+abbrev pub IsArg : Arg → Type 0
+IsArg (args.Text x) = Unit {0}
+IsArg (args.Definition d) = IsDefinition d
 
 -- an argument as text: a definition counts as empty
 abbrev pub text_of_arg : Arg → List ℕ

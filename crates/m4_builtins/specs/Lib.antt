@@ -2,3 +2,4 @@ pub mod Args
 pub mod Subst
 pub mod Messages
 pub mod Act
+pub mod Numbers

@@ -1,7 +1,10 @@
 //! What a call leaves to be done by the run, beside the state's change.
 
+ghost use Rattle.std.specs.Prelude.{◌≡◌, Some, true};
+
 use m4_input::pushed::Pushed;
 use m4_state::bytes::Bytes;
+use std::alloc::Global;
 
 /// The effect of a call.
 #[derive(Debug, Drop)]
@@ -18,4 +21,50 @@ pub struct Effect {
     pub skip: bool,
     /// The code with which the run ends here.
     pub exit: Option<u8>,
+}
+
+impl Effect {
+    ghost use Rattle.m4_input.specs.declared.pushed.Pushed.TheVariants as pushes;
+    ghost use Rattle.m4_builtins.specs.Act.{nothing};
+
+    /// Nothing is left to be done.
+    pub fn nothing(alloc: Global) -> Effect
+        ensures { result ≡ nothing }
+    {
+        Effect {
+            push: None,
+            messages: Bytes::from(Vec::new(alloc)),
+            output: Bytes::from(Vec::new(alloc)),
+            wrap: None,
+            skip: false,
+            exit: None,
+        }
+    }
+
+    /// Only messages are told.
+    pub fn telling(alloc: Global, messages: Bytes) -> Effect
+        ensures { result ≡ record nothing { messages = messages } }
+    {
+        let mut effect = Effect::nothing(alloc);
+        effect.messages = messages;
+        effect
+    }
+
+    /// A text is put in front of the input.
+    pub fn pushing(alloc: Global, text: Bytes) -> Effect
+        ensures { result ≡ record nothing { push = Some (pushes.Text text) } }
+    {
+        let mut effect = Effect::nothing(alloc);
+        effect.push = Some(Pushed::Text(text));
+        effect
+    }
+
+    /// The rest of the line is dropped.
+    pub fn skipping(alloc: Global) -> Effect
+        ensures { result ≡ record nothing { skip = true } }
+    {
+        let mut effect = Effect::nothing(alloc);
+        effect.skip = true;
+        effect
+    }
 }

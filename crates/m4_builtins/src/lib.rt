@@ -5,6 +5,11 @@
 //! Manual: "Definitions", "Conditionals", "Input control", and the chapters of the builtins.
 #![tactic(auto)]
 
+pub mod act;
 pub mod args;
 pub mod effect;
+pub mod fault;
+pub mod messages;
 pub mod place;
+mod rows;
+pub mod substitute;

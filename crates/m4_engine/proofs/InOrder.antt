@@ -33,7 +33,7 @@ use Rattle.m4_state.proofs.StaysInOrder.{IsState-appended, IsState-pushed, IsSta
 use Rattle.m4_input.proofs.Consumed.{NoDefinition, scan_plain}
 use Rattle.m4_builtins.specs.Args.{IsArg}
 use Rattle.m4_builtins.specs.Act.{IsPushed}
-use Rattle.m4_builtins.proofs.ActKeeps.{ act_keeps, act_pushes}
+use Rattle.m4_builtins.proofs.ActKeeps.{act_keeps, act_pushes}
 use Rattle.m4_frozen.specs.Directive.{Directive, Quotes, Comments, Text, Builtin as NamedBuiltin, Diversion}
 use Rattle.m4_frozen.specs.Spells.{SpellsAll, SpellsOne}
 use Rattle.m4_frozen.specs.Denote.{with_directive, definition_named, builtin_or_placeholder}

@@ -10,7 +10,7 @@ use Rattle.std.specs.FinMap.{IsAntisymmetric}
 use Rattle.std.specs.FinMap.Entries.{find, put, is_sorted, below_all, by_order}
 use Rattle.std.proofs.lemmas.Bool.{cases_eq}
 use Rattle.std.proofs.lemmas.Option.{same_Some}
-use Rattle.m4_state.specs.Place.{IsFound, IsMissing}
+use Rattle.m4_state.specs.Place.{IsFound, IsMissing, others}
 
 -- both parts of a test hold
 pub both : (a b : Bool) → IsTrue (a && b) → IsTrue a × IsTrue b
@@ -108,22 +108,32 @@ module _ {K X : Type 0} (R : K → K → Ordering) (o : IsTotalOrder R) (same : 
       let below : R k e.0 ≡ Less = o.trans k x e.0 lt (less _ (both _ _ h).0) in
       rw below (missed k x es lt (both _ _ h).1)
 
+  -- a key that is below whatever a second is below ties with none of the keys above that second
+  above_kept : (k x : K) (es : List (K × X)) → ((y : K) → R x y ≡ Less → R k y ≡ Less) → IsTrue (below_all R x es) → others R k es ≡ es
+  above_kept k x [] f h = refl
+  above_kept k x (e ∷ es) f h =
+      let apart : R k e.0 ≡ Less = f e.0 (less _ (both _ _ h).0) in
+      let rest : others R k es ≡ es = above_kept k x es f (both _ _ h).1 in
+      rw (apart, rest) refl
+
   places_behind : (k : K) (e : K × X) (es : List (K × X)) (r : Result ℕ ℕ) → R k e.0 ≡ Greater → Places k es r → Places k (e ∷ es) (next_place r)
   places_behind k e es (Ok i) later p = record {
     in_range = omega (arith, p.in_range);
     key = λ d. p.key d;
     value = λ d. rw later (p.value d);
     written = λ v. rw (later, p.written v) refl;
+    taken_out = rw (later, p.taken_out) refl;
   }
   places_behind k e es (Err i) later p = record {
     in_range = omega (arith, p.in_range);
     absent = rw later p.absent;
     written = λ v. rw (later, p.written v) refl;
+    kept = rw (later, p.kept) refl;
   }
 
   -- what a place says of the list
   pub placed : (k : K) (es : List (K × X)) → IsTrue (is_sorted R es) → Places k es (place R k es)
-  placed k [] h = record { in_range = omega arith; absent = refl; written = λ v. refl }
+  placed k [] h = record { in_range = omega arith; absent = refl; written = λ v. refl; kept = refl }
   placed k (e ∷ es) h = by (R k e.0) refl (placed k es (both _ _ h).1)
     where
       by : (r : Ordering) → R k e.0 ≡ r → Places k es (place R k es) → Places k (e ∷ es) (by_order r (Err 0) (Ok 0) (next_place (place R k es)))
@@ -131,12 +141,14 @@ module _ {K X : Type 0} (R : K → K → Ordering) (o : IsTotalOrder R) (same : 
         in_range = omega arith;
         absent = rw lt (missed k e.0 es lt (both _ _ h).0);
         written = λ v. rw lt refl;
+        kept = rw (lt, above_kept k e.0 es (λ y. o.trans k e.0 y lt) (both _ _ h).0) refl;
       }
       by Equal tie rest = record {
         in_range = omega arith;
         key = λ d. sym (same k e.0 tie);
         value = λ d. rw tie refl;
         written = λ v. rw tie (ap (λ (q : K). (q, v) ∷ es) (sym (same k e.0 tie)));
+        taken_out = rw tie (above_kept k e.0 es (λ y below. subst (λ (q : K). R q y ≡ Less) (sym (same k e.0 tie)) below) (both _ _ h).0);
       }
       by Greater gt rest = places_behind k e es (place R k es) gt rest
 

@@ -1,30 +1,22 @@
 -- StaysInOrder: each change of a state leaves one that is in order.
-use Rattle.std.proofs.Common.{◌≡◌, ◌≢◌, ℕ, zero, suc, ◌-◌, Bool, true, false, cond, not, T, List, [], ◌∷◌, ◌++◌, length, take, Some, refl, sym, subst, fold, rules}
+use Rattle.std.proofs.Common.{◌≡◌, ◌≢◌, ℕ, zero, suc, ◌-◌, Bool, true, false, cond, List, [], ◌∷◌, length, Some, refl, subst, fold, rules}
 use Rattle.std.specs.Prelude.{codes, IsTrue, FitsSigned, ℤ, pos}
 use Rattle.std.specs.Int.{w32}
 use Rattle.std.specs.List.{AllByRecursion}
 use Rattle.std.specs.Str.{bytes_eq}
-use Rattle.std.specs.Cmp.Lexicographic.{nat_list_cmp_total}
 use Rattle.std.specs.FinMap.{find, put, is_sorted}
-use Rattle.std.specs.FinMap.Entries.{where_key, is_sorted-where_key}
 use Rattle.m4_state.specs.declared.builtin.Builtin.{Builtin}
 use Rattle.m4_state.specs.declared.definition.Def.{Def}
 use Rattle.m4_state.specs.declared.definition.Def.TheVariants as defs
 use Rattle.m4_state.specs.declared.delimiters.Delimiters.{Delimiters}
 use Rattle.m4_state.specs.Definition.{IsDefinition}
 use Rattle.m4_state.specs.Delimiters.{chosen, default_quotes, default_comments, IsPaired}
-use Rattle.m4_state.specs.Table.{Pair, Pairs, byte_order, stack_at, with_push, with_top, without, but_last, IsStack, IsTable}
+use Rattle.m4_state.specs.Table.{Pairs, with_push, with_top, without, IsStack, IsTable}
 use Rattle.m4_state.specs.State.{State, empty, pushed, defined, undefined, with_quotes, with_comments, diverted, appended, with_text, holds_text, stack_of, top_of, IsState, AreDiversions, text_at, Diversion}
 use Rattle.m4_state.specs.Builtin.{table}
 use Rattle.m4_state.specs.Fresh.{fresh, fresh_name, with_builtin, platform}
-use Rattle.m4_state.proofs.Places.{AllByRecursion-put}
-use Rattle.m4_state.proofs.Tables.{AllByRecursion-push, byte_order-IsAntisymmetric, push_is_some, stack_holds, IsTrue-sorted-put, IsTable-push}
+use Rattle.m4_state.proofs.Tables.{stack_holds, IsTable-push, IsTable-top, IsTable-without}
 use Rattle.m4_state.proofs.TextsByNumber.{AreDiversions-put}
-
-AllByRecursion-take : {X : Type 0} (P : X → Type 0) (n : ℕ) (xs : List X) → AllByRecursion P xs → AllByRecursion P (take n xs)
-AllByRecursion-take P zero xs h = tt
-AllByRecursion-take P (suc n) [] h = tt
-AllByRecursion-take P (suc n) (x ∷ xs) h = (h.0, AllByRecursion-take P n xs h.1)
 
 -- the definitions of a name are in order
 pub stack_definitions : (s : State) (name : List ℕ) → IsState s → AllByRecursion IsDefinition (stack_of s name)
@@ -46,26 +38,10 @@ pub IsState-pushed : (s : State) (name : List ℕ) (d : Def) → IsState s → I
 IsState-pushed s name d h is = with_table s (with_push s.table name d) h (IsTable-push s.table name d h.table is)
 
 pub IsState-defined : (s : State) (name : List ℕ) (d : Def) → IsState s → IsDefinition d → IsState (defined s name d)
-IsState-defined s name d h is = with_table s (with_top s.table name d) h (record {
-  sorted = IsTrue-sorted-put s.table name (but_last (stack_at s.table name) ++ d ∷ []) h.table.sorted;
-  stacks = AllByRecursion-put byte_order nat_list_cmp_total byte_order-IsAntisymmetric IsStack name _ s.table
-      (record { some = push_is_some (but_last (stack_at s.table name)) d; definitions = AllByRecursion-push IsDefinition (but_last (stack_at s.table name)) d (AllByRecursion-take IsDefinition _ (stack_at s.table name) (stack_definitions s name h)) is })
-      h.table.stacks;
-})
-
-where_key_holds : (P : Pair → Type 0) (p : List ℕ → Bool) (es : Pairs) → AllByRecursion P es → AllByRecursion P (where_key byte_order p es)
-where_key_holds P p [] h = tt
-where_key_holds P p (e ∷ es) h = elim (p e.0) as (λ b. AllByRecursion P (cond b (e ∷ where_key byte_order p es) (where_key byte_order p es))) [ true ↦ (h.0, where_key_holds P p es h.1) | false ↦ where_key_holds P p es h.1 ]
-
-from_T : (b : Bool) → T b → b ≡ true
-from_T true t = refl
-from_T false t = absurd t
+IsState-defined s name d h is = with_table s (with_top s.table name d) h (IsTable-top s.table name d h.table is)
 
 pub IsState-undefined : (s : State) (name : List ℕ) → IsState s → IsState (undefined s name)
-IsState-undefined s name h = with_table s (without s.table name) h (record {
-  sorted = from_T _ (is_sorted-where_key byte_order (λ other. not (bytes_eq name other)) s.table (subst T (sym h.table.sorted) tt));
-  stacks = where_key_holds IsStack (λ other. not (bytes_eq name other)) s.table h.table.stacks;
-})
+IsState-undefined s name h = with_table s (without s.table name) h (IsTable-without s.table name h.table)
 
 paired : (default : Delimiters) (begin end : List ℕ) → default.end ≢ [] → IsPaired (chosen default begin end)
 paired default [] end some = (λ e. refl, λ e. refl)

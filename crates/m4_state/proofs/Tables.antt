@@ -1,19 +1,22 @@
 -- What a table keeps under a push, and what a search in its entries says.
-use Rattle.std.proofs.Common.{◌≡◌, ◌≢◌, ℕ, ◌<◌, ◌^◌, Bool, true, false, T, List, [], ◌∷◌, ◌++◌, map, length, Option, Some, None, unwrap_or, Result, Ok, Err, zero, suc, get_or, set, refl, sym, ap, subst, ◌∙◌, IfOk, IfErr}
+use Rattle.std.proofs.Common.{◌≡◌, ◌≢◌, ℕ, ◌+◌, ◌-◌, ◌<◌, ◌^◌, Bool, true, false, cond, not, T, List, [], ◌∷◌, ◌++◌, map, length, take, drop, Option, Some, None, unwrap_or, Result, Ok, Err, zero, suc, get_or, set, refl, sym, ap, subst, ◌∙◌, IfOk, IfErr, arith}
 use Rattle.std.specs.Prelude.{IsTrue}
-use Rattle.std.specs.List.{AllByRecursion, insert}
+use Rattle.std.specs.List.{AllByRecursion, insert, remove, filter}
+use Rattle.std.specs.Str.{bytes_eq}
 use Rattle.std.specs.List.Sorted.{IsSearchInRange, IsBinarySearchResult}
 use Rattle.std.proofs.Math.ListN.{get_or-map}
-use Rattle.std.proofs.lemmas.List.{map-set}
+use Rattle.std.proofs.lemmas.List.{map-set, map-append, take_all, take_more_set, length-set}
+use Rattle.std.specs.List.{take-map, drop-map}
+use Rattle.std.proofs.lemmas.Map.Text.{is_eq-slice_cmp}
 use Rattle.std.specs.Cmp.Lexicographic.{nat_list_cmp_total}
 use Rattle.std.specs.FinMap.{find, put, is_sorted, slice_cmp-IsAntisymmetric, nat_cmp-IsAntisymmetric, IsAntisymmetric}
-use Rattle.std.specs.FinMap.Entries.{is_sorted-put}
+use Rattle.std.specs.FinMap.Entries.{where_key, is_sorted-put, is_sorted-where_key}
 use Rattle.m4_state.specs.declared.definition.Def.{Def}
 use Rattle.m4_state.specs.declared.entries.Entry.{Entry}
 use Rattle.m4_state.specs.Definition.{IsDefinition, IsSizedDefinition}
 use Rattle.m4_state.specs.Entries.{pair_of, pairs_of}
-use Rattle.m4_state.specs.Place.{IsFound, IsMissing}
-use Rattle.m4_state.specs.Table.{Pair, Pairs, byte_order, stack_at, with_push, IsStack, IsSizedStack, IsTable, IsSizedTable}
+use Rattle.m4_state.specs.Place.{IsFound, IsMissing, others}
+use Rattle.m4_state.specs.Table.{Pair, Pairs, byte_order, stack_at, with_push, with_top, without, but_last, IsStack, IsSizedStack, IsTable, IsSizedTable}
 use Rattle.m4_state.proofs.Places.{Places, placed, searched, AllByRecursion-put, AllByRecursion-find}
 
 -- only equal names tie
@@ -56,13 +59,24 @@ stack_holds P Q table name all h = by (find byte_order name table) refl
     by None e = tt
     by (Some stack) e = all (name, stack) (AllByRecursion-find byte_order nat_list_cmp_total byte_order-IsAntisymmetric Q name stack table h e)
 
+from_T : (b : Bool) → T b → b ≡ true
+from_T true t = refl
+from_T false t = absurd t
+
 -- the names still rise behind a write
 pub IsTrue-sorted-put : (table : Pairs) (name : List ℕ) (stack : List Def) → IsTrue (is_sorted byte_order table) → IsTrue (is_sorted byte_order (put byte_order name stack table))
 IsTrue-sorted-put table name stack h = from_T _ (is_sorted-put byte_order nat_list_cmp_total name stack table (subst T (sym h) tt))
-  where
-    from_T : (b : Bool) → T b → b ≡ true
-    from_T true t = refl
-    from_T false t = absurd t
+
+-- what holds of each element holds of a beginning
+AllByRecursion-take : {X : Type 0} (P : X → Type 0) (n : ℕ) (xs : List X) → AllByRecursion P xs → AllByRecursion P (take n xs)
+AllByRecursion-take P zero xs h = tt
+AllByRecursion-take P (suc n) [] h = tt
+AllByRecursion-take P (suc n) (x ∷ xs) h = (h.0, AllByRecursion-take P n xs h.1)
+
+-- what holds of each pair holds of those whose keys pass a test
+where_key_holds : (P : Pair → Type 0) (p : List ℕ → Bool) (es : Pairs) → AllByRecursion P es → AllByRecursion P (where_key byte_order p es)
+where_key_holds P p [] h = tt
+where_key_holds P p (e ∷ es) h = elim (p e.0) as (λ b. AllByRecursion P (cond b (e ∷ where_key byte_order p es) (where_key byte_order p es))) [ true ↦ (h.0, where_key_holds P p es h.1) | false ↦ where_key_holds P p es h.1 ]
 
 module _ (table : Pairs) (name : List ℕ) (d : Def) where
   -- a push keeps a table in order
@@ -81,6 +95,45 @@ module _ (table : Pairs) (name : List ℕ) (d : Def) where
       (record { name = sized_name; definitions = AllByRecursion-push IsSizedDefinition (stack_at table name) d (stack_holds IsSizedDefinition IsSizedStack table name (λ e p. p.definitions) h) sized })
       h
 
+module _ (table : Pairs) (name : List ℕ) (d : Def) where
+  -- a definition keeps a table in order
+  pub IsTable-top : IsTable table → IsDefinition d → IsTable (with_top table name d)
+  IsTable-top h is = record {
+    sorted = IsTrue-sorted-put table name (but_last (stack_at table name) ++ d ∷ []) h.sorted;
+    stacks = AllByRecursion-put byte_order nat_list_cmp_total byte_order-IsAntisymmetric IsStack name _ table
+        (record { some = push_is_some (but_last (stack_at table name)) d; definitions = AllByRecursion-push IsDefinition (but_last (stack_at table name)) d (AllByRecursion-take IsDefinition _ (stack_at table name) (stack_holds IsDefinition IsStack table name (λ e p. p.definitions) h.stacks)) is })
+        h.stacks;
+  }
+
+  -- and sized
+  pub IsSizedTable-top : IsSizedTable table → length name < 2 ^ 64 → IsSizedDefinition d → IsSizedTable (with_top table name d)
+  IsSizedTable-top h sized_name sized =
+      AllByRecursion-put byte_order nat_list_cmp_total byte_order-IsAntisymmetric IsSizedStack name _ table
+      (record { name = sized_name; definitions = AllByRecursion-push IsSizedDefinition (but_last (stack_at table name)) d (AllByRecursion-take IsSizedDefinition _ (stack_at table name) (stack_holds IsSizedDefinition IsSizedStack table name (λ e p. p.definitions) h)) sized })
+      h
+
+module _ (table : Pairs) (name : List ℕ) where
+  -- so does a name's leaving
+  pub IsTable-without : IsTable table → IsTable (without table name)
+  IsTable-without h = record {
+    sorted = from_T _ (is_sorted-where_key byte_order (λ other. not (bytes_eq name other)) table (subst T (sym h.sorted) tt));
+    stacks = where_key_holds IsStack (λ other. not (bytes_eq name other)) table h.stacks;
+  }
+
+  pub IsSizedTable-without : IsSizedTable table → IsSizedTable (without table name)
+  IsSizedTable-without h = where_key_holds IsSizedStack (λ other. not (bytes_eq name other)) table h
+
+  -- names that do not tie are those that differ
+  without_ties : without table name ≡ others byte_order name table
+  without_ties = λ j. filter (λ (e : Pair). not (sym (is_eq-slice_cmp name e.0) j)) table
+
+-- pairs without one of the entries
+pairs-remove : (es : List Entry) (i : ℕ) → pairs_of (remove es i) ≡ remove (pairs_of es) i
+pairs-remove es i =
+    map-append pair_of (take i es) (drop (suc i) es)
+    ∙ ap (λ (ps : Pairs). ps ++ map pair_of (drop (suc i) es)) (sym (take-map pair_of i es))
+    ∙ ap (λ (ps : Pairs). take i (pairs_of es) ++ ps) (sym (drop-map pair_of (suc i) es))
+
 module _ (es : List Entry) (name : List ℕ) (i : ℕ) where
   -- the entry at a name's place has the name's stack
   pub stack_found : (e : Entry) → IsFound byte_order name (pairs_of es) i → e ≡ get_or es i e → stack_at (pairs_of es) name ≡ e.stack.items
@@ -98,14 +151,47 @@ module _ (es : List Entry) (name : List ℕ) (i : ℕ) where
       λ j. ((same_name ∙ name_found e found is) j, (items ∙ ap (λ (xs : List Def). xs ++ d ∷ []) (sym (stack_found e found is))) j) in
       map-set pair_of es i y ∙ ap (λ (q : Pair). set (pairs_of es) i q) here ∙ sym (found.written (stack_at (pairs_of es) name ++ d ∷ []))
 
-  -- a new entry at a missing name's place is a push
-  pub pushed_missing : (y : Entry) (d : Def) → IsMissing byte_order name (pairs_of es) i → y.name ≡ name → y.stack.items ≡ d ∷ []
-      → pairs_of (insert es i y) ≡ with_push (pairs_of es) name d
-  pushed_missing y d missing same_name items =
+  -- a new pair at a missing name's place is a push
+  pub pushed_missing : {ps : Pairs} (d : Def) → IsMissing byte_order name (pairs_of es) i → ps ≡ insert (pairs_of es) i (name, d ∷ []) → ps ≡ with_push (pairs_of es) name d
+  pushed_missing d missing inserted =
       let none : stack_at (pairs_of es) name ≡ [] = ap (λ (o : Option (List Def)). unwrap_or o []) missing.absent in
-      let here : pair_of y ≡ (name, stack_at (pairs_of es) name ++ d ∷ []) =
-      λ j. (same_name j, (items ∙ ap (λ (xs : List Def). xs ++ d ∷ []) (sym none)) j) in
-      map-insert pair_of es i y ∙ ap (λ (q : Pair). insert (pairs_of es) i q) here ∙ sym (missing.written (stack_at (pairs_of es) name ++ d ∷ []))
+      inserted ∙ ap (λ (xs : List Def). insert (pairs_of es) i (name, xs ++ d ∷ [])) (sym none) ∙ sym (missing.written (stack_at (pairs_of es) name ++ d ∷ []))
+
+  -- another definition on top in that entry is a definition of the name
+  pub defined_found : (e y : Entry) (d : Def) → IsFound byte_order name (pairs_of es) i → e ≡ get_or es i e → y.name ≡ e.name → y.stack.items ≡ but_last e.stack.items ++ d ∷ []
+      → pairs_of (set es i y) ≡ with_top (pairs_of es) name d
+  defined_found e y d found is same_name items =
+      let here : pair_of y ≡ (name, but_last (stack_at (pairs_of es) name) ++ d ∷ []) =
+      λ j. ((same_name ∙ name_found e found is) j, (items ∙ ap (λ (xs : List Def). but_last xs ++ d ∷ []) (sym (stack_found e found is))) j) in
+      map-set pair_of es i y ∙ ap (λ (q : Pair). set (pairs_of es) i q) here ∙ sym (found.written (but_last (stack_at (pairs_of es) name) ++ d ∷ []))
+
+  -- a new pair at a missing name's place is its definition
+  pub defined_missing : {ps : Pairs} (d : Def) → IsMissing byte_order name (pairs_of es) i → ps ≡ insert (pairs_of es) i (name, d ∷ []) → ps ≡ with_top (pairs_of es) name d
+  defined_missing d missing inserted =
+      let none : stack_at (pairs_of es) name ≡ [] = ap (λ (o : Option (List Def)). unwrap_or o []) missing.absent in
+      inserted ∙ ap (λ (xs : List Def). insert (pairs_of es) i (name, but_last xs ++ d ∷ [])) (sym none) ∙ sym (missing.written (but_last (stack_at (pairs_of es) name) ++ d ∷ []))
+
+  -- without that entry the name is undefined
+  pub undefined_found : IsFound byte_order name (pairs_of es) i → pairs_of (remove es i) ≡ without (pairs_of es) name
+  undefined_found found = pairs-remove es i ∙ sym (without_ties (pairs_of es) name ∙ found.taken_out)
+
+  -- a missing name is undefined
+  pub undefined_missing : IsMissing byte_order name (pairs_of es) i → pairs_of es ≡ without (pairs_of es) name
+  undefined_missing missing = sym (without_ties (pairs_of es) name ∙ missing.kept)
+
+-- a new entry with one definition is a new pair
+pub inserted_pair : (es : List Entry) (i : ℕ) (y : Entry) {fs : List Entry} {stack : List Def} → fs ≡ insert es i y → y.stack.items ≡ stack → pairs_of fs ≡ insert (pairs_of es) i (y.name, stack)
+inserted_pair es i y e items = ap pairs_of e ∙ map-insert pair_of es i y ∙ ap (λ (xs : List Def). insert (pairs_of es) i (y.name, xs)) items
+
+-- a write over the last element
+pub set_last : {X : Type 0} (xs : List X) (i : ℕ) (y : X) → i + 1 ≡ length xs → set xs i y ≡ but_last xs ++ y ∷ []
+set_last xs i y e =
+    let front : length xs - 1 ≡ i = omega arith in
+    sym (take_all (i + 1) (set xs i y) (omega (arith, length-set xs i y))) ∙ take_more_set xs i y (omega arith) ∙ ap (λ (j : ℕ). take j xs ++ y ∷ []) (sym front)
+
+-- what is said of a list's pairs is said of an equal list's
+pub pairs_with : {es fs : List Entry} {ps : Pairs} → fs ≡ es → pairs_of es ≡ ps → pairs_of fs ≡ ps
+pairs_with e f = ap pairs_of e ∙ f
 
 -- the names of the pairs are those of the entries
 pub names_of_pairs : (es : List Entry) → map (λ (e : Pair). e.0) (pairs_of es) ≡ map (λ (e : Entry). e.name) es

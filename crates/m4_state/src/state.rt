@@ -41,7 +41,7 @@ impl Model for State {
 impl State {
     ghost use Rattle.m4_state.specs.Definition.{IsDefinition};
     ghost use Rattle.m4_state.specs.Fresh.{fresh, with_builtin};
-    ghost use Rattle.m4_state.specs.State.{IsState, IsSized, empty, names_of, stack_of, top_of, pushed, with_quotes, with_comments, diverted, appended, diversion_of, next_after};
+    ghost use Rattle.m4_state.specs.State.{IsState, IsSized, empty, names_of, stack_of, top_of, pushed, defined, undefined, with_quotes, with_comments, diverted, appended, diversion_of, next_after};
 
     /// No names, no diversions, the default delimiters.
     pub fn empty(alloc: Global) -> Result<State, StateFault>
@@ -118,6 +118,26 @@ impl State {
     {
         self.table.push(name, def)?;
         Ok(())
+    }
+
+    /// Replaces the definition on top of a name's, or makes the first one. Manual: "Defining a macro".
+    pub fn define(&mut self, name: Bytes, def: Def) -> Result<(), StateFault>
+        requires { IsDefinition def }
+        // exact steps: the whole new record; a refusal leaves it unchanged
+        ensures ok { OnOk result (self.new ≡ defined self.old name def) }
+        ensures err { OnErr result (self.new ≡ self.old) }
+    {
+        self.table.define(name, def)?;
+        Ok(())
+    }
+
+    /// Takes all definitions of a name away, if it has any. Takes no memory. Manual: "Deleting a
+    /// macro".
+    pub fn undefine(&mut self, name: &[u8])
+        // exact steps: the whole new record
+        ensures { self.new ≡ undefined self.old name.now }
+    {
+        self.table.undefine(name);
     }
 
     /// The begin and the end of quotes; both are empty where they are disabled.

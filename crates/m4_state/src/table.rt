@@ -7,7 +7,7 @@ ghost use Rattle.std.specs.Prelude.{◌≡◌, IfOk, OnOk, OnErr, map, []};
 
 use crate::bytes::Bytes;
 use crate::definition::Def;
-use crate::entries::{Entry, names_in, push_in, stack_in};
+use crate::entries::{Entry, define_in, names_in, push_in, stack_in, undefine_in};
 use std::alloc::{AllocError, Global};
 use std::marker::Model;
 
@@ -29,7 +29,7 @@ impl Model for Table {
 }
 
 impl Table {
-    ghost use Rattle.m4_state.specs.Table.{IsTable, IsSizedTable, stack_at, with_push};
+    ghost use Rattle.m4_state.specs.Table.{IsTable, IsSizedTable, stack_at, with_push, with_top, without};
     ghost use Rattle.m4_state.specs.Definition.{IsDefinition};
 
     /// No names.
@@ -69,5 +69,25 @@ impl Table {
         ensures sized { IsSizedTable self.new }
     {
         push_in(&mut self.entries, name, def)
+    }
+
+    /// Replaces the definition on top of a name's, or makes the first one.
+    pub fn define(&mut self, name: Bytes, def: Def) -> Result<(), AllocError>
+        requires { IsDefinition def }
+        ensures ok { OnOk result (self.new ≡ with_top self.old name def) }
+        ensures err { OnErr result (self.new ≡ self.old) }
+        ensures table { IsTable self.new }
+        ensures sized { IsSizedTable self.new }
+    {
+        define_in(&mut self.entries, name, def)
+    }
+
+    /// Takes all definitions of a name away, if it has any.
+    pub fn undefine(&mut self, name: &[u8])
+        ensures value { self.new ≡ without self.old name.now }
+        ensures table { IsTable self.new }
+        ensures sized { IsSizedTable self.new }
+    {
+        undefine_in(&mut self.entries, name)
     }
 }

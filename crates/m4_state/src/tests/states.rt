@@ -118,6 +118,30 @@ fn top_is_the_newest(rt: HostRuntime) -> Result<(), Fail> {
     Ok(())
 }
 
+// A definition replaces the newest one only, and an undefinition takes all of them.
+#[test]
+fn defines_and_undefines(rt: HostRuntime) -> Result<(), Fail> {
+    let alloc = rt.alloc();
+    let mut state = State::empty(alloc)?;
+    push(alloc, &mut state, b"x", b"old")?;
+    push(alloc, &mut state, b"x", b"new")?;
+    state.define(
+        Bytes::from_slice(alloc, b"x")?,
+        Def::Text(Bytes::from_slice(alloc, b"newest")?),
+    )?;
+    state.define(Bytes::from_slice(alloc, b"a")?, Def::Builtin(Builtin::Dnl))?;
+    assert_eq!(rt; state.stack(b"x").len(), 2);
+    assert_eq!(rt; text_of(&state.stack(b"x")[0]), b"old".as_slice());
+    assert_eq!(rt; text_of(&state.stack(b"x")[1]), b"newest".as_slice());
+    assert_eq!(rt; state.stack(b"a").len(), 1);
+    state.undefine(b"x");
+    state.undefine(b"y");
+    assert!(rt; state.stack(b"x").is_empty());
+    assert_eq!(rt; state.stack(b"a").len(), 1);
+    assert_eq!(rt; state.names()?.len(), 1);
+    Ok(())
+}
+
 // Two strings, and the pair that they choose: an empty begin disables, and an empty end is the
 // default one.
 const QUOTES: [(&[u8], &[u8], &[u8], &[u8]); 3] = [

@@ -1,4 +1,4 @@
-use Rattle.std.proofs.Common.{◌≡◌, List, [], ◌∷◌, ◌++◌, get_or, set, refl, sym, ap, subst, ◌∙◌, rules}
+use Rattle.std.proofs.Common.{◌≡◌, List, get_or, set, refl, sym, ap, subst, ◌∙◌, rules}
 use Rattle.std.proofs.Math.Seq.{map-set_same}
 use Rattle.m4_state.specs.Entries.{pair_of, pairs_of}
 use Rattle.m4_state.specs.declared.definition.Def.{Def}
@@ -34,19 +34,19 @@ returns-in_ok-push-in-Ok-clause-sized c =
     subst IsSizedTable (sym (pushed_found c.args.entries.now.items c.args.name c.in-Ok.i c.index_mut.result.now _ c.args.def found c.index_mut.ensures.value refl c.in_ok-push-in-Ok.ensures.items)) table
 
 -- the name is new
-pub returns-in_ok-insert-in-Err-clause-ok : goal.returns-in_ok-insert-in-Err-clause-ok
-returns-in_ok-insert-in-Err-clause-ok c =
+pub returns-in_ok-insert_in-in-Err-clause-ok : goal.returns-in_ok-insert_in-in-Err-clause-ok
+returns-in_ok-insert_in-in-Err-clause-ok c =
     let missing = rw (c.as_slice.ensures.value, c.deref.ensures.value) at c.in-Err.ensures.missing in
-    rw c.in_ok-insert-in-Err.ensures.items (pushed_missing c.args.entries.now.items c.args.name c.in-Err.i _ c.args.def missing refl (c.in_ok-push-in-Err.ensures.items ∙ ap (λ (xs : List Def). xs ++ c.args.def ∷ []) c.new-stack.ensures.items))
+    pushed_missing c.args.entries.now.items c.args.name c.in-Err.i c.args.def missing c.in_ok-insert_in-in-Err.ensures.ok
 
-pub returns-in_ok-insert-in-Err-clause-table : goal.returns-in_ok-insert-in-Err-clause-table
-returns-in_ok-insert-in-Err-clause-table c =
+pub returns-in_ok-insert_in-in-Err-clause-table : goal.returns-in_ok-insert_in-in-Err-clause-table
+returns-in_ok-insert_in-in-Err-clause-table c =
     let missing = rw (c.as_slice.ensures.value, c.deref.ensures.value) at c.in-Err.ensures.missing in
     let table = IsTable-push _ c.args.name c.args.def c.requires.table c.requires.definition in
-    rw c.in_ok-insert-in-Err.ensures.items (subst IsTable (sym (pushed_missing c.args.entries.now.items c.args.name c.in-Err.i _ c.args.def missing refl (c.in_ok-push-in-Err.ensures.items ∙ ap (λ (xs : List Def). xs ++ c.args.def ∷ []) c.new-stack.ensures.items))) table)
+    subst IsTable (sym (pushed_missing c.args.entries.now.items c.args.name c.in-Err.i c.args.def missing c.in_ok-insert_in-in-Err.ensures.ok)) table
 
-pub returns-in_ok-insert-in-Err-clause-sized : goal.returns-in_ok-insert-in-Err-clause-sized
-returns-in_ok-insert-in-Err-clause-sized c =
+pub returns-in_ok-insert_in-in-Err-clause-sized : goal.returns-in_ok-insert_in-in-Err-clause-sized
+returns-in_ok-insert_in-in-Err-clause-sized c =
     let missing = rw (c.as_slice.ensures.value, c.deref.ensures.value) at c.in-Err.ensures.missing in
     let table = IsSizedTable-push _ c.args.name c.args.def c.requires.sized (search (rules, c.as_slice.ensures.sized)) c.len-len.ensures.sized in
-    rw c.in_ok-insert-in-Err.ensures.items (subst IsSizedTable (sym (pushed_missing c.args.entries.now.items c.args.name c.in-Err.i _ c.args.def missing refl (c.in_ok-push-in-Err.ensures.items ∙ ap (λ (xs : List Def). xs ++ c.args.def ∷ []) c.new-stack.ensures.items))) table)
+    subst IsSizedTable (sym (pushed_missing c.args.entries.now.items c.args.name c.in-Err.i c.args.def missing c.in_ok-insert_in-in-Err.ensures.ok)) table

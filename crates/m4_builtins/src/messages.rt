@@ -1,0 +1,148 @@
+//! What is told of a call, a line each. The texts are those of `specs/Messages.antt`.
+
+ghost use Rattle.std.specs.Prelude.{◌≡◌, ◌++◌, IfOk, OnOk, codes};
+ghost use Rattle.m4_builtins.specs.Messages.{place_text, warning, error, too_few, excess, unsupported, dropped, bad_name};
+
+use crate::fault::BuiltinFault;
+use crate::place::Place;
+use itoa::Buffer;
+use m4_state::builtin::Builtin;
+use m4_state::bytes::Bytes;
+use std::alloc::{AllocError, Global};
+
+/// The line of messages that says why the run ends. Manual: "Location within input".
+pub fn error_message(alloc: Global, place: &Place, text: &[u8]) -> Result<Bytes, BuiltinFault>
+    // exact steps: the whole line
+    ensures { IfOk result (λ b. b ≡ error place.now text.now) }
+{
+    let mut line = head(alloc, place, b": ERROR: ")?;
+    line.extend_from_slice(text)?;
+    line.extend_from_slice(b"\n")?;
+    Ok(Bytes::from(line))
+}
+
+/// The warning that a definition was in a text, where it is left out. Manual: "Location within
+/// input".
+pub fn dropped_message(alloc: Global, place: &Place) -> Result<Bytes, BuiltinFault>
+    // exact steps: the whole line
+    ensures { IfOk result (λ b. b ≡ dropped place.now) }
+{
+    let mut line = head(alloc, place, b": Warning: ")?;
+    line.extend_from_slice(b"builtin dropped from text")?;
+    line.extend_from_slice(b"\n")?;
+    Ok(Bytes::from(line))
+}
+
+/// The warning that a builtin was called with too few arguments.
+pub(crate) fn too_few_message(
+    alloc: Global,
+    place: &Place,
+    builtin: Builtin,
+) -> Result<Bytes, AllocError>
+    // exact steps: the whole line
+    ensures { IfOk result (λ b. b ≡ too_few place.now builtin) }
+{
+    warning_on(
+        alloc,
+        place,
+        b"too few arguments to builtin `",
+        builtin.name(),
+        b"'",
+    )
+}
+
+/// The warning that a builtin was called with more arguments than it reads.
+pub(crate) fn excess_message(
+    alloc: Global,
+    place: &Place,
+    builtin: Builtin,
+) -> Result<Bytes, AllocError>
+    // exact steps: the whole line
+    ensures { IfOk result (λ b. b ≡ excess place.now builtin) }
+{
+    warning_on(
+        alloc,
+        place,
+        b"excess arguments to builtin `",
+        builtin.name(),
+        b"' ignored",
+    )
+}
+
+/// The warning that a frozen file asked for a builtin that this processor lacks.
+pub(crate) fn unsupported_message(
+    alloc: Global,
+    place: &Place,
+    name: &[u8],
+) -> Result<Bytes, AllocError>
+    // exact steps: the whole line
+    ensures { IfOk result (λ b. b ≡ unsupported place.now name.now) }
+{
+    warning_on(
+        alloc,
+        place,
+        b"builtin `",
+        name,
+        b"' requested by frozen file is not supported",
+    )
+}
+
+/// The warning that a definition stood where a builtin reads a name.
+pub(crate) fn bad_name_message(
+    alloc: Global,
+    place: &Place,
+    builtin: Builtin,
+) -> Result<Bytes, AllocError>
+    // exact steps: the whole line
+    ensures { IfOk result (λ b. b ≡ bad_name place.now builtin) }
+{
+    warning_on(
+        alloc,
+        place,
+        b"invalid macro name ignored in builtin `",
+        builtin.name(),
+        b"'",
+    )
+}
+
+/// A warning on what bears a name, which stands between two texts.
+fn warning_on(
+    alloc: Global,
+    place: &Place,
+    before: &[u8],
+    name: &[u8],
+    after: &[u8],
+) -> Result<Bytes, AllocError>
+    ensures { IfOk result (λ b. b ≡ warning place.now (before.now ++ name.now ++ after.now)) }
+{
+    let mut line = head(alloc, place, b": Warning: ")?;
+    line.extend_from_slice(before)?;
+    line.extend_from_slice(name)?;
+    line.extend_from_slice(after)?;
+    line.push(b'\n')?;
+    Ok(Bytes::from(line))
+}
+
+/// The front of each message: the program, the place, and what kind of message it is.
+fn head(alloc: Global, place: &Place, kind: &[u8]) -> Result<Vec<u8>, AllocError>
+    ensures { IfOk result (λ v. v.items ≡ codes "m4" ++ place_text place.now ++ kind.now) }
+{
+    let mut line = Vec::from_slice(alloc, b"m4")?;
+    push_place(&mut line, place)?;
+    line.extend_from_slice(kind)?;
+    Ok(line)
+}
+
+/// Adds the file and the line, or nothing in wrapped text, whose line is 0.
+fn push_place(line: &mut Vec<u8>, place: &Place) -> Result<(), AllocError>
+    ensures { OnOk result (line.new.items ≡ line.old.items ++ place_text place.now) }
+{
+    if place.line == 0 {
+        return Ok(());
+    }
+    let mut buffer = Buffer::new();
+    line.push(b':')?;
+    line.extend_from_slice(place.file.as_slice())?;
+    line.push(b':')?;
+    line.extend_from_slice(buffer.format(place.line).as_bytes())
+}

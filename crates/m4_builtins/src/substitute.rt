@@ -1,0 +1,208 @@
+//! A text with the name and the arguments of a call put in: what stands behind each dollar decides.
+
+ghost use Rattle.std.specs.Prelude.{◌≡◌, ◌==◌, ◌≤◌, ◌^◌, ◌++◌, IfOk, OnOk, ℕ, ◌<◌, length, map, not, decimal};
+ghost use Rattle.m4_input.specs.Ascii.{dollar, is_digit};
+ghost use Rattle.m4_input.specs.Token.{run_length};
+ghost use Rattle.m4_input.specs.DelimsView.{pair_of};
+ghost use Rattle.m4_builtins.specs.Args.{text_of_arg, quoted};
+ghost use Rattle.m4_builtins.specs.Subst.{subst, behind_dollar, number_of, nth_text, with_commas};
+ghost use Rattle.m4_builtins.specs.Numbers.{IsNumber};
+
+use crate::args::{Arg, Args};
+use crate::fault::BuiltinFault;
+use itoa::Buffer;
+use m4_state::bytes::Bytes;
+use std::alloc::{AllocError, Global};
+
+/// A text with the name and the arguments of a call put in, by the current quotes. Takes time in
+/// proportion to the text and to what is put in. Manual: "Arguments to macros", "Special arguments
+/// to macros".
+pub fn substitute(
+    alloc: Global,
+    text: &[u8],
+    args: &Args,
+    quotes: (&[u8], &[u8]),
+) -> Result<Bytes, BuiltinFault>
+    // exact steps: the text with the arguments put in
+    ensures { IfOk result (λ b. b ≡ subst text.now args.now.name args.now.list (pair_of quotes.entry)) }
+{
+    let mut out = Vec::new(alloc);
+    let mut rest = text;
+    while !rest.is_empty() {
+        rest = push_front(&mut out, rest, args, quotes)?;
+    }
+    Ok(Bytes::from(out))
+}
+
+/// Adds what stands in front of the first dollar, and what that dollar stands for. Answers what is
+/// left of the text.
+fn push_front<'a>(
+    out: &mut Vec<u8>,
+    text: &'a [u8],
+    args: &Args,
+    quotes: (&[u8], &[u8]),
+) -> Result<&'a [u8], AllocError>
+    ensures pushed { IfOk result (λ rest. out.new.items ++ subst rest.now args.now.name args.now.list (pair_of quotes.entry)
+        ≡ out.old.items ++ subst text.now args.now.name args.now.list (pair_of quotes.entry)) }
+    ensures shorter { IfOk result (λ rest. 0 < length text.now → length rest.now < length text.now) }
+{
+    let (plain, from_dollar) = text.split_at(plain_len(text));
+    out.extend_from_slice(plain)?;
+    match from_dollar.split_first() {
+        Some((_, behind)) => {
+            let used = push_dollar(out, behind, args, quotes)?;
+            Ok(behind.split_at(used).1)
+        }
+        None => Ok(from_dollar),
+    }
+}
+
+/// How many bytes stand in front of the first dollar.
+fn plain_len(bytes: &[u8]) -> usize
+    ensures value { result ≡ run_length (λ b. not (b == dollar)) bytes.now }
+    ensures within { result ≤ length bytes.now }
+{
+    let mut k = 0;
+    while k < bytes.len() && bytes[k] != b'$' {
+        k += 1;
+    }
+    k
+}
+
+/// Adds what a dollar stands for, and answers how many of the bytes behind it belong to it.
+fn push_dollar(
+    out: &mut Vec<u8>,
+    behind: &[u8],
+    args: &Args,
+    quotes: (&[u8], &[u8]),
+) -> Result<usize, AllocError>
+    ensures used { IfOk result (λ n. n ≡ (behind_dollar args.now.name (map text_of_arg args.now.list) (pair_of quotes.entry) behind.now).1) }
+    ensures text { OnOk result (out.new.items ≡ out.old.items
+        ++ (behind_dollar args.now.name (map text_of_arg args.now.list) (pair_of quotes.entry) behind.now).0) }
+    ensures within { IfOk result (λ n. n ≤ length behind.now) }
+{
+    match behind.first() {
+        Some(b'0'..=b'9') => {
+            let len = digits_len(behind);
+            push_numbered(out, number_of(behind.split_at(len).0), args)?;
+            Ok(len)
+        }
+        Some(b'#') => {
+            push_count(out, args.list.as_slice().len())?;
+            Ok(1)
+        }
+        Some(b'*') => {
+            push_joined(out, args.list.as_slice())?;
+            Ok(1)
+        }
+        Some(b'@') => {
+            push_quoted(out, args.list.as_slice(), quotes)?;
+            Ok(1)
+        }
+        _ => {
+            out.push(b'$')?;
+            Ok(0)
+        }
+    }
+}
+
+/// An argument as text: a definition counts as empty.
+pub fn text_of(arg: &Arg) -> &[u8]
+    ensures { result.now ≡ text_of_arg arg.now }
+{
+    match arg {
+        Arg::Text(text) => text.as_slice(),
+        Arg::Definition(_) => &[],
+    }
+}
+
+/// How many digits stand in front.
+fn digits_len(bytes: &[u8]) -> usize
+    ensures value { result ≡ run_length is_digit bytes.now }
+    ensures within { result ≤ length bytes.now }
+{
+    let mut k = 0;
+    while k < bytes.len() && bytes[k].is_ascii_digit() {
+        k += 1;
+    }
+    k
+}
+
+/// The number that digits stand for; none where it is above every count.
+fn number_of(digits: &[u8]) -> Option<usize>
+    ensures { IsNumber result (number_of digits.now) }
+{
+    let mut value = 0usize;
+    for digit in digits {
+        let shifted = value.checked_mul(10)?;
+        value = shifted.checked_add(usize::from(digit.saturating_sub(b'0')))?;
+    }
+    Some(value)
+}
+
+/// Adds the argument of a number, or the name for 0. There is nothing above the count.
+fn push_numbered(out: &mut Vec<u8>, number: Option<usize>, args: &Args) -> Result<(), AllocError>
+    ensures { (m : ℕ) → IsNumber number m
+        → OnOk result (out.new.items ≡ out.old.items ++ nth_text args.now.name (map text_of_arg args.now.list) m) }
+{
+    let list = args.list.as_slice();
+    let count = list.len();
+    let Some(n) = number else {
+        return Ok(());
+    };
+    if n == 0 {
+        out.extend_from_slice(args.name.as_slice())?;
+    } else if n <= count {
+        out.extend_from_slice(text_of(&list[n - 1]))?;
+    }
+    Ok(())
+}
+
+/// Adds a count in decimal.
+fn push_count(out: &mut Vec<u8>, count: usize) -> Result<(), AllocError>
+    ensures { OnOk result (out.new.items ≡ out.old.items ++ decimal count) }
+{
+    let mut buffer = Buffer::new();
+    out.extend_from_slice(buffer.format(count).as_bytes())
+}
+
+/// Adds the arguments, with a comma between any two of them.
+#[tactic(auto, using(crate::proofs::Joins::joined_step))]
+fn push_joined(out: &mut Vec<u8>, args: &[Arg]) -> Result<(), AllocError>
+    ensures { OnOk result (out.new.items ≡ out.old.items ++ with_commas (map text_of_arg args.now)) }
+{
+    let mut first = true;
+    for arg in args {
+        if !first {
+            out.push(b',')?;
+        }
+        out.extend_from_slice(text_of(arg))?;
+        first = false;
+    }
+    Ok(())
+}
+
+/// Adds the arguments, each between quotes, with a comma between any two of them.
+#[tactic(auto, using(crate::proofs::Joins::joined_step))]
+fn push_quoted(out: &mut Vec<u8>, args: &[Arg], quotes: (&[u8], &[u8])) -> Result<(), AllocError>
+    ensures { OnOk result (out.new.items ≡ out.old.items ++ with_commas (map (quoted (pair_of quotes.entry)) (map text_of_arg args.now))) }
+{
+    let mut first = true;
+    for arg in args {
+        if !first {
+            out.push(b',')?;
+        }
+        push_one_quoted(out, text_of(arg), quotes)?;
+        first = false;
+    }
+    Ok(())
+}
+
+/// Adds a text between quotes.
+fn push_one_quoted(out: &mut Vec<u8>, text: &[u8], quotes: (&[u8], &[u8])) -> Result<(), AllocError>
+    ensures { OnOk result (out.new.items ≡ out.old.items ++ quoted (pair_of quotes.entry) text.now) }
+{
+    out.extend_from_slice(quotes.0)?;
+    out.extend_from_slice(text)?;
+    out.extend_from_slice(quotes.1)
+}
