@@ -3,6 +3,7 @@ use Rattle.std.proofs.Common.{◌≡◌, ℕ, suc, Bool, true, false, List, [], 
 use Rattle.std.specs.Prelude.{Result, Ok, Err, IfOk, codes, nat_lt}
 use Rattle.std.specs.Fmt.{decimal}
 use Rattle.m4_input.specs.Pending.{Pending, consumed}
+use Rattle.m4_builtins.specs.declared.place.Place.{Place}
 use Rattle.m4_builtins.specs.Messages.{error}
 use Rattle.m4_engine.specs.declared.ending.Cause.{Cause}
 use Rattle.m4_engine.specs.declared.ending.Cause.TheVariants as causes
@@ -17,15 +18,15 @@ use Rattle.m4_engine.specs.Engine.{Engine, so_far_of, kept_in, outer_of, here_of
 use Rattle.m4_engine.proofs.Acts.{moves_by}
 
 -- an expansion that fails
-pub failed_is : (o m : List ℕ) (e e1 : Engine) (p : Pending) (c : Call) (text : List ℕ) (cause : Cause) (fs : List Kept) → e1 ≡ telling (error c.place text) e → step fs (fail (here_of o m e p) c.place text cause) ≡ Stops (Halted (record { so_far = so_far_of o m e1; how = Ends cause }))
-failed_is o m e e1 p c text cause fs h =
-    (rw (append_assoc m e.messages (error c.place text)) refl)
+pub failed_at : (o m : List ℕ) (e e1 : Engine) (p : Pending) (at : Place) (text : List ℕ) (cause : Cause) (fs : List Kept) → e1 ≡ telling (error at text) e → step fs (fail (here_of o m e p) at text cause) ≡ Stops (Halted (record { so_far = so_far_of o m e1; how = Ends cause }))
+failed_at o m e e1 p at text cause fs h =
+    (rw (append_assoc m e.messages (error at text)) refl)
     ∙ ap (λ (x : Engine). Stops (Halted (let d : Ended = record { so_far = so_far_of o m x; how = Ends cause } in d))) (sym h)
 
 pub refused_calls : (e e1 : Engine) (c : Call) (listed : Bool) (p before : Pending) (o m : List ℕ) → nat_lt e.calls (e.limits).calls ≡ false → e1 ≡ telling (error c.place (calls_text (e.limits).calls)) e → step (outer_of e.open_calls) (call listed c p (here_of o m e before)) ≡ Stops (Halted (record { so_far = so_far_of o m e1; how = Ends causes.ExpansionLimit }))
 refused_calls e e1 c listed p before o m f h =
     ap (λ v. step (outer_of e.open_calls) (call_if_room v listed c p (here_of o m e before))) f
-    ∙ failed_is o m e e1 before c (calls_text (e.limits).calls) causes.ExpansionLimit (outer_of e.open_calls) h
+    ∙ failed_at o m e e1 before c.place (calls_text (e.limits).calls) causes.ExpansionLimit (outer_of e.open_calls) h
 
 -- a call that was counted
 counted_is : (e : Engine) (c : Call) (listed : Bool) (p before : Pending) (o m : List ℕ) (v : Bool) → nat_lt e.calls (e.limits).calls ≡ true → is_deep_in (counting e) ≡ v → step (outer_of e.open_calls) (call listed c p (here_of o m e before)) ≡ step (outer_of e.open_calls) (call_unless_deep v listed c p (here_of o m (counting e) before))
@@ -36,7 +37,7 @@ counted_is e c listed p before o m v f h =
 pub refused_depth : (e e1 : Engine) (c : Call) (listed : Bool) (p before : Pending) (o m : List ℕ) → nat_lt e.calls (e.limits).calls ≡ true → is_deep_in (counting e) ≡ true → e1 ≡ telling (error c.place (nested_text (e.limits).nesting)) (counting e) → step (outer_of e.open_calls) (call listed c p (here_of o m e before)) ≡ Stops (Halted (record { so_far = so_far_of o m e1; how = Ends causes.NestingLimit }))
 refused_depth e e1 c listed p before o m f h k =
     counted_is e c listed p before o m true f h
-    ∙ failed_is o m (counting e) e1 before c (nested_text (e.limits).nesting) causes.NestingLimit (outer_of e.open_calls) k
+    ∙ failed_at o m (counting e) e1 before c.place (nested_text (e.limits).nesting) causes.NestingLimit (outer_of e.open_calls) k
 
 bare_is : (fs : List Kept) (v : Outcome Expansion Ended) → step fs (bare v) ≡ pop Expansion Kept Ended turn join fs v
 bare_is fs (Halted d) = refl

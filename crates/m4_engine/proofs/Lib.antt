@@ -24,3 +24,4 @@ pub mod Inputs
 pub mod Acts
 pub mod Taken
 pub mod Calling
+pub mod Named

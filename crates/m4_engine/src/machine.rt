@@ -9,7 +9,7 @@ ghost use Rattle.m4_engine.specs.Engine.{with_text, with_token, telling, beginni
 
 use crate::call::OpenCall;
 use crate::turned::TurnFault;
-use m4_builtins::act::error_message;
+use m4_builtins::messages::error_message;
 use m4_builtins::place::Place;
 use m4_state::bytes::Bytes;
 use m4_state::definition::Def;

@@ -3,11 +3,12 @@
 
 ghost use Rattle.std.specs.Prelude.{◌≡◌, ◌<◌, nat_lt, suc, [], ◌∷◌, ◌++◌, None, Ok, IfOk, OnOk, IfSome, true, length, codes};
 ghost use Rattle.std.specs.Fmt.{decimal};
+ghost use Rattle.m4_state.specs.State.{top_of};
 ghost use Rattle.m4_input.specs.Paren.{paren_at};
 ghost use Rattle.m4_builtins.specs.Messages.{error};
-ghost use Rattle.m4_input.specs.Input.{Held};
+ghost use Rattle.m4_input.specs.Input.{Held, answer_of};
 ghost use Rattle.m4_input.specs.Pending.{Pending, line_of, consumed};
-ghost use Rattle.m4_engine.specs.Engine.{Moves, IsReady, Stays, with_made, ending_argument, telling, counting, calls_text, nested_text, is_deep_in, IfHead, mode_of, close_in, step, here_of, outer_of, called_within};
+ghost use Rattle.m4_engine.specs.Engine.{Moves, IsFront, IsReady, Stays, with_made, ending_argument, telling, counting, calls_text, nested_text, is_deep_in, IfHead, mode_of, close_in, step, here_of, outer_of, called_within};
 ghost use Rattle.m4_builtins.specs.Act.{IsPushed};
 ghost use Rattle.m4_engine.specs.Nesting.{Closed};
 ghost use Rattle.m4_engine.specs.Expansion.{Expansion, reading};
@@ -19,8 +20,9 @@ use crate::machine::Machine;
 use crate::role::Role;
 use crate::turned::{TurnFault, Turned};
 use itoa::Buffer;
-use m4_builtins::act::{act, dropped_message, error_message};
+use m4_builtins::act::act;
 use m4_builtins::effect::Effect;
+use m4_builtins::messages::{dropped_message, error_message};
 use m4_builtins::place::Place;
 use m4_input::delims::Delims;
 use m4_input::fault::InputFault;
@@ -268,5 +270,52 @@ impl Machine {
         self.take_parenthesis(input, reader)?;
         self.begin(call)?;
         Ok(Turned::GoesOn)
+    }
+
+    /// A name: a call, where it has a definition that is recognised here, else text.
+    fn take_name<R: ByteSource>(&mut self, name: Bytes, line: u64, input: &mut Input, reader: &mut R) -> Result<Turned, TurnFault>
+        requires ready { IsReady input.old }
+        requires taken { input.old.pending.definition ≡ None }
+        ensures moves { IfOk result (λ t. (before : Pending) → line ≡ line_of before
+            → before.file ≡ input.old.pending.file → Moves self.new input.new.pending t
+            (λ o m. step (outer_of self.old.open_calls)
+                (take_name (top_of self.old.state name) name input.old.pending (here_of o m self.old before)))) }
+        ensures ready { result ≡ Ok Turned.GoesOn → Stays input.old input.new }
+    {
+        let Some(definition) = self.definition(name.as_slice())? else {
+            self.put_text(name.as_slice())?;
+            return Ok(Turned::GoesOn);
+        };
+        let listed = self.sees_list(input, reader)?;
+        if !listed && needs_list(&definition) {
+            self.put_text(name.as_slice())?;
+            return Ok(Turned::GoesOn);
+        }
+        let file = Bytes::from_slice(self.alloc, input.name())?;
+        let call = OpenCall::new(self.alloc, definition, name, Place { file, line });
+        self.take_call(call, listed, input, reader)
+    }
+
+    /// The definition on top of a name.
+    fn definition(&self, name: &[u8]) -> Result<Option<Def>, AllocError>
+        ensures value { IfOk result (λ d. d ≡ top_of self.now.state name.now) }
+        ensures valid { IfOk result (λ d. IsFront d) }
+    {
+        let _in_order = self.state.current();
+        match self.state.top(name) {
+            None => Ok(None),
+            Some(definition) => Ok(Some(definition.share()?)),
+        }
+    }
+
+    /// Whether an argument list follows.
+    fn sees_list<R: ByteSource>(&self, input: &mut Input, reader: &mut R) -> Result<bool, TurnFault>
+        requires ready { IsReady input.old }
+        ensures answer { IfOk result (λ b.
+            paren_at self.now.state.quotes self.now.state.comments input.old.pending ≡ answer_of b) }
+        ensures unchanged { OnOk result (input.new ≡ input.old) }
+    {
+        let listed = input.sees_paren(reader, &Delims::of(&self.state))?;
+        Ok(listed)
     }
 }

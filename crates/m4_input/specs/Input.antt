@@ -125,6 +125,14 @@ SkipGives before behind old new (Ok done) =
 SkipGives before behind old new (Err fault) =
     (x : List ℕ) × Stopped fault before behind old new x
 
+-- the reader is read to its end
+abbrev pub WholeGives : Option Script → Option Script → Held → Held → Result Unit InputFault → Type 0
+WholeGives before behind old new (Ok done) =
+    (x : List ℕ) × Reads before behind old.pending x new.pending
+    × ((new.pending).may_follow ≡ false) × (old.fault ≡ None) × (new.fault ≡ None)
+WholeGives before behind old new (Err fault) =
+    (x : List ℕ) × Stopped fault before behind old new x
+
 -- a reader's failures behind a call: one more where the call met the first fault of the reader
 abbrev pub failures_behind : Option InputFault → Option InputFault → ℕ → ℕ
 failures_behind None (Some faults.Read) n = one_more n

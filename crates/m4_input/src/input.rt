@@ -47,7 +47,7 @@ impl Model for Input {
 }
 
 impl Input {
-    ghost use Rattle.m4_input.specs.Input.{Held, unread_file, with_pushed, all_read, NextGives, ParenGives, SkipGives, failures_behind};
+    ghost use Rattle.m4_input.specs.Input.{Held, unread_file, with_pushed, all_read, NextGives, ParenGives, SkipGives, WholeGives, failures_behind};
     ghost use Rattle.m4_input.specs.InputView.{IsLasting, unread_again, fault_of, Fills, Takes};
 
     /// A file that is read from its start.
@@ -186,6 +186,19 @@ impl Input {
     {
         self.fault = Some(fault);
         fault
+    }
+
+    /// Reads the file whole, so that no later call asks the reader. Answers `Read` where the reader
+    /// fails, `OutOfMemory` where a growth is refused, and from then on the same.
+    pub fn read_whole<R: ByteSource>(&mut self, reader: &mut R) -> Result<(), InputFault>
+        // exact steps: all that the reader gives
+        ensures gives { WholeGives (R.script reader.old) (R.script reader.new) self.old self.new result }
+        ensures counted { R.failures reader.new ≡ failures_behind self.old.fault self.new.fault (R.failures reader.old) }
+    {
+        if let Some(fault) = self.fault {
+            return Err(fault);
+        }
+        self.fill(reader)
     }
 
     /// Reads the reader to its end, unless that is done.
