@@ -25,3 +25,4 @@ pub mod Acts
 pub mod Taken
 pub mod Calling
 pub mod Named
+pub mod Turning

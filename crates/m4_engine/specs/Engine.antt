@@ -9,12 +9,14 @@ use Rattle.m4_builtins.specs.declared.place.Place.{Place}
 use Rattle.m4_builtins.specs.Messages.{dropped}
 use Rattle.m4_engine.specs.Expansion.{Call, Limits, RunSoFar, Mode, Outside, Collecting, Kept, Expansion, Ended, Ends, issued}
 use Rattle.m4_state.specs.Definition.{IsDefinition}
+use Rattle.m4_input.specs.declared.token.Token.{Token}
+use Rattle.m4_input.specs.declared.token.Token.TheVariants.{Definition}
 use Rattle.m4_input.specs.Input.{Held}
 use Rattle.m4_engine.specs.declared.turned.Turned.{Turned}
 use Rattle.m4_engine.specs.declared.turned.Turned.TheVariants as turns
 use Rattle.m4_engine.specs.Args.{dropped_if_any, with_argument, end_argument}
 use Rattle.m4_engine.specs.Nesting.{Turn, GoOn, Close, Halted}
-use Rattle.m4_engine.specs.OpenCalls.{Stacked, Move, Stops, Goes, pop, take_turn}
+use Rattle.m4_engine.specs.OpenCalls.{Stacked, Move, Stops, Goes, pop, take_turn, move}
 use Rattle.m4_engine.specs.Expand.{turn, join, called, with_saved}
 use Rattle.std.specs.List.{AllByRecursion}
 use Rattle.m4_builtins.specs.Args.{IsArg}
@@ -180,3 +182,12 @@ calls_text n = codes "more than " ++ decimal n ++ codes " calls"
 
 abbrev pub nested_text : ℕ → List ℕ
 nested_text n = codes "more than " ++ decimal n ++ codes " nested calls"
+
+-- a definition that is a token is in order
+abbrev pub IsToken : Token → Type 0
+IsToken (Definition d) = IsDefinition d
+IsToken t = Unit {0}
+
+-- one move of the definitions' machine
+abbrev pub moved : Stacked Expansion Kept → Move Expansion Kept Ended
+moved c = move Expansion Kept Ended turn join c

@@ -5,14 +5,15 @@ ghost use Rattle.std.specs.Prelude.{◌≡◌, ◌<◌, nat_lt, suc, [], ◌∷�
 ghost use Rattle.std.specs.Fmt.{decimal};
 ghost use Rattle.m4_state.specs.State.{top_of};
 ghost use Rattle.m4_input.specs.Paren.{paren_at};
+ghost use Rattle.m4_input.specs.Token.{Refused};
 ghost use Rattle.m4_builtins.specs.Messages.{error};
 ghost use Rattle.m4_input.specs.Input.{Held, answer_of};
 ghost use Rattle.m4_input.specs.Pending.{Pending, line_of, consumed};
-ghost use Rattle.m4_engine.specs.Engine.{Moves, IsFront, IsReady, Stays, with_made, ending_argument, telling, counting, calls_text, nested_text, is_deep_in, IfHead, mode_of, close_in, step, here_of, outer_of, called_within};
+ghost use Rattle.m4_engine.specs.Engine.{Moves, IsFront, IsToken, IsReady, moved, configuration, Stays, with_made, ending_argument, telling, counting, calls_text, nested_text, is_deep_in, IfHead, mode_of, close_in, step, here_of, outer_of, called_within};
 ghost use Rattle.m4_builtins.specs.Act.{IsPushed};
 ghost use Rattle.m4_engine.specs.Nesting.{Closed};
 ghost use Rattle.m4_engine.specs.Expansion.{Expansion, reading};
-ghost use Rattle.m4_engine.specs.Expand.{skip_or_push, take_name, take_other, take_end, call as call_turn, call_of, needs_list};
+ghost use Rattle.m4_engine.specs.Expand.{skip_or_push, take_token, take_front, take_name, take_other, take_end, call as call_turn, call_of, needs_list};
 
 use crate::call::OpenCall;
 use crate::ending::Cause;
@@ -26,7 +27,7 @@ use m4_builtins::messages::{dropped_message, error_message};
 use m4_builtins::place::Place;
 use m4_input::delims::Delims;
 use m4_input::fault::InputFault;
-use m4_input::front::Answer;
+use m4_input::front::{Answer, Unended};
 use m4_input::input::Input;
 use m4_input::pushed::Pushed;
 use m4_input::token::Token;
@@ -66,8 +67,9 @@ fn read_on<R: ByteSource>(input: &mut Input, reader: &mut R, skip: bool, push: O
 impl Machine {
     /// The end of the input.
     fn take_end(&mut self) -> Result<Turned, TurnFault>
-        ensures { IfOk result (λ t. (p : Pending) → Moves self.new p t
-            (λ o m. step (outer_of self.old.open_calls) (take_end (here_of o m self.old p).mode (here_of o m self.old p)))) }
+        ensures { IfOk result (λ t. (before p : Pending) → Moves self.new p t
+            (λ o m. step (outer_of self.old.open_calls)
+                (take_end (mode_of self.old.open_calls) (here_of o m self.old before)))) }
     {
         let Some(call) = &self.innermost else {
             return Ok(Turned::Ends(Cause::Done));
@@ -317,5 +319,63 @@ impl Machine {
     {
         let listed = input.sees_paren(reader, &Delims::of(&self.state))?;
         Ok(listed)
+    }
+
+    /// A token, which is taken already.
+    fn take_token<R: ByteSource>(&mut self, token: Token, line: u64, input: &mut Input, reader: &mut R) -> Result<Turned, TurnFault>
+        requires ready { IsReady input.old }
+        requires taken { input.old.pending.definition ≡ None }
+        requires front { IsToken token }
+        ensures moves { IfOk result (λ t. (before : Pending) → line ≡ line_of before
+            → before.file ≡ input.old.pending.file → Moves self.new input.new.pending t
+            (λ o m. step (outer_of self.old.open_calls)
+                (take_token token input.old.pending (here_of o m self.old before)))) }
+        ensures ready { result ≡ Ok Turned.GoesOn → Stays input.old input.new }
+    {
+        match token {
+            Token::Name(name) => return self.take_name(name, line, input, reader),
+            Token::Byte(byte) => return self.take_byte(byte, input, reader),
+            Token::End => return self.take_end(),
+            Token::Str(text) | Token::Comment(text) => self.put_text(text.as_slice())?,
+            Token::Definition(definition) => self.put_token(definition)?,
+        }
+        Ok(Turned::GoesOn)
+    }
+
+    /// A string or a comment that has no end.
+    fn take_unended(&mut self, what: Unended, line: u64, input: &Input) -> Result<Turned, TurnFault>
+        ensures { IfOk result (λ t. (before p : Pending) → before.file ≡ input.now.pending.file
+            → Moves self.new p t (λ o m. step (outer_of self.old.open_calls)
+                (take_front (Refused what line) (here_of o m self.old before)))) }
+    {
+        let file = Bytes::from_slice(self.alloc, input.name())?;
+        let place = Place { file, line };
+        match what {
+            Unended::InString => {
+                self.tell_error(&place, b"end of input in string")?;
+                Ok(Turned::Ends(Cause::EndInString))
+            }
+            Unended::InComment => {
+                self.tell_error(&place, b"end of input in comment")?;
+                Ok(Turned::Ends(Cause::EndInComment))
+            }
+        }
+    }
+
+    /// One turn: the first token of what is pending, and what it does.
+    pub fn turn<R: ByteSource>(&mut self, input: &mut Input, reader: &mut R) -> Result<Turned, TurnFault>
+        requires { IsReady input.old }
+        ensures moves { IfOk result (λ t. Moves self.new input.new.pending t
+            (λ o m. moved (configuration o m self.old input.old.pending))) }
+        ensures ready { result ≡ Ok Turned.GoesOn → IsReady input.new }
+    {
+        let line = input.line();
+        let front = input.next(reader, &Delims::of(&self.state));
+        match front {
+            Ok(token) => self.take_token(token, line, input, reader),
+            Err(InputFault::EndInString { line }) => self.take_unended(Unended::InString, line, input),
+            Err(InputFault::EndInComment { line }) => self.take_unended(Unended::InComment, line, input),
+            Err(fault) => Err(TurnFault::from(fault)),
+        }
     }
 }
