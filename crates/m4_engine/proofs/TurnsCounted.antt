@@ -22,6 +22,19 @@ abbrev pub count_of : {S D : Type 0} → Outcome (S × ℕ) (D × ℕ) → ℕ
 count_of (Halted d) = d.1
 count_of (Closed s) = s.1
 
+-- Two places are alike where R says so. A turn beside another: both end, or both go on at places that are alike.
+module _ (S F D : Type 0) (R : S → S → Type 0) where
+  pub AlikeTurns : Turn S F D → Turn S F D → Type 0
+  AlikeTurns (Halt d) w = (e : D) × (w ≡ Halt e)
+  AlikeTurns (Close u) w = (v : S) × (w ≡ Close v) × R u v
+  AlikeTurns (GoOn u) w = (v : S) × (w ≡ GoOn v) × R u v
+  AlikeTurns (Bare u) w = (v : S) × (w ≡ Bare v) × R u v
+  AlikeTurns (Opens f u) w = (v : S) × (w ≡ Opens f v) × R u v
+
+  pub AlikeOuts : Outcome S D → Outcome S D → Type 0
+  AlikeOuts (Halted d) w = (e : D) × (w ≡ Halted e)
+  AlikeOuts (Closed u) w = (v : S) × (w ≡ Closed v) × R u v
+
 module _ (S F D : Type 0) (turn : S → Turn S F D) (join : F → S → Outcome S D) (spent : S → D) (size left : S → ℕ) (falls : Falls S F D turn join size left) where
   abbrev turn' : S × ℕ → Turn (S × ℕ) F (D × ℕ)
   turn' s = counted_turn (suc s.1) (turn s.0)
@@ -181,3 +194,72 @@ module _ (S F D : Type 0) (turn : S → Turn S F D) (join : F → S → Outcome 
   -- each move takes one turn
   pub turns_fall : (c c' : Stacked S F) → move S F D turn join c ≡ Goes c' → turns_left c' + 1 ≡ turns_left c
   turns_fall c c' e = falls_at c c' (move S F D turn join c) _ e (turn_counts c.outer (turn c.here)) (move_keeps (S × ℕ) F (D × ℕ) turn' join' spent' size' left' falls' (record { outer = c.outer; here = (c.here, 0) }))
+
+  -- two machines whose turns go alike have the same count of turns left
+  module _ (R : S → S → Type 0) (alike : (s t : S) → R s t → AlikeTurns S F D R (turn s) (turn t)) (alike_out : (f : F) (u w : S) → R u w → AlikeOuts S F D R (join f u) (join f w)) where
+    abbrev R' : S × ℕ → S × ℕ → Type 0
+    R' s t = R s.0 t.0 × (t.1 ≡ s.1)
+
+    abbrev Q' : D × ℕ → Outcome (S × ℕ) (D × ℕ) → Type 0
+    Q' d o = (e : D) × (o ≡ Halted (e, d.1))
+
+    met : (s t : S × ℕ) (v : Turn S F D) → R' s t → turn s.0 ≡ v → AlikeTurns S F D R v (turn t.0)
+    met s t v r e = subst (λ x. AlikeTurns S F D R x (turn t.0)) e (alike s.0 t.0 r.0)
+
+    met_out : (f g : F) (u w : S × ℕ) (v : Outcome S D) → g ≡ f → R' u w → join f u.0 ≡ v → AlikeOuts S F D R v (join g w.0)
+    met_out f g u w v q r e = subst (λ (a : F). AlikeOuts S F D R v (join a w.0)) (sym q) (subst (λ x. AlikeOuts S F D R x (join f w.0)) e (alike_out f u.0 w.0 r.0))
+
+    beside : Follows (S × ℕ) F (D × ℕ) turn' join' whole' R' (λ f g. g ≡ f) Q'
+    unfolding Tells TellsOut AlikeTurns AlikeOuts
+    beside = record {
+      halt = λ s t d r e.
+          let h = told s (Halt d) e in
+          let k = met s t (Halt d.0) r h.0 in
+          (
+            k.0,
+            expansion_is (S × ℕ) F (D × ℕ) turn' join' spent' size' left' falls' t
+            ∙ ap (after (S × ℕ) F (D × ℕ) join' whole' whole') (ap (counted_turn (suc t.1)) k.1)
+            ∙ ap (λ (n : ℕ). Halted (k.0, n)) (ap suc r.1 ∙ sym h.1),
+          );
+      close = λ s t u r e. let h = told s (Close u) e in let k = met s t (Close u.0) r h.0 in ((k.0, suc t.1), ap (counted_turn (suc t.1)) k.1, (k.2, ap suc r.1 ∙ sym h.1));
+      go_on = λ s t u r e. let h = told s (GoOn u) e in let k = met s t (GoOn u.0) r h.0 in ((k.0, suc t.1), ap (counted_turn (suc t.1)) k.1, (k.2, ap suc r.1 ∙ sym h.1));
+      bare = λ s t u r e. let h = told s (Bare u) e in let k = met s t (Bare u.0) r h.0 in ((k.0, suc t.1), ap (counted_turn (suc t.1)) k.1, (k.2, ap suc r.1 ∙ sym h.1));
+      opens = λ s t u f r e. let h = told s (Opens f u) e in let k = met s t (Opens f u.0) r h.0 in (f, (k.0, suc t.1), ap (counted_turn (suc t.1)) k.1, refl, (k.2, ap suc r.1 ∙ sym h.1));
+      join_halt = λ f g u w d q r e.
+          let h = told_out f u (Halted d) e in
+          let k = met_out f g u w (Halted d.0) q r h.0 in
+          (k.0, ap (λ o. then_on o whole') (ap (counted_outcome w.1) k.1) ∙ ap (λ (n : ℕ). Halted (k.0, n)) (r.1 ∙ sym h.1));
+      joins = λ f g u w v q r e. let h = told_out f u (Closed v) e in let k = met_out f g u w (Closed v.0) q r h.0 in ((k.0, w.1), ap (counted_outcome w.1) k.1, (k.2, r.1 ∙ sym h.1));
+      later = λ d o f q. (q.0, ap (λ p. then_on (then_on p (join' f)) whole') q.1);
+    }
+
+    abbrev FitsAlike : Outcome (S × ℕ) (D × ℕ) → Outcome (S × ℕ) (D × ℕ) → Type 0
+    FitsAlike = Fits (S × ℕ) (D × ℕ) R' Q'
+
+    alike_is : (o p : Outcome (S × ℕ) (D × ℕ)) → FitsAlike o p → count_of p ≡ count_of o
+    alike_is (Halted d) p f = ap count_of f.1
+    alike_is (Closed s) p f = ap count_of f.1 ∙ f.2.1
+
+    whole_alike : (s t : S × ℕ) → R' s t → FitsAlike (whole' s) (whole' t)
+    whole_alike s t r = expansion_fits (S × ℕ) F (D × ℕ) turn' join' spent' size' left' falls' R' (λ f g. g ≡ f) Q' beside s t r
+
+    follow_alike : (o p : Outcome (S × ℕ) (D × ℕ)) → FitsAlike o p → FitsAlike (then_on o whole') (then_on p whole')
+    follow_alike (Halted d) p f = (f.0, ap (λ q. then_on q whole') f.1)
+    follow_alike (Closed s) p f = subst (FitsAlike (whole' s)) (sym (ap (λ q. then_on q whole') f.1)) (whole_alike s f.0 f.2)
+
+    join_alike : (g : F) (o p : Outcome (S × ℕ) (D × ℕ)) → FitsAlike o p → FitsAlike (then_on o (join' g)) (then_on p (join' g))
+    unfolding AlikeOuts
+    join_alike g (Halted d) p f = (f.0, ap (λ q. then_on q (join' g)) f.1)
+    join_alike g (Closed t) p f =
+        subst (FitsAlike (join' g t)) (sym (ap (λ q. then_on q (join' g)) f.1))
+        ((elim (join g t.0) as (λ v. AlikeOuts S F D R v (join g f.0.0) → FitsAlike (counted_outcome t.1 v) (counted_outcome f.0.1 (join g f.0.0))) [
+          | Halted d ↦ λ k. (k.0, ap (counted_outcome f.0.1) k.1 ∙ ap (λ (n : ℕ). Halted (k.0, n)) f.2.1)
+          | Closed u ↦ λ k. ((k.0, f.0.1), ap (counted_outcome f.0.1) k.1, (k.2, f.2.1))
+        ]) (alike_out g t.0 f.0.0 f.2.0))
+
+    resume_alike : (fs : List F) (o p : Outcome (S × ℕ) (D × ℕ)) → FitsAlike o p → FitsAlike (resume' fs o) (resume' fs p)
+    resume_alike [] o p f = f
+    resume_alike (g ∷ fs) o p f = resume_alike fs _ _ (follow_alike _ _ (join_alike g o p f))
+
+    pub same_turns : (fs : List F) (s t : S) → R s t → turns_left (record { outer = fs; here = t }) ≡ turns_left (record { outer = fs; here = s })
+    same_turns fs s t r = alike_is _ _ (resume_alike fs (whole' (s, 0)) (whole' (t, 0)) (whole_alike (s, 0) (t, 0) (r, refl)))
