@@ -26,3 +26,4 @@ pub mod Taken
 pub mod Calling
 pub mod Named
 pub mod Turning
+pub mod Driver

@@ -36,25 +36,25 @@ behind_record o m c r = record r { output = o ++ r.output; messages = m ++ r.mes
 -- `calls` and `nesting`; the second starts with none, and its limits are as large or larger. `Limit`
 -- says at which ends nothing is claimed of the second: at those of a limit that is not the same.
 module _ (o m : List ℕ) (c calls calls' nesting nesting' : ℕ) (room : (k : ℕ) → c + k < calls → k < calls') (depth : (k : ℕ) → (nat_lt 0 nesting && nat_lt nesting k) ≡ false → (nat_lt 0 nesting' && nat_lt nesting' k) ≡ false) (Limit : How → Type 0) (at_calls : Limit (Ends causes.ExpansionLimit) ⊎ ((c ≡ 0) × (calls ≡ calls'))) (at_nesting : Limit (Ends causes.NestingLimit) ⊎ (nesting ≡ nesting')) where
-  abbrev B : Expansion → Expansion
+  abbrev pub B : Expansion → Expansion
   B s = record s { limits = record s.limits { calls = calls; nesting = nesting }; so_far = behind_record o m c s.so_far }
 
   -- the second run has the larger limits
-  abbrev HasLimits : Expansion → Type 0
+  abbrev pub HasLimits : Expansion → Type 0
   HasLimits s = ((s.limits).calls ≡ calls') × ((s.limits).nesting ≡ nesting')
 
   abbrev Bd : Ended → Ended
   Bd d = record { so_far = behind_record o m c d.so_far; how = d.how }
 
   -- what the first run's turn says of the second's
-  Meets : Turn Expansion Kept Ended → Turn Expansion Kept Ended → Type 0
+  unfoldable pub Meets : Turn Expansion Kept Ended → Turn Expansion Kept Ended → Type 0
   Meets (Halt d) w = Limit d.how ⊎ ((e : Ended) × (w ≡ Halt e) × (d ≡ Bd e))
   Meets (Close u) w = (v : Expansion) × (w ≡ Close v) × (u ≡ B v) × HasLimits v
   Meets (GoOn u) w = (v : Expansion) × (w ≡ GoOn v) × (u ≡ B v) × HasLimits v
   Meets (Bare u) w = (v : Expansion) × (w ≡ Bare v) × (u ≡ B v) × HasLimits v
   Meets (Opens f u) w = (v : Expansion) × (w ≡ Opens f v) × (u ≡ B v) × HasLimits v
 
-  MeetsOut : Outcome Expansion Ended → Outcome Expansion Ended → Type 0
+  unfoldable pub MeetsOut : Outcome Expansion Ended → Outcome Expansion Ended → Type 0
   MeetsOut (Halted d) w = Limit d.how ⊎ ((e : Ended) × (w ≡ Halted e) × (d ≡ Bd e))
   MeetsOut (Closed u) w = (v : Expansion) × (w ≡ Closed v) × (u ≡ B v) × HasLimits v
 
@@ -224,10 +224,10 @@ module _ (o m : List ℕ) (c calls calls' nesting nesting' : ℕ) (room : (k : �
   on_seen_meets (Refused f n) s l = inr (_, refl, ap (λ (r : RunSoFar). let d : Ended = record { so_far = r; how = Ends (unended_cause f) } in d) (told_behind _ s.so_far))
   on_seen_meets More s l = inr (_, refl, refl)
 
-  turn_meets : (s : Expansion) → HasLimits s → Meets (turn (B s)) (turn s)
+  pub turn_meets : (s : Expansion) → HasLimits s → Meets (turn (B s)) (turn s)
   turn_meets s l = on_seen_meets (token_at ((s.so_far).state).quotes ((s.so_far).state).comments s.pending) s l
 
-  join_meets : (h : Mode) (f : Kept) (t : Expansion) → HasLimits t → MeetsOut (join_by h f (B t)) (join_by h f t)
+  pub join_meets : (h : Mode) (f : Kept) (t : Expansion) → HasLimits t → MeetsOut (join_by h f (B t)) (join_by h f t)
   unfolding MeetsOut
   join_meets Outside f t l = (_, refl, refl, l)
   join_meets (Collecting k) f t l = called_meets k t f l

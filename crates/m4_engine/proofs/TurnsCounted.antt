@@ -24,14 +24,14 @@ count_of (Closed s) = s.1
 
 -- Two places are alike where R says so. A turn beside another: both end, or both go on at places that are alike.
 module _ (S F D : Type 0) (R : S → S → Type 0) where
-  pub AlikeTurns : Turn S F D → Turn S F D → Type 0
+  unfoldable pub AlikeTurns : Turn S F D → Turn S F D → Type 0
   AlikeTurns (Halt d) w = (e : D) × (w ≡ Halt e)
   AlikeTurns (Close u) w = (v : S) × (w ≡ Close v) × R u v
   AlikeTurns (GoOn u) w = (v : S) × (w ≡ GoOn v) × R u v
   AlikeTurns (Bare u) w = (v : S) × (w ≡ Bare v) × R u v
   AlikeTurns (Opens f u) w = (v : S) × (w ≡ Opens f v) × R u v
 
-  pub AlikeOuts : Outcome S D → Outcome S D → Type 0
+  unfoldable pub AlikeOuts : Outcome S D → Outcome S D → Type 0
   AlikeOuts (Halted d) w = (e : D) × (w ≡ Halted e)
   AlikeOuts (Closed u) w = (v : S) × (w ≡ Closed v) × R u v
 

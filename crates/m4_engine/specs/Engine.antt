@@ -191,3 +191,7 @@ IsToken t = Unit {0}
 -- one move of the definitions' machine
 abbrev pub moved : Stacked Expansion Kept → Move Expansion Kept Ended
 moved c = move Expansion Kept Ended turn join c
+
+-- what was put out is handed on
+abbrev pub handed_on : Engine → Engine
+handed_on e = record e { output = []; messages = [] }

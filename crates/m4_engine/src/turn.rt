@@ -67,9 +67,10 @@ fn read_on<R: ByteSource>(input: &mut Input, reader: &mut R, skip: bool, push: O
 impl Machine {
     /// The end of the input.
     fn take_end(&mut self) -> Result<Turned, TurnFault>
-        ensures { IfOk result (λ t. (before p : Pending) → Moves self.new p t
+        ensures moves { IfOk result (λ t. (before p : Pending) → Moves self.new p t
             (λ o m. step (outer_of self.old.open_calls)
                 (take_end (mode_of self.old.open_calls) (here_of o m self.old before)))) }
+        ensures limits { OnOk result (self.new.limits ≡ self.old.limits) }
     {
         let Some(call) = &self.innermost else {
             return Ok(Turned::Ends(Cause::Done));
@@ -109,6 +110,7 @@ impl Machine {
         ensures moves { IfOk result (λ t. Moves self.new input.new.pending t
             (λ o m. called_within self.old.open_calls call (here_of o m self.old input.old.pending))) }
         ensures ready { result ≡ Ok Turned.GoesOn → Stays input.old input.new }
+        ensures limits { OnOk result (self.new.limits ≡ self.old.limits) }
     {
         let (definition, args, place) = call.into_parts();
         let Effect {
@@ -150,6 +152,7 @@ impl Machine {
             (λ o m. step (outer_of self.old.open_calls)
                 (take_other (mode_of self.old.open_calls) byte (here_of o m self.old input.old.pending)))) }
         ensures ready { result ≡ Ok Turned.GoesOn → Stays input.old input.new }
+        ensures limits { OnOk result (self.new.limits ≡ self.old.limits) }
     {
         let Some(call) = &mut self.innermost else {
             self.put_text(&[byte])?;
@@ -176,6 +179,7 @@ impl Machine {
             (λ o m. step (outer_of self.old.open_calls)
                 (close_in self.old.open_calls (here_of o m self.old input.old.pending)))) }
         ensures ready { result ≡ Ok Turned.GoesOn → Stays input.old input.new }
+        ensures limits { OnOk result (self.new.limits ≡ self.old.limits) }
     {
         self.end_argument()?;
         let Some(call) = self.close() else {
@@ -256,6 +260,7 @@ impl Machine {
         ensures moves { IfOk result (λ t. (before : Pending) → Moves self.new input.new.pending t
             (λ o m. step (outer_of self.old.open_calls) (call_turn listed call input.old.pending (here_of o m self.old before)))) }
         ensures ready { result ≡ Ok Turned.GoesOn → Stays input.old input.new }
+        ensures limits { OnOk result (self.new.limits ≡ self.old.limits) }
     {
         if !self.has_room() {
             self.refuse_calls(&call)?;
@@ -283,6 +288,7 @@ impl Machine {
             (λ o m. step (outer_of self.old.open_calls)
                 (take_name (top_of self.old.state name) name input.old.pending (here_of o m self.old before)))) }
         ensures ready { result ≡ Ok Turned.GoesOn → Stays input.old input.new }
+        ensures limits { OnOk result (self.new.limits ≡ self.old.limits) }
     {
         let Some(definition) = self.definition(name.as_slice())? else {
             self.put_text(name.as_slice())?;
@@ -331,6 +337,7 @@ impl Machine {
             (λ o m. step (outer_of self.old.open_calls)
                 (take_token token input.old.pending (here_of o m self.old before)))) }
         ensures ready { result ≡ Ok Turned.GoesOn → Stays input.old input.new }
+        ensures limits { OnOk result (self.new.limits ≡ self.old.limits) }
     {
         match token {
             Token::Name(name) => return self.take_name(name, line, input, reader),
@@ -344,9 +351,10 @@ impl Machine {
 
     /// A string or a comment that has no end.
     fn take_unended(&mut self, what: Unended, line: u64, input: &Input) -> Result<Turned, TurnFault>
-        ensures { IfOk result (λ t. (before p : Pending) → before.file ≡ input.now.pending.file
+        ensures moves { IfOk result (λ t. (before p : Pending) → before.file ≡ input.now.pending.file
             → Moves self.new p t (λ o m. step (outer_of self.old.open_calls)
                 (take_front (Refused what line) (here_of o m self.old before)))) }
+        ensures limits { OnOk result (self.new.limits ≡ self.old.limits) }
     {
         let file = Bytes::from_slice(self.alloc, input.name())?;
         let place = Place { file, line };
@@ -368,6 +376,7 @@ impl Machine {
         ensures moves { IfOk result (λ t. Moves self.new input.new.pending t
             (λ o m. moved (configuration o m self.old input.old.pending))) }
         ensures ready { result ≡ Ok Turned.GoesOn → IsReady input.new }
+        ensures limits { OnOk result (self.new.limits ≡ self.old.limits) }
     {
         let line = input.line();
         let front = input.next(reader, &Delims::of(&self.state));

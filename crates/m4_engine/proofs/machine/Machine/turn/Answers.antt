@@ -13,9 +13,9 @@ returns-in-Ok-clause-moves g c =
 pub returns-in-Err-EndInString-clause-moves : goal.returns-in-Err-EndInString-clause-moves
 returns-in-Err-EndInString-clause-moves g c =
     let h = string_unended (pair_of c.of.result.quotes) (pair_of c.of.result.comments) _ _ c.args.input.now c.next-front.new.self c.next-front.result c.in-Err-EndInString.line c.requires (search rules) c.next-front.ensures.gives in
-    turn_unended c.args.self.now c.take_unended.new.self (pair_of c.of.result.quotes) (pair_of c.of.result.comments) InString c.in-Err-EndInString.line c.args.input.now.pending c.next-front.new.self.pending c.next-front.new.self.pending c.take_unended.result (search rules) (search rules) h.0 h.1 c.take_unended.ensures
+    turn_unended c.args.self.now c.take_unended.new.self (pair_of c.of.result.quotes) (pair_of c.of.result.comments) InString c.in-Err-EndInString.line c.args.input.now.pending c.next-front.new.self.pending c.next-front.new.self.pending c.take_unended.result (search rules) (search rules) h.0 h.1 c.take_unended.ensures.moves
 
 pub returns-in-Err-EndInComment-clause-moves : goal.returns-in-Err-EndInComment-clause-moves
 returns-in-Err-EndInComment-clause-moves g c =
     let h = comment_unended (pair_of c.of.result.quotes) (pair_of c.of.result.comments) _ _ c.args.input.now c.next-front.new.self c.next-front.result c.in-Err-EndInComment.line c.requires (search rules) c.next-front.ensures.gives in
-    turn_unended c.args.self.now c.take_unended-in-Err-EndInComment.new.self (pair_of c.of.result.quotes) (pair_of c.of.result.comments) InComment c.in-Err-EndInComment.line c.args.input.now.pending c.next-front.new.self.pending c.next-front.new.self.pending c.take_unended-in-Err-EndInComment.result (search rules) (search rules) h.0 h.1 c.take_unended-in-Err-EndInComment.ensures
+    turn_unended c.args.self.now c.take_unended-in-Err-EndInComment.new.self (pair_of c.of.result.quotes) (pair_of c.of.result.comments) InComment c.in-Err-EndInComment.line c.args.input.now.pending c.next-front.new.self.pending c.next-front.new.self.pending c.take_unended-in-Err-EndInComment.result (search rules) (search rules) h.0 h.1 c.take_unended-in-Err-EndInComment.ensures.moves

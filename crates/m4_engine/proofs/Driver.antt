@@ -1,0 +1,102 @@
+-- Driver: what the machine's loop keeps, and what falls at each of its turns.
+use Rattle.std.proofs.Common.{◌≡◌, ◌⊎◌, inl, inr, ⊎_elim, ℕ, ◌+◌, ◌<◌, Bool, true, false, List, [], ◌∷◌, ◌++◌, length, refl, sym, ap, ◌∙◌, subst, arith, append-nil}
+use Rattle.m4_input.specs.Pending.{Pending}
+use Rattle.m4_engine.specs.declared.ending.Cause.{Cause}
+use Rattle.m4_engine.specs.declared.turned.Turned.TheVariants as turns
+use Rattle.m4_engine.specs.Nesting.{Turn, Halt, Close, GoOn, Bare, Opens, Outcome, Halted, Closed}
+use Rattle.m4_engine.specs.OpenCalls.{Stacked, Move, Stops, Goes, meaning, moved_meaning}
+use Rattle.m4_engine.specs.Expansion.{Expansion, Kept, How, Ended, Ends}
+use Rattle.m4_engine.specs.Expand.{turn, join, spent_at, size_of, calls_left, expand}
+use Rattle.m4_engine.specs.Engine.{Engine, so_far_of, outer_of, here_of, configuration, handed_on, moved, Moves}
+use Rattle.m4_engine.proofs.CallsFall.{falls}
+use Rattle.m4_engine.proofs.MachineIsNesting.{move_keeps}
+use Rattle.m4_engine.proofs.Shifts.{B, HasLimits, Meets, MeetsOut, turn_meets, join_meets}
+use Rattle.m4_engine.proofs.TurnsCounted.{turns_left, turns_fall, AlikeTurns, AlikeOuts, same_turns}
+
+room_same : (calls k : ℕ) → 0 + k < calls → k < calls
+room_same calls k h = omega arith
+
+-- the same place, with output and messages in front
+module _ (o m : List ℕ) (calls nesting : ℕ) where
+  abbrev B' : Expansion → Expansion
+  B' = B o m 0 calls calls nesting nesting (room_same calls) (λ k h. h) (λ h. ⊥) (inr (refl, refl)) (inr refl)
+
+  abbrev HasLimits' : Expansion → Type 0
+  HasLimits' = HasLimits o m 0 calls calls nesting nesting (room_same calls) (λ k h. h) (λ h. ⊥) (inr (refl, refl)) (inr refl)
+
+  abbrev Meets' : Turn Expansion Kept Ended → Turn Expansion Kept Ended → Type 0
+  Meets' = Meets o m 0 calls calls nesting nesting (room_same calls) (λ k h. h) (λ h. ⊥) (inr (refl, refl)) (inr refl)
+
+  abbrev MeetsOut' : Outcome Expansion Ended → Outcome Expansion Ended → Type 0
+  MeetsOut' = MeetsOut o m 0 calls calls nesting nesting (room_same calls) (λ k h. h) (λ h. ⊥) (inr (refl, refl)) (inr refl)
+
+  -- s is t with these in front
+  abbrev Behind : Expansion → Expansion → Type 0
+  Behind s t = (s ≡ B' t) × HasLimits' t
+
+  alike_of : (v w : Turn Expansion Kept Ended) → Meets' v w → AlikeTurns Expansion Kept Ended Behind v w
+  unfolding Meets AlikeTurns
+  alike_of (Halt d) w (inl h) = absurd h
+  alike_of (Halt d) w (inr h) = (h.0, h.1)
+  alike_of (Close u) w h = (h.0, h.1, (h.2, h.3))
+  alike_of (GoOn u) w h = (h.0, h.1, (h.2, h.3))
+  alike_of (Bare u) w h = (h.0, h.1, (h.2, h.3))
+  alike_of (Opens f u) w h = (h.0, h.1, (h.2, h.3))
+
+  alike_out_of : (v w : Outcome Expansion Ended) → MeetsOut' v w → AlikeOuts Expansion Kept Ended Behind v w
+  unfolding MeetsOut AlikeOuts
+  alike_out_of (Halted d) w (inl h) = absurd h
+  alike_out_of (Halted d) w (inr h) = (h.0, h.1)
+  alike_out_of (Closed u) w h = (h.0, h.1, (h.2, h.3))
+
+  alike : (s t : Expansion) → Behind s t → AlikeTurns Expansion Kept Ended Behind (turn s) (turn t)
+  alike s t r =
+      subst (λ (x : Expansion). AlikeTurns Expansion Kept Ended Behind (turn x) (turn t)) (sym r.0)
+      (alike_of (turn (B' t)) (turn t) (turn_meets o m 0 calls calls nesting nesting (room_same calls) (λ k h. h) (λ h. ⊥) (inr (refl, refl)) (inr refl) t r.1))
+
+  alike_out : (f : Kept) (u w : Expansion) → Behind u w → AlikeOuts Expansion Kept Ended Behind (join f u) (join f w)
+  alike_out f u w r =
+      subst (λ (x : Expansion). AlikeOuts Expansion Kept Ended Behind (join f x) (join f w)) (sym r.0)
+      (alike_out_of (join f (B' w)) (join f w) (join_meets o m 0 calls calls nesting nesting (room_same calls) (λ k h. h) (λ h. ⊥) (inr (refl, refl)) (inr refl) w.mode f w r.1))
+
+-- how many turns a machine still has
+abbrev pub turns_of : Engine → Pending → ℕ
+turns_of e p = turns_left Expansion Kept Ended turn join spent_at size_of calls_left falls (configuration [] [] e p)
+
+-- what was put out is handed on
+still_behind : (e : Engine) (p : Pending) → here_of [] [] e p ≡ B' e.output e.messages (e.limits).calls (e.limits).nesting (here_of [] [] (handed_on e) p)
+still_behind e p =
+    let n : 0 + e.calls ≡ e.calls = omega arith in
+    rw (append-nil e.output, append-nil e.messages, n) refl
+
+same_left : (e : Engine) (p : Pending) → turns_of (handed_on e) p ≡ turns_of e p
+same_left e p =
+    same_turns Expansion Kept Ended turn join spent_at size_of calls_left falls
+    (Behind e.output e.messages (e.limits).calls (e.limits).nesting)
+    (alike e.output e.messages (e.limits).calls (e.limits).nesting)
+    (alike_out e.output e.messages (e.limits).calls (e.limits).nesting)
+    (outer_of e.open_calls) (here_of [] [] e p) (here_of [] [] (handed_on e) p) (still_behind e p, (refl, refl))
+
+-- a move takes a turn
+pub move_falls : (e e' : Engine) (p p' : Pending) → Moves e' p' turns.GoesOn (λ o m. moved (configuration o m e p)) → turns_of (handed_on e') p' < turns_of e p
+move_falls e e' p p' h =
+    let f : turns_of e' p' + 1 ≡ turns_of e p = turns_fall Expansion Kept Ended turn join spent_at size_of calls_left falls (configuration [] [] e p) (configuration [] [] e' p') (h [] []) in
+    let g : turns_of (handed_on e') p' ≡ turns_of e' p' = same_left e' p' in
+    omega arith
+
+-- what a machine comes to, where so much was handed on
+abbrev pub meaning_of : List ℕ → List ℕ → Engine → Pending → Outcome Expansion Ended
+meaning_of o m e p = meaning Expansion Kept Ended turn join expand (configuration o m e p)
+
+-- a move changes nothing of it
+pub move_means : (e e' : Engine) (p p' : Pending) (o m : List ℕ) → Moves e' p' turns.GoesOn (λ o m. moved (configuration o m e p)) → meaning_of (o ++ e'.output) (m ++ e'.messages) (handed_on e') p' ≡ meaning_of o m e p
+move_means e e' p p' o m h =
+    (rw (append-nil (o ++ e'.output), append-nil (m ++ e'.messages)) refl)
+    ∙ ap (moved_meaning Expansion Kept Ended turn join expand) (sym (h o m))
+    ∙ move_keeps Expansion Kept Ended turn join spent_at size_of calls_left falls (configuration o m e p)
+
+-- the end is what it came to
+pub end_means : (e e' : Engine) (p p' : Pending) (o m : List ℕ) (cause : Cause) → Moves e' p' (turns.Ends cause) (λ o m. moved (configuration o m e p)) → meaning_of o m e p ≡ Halted (record { so_far = so_far_of o m e'; how = Ends cause })
+end_means e e' p p' o m cause h =
+    sym (move_keeps Expansion Kept Ended turn join spent_at size_of calls_left falls (configuration o m e p))
+    ∙ ap (moved_meaning Expansion Kept Ended turn join expand) (h o m)
