@@ -26,4 +26,6 @@ pub mod Taken
 pub mod Calling
 pub mod Named
 pub mod Turning
-pub mod Driver
+pub mod LoopKeeps
+pub mod Begins
+pub mod Running

@@ -13,3 +13,4 @@ pub mod Laws
 pub mod CallView
 pub mod Engine
 pub mod MachineView
+pub mod Expands

@@ -5,6 +5,7 @@
 #![tactic(auto)]
 
 pub mod call;
+pub mod driver;
 pub mod ending;
 pub mod laws;
 pub mod machine;

@@ -1,4 +1,4 @@
--- Driver: what the machine's loop keeps, and what falls at each of its turns.
+-- LoopKeeps: what the machine's loop keeps, and what falls at each of its turns.
 use Rattle.std.proofs.Common.{◌≡◌, ◌⊎◌, inl, inr, ⊎_elim, ℕ, ◌+◌, ◌<◌, Bool, true, false, List, [], ◌∷◌, ◌++◌, length, refl, sym, ap, ◌∙◌, subst, arith, append-nil}
 use Rattle.m4_input.specs.Pending.{Pending}
 use Rattle.m4_engine.specs.declared.ending.Cause.{Cause}
@@ -93,6 +93,11 @@ pub move_means : (e e' : Engine) (p p' : Pending) (o m : List ℕ) → Moves e' 
 move_means e e' p p' o m h =
     (rw (append-nil (o ++ e'.output), append-nil (m ++ e'.messages)) refl)
     ∙ ap (moved_meaning Expansion Kept Ended turn join expand) (sym (h o m))
+    ∙ move_keeps Expansion Kept Ended turn join spent_at size_of calls_left falls (configuration o m e p)
+
+pub moved_on : (e e' : Engine) (p p' : Pending) (o m : List ℕ) → Moves e' p' turns.GoesOn (λ o m. moved (configuration o m e p)) → meaning_of o m e' p' ≡ meaning_of o m e p
+moved_on e e' p p' o m h =
+    ap (moved_meaning Expansion Kept Ended turn join expand) (sym (h o m))
     ∙ move_keeps Expansion Kept Ended turn join spent_at size_of calls_left falls (configuration o m e p)
 
 -- the end is what it came to

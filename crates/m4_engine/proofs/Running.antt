@@ -1,0 +1,162 @@
+-- Running: where the loop over an input's turns stands, and what its ends say.
+use Rattle.std.proofs.Common.{◌≡◌, ◌<◌, ℕ, List, [], ◌∷◌, ◌++◌, Option, Some, None, refl, sym, ap, ◌∙◌, subst, append-nil, append_assoc}
+use Rattle.m4_state.specs.Device.{with_bytes, HasPut, HasBegun}
+use Rattle.m4_input.specs.Pending.{Pending}
+use Rattle.m4_input.specs.Input.{Held}
+use Rattle.m4_engine.specs.declared.ending.Cause.{Cause}
+use Rattle.m4_engine.specs.declared.ending.Cause.TheVariants as causes
+use Rattle.m4_engine.specs.declared.turned.Turned.{Turned}
+use Rattle.m4_engine.specs.declared.turned.Turned.TheVariants as turns
+use Rattle.m4_engine.specs.Nesting.{Outcome, Halted, Closed, then_on}
+use Rattle.m4_engine.specs.OpenCalls.{resume}
+use Rattle.m4_engine.specs.Expansion.{Call, RunSoFar, Expansion, Kept, Ended, Ends}
+use Rattle.m4_engine.specs.Expand.{turn, join, expand, expansion_of, ended_of}
+use Rattle.m4_engine.specs.Engine.{Engine, so_far_of, mode_of, outer_of, here_of, configuration, handed_on, moved, IsReady, Moves}
+use Rattle.m4_engine.specs.Expands.{made_before, comes_to, Expanded, Broken, Expands, HandsOn, IsIdle}
+use Rattle.m4_engine.proofs.Begins.{with_both, begun_behind}
+use Rattle.m4_engine.proofs.Growth.{Extends, made_out}
+use Rattle.m4_engine.proofs.LoopKeeps.{turns_of, move_falls, meaning_of, move_means, moved_on, end_means}
+use Rattle.m4_engine.proofs.OnlyGrows.{extends_same, extends_more, whole_keeps, list_keeps}
+
+-- so much was handed on of what the expansion comes to, and the machine stands where the rest of it does
+pub record Running (e0 : Engine) (p0 : Pending) (out0 told0 : Option (List ℕ)) (e : Engine) (i : Held) (out told : Option (List ℕ)) : Type 0 where
+  pub o : List ℕ
+  pub m : List ℕ
+  pub output : out ≡ with_bytes out0 o
+  pub messages : told ≡ with_bytes told0 m
+  pub means : meaning_of o m e i.pending ≡ expand (here_of [] [] e0 p0)
+  pub ready : IsReady i
+  pub limits : e.limits ≡ e0.limits
+
+with_none : (o : Option (List ℕ)) → o ≡ with_bytes o []
+with_none None = refl
+with_none (Some held) = ap Some (sym (append-nil held))
+
+-- the loop begins
+pub begins : (e : Engine) (i : Held) (out told : Option (List ℕ)) → IsIdle e → IsReady i → Running e i.pending out told e i out told
+begins e i out told d r = record {
+  o = [];
+  m = [];
+  output = with_none out;
+  messages = with_none told;
+  means = ap (λ (cs : List Call). resume Expansion Kept Ended turn join expand (outer_of cs) (expand (here_of [] [] e i.pending))) d.open_calls;
+  ready = r;
+  limits = refl;
+}
+
+-- a turn after which it goes on
+pub goes_on : (e0 e e' : Engine) (p0 : Pending) (i i' : Held) (out0 told0 out told out' told' : Option (List ℕ)) → Running e0 p0 out0 told0 e i out told → Moves e' i'.pending turns.GoesOn (λ o m. moved (configuration o m e i.pending)) → IsReady i' → e'.limits ≡ e.limits → out' ≡ with_bytes out e'.output → told' ≡ with_bytes told e'.messages → Running e0 p0 out0 told0 (handed_on e') i' out' told'
+goes_on e0 e e' p0 i i' out0 told0 out told out' told' r h q l f g = record {
+  o = r.o ++ e'.output;
+  m = r.m ++ e'.messages;
+  output = f ∙ ap (λ x. with_bytes x e'.output) r.output ∙ with_both out0 r.o e'.output;
+  messages = g ∙ ap (λ x. with_bytes x e'.messages) r.messages ∙ with_both told0 r.m e'.messages;
+  means = move_means e e' i.pending i'.pending r.o r.m h ∙ r.means;
+  ready = q;
+  limits = l ∙ r.limits;
+}
+
+-- between two inputs the machine stands where an input's expansion begins
+idle_here : (e : Engine) (p : Pending) → IsIdle e → here_of [] [] e p ≡ expansion_of e.limits (made_before e) p
+idle_here e p d =
+    ap (λ (x : List ℕ). here_of [] [] (record e { output = x }) p) d.output
+    ∙ ap (λ (x : List ℕ). here_of [] [] (record e { output = []; messages = x }) p) d.messages
+    ∙ ap (λ (x : List Call). here_of [] [] (record e { output = []; messages = []; open_calls = x }) p) d.open_calls
+
+comes_is : (e : Engine) (p : Pending) → IsIdle e → comes_to e p ≡ ended_of (expand (here_of [] [] e p))
+comes_is e p d = ap (λ (s : Expansion). ended_of (expand s)) (sym (idle_here e p d))
+
+-- all was written
+wrote_all : (o : Option (List ℕ)) (a : Option (List ℕ)) (x : List ℕ) → a ≡ with_bytes o x → HasBegun o a x
+wrote_all o a x e = ([], record { front = x; parts = sym (append-nil x); holds = e })
+
+broken_of : (old new : Engine) (d : Ended) (cause : Cause) (out0 out told0 told : Option (List ℕ)) → Expanded old new d cause out0 out told0 told → Broken d out0 out told0 told
+broken_of old new d cause out0 out told0 told x = record {
+  output = wrote_all out0 out (d.so_far).output x.output;
+  messages = wrote_all told0 told (d.so_far).messages x.messages;
+}
+
+expands_of : (old new : Engine) (p : Pending) (out0 out told0 told : Option (List ℕ)) (cause : Cause) → Expanded old new (comes_to old p) cause out0 out told0 told → Expands old new p out0 out told0 told cause
+expands_of old new p out0 out told0 told causes.Done x = x
+expands_of old new p out0 out told0 told (causes.Exited n) x = x
+expands_of old new p out0 out told0 told causes.EndInString x = x
+expands_of old new p out0 out told0 told causes.EndInComment x = x
+expands_of old new p out0 out told0 told causes.EndInArguments x = x
+expands_of old new p out0 out told0 told causes.ExpansionLimit x = x
+expands_of old new p out0 out told0 told causes.NestingLimit x = x
+expands_of old new p out0 out told0 told (causes.Frozen f) x = x
+expands_of old new p out0 out told0 told causes.Read x = broken_of old new (comes_to old p) causes.Read out0 out told0 told x
+expands_of old new p out0 out told0 told causes.Write x = broken_of old new (comes_to old p) causes.Write out0 out told0 told x
+expands_of old new p out0 out told0 told causes.OutOfMemory x = broken_of old new (comes_to old p) causes.OutOfMemory out0 out told0 told x
+
+-- a turn after which it ends
+pub ends : (e0 e e' : Engine) (p0 p' : Pending) (i : Held) (out0 told0 out told out' told' : Option (List ℕ)) (cause : Cause) → IsIdle e0 → Running e0 p0 out0 told0 e i out told → Moves e' p' (turns.Ends cause) (λ o m. moved (configuration o m e i.pending)) → out' ≡ with_bytes out e'.output → told' ≡ with_bytes told e'.messages → Expands e0 (handed_on e') p0 out0 out' told0 told' cause
+ends e0 e e' p0 p' i out0 told0 out told out' told' cause d r h f g =
+    let end : Ended = record { so_far = so_far_of r.o r.m e'; how = Ends cause } in
+    let c : comes_to e0 p0 ≡ end = comes_is e0 p0 d ∙ ap ended_of (sym r.means ∙ end_means e e' i.pending p' r.o r.m cause h) in
+    let x : Expanded e0 (handed_on e') end cause out0 out' told0 told' = record {
+      how = refl;
+      state = refl;
+      saved = refl;
+      calls = refl;
+      output = f ∙ ap (λ x. with_bytes x e'.output) r.output ∙ with_both out0 r.o e'.output;
+      messages = g ∙ ap (λ x. with_bytes x e'.messages) r.messages ∙ with_both told0 r.m e'.messages;
+    } in
+    expands_of e0 (handed_on e') p0 out0 out' told0 told' cause (subst (λ (y : Ended). Expanded e0 (handed_on e') y cause out0 out' told0 told') (sym c) x)
+
+-- what a machine comes to goes on from what it has made
+resume_keeps : (fs : List Kept) (v : Outcome Expansion Ended) → Extends (made_out v) (made_out (resume Expansion Kept Ended turn join expand fs v))
+resume_keeps [] v = extends_same (made_out v)
+resume_keeps (f ∷ fs) v = extends_more _ _ _ (list_keeps f v) (resume_keeps fs (then_on (then_on v (join f)) expand))
+
+meaning_keeps : (o m : List ℕ) (e : Engine) (p : Pending) → Extends (so_far_of o m e) (made_out (meaning_of o m e p))
+meaning_keeps o m e p = extends_more _ _ _ (whole_keeps (here_of o m e p)) (resume_keeps (outer_of e.open_calls) (expand (here_of o m e p)))
+
+made_is : (v : Outcome Expansion Ended) → made_out v ≡ (ended_of v).so_far
+made_is (Halted d) = refl
+made_is (Closed s) = refl
+
+made_there : (e0 e : Engine) (p0 : Pending) (i : Held) (out0 told0 out told : Option (List ℕ)) → IsIdle e0 → (r : Running e0 p0 out0 told0 e i out told) → made_out (meaning_of r.o r.m e i.pending) ≡ (comes_to e0 p0).so_far
+made_there e0 e p0 i out0 told0 out told d r =
+    ap made_out r.means ∙ made_is (expand (here_of [] [] e0 p0)) ∙ ap (λ (x : Ended). x.so_far) (sym (comes_is e0 p0 d))
+
+-- where a turn isn't made, a beginning was handed on
+pub breaks : (e0 e : Engine) (p0 : Pending) (i : Held) (out0 told0 out told : Option (List ℕ)) → IsIdle e0 → Running e0 p0 out0 told0 e i out told → Broken (comes_to e0 p0) out0 out told0 told
+breaks e0 e p0 i out0 told0 out told d r =
+    let k = subst (Extends (so_far_of r.o r.m e)) (made_there e0 e p0 i out0 told0 out told d r) (meaning_keeps r.o r.m e i.pending) in
+    record {
+      output = (e.output ++ k.more, record { front = r.o; parts = k.output ∙ append_assoc r.o e.output k.more; holds = r.output });
+      messages = (e.messages ++ k.told, record { front = r.m; parts = k.messages ∙ append_assoc r.m e.messages k.told; holds = r.messages });
+    }
+
+-- what a turn has made is a beginning of what the expansion comes to
+turn_made : (e e' : Engine) (p p' : Pending) (o m : List ℕ) (t : Turned) → Moves e' p' t (λ o m. moved (configuration o m e p)) → Extends (so_far_of o m e') (made_out (meaning_of o m e p))
+turn_made e e' p p' o m turns.GoesOn h =
+    subst (λ v. Extends (so_far_of o m e') (made_out v)) (moved_on e e' p p' o m h) (meaning_keeps o m e' p')
+turn_made e e' p p' o m (turns.Ends cause) h =
+    subst (λ v. Extends (so_far_of o m e') (made_out v)) (sym (end_means e e' p p' o m cause h)) (extends_same (so_far_of o m e'))
+
+-- where it can't be handed on, a beginning was
+pub write_breaks : (e0 e e' : Engine) (p0 p' : Pending) (i : Held) (t : Turned) (out0 told0 out told out' told' : Option (List ℕ)) → IsIdle e0 → Running e0 p0 out0 told0 e i out told → Moves e' p' t (λ o m. moved (configuration o m e i.pending)) → HandsOn e'.output e'.messages out out' told told' → Broken (comes_to e0 p0) out0 out' told0 told'
+write_breaks e0 e e' p0 p' i t out0 told0 out told out' told' d r h b =
+    let k = subst (Extends (so_far_of r.o r.m e')) (made_there e0 e p0 i out0 told0 out told d r) (turn_made e e' i.pending p' r.o r.m t h) in
+    record {
+      output = begun_behind out0 out out' r.o e'.output k.more ((comes_to e0 p0).so_far).output r.output b.0 k.output;
+      messages = begun_behind told0 told told' r.m e'.messages k.told ((comes_to e0 p0).so_far).messages r.messages b.1 k.messages;
+    }
+
+-- the same for a turn and an engine with names of their own
+pub ended : (e0 e e' e2 : Engine) (p0 p' : Pending) (i : Held) (out0 told0 out told out' told' : Option (List ℕ)) (t : Turned) (cause : Cause) → IsIdle e0 → Running e0 p0 out0 told0 e i out told → Moves e' p' t (λ o m. moved (configuration o m e i.pending)) → t ≡ turns.Ends cause → e2 ≡ handed_on e' → out' ≡ with_bytes out e'.output → told' ≡ with_bytes told e'.messages → Expands e0 e2 p0 out0 out' told0 told' cause
+ended e0 e e' e2 p0 p' i out0 told0 out told out' told' t cause d r h k j f g =
+    subst (λ (x : Engine). Expands e0 x p0 out0 out' told0 told' cause) (sym j)
+    (ends e0 e e' p0 p' i out0 told0 out told out' told' cause d r (subst (λ (x : Turned). Moves e' p' x (λ o m. moved (configuration o m e i.pending))) k h) f g)
+
+pub went_on : (e0 e e' e2 : Engine) (p0 : Pending) (i i' : Held) (out0 told0 out told out' told' : Option (List ℕ)) (t : Turned) → Running e0 p0 out0 told0 e i out told → Moves e' i'.pending t (λ o m. moved (configuration o m e i.pending)) → t ≡ turns.GoesOn → e2 ≡ handed_on e' → IsReady i' → e'.limits ≡ e.limits → out' ≡ with_bytes out e'.output → told' ≡ with_bytes told e'.messages → Running e0 p0 out0 told0 e2 i' out' told'
+went_on e0 e e' e2 p0 i i' out0 told0 out told out' told' t r h k j q l f g =
+    subst (λ (x : Engine). Running e0 p0 out0 told0 x i' out' told') (sym j)
+    (goes_on e0 e e' p0 i i' out0 told0 out told out' told' r (subst (λ (x : Turned). Moves e' i'.pending x (λ o m. moved (configuration o m e i.pending))) k h) q l f g)
+
+pub fell : (e e' e2 : Engine) (p p' : Pending) (t : Turned) → Moves e' p' t (λ o m. moved (configuration o m e p)) → t ≡ turns.GoesOn → e2 ≡ handed_on e' → turns_of e2 p' < turns_of e p
+fell e e' e2 p p' t h k j =
+    subst (λ (x : Engine). turns_of x p' < turns_of e p) (sym j)
+    (move_falls e e' p p' (subst (λ (x : Turned). Moves e' p' x (λ o m. moved (configuration o m e p))) k h))

@@ -1,0 +1,27 @@
+use Rattle.std.proofs.Common.{rules}
+use Rattle.m4_engine.proofs.Running.{begins, went_on, fell, ended, breaks, write_breaks}
+use Rattle.m4_engine.proofs.machine.Machine.expand.Goals as goal
+
+pub turns-init : goal.turns-init
+turns-init g c = begins c.args.self.now c.args.input.now _ _ c.requires.idle c.requires.ready
+
+pub turn-requires : goal.turn-requires
+turn-requires g c = c.turns.invariant.ready
+
+pub returns-in-Err-Read : goal.returns-in-Err-Read
+returns-in-Err-Read g c = breaks c.args.self.now c.turns.self c.args.input.now.pending c.turns.input _ _ _ _ c.requires.idle c.turns.invariant
+
+pub returns-in-Err-OutOfMemory : goal.returns-in-Err-OutOfMemory
+returns-in-Err-OutOfMemory g c = breaks c.args.self.now c.turns.self c.args.input.now.pending c.turns.input _ _ _ _ c.requires.idle c.turns.invariant
+
+pub returns-in-Err : goal.returns-in-Err
+returns-in-Err g c = write_breaks c.args.self.now c.turns.self c.turn.new.self c.args.input.now.pending c.turn.new.input.pending c.turns.input c.in-Ok.turned _ _ _ _ _ _ c.requires.idle c.turns.invariant c.in-Ok.ensures.moves c.in-Err.ensures.begun
+
+pub returns-in-Ends : goal.returns-in-Ends
+returns-in-Ends g c = ended c.args.self.now c.turns.self c.turn.new.self c.hand_on.new.self c.args.input.now.pending c.turn.new.input.pending c.turns.input _ _ _ _ _ _ c.in-Ok.turned c.in-Ends.cause c.requires.idle c.turns.invariant c.in-Ok.ensures.moves c.in-Ends.is c.in_default.ensures.engine c.in_default.ensures.output c.in_default.ensures.messages
+
+pub turns-smaller : goal.turns-smaller
+turns-smaller g c = fell c.turns.self c.turn.new.self c.hand_on.new.self c.turns.input.pending c.turn.new.input.pending c.in-Ok.turned c.in-Ok.ensures.moves c.in-GoesOn.is c.in_default.ensures.engine
+
+pub turns-preserved : goal.turns-preserved
+turns-preserved g c = went_on c.args.self.now c.turns.self c.turn.new.self c.hand_on.new.self c.args.input.now.pending c.turns.input c.turn.new.input _ _ _ _ _ _ c.in-Ok.turned c.turns.invariant c.in-Ok.ensures.moves c.in-GoesOn.is c.in_default.ensures.engine (search rules) c.in-Ok.ensures.limits c.in_default.ensures.output c.in_default.ensures.messages

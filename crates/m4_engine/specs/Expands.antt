@@ -1,0 +1,57 @@
+-- Expands: what the expansion of an input leaves, over writers.
+-- Believed: it says by the definition `expand_input` what was written and what is left.
+-- Manual: "How m4 copies input to output". Words: Expanded, Broken, Expands.
+use Rattle.std.specs.Prelude.{◌≡◌, ℕ, List, [], Option}
+use Rattle.m4_state.specs.Device.{with_bytes, HasBegun}
+use Rattle.m4_input.specs.Pending.{Pending}
+use Rattle.m4_engine.specs.declared.ending.Cause.{Cause}
+use Rattle.m4_engine.specs.declared.ending.Cause.TheVariants as causes
+use Rattle.m4_engine.specs.Expansion.{RunSoFar, Ended, Ends}
+use Rattle.m4_engine.specs.Expand.{expand_input}
+use Rattle.m4_engine.specs.Engine.{Engine}
+
+-- what a run has made, where its output and messages were written before
+abbrev pub made_before : Engine → RunSoFar
+made_before e = record {
+  state = e.state;
+  output = [];
+  messages = [];
+  saved = e.saved;
+  calls = e.calls;
+}
+
+-- what the input comes to
+abbrev pub comes_to : Engine → Pending → Ended
+comes_to e p = expand_input e.limits (made_before e) p
+
+-- the expansion ended by this cause, and all that it puts out was written
+pub record Expanded (old new : Engine) (d : Ended) (cause : Cause) (out_old out_new told_old told_new : Option (List ℕ)) : Type 0 where
+  pub how : d.how ≡ Ends cause
+  pub state : new.state ≡ (d.so_far).state
+  pub saved : new.saved ≡ (d.so_far).saved
+  pub calls : new.calls ≡ (d.so_far).calls
+  pub output : out_new ≡ with_bytes out_old (d.so_far).output
+  pub messages : told_new ≡ with_bytes told_old (d.so_far).messages
+
+-- the expansion broke off, and a beginning of what it puts out was written
+pub record Broken (d : Ended) (out_old out_new told_old told_new : Option (List ℕ)) : Type 0 where
+  pub output : HasBegun out_old out_new (d.so_far).output
+  pub messages : HasBegun told_old told_new (d.so_far).messages
+
+-- by the cause: a device or memory breaks the expansion off
+abbrev pub Expands : Engine → Engine → Pending → Option (List ℕ) → Option (List ℕ) → Option (List ℕ) → Option (List ℕ) → Cause → Type 0
+Expands old new p out_old out_new told_old told_new causes.Read = Broken (comes_to old p) out_old out_new told_old told_new
+Expands old new p out_old out_new told_old told_new causes.Write = Broken (comes_to old p) out_old out_new told_old told_new
+Expands old new p out_old out_new told_old told_new causes.OutOfMemory = Broken (comes_to old p) out_old out_new told_old told_new
+Expands old new p out_old out_new told_old told_new cause = Expanded old new (comes_to old p) cause out_old out_new told_old told_new
+
+-- what is handed on of an engine's output and messages
+abbrev pub HandsOn : List ℕ → List ℕ → Option (List ℕ) → Option (List ℕ) → Option (List ℕ) → Option (List ℕ) → Type 0
+HandsOn output messages out_old out_new told_old told_new =
+    HasBegun out_old out_new output × HasBegun told_old told_new messages
+
+-- an engine between two inputs
+pub record IsIdle (e : Engine) : Type 0 where
+  pub open_calls : e.open_calls ≡ []
+  pub output : e.output ≡ []
+  pub messages : e.messages ≡ []
