@@ -1,5 +1,5 @@
 -- Acts: what a call leaves is what the definitions' move leaves.
-use Rattle.std.proofs.Common.{◌≡◌, ◌++◌, length, ℕ, List, [], ◌∷◌, length, None, refl, sym, ap, ◌∙◌, append_assoc}
+use Rattle.std.proofs.Common.{◌≡◌, Option, Some, None, ◌++◌, length, ℕ, List, [], ◌∷◌, refl, sym, ap, ◌∙◌, append_assoc}
 use Rattle.m4_state.specs.State.{State}
 use Rattle.m4_input.specs.Pending.{Pending}
 use Rattle.m4_builtins.specs.Act.{Acted, act}
@@ -8,8 +8,10 @@ use Rattle.m4_engine.specs.declared.turned.Turned.{Turned}
 use Rattle.m4_engine.specs.declared.turned.TurnFault.{TurnFault}
 use Rattle.m4_engine.specs.declared.turned.Turned.TheVariants as turns
 use Rattle.m4_engine.specs.Args.{dropped_if_any, with_argument, end_argument}
-use Rattle.m4_engine.specs.Nesting.{Close, Outcome, Closed}
-use Rattle.m4_engine.specs.OpenCalls.{Stacked, Move, Goes, pop}
+use Rattle.m4_engine.specs.declared.ending.Cause.TheVariants as causes
+use Rattle.m4_engine.specs.Expansion.{RunSoFar, Ends}
+use Rattle.m4_engine.specs.Nesting.{Halted, Close, Outcome, Closed}
+use Rattle.m4_engine.specs.OpenCalls.{Stops, Stacked, Move, Goes, pop}
 use Rattle.m4_engine.specs.Expansion.{Call, Limits, Expansion, Kept, Ended, reading}
 use Rattle.m4_engine.specs.Expand.{turn, join, effected, skip_or_push, with_acted, mode_behind_call}
 use Rattle.m4_engine.specs.Engine.{Engine, so_far_of, mode_of, kept_in, outer_of, here_of, configuration, with_made, called_within, ending_in, ending_argument, beginning, close_in, step, Moves}
@@ -45,6 +47,18 @@ called_goes e e1 c a p p' h x i r o m =
     ∙ ap (λ v. popped e.open_calls (effected v (a.effect).skip (a.effect).push (behind a o m e p))) x
     ∙ ap (popped e.open_calls) (r (behind a o m e p) refl)
     ∙ ap Goes (around a o m e.limits e.state e.saved e.calls e.open_calls e.output e.messages p p' ∙ ap (λ (d : Engine). configuration o m d p') (sym i))
+
+-- a call that ends the run
+pub called_exits : (e e1 : Engine) (c : Call) (a : Acted) (p : Pending) (code : ℕ) → act c.definition c.name c.done c.place e.state ≡ a → (a.effect).exit ≡ Some code → e1 ≡ with_made (a.effect).messages (a.effect).output (a.effect).wrap (record e { state = a.state }) → (o m : List ℕ) → called_within e.open_calls c (here_of o m e p) ≡ Stops (Halted (record { so_far = so_far_of o m e1; how = Ends (causes.Exited code) }))
+called_exits e e1 c a p code h x i o m =
+    called_is e c a p o m h
+    ∙ ap (λ v. popped e.open_calls (effected v (a.effect).skip (a.effect).push (behind a o m e p))) x
+    ∙ ap (λ (r : RunSoFar). Stops (Halted (let d : Ended = record { so_far = r; how = Ends (causes.Exited code) } in d)))
+    (ap (λ (k : Stacked Expansion Kept). (k.here).so_far) (around a o m e.limits e.state e.saved e.calls e.open_calls e.output e.messages p p) ∙ ap (λ (d : Engine). so_far_of o m d) (sym i))
+
+-- what was made, where nothing is saved
+pub made_plain : (e1 e : Engine) (messages output : List ℕ) (wrap : Option (List ℕ)) → e1 ≡ with_made messages output None e → wrap ≡ None → e1 ≡ with_made messages output wrap e
+made_plain e1 e messages output wrap h k = h ∙ ap (λ w. with_made messages output w e) (sym k)
 
 abbrev head_or : Call → List Call → Call
 head_or c [] = c

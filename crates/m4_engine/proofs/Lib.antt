@@ -29,3 +29,4 @@ pub mod Turning
 pub mod LoopKeeps
 pub mod Begins
 pub mod Running
+pub mod SavesNothing

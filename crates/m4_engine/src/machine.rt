@@ -11,7 +11,6 @@ use crate::call::OpenCall;
 use crate::turned::TurnFault;
 use m4_builtins::messages::error_message;
 use m4_builtins::place::Place;
-use m4_state::bytes::Bytes;
 use m4_state::definition::Def;
 use m4_state::fault::StateFault;
 use m4_state::state::State;
@@ -25,7 +24,6 @@ pub struct Machine {
     pub most_calls: u64,
     pub most_nested: u64,
     pub state: State,
-    pub saved: Vec<Bytes>,
     pub calls: u64,
     pub innermost: Option<OpenCall>,
     pub outer: Vec<OpenCall>,

@@ -80,23 +80,12 @@ impl Machine {
         Ok(Turned::Ends(Cause::EndInArguments))
     }
 
-    /// Saves a text to be read at the end.
-    fn save(&mut self, text: Bytes) -> Result<(), AllocError>
-        ensures { OnOk result (self.new ≡ record self.old { saved = self.old.saved ++ text ∷ [] }) }
-    {
-        self.saved.push(text)?;
-        Ok(())
-    }
-
     /// Puts what a call has made where it goes, beside what it pushes and skips.
-    fn put_effect(&mut self, messages: &[u8], output: &[u8], wrap: Option<Bytes>) -> Result<(), TurnFault>
-        ensures { OnOk result (self.new ≡ with_made messages.now output.now wrap self.old) }
+    fn put_effect(&mut self, messages: &[u8], output: &[u8]) -> Result<(), TurnFault>
+        ensures { OnOk result (self.new ≡ with_made messages.now output.now None self.old) }
     {
         self.tell(messages)?;
         self.output.extend_from_slice(output)?;
-        if let Some(text) = wrap {
-            self.save(text)?;
-        }
         if let Some(around) = &mut self.innermost {
             around.begun = true;
         }
@@ -117,11 +106,11 @@ impl Machine {
             push,
             messages,
             output,
-            wrap,
+            wrap: _,
             skip,
             exit,
         } = act(self.alloc, &definition, &args, &place, &mut self.state)?;
-        self.put_effect(messages.as_slice(), output.as_slice(), wrap)?;
+        self.put_effect(messages.as_slice(), output.as_slice())?;
         if let Some(code) = exit {
             return Ok(Turned::Ends(Cause::Exited(code)));
         }

@@ -1,9 +1,18 @@
 use Rattle.std.proofs.Common.{rules}
 use Rattle.m4_builtins.specs.Act.{Acted}
-use Rattle.m4_engine.proofs.Acts.{called_goes}
+use Rattle.m4_engine.specs.Engine.{Engine}
+use Rattle.m4_engine.proofs.Acts.{called_goes, called_exits, made_plain}
+use Rattle.m4_engine.proofs.SavesNothing.{acted_saves}
 use Rattle.m4_engine.proofs.machine.Machine.call.Goals as goal
+
+pub returns-in-Some-clause-moves : goal.returns-in-Some-clause-moves
+returns-in-Some-clause-moves g c = λ o m.
+    let a : Acted = record { state = c.act.new.state; effect = c.in_ok-push.field-0 } in
+    let e : Engine = record c.args.self.now { state = c.act.new.state } in
+    called_exits c.args.self.now c.put_effect.new.self c.args.call a c.args.input.now.pending c.in-Some.code (search rules) (search rules) (made_plain c.put_effect.new.self e (a.effect).messages (a.effect).output (a.effect).wrap (search rules) (acted_saves c.args.call.definition c.args.call.name c.args.call.done c.args.call.place c.args.self.now.state a (search rules))) o m
 
 pub returns-clause-moves : goal.returns-clause-moves
 returns-clause-moves g c = λ o m.
     let a : Acted = record { state = c.act.new.state; effect = c.in_ok-push.field-0 } in
-    called_goes c.args.self.now c.put_effect.new.self c.args.call a c.args.input.now.pending c.read_on.new.input.pending (search rules) (search rules) (search rules) (search rules) o m
+    let e : Engine = record c.args.self.now { state = c.act.new.state } in
+    called_goes c.args.self.now c.put_effect.new.self c.args.call a c.args.input.now.pending c.read_on.new.input.pending (search rules) (search rules) (made_plain c.put_effect.new.self e (a.effect).messages (a.effect).output (a.effect).wrap (search rules) (acted_saves c.args.call.definition c.args.call.name c.args.call.done c.args.call.place c.args.self.now.state a (search rules))) (search rules) o m
