@@ -1,5 +1,5 @@
 -- Scans: scanning a text from its front, byte by byte.
-use Rattle.std.proofs.Common.{◌≡◌, ℕ, zero, suc, ◌+◌, ◌-◌, ◌<◌, ◌≤◌, Bool, true, false, ◌&&◌, List, [], ◌∷◌, length, drop, Option, Some, None, refl, sym, ap, ◌∙◌, subst, arith, add-one, drop-cons, length-drop, eqb, eq-eqb, ◌||◌}
+use Rattle.std.proofs.Common.{◌≡◌, ℕ, zero, suc, ◌+◌, ◌-◌, ◌<◌, ◌≤◌, Bool, true, false, ◌&&◌, List, [], ◌∷◌, length, drop, Option, Some, None, refl, sym, ap, ◌∙◌, subst, arith, add-one, drop-cons, length-drop, eqb, eq-eqb}
 use Rattle.std.proofs.Math.ListN.{drop_of_length-le}
 use Rattle.std.proofs.lemmas.List.{drop-drop}
 use Rattle.std.proofs.lemmas.Bool.Decides.{nat_tests}
@@ -8,7 +8,7 @@ use Rattle.std.specs.Prelude.{◌==◌, slice_get, IfSome, IfNone}
 use Rattle.m4_input.specs.declared.front.Mark.{Mark}
 use Rattle.m4_input.specs.declared.front.Mark.TheVariants.{EndQuote, BeginQuote, PlainByte, CutQuote}
 use Rattle.m4_input.specs.Pending.{one_more}
-use Rattle.m4_input.specs.Token.{begins, is_cut, before, level, mark_at, mark_by}
+use Rattle.m4_input.specs.Token.{begins, before, level, mark_at, mark_by}
 
 -- the byte at a place, and what stands behind it
 pub got : (x : List ℕ) (k b : ℕ) → slice_get x k ≡ Some b → drop k x ≡ b ∷ drop (suc k) x
@@ -16,17 +16,6 @@ got [] zero b e = cc
 got [] (suc k) b e = cc
 got (c ∷ x) zero b e = let f : c ≡ b = cc in ap (λ a. a ∷ x) f
 got (c ∷ x) (suc k) b e = got x k b e
-
-pub got_within : (x : List ℕ) (k b : ℕ) → slice_get x k ≡ Some b → k < length x
-got_within [] zero b e = cc
-got_within [] (suc k) b e = cc
-got_within (c ∷ x) zero b e = omega arith
-got_within (c ∷ x) (suc k) b e = let h : k < length x = got_within x k b e in omega arith
-
-pub got_past : (x : List ℕ) (k : ℕ) → slice_get x k ≡ None → length x ≤ k
-got_past [] k e = omega arith
-got_past (c ∷ x) zero e = cc
-got_past (c ∷ x) (suc k) e = let h : length x ≤ k = got_past x k e in omega arith
 
 pub got_nothing : (x : List ℕ) (k : ℕ) → slice_get x k ≡ None → drop k x ≡ []
 got_nothing [] zero e = refl
@@ -41,14 +30,6 @@ got_some x k (Some b) e = rw add-one (got x k b (sym e))
 pub got_none : (x : List ℕ) (k : ℕ) (o : Option ℕ) → o ≡ slice_get x k → IfNone o (drop k x ≡ [])
 got_none x k None e = got_nothing x k (sym e)
 got_none x k (Some b) e = tt
-
-pub some_within : (x : List ℕ) (k : ℕ) (o : Option ℕ) → o ≡ slice_get x k → IfSome o (λ b. k < length x)
-some_within x k None e = tt
-some_within x k (Some b) e = got_within x k b (sym e)
-
-pub none_past : (x : List ℕ) (k : ℕ) (o : Option ℕ) → o ≡ slice_get x k → IfNone o (length x ≤ k)
-none_past x k None e = got_past x k (sym e)
-none_past x k (Some b) e = tt
 
 -- so many bytes further
 abbrev pub further : ℕ → Option ℕ → Option ℕ
@@ -93,9 +74,6 @@ pub begins_length : (e y : List ℕ) → begins e y ≡ true → length e ≤ le
 begins_length [] y h = omega arith
 begins_length (b ∷ e) [] h = cc
 begins_length (b ∷ e) (c ∷ y) h = let l : length e ≤ length y = begins_length e y (second (b == c) h) in omega arith
-
-pub marked : (q : Delimiters) (p : Bool) (y : List ℕ) (u v w : Bool) → begins q.end y ≡ u → (p && (is_cut y q.end || is_cut y q.begin)) ≡ v → begins q.begin y ≡ w → mark_at q p y ≡ mark_by u v w
-marked q p y u v w e f g = rw (e, f, g) refl
 
 abbrev on_mark : Delimiters → Bool → ℕ → List ℕ → Mark → Option ℕ
 on_mark q p n y EndQuote = elim n [ zero ↦ Some 0 | suc j ↦ one_more (level q p j (length q.end - 1) y) ]

@@ -1,5 +1,6 @@
 -- InputView: what the fields of an input stand for, and what the parts of its calls do.
--- Not believed: it only bridges the code and specs/Input.antt. Words: view_of, IsUnread, IsLasting, IsHeld, unread_again, Fills, Takes.
+-- Not believed: it only bridges the code and specs/Input.antt.
+-- Words: view_of, IsUnread, IsLasting, IsHeld, unread_again, Fills, fault_of, Takes.
 use Rattle.std.specs.Prelude.{◌≡◌, ℕ, true, false, List, [], Option, Some, None, Result, Ok, Err, IfSome}
 use Rattle.m4_state.specs.Device.{Script}
 use Rattle.m4_state.specs.declared.delimiters.Delimiters.{Delimiters}

@@ -13,7 +13,8 @@ use crate::window::Window;
 impl<'a> Window<'a> {
     /// Whether the next token is a parenthesis that opens.
     pub fn sees_paren(&self, delims: &Delims<'_>) -> bool
-        ensures { paren_in (pair_of delims.now.quotes) (pair_of delims.now.comments) false self.now ≡ answer_of result }
+        ensures { paren_in (pair_of delims.now.quotes) (pair_of delims.now.comments) false self.now
+            ≡ answer_of result }
     {
         self.byte(0) == Some(b'(') && !self.opens(&delims.comments) && !self.opens(&delims.quotes)
     }

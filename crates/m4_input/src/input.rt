@@ -91,7 +91,9 @@ impl Input {
     pub fn push_front(&mut self, value: Pushed) -> Result<(), InputFault>
         requires { self.old.pending.definition ≡ None }
         // exact steps: the value in front; a refusal leaves it as it was
-        ensures ok { OnOk result ((self.new ≡ record self.old { pending = with_pushed value self.old.pending }) × (self.old.fault ≡ None)) }
+        ensures ok { OnOk result (
+            (self.new ≡ record self.old { pending = with_pushed value self.old.pending })
+            × (self.old.fault ≡ None)) }
         ensures err { OnErr result (self.new ≡ self.old) }
         // the answer: an earlier fault again, else OutOfMemory
         ensures again { IfSome self.old.fault (λ f. result ≡ Err f) }
@@ -122,8 +124,10 @@ impl Input {
         delims: &Delims<'_>,
     ) -> Result<Token, InputFault>
         // exact steps: the token, and what is left behind it
-        ensures gives { NextGives (pair_of delims.now.quotes) (pair_of delims.now.comments) (R.script reader.old) (R.script reader.new) self.old self.new result }
-        ensures counted { R.failures reader.new ≡ failures_behind self.old.fault self.new.fault (R.failures reader.old) }
+        ensures gives { NextGives (pair_of delims.now.quotes) (pair_of delims.now.comments)
+            (R.script reader.old) (R.script reader.new) self.old self.new result }
+        ensures counted { R.failures reader.new
+            ≡ failures_behind self.old.fault self.new.fault (R.failures reader.old) }
     {
         if let Some(fault) = self.fault {
             return Err(fault);
@@ -148,8 +152,10 @@ impl Input {
         delims: &Delims<'_>,
     ) -> Result<bool, InputFault>
         // exact steps: whether a list follows; nothing is taken
-        ensures gives { ParenGives (pair_of delims.now.quotes) (pair_of delims.now.comments) (R.script reader.old) (R.script reader.new) self.old self.new result }
-        ensures counted { R.failures reader.new ≡ failures_behind self.old.fault self.new.fault (R.failures reader.old) }
+        ensures gives { ParenGives (pair_of delims.now.quotes) (pair_of delims.now.comments)
+            (R.script reader.old) (R.script reader.new) self.old self.new result }
+        ensures counted { R.failures reader.new
+            ≡ failures_behind self.old.fault self.new.fault (R.failures reader.old) }
     {
         if let Some(fault) = self.fault {
             return Err(fault);
@@ -165,8 +171,10 @@ impl Input {
     /// `Read` and `OutOfMemory` as in `next`. Manual: "Deleting whitespace in input".
     pub fn skip_line<R: ByteSource>(&mut self, reader: &mut R) -> Result<(), InputFault>
         // exact steps: what is left behind the line
-        ensures gives { SkipGives (R.script reader.old) (R.script reader.new) self.old self.new result }
-        ensures counted { R.failures reader.new ≡ failures_behind self.old.fault self.new.fault (R.failures reader.old) }
+        ensures gives { SkipGives
+            (R.script reader.old) (R.script reader.new) self.old self.new result }
+        ensures counted { R.failures reader.new
+            ≡ failures_behind self.old.fault self.new.fault (R.failures reader.old) }
     {
         if let Some(fault) = self.fault {
             return Err(fault);
@@ -205,7 +213,8 @@ impl Input {
     fn fill<R: ByteSource>(&mut self, reader: &mut R) -> Result<(), InputFault>
         requires { self.old.fault ≡ None }
         ensures gives { Fills (R.script reader.old) (R.script reader.new) self.old self.new result }
-        ensures counted { R.failures reader.new ≡ failures_behind self.old.fault self.new.fault (R.failures reader.old) }
+        ensures counted { R.failures reader.new
+            ≡ failures_behind self.old.fault self.new.fault (R.failures reader.old) }
     {
         if !self.may_follow {
             return Ok(());
@@ -251,7 +260,8 @@ impl Input {
         requires closed { self.old.pending.may_follow ≡ false }
         requires plain { self.old.pending.definition ≡ None }
         requires sound { self.old.fault ≡ None }
-        ensures { Takes (pair_of delims.now.quotes) (pair_of delims.now.comments) self.old self.new result }
+        ensures { Takes (pair_of delims.now.quotes) (pair_of delims.now.comments)
+            self.old self.new result }
     {
         match self.text.window().scan(self.alloc, delims, false) {
             Err(AllocError) => Err(self.stop(InputFault::OutOfMemory)),

@@ -73,7 +73,8 @@ impl<'a> Window<'a> {
     /// Whether a pair that is not disabled begins here.
     pub fn opens(&self, pair: &Pair<'_>) -> bool
         ensures value { result ≡ starts_with (pair_of pair.now) self.now }
-        ensures within { IsTrue result → (0 < length pair.now.0.now) × (length pair.now.0.now ≤ length self.now) }
+        ensures within { IsTrue result
+            → (0 < length pair.now.0.now) × (length pair.now.0.now ≤ length self.now) }
     {
         !pair.0.is_empty() && self.starts(0, pair.0)
     }
@@ -88,9 +89,12 @@ impl<'a> Window<'a> {
     /// Which kind of token begins here.
     fn kind(&self, delims: &Delims<'_>, may_follow: bool, first: u8) -> Kind
         requires { self.now ≡ first ∷ drop 1 self.now }
-        ensures value { result ≡ kind_of (pair_of delims.now.quotes) (pair_of delims.now.comments) may_follow first (drop 1 self.now) }
-        ensures comment { result ≡ Kind.CommentHere → length delims.now.comments.0.now ≤ length self.now }
-        ensures string { result ≡ Kind.StringHere → (0 < length delims.now.quotes.0.now) × (length delims.now.quotes.0.now ≤ length self.now) }
+        ensures value { result ≡ kind_of (pair_of delims.now.quotes) (pair_of delims.now.comments)
+            may_follow first (drop 1 self.now) }
+        ensures comment { result ≡ Kind.CommentHere
+            → length delims.now.comments.0.now ≤ length self.now }
+        ensures string { result ≡ Kind.StringHere → (0 < length delims.now.quotes.0.now)
+            × (length delims.now.quotes.0.now ≤ length self.now) }
     {
         if self.opens(&delims.comments) {
             Kind::CommentHere
@@ -114,7 +118,8 @@ impl<'a> Window<'a> {
         delims: &Delims<'_>,
         may_follow: bool,
     ) -> Result<Scan, AllocError>
-        ensures value { IfOk result (λ s. s ≡ scan (pair_of delims.now.quotes) (pair_of delims.now.comments) may_follow self.now) }
+        ensures value { IfOk result (λ s. s ≡ scan (pair_of delims.now.quotes)
+            (pair_of delims.now.comments) may_follow self.now) }
         ensures within { IfOk result (λ s. LiesIn (length self.now) s) }
     {
         let Some(first) = self.byte(0) else {

@@ -28,7 +28,8 @@ impl Model for Text {
 
     ghost view = { view_of };
 
-    ghost invariant = { λ t. (t.at ≤ length t.file.items) × (t.newlines ≡ newlines_in (take t.at t.file.items)) };
+    ghost invariant = { λ t. (t.at ≤ length t.file.items)
+        × (t.newlines ≡ newlines_in (take t.at t.file.items)) };
 }
 
 /// How many newlines there are.
@@ -55,7 +56,8 @@ impl Text {
 
     /// Has these bytes of a file in place of those that it had.
     pub fn set_file(&mut self, bytes: Vec<u8>)
-        ensures { self.new ≡ record { pushed = self.old.pushed; unread = bytes.items; newlines = 0 } }
+        ensures { self.new
+            ≡ record { pushed = self.old.pushed; unread = bytes.items; newlines = 0 } }
     {
         self.file = bytes;
         self.at = 0;
@@ -78,7 +80,8 @@ impl Text {
 
     /// Puts text in front. A refusal leaves all as it was.
     pub fn push(&mut self, text: &[u8]) -> Result<(), AllocError>
-        ensures ok { OnOk result (self.new ≡ record self.old { pushed = text.now ++ self.old.pushed }) }
+        ensures ok { OnOk result
+            (self.new ≡ record self.old { pushed = text.now ++ self.old.pushed }) }
         ensures err { OnErr result (self.new ≡ self.old) }
     {
         let len = self.pushed.len();

@@ -25,11 +25,13 @@ pub fn take_all<R: ByteSource>(alloc: Global, reader: &mut R) -> Result<Taken, A
         (R.failures reader.new ≡ R.failures reader.old)) }
 
     // where the reader stands behind the call
-    ensures given { IfOk result (λ t. R.script reader.old ≡ after_bytes t.bytes.items (R.script reader.new)) }
+    ensures given { IfOk result (λ t.
+        R.script reader.old ≡ after_bytes t.bytes.items (R.script reader.new)) }
     ensures ended { IfOk result (λ t. MatchBool t.failed
         (IsAtFault (R.script reader.new))
         (IsAtEnd (R.script reader.new))) }
-    ensures refused { OnErr result ((x : List ℕ) × (R.script reader.old ≡ after_bytes x (R.script reader.new))) }
+    ensures refused { OnErr result ((x : List ℕ)
+        × (R.script reader.old ≡ after_bytes x (R.script reader.new))) }
     ensures kept { OnErr result (R.failures reader.new ≡ R.failures reader.old) }
 {
     let mut bytes = Vec::new(alloc);

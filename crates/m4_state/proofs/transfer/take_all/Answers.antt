@@ -18,5 +18,5 @@ returns-in_err-extend_from_slice-in-Ok-clause-refused g c =
     on_err c.from_residual.result _ (
       c.loop-bytes.bytes.items ++ take c.in-Ok.n c.take.new.buf,
       sym (c.loop-bytes.invariant.0) ∙ (ap (after_bytes c.loop-bytes.bytes.items) c.in-Ok.ensures.gives
-      ∙ after_both c.loop-bytes.bytes.items (take c.in-Ok.n c.take.new.buf) (g.R.ByteSource.script c.take.new.self)),
+          ∙ after_both c.loop-bytes.bytes.items (take c.in-Ok.n c.take.new.buf) (g.R.ByteSource.script c.take.new.self)),
     )
