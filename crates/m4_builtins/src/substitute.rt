@@ -107,7 +107,7 @@ fn push_dollar(
 }
 
 /// An argument as text: a definition counts as empty.
-pub fn text_of(arg: &Arg) -> &[u8]
+pub(crate) fn text_of(arg: &Arg) -> &[u8]
     ensures { result.now ≡ text_of_arg arg.now }
 {
     match arg {
