@@ -47,53 +47,88 @@ fn pushed(effect: &Effect) -> &[u8] {
     }
 }
 
-// Whether a call left only messages to be told.
-fn only_tells(effect: &Effect) -> bool {
+// Whether a call left no more to be done than to tell messages and to skip.
+fn leaves_no_more(effect: &Effect) -> bool {
     effect.push.is_none()
         && effect.wrap.is_none()
         && effect.exit.is_none()
-        && !effect.skip
         && effect.output.as_slice().is_empty()
 }
+
+// A call of a builtin with texts, whether it drops the rest of the line, and what it tells.
+const TELLS: [(Builtin, &[&[u8]], bool, &[u8]); 9] = [
+    (Builtin::Define, &[b"f", b"x"], false, b""),
+    (Builtin::Define, &[b"f"], false, b""),
+    (
+        Builtin::Define,
+        &[b"f", b"x", b"y"],
+        false,
+        b"m4:a.m4:1: Warning: excess arguments to builtin `define' ignored\n",
+    ),
+    (
+        Builtin::Define,
+        &[],
+        false,
+        b"m4:a.m4:1: Warning: too few arguments to builtin `define'\n",
+    ),
+    (Builtin::Undefine, &[b"f", b"g", b"h"], false, b""),
+    (
+        Builtin::Undefine,
+        &[],
+        false,
+        b"m4:a.m4:1: Warning: too few arguments to builtin `undefine'\n",
+    ),
+    (Builtin::Dnl, &[], true, b""),
+    (
+        Builtin::Dnl,
+        &[b""],
+        true,
+        b"m4:a.m4:1: Warning: excess arguments to builtin `dnl' ignored\n",
+    ),
+    (
+        Builtin::Changecom,
+        &[b"a", b"b", b"c"],
+        false,
+        b"m4:a.m4:1: Warning: excess arguments to builtin `changecom' ignored\n",
+    ),
+];
+
+#[test]
+fn skips_and_tells(rt: HostRuntime) -> Result<(), Fail> {
+    for (builtin, texts, skip, messages) in TELLS {
+        let mut state = State::empty(rt.alloc())?;
+        let effect = call(rt.alloc(), &mut state, builtin, texts)?;
+        assert!(rt; leaves_no_more(&effect) && effect.skip == skip);
+        assert_eq!(rt; effect.messages.as_slice(), messages);
+    }
+    Ok(())
+}
+
+// What `define` is given, and the text that the first then has on top.
+const DEFINES: [(&[&[u8]], &[u8]); 3] = [
+    (&[b"f", b"old"], b"old"),
+    (&[b"f"], b""),
+    (&[b"f", b"new", b"more"], b"new"),
+];
 
 #[test]
 fn defines(rt: HostRuntime) -> Result<(), Fail> {
     let mut state = State::empty(rt.alloc())?;
-    let effect = call(rt.alloc(), &mut state, Builtin::Define, &[b"f", b"old"])?;
-    assert!(rt; only_tells(&effect));
-    assert_eq!(rt; effect.messages.as_slice(), b"".as_slice());
-    assert_eq!(rt; text_on_top(&state, b"f"), b"old".as_slice());
-    let effect = call(rt.alloc(), &mut state, Builtin::Define, &[b"f"])?;
-    assert_eq!(rt; effect.messages.as_slice(), b"".as_slice());
-    assert_eq!(rt; text_on_top(&state, b"f"), b"".as_slice());
-    assert_eq!(rt; state.stack(b"f").len(), 1);
+    for (texts, want) in DEFINES {
+        call(rt.alloc(), &mut state, Builtin::Define, texts)?;
+        assert_eq!(rt; text_on_top(&state, b"f"), want);
+        assert_eq!(rt; state.stack(b"f").len(), 1);
+    }
     Ok(())
 }
 
 #[test]
-fn defines_with_excess_arguments(rt: HostRuntime) -> Result<(), Fail> {
-    let mut state = State::empty(rt.alloc())?;
-    let texts = [b"f".as_slice(), b"new", b"more"];
-    let effect = call(rt.alloc(), &mut state, Builtin::Define, &texts)?;
-    assert!(rt; only_tells(&effect));
-    assert_eq!(rt;
-        effect.messages.as_slice(),
-        b"m4:a.m4:1: Warning: excess arguments to builtin `define' ignored\n".as_slice()
-    );
-    assert_eq!(rt; text_on_top(&state, b"f"), b"new".as_slice());
-    Ok(())
-}
-
-#[test]
-fn warns_of_missing_arguments(rt: HostRuntime) -> Result<(), Fail> {
-    let mut state = State::empty(rt.alloc())?;
-    let effect = call(rt.alloc(), &mut state, Builtin::Define, &[])?;
-    assert!(rt; only_tells(&effect));
-    assert_eq!(rt;
-        effect.messages.as_slice(),
-        b"m4:a.m4:1: Warning: too few arguments to builtin `define'\n".as_slice()
-    );
-    assert_eq!(rt; state.names()?.len(), 0);
+fn undefines_each_name(rt: HostRuntime) -> Result<(), Fail> {
+    let mut state = State::fresh(rt.alloc(), false)?;
+    let texts = [b"dnl".as_slice(), b"missing", b"changecom"];
+    call(rt.alloc(), &mut state, Builtin::Undefine, &texts)?;
+    assert!(rt; state.top(b"dnl").is_none() && state.top(b"changecom").is_none());
+    assert_eq!(rt; state.names()?.len(), 5);
     Ok(())
 }
 
@@ -111,46 +146,21 @@ fn definition_first(alloc: Global) -> Result<Args, AllocError>
     })
 }
 
+// Calls `define` so, in wrapped text.
+fn define_a_definition(alloc: Global, state: &mut State) -> Result<Effect, BuiltinFault> {
+    let args = definition_first(alloc)?;
+    let place = place_of(alloc, b"", 0)?;
+    act(alloc, &Def::Builtin(Builtin::Define), &args, &place, state)
+}
+
 #[test]
 fn a_definition_is_no_name(rt: HostRuntime) -> Result<(), Fail> {
     let mut state = State::empty(rt.alloc())?;
-    let args = definition_first(rt.alloc())?;
-    let place = place_of(rt.alloc(), b"", 0)?;
-    let define = Def::Builtin(Builtin::Define);
-    let effect = act(rt.alloc(), &define, &args, &place, &mut state)?;
-    assert!(rt; only_tells(&effect));
+    let effect = define_a_definition(rt.alloc(), &mut state)?;
+    assert!(rt; leaves_no_more(&effect) && state.names()?.is_empty());
     assert_eq!(rt;
         effect.messages.as_slice(),
         b"m4: Warning: excess arguments to builtin `define' ignored\nm4: Warning: invalid macro name ignored in builtin `define'\n".as_slice()
-    );
-    assert_eq!(rt; state.names()?.len(), 0);
-    Ok(())
-}
-
-#[test]
-fn undefines_each_name(rt: HostRuntime) -> Result<(), Fail> {
-    let mut state = State::fresh(rt.alloc(), false)?;
-    let texts = [b"dnl".as_slice(), b"missing", b"changecom"];
-    let effect = call(rt.alloc(), &mut state, Builtin::Undefine, &texts)?;
-    assert!(rt; only_tells(&effect));
-    assert_eq!(rt; effect.messages.as_slice(), b"".as_slice());
-    assert!(rt; state.top(b"dnl").is_none());
-    assert!(rt; state.top(b"changecom").is_none());
-    assert_eq!(rt; state.names()?.len(), 5);
-    Ok(())
-}
-
-#[test]
-fn drops_the_rest_of_the_line(rt: HostRuntime) -> Result<(), Fail> {
-    let mut state = State::empty(rt.alloc())?;
-    let effect = call(rt.alloc(), &mut state, Builtin::Dnl, &[])?;
-    assert!(rt; effect.skip);
-    assert_eq!(rt; effect.messages.as_slice(), b"".as_slice());
-    let effect = call(rt.alloc(), &mut state, Builtin::Dnl, &[b""])?;
-    assert!(rt; effect.skip);
-    assert_eq!(rt;
-        effect.messages.as_slice(),
-        b"m4:a.m4:1: Warning: excess arguments to builtin `dnl' ignored\n".as_slice()
     );
     Ok(())
 }
@@ -168,8 +178,7 @@ const QUOTES: [(&[&[u8]], &[u8], &[u8]); 5] = [
 fn chooses_quotes(rt: HostRuntime) -> Result<(), Fail> {
     let mut state = State::empty(rt.alloc())?;
     for (texts, begin, end) in QUOTES {
-        let effect = call(rt.alloc(), &mut state, Builtin::Changequote, texts)?;
-        assert!(rt; only_tells(&effect));
+        call(rt.alloc(), &mut state, Builtin::Changequote, texts)?;
         assert_eq!(rt; state.quotes(), (begin, end));
     }
     Ok(())
@@ -186,35 +195,42 @@ const COMMENTS: [(&[&[u8]], &[u8], &[u8]); 3] = [
 fn chooses_comments(rt: HostRuntime) -> Result<(), Fail> {
     let mut state = State::empty(rt.alloc())?;
     for (texts, begin, end) in COMMENTS {
-        let effect = call(rt.alloc(), &mut state, Builtin::Changecom, texts)?;
-        assert!(rt; only_tells(&effect));
+        call(rt.alloc(), &mut state, Builtin::Changecom, texts)?;
         assert_eq!(rt; state.comments(), (begin, end));
     }
     Ok(())
 }
 
-#[test]
-fn expands_a_text(rt: HostRuntime) -> Result<(), Fail> {
-    let alloc = rt.alloc();
-    let mut state = State::empty(alloc)?;
+// Calls a text that names all that it can, with two arguments.
+fn call_a_text(alloc: Global, state: &mut State) -> Result<Effect, BuiltinFault> {
     let args = call_of(alloc, b"f", &[b"a", b"b"])?;
     let place = place_of(alloc, b"a.m4", 1)?;
     let text = Def::Text(Bytes::from_slice(alloc, b"$0:$2$1$@")?);
-    let effect = act(alloc, &text, &args, &place, &mut state)?;
+    act(alloc, &text, &args, &place, state)
+}
+
+#[test]
+fn expands_a_text(rt: HostRuntime) -> Result<(), Fail> {
+    let mut state = State::empty(rt.alloc())?;
+    let effect = call_a_text(rt.alloc(), &mut state)?;
     assert_eq!(rt; pushed(&effect), b"f:ba`a',`b'".as_slice());
-    assert_eq!(rt; effect.messages.as_slice(), b"".as_slice());
+    assert!(rt; effect.messages.as_slice().is_empty() && !effect.skip);
     Ok(())
+}
+
+// Calls a placeholder, under another name than it stands for.
+fn call_a_placeholder(alloc: Global, state: &mut State) -> Result<Effect, BuiltinFault> {
+    let args = call_of(alloc, b"match", &[b"a"])?;
+    let place = place_of(alloc, b"b.m4", 1)?;
+    let regexp = Def::Placeholder(Bytes::from_slice(alloc, b"regexp")?);
+    act(alloc, &regexp, &args, &place, state)
 }
 
 #[test]
 fn placeholders_only_warn(rt: HostRuntime) -> Result<(), Fail> {
-    let alloc = rt.alloc();
-    let mut state = State::empty(alloc)?;
-    let args = call_of(alloc, b"regexp", &[b"a"])?;
-    let place = place_of(alloc, b"b.m4", 1)?;
-    let regexp = Def::Placeholder(Bytes::from_slice(alloc, b"regexp")?);
-    let effect = act(alloc, &regexp, &args, &place, &mut state)?;
-    assert!(rt; only_tells(&effect));
+    let mut state = State::empty(rt.alloc())?;
+    let effect = call_a_placeholder(rt.alloc(), &mut state)?;
+    assert!(rt; leaves_no_more(&effect) && !effect.skip);
     assert_eq!(rt;
         effect.messages.as_slice(),
         b"m4:b.m4:1: Warning: builtin `regexp' requested by frozen file is not supported\n".as_slice()

@@ -5,35 +5,39 @@ use crate::fault::BuiltinFault;
 use crate::messages::{dropped_message, error_message};
 use std::test::Fail;
 
+// A file, a line, and how an error there and a dropped definition are told.
+const LINES: [(&[u8], u64, &[u8], &[u8]); 2] = [
+    (
+        b"dir/a.m4",
+        18446744073709551615,
+        b"m4:dir/a.m4:18446744073709551615: ERROR: end of file in string\n",
+        b"m4:dir/a.m4:18446744073709551615: Warning: builtin dropped from text\n",
+    ),
+    (
+        b"",
+        0,
+        b"m4: ERROR: end of file in string\n",
+        b"m4: Warning: builtin dropped from text\n",
+    ),
+];
+
 #[test]
-fn errors_and_warnings_tell_their_place(rt: HostRuntime) -> Result<(), Fail> {
-    let place = place_of(rt.alloc(), b"dir/a.m4", 18446744073709551615)?;
-    let got = error_message(rt.alloc(), &place, b"end of file in string")?;
-    assert_eq!(rt;
-        got.as_slice(),
-        b"m4:dir/a.m4:18446744073709551615: ERROR: end of file in string\n".as_slice()
-    );
-    let got = dropped_message(rt.alloc(), &place)?;
-    assert_eq!(rt;
-        got.as_slice(),
-        b"m4:dir/a.m4:18446744073709551615: Warning: builtin dropped from text\n".as_slice()
-    );
+fn errors_tell_their_place(rt: HostRuntime) -> Result<(), Fail> {
+    for (file, line, want, _) in LINES {
+        let place = place_of(rt.alloc(), file, line)?;
+        let got = error_message(rt.alloc(), &place, b"end of file in string")?;
+        assert_eq!(rt; got.as_slice(), want);
+    }
     Ok(())
 }
 
 #[test]
-fn wrapped_text_has_no_place(rt: HostRuntime) -> Result<(), Fail> {
-    let place = place_of(rt.alloc(), b"", 0)?;
-    let got = error_message(rt.alloc(), &place, b"end of file in comment")?;
-    assert_eq!(rt;
-        got.as_slice(),
-        b"m4: ERROR: end of file in comment\n".as_slice()
-    );
-    let got = dropped_message(rt.alloc(), &place)?;
-    assert_eq!(rt;
-        got.as_slice(),
-        b"m4: Warning: builtin dropped from text\n".as_slice()
-    );
+fn warnings_tell_their_place(rt: HostRuntime) -> Result<(), Fail> {
+    for (file, line, _, want) in LINES {
+        let place = place_of(rt.alloc(), file, line)?;
+        let got = dropped_message(rt.alloc(), &place)?;
+        assert_eq!(rt; got.as_slice(), want);
+    }
     Ok(())
 }
 

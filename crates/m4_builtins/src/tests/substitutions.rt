@@ -7,7 +7,7 @@ use crate::substitute::substitute;
 use m4_state::builtin::Builtin;
 use m4_state::bytes::Bytes;
 use m4_state::definition::Def;
-use std::alloc::Global;
+use std::alloc::{AllocError, Global};
 use std::test::Fail;
 
 // A text, the arguments, and what the text gives under the name `f` and the default quotes.
@@ -32,14 +32,19 @@ const ROWS: [(&[u8], &[&[u8]], &[u8]); 14] = [
     (b"$18446744073709551617!", &[b"a"], b"!"),
 ];
 
-fn gives(alloc: Global, text: &[u8], texts: &[&[u8]]) -> Result<Bytes, BuiltinFault> {
-    substitute(alloc, text, &call_of(alloc, b"f", texts)?, (b"`", b"'"))
+fn gives(
+    alloc: Global,
+    text: &[u8],
+    texts: &[&[u8]],
+    quotes: (&[u8], &[u8]),
+) -> Result<Bytes, BuiltinFault> {
+    substitute(alloc, text, &call_of(alloc, b"f", texts)?, quotes)
 }
 
 #[test]
 fn puts_in_what_the_dollars_stand_for(rt: HostRuntime) -> Result<(), Fail> {
     for (text, texts, want) in ROWS {
-        let got = gives(rt.alloc(), text, texts)?;
+        let got = gives(rt.alloc(), text, texts, (b"`", b"'"))?;
         assert_eq!(rt; got.as_slice(), want);
     }
     Ok(())
@@ -47,25 +52,36 @@ fn puts_in_what_the_dollars_stand_for(rt: HostRuntime) -> Result<(), Fail> {
 
 #[test]
 fn quotes_by_the_current_quotes(rt: HostRuntime) -> Result<(), Fail> {
-    let call = call_of(rt.alloc(), b"f", &[b"a", b"b"])?;
-    let got = substitute(rt.alloc(), b"$@", &call, (b"[[", b"]]"))?;
-    assert_eq!(rt; got.as_slice(), b"[[a]],[[b]]".as_slice());
-    let got = substitute(rt.alloc(), b"$@", &call, (b"", b""))?;
-    assert_eq!(rt; got.as_slice(), b"a,b".as_slice());
+    let quotes = [
+        (
+            b"[[".as_slice(),
+            b"]]".as_slice(),
+            b"[[a]],[[b]]".as_slice(),
+        ),
+        (b"", b"", b"a,b"),
+    ];
+    for (begin, end, want) in quotes {
+        let got = gives(rt.alloc(), b"$@", &[b"a", b"b"], (begin, end))?;
+        assert_eq!(rt; got.as_slice(), want);
+    }
     Ok(())
+}
+
+// A call with one argument, which is a definition.
+fn definition_alone(alloc: Global) -> Result<Args, AllocError> {
+    let mut items = Vec::new(alloc);
+    items.push(Arg::Definition(Def::Builtin(Builtin::Dnl)))?;
+    Ok(Args {
+        name: Bytes::from_slice(alloc, b"f")?,
+        list: ArgList::from(items),
+    })
 }
 
 // A definition that is an argument gives no text, but it counts.
 #[test]
 fn definitions_are_empty(rt: HostRuntime) -> Result<(), Fail> {
-    let alloc = rt.alloc();
-    let mut items = Vec::new(alloc);
-    items.push(Arg::Definition(Def::Builtin(Builtin::Dnl)))?;
-    let call = Args {
-        name: Bytes::from_slice(alloc, b"f")?,
-        list: ArgList::from(items),
-    };
-    let got = substitute(alloc, b"<$1>$#", &call, (b"`", b"'"))?;
+    let args = definition_alone(rt.alloc())?;
+    let got = substitute(rt.alloc(), b"<$1>$#", &args, (b"`", b"'"))?;
     assert_eq!(rt; got.as_slice(), b"<>1".as_slice());
     Ok(())
 }
