@@ -20,10 +20,10 @@ use m4_state::definition::Def;
 use m4_state::state::State;
 use std::alloc::{AllocError, Global};
 
-/// What a call of a definition does to the state, and what it leaves to be done. A fault can leave
-/// the state changed. Manual: "Defining a macro", "Deleting a macro", "Deleting whitespace in
-/// input", "Changing the quote characters", "Changing the comment delimiters", "Arguments to
-/// macros".
+/// What a call of a definition does to the state, and what it leaves to be done. A refused growth is
+/// `OutOfMemory`; it can come behind the state's change. Manual: "Defining a macro", "Deleting a
+/// macro", "Deleting whitespace in input", "Changing the quote characters", "Changing the comment
+/// delimiters", "Arguments to macros".
 pub fn act(
     alloc: Global,
     def: &Def,

@@ -28,7 +28,7 @@ impl Effect {
     ghost use Rattle.m4_builtins.specs.Act.{nothing};
 
     /// Nothing is left to be done.
-    pub fn nothing(alloc: Global) -> Effect
+    pub(crate) fn nothing(alloc: Global) -> Effect
         ensures { result ≡ nothing }
     {
         Effect {
@@ -42,7 +42,7 @@ impl Effect {
     }
 
     /// Only messages are told.
-    pub fn telling(alloc: Global, messages: Bytes) -> Effect
+    pub(crate) fn telling(alloc: Global, messages: Bytes) -> Effect
         ensures { result ≡ record nothing { messages = messages } }
     {
         let mut effect = Effect::nothing(alloc);
@@ -51,7 +51,7 @@ impl Effect {
     }
 
     /// A text is put in front of the input.
-    pub fn pushing(alloc: Global, text: Bytes) -> Effect
+    pub(crate) fn pushing(alloc: Global, text: Bytes) -> Effect
         ensures { result ≡ record nothing { push = Some (pushes.Text text) } }
     {
         let mut effect = Effect::nothing(alloc);
@@ -60,7 +60,7 @@ impl Effect {
     }
 
     /// The rest of the line is dropped.
-    pub fn skipping(alloc: Global) -> Effect
+    pub(crate) fn skipping(alloc: Global) -> Effect
         ensures { result ≡ record nothing { skip = true } }
     {
         let mut effect = Effect::nothing(alloc);

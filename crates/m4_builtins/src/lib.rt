@@ -1,7 +1,7 @@
 //! What a call does: the texts with their arguments put in, and the builtins.
 //!
-//! So far the crate has the types and the definitions: `specs/Subst.antt` says what a text expands
-//! to, `specs/Act.antt` what each call does, `specs/Messages.antt` what is told of it.
+//! [`act::act`] does a call. `specs/Subst.antt` says what a text expands to, `specs/Act.antt` what each
+//! call does, `specs/Messages.antt` what is told of it.
 //! Manual: "Definitions", "Conditionals", "Input control", and the chapters of the builtins.
 #![tactic(auto)]
 
@@ -13,3 +13,5 @@ pub mod messages;
 pub mod place;
 mod rows;
 pub mod substitute;
+#[cfg(test)]
+mod tests;

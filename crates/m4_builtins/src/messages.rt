@@ -10,7 +10,8 @@ use m4_state::builtin::Builtin;
 use m4_state::bytes::Bytes;
 use std::alloc::{AllocError, Global};
 
-/// The line of messages that says why the run ends. Manual: "Location within input".
+/// The line of messages that says why the run ends. A refused growth is `OutOfMemory`. Manual:
+/// "Location within input".
 pub fn error_message(alloc: Global, place: &Place, text: &[u8]) -> Result<Bytes, BuiltinFault>
     // exact steps: the whole line
     ensures { IfOk result (λ b. b ≡ error place.now text.now) }
@@ -21,8 +22,8 @@ pub fn error_message(alloc: Global, place: &Place, text: &[u8]) -> Result<Bytes,
     Ok(Bytes::from(line))
 }
 
-/// The warning that a definition was in a text, where it is left out. Manual: "Location within
-/// input".
+/// The warning that a definition was in a text, where it is left out. A refused growth is
+/// `OutOfMemory`. Manual: "Location within input".
 pub fn dropped_message(alloc: Global, place: &Place) -> Result<Bytes, BuiltinFault>
     // exact steps: the whole line
     ensures { IfOk result (λ b. b ≡ dropped place.now) }

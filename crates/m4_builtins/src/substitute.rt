@@ -15,8 +15,8 @@ use m4_state::bytes::Bytes;
 use std::alloc::{AllocError, Global};
 
 /// A text with the name and the arguments of a call put in, by the current quotes. Takes time in
-/// proportion to the text and to what is put in. Manual: "Arguments to macros", "Special arguments
-/// to macros".
+/// proportion to the text and to what is put in. A refused growth is `OutOfMemory`. Manual:
+/// "Arguments to macros", "Special arguments to macros".
 pub fn substitute(
     alloc: Global,
     text: &[u8],
@@ -107,7 +107,7 @@ fn push_dollar(
 }
 
 /// An argument as text: a definition counts as empty.
-pub fn text_of(arg: &Arg) -> &[u8]
+pub(crate) fn text_of(arg: &Arg) -> &[u8]
     ensures { result.now ≡ text_of_arg arg.now }
 {
     match arg {
