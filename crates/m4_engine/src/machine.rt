@@ -5,7 +5,7 @@
 ghost use Rattle.std.specs.Prelude.{◌≡◌, suc, [], OnOk, IfSome, IfNone};
 ghost use Rattle.m4_state.specs.Definition.{IsDefinition};
 ghost use Rattle.m4_builtins.specs.Messages.{error};
-ghost use Rattle.m4_engine.specs.Engine.{with_text, with_token, telling, beginning};
+ghost use Rattle.m4_engine.specs.Engine.{with_text, with_token, telling, beginning, engine_at};
 
 use crate::call::OpenCall;
 use crate::turned::TurnFault;
@@ -44,6 +44,23 @@ impl Model for Machine {
 }
 
 impl Machine {
+    /// A machine at rest, from a state and the limits.
+    pub fn new(alloc: Global, state: State, most_calls: u64, most_nested: u64) -> Machine
+        ensures { result ≡ engine_at state most_calls most_nested }
+    {
+        Machine {
+            alloc,
+            most_calls,
+            most_nested,
+            state,
+            calls: 0,
+            innermost: None,
+            outer: Vec::new(alloc),
+            output: Vec::new(alloc),
+            messages: Vec::new(alloc),
+        }
+    }
+
     /// Puts text where it goes: into an argument, or to the output or a diversion.
     pub fn put_text(&mut self, text: &[u8]) -> Result<(), StateFault>
         ensures { OnOk result (self.new ≡ with_text text.now self.old) }
