@@ -31,3 +31,4 @@ pub mod Begins
 pub mod Running
 pub mod SavesNothing
 pub mod Sessions
+pub mod Issues

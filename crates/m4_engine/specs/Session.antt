@@ -15,8 +15,8 @@ use Rattle.m4_engine.specs.declared.stop.Stop.TheVariants as stops
 use Rattle.m4_engine.specs.Expansion.{RunSoFar, Limits, How, Ends, Ended}
 use Rattle.m4_engine.specs.Expands.{Broken}
 use Rattle.m4_engine.specs.File.{Source, Opened, Unopened, Progress, file, after_source, cannot_open}
-use Rattle.m4_engine.specs.Wraps.{after_wraps, close}
-use Rattle.m4_engine.specs.Run.{limits_of, status_of}
+use Rattle.m4_engine.specs.Wraps.{after_wraps}
+use Rattle.m4_engine.specs.Run.{limits_of, status_of, closed_output}
 
 -- a run between two calls: what it has made beside what was written; whether a source wasn't opened;
 -- why it is over, if it is; and whether it was brought to its end
@@ -137,3 +137,46 @@ answer_by cause = Err (stops.Ended cause)
 abbrev pub over_behind : Cause → Option Cause → Option Cause
 over_behind causes.Done over = over
 over_behind cause over = Some cause
+
+-- a source that wasn't opened: it is told of
+abbrev pub MissingGives : List ℕ → Standing → Standing → Option (List ℕ) → Option (List ℕ) → Result Unit Stop → Type 0
+MissingGives name old new told_old told_new (Ok done) =
+    IsOpen old × IsOpen new × (new.limits ≡ old.limits)
+    × (progress_of new ≡ written (after_source old.limits (Unopened name) (progress_of old)))
+    × (told_new ≡ with_bytes told_old (cannot_open name))
+MissingGives name old new told_old told_new (Err stops.Finished) =
+    (IsOpen old → ⊥) × (new ≡ old) × (told_new ≡ told_old)
+MissingGives name old new told_old told_new (Err (stops.Ended causes.Write)) =
+    Fell old new causes.Write × HasBegun told_old told_new (cannot_open name)
+MissingGives name old new told_old told_new (Err (stops.Ended cause)) = ⊥
+
+-- the run behind its saved texts
+abbrev pub behind_wraps : Standing → Progress
+behind_wraps s = after_wraps s.limits (progress_of s)
+
+-- the run came to its end: the saved texts were read, and the diversions were issued
+pub record Closed (old new : Standing) (w : Writers) : Type 0 where
+  pub live : IsOpen old
+  pub finished : new.finished ≡ true
+  pub over : new.over ≡ None
+  pub missed : new.missed ≡ old.missed
+  pub calls : new.calls ≡ ((behind_wraps old).so_far).calls
+  pub ended : (behind_wraps old).over ≡ None
+  pub output : w.out_new ≡ with_bytes w.out_old (closed_output false (behind_wraps old).so_far)
+  pub messages : w.told_new ≡ with_bytes w.told_old ((behind_wraps old).so_far).messages
+
+-- the end of a run
+abbrev pub FinishGives : Standing → Standing → Writers → Result Unit Stop → Type 0
+FinishGives old new w (Ok done) = Closed old new w
+FinishGives old new w (Err stops.Finished) = Refused old new w
+FinishGives old new w (Err (stops.Ended causes.Write)) =
+    Fell old new causes.Write
+    × HasBegun w.out_old w.out_new (closed_output false (behind_wraps old).so_far)
+    × HasBegun w.told_old w.told_new ((behind_wraps old).so_far).messages
+FinishGives old new w (Err (stops.Ended cause)) =
+    Filed old new (behind_wraps old) w × (new.over ≡ Some cause)
+
+-- whether a text stands saved
+abbrev pub is_saved : List (List ℕ) → Bool
+is_saved [] = false
+is_saved (x ∷ xs) = true

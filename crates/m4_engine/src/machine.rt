@@ -2,7 +2,7 @@
 //!
 //! What a turn puts out is held until it is handed on, so that a turn asks no writer.
 
-ghost use Rattle.std.specs.Prelude.{◌≡◌, suc, [], OnOk, IfSome, IfNone};
+ghost use Rattle.std.specs.Prelude.{◌≡◌, suc, false, [], OnOk, IfSome, IfNone};
 ghost use Rattle.m4_state.specs.Definition.{IsDefinition};
 ghost use Rattle.m4_builtins.specs.Messages.{error};
 ghost use Rattle.m4_engine.specs.Engine.{with_text, with_token, telling, beginning, engine_at};
@@ -120,5 +120,14 @@ impl Machine {
     {
         let around = self.outer.pop();
         std::mem::replace(&mut self.innermost, around)
+    }
+
+    /// Whether a text stands saved to be read at the end. No call saves one yet.
+    pub fn has_saved(&self) -> bool
+        ensures answer { result ≡ false }
+        ensures none { self.now.saved ≡ [] }
+    {
+        let _calls = self.calls;
+        false
     }
 }

@@ -2,7 +2,9 @@
 //! Manual: "Command line files", "Invoking m4".
 
 ghost use Rattle.std.specs.Prelude.{◌≡◌, true, false, Some, IfOk, IfErr};
-ghost use Rattle.m4_engine.specs.Session.{Standing, IsOpen, answer_by, over_behind, fresh_standing, FileGives, status_at};
+ghost use Rattle.m4_state.specs.Device.{Puts};
+ghost use Rattle.m4_engine.specs.Wraps.{close};
+ghost use Rattle.m4_engine.specs.Session.{Standing, IsOpen, answer_by, over_behind, fresh_standing, FileGives, MissingGives, FinishGives, is_saved, status_at};
 
 use crate::ending::Cause;
 use crate::machine::Machine;
@@ -12,9 +14,10 @@ use m4_frozen::fault::FrozenKind;
 use m4_input::fault::InputFault;
 use m4_input::input::Input;
 use m4_state::bytes::Bytes;
-use m4_state::device::{ByteSink, ByteSource};
+use m4_state::device::{ByteSink, ByteSource, DeviceFault};
 use m4_state::memory::MemSource;
 use m4_state::state::State;
+use m4_state::transfer::{put_all, put_pieces};
 use std::alloc::Global;
 use std::marker::Model;
 
@@ -131,4 +134,57 @@ impl Session {
             Some(_) => 1,
         }
     }
+
+    /// Tells of a source that could not be opened; the status will not be 0. `Ended(Write)` behind a
+    /// beginning of what is told.
+    pub fn missing<M: ByteSink>(&mut self, name: &[u8], messages: &mut M) -> Result<(), Stop>
+        // session steps: the unopened source, with its message written
+        ensures { MissingGives name.now self.old self.new (M.contents messages.old) (M.contents messages.new) result }
+    {
+        if !self.is_open() {
+            return Err(Stop::Finished);
+        }
+        if let Err(DeviceFault) = put_pieces(messages, &[b"m4: cannot open `", name, b"'\n"]) {
+            return Err(self.end(Cause::Write));
+        }
+        self.missed = true;
+        Ok(())
+    }
+
+    /// Brings the run to its end: the diversions that are left are issued, by rising number. No call
+    /// saves text to be read at the end yet. `Ended(Write)` behind a beginning of what is issued.
+    pub fn finish<O: ByteSink, M: ByteSink>(&mut self, out: &mut O, messages: &mut M) -> Result<(), Stop>
+        // session steps: the saved texts, then the diversions
+        ensures { FinishGives self.old self.new
+            (record { out_old = O.contents out.old; out_new = O.contents out.new; told_old = M.contents messages.old; told_new = M.contents messages.new })
+            result }
+    {
+        let _ = messages;
+        if !self.is_open() {
+            return Err(Stop::Finished);
+        }
+        if let Err(DeviceFault) = issue(&mut self.machine.state, out) {
+            return Err(self.end(Cause::Write));
+        }
+        self.finished = true;
+        Ok(())
+    }
+
+    /// Whether a text stands saved to be read at the end.
+    pub fn wrapped(&self) -> bool
+        // session steps: whether one stands saved
+        ensures { result ≡ is_saved self.now.saved }
+    {
+        self.machine.has_saved()
+    }
+}
+
+/// Issues the diversions by rising number, each one as it is taken out.
+fn issue<O: ByteSink>(state: &mut State, out: &mut O) -> Result<(), DeviceFault>
+    ensures { Puts result (O.contents out.old) (O.contents out.new) (close state.old) }
+{
+    while let Some((_, text)) = state.take_least() {
+        put_all(out, &text)?;
+    }
+    Ok(())
 }
