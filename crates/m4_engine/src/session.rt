@@ -188,3 +188,6 @@ fn issue<O: ByteSink>(state: &mut State, out: &mut O) -> Result<(), DeviceFault>
     }
     Ok(())
 }
+
+#[cfg(test)]
+mod tests;
