@@ -1,17 +1,17 @@
 //! Calls, their arguments and whole runs of the macro processor, and what holds of them.
 //!
-//! So far the crate has the definitions (`specs/`) and, in [`laws`], what is proved of them alone.
-//! Manual: "Macro invocation", "Macro arguments".
+//! A [`session`] reads sources one behind the other and ends; the definitions that it follows are in
+//! `specs/`, and what is proved of these alone in [`laws`]. Manual: "Macro invocation", "Macro arguments".
 #![tactic(auto)]
 
-pub mod call;
-pub mod driver;
+mod call;
+mod driver;
 pub mod ending;
 pub mod laws;
-pub mod machine;
+mod machine;
 pub mod options;
-pub mod role;
+mod role;
 pub mod session;
 pub mod stop;
-pub mod turn;
-pub mod turned;
+mod turn;
+mod turned;

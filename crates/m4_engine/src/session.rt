@@ -1,8 +1,8 @@
 //! A run, call by call: sources one behind the other, and then its end.
 //! Manual: "Command line files", "Invoking m4".
 
-ghost use Rattle.std.specs.Prelude.{◌≡◌, true, false, Some, IfOk, IfErr};
-ghost use Rattle.m4_state.specs.Device.{Puts};
+ghost use Rattle.std.specs.Prelude.{◌≡◌, true, false, Some, Err, IfOk, IfErr};
+ghost use Rattle.m4_state.specs.Device.{Puts, one_more};
 ghost use Rattle.m4_engine.specs.Wraps.{close};
 ghost use Rattle.m4_engine.specs.Session.{Standing, IsOpen, answer_by, over_behind, fresh_standing, FileGives, MissingGives, FinishGives, is_saved, status_at};
 
@@ -87,9 +87,11 @@ impl Session {
         messages: &mut M,
     ) -> Result<(), Stop>
         // session steps: the definition of a file, with what it puts out written
-        ensures { FileGives name (R.script reader.old) (R.script reader.new) self.old self.new
+        ensures gives { FileGives name (R.script reader.old) (R.script reader.new) self.old self.new
             (record { out_old = O.contents out.old; out_new = O.contents out.new; told_old = M.contents messages.old; told_new = M.contents messages.new })
             result }
+        // a read fault comes only where the reader failed
+        ensures read { result ≡ Err (Stop.Ended Cause.Read) → R.failures reader.new ≡ one_more (R.failures reader.old) }
     {
         if !self.is_open() {
             return Err(Stop::Finished);

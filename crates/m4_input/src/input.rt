@@ -95,7 +95,7 @@ impl Input {
             (self.new ≡ record self.old { pending = with_pushed value self.old.pending })
             × (self.old.fault ≡ None)) }
         ensures err { OnErr result (self.new ≡ self.old) }
-        // the answer: an earlier fault again, else OutOfMemory
+        // an earlier fault again, else OutOfMemory
         ensures again { IfSome self.old.fault (λ f. result ≡ Err f) }
         ensures fault { self.old.fault ≡ None → IfErr result (λ f. f ≡ InputFault.OutOfMemory) }
     {
