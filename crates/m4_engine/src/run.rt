@@ -1,0 +1,35 @@
+//! A whole run: its sources one behind the other, and its end. Manual: "Invoking m4".
+
+ghost use Rattle.std.specs.Prelude.{◌≡◌, Some};
+ghost use Rattle.m4_engine.specs.File.{Source as Told, after_source};
+ghost use Rattle.m4_engine.specs.Session.{IsOpen, GoesTo, progress_of};
+
+use crate::ending::Cause;
+use crate::session::Session;
+use crate::source::{Source, Tells};
+use crate::stop::Stop;
+use m4_state::device::{ByteSink, ByteSource};
+
+/// Reads a source in its turn.
+fn read<R: ByteSource, O: ByteSink, M: ByteSink>(
+    session: &mut Session,
+    source: &mut Source<R>,
+    out: &mut O,
+    messages: &mut M,
+) -> Result<(), Stop>
+    requires { IsOpen session.old }
+    ensures { (s : Told) → ⟦<Source<R> as Tells>⟧.told source.old ≡ Some s → 
+        GoesTo (after_source session.old.limits s (progress_of session.old)) session.old session.new
+            (record { out_old = O.contents out.old; out_new = O.contents out.new; told_old = M.contents messages.old; told_new = M.contents messages.new })
+            result }
+{
+    match source {
+        Source::Opened { name, reader } => {
+            let Ok(name) = name.share() else {
+                return Err(session.end(Cause::OutOfMemory));
+            };
+            session.file(name, reader, out, messages)
+        }
+        Source::Unopened { name } => session.missing(name.as_slice(), messages),
+    }
+}
