@@ -33,3 +33,4 @@ pub mod SavesNothing
 pub mod Sessions
 pub mod Issues
 pub mod Sources
+pub mod Reading

@@ -129,3 +129,7 @@ pub unopened_goes : (old new : Standing) (name : List ℕ) (w : Writers) (r : Re
 unopened_goes old new name w r s l t o h =
     let e : Unopened name ≡ s = cc in
     subst (λ (s : Source). GoesTo (after_source old.limits s (progress_of old)) old new w r) e (missing_goes old new name w r l o h)
+
+-- a file that was read to its end leaves the session open
+pub file_leaves_open : (old new : Standing) (name : List ℕ) (before behind : Option Script) (w : Writers) → FileGives name before behind old new w (Ok tt) → IsOpen new
+file_leaves_open old new name before behind w h = record { over = h.4; unfinished = (h.3).unfinished }
