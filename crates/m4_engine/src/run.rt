@@ -1,4 +1,4 @@
-//! A whole run: its sources one behind the other, and its end. Manual: "Invoking m4".
+//! The sources of a run, one behind the other. Manual: "Command line files".
 
 ghost use Rattle.std.specs.Prelude.{◌≡◌, List, map, Some, OnOk};
 ghost use Rattle.m4_engine.specs.File.{Source as Told, after_source, after_sources};
@@ -37,14 +37,17 @@ fn read<R: ByteSource, O: ByteSink, M: ByteSink>(
     }
 }
 
-/// Reads the sources, one behind the other, until the run ends.
-fn read_all<R: ByteSource, O: ByteSink, M: ByteSink>(
+/// Reads the sources, one behind the other, until the run ends: what they put out, taken together, is
+/// what the definition of the sources says. `Ended` by the cause that ends the run; behind a device or
+/// memory that failed a beginning of it was written.
+pub fn read_sources<R: ByteSource, O: ByteSink, M: ByteSink>(
     session: &mut Session,
     sources: &mut [Source<R>],
     out: &mut O,
     messages: &mut M,
 ) -> Result<(), Stop>
     requires { IsOpen session.old }
+    // session steps: all sources, where each reader tells its bytes and ends
     ensures { (ss : List Told) → map (told R.script) sources.old ≡ map Some ss →
         GoesTo (after_sources session.old.limits ss (progress_of session.old)) session.old session.new
             (record { out_old = O.contents out.old; out_new = O.contents out.new; told_old = M.contents messages.old; told_new = M.contents messages.new })
@@ -55,3 +58,6 @@ fn read_all<R: ByteSource, O: ByteSink, M: ByteSink>(
     }
     Ok(())
 }
+
+#[cfg(test)]
+mod tests;

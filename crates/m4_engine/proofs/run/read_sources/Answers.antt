@@ -1,7 +1,7 @@
 use Rattle.std.proofs.Common.{rules, refl, sym, ◌∙◌, ◌+◌}
 use Rattle.m4_engine.specs.Told.{told}
 use Rattle.m4_engine.proofs.Reading.{none_read, one_read, all_read, stopped_so, item_told, none_left, rest_kept}
-use Rattle.m4_engine.proofs.run.read_all.Goals as goal
+use Rattle.m4_engine.proofs.run.read_sources.Goals as goal
 
 pub sources-init : goal.sources-init
 sources-init g c = (c.requires, refl, λ ss e. none_read ss c.args.session.now _ _)

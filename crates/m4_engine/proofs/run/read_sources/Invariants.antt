@@ -3,7 +3,7 @@ use Rattle.m4_engine.specs.File.{Source}
 use Rattle.m4_engine.specs.Told.{told}
 use Rattle.m4_engine.specs.Session.{IsOpen}
 use Rattle.m4_engine.proofs.Reading.{Between}
-use Rattle.m4_engine.proofs.run.read_all.Given as goal
+use Rattle.m4_engine.proofs.run.read_sources.Given as goal
 
 -- the sources before this one were read, and those from it on are as they were
 abbrev pub invariant-sources : goal.invariant-sources
