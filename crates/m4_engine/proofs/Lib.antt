@@ -32,3 +32,5 @@ pub mod Running
 pub mod SavesNothing
 pub mod Sessions
 pub mod Issues
+pub mod Sources
+pub mod Reading

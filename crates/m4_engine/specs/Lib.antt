@@ -16,3 +16,4 @@ pub mod MachineView
 pub mod Expands
 pub mod Session
 pub mod SessionView
+pub mod Told

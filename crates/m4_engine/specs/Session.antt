@@ -180,3 +180,18 @@ FinishGives old new w (Err (stops.Ended cause)) =
 abbrev pub is_saved : List (List ℕ) → Bool
 is_saved [] = false
 is_saved (x ∷ xs) = true
+
+-- what a run puts out is written up to a beginning, and the cause ends it
+pub record BrokeOff (new : Standing) (p : Progress) (w : Writers) (cause : Cause) : Type 0 where
+  pub over : new.over ≡ Some cause
+  pub output : HasBegun w.out_old w.out_new (p.so_far).output
+  pub messages : HasBegun w.told_old w.told_new (p.so_far).messages
+
+-- an open session that went on to this progress, or broke off on the way there
+abbrev pub GoesTo : Progress → Standing → Standing → Writers → Result Unit Stop → Type 0
+GoesTo p old new w (Ok done) = Filed old new p w × (new.over ≡ None)
+GoesTo p old new w (Err stops.Finished) = ⊥
+GoesTo p old new w (Err (stops.Ended causes.Read)) = ⊥
+GoesTo p old new w (Err (stops.Ended causes.Write)) = BrokeOff new p w causes.Write
+GoesTo p old new w (Err (stops.Ended causes.OutOfMemory)) = BrokeOff new p w causes.OutOfMemory
+GoesTo p old new w (Err (stops.Ended cause)) = Filed old new p w × (new.over ≡ Some cause)

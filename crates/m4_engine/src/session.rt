@@ -69,7 +69,7 @@ impl Session {
     }
 
     /// The run ends by this cause.
-    fn end(&mut self, cause: Cause) -> Stop
+    pub fn end(&mut self, cause: Cause) -> Stop
         ensures answer { result ≡ Stop.Ended cause }
         ensures over { self.new ≡ record self.old { over = Some cause } }
     {

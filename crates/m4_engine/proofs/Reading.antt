@@ -1,0 +1,200 @@
+-- Reading: sources read one behind the other are the definitions' sources.
+use Rattle.std.proofs.Common.{◌≡◌, ◌⊎◌, inl, inr, ◌<◌, ◌≤◌, ℕ, zero, suc, ◌+◌, Bool, List, [], ◌∷◌, ◌++◌, length, drop, drop-cons, map, Option, Some, None, refl, sym, ap, ◌∙◌, subst, arith, append-nil, append_assoc}
+use Rattle.std.specs.Prelude.{Result, Ok, Err, slice_set, slice_index_or}
+use Rattle.std.proofs.lemmas.List.{drop-set-lt, drop-drop}
+use Rattle.m4_state.specs.Device.{with_bytes, HasBegun}
+use Rattle.m4_engine.specs.declared.ending.Cause.TheVariants as causes
+use Rattle.m4_engine.specs.declared.stop.Stop.{Stop}
+use Rattle.m4_engine.specs.declared.stop.Stop.TheVariants as stops
+use Rattle.m4_engine.specs.declared.ending.Cause.{Cause}
+use Rattle.m4_engine.specs.Expansion.{RunSoFar, Limits, How, Ends}
+use Rattle.m4_engine.proofs.Begins.{with_both, begun_behind}
+use Rattle.m4_engine.proofs.OnePass.{sources_keep, over_sources}
+use Rattle.m4_engine.specs.File.{Source, Progress, over_of, after_source, after_sources}
+use Rattle.m4_engine.specs.Wraps.{after_wraps}
+use Rattle.m4_engine.specs.Session.{Standing, Writers, progress_of, how_over, written, IsOpen, Filed, BrokeOff, GoesTo}
+use Rattle.m4_engine.proofs.RunsBehind.{Bp, Behind, sources_behind, rounds_behind}
+
+-- a progress behind what was written before
+abbrev pub behind : List ℕ → List ℕ → Progress → Progress
+behind o m p = record p { so_far = record p.so_far { output = o ++ (p.so_far).output; messages = m ++ (p.so_far).messages } }
+
+-- the law of runs behind others, where nothing but output and messages was made before
+module _ (o m : List ℕ) (limits : Limits) where
+  room : (k : ℕ) → 0 + k < limits.calls → k < limits.calls
+  room k h = omega arith
+
+  abbrev B : Progress → Progress
+  B = Bp o m 0 limits.calls limits.calls limits.nesting limits.nesting room (λ k h. h) (λ h. ⊥) (inr (refl, refl)) (inr refl) (λ h x. absurd x)
+
+  B_is : (q : Progress) → B q ≡ behind o m q
+  B_is q =
+      let n : 0 + (q.so_far).calls ≡ (q.so_far).calls = omega arith in
+      ap (λ (k : ℕ). record (behind o m q) { so_far = record (behind o m q).so_far { calls = k } }) n
+
+  abbrev Behind' : Progress → Progress → Type 0
+  Behind' = Behind o m 0 limits.calls limits.calls limits.nesting limits.nesting room (λ k h. h) (λ h. ⊥) (inr (refl, refl)) (inr refl) (λ h x. absurd x)
+
+  same : (p q : Progress) → Behind' p q → p ≡ behind o m q
+  same p q (inl h) = absurd h.2
+  same p q (inr e) = e ∙ B_is q
+
+  pub sources_after : (ss : List Source) (q : Progress) → after_sources limits ss (behind o m q) ≡ behind o m (after_sources limits ss q)
+  sources_after ss q =
+      ap (after_sources limits ss) (sym (B_is q))
+      ∙ same (after_sources limits ss (B q)) (after_sources limits ss q)
+      (sources_behind o m 0 limits.calls limits.calls limits.nesting limits.nesting room (λ k h. h) (λ h. ⊥) (inr (refl, refl)) (inr refl) (λ h x. absurd x) ss (B q) q (inr refl))
+
+  pub wraps_after : (q : Progress) → after_wraps limits (behind o m q) ≡ behind o m (after_wraps limits q)
+  wraps_after q =
+      ap (after_wraps limits) (sym (B_is q))
+      ∙ same (after_wraps limits (B q)) (after_wraps limits q)
+      (rounds_behind o m 0 limits.calls limits.calls limits.nesting limits.nesting room (λ k h. h) (λ h. ⊥) (inr (refl, refl)) (inr refl) (λ h x. absurd x) (suc limits.calls) (B q) q (inr refl))
+
+-- some of the sources were read: so much was written, and the rest of the run is the rest of the sources
+pub record Between (ss : List Source) (i : ℕ) (s0 s : Standing) (w : Writers) : Type 0 where
+  pub o : List ℕ
+  pub m : List ℕ
+  pub output : w.out_new ≡ with_bytes w.out_old o
+  pub messages : w.told_new ≡ with_bytes w.told_old m
+  pub limits : s.limits ≡ s0.limits
+  pub rest : after_sources s0.limits ss (progress_of s0) ≡ after_sources s0.limits (drop i ss) (behind o m (progress_of s))
+
+with_none : (o : Option (List ℕ)) → o ≡ with_bytes o []
+with_none None = refl
+with_none (Some held) = ap Some (sym (append-nil held))
+
+pub none_read : (ss : List Source) (s : Standing) (out told : Option (List ℕ)) → Between ss 0 s s (record { out_old = out; out_new = out; told_old = told; told_new = told })
+none_read ss s out told = record { o = []; m = []; output = with_none out; messages = with_none told; limits = refl; rest = refl }
+
+-- what was written of a progress
+written_behind : (o m : List ℕ) (p q : Progress) → q ≡ written p → behind o m p ≡ behind (o ++ (p.so_far).output) (m ++ (p.so_far).messages) q
+written_behind o m p q e =
+    (rw (append-nil (o ++ (p.so_far).output), append-nil (m ++ (p.so_far).messages)) refl)
+    ∙ ap (behind (o ++ (p.so_far).output) (m ++ (p.so_far).messages)) (sym e)
+
+-- behind a source, the run goes on from what was written of it
+source_after : (s0 s : Standing) (o m : List ℕ) (t : Source) (ts : List Source) → s.limits ≡ s0.limits → after_sources s0.limits (t ∷ ts) (behind o m (progress_of s)) ≡ after_sources s0.limits ts (behind o m (after_source s.limits t (progress_of s)))
+source_after s0 s o m t ts l =
+    ap (after_sources s0.limits ts)
+    (sources_after o m s0.limits (t ∷ []) (progress_of s) ∙ ap (λ (x : Limits). behind o m (after_source x t (progress_of s))) (sym l))
+
+pub one_read : (ss : List Source) (i j : ℕ) (s0 s s' : Standing) (t : Source) (out0 out out' told0 told told' : Option (List ℕ)) → Between ss i s0 s (record { out_old = out0; out_new = out; told_old = told0; told_new = told }) → drop i ss ≡ t ∷ drop j ss → Filed s s' (after_source s.limits t (progress_of s)) (record { out_old = out; out_new = out'; told_old = told; told_new = told' }) → Between ss j s0 s' (record { out_old = out0; out_new = out'; told_old = told0; told_new = told' })
+one_read ss i j s0 s s' t out0 out out' told0 told told' b d f =
+    let p : Progress = after_source s.limits t (progress_of s) in
+    record {
+      o = b.o ++ (p.so_far).output;
+      m = b.m ++ (p.so_far).messages;
+      output = f.output ∙ ap (λ x. with_bytes x (p.so_far).output) b.output ∙ with_both out0 b.o (p.so_far).output;
+      messages = f.messages ∙ ap (λ x. with_bytes x (p.so_far).messages) b.messages ∙ with_both told0 b.m (p.so_far).messages;
+      limits = f.limits ∙ b.limits;
+      rest = b.rest
+          ∙ ap (λ (ts : List Source). after_sources s0.limits ts (behind b.o b.m (progress_of s))) d
+          ∙ source_after s0 s b.o b.m t (drop j ss) b.limits
+          ∙ ap (after_sources s0.limits (drop j ss)) (written_behind b.o b.m p (progress_of s') f.progress);
+    }
+
+-- all were read
+pub all_read : (ss : List Source) (i : ℕ) (s0 s : Standing) (w : Writers) → IsOpen s0 → IsOpen s → Between ss i s0 s w → drop i ss ≡ [] → GoesTo (after_sources s0.limits ss (progress_of s0)) s0 s w (Ok tt)
+all_read ss i s0 s w l0 l b d =
+    let e : behind b.o b.m (progress_of s) ≡ after_sources s0.limits ss (progress_of s0) = sym (b.rest ∙ ap (λ (ts : List Source). after_sources s0.limits ts (behind b.o b.m (progress_of s))) d) in
+    let f : Filed s0 s (behind b.o b.m (progress_of s)) w = record {
+      live = l0;
+      limits = b.limits;
+      unfinished = l.unfinished;
+      progress = refl;
+      output = b.output ∙ ap (with_bytes w.out_old) (sym (append-nil b.o));
+      messages = b.messages ∙ ap (with_bytes w.told_old) (sym (append-nil b.m));
+    } in
+    (subst (λ (p : Progress). Filed s0 s p w) e f, l.over)
+
+-- a source broke off
+broke : (ss : List Source) (i j : ℕ) (s0 s s' : Standing) (t : Source) (cause : Cause) (out0 out out' told0 told told' : Option (List ℕ)) → Between ss i s0 s (record { out_old = out0; out_new = out; told_old = told0; told_new = told }) → drop i ss ≡ t ∷ drop j ss → BrokeOff s' (after_source s.limits t (progress_of s)) (record { out_old = out; out_new = out'; told_old = told; told_new = told' }) cause → BrokeOff s' (after_sources s0.limits ss (progress_of s0)) (record { out_old = out0; out_new = out'; told_old = told0; told_new = told' }) cause
+broke ss i j s0 s s' t cause out0 out out' told0 told told' b d f =
+    let p : Progress = after_source s.limits t (progress_of s) in
+    let e : after_sources s0.limits ss (progress_of s0) ≡ after_sources s0.limits (drop j ss) (behind b.o b.m p) =
+    b.rest ∙ ap (λ (ts : List Source). after_sources s0.limits ts (behind b.o b.m (progress_of s))) d ∙ source_after s0 s b.o b.m t (drop j ss) b.limits in
+    let k = sources_keep s0.limits (drop j ss) (behind b.o b.m p) in
+    record {
+      over = f.over;
+      output = begun_behind out0 out out' b.o (p.so_far).output k.more ((after_sources s0.limits ss (progress_of s0)).so_far).output b.output f.output (ap (λ (q : Progress). (q.so_far).output) e ∙ k.output);
+      messages = begun_behind told0 told told' b.m (p.so_far).messages k.told ((after_sources s0.limits ss (progress_of s0)).so_far).messages b.messages f.messages (ap (λ (q : Progress). (q.so_far).messages) e ∙ k.messages);
+    }
+
+-- a source ended the run
+over_behind_it : (s' : Standing) (p : Progress) (cause : Cause) → progress_of s' ≡ written p → s'.over ≡ Some cause → p.over ≡ Some (Ends cause)
+over_behind_it s' p cause e f = ap (λ (q : Progress). q.over) (sym e) ∙ ap how_over f
+
+stops_there : (ss : List Source) (i j : ℕ) (s0 s s' : Standing) (t : Source) (cause : Cause) (out0 out out' told0 told told' : Option (List ℕ)) → IsOpen s0 → Between ss i s0 s (record { out_old = out0; out_new = out; told_old = told0; told_new = told }) → drop i ss ≡ t ∷ drop j ss → Filed s s' (after_source s.limits t (progress_of s)) (record { out_old = out; out_new = out'; told_old = told; told_new = told' }) → s'.over ≡ Some cause → Filed s0 s' (after_sources s0.limits ss (progress_of s0)) (record { out_old = out0; out_new = out'; told_old = told0; told_new = told' })
+unfolding one_read
+stops_there ss i j s0 s s' t cause out0 out out' told0 told told' l0 b d f v =
+    let p : Progress = after_source s.limits t (progress_of s) in
+    let w : Writers = record { out_old = out0; out_new = out'; told_old = told0; told_new = told' } in
+    let c = one_read ss i j s0 s s' t out0 out out' told0 told told' b d f in
+    let h : (behind b.o b.m p).over ≡ Some (Ends cause) = over_behind_it s' p cause f.progress v in
+    let e : after_sources s0.limits ss (progress_of s0) ≡ behind b.o b.m p =
+    b.rest ∙ ap (λ (ts : List Source). after_sources s0.limits ts (behind b.o b.m (progress_of s))) d ∙ source_after s0 s b.o b.m t (drop j ss) b.limits
+    ∙ over_sources s0.limits (drop j ss) (behind b.o b.m p) (Ends cause) h in
+    subst (λ (q : Progress). Filed s0 s' q w) (sym e) (record {
+      live = l0;
+      limits = f.limits ∙ b.limits;
+      unfinished = f.unfinished;
+      progress = f.progress;
+      output = c.output;
+      messages = c.messages;
+    })
+
+-- by the answer
+pub stopped : (ss : List Source) (i j : ℕ) (s0 s s' : Standing) (t : Source) (out0 out out' told0 told told' : Option (List ℕ)) (e : Stop) → IsOpen s0 → Between ss i s0 s (record { out_old = out0; out_new = out; told_old = told0; told_new = told }) → drop i ss ≡ t ∷ drop j ss → GoesTo (after_source s.limits t (progress_of s)) s s' (record { out_old = out; out_new = out'; told_old = told; told_new = told' }) (Err e) → GoesTo (after_sources s0.limits ss (progress_of s0)) s0 s' (record { out_old = out0; out_new = out'; told_old = told0; told_new = told' }) (Err e)
+stopped ss i j s0 s s' t out0 out out' told0 told told' stops.Finished l b d h = h
+stopped ss i j s0 s s' t out0 out out' told0 told told' (stops.Ended causes.Read) l b d h = h
+stopped ss i j s0 s s' t out0 out out' told0 told told' (stops.Ended causes.Write) l b d h = broke ss i j s0 s s' t causes.Write out0 out out' told0 told told' b d h
+stopped ss i j s0 s s' t out0 out out' told0 told told' (stops.Ended causes.OutOfMemory) l b d h = broke ss i j s0 s s' t causes.OutOfMemory out0 out out' told0 told told' b d h
+stopped ss i j s0 s s' t out0 out out' told0 told told' (stops.Ended causes.Done) l b d h = (stops_there ss i j s0 s s' t causes.Done out0 out out' told0 told told' l b d h.0 h.1, h.1)
+stopped ss i j s0 s s' t out0 out out' told0 told told' (stops.Ended (causes.Exited n)) l b d h = (stops_there ss i j s0 s s' t (causes.Exited n) out0 out out' told0 told told' l b d h.0 h.1, h.1)
+stopped ss i j s0 s s' t out0 out out' told0 told told' (stops.Ended causes.EndInString) l b d h = (stops_there ss i j s0 s s' t causes.EndInString out0 out out' told0 told told' l b d h.0 h.1, h.1)
+stopped ss i j s0 s s' t out0 out out' told0 told told' (stops.Ended causes.EndInComment) l b d h = (stops_there ss i j s0 s s' t causes.EndInComment out0 out out' told0 told told' l b d h.0 h.1, h.1)
+stopped ss i j s0 s s' t out0 out out' told0 told told' (stops.Ended causes.EndInArguments) l b d h = (stops_there ss i j s0 s s' t causes.EndInArguments out0 out out' told0 told told' l b d h.0 h.1, h.1)
+stopped ss i j s0 s s' t out0 out out' told0 told told' (stops.Ended causes.ExpansionLimit) l b d h = (stops_there ss i j s0 s s' t causes.ExpansionLimit out0 out out' told0 told told' l b d h.0 h.1, h.1)
+stopped ss i j s0 s s' t out0 out out' told0 told told' (stops.Ended causes.NestingLimit) l b d h = (stops_there ss i j s0 s s' t causes.NestingLimit out0 out out' told0 told told' l b d h.0 h.1, h.1)
+stopped ss i j s0 s s' t out0 out out' told0 told told' (stops.Ended (causes.Frozen x)) l b d h = (stops_there ss i j s0 s s' t (causes.Frozen x) out0 out out' told0 told told' l b d h.0 h.1, h.1)
+
+-- which source stands at a place
+pub told_at : {R : Type 0} (f : R → Option Source) (xs : List R) (ss : List Source) (i : ℕ) (x : R) (rest : List R) → map f xs ≡ map Some ss → drop i xs ≡ x ∷ rest → (t : Source) × (f x ≡ Some t) × (drop i ss ≡ t ∷ drop (suc i) ss)
+told_at f [] [] zero x rest e d = cc
+told_at f [] [] (suc i) x rest e d = cc
+told_at f [] (s ∷ ss) i x rest e d = cc
+told_at f (y ∷ xs) [] i x rest e d = cc
+told_at f (y ∷ xs) (s ∷ ss) zero x rest e d =
+    let h : f y ≡ Some s = cc in
+    let k : y ≡ x = cc in
+    (s, sym (ap f k) ∙ h, refl)
+told_at f (y ∷ xs) (s ∷ ss) (suc i) x rest e d =
+    let h : map f xs ≡ map Some ss = cc in
+    told_at f xs ss i x rest h d
+
+pub none_left : {R : Type 0} (f : R → Option Source) (xs : List R) (ss : List Source) (i : ℕ) → map f xs ≡ map Some ss → length xs ≤ i → drop i ss ≡ []
+none_left f [] [] zero e l = refl
+none_left f [] [] (suc i) e l = refl
+none_left f [] (s ∷ ss) i e l = cc
+none_left f (y ∷ xs) [] i e l = cc
+none_left f (y ∷ xs) (s ∷ ss) zero e l = absurd (omega arith)
+none_left f (y ∷ xs) (s ∷ ss) (suc i) e l = let h : map f xs ≡ map Some ss = cc in none_left f xs ss i h (omega arith)
+
+-- the rest is as it was
+pub rest_kept : {R : Type 0} (xs ys : List R) (i : ℕ) (v : R) → drop i xs ≡ drop i ys → drop (i + 1) (slice_set xs i v) ≡ drop (i + 1) ys
+rest_kept xs ys i v e =
+    let l : i < i + 1 = omega arith in
+    drop-set-lt (i + 1) xs i v l ∙ sym (drop-drop 1 i xs) ∙ ap (drop 1) e ∙ drop-drop 1 i ys
+
+-- the source at a place, and what the definitions have there
+pub item_told : {R : Type 0} (f : R → Option Source) (xs ys : List R) (ss : List Source) (i : ℕ) (x : R) → map f ys ≡ map Some ss → drop i xs ≡ drop i ys → i < length xs → (t : Source) × (f (slice_index_or xs i x) ≡ Some t) × (drop i ss ≡ t ∷ drop (i + 1) ss)
+item_told f xs ys ss i x e d l =
+    let k = told_at f ys ss i (slice_index_or xs i x) (drop (suc i) xs) e (sym d ∙ drop-cons xs i x l) in
+    let n : suc i ≡ i + 1 = omega arith in
+    (k.0, k.1, k.2 ∙ ap (λ (j : ℕ). k.0 ∷ drop j ss) n)
+
+pub stopped_so : (ss : List Source) (i j : ℕ) (s0 s s' : Standing) (t : Source) (out0 out out' told0 told told' : Option (List ℕ)) (e : Stop) (q r : Result Unit Stop) → q ≡ Err e → r ≡ Err e → IsOpen s0 → Between ss i s0 s (record { out_old = out0; out_new = out; told_old = told0; told_new = told }) → drop i ss ≡ t ∷ drop j ss → GoesTo (after_source s.limits t (progress_of s)) s s' (record { out_old = out; out_new = out'; told_old = told; told_new = told' }) q → GoesTo (after_sources s0.limits ss (progress_of s0)) s0 s' (record { out_old = out0; out_new = out'; told_old = told0; told_new = told' }) r
+stopped_so ss i j s0 s s' t out0 out out' told0 told told' e q r f g l b d h =
+    subst (GoesTo (after_sources s0.limits ss (progress_of s0)) s0 s' (record { out_old = out0; out_new = out'; told_old = told0; told_new = told' })) (sym g)
+    (stopped ss i j s0 s s' t out0 out out' told0 told told' e l b d (subst (GoesTo (after_source s.limits t (progress_of s)) s s' (record { out_old = out; out_new = out'; told_old = told; told_new = told' })) f h))

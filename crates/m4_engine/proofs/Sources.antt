@@ -1,0 +1,135 @@
+-- Sources: what a session's call on a source is, where the reader tells its bytes and ends.
+use Rattle.std.proofs.Common.{◌≡◌, ◌⊎◌, inl, inr, ⊎_elim, ℕ, Bool, true, false, List, [], ◌++◌, Option, Some, None, refl, sym, ap, ◌∙◌, subst, append-nil}
+use Rattle.std.specs.Prelude.{Result, Ok, Err, IfSome}
+use Rattle.m4_state.specs.Device.{Script, after_bytes, IsAtEnd, IsAtFault, with_bytes, HasPut, HasBegun}
+use Rattle.m4_engine.specs.declared.ending.Cause.{Cause}
+use Rattle.m4_engine.specs.declared.ending.Cause.TheVariants as causes
+use Rattle.m4_engine.specs.declared.stop.Stop.{Stop}
+use Rattle.m4_engine.specs.declared.stop.Stop.TheVariants as stops
+use Rattle.m4_engine.specs.Expansion.{RunSoFar, How, Ended, with_message}
+use Rattle.m4_engine.specs.Expands.{Broken}
+use Rattle.m4_engine.specs.File.{Source, Opened, Unopened, Progress, file, after_source, cannot_open, over_of}
+use Rattle.m4_engine.specs.Told.{whole, told_opened, told_unopened}
+use Rattle.m4_engine.specs.Session.{Standing, Writers, progress_of, written, IsOpen, Filed, Fell, how_over, Silent, FileDone, FileBroke, FileGives, MissingGives, BrokeOff, GoesTo}
+use Rattle.m4_engine.proofs.Begins.{nothing_begun}
+
+-- a reader that tells its bytes and ends gave all of them, where it is at its end
+all_given : (name : List ℕ) (before behind : Option Script) (x : List ℕ) (s : Source) → told_opened name before ≡ Some s → before ≡ after_bytes x behind → IsAtEnd behind → s ≡ Opened name x
+all_given name None behind x s t g a = cc
+all_given name (Some sc) None x s t g a = cc
+all_given name (Some sc) (Some b) x s t g a =
+    let e : sc ≡ record { bytes = x ++ b.bytes; fails = b.fails } = cc in
+    let f : told_opened name (Some sc) ≡ whole name x false =
+    ap (λ (k : Script). whole name k.bytes k.fails) e ∙ ap (λ (y : List ℕ). whole name (x ++ y) b.fails) a.0 ∙ ap (λ (y : List ℕ). whole name y b.fails) (append-nil x) ∙ ap (whole name x) a.1 in
+    let h : Some (Opened name x) ≡ Some s = sym f ∙ t in
+    let k : Opened name x ≡ s = cc in
+    sym k
+
+-- it does not fail
+no_fault : (name : List ℕ) (before behind : Option Script) (x : List ℕ) (s : Source) → told_opened name before ≡ Some s → before ≡ after_bytes x behind → IsAtFault behind → ⊥
+no_fault name None behind x s t g a = cc
+no_fault name (Some sc) None x s t g a = cc
+no_fault name (Some sc) (Some b) x s t g a =
+    let e : sc ≡ record { bytes = x ++ b.bytes; fails = b.fails } = cc in
+    let f : told_opened name (Some sc) ≡ None = ap (λ (k : Script). whole name k.bytes k.fails) e ∙ ap (whole name (x ++ b.bytes)) a.1 in
+    let h : None ≡ Some s = sym f ∙ t in
+    cc
+
+done_goes : (old new : Standing) (name : List ℕ) (before behind : Option Script) (w : Writers) (s : Source) (over : Option Cause) → told_opened name before ≡ Some s → FileDone name before behind old new w over → Filed old new (after_source old.limits s (progress_of old)) w × (new.over ≡ over)
+done_goes old new name before behind w s over t h =
+    (subst (λ (s : Source). Filed old new (after_source old.limits s (progress_of old)) w) (sym (all_given name before behind h.0 s t h.1 h.2)) h.3, h.4)
+
+-- an open session reads a file
+source_is : (old : Standing) (name x : List ℕ) → IsOpen old → (after_source old.limits (Opened name x) (progress_of old)).so_far ≡ (file old.limits (progress_of old).so_far name x).so_far
+source_is old name x l = ap (λ (o : Option Cause). (after_source old.limits (Opened name x) (record (progress_of old) { over = how_over o })).so_far) l.over
+
+silent_begun : (o n : Option (List ℕ)) (x : List ℕ) → n ≡ o → HasBegun o n x
+silent_begun o n x e = subst (λ (y : Option (List ℕ)). HasBegun o y x) (sym e) (nothing_begun o x)
+
+broke_by : (old new : Standing) (name : List ℕ) (behind : Option Script) (w : Writers) (s : Source) (cause : Cause) (x : List ℕ) → (IsAtEnd behind → s ≡ Opened name x) → Fell old new cause → (Silent w ⊎ (IsAtEnd behind × Broken (file old.limits (progress_of old).so_far name x) w.out_old w.out_new w.told_old w.told_new)) → BrokeOff new (after_source old.limits s (progress_of old)) w cause
+broke_by old new name behind w s cause x e f (inl h) = record {
+  over = f.over;
+  output = silent_begun w.out_old w.out_new _ h.output;
+  messages = silent_begun w.told_old w.told_new _ h.messages;
+}
+broke_by old new name behind w s cause x e f (inr h) =
+    subst (λ (s : Source). BrokeOff new (after_source old.limits s (progress_of old)) w cause) (sym (e h.0)) (record {
+      over = f.over;
+      output = subst (λ (r : RunSoFar). HasBegun w.out_old w.out_new r.output) (sym (source_is old name x f.live)) (h.1).output;
+      messages = subst (λ (r : RunSoFar). HasBegun w.told_old w.told_new r.messages) (sym (source_is old name x f.live)) (h.1).messages;
+    })
+
+broke_goes : (old new : Standing) (name : List ℕ) (before behind : Option Script) (w : Writers) (s : Source) (cause : Cause) → told_opened name before ≡ Some s → FileBroke name before behind old new w cause → BrokeOff new (after_source old.limits s (progress_of old)) w cause
+broke_goes old new name before behind w s cause t h = broke_by old new name behind w s cause h.0 (λ a. all_given name before behind h.0 s t h.1 a) h.2 h.3
+
+pub opened_goes : (old new : Standing) (name : List ℕ) (before behind : Option Script) (w : Writers) (r : Result Unit Stop) (s : Source) → IsOpen old → told_opened name before ≡ Some s → FileGives name before behind old new w r → GoesTo (after_source old.limits s (progress_of old)) old new w r
+opened_goes old new name before behind w (Ok done) s l t h = done_goes old new name before behind w s None t h
+opened_goes old new name before behind w (Err stops.Finished) s l t h = absurd ((h.0).closed l)
+opened_goes old new name before behind w (Err (stops.Ended causes.Read)) s l t h = absurd (no_fault name before behind h.0 s t h.1 h.2)
+opened_goes old new name before behind w (Err (stops.Ended causes.Write)) s l t h = broke_goes old new name before behind w s causes.Write t h
+opened_goes old new name before behind w (Err (stops.Ended causes.OutOfMemory)) s l t h = broke_goes old new name before behind w s causes.OutOfMemory t h
+opened_goes old new name before behind w (Err (stops.Ended causes.Done)) s l t h = done_goes old new name before behind w s (Some causes.Done) t h
+opened_goes old new name before behind w (Err (stops.Ended (causes.Exited n))) s l t h = done_goes old new name before behind w s (Some (causes.Exited n)) t h
+opened_goes old new name before behind w (Err (stops.Ended causes.EndInString)) s l t h = done_goes old new name before behind w s (Some causes.EndInString) t h
+opened_goes old new name before behind w (Err (stops.Ended causes.EndInComment)) s l t h = done_goes old new name before behind w s (Some causes.EndInComment) t h
+opened_goes old new name before behind w (Err (stops.Ended causes.EndInArguments)) s l t h = done_goes old new name before behind w s (Some causes.EndInArguments) t h
+opened_goes old new name before behind w (Err (stops.Ended causes.ExpansionLimit)) s l t h = done_goes old new name before behind w s (Some causes.ExpansionLimit) t h
+opened_goes old new name before behind w (Err (stops.Ended causes.NestingLimit)) s l t h = done_goes old new name before behind w s (Some causes.NestingLimit) t h
+opened_goes old new name before behind w (Err (stops.Ended (causes.Frozen f))) s l t h = done_goes old new name before behind w s (Some (causes.Frozen f)) t h
+
+-- an open session tells of a source that wasn't opened
+missing_is : (old : Standing) (name : List ℕ) → IsOpen old → (after_source old.limits (Unopened name) (progress_of old)).so_far ≡ with_message (cannot_open name) (progress_of old).so_far
+missing_is old name l = ap (λ (o : Option Cause). (after_source old.limits (Unopened name) (record (progress_of old) { over = how_over o })).so_far) l.over
+
+with_none : (o : Option (List ℕ)) → o ≡ with_bytes o []
+with_none None = refl
+with_none (Some held) = ap Some (sym (append-nil held))
+
+pub missing_goes : (old new : Standing) (name : List ℕ) (w : Writers) (r : Result Unit Stop) → IsOpen old → w.out_new ≡ w.out_old → MissingGives name old new w.told_old w.told_new r → GoesTo (after_source old.limits (Unopened name) (progress_of old)) old new w r
+missing_goes old new name w (Ok done) l o h = (
+  record {
+    live = l;
+    limits = h.2;
+    unfinished = (h.1).unfinished;
+    progress = h.3;
+    output = o ∙ with_none w.out_old ∙ ap (λ (r : RunSoFar). with_bytes w.out_old r.output) (sym (missing_is old name l));
+    messages = h.4 ∙ ap (λ (r : RunSoFar). with_bytes w.told_old r.messages) (sym (missing_is old name l));
+  },
+  (h.1).over,
+)
+missing_goes old new name w (Err stops.Finished) l o h = absurd (h.0 l)
+missing_goes old new name w (Err (stops.Ended causes.Write)) l o h = record {
+  over = (h.0).over;
+  output = silent_begun w.out_old w.out_new _ o;
+  messages = subst (λ (r : RunSoFar). HasBegun w.told_old w.told_new r.messages) (sym (missing_is old name l)) h.1;
+}
+missing_goes old new name w (Err (stops.Ended causes.Read)) l o h = absurd h
+missing_goes old new name w (Err (stops.Ended causes.OutOfMemory)) l o h = absurd h
+missing_goes old new name w (Err (stops.Ended causes.Done)) l o h = absurd h
+missing_goes old new name w (Err (stops.Ended (causes.Exited n))) l o h = absurd h
+missing_goes old new name w (Err (stops.Ended causes.EndInString)) l o h = absurd h
+missing_goes old new name w (Err (stops.Ended causes.EndInComment)) l o h = absurd h
+missing_goes old new name w (Err (stops.Ended causes.EndInArguments)) l o h = absurd h
+missing_goes old new name w (Err (stops.Ended causes.ExpansionLimit)) l o h = absurd h
+missing_goes old new name w (Err (stops.Ended causes.NestingLimit)) l o h = absurd h
+missing_goes old new name w (Err (stops.Ended (causes.Frozen f))) l o h = absurd h
+
+-- a source that wasn't read, for want of memory
+pub unread_goes : (old new : Standing) (w : Writers) (p : Progress) (e : Stop) → e ≡ stops.Ended causes.OutOfMemory → new.over ≡ Some causes.OutOfMemory → w.out_new ≡ w.out_old → w.told_new ≡ w.told_old → GoesTo p old new w (Err e)
+unread_goes old new w p e i v o m =
+    subst (λ (x : Stop). GoesTo p old new w (Err x)) (sym i)
+    (record { over = v; output = silent_begun w.out_old w.out_new _ o; messages = silent_begun w.told_old w.told_new _ m })
+
+-- where a source tells of itself
+pub if_told : (o : Option Source) (P : Source → Type 0) → ((s : Source) → o ≡ Some s → P s) → IfSome o P
+if_told None P h = tt
+if_told (Some s) P h = h s refl
+
+pub unopened_goes : (old new : Standing) (name : List ℕ) (w : Writers) (r : Result Unit Stop) (s : Source) → IsOpen old → told_unopened name ≡ Some s → w.out_new ≡ w.out_old → MissingGives name old new w.told_old w.told_new r → GoesTo (after_source old.limits s (progress_of old)) old new w r
+unopened_goes old new name w r s l t o h =
+    let e : Unopened name ≡ s = cc in
+    subst (λ (s : Source). GoesTo (after_source old.limits s (progress_of old)) old new w r) e (missing_goes old new name w r l o h)
+
+-- a file that was read to its end leaves the session open
+pub file_leaves_open : (old new : Standing) (name : List ℕ) (before behind : Option Script) (w : Writers) → FileGives name before behind old new w (Ok tt) → IsOpen new
+file_leaves_open old new name before behind w h = record { over = h.4; unfinished = (h.3).unfinished }
