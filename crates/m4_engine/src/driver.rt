@@ -60,3 +60,6 @@ impl Machine {
         }
     }
 }
+
+#[cfg(test)]
+mod tests;
