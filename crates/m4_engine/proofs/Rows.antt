@@ -152,3 +152,44 @@ comments_are_copied = refl
 -- a builtin that needs parameters is text without them
 without_parameters : over_a usual (codes "define dnl\n`a'\n") ≡ done (codes "define a\n") [] 1
 without_parameters = refl
+
+-- bytes that belong to no other token: a digit before a name, an end-quote outside of a string
+bytes_are_copied : over_a usual (codes "define(`a',`x')1a+'(,)\n") ≡ done (codes "1x+'(,)\n") [] 2
+bytes_are_copied = refl
+
+-- a name's own text, with no arguments and with one that is empty
+own_name : over_a usual (codes "define(`f',``$0':$#')f f()\n") ≡ done (codes "f:0 f:1\n") [] 3
+unfolding digits
+own_name = refl
+
+-- all arguments as they are, and each in quotes
+quoted_arguments : over_a usual (codes "define(`b',`x')define(`g',`[$*] [$@]')g(a,``b'')\n") ≡ done (codes "[a,b] [a,`b']\n") [] 3
+quoted_arguments = refl
+
+-- of nesting 0 is no limit
+no_nesting_limit : over_a (limited 4294967295 0) (codes "define(`f',`$1')f(f(f(`x')))\n") ≡ done (codes "x\n") [] 4
+no_nesting_limit = refl
+
+-- where both quotes are alike, the second ends the string
+end_quote_first : over_a usual (codes "changequote(|,|)|a|b|c|\n") ≡ done (codes "abc\n") [] 1
+end_quote_first = refl
+
+-- a begin-quote alone has the usual end-quote
+begin_quote_alone : over_a usual (codes "changequote(<)<a'\n") ≡ done (codes "a\n") [] 1
+begin_quote_alone = refl
+
+-- without parameters the usual quotes come back
+quotes_come_back : over_a usual (codes "changequote([,])[a]changequote `b'\n") ≡ done (codes "a b\n") [] 2
+quotes_come_back = refl
+
+-- empty quotes quote nothing
+quotes_disabled : over_a usual (codes "changequote(,)`a' [b]\n") ≡ done (codes "`a' [b]\n") [] 1
+quotes_disabled = refl
+
+-- without parameters there are no comments
+comments_disabled : over_a usual (codes "define(`f',`x')changecom# f\n") ≡ done (codes "# x\n") [] 3
+comments_disabled = refl
+
+-- the newest definition counts, and a name without one is text
+undefined_name : over_a usual (codes "define(`f',`x')define(`f',`y')f undefine(`f')f\n") ≡ done (codes "y f\n") [] 4
+undefined_name = refl

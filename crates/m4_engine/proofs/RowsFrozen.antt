@@ -99,3 +99,21 @@ into_a_diversion = refl
 discarded : run usual (Some (codes "V1\nD-1,0\n\n")) (Opened (codes "b.m4") (codes "x\n") ∷ []) ≡ done [] [] 0
 unfolding steps.file_at steps.version_at steps.directives_at steps.directive_at steps.pair_at steps.diversion_at steps.length_at steps.string_at
 discarded = refl
+
+-- the frozen text of a run that defines a greeting and puts nothing out
+greeting_text : List ℕ
+greeting_text = codes "# m4 frozen state\nV1\nT7,0\n__gnu__\nT8,0\n__unix__\nF9,9\nchangecomchangecom\nF11,11\nchangequotechangequote\nF6,6\ndefinedefine\nF3,3\ndnldnl\nT2,9\nhiHello $1.\nF8,8\nundefineundefine\n# End of frozen state file\n"
+
+greeting_frozen : over_a freezing (codes "define(`hi',`Hello $1.')dnl\n") ≡ record (done [] [] 2) { frozen = Some greeting_text }
+unfolding digits greeting_text
+greeting_frozen = refl
+
+-- the run that goes on from it makes the greeting
+greeting_reloaded : run usual (Some greeting_text) (Opened (codes "b.m4") (codes "hi(`you')\n") ∷ []) ≡ done (codes "Hello you.\n") [] 1
+unfolding digits greeting_text steps.file_at steps.version_at steps.directives_at steps.directive_at steps.pair_at steps.diversion_at steps.length_at steps.string_at
+greeting_reloaded = refl
+
+-- a run that freezes keeps its diversions
+diversions_are_frozen : run freezing (Some (codes "V1\nD2,4\ntwo\n\n")) (Opened (codes "b.m4") (codes "more\n") ∷ []) ≡ record (done [] [] 0) { frozen = Some (codes "# m4 frozen state\nV1\nD2,9\ntwo\nmore\n\n# End of frozen state file\n") }
+unfolding digits steps.file_at steps.version_at steps.directives_at steps.directive_at steps.pair_at steps.diversion_at steps.length_at steps.string_at
+diversions_are_frozen = refl

@@ -70,3 +70,6 @@ impl Machine {
         self.messages.clear();
     }
 }
+
+#[cfg(test)]
+mod tests;
