@@ -53,8 +53,7 @@ pub skipped : (before behind : Option Script) (old new : Held) (v : Option Pushe
 skipped before behind old new v r g =
     let e : g.1 ≡ old.pending = closed_reads before behind old.pending g.0 g.1 g.2 r.closed in
     let l : behind_line old.pending ≡ Some new.pending = sym (ap behind_line e) ∙ g.3 in
-    let k : ((new.pending).may_follow ≡ false) × ((new.pending).definition ≡ None) × ((new.pending).file ≡ (old.pending).file) = line_keeps (line_length (text_of old.pending)) old.pending new.pending r.closed l in
-    (
+    let k : ((new.pending).may_follow ≡ false) × ((new.pending).definition ≡ None) × ((new.pending).file ≡ (old.pending).file) = line_keeps (line_length (text_of old.pending)) old.pending new.pending r.closed l in (
       (λ s i. line_skipped (line_length (text_of s.pending)) new.pending s (ap (λ (p : Pending). p.may_follow) i ∙ r.closed) (ap behind_line i ∙ l)),
       record { ready = record { sound = g.5; closed = k.0; front = none_is_front (new.pending).definition k.1 }; file = k.2 },
     )
@@ -77,9 +76,8 @@ pushed old new v r n i e = (
 -- a test leaves a closed input as it is
 pub seen : (q c : Delimiters) (before behind : Option Script) (old new : Held) (b : Bool) → IsReady old → ParenGives q c before behind old new (Ok b) → (paren_at q c old.pending ≡ answer_of b) × (new ≡ old)
 seen q c before behind old new b r g =
-    let e : new.pending ≡ old.pending = closed_reads before behind old.pending g.0 new.pending g.1 r.closed in
-    (
+    let e : new.pending ≡ old.pending = closed_reads before behind old.pending g.0 new.pending g.1 r.closed in (
       sym (ap (paren_at q c) e) ∙ g.2,
       ap (λ (p : Pending). let h : Held = record { pending = p; fault = new.fault } in h) e
-      ∙ ap (λ f. let h : Held = record { pending = old.pending; fault = f } in h) (g.4 ∙ sym g.3),
+          ∙ ap (λ f. let h : Held = record { pending = old.pending; fault = f } in h) (g.4 ∙ sym g.3),
     )

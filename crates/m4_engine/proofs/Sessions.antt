@@ -52,8 +52,7 @@ progress_behind new missed over cause d h s v n o =
 -- a file was read to an end
 file_done : (e0 e1 : Engine) (missed : Bool) (name x : List ℕ) (over : Option Cause) (cause : Cause) (before behind : Option Script) (p : Pending) (w : Writers) → before ≡ after_bytes x behind → IsAtEnd behind → p ≡ file_pending name x false → Expanded e0 e1 (comes_to e0 p) cause w.out_old w.out_new w.told_old w.told_new → how_over over ≡ over_by cause → FileDone name before behind (standing_of e0 missed None false) (standing_of (at_rest e1) missed over false) w over
 file_done e0 e1 missed name x over cause before behind p w g a e d o =
-    let k = subst (λ (p : Pending). Expanded e0 e1 (comes_to e0 p) cause w.out_old w.out_new w.told_old w.told_new) e d in
-    (
+    let k = subst (λ (p : Pending). Expanded e0 e1 (comes_to e0 p) cause w.out_old w.out_new w.told_old w.told_new) e d in (
       x,
       g,
       a,

@@ -214,12 +214,11 @@ module _ (S F D : Type 0) (turn : S → Turn S F D) (join : F → S → Outcome 
     beside = record {
       halt = λ s t d r e.
           let h = told s (Halt d) e in
-          let k = met s t (Halt d.0) r h.0 in
-          (
+          let k = met s t (Halt d.0) r h.0 in (
             k.0,
             expansion_is (S × ℕ) F (D × ℕ) turn' join' spent' size' left' falls' t
-            ∙ ap (after (S × ℕ) F (D × ℕ) join' whole' whole') (ap (counted_turn (suc t.1)) k.1)
-            ∙ ap (λ (n : ℕ). Halted (k.0, n)) (ap suc r.1 ∙ sym h.1),
+                ∙ ap (after (S × ℕ) F (D × ℕ) join' whole' whole') (ap (counted_turn (suc t.1)) k.1)
+                ∙ ap (λ (n : ℕ). Halted (k.0, n)) (ap suc r.1 ∙ sym h.1),
           );
       close = λ s t u r e. let h = told s (Close u) e in let k = met s t (Close u.0) r h.0 in ((k.0, suc t.1), ap (counted_turn (suc t.1)) k.1, (k.2, ap suc r.1 ∙ sym h.1));
       go_on = λ s t u r e. let h = told s (GoOn u) e in let k = met s t (GoOn u.0) r h.0 in ((k.0, suc t.1), ap (counted_turn (suc t.1)) k.1, (k.2, ap suc r.1 ∙ sym h.1));

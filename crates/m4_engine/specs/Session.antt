@@ -106,7 +106,7 @@ abbrev pub FileBroke : List ℕ → Option Script → Option Script → Standing
 FileBroke name before behind old new w cause =
     (x : List ℕ) × (before ≡ after_bytes x behind) × Fell old new cause
     × (Silent w ⊎ (IsAtEnd behind
-        × Broken (file old.limits (progress_of old).so_far name x) w.out_old w.out_new w.told_old w.told_new))
+    × Broken (file old.limits (progress_of old).so_far name x) w.out_old w.out_new w.told_old w.told_new))
 
 -- a file: it is read to its end, or the run ends
 abbrev pub FileGives : List ℕ → Option Script → Option Script → Standing → Standing → Writers → Result Unit Stop → Type 0

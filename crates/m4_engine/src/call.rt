@@ -103,7 +103,10 @@ impl OpenCall {
     /// Adds a parenthesis that opens within the argument.
     pub fn put_opening(&mut self) -> Result<(), AllocError>
         ensures { OnOk result (self.new ≡ record self.old {
-            parentheses = suc self.old.parentheses; begun = true; bytes = self.old.bytes ++ open_parenthesis ∷ [] }) }
+          parentheses = suc self.old.parentheses;
+          begun = true;
+          bytes = self.old.bytes ++ open_parenthesis ∷ [];
+        }) }
     {
         self.begun = true;
         self.bytes.push(b'(')?;
@@ -115,7 +118,10 @@ impl OpenCall {
     pub fn put_closing(&mut self) -> Result<(), AllocError>
         requires { 0 < self.old.parentheses }
         ensures { OnOk result (self.new ≡ record self.old {
-            parentheses = self.old.parentheses - 1; begun = true; bytes = self.old.bytes ++ close_parenthesis ∷ [] }) }
+          parentheses = self.old.parentheses - 1;
+          begun = true;
+          bytes = self.old.bytes ++ close_parenthesis ∷ [];
+        }) }
     {
         self.begun = true;
         self.bytes.push(b')')?;

@@ -16,7 +16,11 @@ use m4_state::transfer::put_all;
 impl Machine {
     /// Hands on what was put out: the messages first.
     #[tactic(auto, using(crate::proofs::Begins::nothing_begun))]
-    fn hand_on<O: ByteSink, M: ByteSink>(&mut self, out: &mut O, messages: &mut M) -> Result<(), DeviceFault>
+    fn hand_on<O: ByteSink, M: ByteSink>(
+        &mut self,
+        out: &mut O,
+        messages: &mut M,
+    ) -> Result<(), DeviceFault>
         ensures engine { OnOk result (self.new ≡ handed_on self.old) }
         ensures output { OnOk result (O.contents out.new ≡ with_bytes (O.contents out.old) self.old.output) }
         ensures messages { OnOk result (M.contents messages.new ≡ with_bytes (M.contents messages.old) self.old.messages) }

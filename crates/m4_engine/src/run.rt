@@ -21,10 +21,10 @@ fn read<R: ByteSource, O: ByteSink, M: ByteSink>(
 ) -> Result<(), Stop>
     requires { IsOpen session.old }
     ensures open { OnOk result (IsOpen session.new) }
-    ensures goes { (s : Told) → told R.script source.old ≡ Some s → 
+    ensures goes { (s : Told) → told R.script source.old ≡ Some s →
         GoesTo (after_source session.old.limits s (progress_of session.old)) session.old session.new
-            (record { out_old = O.contents out.old; out_new = O.contents out.new; told_old = M.contents messages.old; told_new = M.contents messages.new })
-            result }
+        (record { out_old = O.contents out.old; out_new = O.contents out.new; told_old = M.contents messages.old; told_new = M.contents messages.new })
+        result }
 {
     match source {
         Source::Opened { name, reader } => {
@@ -50,8 +50,8 @@ pub fn read_sources<R: ByteSource, O: ByteSink, M: ByteSink>(
     // session steps: all sources, where each reader tells its bytes and ends
     ensures { (ss : List Told) → map (told R.script) sources.old ≡ map Some ss →
         GoesTo (after_sources session.old.limits ss (progress_of session.old)) session.old session.new
-            (record { out_old = O.contents out.old; out_new = O.contents out.new; told_old = M.contents messages.old; told_new = M.contents messages.new })
-            result }
+        (record { out_old = O.contents out.old; out_new = O.contents out.new; told_old = M.contents messages.old; told_new = M.contents messages.new })
+        result }
 {
     'sources: for source in sources.iter_mut() {
         read(session, source, out, messages)?;

@@ -104,9 +104,7 @@ impl Session {
         }
         // the file is read, so that no reader is asked any more
         let mut nothing = MemSource::new(&[], 1, false);
-        let cause = self
-            .machine
-            .expand(&mut input, &mut nothing, out, messages);
+        let cause = self.machine.expand(&mut input, &mut nothing, out, messages);
         self.machine.rest();
         self.settle(cause)
     }
@@ -155,7 +153,11 @@ impl Session {
 
     /// Brings the run to its end: the diversions that are left are issued, by rising number. No call
     /// saves text to be read at the end yet. `Ended(Write)` behind a beginning of what is issued.
-    pub fn finish<O: ByteSink, M: ByteSink>(&mut self, out: &mut O, messages: &mut M) -> Result<(), Stop>
+    pub fn finish<O: ByteSink, M: ByteSink>(
+        &mut self,
+        out: &mut O,
+        messages: &mut M,
+    ) -> Result<(), Stop>
         // session steps: the saved texts, then the diversions
         ensures { FinishGives self.old self.new
             (record { out_old = O.contents out.old; out_new = O.contents out.new; told_old = M.contents messages.old; told_new = M.contents messages.new })

@@ -48,7 +48,12 @@ fn needs_list(definition: &Def) -> bool
 
 /// What is read behind a call: what follows the line, or first the value that the call pushes.
 #[tactic(auto, using(crate::proofs::Inputs::skipped, crate::proofs::Inputs::pushed))]
-fn read_on<R: ByteSource>(input: &mut Input, reader: &mut R, skip: bool, push: Option<Pushed>) -> Result<(), TurnFault>
+fn read_on<R: ByteSource>(
+    input: &mut Input,
+    reader: &mut R,
+    skip: bool,
+    push: Option<Pushed>,
+) -> Result<(), TurnFault>
     requires ready { IsReady input.old }
     requires taken { input.old.pending.definition ≡ None }
     requires valid { IsPushed push }
@@ -69,7 +74,7 @@ impl Machine {
     fn take_end(&mut self) -> Result<Turned, TurnFault>
         ensures moves { IfOk result (λ t. (before p : Pending) → Moves self.new p t
             (λ o m. step (outer_of self.old.open_calls)
-                (take_end (mode_of self.old.open_calls) (here_of o m self.old before)))) }
+            (take_end (mode_of self.old.open_calls) (here_of o m self.old before)))) }
         ensures limits { OnOk result (self.new.limits ≡ self.old.limits) }
         ensures made { IfOk result IsMade }
     {
@@ -94,7 +99,12 @@ impl Machine {
     }
 
     /// Does what a definition does whose arguments are complete.
-    fn call<R: ByteSource>(&mut self, call: OpenCall, input: &mut Input, reader: &mut R) -> Result<Turned, TurnFault>
+    fn call<R: ByteSource>(
+        &mut self,
+        call: OpenCall,
+        input: &mut Input,
+        reader: &mut R,
+    ) -> Result<Turned, TurnFault>
         requires ready { IsReady input.old }
         requires taken { input.old.pending.definition ≡ None }
         ensures moves { IfOk result (λ t. Moves self.new input.new.pending t
@@ -136,12 +146,17 @@ impl Machine {
     }
 
     /// A byte that belongs to no other token.
-    fn take_byte<R: ByteSource>(&mut self, byte: u8, input: &mut Input, reader: &mut R) -> Result<Turned, TurnFault>
+    fn take_byte<R: ByteSource>(
+        &mut self,
+        byte: u8,
+        input: &mut Input,
+        reader: &mut R,
+    ) -> Result<Turned, TurnFault>
         requires ready { IsReady input.old }
         requires taken { input.old.pending.definition ≡ None }
         ensures moves { IfOk result (λ t. Moves self.new input.new.pending t
             (λ o m. step (outer_of self.old.open_calls)
-                (take_other (mode_of self.old.open_calls) byte (here_of o m self.old input.old.pending)))) }
+            (take_other (mode_of self.old.open_calls) byte (here_of o m self.old input.old.pending)))) }
         ensures ready { result ≡ Ok Turned.GoesOn → Stays input.old input.new }
         ensures limits { OnOk result (self.new.limits ≡ self.old.limits) }
         ensures made { IfOk result IsMade }
@@ -163,13 +178,17 @@ impl Machine {
 
     /// The parenthesis that closes the innermost list: its call is made.
     #[tactic(auto, using(crate::proofs::Acts::closing_result))]
-    fn take_closing<R: ByteSource>(&mut self, input: &mut Input, reader: &mut R) -> Result<Turned, TurnFault>
+    fn take_closing<R: ByteSource>(
+        &mut self,
+        input: &mut Input,
+        reader: &mut R,
+    ) -> Result<Turned, TurnFault>
         requires list { IfHead self.old.open_calls (λ c. c.parentheses ≡ 0) }
         requires ready { IsReady input.old }
         requires taken { input.old.pending.definition ≡ None }
         ensures moves { IfOk result (λ t. Moves self.new input.new.pending t
             (λ o m. step (outer_of self.old.open_calls)
-                (close_in self.old.open_calls (here_of o m self.old input.old.pending)))) }
+            (close_in self.old.open_calls (here_of o m self.old input.old.pending)))) }
         ensures ready { result ≡ Ok Turned.GoesOn → Stays input.old input.new }
         ensures limits { OnOk result (self.new.limits ≡ self.old.limits) }
         ensures made { IfOk result IsMade }
@@ -233,7 +252,11 @@ impl Machine {
     }
 
     /// Takes the parenthesis that begins a list.
-    fn take_parenthesis<R: ByteSource>(&self, input: &mut Input, reader: &mut R) -> Result<(), TurnFault>
+    fn take_parenthesis<R: ByteSource>(
+        &self,
+        input: &mut Input,
+        reader: &mut R,
+    ) -> Result<(), TurnFault>
         requires ready { IsReady input.old }
         requires taken { input.old.pending.definition ≡ None }
         requires stands { paren_at self.now.state.quotes self.now.state.comments input.old.pending ≡ Answer.Yes }
@@ -245,7 +268,13 @@ impl Machine {
     }
 
     /// A name that is called, whose list follows or not.
-    fn take_call<R: ByteSource>(&mut self, call: OpenCall, listed: bool, input: &mut Input, reader: &mut R) -> Result<Turned, TurnFault>
+    fn take_call<R: ByteSource>(
+        &mut self,
+        call: OpenCall,
+        listed: bool,
+        input: &mut Input,
+        reader: &mut R,
+    ) -> Result<Turned, TurnFault>
         requires ready { IsReady input.old }
         requires taken { input.old.pending.definition ≡ None }
         requires list { listed ≡ true → paren_at self.old.state.quotes self.old.state.comments input.old.pending ≡ Answer.Yes }
@@ -274,13 +303,19 @@ impl Machine {
     }
 
     /// A name: a call, where it has a definition that is recognised here, else text.
-    fn take_name<R: ByteSource>(&mut self, name: Bytes, line: u64, input: &mut Input, reader: &mut R) -> Result<Turned, TurnFault>
+    fn take_name<R: ByteSource>(
+        &mut self,
+        name: Bytes,
+        line: u64,
+        input: &mut Input,
+        reader: &mut R,
+    ) -> Result<Turned, TurnFault>
         requires ready { IsReady input.old }
         requires taken { input.old.pending.definition ≡ None }
         ensures moves { IfOk result (λ t. (before : Pending) → line ≡ line_of before
             → before.file ≡ input.old.pending.file → Moves self.new input.new.pending t
             (λ o m. step (outer_of self.old.open_calls)
-                (take_name (top_of self.old.state name) name input.old.pending (here_of o m self.old before)))) }
+            (take_name (top_of self.old.state name) name input.old.pending (here_of o m self.old before)))) }
         ensures ready { result ≡ Ok Turned.GoesOn → Stays input.old input.new }
         ensures limits { OnOk result (self.new.limits ≡ self.old.limits) }
         ensures made { IfOk result IsMade }
@@ -323,14 +358,20 @@ impl Machine {
     }
 
     /// A token, which is taken already.
-    fn take_token<R: ByteSource>(&mut self, token: Token, line: u64, input: &mut Input, reader: &mut R) -> Result<Turned, TurnFault>
+    fn take_token<R: ByteSource>(
+        &mut self,
+        token: Token,
+        line: u64,
+        input: &mut Input,
+        reader: &mut R,
+    ) -> Result<Turned, TurnFault>
         requires ready { IsReady input.old }
         requires taken { input.old.pending.definition ≡ None }
         requires front { IsToken token }
         ensures moves { IfOk result (λ t. (before : Pending) → line ≡ line_of before
             → before.file ≡ input.old.pending.file → Moves self.new input.new.pending t
             (λ o m. step (outer_of self.old.open_calls)
-                (take_token token input.old.pending (here_of o m self.old before)))) }
+            (take_token token input.old.pending (here_of o m self.old before)))) }
         ensures ready { result ≡ Ok Turned.GoesOn → Stays input.old input.new }
         ensures limits { OnOk result (self.new.limits ≡ self.old.limits) }
         ensures made { IfOk result IsMade }
@@ -349,7 +390,7 @@ impl Machine {
     fn take_unended(&mut self, what: Unended, line: u64, input: &Input) -> Result<Turned, TurnFault>
         ensures moves { IfOk result (λ t. (before p : Pending) → before.file ≡ input.now.pending.file
             → Moves self.new p t (λ o m. step (outer_of self.old.open_calls)
-                (take_front (Refused what line) (here_of o m self.old before)))) }
+            (take_front (Refused what line) (here_of o m self.old before)))) }
         ensures limits { OnOk result (self.new.limits ≡ self.old.limits) }
         ensures made { IfOk result IsMade }
     {
@@ -368,7 +409,11 @@ impl Machine {
     }
 
     /// One turn: the first token of what is pending, and what it does.
-    pub fn turn<R: ByteSource>(&mut self, input: &mut Input, reader: &mut R) -> Result<Turned, TurnFault>
+    pub fn turn<R: ByteSource>(
+        &mut self,
+        input: &mut Input,
+        reader: &mut R,
+    ) -> Result<Turned, TurnFault>
         requires { IsReady input.old }
         ensures moves { IfOk result (λ t. Moves self.new input.new.pending t
             (λ o m. moved (configuration o m self.old input.old.pending))) }
@@ -380,8 +425,16 @@ impl Machine {
         let front = input.next(reader, &Delims::of(&self.state));
         match front {
             Ok(token) => self.take_token(token, line, input, reader),
-            Err(InputFault::EndInString { line }) => self.take_unended(Unended::InString, line, input),
-            Err(InputFault::EndInComment { line }) => self.take_unended(Unended::InComment, line, input),
+            Err(InputFault::EndInString { line }) => self.take_unended(
+                Unended::InString,
+                line,
+                input,
+            ),
+            Err(InputFault::EndInComment { line }) => self.take_unended(
+                Unended::InComment,
+                line,
+                input,
+            ),
             Err(fault) => Err(TurnFault::from(fault)),
         }
     }

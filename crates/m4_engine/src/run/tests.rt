@@ -45,7 +45,10 @@ fn files_and_one_that_is_missing(rt: HostRuntime) -> Result<(), Fail> {
     let read = read_sources(&mut session, &mut sources, &mut out, &mut messages);
     assert_eq!(rt; read, Ok(()));
     assert_eq!(rt; out.written(), b"<0>(1)\n".as_slice());
-    assert_eq!(rt; messages.written(), b"m4: cannot open `nofile'\n".as_slice());
+    assert_eq!(rt;
+        messages.written(),
+        b"m4: cannot open `nofile'\n".as_slice()
+    );
     assert_eq!(rt; session.status(), 1);
     Ok(())
 }

@@ -94,7 +94,10 @@ fn arguments(rt: HostRuntime) -> Result<(), Fail> {
         plain(b"define(`f',`$1$1')f( a , b)\n", b"a a \n"),
         plain(b"define(`f',`$#:$1')f((a,b),c)\n", b"2:(a,b)\n"),
         plain(b"define(`f',`<$1>')f(a#,)\n)\n", b"<a#,)\n>\n"),
-        plain(b"define(`g',`[$#|$*|$2$11|$x]')g(a,`b',)\n", b"[3|a,b,|b|$x]\n"),
+        plain(
+            b"define(`g',`[$#|$*|$2$11|$x]')g(a,`b',)\n",
+            b"[3|a,b,|b|$x]\n",
+        ),
         plain(b"define(`f',`<$1>')f(`a, b' c)\n", b"<a, b c>\n"),
     ];
     for row in rows.iter() {
@@ -108,7 +111,10 @@ fn calls(rt: HostRuntime) -> Result<(), Fail> {
     let rows = [
         plain(b"define(`a',`x')define(`xy',`Z')a`'y a()y\n", b"xy Z\n"),
         plain(b"a dnl b\nc\n", b"a c\n"),
-        plain(b"define(`f',`first')f(define(`f',`second')) f\n", b"first second\n"),
+        plain(
+            b"define(`f',`first')f(define(`f',`second')) f\n",
+            b"first second\n",
+        ),
         plain(b"define(`a',`b')undefine(`a')a\n", b"a\n"),
         plain(b"changequote([,])define([f],[`$1'])f(x)\n", b"`x'\n"),
     ];
@@ -204,12 +210,21 @@ fn a_source_that_is_not_opened(rt: HostRuntime) -> Result<(), Fail> {
     };
     assert_eq!(rt; session.missing(b"nofile", &mut messages), Ok(()));
     let name = Bytes::from_slice(rt.alloc(), b"b.m4")?;
-    assert_eq!(rt; session.file(name, &mut reader, &mut out, &mut messages), Ok(()));
+    assert_eq!(rt;
+        session.file(name, &mut reader, &mut out, &mut messages),
+        Ok(())
+    );
     assert_eq!(rt; session.finish(&mut out, &mut messages), Ok(()));
-    assert_eq!(rt; messages.written(), b"m4: cannot open `nofile'\n".as_slice());
+    assert_eq!(rt;
+        messages.written(),
+        b"m4: cannot open `nofile'\n".as_slice()
+    );
     assert_eq!(rt; out.written(), b"z\n".as_slice());
     assert_eq!(rt; session.status(), 1);
-    assert_eq!(rt; session.finish(&mut out, &mut messages), Err(Stop::Finished));
+    assert_eq!(rt;
+        session.finish(&mut out, &mut messages),
+        Err(Stop::Finished)
+    );
     Ok(())
 }
 

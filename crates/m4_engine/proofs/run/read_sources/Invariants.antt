@@ -10,9 +10,9 @@ abbrev pub invariant-sources : goal.invariant-sources
 invariant-sources g l =
     IsOpen l.session × (drop l.source-index l.sources ≡ drop l.source-index l.fn.sources)
     × ((ss : List Source) → map (told g.R.ByteSource.script) l.fn.sources ≡ map Some ss
-        → Between ss l.source-index l.fn.session l.session (record {
-            out_old = g.O.ByteSink.contents l.fn.out;
-            out_new = g.O.ByteSink.contents l.out;
-            told_old = g.M.ByteSink.contents l.fn.messages;
-            told_new = g.M.ByteSink.contents l.messages;
-        }))
+    → Between ss l.source-index l.fn.session l.session (record {
+      out_old = g.O.ByteSink.contents l.fn.out;
+      out_new = g.O.ByteSink.contents l.out;
+      told_old = g.M.ByteSink.contents l.fn.messages;
+      told_new = g.M.ByteSink.contents l.messages;
+    }))
