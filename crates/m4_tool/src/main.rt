@@ -6,7 +6,7 @@
 
 ghost use Rattle.std.specs.Prelude.{◌≡◌, IfErr, IfOk, map, string_bytes};
 ghost use Rattle.clap.specs.Walk.{texts};
-ghost use Rattle.m4_tool.specs.CommandLine.{HasOneModeAtMost, IsRefusal, Says};
+ghost use Rattle.m4_tool.specs.CommandLine.{AreInRange, IsModeInCompany, IsRefusal, Says, StandAlone};
 
 mod fault;
 mod line;
@@ -70,7 +70,10 @@ fn status_of_words<E: Write + Drop>(
 // The line that these words spell.
 fn line_of(alloc: Global, words: &[String]) -> Result<Line, LineFault>
     ensures says { IfOk result (Says (map string_bytes words.now)) }
-    ensures one_mode { IfOk result HasOneModeAtMost }
+    ensures in_range { IfOk result AreInRange }
+    ensures alone { IfOk result StandAlone }
+    ensures in_company { result ≡ Err LineFault.ModeNotAlone
+        → IsModeInCompany (map string_bytes words.now) }
     ensures refused { IfErr result (IsRefusal (map string_bytes words.now)) }
 {
     let texts = borrowed(alloc, words)?;
