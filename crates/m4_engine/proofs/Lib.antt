@@ -30,3 +30,5 @@ pub mod LoopKeeps
 pub mod Begins
 pub mod Running
 pub mod SavesNothing
+pub mod Sessions
+pub mod Issues

@@ -90,12 +90,13 @@ expands_of old new p out0 out told0 told causes.Write x = broken_of old new (com
 expands_of old new p out0 out told0 told causes.OutOfMemory x = broken_of old new (comes_to old p) causes.OutOfMemory out0 out told0 told x
 
 -- a turn after which it ends
-pub ends : (e0 e e' : Engine) (p0 p' : Pending) (i : Held) (out0 told0 out told out' told' : Option (List ℕ)) (cause : Cause) → IsIdle e0 → Running e0 p0 out0 told0 e i out told → Moves e' p' (turns.Ends cause) (λ o m. moved (configuration o m e i.pending)) → out' ≡ with_bytes out e'.output → told' ≡ with_bytes told e'.messages → Expands e0 (handed_on e') p0 out0 out' told0 told' cause
-ends e0 e e' p0 p' i out0 told0 out told out' told' cause d r h f g =
+pub ends : (e0 e e' : Engine) (p0 p' : Pending) (i : Held) (out0 told0 out told out' told' : Option (List ℕ)) (cause : Cause) → IsIdle e0 → Running e0 p0 out0 told0 e i out told → Moves e' p' (turns.Ends cause) (λ o m. moved (configuration o m e i.pending)) → e'.limits ≡ e.limits → out' ≡ with_bytes out e'.output → told' ≡ with_bytes told e'.messages → Expands e0 (handed_on e') p0 out0 out' told0 told' cause
+ends e0 e e' p0 p' i out0 told0 out told out' told' cause d r h l f g =
     let end : Ended = record { so_far = so_far_of r.o r.m e'; how = Ends cause } in
     let c : comes_to e0 p0 ≡ end = comes_is e0 p0 d ∙ ap ended_of (sym r.means ∙ end_means e e' i.pending p' r.o r.m cause h) in
     let x : Expanded e0 (handed_on e') end cause out0 out' told0 told' = record {
       how = refl;
+      limits = l ∙ r.limits;
       state = refl;
       saved = refl;
       calls = refl;
@@ -146,10 +147,10 @@ write_breaks e0 e e' p0 p' i t out0 told0 out told out' told' d r h b =
     }
 
 -- the same for a turn and an engine with names of their own
-pub ended : (e0 e e' e2 : Engine) (p0 p' : Pending) (i : Held) (out0 told0 out told out' told' : Option (List ℕ)) (t : Turned) (cause : Cause) → IsIdle e0 → Running e0 p0 out0 told0 e i out told → Moves e' p' t (λ o m. moved (configuration o m e i.pending)) → t ≡ turns.Ends cause → e2 ≡ handed_on e' → out' ≡ with_bytes out e'.output → told' ≡ with_bytes told e'.messages → Expands e0 e2 p0 out0 out' told0 told' cause
-ended e0 e e' e2 p0 p' i out0 told0 out told out' told' t cause d r h k j f g =
+pub ended : (e0 e e' e2 : Engine) (p0 p' : Pending) (i : Held) (out0 told0 out told out' told' : Option (List ℕ)) (t : Turned) (cause : Cause) → IsIdle e0 → Running e0 p0 out0 told0 e i out told → Moves e' p' t (λ o m. moved (configuration o m e i.pending)) → t ≡ turns.Ends cause → e2 ≡ handed_on e' → e'.limits ≡ e.limits → out' ≡ with_bytes out e'.output → told' ≡ with_bytes told e'.messages → Expands e0 e2 p0 out0 out' told0 told' cause
+ended e0 e e' e2 p0 p' i out0 told0 out told out' told' t cause d r h k j l f g =
     subst (λ (x : Engine). Expands e0 x p0 out0 out' told0 told' cause) (sym j)
-    (ends e0 e e' p0 p' i out0 told0 out told out' told' cause d r (subst (λ (x : Turned). Moves e' p' x (λ o m. moved (configuration o m e i.pending))) k h) f g)
+    (ends e0 e e' p0 p' i out0 told0 out told out' told' cause d r (subst (λ (x : Turned). Moves e' p' x (λ o m. moved (configuration o m e i.pending))) k h) l f g)
 
 pub went_on : (e0 e e' e2 : Engine) (p0 : Pending) (i i' : Held) (out0 told0 out told out' told' : Option (List ℕ)) (t : Turned) → Running e0 p0 out0 told0 e i out told → Moves e' i'.pending t (λ o m. moved (configuration o m e i.pending)) → t ≡ turns.GoesOn → e2 ≡ handed_on e' → IsReady i' → e'.limits ≡ e.limits → out' ≡ with_bytes out e'.output → told' ≡ with_bytes told e'.messages → Running e0 p0 out0 told0 e2 i' out' told'
 went_on e0 e e' e2 p0 i i' out0 told0 out told out' told' t r h k j q l f g =

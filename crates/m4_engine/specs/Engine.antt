@@ -12,6 +12,7 @@ use Rattle.m4_state.specs.Definition.{IsDefinition}
 use Rattle.m4_input.specs.declared.token.Token.{Token}
 use Rattle.m4_input.specs.declared.token.Token.TheVariants.{Definition}
 use Rattle.m4_input.specs.Input.{Held}
+use Rattle.m4_engine.specs.declared.ending.Cause.TheVariants as causes
 use Rattle.m4_engine.specs.declared.turned.Turned.{Turned}
 use Rattle.m4_engine.specs.declared.turned.Turned.TheVariants as turns
 use Rattle.m4_engine.specs.Args.{dropped_if_any, with_argument, end_argument}
@@ -195,3 +196,22 @@ moved c = move Expansion Kept Ended turn join c
 -- what was put out is handed on
 abbrev pub handed_on : Engine → Engine
 handed_on e = record e { output = []; messages = [] }
+
+-- an engine that has made nothing
+abbrev pub engine_at : State → ℕ → ℕ → Engine
+engine_at s calls nesting = record {
+  limits = record { calls = calls; nesting = nesting };
+  state = s;
+  saved = [];
+  calls = 0;
+  open_calls = [];
+  output = [];
+  messages = [];
+}
+
+-- a turn ends an expansion by no fault of a device or of memory
+abbrev pub IsMade : Turned → Type 0
+IsMade (turns.Ends causes.Read) = ⊥
+IsMade (turns.Ends causes.Write) = ⊥
+IsMade (turns.Ends causes.OutOfMemory) = ⊥
+IsMade t = Unit {0}

@@ -27,6 +27,7 @@ comes_to e p = expand_input e.limits (made_before e) p
 -- the expansion ended by this cause, and all that it puts out was written
 pub record Expanded (old new : Engine) (d : Ended) (cause : Cause) (out_old out_new told_old told_new : Option (List ℕ)) : Type 0 where
   pub how : d.how ≡ Ends cause
+  pub limits : new.limits ≡ old.limits
   pub state : new.state ≡ (d.so_far).state
   pub saved : new.saved ≡ (d.so_far).saved
   pub calls : new.calls ≡ (d.so_far).calls
@@ -55,3 +56,7 @@ pub record IsIdle (e : Engine) : Type 0 where
   pub open_calls : e.open_calls ≡ []
   pub output : e.output ≡ []
   pub messages : e.messages ≡ []
+
+-- with no call open and nothing to hand on
+abbrev pub at_rest : Engine → Engine
+at_rest e = record e { open_calls = []; output = []; messages = [] }

@@ -14,3 +14,5 @@ pub mod CallView
 pub mod Engine
 pub mod MachineView
 pub mod Expands
+pub mod Session
+pub mod SessionView

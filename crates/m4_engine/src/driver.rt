@@ -4,7 +4,7 @@
 ghost use Rattle.std.specs.Prelude.{◌≡◌, OnOk, OnErr};
 ghost use Rattle.m4_state.specs.Device.{with_bytes};
 ghost use Rattle.m4_engine.specs.Engine.{IsReady, handed_on};
-ghost use Rattle.m4_engine.specs.Expands.{Expands, HandsOn, IsIdle};
+ghost use Rattle.m4_engine.specs.Expands.{Expands, HandsOn, IsIdle, at_rest};
 
 use crate::ending::Cause;
 use crate::machine::Machine;
@@ -41,13 +41,13 @@ impl Machine {
     ) -> Cause
         requires ready { IsReady input.old }
         requires idle { IsIdle self.old }
-        ensures { Expands self.old self.new input.old.pending (O.contents out.old) (O.contents out.new)
+        ensures expands { Expands self.old self.new input.old.pending (O.contents out.old) (O.contents out.new)
             (M.contents messages.old) (M.contents messages.new) result }
+        ensures unread { result ≡ Cause.Read → ⊥ }
     {
         'turns: loop {
             let turned = match self.turn(input, reader) {
                 Ok(turned) => turned,
-                Err(TurnFault::Read) => return Cause::Read,
                 Err(TurnFault::OutOfMemory) => return Cause::OutOfMemory,
             };
             if let Err(DeviceFault) = self.hand_on(out, messages) {
@@ -58,5 +58,15 @@ impl Machine {
                 Turned::Ends(cause) => return cause,
             }
         }
+    }
+
+    /// Leaves the calls that are open and what was not handed on, before the next input.
+    pub fn rest(&mut self)
+        ensures { self.new ≡ at_rest self.old }
+    {
+        self.innermost = None;
+        self.outer.clear();
+        self.output.clear();
+        self.messages.clear();
     }
 }

@@ -11,5 +11,7 @@ pub mod laws;
 pub mod machine;
 pub mod options;
 pub mod role;
+pub mod session;
+pub mod stop;
 pub mod turn;
 pub mod turned;

@@ -2,10 +2,10 @@
 //!
 //! What a turn puts out is held until it is handed on, so that a turn asks no writer.
 
-ghost use Rattle.std.specs.Prelude.{◌≡◌, suc, [], OnOk, IfSome, IfNone};
+ghost use Rattle.std.specs.Prelude.{◌≡◌, suc, false, [], OnOk, IfSome, IfNone};
 ghost use Rattle.m4_state.specs.Definition.{IsDefinition};
 ghost use Rattle.m4_builtins.specs.Messages.{error};
-ghost use Rattle.m4_engine.specs.Engine.{with_text, with_token, telling, beginning};
+ghost use Rattle.m4_engine.specs.Engine.{with_text, with_token, telling, beginning, engine_at};
 
 use crate::call::OpenCall;
 use crate::turned::TurnFault;
@@ -44,6 +44,23 @@ impl Model for Machine {
 }
 
 impl Machine {
+    /// A machine at rest, from a state and the limits.
+    pub fn new(alloc: Global, state: State, most_calls: u64, most_nested: u64) -> Machine
+        ensures { result ≡ engine_at state most_calls most_nested }
+    {
+        Machine {
+            alloc,
+            most_calls,
+            most_nested,
+            state,
+            calls: 0,
+            innermost: None,
+            outer: Vec::new(alloc),
+            output: Vec::new(alloc),
+            messages: Vec::new(alloc),
+        }
+    }
+
     /// Puts text where it goes: into an argument, or to the output or a diversion.
     pub fn put_text(&mut self, text: &[u8]) -> Result<(), StateFault>
         ensures { OnOk result (self.new ≡ with_text text.now self.old) }
@@ -103,5 +120,14 @@ impl Machine {
     {
         let around = self.outer.pop();
         std::mem::replace(&mut self.innermost, around)
+    }
+
+    /// Whether a text stands saved to be read at the end. No call saves one yet.
+    pub fn has_saved(&self) -> bool
+        ensures answer { result ≡ false }
+        ensures none { self.now.saved ≡ [] }
+    {
+        let _calls = self.calls;
+        false
     }
 }

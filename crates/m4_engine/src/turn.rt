@@ -9,7 +9,7 @@ ghost use Rattle.m4_input.specs.Token.{Refused};
 ghost use Rattle.m4_builtins.specs.Messages.{error};
 ghost use Rattle.m4_input.specs.Input.{Held, answer_of};
 ghost use Rattle.m4_input.specs.Pending.{Pending, line_of, consumed};
-ghost use Rattle.m4_engine.specs.Engine.{Moves, IsFront, IsToken, IsReady, moved, configuration, Stays, with_made, ending_argument, telling, counting, calls_text, nested_text, is_deep_in, IfHead, mode_of, close_in, step, here_of, outer_of, called_within};
+ghost use Rattle.m4_engine.specs.Engine.{Moves, IsFront, IsMade, IsToken, IsReady, moved, configuration, Stays, with_made, ending_argument, telling, counting, calls_text, nested_text, is_deep_in, IfHead, mode_of, close_in, step, here_of, outer_of, called_within};
 ghost use Rattle.m4_builtins.specs.Act.{IsPushed};
 ghost use Rattle.m4_engine.specs.Nesting.{Closed};
 ghost use Rattle.m4_engine.specs.Expansion.{Expansion, reading};
@@ -71,6 +71,7 @@ impl Machine {
             (λ o m. step (outer_of self.old.open_calls)
                 (take_end (mode_of self.old.open_calls) (here_of o m self.old before)))) }
         ensures limits { OnOk result (self.new.limits ≡ self.old.limits) }
+        ensures made { IfOk result IsMade }
     {
         let Some(call) = &self.innermost else {
             return Ok(Turned::Ends(Cause::Done));
@@ -100,6 +101,7 @@ impl Machine {
             (λ o m. called_within self.old.open_calls call (here_of o m self.old input.old.pending))) }
         ensures ready { result ≡ Ok Turned.GoesOn → Stays input.old input.new }
         ensures limits { OnOk result (self.new.limits ≡ self.old.limits) }
+        ensures made { IfOk result IsMade }
     {
         let (definition, args, place) = call.into_parts();
         let Effect {
@@ -142,6 +144,7 @@ impl Machine {
                 (take_other (mode_of self.old.open_calls) byte (here_of o m self.old input.old.pending)))) }
         ensures ready { result ≡ Ok Turned.GoesOn → Stays input.old input.new }
         ensures limits { OnOk result (self.new.limits ≡ self.old.limits) }
+        ensures made { IfOk result IsMade }
     {
         let Some(call) = &mut self.innermost else {
             self.put_text(&[byte])?;
@@ -169,6 +172,7 @@ impl Machine {
                 (close_in self.old.open_calls (here_of o m self.old input.old.pending)))) }
         ensures ready { result ≡ Ok Turned.GoesOn → Stays input.old input.new }
         ensures limits { OnOk result (self.new.limits ≡ self.old.limits) }
+        ensures made { IfOk result IsMade }
     {
         self.end_argument()?;
         let Some(call) = self.close() else {
@@ -250,6 +254,7 @@ impl Machine {
             (λ o m. step (outer_of self.old.open_calls) (call_turn listed call input.old.pending (here_of o m self.old before)))) }
         ensures ready { result ≡ Ok Turned.GoesOn → Stays input.old input.new }
         ensures limits { OnOk result (self.new.limits ≡ self.old.limits) }
+        ensures made { IfOk result IsMade }
     {
         if !self.has_room() {
             self.refuse_calls(&call)?;
@@ -278,6 +283,7 @@ impl Machine {
                 (take_name (top_of self.old.state name) name input.old.pending (here_of o m self.old before)))) }
         ensures ready { result ≡ Ok Turned.GoesOn → Stays input.old input.new }
         ensures limits { OnOk result (self.new.limits ≡ self.old.limits) }
+        ensures made { IfOk result IsMade }
     {
         let Some(definition) = self.definition(name.as_slice())? else {
             self.put_text(name.as_slice())?;
@@ -327,6 +333,7 @@ impl Machine {
                 (take_token token input.old.pending (here_of o m self.old before)))) }
         ensures ready { result ≡ Ok Turned.GoesOn → Stays input.old input.new }
         ensures limits { OnOk result (self.new.limits ≡ self.old.limits) }
+        ensures made { IfOk result IsMade }
     {
         match token {
             Token::Name(name) => return self.take_name(name, line, input, reader),
@@ -344,6 +351,7 @@ impl Machine {
             → Moves self.new p t (λ o m. step (outer_of self.old.open_calls)
                 (take_front (Refused what line) (here_of o m self.old before)))) }
         ensures limits { OnOk result (self.new.limits ≡ self.old.limits) }
+        ensures made { IfOk result IsMade }
     {
         let file = Bytes::from_slice(self.alloc, input.name())?;
         let place = Place { file, line };
@@ -366,6 +374,7 @@ impl Machine {
             (λ o m. moved (configuration o m self.old input.old.pending))) }
         ensures ready { result ≡ Ok Turned.GoesOn → IsReady input.new }
         ensures limits { OnOk result (self.new.limits ≡ self.old.limits) }
+        ensures made { IfOk result IsMade }
     {
         let line = input.line();
         let front = input.next(reader, &Delims::of(&self.state));

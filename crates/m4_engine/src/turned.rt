@@ -18,8 +18,6 @@ pub enum Turned {
 /// Why a turn was not made. The run is over, and its state isn't used again.
 #[derive(Clone, Copy, Debug, PartialEq, Eq)]
 pub enum TurnFault {
-    /// The reader failed.
-    Read,
     /// A growth was refused.
     OutOfMemory,
 }
@@ -43,10 +41,8 @@ impl From<BuiltinFault> for TurnFault {
 }
 
 impl From<InputFault> for TurnFault {
-    fn from(fault: InputFault) -> TurnFault {
-        match fault {
-            InputFault::OutOfMemory => TurnFault::OutOfMemory,
-            _ => TurnFault::Read,
-        }
+    /// An input that was read whole asks no reader, so that nothing but memory can fail in it.
+    fn from(_: InputFault) -> TurnFault {
+        TurnFault::OutOfMemory
     }
 }

@@ -8,17 +8,14 @@ turns-init g c = begins c.args.self.now c.args.input.now _ _ c.requires.idle c.r
 pub turn-requires : goal.turn-requires
 turn-requires g c = c.turns.invariant.ready
 
-pub returns-in-Err-Read : goal.returns-in-Err-Read
-returns-in-Err-Read g c = breaks c.args.self.now c.turns.self c.args.input.now.pending c.turns.input _ _ _ _ c.requires.idle c.turns.invariant
+pub returns-in-Err-OutOfMemory-clause-expands : goal.returns-in-Err-OutOfMemory-clause-expands
+returns-in-Err-OutOfMemory-clause-expands g c = breaks c.args.self.now c.turns.self c.args.input.now.pending c.turns.input _ _ _ _ c.requires.idle c.turns.invariant
 
-pub returns-in-Err-OutOfMemory : goal.returns-in-Err-OutOfMemory
-returns-in-Err-OutOfMemory g c = breaks c.args.self.now c.turns.self c.args.input.now.pending c.turns.input _ _ _ _ c.requires.idle c.turns.invariant
+pub returns-in-Err-clause-expands : goal.returns-in-Err-clause-expands
+returns-in-Err-clause-expands g c = write_breaks c.args.self.now c.turns.self c.turn.new.self c.args.input.now.pending c.turn.new.input.pending c.turns.input c.in-Ok.turned _ _ _ _ _ _ c.requires.idle c.turns.invariant c.in-Ok.ensures.moves c.in-Err.ensures.begun
 
-pub returns-in-Err : goal.returns-in-Err
-returns-in-Err g c = write_breaks c.args.self.now c.turns.self c.turn.new.self c.args.input.now.pending c.turn.new.input.pending c.turns.input c.in-Ok.turned _ _ _ _ _ _ c.requires.idle c.turns.invariant c.in-Ok.ensures.moves c.in-Err.ensures.begun
-
-pub returns-in-Ends : goal.returns-in-Ends
-returns-in-Ends g c = ended c.args.self.now c.turns.self c.turn.new.self c.hand_on.new.self c.args.input.now.pending c.turn.new.input.pending c.turns.input _ _ _ _ _ _ c.in-Ok.turned c.in-Ends.cause c.requires.idle c.turns.invariant c.in-Ok.ensures.moves c.in-Ends.is c.in_default.ensures.engine c.in_default.ensures.output c.in_default.ensures.messages
+pub returns-in-Ends-clause-expands : goal.returns-in-Ends-clause-expands
+returns-in-Ends-clause-expands g c = ended c.args.self.now c.turns.self c.turn.new.self c.hand_on.new.self c.args.input.now.pending c.turn.new.input.pending c.turns.input _ _ _ _ _ _ c.in-Ok.turned c.in-Ends.cause c.requires.idle c.turns.invariant c.in-Ok.ensures.moves c.in-Ends.is c.in_default.ensures.engine c.in-Ok.ensures.limits c.in_default.ensures.output c.in_default.ensures.messages
 
 pub turns-smaller : goal.turns-smaller
 turns-smaller g c = fell c.turns.self c.turn.new.self c.hand_on.new.self c.turns.input.pending c.turn.new.input.pending c.in-Ok.turned c.in-Ok.ensures.moves c.in-GoesOn.is c.in_default.ensures.engine

@@ -1,0 +1,125 @@
+-- Sessions: what a session's calls make of what the machine leaves.
+use Rattle.std.proofs.Common.{◌≡◌, ◌⊎◌, inl, inr, ℕ, Bool, true, false, List, [], ◌++◌, Option, Some, None, refl, sym, ap, ◌∙◌, subst}
+use Rattle.std.specs.Prelude.{Result, Ok, Err}
+use Rattle.m4_state.specs.State.{State}
+use Rattle.m4_state.specs.Device.{Script, after_bytes, IsAtEnd, with_bytes, HasBegun}
+use Rattle.m4_input.specs.Pending.{Pending}
+use Rattle.m4_input.specs.Input.{Held, unread_file, longer, Reads, WholeGives}
+use Rattle.m4_engine.specs.declared.ending.Cause.{Cause}
+use Rattle.m4_engine.specs.declared.ending.Cause.TheVariants as causes
+use Rattle.m4_engine.specs.declared.stop.Stop.{Stop}
+use Rattle.m4_engine.specs.declared.stop.Stop.TheVariants as stops
+use Rattle.m4_engine.specs.Expansion.{How, Ends, Ended}
+use Rattle.m4_engine.specs.File.{Opened, Progress, file, file_pending, over_of, over_by, after_input, unless_over, read_source, after_source}
+use Rattle.m4_engine.specs.Run.{closed_output}
+use Rattle.m4_engine.specs.Wraps.{after_wraps, close}
+use Rattle.m4_engine.proofs.Begins.{nothing_begun}
+use Rattle.m4_engine.specs.Engine.{Engine, IsReady}
+use Rattle.m4_engine.specs.Expands.{made_before, comes_to, Expanded, Broken, Expands, at_rest, IsIdle}
+use Rattle.m4_engine.specs.Session.{Standing, Writers, progress_of, written, how_over, IsOpen, Filed, Fell, Silent, FileDone, FileBroke, FileGives, answer_by, over_behind, behind_wraps, FinishGives}
+
+-- what a file's input has in hand when it was read
+pub whole_file : (name x : List ℕ) (before behind : Option Script) (p : Pending) → Reads before behind (unread_file name).pending x p → p.may_follow ≡ false → p ≡ file_pending name x false
+whole_file name x before behind p r e = r.in_hand ∙ ap (λ (b : Bool). longer x b (unread_file name).pending) e
+
+-- the session as the machine and the rest of it give it
+abbrev standing_of : Engine → Bool → Option Cause → Bool → Standing
+standing_of e missed over finished = record {
+  limits = e.limits;
+  state = e.state;
+  saved = e.saved;
+  calls = e.calls;
+  missed = missed;
+  over = over;
+  finished = finished;
+}
+
+-- the progress behind a file that ended by a cause
+abbrev progress_with : State → List (List ℕ) → ℕ → Option How → Bool → Progress
+progress_with s saved calls over missed = record {
+  so_far = record { state = s; output = []; messages = []; saved = saved; calls = calls };
+  over = over;
+  missed = missed;
+}
+
+progress_behind : (new : Engine) (missed : Bool) (over : Option Cause) (cause : Cause) (d : Ended) → d.how ≡ Ends cause → new.state ≡ (d.so_far).state → new.saved ≡ (d.so_far).saved → new.calls ≡ (d.so_far).calls → how_over over ≡ over_by cause → progress_of (standing_of new missed over false) ≡ written (after_input d missed)
+progress_behind new missed over cause d h s v n o =
+    ap (λ (x : State). progress_with x new.saved new.calls (how_over over) missed) s
+    ∙ ap (λ (x : List (List ℕ)). progress_with (d.so_far).state x new.calls (how_over over) missed) v
+    ∙ ap (λ (x : ℕ). progress_with (d.so_far).state (d.so_far).saved x (how_over over) missed) n
+    ∙ ap (λ (x : Option How). progress_with (d.so_far).state (d.so_far).saved (d.so_far).calls x missed) (o ∙ sym (ap over_of h))
+
+-- a file was read to an end
+file_done : (e0 e1 : Engine) (missed : Bool) (name x : List ℕ) (over : Option Cause) (cause : Cause) (before behind : Option Script) (p : Pending) (w : Writers) → before ≡ after_bytes x behind → IsAtEnd behind → p ≡ file_pending name x false → Expanded e0 e1 (comes_to e0 p) cause w.out_old w.out_new w.told_old w.told_new → how_over over ≡ over_by cause → FileDone name before behind (standing_of e0 missed None false) (standing_of (at_rest e1) missed over false) w over
+file_done e0 e1 missed name x over cause before behind p w g a e d o =
+    let k = subst (λ (p : Pending). Expanded e0 e1 (comes_to e0 p) cause w.out_old w.out_new w.told_old w.told_new) e d in
+    (
+      x,
+      g,
+      a,
+      record {
+        live = record { over = refl; unfinished = refl };
+        limits = k.limits;
+        unfinished = refl;
+        progress = progress_behind (at_rest e1) missed over cause (comes_to e0 (file_pending name x false)) k.how k.state k.saved k.calls o;
+        output = k.output;
+        messages = k.messages;
+      },
+      refl,
+    )
+
+-- a file broke off
+file_broke : (e0 e1 : Engine) (missed : Bool) (name x : List ℕ) (cause : Cause) (before behind : Option Script) (p : Pending) (w : Writers) → before ≡ after_bytes x behind → IsAtEnd behind → p ≡ file_pending name x false → Broken (comes_to e0 p) w.out_old w.out_new w.told_old w.told_new → FileBroke name before behind (standing_of e0 missed None false) (standing_of (at_rest e1) missed (Some cause) false) w cause
+file_broke e0 e1 missed name x cause before behind p w g a e d = (
+  x,
+  g,
+  record { live = record { over = refl; unfinished = refl }; over = refl },
+  inr (a, subst (λ (p : Pending). Broken (comes_to e0 p) w.out_old w.out_new w.told_old w.told_new) e d),
+)
+
+by_cause : (e0 e1 : Engine) (missed : Bool) (name x : List ℕ) (cause : Cause) (before behind : Option Script) (p : Pending) (w : Writers) → before ≡ after_bytes x behind → IsAtEnd behind → p ≡ file_pending name x false → Expands e0 e1 p w.out_old w.out_new w.told_old w.told_new cause → (cause ≡ causes.Read → ⊥) → FileGives name before behind (standing_of e0 missed None false) (standing_of (at_rest e1) missed (over_behind cause None) false) w (answer_by cause)
+by_cause e0 e1 missed name x causes.Done before behind p w g a e d u = file_done e0 e1 missed name x None causes.Done before behind p w g a e d refl
+by_cause e0 e1 missed name x (causes.Exited n) before behind p w g a e d u = file_done e0 e1 missed name x (Some (causes.Exited n)) (causes.Exited n) before behind p w g a e d refl
+by_cause e0 e1 missed name x causes.EndInString before behind p w g a e d u = file_done e0 e1 missed name x (Some causes.EndInString) causes.EndInString before behind p w g a e d refl
+by_cause e0 e1 missed name x causes.EndInComment before behind p w g a e d u = file_done e0 e1 missed name x (Some causes.EndInComment) causes.EndInComment before behind p w g a e d refl
+by_cause e0 e1 missed name x causes.EndInArguments before behind p w g a e d u = file_done e0 e1 missed name x (Some causes.EndInArguments) causes.EndInArguments before behind p w g a e d refl
+by_cause e0 e1 missed name x causes.ExpansionLimit before behind p w g a e d u = file_done e0 e1 missed name x (Some causes.ExpansionLimit) causes.ExpansionLimit before behind p w g a e d refl
+by_cause e0 e1 missed name x causes.NestingLimit before behind p w g a e d u = file_done e0 e1 missed name x (Some causes.NestingLimit) causes.NestingLimit before behind p w g a e d refl
+by_cause e0 e1 missed name x (causes.Frozen f) before behind p w g a e d u = file_done e0 e1 missed name x (Some (causes.Frozen f)) (causes.Frozen f) before behind p w g a e d refl
+by_cause e0 e1 missed name x causes.Read before behind p w g a e d u = absurd (u refl)
+by_cause e0 e1 missed name x causes.Write before behind p w g a e d u = file_broke e0 e1 missed name x causes.Write before behind p w g a e d
+by_cause e0 e1 missed name x causes.OutOfMemory before behind p w g a e d u = file_broke e0 e1 missed name x causes.OutOfMemory before behind p w g a e d
+
+-- a file that was read whole
+pub file_gives : (old new : Standing) (e0 e1 e2 : Engine) (missed : Bool) (over : Option Cause) (finished : Bool) (name : List ℕ) (i0 i : Held) (before behind : Option Script) (w : Writers) (cause : Cause) (result : Result Unit Stop) → old ≡ standing_of e0 missed over finished → IsOpen old → i0 ≡ unread_file name → WholeGives before behind i0 i (Ok tt) → Expands e0 e1 i.pending w.out_old w.out_new w.told_old w.told_new cause → (cause ≡ causes.Read → ⊥) → e2 ≡ at_rest e1 → new ≡ standing_of e2 missed (over_behind cause over) finished → result ≡ answer_by cause → FileGives name before behind old new w result
+file_gives old new e0 e1 e2 missed over finished name i0 i before behind w cause result o l n h d u z v r =
+    let b : over ≡ None = sym (ap (λ (s : Standing). s.over) o) ∙ l.over in
+    let f : finished ≡ false = sym (ap (λ (s : Standing). s.finished) o) ∙ l.unfinished in
+    let o' : old ≡ standing_of e0 missed None false = o ∙ ap (λ x. standing_of e0 missed x finished) b ∙ ap (λ x. standing_of e0 missed None x) f in
+    let v' : new ≡ standing_of (at_rest e1) missed (over_behind cause None) false =
+    v ∙ ap (λ (x : Engine). standing_of x missed (over_behind cause over) finished) z ∙ ap (λ x. standing_of (at_rest e1) missed (over_behind cause x) finished) b ∙ ap (λ x. standing_of (at_rest e1) missed (over_behind cause None) x) f in
+    let k = subst (λ (i0 : Held). WholeGives before behind i0 i (Ok tt)) n h in
+    let p : i.pending ≡ file_pending name k.0 false = whole_file name k.0 before behind i.pending k.1 k.2 in
+    let g = by_cause e0 e1 missed name k.0 cause before behind i.pending w (k.1).given ((k.1).at_end refl k.2) p d u in
+    subst (λ (x : Standing). FileGives name before behind x new w result) (sym o')
+    (subst (λ (x : Standing). FileGives name before behind (standing_of e0 missed None false) x w result) (sym v')
+    (subst (λ x. FileGives name before behind (standing_of e0 missed None false) (standing_of (at_rest e1) missed (over_behind cause None) false) w x) (sym r) g))
+
+-- no text stands saved: there is no round
+pub behind_is : (s : Standing) → IsOpen s → s.saved ≡ [] → behind_wraps s ≡ progress_of s
+behind_is s l e =
+    ap (λ (o : Option Cause). after_wraps s.limits (progress_of (record s { over = o }))) l.over
+    ∙ ap (λ (x : List (List ℕ)). after_wraps s.limits (progress_of (record s { over = None; saved = x }))) e
+    ∙ sym (ap (λ (x : List (List ℕ)). progress_of (record s { over = None; saved = x })) e)
+    ∙ sym (ap (λ (o : Option Cause). progress_of (record s { over = o })) l.over)
+
+-- the diversions could not be issued
+pub finish_broke : (old new : Standing) (w : Writers) (s : Stop) → IsOpen old → old.saved ≡ [] → s ≡ stops.Ended causes.Write → new.over ≡ Some causes.Write → w.told_new ≡ w.told_old → HasBegun w.out_old w.out_new (close old.state) → FinishGives old new w (Err s)
+finish_broke old new w s l e i o m h =
+    let p : progress_of old ≡ behind_wraps old = sym (behind_is old l e) in
+    subst (λ (x : Stop). FinishGives old new w (Err x)) (sym i) (
+      record { live = l; over = o },
+      subst (λ (x : Progress). HasBegun w.out_old w.out_new (closed_output false x.so_far)) p h,
+      subst (λ (x : Progress). HasBegun w.told_old w.told_new (x.so_far).messages) p
+          (subst (λ x. HasBegun w.told_old x []) (sym m) (nothing_begun w.told_old [])),
+    )

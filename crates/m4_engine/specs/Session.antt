@@ -1,0 +1,182 @@
+-- Session: a run between two of its calls, and what each call does to it.
+-- Believed. Manual: "Command line files", "Invoking m4".
+-- Words: Standing, progress_of, written, fresh_standing, IsOpen, Filed, FileGives, MissingGives,
+-- FinishGives.
+-- A session is a run's progress without what was written; what is written goes to the writers.
+use Rattle.std.specs.Prelude.{◌≡◌, ℕ, Bool, true, false, List, [], ◌∷◌, ◌++◌, Option, Some, None, Result, Ok, Err, ◌⊎◌}
+use Rattle.m4_state.specs.State.{State}
+use Rattle.m4_state.specs.Fresh.{fresh}
+use Rattle.m4_state.specs.Device.{Script, after_bytes, IsAtEnd, IsAtFault, with_bytes, HasBegun}
+use Rattle.m4_engine.specs.declared.ending.Cause.{Cause}
+use Rattle.m4_engine.specs.declared.ending.Cause.TheVariants as causes
+use Rattle.m4_engine.specs.declared.options.Options.{Options}
+use Rattle.m4_engine.specs.declared.stop.Stop.{Stop}
+use Rattle.m4_engine.specs.declared.stop.Stop.TheVariants as stops
+use Rattle.m4_engine.specs.Expansion.{RunSoFar, Limits, How, Ends, Ended}
+use Rattle.m4_engine.specs.Expands.{Broken}
+use Rattle.m4_engine.specs.File.{Source, Opened, Unopened, Progress, file, after_source, cannot_open}
+use Rattle.m4_engine.specs.Wraps.{after_wraps}
+use Rattle.m4_engine.specs.Run.{limits_of, status_of, closed_output}
+
+-- a run between two calls: what it has made beside what was written; whether a source wasn't opened;
+-- why it is over, if it is; and whether it was brought to its end
+pub record Standing : Type 0 where
+  pub limits : Limits
+  pub state : State
+  pub saved : List (List ℕ)
+  pub calls : ℕ
+  pub missed : Bool
+  pub over : Option Cause
+  pub finished : Bool
+
+-- the progress of a run by its cause
+abbrev pub how_over : Option Cause → Option How
+how_over None = None
+how_over (Some cause) = Some (Ends cause)
+
+-- the run's progress, where all that it put out was written before
+abbrev pub progress_of : Standing → Progress
+progress_of s = record {
+  so_far = record { state = s.state; output = []; messages = []; saved = s.saved; calls = s.calls };
+  over = how_over s.over;
+  missed = s.missed;
+}
+
+-- a progress whose output and messages were written
+abbrev pub written : Progress → Progress
+written p = record p { so_far = record p.so_far { output = []; messages = [] } }
+
+-- a run that starts from the fresh state
+abbrev pub fresh_standing : Options → Standing
+fresh_standing o = record {
+  limits = limits_of o;
+  state = fresh o.prefix;
+  saved = [];
+  calls = 0;
+  missed = false;
+  over = None;
+  finished = false;
+}
+
+-- the run goes on
+pub record IsOpen (s : Standing) : Type 0 where
+  pub over : s.over ≡ None
+  pub unfinished : s.finished ≡ false
+
+-- the writers before and behind a call
+pub record Writers : Type 0 where
+  pub out_old : Option (List ℕ)
+  pub out_new : Option (List ℕ)
+  pub told_old : Option (List ℕ)
+  pub told_new : Option (List ℕ)
+
+-- nothing was written
+pub record Silent (w : Writers) : Type 0 where
+  pub output : w.out_new ≡ w.out_old
+  pub messages : w.told_new ≡ w.told_old
+
+-- the call was made to its end: the run's progress is p, and all that p put out was written
+pub record Filed (old new : Standing) (p : Progress) (w : Writers) : Type 0 where
+  pub live : IsOpen old
+  pub limits : new.limits ≡ old.limits
+  pub unfinished : new.finished ≡ false
+  pub progress : progress_of new ≡ written p
+  pub output : w.out_new ≡ with_bytes w.out_old (p.so_far).output
+  pub messages : w.told_new ≡ with_bytes w.told_old (p.so_far).messages
+
+-- a session that is over or finished answers so, and nothing changes
+pub record Refused (old new : Standing) (w : Writers) : Type 0 where
+  pub closed : IsOpen old → ⊥
+  pub same : new ≡ old
+  pub silent : Silent w
+
+-- the call broke off by this cause, which ends the run
+pub record Fell (old new : Standing) (cause : Cause) : Type 0 where
+  pub live : IsOpen old
+  pub over : new.over ≡ Some cause
+
+-- a file was read, of which the reader gave x
+abbrev pub FileDone : List ℕ → Option Script → Option Script → Standing → Standing → Writers → Option Cause → Type 0
+FileDone name before behind old new w over =
+    (x : List ℕ) × (before ≡ after_bytes x behind) × IsAtEnd behind
+    × Filed old new (after_source old.limits (Opened name x) (progress_of old)) w × (new.over ≡ over)
+
+-- a file wasn't read, or only a beginning of what it puts out was written
+abbrev pub FileBroke : List ℕ → Option Script → Option Script → Standing → Standing → Writers → Cause → Type 0
+FileBroke name before behind old new w cause =
+    (x : List ℕ) × (before ≡ after_bytes x behind) × Fell old new cause
+    × (Silent w ⊎ (IsAtEnd behind
+        × Broken (file old.limits (progress_of old).so_far name x) w.out_old w.out_new w.told_old w.told_new))
+
+-- a file: it is read to its end, or the run ends
+abbrev pub FileGives : List ℕ → Option Script → Option Script → Standing → Standing → Writers → Result Unit Stop → Type 0
+FileGives name before behind old new w (Ok done) = FileDone name before behind old new w None
+FileGives name before behind old new w (Err stops.Finished) = Refused old new w × (behind ≡ before)
+FileGives name before behind old new w (Err (stops.Ended causes.Read)) =
+    (x : List ℕ) × (before ≡ after_bytes x behind) × IsAtFault behind × Fell old new causes.Read × Silent w
+FileGives name before behind old new w (Err (stops.Ended causes.Write)) =
+    FileBroke name before behind old new w causes.Write
+FileGives name before behind old new w (Err (stops.Ended causes.OutOfMemory)) =
+    FileBroke name before behind old new w causes.OutOfMemory
+FileGives name before behind old new w (Err (stops.Ended cause)) =
+    FileDone name before behind old new w (Some cause)
+
+-- the status where a run stands so
+abbrev pub how_by : Option Cause → How
+how_by None = Ends causes.Done
+how_by (Some cause) = Ends cause
+
+abbrev pub status_at : Standing → ℕ
+status_at s = status_of (how_by s.over) s.missed
+
+-- the answer behind an input, by its cause
+abbrev pub answer_by : Cause → Result Unit Stop
+answer_by causes.Done = Ok tt
+answer_by cause = Err (stops.Ended cause)
+
+abbrev pub over_behind : Cause → Option Cause → Option Cause
+over_behind causes.Done over = over
+over_behind cause over = Some cause
+
+-- a source that wasn't opened: it is told of
+abbrev pub MissingGives : List ℕ → Standing → Standing → Option (List ℕ) → Option (List ℕ) → Result Unit Stop → Type 0
+MissingGives name old new told_old told_new (Ok done) =
+    IsOpen old × IsOpen new × (new.limits ≡ old.limits)
+    × (progress_of new ≡ written (after_source old.limits (Unopened name) (progress_of old)))
+    × (told_new ≡ with_bytes told_old (cannot_open name))
+MissingGives name old new told_old told_new (Err stops.Finished) =
+    (IsOpen old → ⊥) × (new ≡ old) × (told_new ≡ told_old)
+MissingGives name old new told_old told_new (Err (stops.Ended causes.Write)) =
+    Fell old new causes.Write × HasBegun told_old told_new (cannot_open name)
+MissingGives name old new told_old told_new (Err (stops.Ended cause)) = ⊥
+
+-- the run behind its saved texts
+abbrev pub behind_wraps : Standing → Progress
+behind_wraps s = after_wraps s.limits (progress_of s)
+
+-- the run came to its end: the saved texts were read, and the diversions were issued
+pub record Closed (old new : Standing) (w : Writers) : Type 0 where
+  pub live : IsOpen old
+  pub finished : new.finished ≡ true
+  pub over : new.over ≡ None
+  pub missed : new.missed ≡ old.missed
+  pub calls : new.calls ≡ ((behind_wraps old).so_far).calls
+  pub ended : (behind_wraps old).over ≡ None
+  pub output : w.out_new ≡ with_bytes w.out_old (closed_output false (behind_wraps old).so_far)
+  pub messages : w.told_new ≡ with_bytes w.told_old ((behind_wraps old).so_far).messages
+
+-- the end of a run
+abbrev pub FinishGives : Standing → Standing → Writers → Result Unit Stop → Type 0
+FinishGives old new w (Ok done) = Closed old new w
+FinishGives old new w (Err stops.Finished) = Refused old new w
+FinishGives old new w (Err (stops.Ended causes.Write)) =
+    Fell old new causes.Write
+    × HasBegun w.out_old w.out_new (closed_output false (behind_wraps old).so_far)
+    × HasBegun w.told_old w.told_new ((behind_wraps old).so_far).messages
+FinishGives old new w (Err (stops.Ended cause)) =
+    Filed old new (behind_wraps old) w × (new.over ≡ Some cause)
+
+-- whether a text stands saved
+abbrev pub is_saved : List (List ℕ) → Bool
+is_saved [] = false
+is_saved (x ∷ xs) = true

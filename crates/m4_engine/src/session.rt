@@ -1,0 +1,193 @@
+//! A run, call by call: sources one behind the other, and then its end.
+//! Manual: "Command line files", "Invoking m4".
+
+ghost use Rattle.std.specs.Prelude.{◌≡◌, true, false, Some, IfOk, IfErr};
+ghost use Rattle.m4_state.specs.Device.{Puts};
+ghost use Rattle.m4_engine.specs.Wraps.{close};
+ghost use Rattle.m4_engine.specs.Session.{Standing, IsOpen, answer_by, over_behind, fresh_standing, FileGives, MissingGives, FinishGives, is_saved, status_at};
+
+use crate::ending::Cause;
+use crate::machine::Machine;
+use crate::options::Options;
+use crate::stop::Stop;
+use m4_frozen::fault::FrozenKind;
+use m4_input::fault::InputFault;
+use m4_input::input::Input;
+use m4_state::bytes::Bytes;
+use m4_state::device::{ByteSink, ByteSource, DeviceFault};
+use m4_state::memory::MemSource;
+use m4_state::state::State;
+use m4_state::transfer::{put_all, put_pieces};
+use std::alloc::Global;
+use std::marker::Model;
+
+/// A run between two calls.
+#[derive(Drop)]
+pub struct Session {
+    machine: Machine,
+    missed: bool,
+    over: Option<Cause>,
+    finished: bool,
+}
+
+impl Model for Session {
+    ghost use Rattle.m4_engine.specs.Expands.{IsIdle};
+    ghost use Rattle.m4_engine.specs.Session.{Standing};
+    ghost use Rattle.m4_engine.specs.SessionView.{session_view};
+
+    ghost Value = { Standing };
+
+    ghost view = { session_view };
+
+    ghost invariant = { λ s. IsIdle s.machine };
+}
+
+impl Session {
+    /// A run that starts from the fresh state. No prefix can be asked for yet.
+    pub fn fresh(alloc: Global, options: Options) -> Result<Session, Stop>
+        requires { options.prefix ≡ false }
+        // session steps: the fresh state, with nothing read
+        ensures { IfOk result (λ s. s ≡ fresh_standing options) }
+    {
+        let Ok(state) = State::fresh(alloc, options.prefix) else {
+            return Err(Stop::Ended(Cause::OutOfMemory));
+        };
+        Ok(Session {
+            machine: Machine::new(alloc, state, options.calls, options.nesting),
+            missed: false,
+            over: None,
+            finished: false,
+        })
+    }
+
+    /// Whether a call still does something.
+    fn is_open(&self) -> bool
+        ensures yes { result ≡ true → IsOpen self.now }
+        ensures no { result ≡ false → IsOpen self.now → ⊥ }
+    {
+        self.over.is_none() && !self.finished
+    }
+
+    /// The run ends by this cause.
+    fn end(&mut self, cause: Cause) -> Stop
+        ensures answer { result ≡ Stop.Ended cause }
+        ensures over { self.new ≡ record self.old { over = Some cause } }
+    {
+        self.over = Some(cause);
+        Stop::Ended(cause)
+    }
+
+    /// Reads a file to its end. `Ended(Read)` where the reader fails, and then nothing of the file was
+    /// processed; `Ended(Write)` and `Ended(OutOfMemory)` behind a beginning of what it puts out.
+    pub fn file<R: ByteSource, O: ByteSink, M: ByteSink>(
+        &mut self,
+        name: Bytes,
+        reader: &mut R,
+        out: &mut O,
+        messages: &mut M,
+    ) -> Result<(), Stop>
+        // session steps: the definition of a file, with what it puts out written
+        ensures { FileGives name (R.script reader.old) (R.script reader.new) self.old self.new
+            (record { out_old = O.contents out.old; out_new = O.contents out.new; told_old = M.contents messages.old; told_new = M.contents messages.new })
+            result }
+    {
+        if !self.is_open() {
+            return Err(Stop::Finished);
+        }
+        let mut input = Input::file(self.machine.alloc, name);
+        match input.read_whole(reader) {
+            Ok(()) => {}
+            Err(InputFault::Read) => return Err(self.end(Cause::Read)),
+            Err(_) => return Err(self.end(Cause::OutOfMemory)),
+        }
+        // the file is read, so that no reader is asked any more
+        let mut nothing = MemSource::new(&[], 1, false);
+        let cause = self
+            .machine
+            .expand(&mut input, &mut nothing, out, messages);
+        self.machine.rest();
+        self.settle(cause)
+    }
+
+    /// The answer behind an input: only its end lets the run go on.
+    fn settle(&mut self, cause: Cause) -> Result<(), Stop>
+        ensures answer { result ≡ answer_by cause }
+        ensures over { self.new ≡ record self.old { over = over_behind cause self.old.over } }
+    {
+        if cause == Cause::Done {
+            return Ok(());
+        }
+        Err(self.end(cause))
+    }
+
+    /// The status: of the cause that ended the run, or of its end while there is none; 1 where a source
+    /// was not opened.
+    pub fn status(&self) -> u8
+        // session steps: the status so far
+        ensures { result ≡ status_at self.now }
+    {
+        let missed = u8::from(self.missed);
+        match self.over {
+            None | Some(Cause::Done | Cause::Exited(0)) => missed,
+            Some(Cause::Exited(code)) => code,
+            Some(Cause::Frozen(fault)) if fault.kind == FrozenKind::Newer => 63,
+            Some(_) => 1,
+        }
+    }
+
+    /// Tells of a source that could not be opened; the status will not be 0. `Ended(Write)` behind a
+    /// beginning of what is told.
+    pub fn missing<M: ByteSink>(&mut self, name: &[u8], messages: &mut M) -> Result<(), Stop>
+        // session steps: the unopened source, with its message written
+        ensures { MissingGives name.now self.old self.new (M.contents messages.old) (M.contents messages.new) result }
+    {
+        if !self.is_open() {
+            return Err(Stop::Finished);
+        }
+        if let Err(DeviceFault) = put_pieces(messages, &[b"m4: cannot open `", name, b"'\n"]) {
+            return Err(self.end(Cause::Write));
+        }
+        self.missed = true;
+        Ok(())
+    }
+
+    /// Brings the run to its end: the diversions that are left are issued, by rising number. No call
+    /// saves text to be read at the end yet. `Ended(Write)` behind a beginning of what is issued.
+    pub fn finish<O: ByteSink, M: ByteSink>(&mut self, out: &mut O, messages: &mut M) -> Result<(), Stop>
+        // session steps: the saved texts, then the diversions
+        ensures { FinishGives self.old self.new
+            (record { out_old = O.contents out.old; out_new = O.contents out.new; told_old = M.contents messages.old; told_new = M.contents messages.new })
+            result }
+    {
+        let _ = messages;
+        if !self.is_open() {
+            return Err(Stop::Finished);
+        }
+        if let Err(DeviceFault) = issue(&mut self.machine.state, out) {
+            return Err(self.end(Cause::Write));
+        }
+        self.finished = true;
+        Ok(())
+    }
+
+    /// Whether a text stands saved to be read at the end.
+    pub fn wrapped(&self) -> bool
+        // session steps: whether one stands saved
+        ensures { result ≡ is_saved self.now.saved }
+    {
+        self.machine.has_saved()
+    }
+}
+
+/// Issues the diversions by rising number, each one as it is taken out.
+fn issue<O: ByteSink>(state: &mut State, out: &mut O) -> Result<(), DeviceFault>
+    ensures { Puts result (O.contents out.old) (O.contents out.new) (close state.old) }
+{
+    while let Some((_, text)) = state.take_least() {
+        put_all(out, &text)?;
+    }
+    Ok(())
+}
+
+#[cfg(test)]
+mod tests;
