@@ -5,7 +5,7 @@ DESTDIR =
 
 SOURCES := crates.txt $(shell find crates -name out -prune -o -type f -print)
 
-.PHONY: check demo install uninstall bench real-files mutants refused-memory
+.PHONY: check demo program install uninstall bench real-files mutants refused-memory
 
 # The program: proved, then built. A crate that is not proved is not built.
 m4r: $(SOURCES)
@@ -23,6 +23,10 @@ check:
 # The main job on a real file, with what goes in, what comes out, and whether it is as expected.
 demo: m4r
 	tests/demo
+
+# Runs over files, standard input and full devices, beside GNU m4 where it is installed.
+program: m4r
+	tests/program
 
 # m4r and GNU m4 side by side, in time and memory. Give BENCH=--save to keep the numbers.
 bench: m4r

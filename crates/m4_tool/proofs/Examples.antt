@@ -1,13 +1,17 @@
 -- Lines that are written out, computed from the definitions.
-use Rattle.std.proofs.Common.{◌≡◌, refl, codes, List, [], ◌∷◌, Some, None}
+use Rattle.std.proofs.Common.{◌≡◌, refl, codes, List, [], ◌∷◌, Option, Some, None, true, false}
 use Rattle.clap.proofs.OnLiterals.{clap_on_literals}
-use Rattle.clap.specs.Words.{Text}
+use Rattle.clap.specs.Words.{Text, first_of, one_of}
 use Rattle.clap.specs.declared.error.kind.ErrorKind.TheVariants as kind
-use Rattle.m4_tool.specs.CommandLine.{file_of, refusals_of}
+use Rattle.m4_tool.specs.CommandLine.{files_in, has_company, refusals_of, rows_by}
 
 -- a line of the program with these words behind its name
 abbrev line : List Text → List Text
 line words = codes "m4r" ∷ words
+
+-- the file that they give a mode
+abbrev file_of : Text → List Text → Option Text
+file_of mode words = first_of mode (rows_by words)
 
 canon_alone : file_of (codes "canon") (line (codes "--canon=a" ∷ [])) ≡ Some (codes "a")
 unfolding clap_on_literals
@@ -41,9 +45,53 @@ short_help : refusals_of (line (codes "-h" ∷ [])) ≡ kind.UnknownArgument ∷
 unfolding clap_on_literals
 short_help = refl
 
-operand : refusals_of (line (codes "a.m4" ∷ [])) ≡ kind.UnknownArgument ∷ []
+operand : refusals_of (line (codes "a.m4" ∷ [])) ≡ []
 unfolding clap_on_literals
 operand = refl
+
+operands : files_in (rows_by (line (codes "b.m4" ∷ codes "-L2" ∷ codes "-" ∷ []))) ≡ codes "b.m4" ∷ codes "-" ∷ []
+unfolding clap_on_literals
+operands = refl
+
+nesting : one_of (codes "nesting-limit") (rows_by (line (codes "-L" ∷ codes "0" ∷ []))) ≡ Some (codes "0")
+unfolding clap_on_literals
+nesting = refl
+
+no_nesting : one_of (codes "nesting-limit") (rows_by (line [])) ≡ None
+unfolding clap_on_literals
+no_nesting = refl
+
+nesting_taken : refusals_of (line (codes "-L4294967295" ∷ [])) ≡ []
+unfolding clap_on_literals
+nesting_taken = refl
+
+nesting_too_large : refusals_of (line (codes "-L4294967296" ∷ [])) ≡ kind.ValueValidation ∷ []
+unfolding clap_on_literals
+nesting_too_large = refl
+
+calls_taken : refusals_of (line (codes "--expansions=1" ∷ [])) ≡ []
+unfolding clap_on_literals
+calls_taken = refl
+
+no_calls : refusals_of (line (codes "--expansions=0" ∷ [])) ≡ kind.ValueValidation ∷ []
+unfolding clap_on_literals
+no_calls = refl
+
+no_number : refusals_of (line (codes "--expansions=x" ∷ [])) ≡ kind.ValueValidation ∷ []
+unfolding clap_on_literals
+no_number = refl
+
+nesting_twice : refusals_of (line (codes "-L1" ∷ codes "--nesting-limit=1" ∷ [])) ≡ kind.ArgumentConflict ∷ []
+unfolding clap_on_literals
+nesting_twice = refl
+
+mode_alone : has_company (rows_by (line (codes "--canon=a" ∷ []))) ≡ false
+unfolding clap_on_literals
+mode_alone = refl
+
+mode_with_file : has_company (rows_by (line (codes "--canon=a" ∷ codes "b" ∷ []))) ≡ true
+unfolding clap_on_literals
+mode_with_file = refl
 
 twice : refusals_of (line (codes "--canon=a" ∷ codes "--canon=a" ∷ [])) ≡ kind.ArgumentConflict ∷ []
 unfolding clap_on_literals

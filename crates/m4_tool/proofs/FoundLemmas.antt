@@ -1,38 +1,25 @@
 -- What the matches of a line hold is what its words say.
-use Rattle.std.proofs.Common.{◌≡◌, ◌∙◌, List, Result, Ok, Err, IfOk, IsSome, ap, codes}
-use Rattle.std.proofs.Common.{option_map, string_bytes, subst}
-use Rattle.clap.proofs.WalkLemmas.{first_value-rows}
-use Rattle.clap.specs.Words.{Text, first_of, first_value, found_of}
+use Rattle.std.proofs.Common.{◌≡◌, ◌∙◌, List, Result, Ok, Err, IfOk, ap, subst, sym, true}
+use Rattle.clap.specs.Words.{Row, Text, found_of, rows_of}
 use Rattle.clap.specs.declared.parser.matches.ArgMatches.{ArgMatches}
-use Rattle.m4_tool.specs.CommandLine.{IsTwoModes, Says, file_of}
-use Rattle.m4_tool.specs.LineSteps.{HasRowsOf, HasTwoModes}
+use Rattle.m4_tool.specs.CommandLine.{HoldsFound, IsModeInCompany, Says, has_company}
+use Rattle.m4_tool.specs.LineSteps.{HasRowsOf}
 use Rattle.m4_tool.specs.declared.line.Line.{Line}
 use Rattle.m4_tool.specs.declared.line.LineFault.{LineFault}
 
--- the first value of a mode is the file that the words give it
-found_file : (words : List Text) (matches : ArgMatches) (mode : Text) → HasRowsOf words matches
-    → first_value (found_of matches) mode ≡ file_of mode words
-found_file words matches mode found =
-    first_value-rows (found_of matches) mode ∙ ap (first_of mode) found.rows
-
 -- a line made of the matches holds what the words say
 pub found_says : (words : List Text) (matches : ArgMatches) (r : Result Line LineFault)
-    → HasRowsOf words matches
-    → IfOk r (λ line. option_map string_bytes line.canon ≡ first_value (found_of matches) (codes "canon"))
-    → IfOk r (λ line. option_map string_bytes line.inspect ≡ first_value (found_of matches) (codes "inspect"))
-    → IfOk r (Says words)
-found_says words matches (Ok line) found canon inspect = record {
+    → HasRowsOf words matches → IfOk r (HoldsFound (rows_of (found_of matches))) → IfOk r (Says words)
+found_says words matches (Ok line) found holds = record {
   is_taken = found.is_taken;
-  canon = canon ∙ found_file words matches (codes "canon") found;
-  inspect = inspect ∙ found_file words matches (codes "inspect") found;
+  found = subst (λ (rows : List Row). HoldsFound rows line) found.rows holds;
 }
-found_says words matches (Err fault) found canon inspect = tt
+found_says words matches (Err fault) found holds = tt
 
--- matches with two modes come of words with two modes
-pub found_two_modes : (words : List Text) (matches : ArgMatches) → HasRowsOf words matches
-    → HasTwoModes (found_of matches) → IsTwoModes words
-found_two_modes words matches found two = record {
+-- matches with a mode in company come of words with a mode in company
+pub found_company : (words : List Text) (matches : ArgMatches) → HasRowsOf words matches
+    → has_company (rows_of (found_of matches)) ≡ true → IsModeInCompany words
+found_company words matches found company = record {
   is_taken = found.is_taken;
-  canon = subst (λ o. IsSome o) (found_file words matches (codes "canon") found) two.0;
-  inspect = subst (λ o. IsSome o) (found_file words matches (codes "inspect") found) two.1;
+  company = ap has_company (sym found.rows) ∙ company;
 }

@@ -1,3 +1,4 @@
 mod Examples
 mod FoundLemmas
 mod RefusalLemmas
+mod RowLemmas

@@ -1,15 +1,18 @@
 -- CommandLine: the words that m4r knows, and what a list of words asks for, as clap reads them.
 -- Believed: `known_words` is what the program hands to clap; how clap reads words is clap's own
 -- `matches_of` and `fault_of`, which proofs/Examples.antt computes for lines that are written out.
--- Manual: "Invoking m4". Words: known_words, file_of, refusals_of, Says, IsTwoModes, IsRefusal.
--- own: a mode stands alone; `--help` has no short form.
-use Rattle.std.specs.Prelude.{◌≡◌, ◌⊎◌, List, [], Option, Some, None, IsSome, true, codes}
-use Rattle.std.specs.Prelude.{option_map, string_bytes}
-use Rattle.clap.specs.Words.{App, IsAmong, Kinds, Rule, Text, fault_of, first_of, matches_of}
-use Rattle.clap.specs.Words.{new_app, new_rule, with_rule}
+-- Manual: "Invoking m4", "Limits control". Words: known_words, rows_by, refusals_of, files_in,
+-- IsLimit, HoldsFound, Says, AreInRange, StandAlone, stands, has_company, IsModeInCompany, IsRefusal.
+-- own: a mode stands alone; `--help` has no short form; `--expansions`; each option stands once.
+use Rattle.std.specs.Prelude.{◌≡◌, ◌≤◌, ◌&&◌, ◌||◌, ℕ, Bool, List, [], Option, Some, None, IsSome, true, false, codes}
+use Rattle.std.specs.Prelude.{is_some, map, option_map, string_bytes, unwrap_or}
+use Rattle.std.specs.Str.Parse.{digits_value, without_leading_plus}
+use Rattle.clap.specs.Words.{App, IsAmong, Kinds, Row, Rule, Text, all_of, fault_of, first_of, matches_of}
+use Rattle.clap.specs.Words.{IsUnsignedIn, new_app, new_rule, one_of, with_rule}
 use Rattle.clap.specs.Simple.{on_top}
 use Rattle.clap.specs.Values.{kind_of}
-use Rattle.clap.specs.declared.builder.action.ArgAction.TheVariants.{Help, Set}
+use Rattle.clap.specs.declared.builder.action.ArgAction.TheVariants.{Append, Help, Set}
+use Rattle.clap.specs.declared.builder.value_parser.ValueParser.TheVariants.{Unsigned}
 use Rattle.m4_tool.specs.declared.line.Line.{Line}
 use Rattle.m4_tool.specs.declared.line.LineFault.{LineFault}
 use Rattle.m4_tool.specs.declared.line.LineFault.TheVariants.{ModeNotAlone, Parse, OutOfMemory}
@@ -22,6 +25,23 @@ mode_word name = record (new_rule name) {
   value_names = 1;
 }
 
+-- the option of a limit: a long name, and one number from `least` to 4294967295
+abbrev pub limit_word : Text → ℕ → Rule
+limit_word name least = record (new_rule name) {
+  long = Some name;
+  action = Some Set;
+  value_names = 1;
+  parser = Some (Unsigned least 4294967295);
+}
+
+-- the limit of open calls, which `-L` (76) names too
+abbrev pub nesting_word : Rule
+nesting_word = record (limit_word (codes "nesting-limit") 0) { short = Some 76 }
+
+-- the files, which are what is no option
+abbrev pub file_word : Rule
+file_word = record (new_rule (codes "files")) { action = Some Append; value_names = 1 }
+
 -- `--help`
 abbrev pub help_word : Rule
 help_word = record (new_rule (codes "help")) {
@@ -33,34 +53,79 @@ help_word = record (new_rule (codes "help")) {
 abbrev pub without_short_help : App → App
 without_short_help = on_top (λ s. record s { disable_help_flag = true })
 
+-- the modes
+abbrev pub with_modes : App → App
+with_modes a = with_rule (with_rule a (mode_word (codes "canon"))) (mode_word (codes "inspect"))
+
+-- the limits
+abbrev pub with_limits : App → App
+with_limits a = with_rule (with_rule a nesting_word) (limit_word (codes "expansions") 1)
+
 -- the words that the program knows; the first word of a line is the program's name
 abbrev pub known_words : App
-known_words = with_rule (with_rule (with_rule (without_short_help (new_app (codes "m4r")))
-    (mode_word (codes "canon"))) (mode_word (codes "inspect"))) help_word
+known_words = with_rule (with_rule (with_limits (with_modes
+    (without_short_help (new_app (codes "m4r"))))) file_word) help_word
 
--- the file that the words give a mode
-abbrev pub file_of : Text → List Text → Option Text
-file_of mode words = first_of mode (matches_of known_words words)
+-- what clap finds in the words, by the names of the rules
+abbrev pub rows_by : List Text → List Row
+rows_by words = matches_of known_words words
 
 -- the kinds of refusal that clap has for the words; none where it takes them
 abbrev pub refusals_of : List Text → Kinds
 refusals_of words = fault_of known_words words
 
--- clap takes the words, and the line holds the files that they give its modes
+-- the files that are to be read
+abbrev pub files_in : List Row → List Text
+files_in rows = unwrap_or (all_of (codes "files") rows) []
+
+-- a limit is the usual one where no text gives it, else the number that the text writes; clap refuses
+-- a text that writes no number from `least` to 4294967295
+abbrev pub IsLimit : ℕ → ℕ → Option Text → ℕ → Type 0
+IsLimit least usual None n = n ≡ usual
+IsLimit least usual (Some text) n =
+    IsUnsignedIn least 4294967295 text → n ≡ digits_value 10 (without_leading_plus text)
+
+-- the line holds what clap found: the files of the modes, the limits, and the files to be read
+pub record HoldsFound (rows : List Row) (line : Line) : Type 0 where
+  pub canon : option_map string_bytes line.canon ≡ first_of (codes "canon") rows
+  pub inspect : option_map string_bytes line.inspect ≡ first_of (codes "inspect") rows
+  pub nesting : IsLimit 0 1024 (one_of (codes "nesting-limit") rows) line.options.nesting
+  pub calls : IsLimit 1 4294967295 (one_of (codes "expansions") rows) line.options.calls
+  pub files : map string_bytes line.files.items ≡ files_in rows
+  pub freeze : line.options.freeze ≡ false
+  pub prefix : line.options.prefix ≡ false
+
+-- clap takes the words, and the line holds what it finds in them
 pub record Says (words : List Text) (line : Line) : Type 0 where
   pub is_taken : refusals_of words ≡ []
-  pub canon : option_map string_bytes line.canon ≡ file_of (codes "canon") words
-  pub inspect : option_map string_bytes line.inspect ≡ file_of (codes "inspect") words
+  pub found : HoldsFound (rows_by words) line
 
--- no line has two modes
-abbrev pub HasOneModeAtMost : Line → Type 0
-HasOneModeAtMost line = (line.canon ≡ None) ⊎ (line.inspect ≡ None)
+-- the limits lie in their ranges
+pub record AreInRange (line : Line) : Type 0 where
+  pub nesting : line.options.nesting ≤ 4294967295
+  pub some_calls : 1 ≤ line.options.calls
+  pub calls : line.options.calls ≤ 4294967295
 
--- clap takes the words, and they give each mode a file
-pub record IsTwoModes (words : List Text) : Type 0 where
+-- beside a mode there is no other one and no file
+pub record StandAlone (line : Line) : Type 0 where
+  pub canon : IsSome line.canon → (line.inspect ≡ None) × (line.files.items ≡ [])
+  pub inspect : IsSome line.inspect → (line.canon ≡ None) × (line.files.items ≡ [])
+
+-- a word of this name stands on the line
+abbrev pub stands : Text → List Row → Bool
+stands name rows = is_some (all_of name rows)
+
+-- a mode stands beside another one, a limit or a file
+abbrev pub has_company : List Row → Bool
+has_company rows = (stands (codes "canon") rows && stands (codes "inspect") rows)
+    || ((stands (codes "canon") rows || stands (codes "inspect") rows)
+    && (stands (codes "nesting-limit") rows || (stands (codes "expansions") rows
+    || stands (codes "files") rows)))
+
+-- clap takes the words, and a mode stands in company
+pub record IsModeInCompany (words : List Text) : Type 0 where
   pub is_taken : refusals_of words ≡ []
-  pub canon : IsSome (file_of (codes "canon") words)
-  pub inspect : IsSome (file_of (codes "inspect") words)
+  pub company : has_company (rows_by words) ≡ true
 
 -- of a refusal by clap: it is one that the words call for
 abbrev pub IsRefusal : List Text → LineFault → Type 0

@@ -2,3 +2,4 @@ pub mod CommandLine
 pub mod LineSteps
 pub mod ModeFault
 pub mod Modes
+pub mod RunEnd

@@ -1,14 +1,13 @@
 -- LineSteps: what the steps of reading a line hand to one another.
 -- Not believed: `read_line` is stated in the words of CommandLine alone, and proved through these.
--- Manual: "Invoking m4". Words: HasRowsOf, HasTwoModes, TellsApart, IsNoRefusal.
-use Rattle.std.specs.Prelude.{◌≡◌, ◌≢◌, List, [], IsSome, codes}
-use Rattle.clap.specs.Words.{Text, first_value, found_of, matches_of, rows_of}
+-- Manual: "Invoking m4". Words: HasRowsOf, TellsApart, IsNoRefusal.
+use Rattle.std.specs.Prelude.{◌≡◌, ◌≢◌, List, []}
+use Rattle.clap.specs.Words.{Text, found_of, rows_of}
 use Rattle.clap.specs.Values.{kind_of}
 use Rattle.clap.specs.declared.error.Error.{Error}
 use Rattle.clap.specs.declared.error.kind.ErrorKind.TheVariants as kind
 use Rattle.clap.specs.declared.parser.matches.ArgMatches.{ArgMatches}
-use Rattle.clap.specs.declared.parser.matches.Found.{Found}
-use Rattle.m4_tool.specs.CommandLine.{known_words, refusals_of}
+use Rattle.m4_tool.specs.CommandLine.{refusals_of, rows_by}
 use Rattle.m4_tool.specs.declared.line.LineFault.{LineFault}
 use Rattle.m4_tool.specs.declared.line.LineFault.TheVariants.{ModeNotAlone, Parse, OutOfMemory}
 
@@ -21,12 +20,7 @@ TellsApart error OutOfMemory = kind_of error ≡ kind.OutOfMemory
 -- clap takes the words, and has found what they say
 pub record HasRowsOf (words : List Text) (matches : ArgMatches) : Type 0 where
   pub is_taken : refusals_of words ≡ []
-  pub rows : rows_of (found_of matches) ≡ matches_of known_words words
-
--- each mode has a file
-abbrev pub HasTwoModes : Found → Type 0
-HasTwoModes found = IsSome (first_value found (codes "canon"))
-    × IsSome (first_value found (codes "inspect"))
+  pub rows : rows_of (found_of matches) ≡ rows_by words
 
 -- a fault that is no refusal by clap
 abbrev pub IsNoRefusal : LineFault → Type 0

@@ -1,53 +1,68 @@
-//! The command line: which mode it asks for, and of which file.
+//! The command line: which mode it asks for, or which files are read and under which limits.
 //!
 //! The words are read by `clap`, which also writes the help and the text for a word that it does
-//! not know. What it cannot say of two options, that a mode stands alone, is decided here.
-//! Contracts see the words by `known_words` (specs/CommandLine.antt). Manual: "Invoking m4".
-ghost use Rattle.std.specs.Prelude.{◌≡◌, ◌≢◌, IfErr, IfOk, codes, false, option_map, string_bytes};
+//! not know, or for a limit out of its range. What it cannot say of two words, that a mode stands
+//! alone, is decided here. Contracts see the words by `known_words` (specs/CommandLine.antt).
+//! Manual: "Invoking m4".
+ghost use Rattle.std.specs.Prelude.{◌≡◌, ◌≢◌, ◌≤◌, ◌<◌, ◌^◌, IfErr, IfOk, codes, false, true, map, option_map, string_bytes};
 ghost use Rattle.clap.specs.Walk.{texts};
-ghost use Rattle.clap.specs.Words.{app_of, first_value, found_of, rule_of};
-ghost use Rattle.m4_tool.specs.CommandLine.{HasOneModeAtMost, IsRefusal, IsTwoModes, Says};
-ghost use Rattle.m4_tool.specs.CommandLine.{known_words, mode_word};
-ghost use Rattle.m4_tool.specs.LineSteps.{HasRowsOf, HasTwoModes, IsNoRefusal, TellsApart};
+ghost use Rattle.clap.specs.Words.{app_of, first_of, found_of, new_app, one_of, rows_of, rule_of};
+ghost use Rattle.m4_tool.specs.CommandLine.{AreInRange, HoldsFound, IsLimit, IsModeInCompany, IsRefusal, Says, StandAlone};
+ghost use Rattle.m4_tool.specs.CommandLine.{file_word, files_in, has_company, known_words, limit_word, mode_word, stands, without_short_help};
+ghost use Rattle.m4_tool.specs.LineSteps.{HasRowsOf, IsNoRefusal, TellsApart};
 
+use clap::builder::ValueParser;
 use clap::error::ErrorKind;
 use clap::{Arg, ArgAction, ArgMatches, Command, Error};
+use m4_engine::options::Options;
 use std::alloc::{AllocError, Global};
 
 const ABOUT: &str =
-    "Shows what a frozen state file of GNU M4 holds, and writes it in its one canonical \
-    spelling.";
+    "Expands the macros of GNU M4's language. Also shows what a frozen state file of GNU M4 \
+    holds, and writes it in its one canonical spelling.";
 
-const USAGE: &str = "m4r --canon=FILE
+const USAGE: &str = "m4r [-L N] [--expansions=N] [FILE...]
+       m4r --canon=FILE
        m4r --inspect=FILE";
 
 const AFTER_HELP: &str =
-    "A line has one mode. FILE is a frozen state file, as `m4 -F FILE` writes it; `-` names a
-file called `-`. Output goes to standard output, messages to standard error.
+    "The files are read in their order; `-`, or no FILE, is standard input. A mode, --canon or
+--inspect, stands alone; its FILE is a frozen state file, as `m4 -F FILE` writes it, and `-`
+there names a file called `-`. Output goes to standard output, messages to standard error.
 
 Exit status:
-   0  the mode did its work, or this help was asked for
-   1  the line asks for nothing or cannot be followed, or the file or the output is at
-      fault; a file at fault writes nothing to standard output
-  63  the file is of a newer format than 1
+   0  the files were expanded, the mode did its work, or this help was asked for
+   1  the line cannot be followed, a file cannot be opened, a limit was passed, or a file,
+      the input or the output is at fault; a mode writes nothing for a file at fault
+  63  the file of a mode is of a newer format than 1
 
-Example:
-  m4 -F state.m4f macros.m4
+Examples:
+  m4r macros.m4 page.m4 > page.html
   m4r --canon=state.m4f > canonical.m4f";
 
-/// What a command line asks for: one mode with its file, or nothing.
+// How many calls may be open where the line says nothing of it.
+const USUAL_NESTING: u32 = 1024;
+
+// How many calls a run may make where the line says nothing of it.
+const USUAL_CALLS: u32 = u32::MAX;
+
+/// What a command line asks for: one mode with its file, or files to be read under limits.
 #[derive(Debug, Drop)]
 pub struct Line {
+    /// How the run is limited.
+    pub options: Options,
     /// The file whose lines `--inspect` prints.
     pub inspect: Option<String>,
     /// The file whose canonical text `--canon` prints.
     pub canon: Option<String>,
+    /// The files to be read, in their order; none is standard input.
+    pub files: Vec<String>,
 }
 
 /// Why a command line is not followed.
 #[derive(Debug, Drop)]
 pub enum LineFault {
-    /// Two modes stand on the line.
+    /// A mode stands beside another one, a limit or a file.
     ModeNotAlone,
     /// `clap` refuses the line, or answers it with help; the error has the text to print.
     Parse(Error),
@@ -70,12 +85,15 @@ impl From<AllocError> for LineFault {
 /// Takes time and memory in proportion to the words. Which text `clap` makes for a line that it
 /// refuses is shown by tests.
 pub fn read_line(alloc: Global, words: &[&str]) -> Result<Line, LineFault>
-    // exact command line: a line that is followed says what its words say, with one mode at most.
+    // exact command line: a line that is followed says what its words say, in the ranges, and a mode
+    // stands in it alone.
     ensures says { IfOk result (Says (texts words.now)) }
-    ensures one_mode { IfOk result HasOneModeAtMost }
+    ensures in_range { IfOk result AreInRange }
+    ensures alone { IfOk result StandAlone }
 
-    // exact command line: two modes are refused where clap takes the words, else clap refuses them.
-    ensures two_modes { result ≡ Err LineFault.ModeNotAlone → IsTwoModes (texts words.now) }
+    // exact command line: a mode in company is refused where clap takes the words, else clap refuses
+    // them.
+    ensures in_company { result ≡ Err LineFault.ModeNotAlone → IsModeInCompany (texts words.now) }
     ensures refused { IfErr result (IsRefusal (texts words.now)) }
 {
     let matches = matches_of_words(alloc, words)?;
@@ -95,25 +113,114 @@ fn matches_of_words<'a>(alloc: Global, words: &'a [&'a str]) -> Result<ArgMatche
     }
 }
 
-// The line that the matches make, unless they hold two modes.
+// The line that the matches make, unless a mode stands in company.
 fn line_of_matches(alloc: Global, matches: &ArgMatches<'_>) -> Result<Line, LineFault>
-    ensures canon { IfOk result (λ line. option_map string_bytes line.canon
-        ≡ first_value (found_of matches.now) (codes "canon")) }
-    ensures inspect { IfOk result (λ line. option_map string_bytes line.inspect
-        ≡ first_value (found_of matches.now) (codes "inspect")) }
-    ensures one_mode { IfOk result HasOneModeAtMost }
+    ensures says { IfOk result (HoldsFound (rows_of (found_of matches.now))) }
+    ensures in_range { IfOk result AreInRange }
 
-    ensures two_modes { result ≡ Err LineFault.ModeNotAlone → HasTwoModes (found_of matches.now) }
+    ensures alone { IfOk result (λ _. has_company (rows_of (found_of matches.now)) ≡ false) }
+    ensures in_company { result ≡ Err LineFault.ModeNotAlone
+        → has_company (rows_of (found_of matches.now)) ≡ true }
     ensures no_refusal { IfErr result IsNoRefusal }
 {
-    let inspect = matches.get_str("inspect");
-    let canon = matches.get_str("canon");
-    if inspect.is_some() && canon.is_some() {
+    if has_company(matches) {
         return Err(LineFault::ModeNotAlone);
     }
-    let inspect = owned(alloc, inspect)?;
-    let canon = owned(alloc, canon)?;
-    Ok(Line { inspect, canon })
+    let inspect = file_of(alloc, matches, "inspect")?;
+    let canon = file_of(alloc, matches, "canon")?;
+    let files = files_of(alloc, matches)?;
+    let options = options_of(matches);
+    Ok(Line {
+        options,
+        inspect,
+        canon,
+        files,
+    })
+}
+
+// Whether a mode stands beside another one, a limit or a file.
+fn has_company(matches: &ArgMatches<'_>) -> bool
+    ensures { result ≡ has_company (rows_of (found_of matches.now)) }
+{
+    let canon = stands(matches, "canon");
+    let inspect = stands(matches, "inspect");
+    let nesting = stands(matches, "nesting-limit");
+    let calls = stands(matches, "expansions");
+    let files = stands(matches, "files");
+    (canon && inspect) || ((canon || inspect) && (nesting || (calls || files)))
+}
+
+// Whether a word of this name stands on the line.
+fn stands(matches: &ArgMatches<'_>, name: &str) -> bool
+    ensures { result ≡ stands name.now (rows_of (found_of matches.now)) }
+{
+    matches.contains_id(name)
+}
+
+// The limits of the line.
+fn options_of(matches: &ArgMatches<'_>) -> Options
+    ensures nesting { IsLimit 0 1024 (one_of (codes "nesting-limit") (rows_of (found_of matches.now))) result.nesting }
+    ensures calls { IsLimit 1 4294967295 (one_of (codes "expansions") (rows_of (found_of matches.now))) result.calls }
+    ensures plain { (result.freeze ≡ false) × (result.prefix ≡ false) }
+    ensures most { result.nesting < 2 ^ 32 }
+    ensures in_range { (1 ≤ result.calls) × (result.calls < 2 ^ 32) }
+{
+    Options {
+        calls: limit(matches, "expansions", 1, USUAL_CALLS),
+        nesting: limit(matches, "nesting-limit", 0, USUAL_NESTING),
+        freeze: false,
+        prefix: false,
+    }
+}
+
+// The number that the line gives a limit, or the usual one. `clap` has refused a number out of the
+// range before.
+fn limit(matches: &ArgMatches<'_>, name: &str, least: u32, usual: u32) -> u64
+    requires { least ≤ usual }
+    ensures says { IsLimit least usual (one_of name.now (rows_of (found_of matches.now))) result }
+    ensures in_range { (least ≤ result) × (result < 2 ^ 32) }
+{
+    match matches.get_one::<u32>(name) {
+        Some(given) if given >= least => u64::from(given),
+        _ => u64::from(usual),
+    }
+}
+
+// The file of a mode, if the line has it.
+fn file_of(
+    alloc: Global,
+    matches: &ArgMatches<'_>,
+    mode: &str,
+) -> Result<Option<String>, AllocError>
+    ensures { IfOk result (λ file. option_map string_bytes file
+        ≡ first_of mode.now (rows_of (found_of matches.now))) }
+{
+    match matches.get_str(mode) {
+        Some(file) => Ok(Some(String::from_str(alloc, file)?)),
+        None => Ok(None),
+    }
+}
+
+// The files that are to be read.
+fn files_of(alloc: Global, matches: &ArgMatches<'_>) -> Result<Vec<String>, AllocError>
+    ensures { IfOk result (λ files. map string_bytes files.items
+        ≡ files_in (rows_of (found_of matches.now))) }
+{
+    match matches.get_strs("files") {
+        Some(files) => copies(alloc, files),
+        None => Ok(Vec::new(alloc)),
+    }
+}
+
+// The same texts as the line's own.
+fn copies(alloc: Global, files: &[&str]) -> Result<Vec<String>, AllocError>
+    ensures { IfOk result (λ same. map string_bytes same.items ≡ texts files.now) }
+{
+    let mut same = Vec::with_capacity(alloc, files.len())?;
+    for file in files {
+        same.push(String::from_str(alloc, file)?)?;
+    }
+    Ok(same)
 }
 
 // The words that the program knows, for `clap`.
@@ -130,18 +237,41 @@ fn known_command<'a>(alloc: Global) -> Result<Command<'a>, AllocError>
         "inspect",
         "Lists what FILE holds, one line for each thing",
     );
+    let nesting = limit_option(
+        alloc,
+        "nesting-limit",
+        0,
+        "Ends a run with more than N calls open, one within another; 0 is no limit [default: 1024]",
+    )
+    .short('L');
+    let calls = limit_option(
+        alloc,
+        "expansions",
+        1,
+        "Ends a run that makes more than N calls [default: 4294967295]",
+    );
     let help = Arg::new(alloc, "help")
         .long("help")
         .action(ArgAction::Help)
         .help("Prints this help");
+    start(alloc)
+        .arg(canon)?
+        .arg(inspect)?
+        .arg(nesting)?
+        .arg(calls)?
+        .arg(files(alloc))?
+        .arg(help)
+}
+
+// The program with its texts, before its words.
+fn start<'a>(alloc: Global) -> Command<'a>
+    ensures { app_of result ≡ without_short_help (new_app (codes "m4r")) }
+{
     Command::new(alloc, "m4r")
         .about(ABOUT)
         .override_usage(USAGE)
         .after_help(AFTER_HELP)
         .disable_help_flag(true)
-        .arg(canon)?
-        .arg(inspect)?
-        .arg(help)
 }
 
 // The option of a mode, which takes a file.
@@ -156,6 +286,31 @@ fn mode<'a>(alloc: Global, name: &'a str, help: &'a str) -> Arg<'a>
         .help(help)
 }
 
+// The option of a limit, which takes a number from the least one on.
+fn limit_option<'a>(alloc: Global, name: &'a str, least: u32, help: &'a str) -> Arg<'a>
+    ensures rule { rule_of result ≡ limit_word name.now least }
+    ensures local { result.global ≡ false }
+{
+    let numbers = ValueParser::unsigned(u64::from(least), u64::from(u32::MAX));
+    Arg::new(alloc, name)
+        .long(name)
+        .action(ArgAction::Set)
+        .value_name("N")
+        .help(help)
+        .value_parser(numbers)
+}
+
+// The files to be read, which are what is no option.
+fn files<'a>(alloc: Global) -> Arg<'a>
+    ensures rule { rule_of result ≡ file_word }
+    ensures local { result.global ≡ false }
+{
+    Arg::new(alloc, "files")
+        .action(ArgAction::Append)
+        .value_name("FILE")
+        .help("A file to be read; `-` is standard input")
+}
+
 // An error of `clap` that is only want of memory is told apart from a refused line.
 fn fault_of_parse(error: Error) -> LineFault
     ensures { TellsApart error result }
@@ -164,17 +319,6 @@ fn fault_of_parse(error: Error) -> LineFault
         LineFault::OutOfMemory
     } else {
         LineFault::Parse(error)
-    }
-}
-
-// A text of the words as a text of the line's own.
-fn owned(alloc: Global, text: Option<&str>) -> Result<Option<String>, AllocError>
-    ensures { IfOk result (λ copy.
-        option_map string_bytes copy ≡ option_map (λ s. s.now) text.entry) }
-{
-    match text {
-        Some(text) => Ok(Some(String::from_str(alloc, text)?)),
-        None => Ok(None),
     }
 }
 

@@ -4,19 +4,28 @@
 //! m4".
 #![tactic(auto)]
 
-ghost use Rattle.std.specs.Prelude.{◌≡◌, IfErr, IfOk, map, string_bytes};
+ghost use Rattle.std.specs.Prelude.{◌≡◌, IfErr, IfOk, false, map, string_bytes};
 ghost use Rattle.clap.specs.Walk.{texts};
-ghost use Rattle.m4_tool.specs.CommandLine.{HasOneModeAtMost, IsRefusal, Says};
+ghost use Rattle.m4_tool.specs.CommandLine.{AreInRange, IsModeInCompany, IsRefusal, Says, StandAlone};
+ghost use Rattle.m4_tool.specs.RunEnd.{last_status};
 
+mod expand;
 mod fault;
 mod line;
 mod modes;
+mod shared;
+mod sources;
 
+use expand::{expand, last_fault};
 use line::{Line, LineFault};
+use m4_engine::ending::Ending;
 use m4_state::standard::{StdSink, StdSource};
+use shared::{Prompting, Shared};
+use sources::{FileOrInput, INPUT, Source, source_name};
 use std::alloc::{AllocError, Global};
+use std::cell::RefCell;
 use std::env::Env;
-use std::io::{BufReader, BufWriter, ErrorKind, Read, Write};
+use std::io::{BufReader, BufWriter, ErrorKind, Input, Read, Write};
 use std::process::ExitCode;
 use std::rt::Files;
 use std::{fs, io};
@@ -40,7 +49,7 @@ fn main(rt: HostRuntime) -> ExitCode {
 
 // The whole run, from the words of the process to its status. `errors` is standard error.
 fn status_of_run<E: Write + Drop>(
-    rt: &(impl Env + Files + Alloc<A = Global> + Print + Eprint),
+    rt: &(impl Env + Files + Input + Alloc<A = Global> + Print + Eprint),
     errors: E,
 ) -> u8 {
     match words_of_process(rt) {
@@ -57,7 +66,7 @@ fn words_of_process(rt: &(impl Env + Alloc<A = Global>)) -> io::Result<Vec<Strin
 
 // Follows the line that the words spell, or says why not.
 fn status_of_words<E: Write + Drop>(
-    rt: &(impl Files + Alloc<A = Global> + Print + Eprint),
+    rt: &(impl Files + Input + Alloc<A = Global> + Print + Eprint),
     errors: E,
     words: &[String],
 ) -> u8 {
@@ -70,7 +79,10 @@ fn status_of_words<E: Write + Drop>(
 // The line that these words spell.
 fn line_of(alloc: Global, words: &[String]) -> Result<Line, LineFault>
     ensures says { IfOk result (Says (map string_bytes words.now)) }
-    ensures one_mode { IfOk result HasOneModeAtMost }
+    ensures in_range { IfOk result AreInRange }
+    ensures alone { IfOk result StandAlone }
+    ensures in_company { result ≡ Err LineFault.ModeNotAlone
+        → IsModeInCompany (map string_bytes words.now) }
     ensures refused { IfErr result (IsRefusal (map string_bytes words.now)) }
 {
     let texts = borrowed(alloc, words)?;
@@ -88,19 +100,104 @@ fn borrowed<'a>(alloc: Global, words: &'a [String]) -> Result<Vec<&'a str>, Allo
     Ok(texts)
 }
 
-// Does what the line asks for. A line with no mode reads nothing and writes nothing.
+// Does what the line asks for.
 fn run_line<E: Write + Drop>(
-    rt: &(impl Files + Alloc<A = Global> + Print + Eprint),
+    rt: &(impl Files + Input + Alloc<A = Global> + Print + Eprint),
     errors: E,
     line: &Line,
-) -> u8 {
+) -> u8
+    requires { line.now.options.prefix ≡ false }
+{
     if let Some(file) = &line.canon {
         return run_mode(rt, errors, Mode::Canon, file.as_str());
     }
     if let Some(file) = &line.inspect {
         return run_mode(rt, errors, Mode::Inspect, file.as_str());
     }
-    FAILED
+    run_files(rt, errors, line).unwrap_or_else(|_refused| report(rt, "out of memory"))
+}
+
+// Runs over the files of the line, or over standard input. What the run wrote is flushed before
+// anything more is said.
+fn run_files<E: Write + Drop>(
+    rt: &(impl Files + Input + Alloc<A = Global> + Print + Eprint),
+    errors: E,
+    line: &Line,
+) -> io::Result<u8>
+    requires { line.now.options.prefix ≡ false }
+{
+    let writer = BufWriter::with_capacity(rt.alloc(), BLOCK, io::writer(rt))?;
+    let shown = RefCell::new(writer);
+    Ok(run_shown(rt, errors, line, &shown)?)
+}
+
+// The same, with what is written shown in this cell.
+fn run_shown<R: Files + Input + Alloc<A = Global> + Eprint, E: Write + Drop, W: Write>(
+    rt: &R,
+    errors: E,
+    line: &Line,
+    shown: &RefCell<W>,
+) -> Result<u8, AllocError>
+    requires { line.now.options.prefix ≡ false }
+{
+    let sources = sources_of(rt, line.files.as_slice(), shown)?;
+    let mut out = StdSink::new(Shared::new(shown));
+    let mut messages = StdSink::new(errors);
+    let ending = expand(rt.alloc(), line.options, sources, &mut out, &mut messages);
+    let flushed = out.into_inner().flush().is_ok();
+    Ok(tell_end(rt, ending, flushed))
+}
+
+// The files of the line, opened in their order; standard input where there is none.
+fn sources_of<'a, R: Files + Input + Alloc<A = Global>, W: Write>(
+    rt: &R,
+    files: &[String],
+    shown: &'a RefCell<W>,
+) -> Result<Vec<Source<Opened<'a, R, W>>>, AllocError> {
+    let mut sources = Vec::new(rt.alloc());
+    if files.is_empty() {
+        sources.push(opened(rt, INPUT, shown)?)?;
+    }
+    for file in files {
+        sources.push(opened(rt, file.as_str(), shown)?)?;
+    }
+    Ok(sources)
+}
+
+// What a source of the run is read through.
+type Opened<'a, R, W> = StdSource<
+    FileOrInput<<R as Files>::File, Prompting<'a, <R as Input>::Reader, W>>,
+>;
+
+// A file of the line, opened unless that fails.
+fn opened<'a, R: Files + Input + Alloc<A = Global>, W: Write>(
+    rt: &R,
+    file: &str,
+    shown: &'a RefCell<W>,
+) -> Result<Source<Opened<'a, R, W>>, AllocError> {
+    let name = source_name(rt.alloc(), file)?;
+    if file == INPUT {
+        let input = Prompting::new(rt.reader(), Shared::new(shown));
+        let reader = StdSource::new(FileOrInput::Input(input));
+        return Ok(Source::Opened { name, reader });
+    }
+    match fs::open(rt, file) {
+        Ok(file) => {
+            let reader = StdSource::new(FileOrInput::File(file));
+            Ok(Source::Opened { name, reader })
+        }
+        Err(_fault) => Ok(Source::Unopened { name }),
+    }
+}
+
+// Says what the run has not said itself, and answers the last status.
+fn tell_end(rt: &impl Eprint, ending: Ending, flushed: bool) -> u8
+    ensures { result ≡ last_status ending flushed }
+{
+    match last_fault(ending.cause, flushed) {
+        Some(text) => report(rt, text),
+        None => ending.status,
+    }
 }
 
 // Runs a mode on a file, or says that it can't be opened.

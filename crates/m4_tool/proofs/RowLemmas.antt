@@ -1,0 +1,133 @@
+-- What stands among the rows of clap, and what a line holds that was made of them.
+use Rattle.std.proofs.Common.{◌≡◌, ◌∙◌, ◌^◌, ◌<◌, ◌&&◌, ◌||◌, ℕ, Bool, List, [], ◌∷◌, Option, Some, None, Result, Ok, Err, IfOk, IsSome, ap, arith, codes, false, is_some, map, option_map, refl, string_bytes, true}
+use Rattle.std.specs.Prelude.{find, option_and_then, slice_get, unwrap_or}
+use Rattle.std.specs.Str.{bytes_eq}
+use Rattle.std.specs.Str.Parse.{ParsesUnsigned, digits_value, without_leading_plus}
+use Rattle.clap.proofs.WalkLemmas.{raw_values-rows}
+use Rattle.clap.specs.Matches.{ReadsOne}
+use Rattle.clap.specs.Words.{Row, Text, all_of, first_of, matched_of, raw_values, rows_of}
+use Rattle.clap.specs.declared.parser.matches.Found.{Found}
+use Rattle.m4_tool.specs.CommandLine.{HoldsFound, IsLimit, StandAlone, files_in, has_company, stands}
+use Rattle.m4_tool.specs.declared.line.Line.{Line}
+use Rattle.m4_tool.specs.declared.line.LineFault.{LineFault}
+
+-- a map keeps whether there is a value
+is_some-map : {X Y : Type 0} (f : X → Y) (o : Option X) → is_some o ≡ is_some (option_map f o)
+is_some-map f None = refl
+is_some-map f (Some x) = refl
+
+-- what clap has found is what stands among its rows
+pub stands_found : (f : Found) (name : Text) → is_some (matched_of f name) ≡ stands name (rows_of f)
+stands_found f name = is_some-map raw_values (matched_of f name) ∙ ap is_some (raw_values-rows f name)
+
+-- what does not stand has no value
+first_unless : (name : Text) (rows : List Row) → stands name rows ≡ false → first_of name rows ≡ None
+first_unless name rows absent = go (find (λ r. bytes_eq r.id name) rows) absent
+  where
+    go : (o : Option Row) → is_some (option_map (λ (r : Row). r.values) o) ≡ false
+        → option_and_then (λ (r : Row). slice_get r.values 0) o ≡ None
+    go None h = refl
+    go (Some r) h = cc
+
+-- no files are to be read where none stands
+files_unless : (rows : List Row) → stands (codes "files") rows ≡ false → files_in rows ≡ []
+files_unless rows absent = go (all_of (codes "files") rows) absent
+  where
+    go : (o : Option (List Text)) → is_some o ≡ false → unwrap_or o [] ≡ []
+    go None h = refl
+    go (Some files) h = cc
+
+none_of_map : {X Y : Type 0} (f : X → Y) (o : Option X) → option_map f o ≡ None → o ≡ None
+none_of_map f None h = refl
+none_of_map f (Some x) h = cc
+
+nil_of_map : {X Y : Type 0} (f : X → Y) (xs : List X) → map f xs ≡ [] → xs ≡ []
+nil_of_map f [] h = refl
+nil_of_map f (x ∷ xs) h = cc
+
+-- the first of two modes stands with nothing else
+first_alone : (a b c d e : Bool) → ((a && b) || ((a || b) && (c || (d || e)))) ≡ false → a ≡ true
+    → (b ≡ false) × (e ≡ false)
+first_alone false b c d e h t = cc
+first_alone true true c d e h t = cc
+first_alone true false true d e h t = cc
+first_alone true false false true e h t = cc
+first_alone true false false false true h t = cc
+first_alone true false false false false h t = (refl, refl)
+
+-- and so does the second
+second_alone : (a b c d e : Bool) → ((a && b) || ((a || b) && (c || (d || e)))) ≡ false → b ≡ true
+    → (a ≡ false) × (e ≡ false)
+second_alone a false c d e h t = cc
+second_alone true true c d e h t = cc
+second_alone false true true d e h t = cc
+second_alone false true false true e h t = cc
+second_alone false true false false true h t = cc
+second_alone false true false false false h t = (refl, refl)
+
+-- a mode of the line stands among the rows
+mode_stands : {X : Type 0} (f : X → Text) (file : Option X) (name : Text) (rows : List Row)
+    → option_map f file ≡ first_of name rows → IsSome file → stands name rows ≡ true
+mode_stands {X = X} f file name rows is some = go (stands name rows) refl
+  where
+    gone : (o : Option X) → IsSome o → o ≡ None → ⊥
+    gone None h e = cc
+    gone (Some x) h e = cc
+
+    go : (b : Bool) → stands name rows ≡ b → b ≡ true
+    go true e = refl
+    go false e = absurd (gone file some (none_of_map f file (is ∙ first_unless name rows e)))
+
+-- a mode of a line with no company has none in the line
+pub stand_alone : (rows : List Row) (line : Line) → HoldsFound rows line → has_company rows ≡ false
+    → StandAlone line
+stand_alone rows line holds alone = record {
+  canon = λ some.
+      let others = first_alone (stands (codes "canon") rows) (stands (codes "inspect") rows)
+      (stands (codes "nesting-limit") rows) (stands (codes "expansions") rows) (stands (codes "files") rows)
+      alone (mode_stands string_bytes line.canon (codes "canon") rows holds.canon some) in (
+        none_of_map string_bytes line.inspect (holds.inspect ∙ first_unless (codes "inspect") rows others.0),
+        nil_of_map string_bytes line.files.items (holds.files ∙ files_unless rows others.1),
+      );
+  inspect = λ some.
+      let others = second_alone (stands (codes "canon") rows) (stands (codes "inspect") rows)
+      (stands (codes "nesting-limit") rows) (stands (codes "expansions") rows) (stands (codes "files") rows)
+      alone (mode_stands string_bytes line.inspect (codes "inspect") rows holds.inspect some) in (
+        none_of_map string_bytes line.canon (holds.canon ∙ first_unless (codes "canon") rows others.0),
+        nil_of_map string_bytes line.files.items (holds.files ∙ files_unless rows others.1),
+      );
+}
+
+-- and so of a line that was made
+pub made_alone : (rows : List Row) (r : Result Line LineFault) → IfOk r (HoldsFound rows)
+    → IfOk r (λ _. has_company rows ≡ false) → IfOk r StandAlone
+made_alone rows (Ok line) holds alone = stand_alone rows line holds alone
+made_alone rows (Err fault) holds alone = tt
+
+-- the number that was read of the text of a limit, where it is at least the least one
+pub limit_read : (E : Type 0) (G : List ℕ → Result ℕ E → Type 0) (least usual n : ℕ) (o : Option Text)
+    → (o ≡ None → ◌≡◌ {A = Option ℕ} (Some n) None) → ((t : List ℕ) → o ≡ Some t → ReadsOne G t (Some n))
+    → ((t : List ℕ) (x : Result ℕ E) → G t x → ParsesUnsigned 32 10 t x) → IsLimit least usual o n
+limit_read E G least usual n None none value only =
+    let bad : ◌≡◌ {A = Option ℕ} (Some n) None = none refl in cc
+limit_read E G least usual n (Some t) none value only = λ passed. (only t (Ok n) (value t refl)).1
+
+-- where no number was read, or one below the least, the usual one stands for no text
+pub limit_unread : (E : Type 0) (G : List ℕ → Result ℕ E → Type 0) (least usual : ℕ) (o : Option Text) (r : Option ℕ)
+    → (o ≡ None → r ≡ None) → ((t : List ℕ) → o ≡ Some t → ReadsOne G t r)
+    → ((t : List ℕ) (x : Result ℕ E) → G t x → ParsesUnsigned 32 10 t x)
+    → ((n : ℕ) → r ≡ Some n → n < least) → IsLimit least usual o usual
+limit_unread E G least usual None r none value only below = refl
+limit_unread E G least usual (Some t) None none value only below = λ passed.
+    let read = value t refl in
+    let small : digits_value 10 (without_leading_plus t) < 2 ^ 32 = omega (arith, passed.3) in
+    absurd (only t (Err read.0) read.1 (passed.0, small))
+limit_unread E G least usual (Some t) (Some n) none value only below = λ passed.
+    let is = (only t (Ok n) (value t refl)).1 in
+    let low = below n refl in
+    absurd (omega (arith, is, low, passed.2))
+
+-- the files that clap has found are those among its rows
+pub files_found : (f : Found) (o : Option (List Text))
+    → o ≡ option_map raw_values (matched_of f (codes "files")) → unwrap_or o [] ≡ files_in (rows_of f)
+files_found f o is = ap (λ (files : Option (List Text)). unwrap_or files []) (is ∙ raw_values-rows f (codes "files"))

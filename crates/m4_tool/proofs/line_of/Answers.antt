@@ -1,0 +1,11 @@
+-- The words that were borrowed are the words that were passed.
+use Rattle.std.proofs.Common.{◌∙◌, List, ap, subst}
+use Rattle.clap.specs.Walk.{texts}
+use Rattle.clap.specs.Words.{Text}
+use Rattle.m4_tool.specs.CommandLine.{IsModeInCompany}
+use Rattle.m4_tool.proofs.line_of.Goals as goal
+
+pub returns-clause-in_company : goal.returns-clause-in_company
+returns-clause-in_company c same =
+    subst (λ (words : List Text). IsModeInCompany words) (ap texts c.as_slice.ensures.value ∙ c.in_ok-texts.ensures)
+    (c.read_line.ensures.in_company same)

@@ -1,0 +1,52 @@
+//! What a run reads: files, and standard input, which are all opened before it.
+
+ghost use Rattle.std.specs.Prelude.{◌≡◌, IfOk};
+ghost use Rattle.m4_tool.specs.RunEnd.{source_name};
+
+use m4_state::bytes::Bytes;
+use std::alloc::{AllocError, Global};
+use std::io::{self, Read};
+
+/// A source that was opened, or one that could not be.
+#[derive(Drop)]
+pub enum Source<R> {
+    /// A reader, and the name that messages give it.
+    Opened { name: Bytes, reader: R },
+    /// A name that messages tell.
+    Unopened { name: Bytes },
+}
+
+/// A file, or standard input.
+#[derive(Drop)]
+pub enum FileOrInput<F, I> {
+    /// A file.
+    File(F),
+    /// Standard input.
+    Input(I),
+}
+
+impl<F: Read, I: Read> Read for FileOrInput<F, I> {
+    fn read(&mut self, buf: &mut [u8]) -> io::Result<usize> {
+        match self {
+            FileOrInput::File(file) => file.read(buf),
+            FileOrInput::Input(input) => input.read(buf),
+        }
+    }
+}
+
+/// The word that stands for standard input on a line.
+pub const INPUT: &str = "-";
+
+/// The name that messages give a file of the line.
+pub fn source_name(alloc: Global, file: &str) -> Result<Bytes, AllocError>
+    ensures { IfOk result (λ name. name ≡ source_name file.now) }
+{
+    if file == INPUT {
+        Bytes::from_slice(alloc, b"stdin")
+    } else {
+        Bytes::from_slice(alloc, file.as_bytes())
+    }
+}
+
+#[cfg(test)]
+mod tests;
