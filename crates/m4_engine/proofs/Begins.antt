@@ -1,8 +1,8 @@
 -- Begins: writers that hold a beginning of what is to be written.
 use Rattle.std.proofs.Common.{◌≡◌, ℕ, List, [], ◌++◌, Option, Some, None, refl, sym, ap, ◌∙◌, append-nil, append_assoc}
-use Rattle.m4_state.specs.Device.{with_bytes, HasPut, HasBegun}
+use Rattle.m4_state.specs.Device.{with_bytes, HasBegun}
 
-with_nothing : (o : Option (List ℕ)) → o ≡ with_bytes o []
+pub with_nothing : (o : Option (List ℕ)) → o ≡ with_bytes o []
 with_nothing None = refl
 with_nothing (Some held) = ap Some (sym (append-nil held))
 

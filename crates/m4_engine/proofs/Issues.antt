@@ -1,9 +1,9 @@
 -- Issues: the diversions issued one by one are their texts joined.
-use Rattle.std.proofs.Common.{◌≡◌, ℕ, ℤ, List, [], ◌∷◌, ◌++◌, Option, Some, None, refl, sym, ap, ◌∙◌, append-nil, append_assoc}
-use Rattle.m4_state.specs.Device.{with_bytes, HasPut, HasBegun}
+use Rattle.std.proofs.Common.{◌≡◌, ℕ, ℤ, List, [], ◌∷◌, ◌++◌, Option, refl, sym, ap, ◌∙◌, append-nil, append_assoc}
+use Rattle.m4_state.specs.Device.{with_bytes, HasBegun}
 use Rattle.m4_state.specs.State.{State, Diversion}
 use Rattle.m4_engine.specs.Wraps.{close}
-use Rattle.m4_engine.proofs.Begins.{with_both, begun_behind}
+use Rattle.m4_engine.proofs.Begins.{with_nothing, with_both, begun_behind}
 
 -- so much was issued, and the rest is left
 pub record Issuing (s0 s : State) (out0 out : Option (List ℕ)) : Type 0 where
@@ -11,12 +11,8 @@ pub record Issuing (s0 s : State) (out0 out : Option (List ℕ)) : Type 0 where
   pub output : out ≡ with_bytes out0 front
   pub rest : front ++ close s ≡ close s0
 
-none_put : (o : Option (List ℕ)) → o ≡ with_bytes o []
-none_put None = refl
-none_put (Some held) = ap Some (sym (append-nil held))
-
 pub issues : (s : State) (out : Option (List ℕ)) → Issuing s s out out
-issues s out = record { front = []; output = none_put out; rest = refl }
+issues s out = record { front = []; output = with_nothing out; rest = refl }
 
 -- the first diversion was taken out
 close_is : (s s' : State) (n : ℤ) (text : List ℕ) → s ≡ record s' { diversions = (n, text) ∷ s'.diversions } → close s ≡ text ++ close s'

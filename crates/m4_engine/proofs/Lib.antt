@@ -34,3 +34,4 @@ pub mod Sessions
 pub mod Issues
 pub mod Sources
 pub mod Reading
+pub mod Whole

@@ -73,7 +73,7 @@ result_messages : (o : Option How) (freezes : Bool) (saved : List (List ℕ)) (r
 result_messages (Some h) freezes saved r missed = refl
 result_messages None freezes saved r missed = refl
 
-finish_begins : (freezes : Bool) (saved : List (List ℕ)) (limits : Limits) (r : RunSoFar) (p : Progress) → Extends r p.so_far → IsBeginning r.output (result_of freezes saved (after_wraps limits p)).output × IsBeginning r.messages (result_of freezes saved (after_wraps limits p)).messages
+pub finish_begins : (freezes : Bool) (saved : List (List ℕ)) (limits : Limits) (r : RunSoFar) (p : Progress) → Extends r p.so_far → IsBeginning r.output (result_of freezes saved (after_wraps limits p)).output × IsBeginning r.messages (result_of freezes saved (after_wraps limits p)).messages
 finish_begins freezes saved limits r p e =
     let q : Progress = after_wraps limits p in
     let f : Extends r q.so_far = extends_more r p.so_far q.so_far e (rounds_keep (suc limits.calls) limits p) in

@@ -1,18 +1,21 @@
 -- Reading: sources read one behind the other are the definitions' sources.
-use Rattle.std.proofs.Common.{◌≡◌, ◌⊎◌, inl, inr, ◌<◌, ◌≤◌, ℕ, zero, suc, ◌+◌, Bool, List, [], ◌∷◌, ◌++◌, length, drop, drop-cons, map, Option, Some, None, refl, sym, ap, ◌∙◌, subst, arith, append-nil, append_assoc}
+use Rattle.std.proofs.Common.{◌≡◌, ◌⊎◌, inl, inr, ◌<◌, ◌≤◌, ℕ, zero, suc, ◌+◌, List, [], ◌∷◌, ◌++◌, length, drop, drop-cons, map, Option, Some, refl, sym, ap, ◌∙◌, subst, arith, append-nil}
 use Rattle.std.specs.Prelude.{Result, Ok, Err, slice_set, slice_index_or}
 use Rattle.std.proofs.lemmas.List.{drop-set-lt, drop-drop}
-use Rattle.m4_state.specs.Device.{with_bytes, HasBegun}
+use Rattle.m4_state.specs.Device.{Script, with_bytes}
+use Rattle.m4_engine.specs.declared.source.Source.{Source as RunSource}
+use Rattle.m4_engine.specs.Told.{told, may_be, may_all_be, StandFor, StandsFor, has_failed, any_failed, is_taken, are_taken}
 use Rattle.m4_engine.specs.declared.ending.Cause.TheVariants as causes
 use Rattle.m4_engine.specs.declared.stop.Stop.{Stop}
 use Rattle.m4_engine.specs.declared.stop.Stop.TheVariants as stops
 use Rattle.m4_engine.specs.declared.ending.Cause.{Cause}
-use Rattle.m4_engine.specs.Expansion.{RunSoFar, Limits, How, Ends}
-use Rattle.m4_engine.proofs.Begins.{with_both, begun_behind}
+use Rattle.m4_engine.specs.Expansion.{Limits, Ends}
+use Rattle.m4_engine.proofs.Begins.{with_nothing, with_both, begun_behind}
 use Rattle.m4_engine.proofs.OnePass.{sources_keep, over_sources}
-use Rattle.m4_engine.specs.File.{Source, Progress, over_of, after_source, after_sources}
+use Rattle.m4_engine.specs.File.{Source, Progress, after_source, after_sources}
 use Rattle.m4_engine.specs.Wraps.{after_wraps}
 use Rattle.m4_engine.specs.Session.{Standing, Writers, progress_of, how_over, written, IsOpen, Filed, BrokeOff, GoesTo}
+use Rattle.m4_engine.proofs.Sources.{same_taken}
 use Rattle.m4_engine.proofs.RunsBehind.{Bp, Behind, sources_behind, rounds_behind}
 
 -- a progress behind what was written before
@@ -60,15 +63,11 @@ pub record Between (ss : List Source) (i : ℕ) (s0 s : Standing) (w : Writers) 
   pub limits : s.limits ≡ s0.limits
   pub rest : after_sources s0.limits ss (progress_of s0) ≡ after_sources s0.limits (drop i ss) (behind o m (progress_of s))
 
-with_none : (o : Option (List ℕ)) → o ≡ with_bytes o []
-with_none None = refl
-with_none (Some held) = ap Some (sym (append-nil held))
-
 pub none_read : (ss : List Source) (s : Standing) (out told : Option (List ℕ)) → Between ss 0 s s (record { out_old = out; out_new = out; told_old = told; told_new = told })
-none_read ss s out told = record { o = []; m = []; output = with_none out; messages = with_none told; limits = refl; rest = refl }
+none_read ss s out told = record { o = []; m = []; output = with_nothing out; messages = with_nothing told; limits = refl; rest = refl }
 
 -- what was written of a progress
-written_behind : (o m : List ℕ) (p q : Progress) → q ≡ written p → behind o m p ≡ behind (o ++ (p.so_far).output) (m ++ (p.so_far).messages) q
+pub written_behind : (o m : List ℕ) (p q : Progress) → q ≡ written p → behind o m p ≡ behind (o ++ (p.so_far).output) (m ++ (p.so_far).messages) q
 written_behind o m p q e =
     (rw (append-nil (o ++ (p.so_far).output), append-nil (m ++ (p.so_far).messages)) refl)
     ∙ ap (behind (o ++ (p.so_far).output) (m ++ (p.so_far).messages)) (sym e)
@@ -122,7 +121,7 @@ broke ss i j s0 s s' t cause out0 out out' told0 told told' b d f =
     }
 
 -- a source ended the run
-over_behind_it : (s' : Standing) (p : Progress) (cause : Cause) → progress_of s' ≡ written p → s'.over ≡ Some cause → p.over ≡ Some (Ends cause)
+pub over_behind_it : (s' : Standing) (p : Progress) (cause : Cause) → progress_of s' ≡ written p → s'.over ≡ Some cause → p.over ≡ Some (Ends cause)
 over_behind_it s' p cause e f = ap (λ (q : Progress). q.over) (sym e) ∙ ap how_over f
 
 stops_there : (ss : List Source) (i j : ℕ) (s0 s s' : Standing) (t : Source) (cause : Cause) (out0 out out' told0 told told' : Option (List ℕ)) → IsOpen s0 → Between ss i s0 s (record { out_old = out0; out_new = out; told_old = told0; told_new = told }) → drop i ss ≡ t ∷ drop j ss → Filed s s' (after_source s.limits t (progress_of s)) (record { out_old = out; out_new = out'; told_old = told; told_new = told' }) → s'.over ≡ Some cause → Filed s0 s' (after_sources s0.limits ss (progress_of s0)) (record { out_old = out0; out_new = out'; told_old = told0; told_new = told' })
@@ -147,7 +146,7 @@ stops_there ss i j s0 s s' t cause out0 out out' told0 told told' l0 b d f v =
 -- by the answer
 pub stopped : (ss : List Source) (i j : ℕ) (s0 s s' : Standing) (t : Source) (out0 out out' told0 told told' : Option (List ℕ)) (e : Stop) → IsOpen s0 → Between ss i s0 s (record { out_old = out0; out_new = out; told_old = told0; told_new = told }) → drop i ss ≡ t ∷ drop j ss → GoesTo (after_source s.limits t (progress_of s)) s s' (record { out_old = out; out_new = out'; told_old = told; told_new = told' }) (Err e) → GoesTo (after_sources s0.limits ss (progress_of s0)) s0 s' (record { out_old = out0; out_new = out'; told_old = told0; told_new = told' }) (Err e)
 stopped ss i j s0 s s' t out0 out out' told0 told told' stops.Finished l b d h = h
-stopped ss i j s0 s s' t out0 out out' told0 told told' (stops.Ended causes.Read) l b d h = h
+stopped ss i j s0 s s' t out0 out out' told0 told told' (stops.Ended causes.Read) l b d h = broke ss i j s0 s s' t causes.Read out0 out out' told0 told told' b d h
 stopped ss i j s0 s s' t out0 out out' told0 told told' (stops.Ended causes.Write) l b d h = broke ss i j s0 s s' t causes.Write out0 out out' told0 told told' b d h
 stopped ss i j s0 s s' t out0 out out' told0 told told' (stops.Ended causes.OutOfMemory) l b d h = broke ss i j s0 s s' t causes.OutOfMemory out0 out out' told0 told told' b d h
 stopped ss i j s0 s s' t out0 out out' told0 told told' (stops.Ended causes.Done) l b d h = (stops_there ss i j s0 s s' t causes.Done out0 out out' told0 told told' l b d h.0 h.1, h.1)
@@ -160,7 +159,7 @@ stopped ss i j s0 s s' t out0 out out' told0 told told' (stops.Ended causes.Nest
 stopped ss i j s0 s s' t out0 out out' told0 told told' (stops.Ended (causes.Frozen x)) l b d h = (stops_there ss i j s0 s s' t (causes.Frozen x) out0 out out' told0 told told' l b d h.0 h.1, h.1)
 
 -- which source stands at a place
-pub told_at : {R : Type 0} (f : R → Option Source) (xs : List R) (ss : List Source) (i : ℕ) (x : R) (rest : List R) → map f xs ≡ map Some ss → drop i xs ≡ x ∷ rest → (t : Source) × (f x ≡ Some t) × (drop i ss ≡ t ∷ drop (suc i) ss)
+told_at : {R : Type 0} (f : R → Option Source) (xs : List R) (ss : List Source) (i : ℕ) (x : R) (rest : List R) → map f xs ≡ map Some ss → drop i xs ≡ x ∷ rest → (t : Source) × (f x ≡ Some t) × (drop i ss ≡ t ∷ drop (suc i) ss)
 told_at f [] [] zero x rest e d = cc
 told_at f [] [] (suc i) x rest e d = cc
 told_at f [] (s ∷ ss) i x rest e d = cc
@@ -173,13 +172,13 @@ told_at f (y ∷ xs) (s ∷ ss) (suc i) x rest e d =
     let h : map f xs ≡ map Some ss = cc in
     told_at f xs ss i x rest h d
 
-pub none_left : {R : Type 0} (f : R → Option Source) (xs : List R) (ss : List Source) (i : ℕ) → map f xs ≡ map Some ss → length xs ≤ i → drop i ss ≡ []
-none_left f [] [] zero e l = refl
-none_left f [] [] (suc i) e l = refl
-none_left f [] (s ∷ ss) i e l = cc
-none_left f (y ∷ xs) [] i e l = cc
-none_left f (y ∷ xs) (s ∷ ss) zero e l = absurd (omega arith)
-none_left f (y ∷ xs) (s ∷ ss) (suc i) e l = let h : map f xs ≡ map Some ss = cc in none_left f xs ss i h (omega arith)
+none_told : {R : Type 0} (f : R → Option Source) (xs : List R) (ss : List Source) (i : ℕ) → map f xs ≡ map Some ss → length xs ≤ i → drop i ss ≡ []
+none_told f [] [] zero e l = refl
+none_told f [] [] (suc i) e l = refl
+none_told f [] (s ∷ ss) i e l = cc
+none_told f (y ∷ xs) [] i e l = cc
+none_told f (y ∷ xs) (s ∷ ss) zero e l = absurd (omega arith)
+none_told f (y ∷ xs) (s ∷ ss) (suc i) e l = let h : map f xs ≡ map Some ss = cc in none_told f xs ss i h (omega arith)
 
 -- the rest is as it was
 pub rest_kept : {R : Type 0} (xs ys : List R) (i : ℕ) (v : R) → drop i xs ≡ drop i ys → drop (i + 1) (slice_set xs i v) ≡ drop (i + 1) ys
@@ -187,14 +186,118 @@ rest_kept xs ys i v e =
     let l : i < i + 1 = omega arith in
     drop-set-lt (i + 1) xs i v l ∙ sym (drop-drop 1 i xs) ∙ ap (drop 1) e ∙ drop-drop 1 i ys
 
+-- the first sources may have been these
+abbrev may_first : {R : Type 0} → (R → Option Script) → ℕ → List (RunSource R) → List (RunSource R) → List Source → Type 0
+may_first script zero before behind ss = Unit {0}
+may_first script (suc i) [] [] [] = Unit {0}
+may_first script (suc i) (x ∷ xs) (y ∷ ys) (s ∷ ss) = may_be script x y s × may_first script i xs ys ss
+may_first script (suc i) before behind ss = ⊥
+
+first_of_all : {R : Type 0} (script : R → Option Script) (xs ys : List (RunSource R)) (ss : List Source) (i : ℕ) → may_all_be script xs ys ss → may_first script i xs ys ss
+first_of_all script xs ys ss zero h = tt
+first_of_all script [] [] [] (suc i) h = tt
+first_of_all script [] [] (s ∷ ss) (suc i) h = absurd h
+first_of_all script [] (y ∷ ys) [] (suc i) h = absurd h
+first_of_all script [] (y ∷ ys) (s ∷ ss) (suc i) h = absurd h
+first_of_all script (x ∷ xs) [] ss (suc i) h = absurd h
+first_of_all script (x ∷ xs) (y ∷ ys) [] (suc i) h = absurd h
+first_of_all script (x ∷ xs) (y ∷ ys) (s ∷ ss) (suc i) h = (h.0, first_of_all script xs ys ss i h.1)
+
+none_may : {R : Type 0} (script : R → Option Script) (xs ys : List (RunSource R)) (ss : List Source) (i : ℕ) → may_all_be script xs ys ss → length xs ≤ i → drop i ss ≡ []
+none_may script [] [] [] zero h l = refl
+none_may script [] [] [] (suc i) h l = refl
+none_may script [] [] (s ∷ ss) i h l = absurd h
+none_may script [] (y ∷ ys) [] i h l = absurd h
+none_may script [] (y ∷ ys) (s ∷ ss) i h l = absurd h
+none_may script (x ∷ xs) [] ss i h l = absurd h
+none_may script (x ∷ xs) (y ∷ ys) [] i h l = absurd h
+none_may script (x ∷ xs) (y ∷ ys) (s ∷ ss) zero h l = absurd (omega arith)
+none_may script (x ∷ xs) (y ∷ ys) (s ∷ ss) (suc i) h l = none_may script xs ys ss i h.1 (omega arith)
+
+-- the sources before a place, and the one there
+record ItemMay {R : Type 0} (script : R → Option Script) (i : ℕ) (xs ys : List (RunSource R)) (x v : RunSource R) (ss : List Source) : Type 0 where
+  first : may_first script i ys xs ss
+  source : Source
+  may : may_be script x v source
+  there : drop i ss ≡ source ∷ drop (suc i) ss
+
+item_may : {R : Type 0} (script : R → Option Script) (i : ℕ) (xs ys : List (RunSource R)) (x v : RunSource R) (ss : List Source) → drop i xs ≡ drop i ys → drop i xs ≡ x ∷ drop (suc i) xs → may_first script (suc i) ys (slice_set xs i v) ss → ItemMay script i xs ys x v ss
+item_may script zero [] ys x v ss e d h = cc
+item_may script zero (a ∷ xs) [] x v ss e d h = cc
+item_may script zero (a ∷ xs) (b ∷ ys) x v [] e d h = absurd h
+item_may script zero (a ∷ xs) (b ∷ ys) x v (s ∷ ss) e d h =
+    let k : b ≡ x = cc in
+    record { first = tt; source = s; may = subst (λ (y : RunSource _). may_be script y v s) k h.0; there = refl }
+item_may script (suc i) [] ys x v ss e d h = cc
+item_may script (suc i) (a ∷ xs) [] x v ss e d h = absurd h
+item_may script (suc i) (a ∷ xs) (b ∷ ys) x v [] e d h = absurd h
+item_may script (suc i) (a ∷ xs) (b ∷ ys) x v (s ∷ ss) e d h =
+    let k = item_may script i xs ys x v ss e d h.1 in
+    record { first = (h.0, k.first); source = k.source; may = k.may; there = k.there }
+
+-- what stands for the first sources
+abbrev pub FirstFor : {R : Type 0} → (R → Option Script) → ℕ → List (RunSource R) → List (RunSource R) → List Source → Type 0
+FirstFor script i before behind ss = (map (told script) before ≡ map Some ss) ⊎ may_first script i before behind ss
+
+pub first_for : {R : Type 0} (script : R → Option Script) (i : ℕ) (xs ys : List (RunSource R)) (ss : List Source) → StandFor script xs ys ss → FirstFor script i xs ys ss
+first_for script i xs ys ss (inl t) = inl t
+first_for script i xs ys ss (inr m) = inr (first_of_all script xs ys ss i m)
+
+pub none_left : {R : Type 0} (script : R → Option Script) (xs ys : List (RunSource R)) (ss : List Source) (i : ℕ) → StandFor script xs ys ss → length xs ≤ i → drop i ss ≡ []
+none_left script xs ys ss i (inl t) l = none_told (told script) xs ss i t l
+none_left script xs ys ss i (inr m) l = none_may script xs ys ss i m l
+
 -- the source at a place, and what the definitions have there
-pub item_told : {R : Type 0} (f : R → Option Source) (xs ys : List R) (ss : List Source) (i : ℕ) (x : R) → map f ys ≡ map Some ss → drop i xs ≡ drop i ys → i < length xs → (t : Source) × (f (slice_index_or xs i x) ≡ Some t) × (drop i ss ≡ t ∷ drop (i + 1) ss)
-item_told f xs ys ss i x e d l =
-    let k = told_at f ys ss i (slice_index_or xs i x) (drop (suc i) xs) e (sym d ∙ drop-cons xs i x l) in
+pub record Item {R : Type 0} (script : R → Option Script) (i : ℕ) (xs ys : List (RunSource R)) (x v : RunSource R) (ss : List Source) : Type 0 where
+  pub first : FirstFor script i ys xs ss
+  pub source : Source
+  pub stands : StandsFor script x v source
+  pub there : drop i ss ≡ source ∷ drop (i + 1) ss
+
+pub item : {R : Type 0} (script : R → Option Script) (i : ℕ) (xs ys : List (RunSource R)) (x v : RunSource R) (ss : List Source) → drop i xs ≡ drop i ys → i < length xs → FirstFor script (i + 1) ys (slice_set xs i v) ss → Item script i xs ys (slice_index_or xs i x) v ss
+item script i xs ys x v ss d l (inl t) =
+    let k = told_at (told script) ys ss i (slice_index_or xs i x) (drop (suc i) xs) t (sym d ∙ drop-cons xs i x l) in
     let n : suc i ≡ i + 1 = omega arith in
-    (k.0, k.1, k.2 ∙ ap (λ (j : ℕ). k.0 ∷ drop j ss) n)
+    record { first = inl t; source = k.0; stands = inl k.1; there = k.2 ∙ ap (λ (j : ℕ). k.0 ∷ drop j ss) n }
+item script i xs ys x v ss d l (inr m) =
+    let n : i + 1 ≡ suc i = omega arith in
+    let k = item_may script i xs ys (slice_index_or xs i x) v ss d (drop-cons xs i x l) (subst (λ (j : ℕ). may_first script j ys (slice_set xs i v) ss) n m) in
+    record { first = inr k.first; source = k.source; stands = inr k.may; there = k.there ∙ ap (λ (j : ℕ). k.source ∷ drop j ss) (sym n) }
 
 pub stopped_so : (ss : List Source) (i j : ℕ) (s0 s s' : Standing) (t : Source) (out0 out out' told0 told told' : Option (List ℕ)) (e : Stop) (q r : Result Unit Stop) → q ≡ Err e → r ≡ Err e → IsOpen s0 → Between ss i s0 s (record { out_old = out0; out_new = out; told_old = told0; told_new = told }) → drop i ss ≡ t ∷ drop j ss → GoesTo (after_source s.limits t (progress_of s)) s s' (record { out_old = out; out_new = out'; told_old = told; told_new = told' }) q → GoesTo (after_sources s0.limits ss (progress_of s0)) s0 s' (record { out_old = out0; out_new = out'; told_old = told0; told_new = told' }) r
 stopped_so ss i j s0 s s' t out0 out out' told0 told told' e q r f g l b d h =
     subst (GoesTo (after_sources s0.limits ss (progress_of s0)) s0 s' (record { out_old = out0; out_new = out'; told_old = told0; told_new = told' })) (sym g)
     (stopped ss i j s0 s s' t out0 out out' told0 told told' e l b d (subst (GoesTo (after_source s.limits t (progress_of s)) s s' (record { out_old = out; out_new = out'; told_old = told; told_new = told' })) f h))
+
+-- the reader at a place failed
+failed_there : {R : Type 0} (failures : R → ℕ) (i : ℕ) (xs ys : List (RunSource R)) (x v : RunSource R) → drop i xs ≡ drop i ys → drop i xs ≡ x ∷ drop (suc i) xs → has_failed failures x v → any_failed failures ys (slice_set xs i v)
+failed_there failures zero [] ys x v e d h = cc
+failed_there failures zero (a ∷ xs) [] x v e d h = cc
+failed_there failures zero (a ∷ xs) (b ∷ ys) x v e d h =
+    let k : x ≡ b = cc in
+    inl (subst (λ (y : RunSource _). has_failed failures y v) k h)
+failed_there failures (suc i) [] ys x v e d h = cc
+failed_there failures (suc i) (a ∷ xs) [] x v e d h = cc
+failed_there failures (suc i) (a ∷ xs) (b ∷ ys) x v e d h = inr (failed_there failures i xs ys x v e d h)
+
+pub item_failed : {R : Type 0} (failures : R → ℕ) (i : ℕ) (xs ys : List (RunSource R)) (x v : RunSource R) → drop i xs ≡ drop i ys → i < length xs → has_failed failures (slice_index_or xs i x) v → any_failed failures ys (slice_set xs i v)
+item_failed failures i xs ys x v e l h = failed_there failures i xs ys (slice_index_or xs i x) v e (drop-cons xs i x l) h
+
+-- nothing was taken yet
+pub none_taken_yet : {R : Type 0} (script : R → Option Script) (xs : List (RunSource R)) → are_taken script xs xs
+none_taken_yet script [] = tt
+none_taken_yet script (x ∷ xs) = (same_taken script x, none_taken_yet script xs)
+
+-- the source at a place was read
+taken_there : {R : Type 0} (script : R → Option Script) (i : ℕ) (xs ys : List (RunSource R)) (x v : RunSource R) → are_taken script ys xs → drop i xs ≡ drop i ys → drop i xs ≡ x ∷ drop (suc i) xs → is_taken script x v → are_taken script ys (slice_set xs i v)
+taken_there script zero [] ys x v a e d h = cc
+taken_there script zero (p ∷ xs) [] x v a e d h = cc
+taken_there script zero (p ∷ xs) (q ∷ ys) x v a e d h =
+    let k : x ≡ q = cc in
+    (subst (λ (y : RunSource _). is_taken script y v) k h, a.1)
+taken_there script (suc i) [] ys x v a e d h = cc
+taken_there script (suc i) (p ∷ xs) [] x v a e d h = cc
+taken_there script (suc i) (p ∷ xs) (q ∷ ys) x v a e d h = (a.0, taken_there script i xs ys x v a.1 e d h)
+
+pub item_taken : {R : Type 0} (script : R → Option Script) (i : ℕ) (xs ys : List (RunSource R)) (x v : RunSource R) → are_taken script ys xs → drop i xs ≡ drop i ys → i < length xs → is_taken script (slice_index_or xs i x) v → are_taken script ys (slice_set xs i v)
+item_taken script i xs ys x v a e l h = taken_there script i xs ys (slice_index_or xs i x) v a e (drop-cons xs i x l) h

@@ -1,8 +1,8 @@
 -- Sessions: what a session's calls make of what the machine leaves.
-use Rattle.std.proofs.Common.{◌≡◌, ◌⊎◌, inl, inr, ℕ, Bool, true, false, List, [], ◌++◌, Option, Some, None, refl, sym, ap, ◌∙◌, subst}
+use Rattle.std.proofs.Common.{◌≡◌, inr, ℕ, Bool, false, List, [], Option, Some, None, refl, sym, ap, ◌∙◌, subst}
 use Rattle.std.specs.Prelude.{Result, Ok, Err}
 use Rattle.m4_state.specs.State.{State}
-use Rattle.m4_state.specs.Device.{Script, after_bytes, IsAtEnd, with_bytes, HasBegun}
+use Rattle.m4_state.specs.Device.{Script, after_bytes, IsAtEnd, HasBegun}
 use Rattle.m4_input.specs.Pending.{Pending}
 use Rattle.m4_input.specs.Input.{Held, unread_file, longer, Reads, WholeGives}
 use Rattle.m4_engine.specs.declared.ending.Cause.{Cause}
@@ -10,13 +10,13 @@ use Rattle.m4_engine.specs.declared.ending.Cause.TheVariants as causes
 use Rattle.m4_engine.specs.declared.stop.Stop.{Stop}
 use Rattle.m4_engine.specs.declared.stop.Stop.TheVariants as stops
 use Rattle.m4_engine.specs.Expansion.{How, Ends, Ended}
-use Rattle.m4_engine.specs.File.{Opened, Progress, file, file_pending, over_of, over_by, after_input, unless_over, read_source, after_source}
-use Rattle.m4_engine.specs.Run.{closed_output}
+use Rattle.m4_engine.specs.File.{Progress, file_pending, over_of, over_by, after_input}
+use Rattle.m4_engine.specs.Run.{result_of}
 use Rattle.m4_engine.specs.Wraps.{after_wraps, close}
 use Rattle.m4_engine.proofs.Begins.{nothing_begun}
-use Rattle.m4_engine.specs.Engine.{Engine, IsReady}
-use Rattle.m4_engine.specs.Expands.{made_before, comes_to, Expanded, Broken, Expands, at_rest, IsIdle}
-use Rattle.m4_engine.specs.Session.{Standing, Writers, progress_of, written, how_over, IsOpen, Filed, Fell, Silent, FileDone, FileBroke, FileGives, answer_by, over_behind, behind_wraps, FinishGives}
+use Rattle.m4_engine.specs.Engine.{Engine}
+use Rattle.m4_engine.specs.Expands.{comes_to, Expanded, Broken, Expands, at_rest}
+use Rattle.m4_engine.specs.Session.{Standing, Writers, progress_of, written, how_over, IsOpen, FileDone, FileBroke, FileGives, answer_by, over_behind, behind_wraps, FinishGives}
 
 -- what a file's input has in hand when it was read
 pub whole_file : (name x : List ℕ) (before behind : Option Script) (p : Pending) → Reads before behind (unread_file name).pending x p → p.may_follow ≡ false → p ≡ file_pending name x false
@@ -112,13 +112,18 @@ behind_is s l e =
     ∙ sym (ap (λ (x : List (List ℕ)). progress_of (record s { over = None; saved = x })) e)
     ∙ sym (ap (λ (o : Option Cause). progress_of (record s { over = o })) l.over)
 
+-- what a run puts out behind its saved texts, where none is saved
+ended_output : (s : Standing) → s.over ≡ None → (result_of false [] (progress_of s)).output ≡ close s.state
+ended_output s e = ap (λ (o : Option Cause). (result_of false [] (progress_of (record s { over = o }))).output) e
+
 -- the diversions could not be issued
 pub finish_broke : (old new : Standing) (w : Writers) (s : Stop) → IsOpen old → old.saved ≡ [] → s ≡ stops.Ended causes.Write → new.over ≡ Some causes.Write → w.told_new ≡ w.told_old → HasBegun w.out_old w.out_new (close old.state) → FinishGives old new w (Err s)
 finish_broke old new w s l e i o m h =
     let p : progress_of old ≡ behind_wraps old = sym (behind_is old l e) in
-    subst (λ (x : Stop). FinishGives old new w (Err x)) (sym i) (
-      record { live = l; over = o },
-      subst (λ (x : Progress). HasBegun w.out_old w.out_new (closed_output false x.so_far)) p h,
-      subst (λ (x : Progress). HasBegun w.told_old w.told_new (x.so_far).messages) p
-          (subst (λ x. HasBegun w.told_old x []) (sym m) (nothing_begun w.told_old [])),
-    )
+    subst (λ (x : Stop). FinishGives old new w (Err x)) (sym i) (record {
+      live = l;
+      over = o;
+      output = subst (HasBegun w.out_old w.out_new) (sym (ended_output old l.over) ∙ ap (λ (x : Progress). (result_of false [] x).output) p) h;
+      messages = subst (λ (x : Progress). HasBegun w.told_old w.told_new (x.so_far).messages) p
+          (subst (λ x. HasBegun w.told_old x []) (sym m) (nothing_begun w.told_old []));
+    })

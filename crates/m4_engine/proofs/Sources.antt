@@ -1,17 +1,19 @@
 -- Sources: what a session's call on a source is, where the reader tells its bytes and ends.
-use Rattle.std.proofs.Common.{◌≡◌, ◌⊎◌, inl, inr, ⊎_elim, ℕ, Bool, true, false, List, [], ◌++◌, Option, Some, None, refl, sym, ap, ◌∙◌, subst, append-nil}
+use Rattle.std.proofs.Common.{◌≡◌, ◌⊎◌, inl, inr, ℕ, false, List, [], ◌++◌, Option, Some, None, refl, sym, ap, ◌∙◌, subst, append-nil}
 use Rattle.std.specs.Prelude.{Result, Ok, Err, IfSome}
-use Rattle.m4_state.specs.Device.{Script, after_bytes, IsAtEnd, IsAtFault, with_bytes, HasPut, HasBegun}
+use Rattle.m4_state.specs.Device.{Script, after_bytes, IsAtEnd, with_bytes, HasBegun}
 use Rattle.m4_engine.specs.declared.ending.Cause.{Cause}
 use Rattle.m4_engine.specs.declared.ending.Cause.TheVariants as causes
 use Rattle.m4_engine.specs.declared.stop.Stop.{Stop}
 use Rattle.m4_engine.specs.declared.stop.Stop.TheVariants as stops
-use Rattle.m4_engine.specs.Expansion.{RunSoFar, How, Ended, with_message}
+use Rattle.m4_engine.specs.Expansion.{RunSoFar, with_message}
 use Rattle.m4_engine.specs.Expands.{Broken}
-use Rattle.m4_engine.specs.File.{Source, Opened, Unopened, Progress, file, after_source, cannot_open, over_of}
-use Rattle.m4_engine.specs.Told.{whole, told_opened, told_unopened}
-use Rattle.m4_engine.specs.Session.{Standing, Writers, progress_of, written, IsOpen, Filed, Fell, how_over, Silent, FileDone, FileBroke, FileGives, MissingGives, BrokeOff, GoesTo}
-use Rattle.m4_engine.proofs.Begins.{nothing_begun}
+use Rattle.m4_engine.specs.File.{Source, Opened, Unopened, Progress, file, after_source, cannot_open}
+use Rattle.m4_engine.specs.declared.source.Source.{Source as RunSource}
+use Rattle.m4_engine.specs.declared.source.Source.TheVariants as sources
+use Rattle.m4_engine.specs.Told.{whole, told_opened, MayHave, may_be_opened, script_of, StandsFor, is_taken}
+use Rattle.m4_engine.specs.Session.{Standing, Writers, progress_of, IsOpen, Filed, Fell, how_over, Silent, FileDone, FileBroke, FileGives, MissingGives, BrokeOff, GoesTo}
+use Rattle.m4_engine.proofs.Begins.{nothing_begun, with_nothing}
 
 -- a reader that tells its bytes and ends gave all of them, where it is at its end
 all_given : (name : List ℕ) (before behind : Option Script) (x : List ℕ) (s : Source) → told_opened name before ≡ Some s → before ≡ after_bytes x behind → IsAtEnd behind → s ≡ Opened name x
@@ -25,19 +27,29 @@ all_given name (Some sc) (Some b) x s t g a =
     let k : Opened name x ≡ s = cc in
     sym k
 
--- it does not fail
-no_fault : (name : List ℕ) (before behind : Option Script) (x : List ℕ) (s : Source) → told_opened name before ≡ Some s → before ≡ after_bytes x behind → IsAtFault behind → ⊥
-no_fault name None behind x s t g a = cc
-no_fault name (Some sc) None x s t g a = cc
-no_fault name (Some sc) (Some b) x s t g a =
-    let e : sc ≡ record { bytes = x ++ b.bytes; fails = b.fails } = cc in
-    let f : told_opened name (Some sc) ≡ None = ap (λ (k : Script). whole name k.bytes k.fails) e ∙ ap (whole name (x ++ b.bytes)) a.1 in
-    let h : None ≡ Some s = sym f ∙ t in
-    cc
+-- the source is what was read, where the reader came to its end
+abbrev Suits : List ℕ → Option Script → Option Script → Source → Type 0
+Suits name before behind s = (x : List ℕ) → before ≡ after_bytes x behind → IsAtEnd behind → s ≡ Opened name x
 
-done_goes : (old new : Standing) (name : List ℕ) (before behind : Option Script) (w : Writers) (s : Source) (over : Option Cause) → told_opened name before ≡ Some s → FileDone name before behind old new w over → Filed old new (after_source old.limits s (progress_of old)) w × (new.over ≡ over)
+-- a source that begins with what was taken
+may_suit : (name : List ℕ) (before behind : Option Script) (s : Source) → may_be_opened name before behind s → Suits name before behind s
+may_suit name None behind s m x g a = absurd m
+may_suit name (Some b) None s m x g a = absurd m
+may_suit name (Some b) (Some e) (Unopened n) m x g a = absurd m
+may_suit name (Some b) (Some e) (Opened n bytes) m x g a =
+    let k : MayHave b e bytes = m.1 in
+    let f : b.bytes ≡ x ++ e.bytes = cc in
+    let t : k.taken ≡ x = sym (append-nil k.taken) ∙ ap (λ y. k.taken ++ y) (sym a.0) ∙ sym k.given ∙ f ∙ ap (λ y. x ++ y) a.0 ∙ append-nil x in
+    let z : bytes ≡ x = k.begins ∙ ap (λ y. k.taken ++ y) (k.ended a.0 a.1) ∙ append-nil k.taken ∙ t in
+    ap (λ y. Opened y bytes) m.0 ∙ ap (Opened name) z
+
+stands_suit : {R : Type 0} (script : R → Option Script) (name : List ℕ) (r : R) (behind : RunSource R) (s : Source) → StandsFor script (sources.Opened name r) behind s → Suits name (script r) (script_of script behind) s
+stands_suit script name r behind s (inl t) = λ x g a. all_given name (script r) (script_of script behind) x s t g a
+stands_suit script name r behind s (inr m) = may_suit name (script r) (script_of script behind) s m
+
+done_goes : (old new : Standing) (name : List ℕ) (before behind : Option Script) (w : Writers) (s : Source) (over : Option Cause) → Suits name before behind s → FileDone name before behind old new w over → Filed old new (after_source old.limits s (progress_of old)) w × (new.over ≡ over)
 done_goes old new name before behind w s over t h =
-    (subst (λ (s : Source). Filed old new (after_source old.limits s (progress_of old)) w) (sym (all_given name before behind h.0 s t h.1 h.2)) h.3, h.4)
+    (subst (λ (s : Source). Filed old new (after_source old.limits s (progress_of old)) w) (sym (t h.0 h.1 h.2)) h.3, h.4)
 
 -- an open session reads a file
 source_is : (old : Standing) (name x : List ℕ) → IsOpen old → (after_source old.limits (Opened name x) (progress_of old)).so_far ≡ (file old.limits (progress_of old).so_far name x).so_far
@@ -59,13 +71,13 @@ broke_by old new name behind w s cause x e f (inr h) =
       messages = subst (λ (r : RunSoFar). HasBegun w.told_old w.told_new r.messages) (sym (source_is old name x f.live)) (h.1).messages;
     })
 
-broke_goes : (old new : Standing) (name : List ℕ) (before behind : Option Script) (w : Writers) (s : Source) (cause : Cause) → told_opened name before ≡ Some s → FileBroke name before behind old new w cause → BrokeOff new (after_source old.limits s (progress_of old)) w cause
-broke_goes old new name before behind w s cause t h = broke_by old new name behind w s cause h.0 (λ a. all_given name before behind h.0 s t h.1 a) h.2 h.3
+broke_goes : (old new : Standing) (name : List ℕ) (before behind : Option Script) (w : Writers) (s : Source) (cause : Cause) → Suits name before behind s → FileBroke name before behind old new w cause → BrokeOff new (after_source old.limits s (progress_of old)) w cause
+broke_goes old new name before behind w s cause t h = broke_by old new name behind w s cause h.0 (λ a. t h.0 h.1 a) h.2 h.3
 
-pub opened_goes : (old new : Standing) (name : List ℕ) (before behind : Option Script) (w : Writers) (r : Result Unit Stop) (s : Source) → IsOpen old → told_opened name before ≡ Some s → FileGives name before behind old new w r → GoesTo (after_source old.limits s (progress_of old)) old new w r
+opened_goes : (old new : Standing) (name : List ℕ) (before behind : Option Script) (w : Writers) (r : Result Unit Stop) (s : Source) → IsOpen old → Suits name before behind s → FileGives name before behind old new w r → GoesTo (after_source old.limits s (progress_of old)) old new w r
 opened_goes old new name before behind w (Ok done) s l t h = done_goes old new name before behind w s None t h
 opened_goes old new name before behind w (Err stops.Finished) s l t h = absurd ((h.0).closed l)
-opened_goes old new name before behind w (Err (stops.Ended causes.Read)) s l t h = absurd (no_fault name before behind h.0 s t h.1 h.2)
+opened_goes old new name before behind w (Err (stops.Ended causes.Read)) s l t h = broke_by old new name behind w s causes.Read h.0 (λ a. t h.0 h.1 a) h.3 (inl h.4)
 opened_goes old new name before behind w (Err (stops.Ended causes.Write)) s l t h = broke_goes old new name before behind w s causes.Write t h
 opened_goes old new name before behind w (Err (stops.Ended causes.OutOfMemory)) s l t h = broke_goes old new name before behind w s causes.OutOfMemory t h
 opened_goes old new name before behind w (Err (stops.Ended causes.Done)) s l t h = done_goes old new name before behind w s (Some causes.Done) t h
@@ -77,13 +89,14 @@ opened_goes old new name before behind w (Err (stops.Ended causes.ExpansionLimit
 opened_goes old new name before behind w (Err (stops.Ended causes.NestingLimit)) s l t h = done_goes old new name before behind w s (Some causes.NestingLimit) t h
 opened_goes old new name before behind w (Err (stops.Ended (causes.Frozen f))) s l t h = done_goes old new name before behind w s (Some (causes.Frozen f)) t h
 
+pub opened_stands : {R : Type 0} (script : R → Option Script) (old new : Standing) (name : List ℕ) (before after : R) (first behind : RunSource R) (w : Writers) (r : Result Unit Stop) (s : Source) → first ≡ sources.Opened name before → behind ≡ sources.Opened name after → IsOpen old → StandsFor script first behind s → FileGives name (script before) (script after) old new w r → GoesTo (after_source old.limits s (progress_of old)) old new w r
+opened_stands script old new name before after first behind w r s f b l t h =
+    let k : StandsFor script (sources.Opened name before) (sources.Opened name after) s = subst (λ x. StandsFor script x (sources.Opened name after) s) f (subst (λ x. StandsFor script first x s) b t) in
+    opened_goes old new name (script before) (script after) w r s l (stands_suit script name before (sources.Opened name after) s k) h
+
 -- an open session tells of a source that wasn't opened
 missing_is : (old : Standing) (name : List ℕ) → IsOpen old → (after_source old.limits (Unopened name) (progress_of old)).so_far ≡ with_message (cannot_open name) (progress_of old).so_far
 missing_is old name l = ap (λ (o : Option Cause). (after_source old.limits (Unopened name) (record (progress_of old) { over = how_over o })).so_far) l.over
-
-with_none : (o : Option (List ℕ)) → o ≡ with_bytes o []
-with_none None = refl
-with_none (Some held) = ap Some (sym (append-nil held))
 
 pub missing_goes : (old new : Standing) (name : List ℕ) (w : Writers) (r : Result Unit Stop) → IsOpen old → w.out_new ≡ w.out_old → MissingGives name old new w.told_old w.told_new r → GoesTo (after_source old.limits (Unopened name) (progress_of old)) old new w r
 missing_goes old new name w (Ok done) l o h = (
@@ -92,7 +105,7 @@ missing_goes old new name w (Ok done) l o h = (
     limits = h.2;
     unfinished = (h.1).unfinished;
     progress = h.3;
-    output = o ∙ with_none w.out_old ∙ ap (λ (r : RunSoFar). with_bytes w.out_old r.output) (sym (missing_is old name l));
+    output = o ∙ with_nothing w.out_old ∙ ap (λ (r : RunSoFar). with_bytes w.out_old r.output) (sym (missing_is old name l));
     messages = h.4 ∙ ap (λ (r : RunSoFar). with_bytes w.told_old r.messages) (sym (missing_is old name l));
   },
   (h.1).over,
@@ -125,11 +138,24 @@ pub if_told : (o : Option Source) (P : Source → Type 0) → ((s : Source) → 
 if_told None P h = tt
 if_told (Some s) P h = h s refl
 
-pub unopened_goes : (old new : Standing) (name : List ℕ) (w : Writers) (r : Result Unit Stop) (s : Source) → IsOpen old → told_unopened name ≡ Some s → w.out_new ≡ w.out_old → MissingGives name old new w.told_old w.told_new r → GoesTo (after_source old.limits s (progress_of old)) old new w r
-unopened_goes old new name w r s l t o h =
-    let e : Unopened name ≡ s = cc in
-    subst (λ (s : Source). GoesTo (after_source old.limits s (progress_of old)) old new w r) e (missing_goes old new name w r l o h)
+unopened_is : {R : Type 0} (script : R → Option Script) (name : List ℕ) (behind : RunSource R) (s : Source) → StandsFor script (sources.Unopened name) behind s → Unopened name ≡ s
+unopened_is script name behind s (inl t) = let e : Unopened name ≡ s = cc in e
+unopened_is script name behind s (inr m) = sym m
+
+pub unopened_stands : {R : Type 0} (script : R → Option Script) (old new : Standing) (name : List ℕ) (first behind : RunSource R) (w : Writers) (r : Result Unit Stop) (s : Source) → first ≡ sources.Unopened name → IsOpen old → StandsFor script first behind s → w.out_new ≡ w.out_old → MissingGives name old new w.told_old w.told_new r → GoesTo (after_source old.limits s (progress_of old)) old new w r
+unopened_stands script old new name first behind w r s f l t o h =
+    let k : StandsFor script (sources.Unopened name) behind s = subst (λ x. StandsFor script x behind s) f t in
+    subst (λ (s : Source). GoesTo (after_source old.limits s (progress_of old)) old new w r) (unopened_is script name behind s k) (missing_goes old new name w r l o h)
 
 -- a file that was read to its end leaves the session open
 pub file_leaves_open : (old new : Standing) (name : List ℕ) (before behind : Option Script) (w : Writers) → FileGives name before behind old new w (Ok tt) → IsOpen new
 file_leaves_open old new name before behind w h = record { over = h.4; unfinished = (h.3).unfinished }
+
+-- nothing was taken
+none_taken : (b : Option Script) → b ≡ after_bytes [] b
+none_taken None = refl
+none_taken (Some s) = refl
+
+pub same_taken : {R : Type 0} (script : R → Option Script) (x : RunSource R) → is_taken script x x
+same_taken script (sources.Opened name r) = (refl, ([], none_taken (script r)))
+same_taken script (sources.Unopened name) = refl

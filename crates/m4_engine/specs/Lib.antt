@@ -17,3 +17,4 @@ pub mod Expands
 pub mod Session
 pub mod SessionView
 pub mod Told
+pub mod WholeRun

@@ -3,7 +3,7 @@
 -- Words: Standing, progress_of, written, fresh_standing, IsOpen, Filed, FileGives, MissingGives,
 -- FinishGives.
 -- A session is a run's progress without what was written; what is written goes to the writers.
-use Rattle.std.specs.Prelude.{◌≡◌, ℕ, Bool, true, false, List, [], ◌∷◌, ◌++◌, Option, Some, None, Result, Ok, Err, ◌⊎◌}
+use Rattle.std.specs.Prelude.{◌≡◌, ℕ, Bool, true, false, List, [], ◌∷◌, Option, Some, None, Result, Ok, Err, ◌⊎◌}
 use Rattle.m4_state.specs.State.{State}
 use Rattle.m4_state.specs.Fresh.{fresh}
 use Rattle.m4_state.specs.Device.{Script, after_bytes, IsAtEnd, IsAtFault, with_bytes, HasBegun}
@@ -12,11 +12,11 @@ use Rattle.m4_engine.specs.declared.ending.Cause.TheVariants as causes
 use Rattle.m4_engine.specs.declared.options.Options.{Options}
 use Rattle.m4_engine.specs.declared.stop.Stop.{Stop}
 use Rattle.m4_engine.specs.declared.stop.Stop.TheVariants as stops
-use Rattle.m4_engine.specs.Expansion.{RunSoFar, Limits, How, Ends, Ended}
+use Rattle.m4_engine.specs.Expansion.{Limits, How, Ends}
 use Rattle.m4_engine.specs.Expands.{Broken}
-use Rattle.m4_engine.specs.File.{Source, Opened, Unopened, Progress, file, after_source, cannot_open}
+use Rattle.m4_engine.specs.File.{Opened, Unopened, Progress, file, after_source, cannot_open}
 use Rattle.m4_engine.specs.Wraps.{after_wraps}
-use Rattle.m4_engine.specs.Run.{limits_of, status_of, closed_output}
+use Rattle.m4_engine.specs.Run.{limits_of, status_of, closed_output, result_of}
 
 -- a run between two calls: what it has made beside what was written; whether a source wasn't opened;
 -- why it is over, if it is; and whether it was brought to its end
@@ -165,14 +165,21 @@ pub record Closed (old new : Standing) (w : Writers) : Type 0 where
   pub output : w.out_new ≡ with_bytes w.out_old (closed_output false (behind_wraps old).so_far)
   pub messages : w.told_new ≡ with_bytes w.told_old ((behind_wraps old).so_far).messages
 
+-- the end broke off: a beginning of what the run still puts out was written
+pub record Unfinished (old new : Standing) (w : Writers) (cause : Cause) : Type 0 where
+  pub live : IsOpen old
+  pub over : new.over ≡ Some cause
+  pub output : HasBegun w.out_old w.out_new (result_of false [] (behind_wraps old)).output
+  pub messages : HasBegun w.told_old w.told_new ((behind_wraps old).so_far).messages
+
 -- the end of a run
 abbrev pub FinishGives : Standing → Standing → Writers → Result Unit Stop → Type 0
 FinishGives old new w (Ok done) = Closed old new w
 FinishGives old new w (Err stops.Finished) = Refused old new w
-FinishGives old new w (Err (stops.Ended causes.Write)) =
-    Fell old new causes.Write
-    × HasBegun w.out_old w.out_new (closed_output false (behind_wraps old).so_far)
-    × HasBegun w.told_old w.told_new ((behind_wraps old).so_far).messages
+FinishGives old new w (Err (stops.Ended causes.Done)) = ⊥
+FinishGives old new w (Err (stops.Ended causes.Read)) = ⊥
+FinishGives old new w (Err (stops.Ended causes.Write)) = Unfinished old new w causes.Write
+FinishGives old new w (Err (stops.Ended causes.OutOfMemory)) = Unfinished old new w causes.OutOfMemory
 FinishGives old new w (Err (stops.Ended cause)) =
     Filed old new (behind_wraps old) w × (new.over ≡ Some cause)
 
@@ -191,7 +198,13 @@ pub record BrokeOff (new : Standing) (p : Progress) (w : Writers) (cause : Cause
 abbrev pub GoesTo : Progress → Standing → Standing → Writers → Result Unit Stop → Type 0
 GoesTo p old new w (Ok done) = Filed old new p w × (new.over ≡ None)
 GoesTo p old new w (Err stops.Finished) = ⊥
-GoesTo p old new w (Err (stops.Ended causes.Read)) = ⊥
+GoesTo p old new w (Err (stops.Ended causes.Read)) = BrokeOff new p w causes.Read
 GoesTo p old new w (Err (stops.Ended causes.Write)) = BrokeOff new p w causes.Write
 GoesTo p old new w (Err (stops.Ended causes.OutOfMemory)) = BrokeOff new p w causes.OutOfMemory
 GoesTo p old new w (Err (stops.Ended cause)) = Filed old new p w × (new.over ≡ Some cause)
+
+-- a session that stopped is over, by the cause that is answered; else it goes on
+abbrev pub IsLeft : {A : Type 0} → Standing → Result A Stop → Type 0
+IsLeft new (Ok done) = new.over ≡ None
+IsLeft new (Err stops.Finished) = ⊥
+IsLeft new (Err (stops.Ended cause)) = new.over ≡ Some cause

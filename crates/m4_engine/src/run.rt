@@ -1,18 +1,103 @@
-//! The sources of a run, one behind the other. Manual: "Command line files".
+//! A whole run: its sources, one behind the other, and then its end.
+//! Manual: "Invoking m4", "Command line files".
 
-ghost use Rattle.std.specs.Prelude.{◌≡◌, List, map, Some, OnOk};
-ghost use Rattle.m4_engine.specs.File.{Source as Told, after_source, after_sources};
-ghost use Rattle.m4_engine.specs.Told.{told};
-ghost use Rattle.m4_engine.specs.Session.{IsOpen, GoesTo, progress_of};
+ghost use Rattle.std.specs.Prelude.{◌≡◌, Bool, false, [], None, List, Err, OnOk};
+ghost use Rattle.m4_engine.specs.File.{Source as Said, after_source, after_sources};
+ghost use Rattle.m4_engine.specs.Run.{run as defined, status_of};
+ghost use Rattle.m4_engine.specs.Expansion.{Ends};
+ghost use Rattle.m4_engine.specs.Told.{StandFor, StandsFor, any_failed, has_failed, are_taken, is_taken};
+ghost use Rattle.m4_engine.specs.Session.{IsOpen, IsLeft, GoesTo, progress_of, status_at};
+ghost use Rattle.m4_engine.specs.WholeRun.{RunGives, result_behind, ending_by};
 
-use crate::ending::Cause;
+use crate::ending::{Cause, Ending};
+use crate::options::Options;
 use crate::session::Session;
 use crate::source::Source;
 use crate::stop::Stop;
 use m4_state::device::{ByteSink, ByteSource};
+use std::alloc::Global;
+
+/// Runs over the sources, one behind the other, and then issues the diversions: what is written, and
+/// how the run ends, is what the definition of a run says.
+///
+/// The ending's cause tells why the run ended. Behind a reader, a writer or memory that failed a
+/// beginning of what the run puts out was written, and the status is 1. No run is frozen and none
+/// starts from a frozen file yet: `frozen` is none, and nothing is written to `freeze_to`.
+pub fn run<R: ByteSource, O: ByteSink, M: ByteSink, Z: ByteSink>(
+    alloc: Global,
+    options: Options,
+    frozen: &mut Option<R>,
+    sources: &mut [Source<R>],
+    out: &mut O,
+    messages: &mut M,
+    freeze_to: &mut Z,
+) -> Ending
+    requires prefix { options.prefix ≡ false }
+    requires freeze { options.freeze ≡ false }
+    requires fresh { frozen.old ≡ None }
+    // whole run: what is written and answered is what the definition of a run says
+    ensures gives { (ss : List Said) → StandFor R.script sources.old sources.new ss →
+        RunGives (defined options None ss) result
+        (record { out_old = O.contents out.old; out_new = O.contents out.new; told_old = M.contents messages.old; told_new = M.contents messages.new }) }
+    // whole run: the status of its cause
+    ensures status { (missed : Bool) × (result.status ≡ status_of (Ends result.cause) missed) }
+    // a read fault comes only where a reader failed
+    ensures read { result.cause ≡ Cause.Read → any_failed R.failures sources.old sources.new }
+    // whole run: each reader gave a beginning of what it tells
+    ensures taken { are_taken R.script sources.old sources.new }
+    ensures unfrozen { Z.contents freeze_to.new ≡ Z.contents freeze_to.old }
+    ensures unread { frozen.new ≡ frozen.old }
+{
+    let _ = frozen;
+    let _ = freeze_to;
+    let Ok(mut session) = Session::fresh(alloc, options) else {
+        return ending(1, Err(Stop::Ended(Cause::OutOfMemory)));
+    };
+    let answer = read_to_end(&mut session, sources, out, messages);
+    ending(session.status(), answer)
+}
+
+/// The ending of a run, by its status and the last answer.
+fn ending(status: u8, answer: Result<bool, Stop>) -> Ending
+    ensures { result ≡ ending_by status answer }
+{
+    let (cause, wrapped) = match answer {
+        Ok(wrapped) => (Cause::Done, wrapped),
+        Err(Stop::Ended(cause)) => (cause, false),
+        Err(Stop::Finished) => (Cause::Done, false),
+    };
+    Ending {
+        status,
+        cause,
+        wrapped,
+    }
+}
+
+/// Reads the sources and brings the run to its end. Answers whether text stood saved behind the last
+/// source.
+fn read_to_end<R: ByteSource, O: ByteSink, M: ByteSink>(
+    session: &mut Session,
+    sources: &mut [Source<R>],
+    out: &mut O,
+    messages: &mut M,
+) -> Result<bool, Stop>
+    requires live { IsOpen session.old }
+    requires unsaved { session.old.saved ≡ [] }
+    ensures gives { (ss : List Said) → StandFor R.script sources.old sources.new ss →
+        RunGives (result_behind session.old.limits ss (after_sources session.old.limits ss (progress_of session.old)))
+        (ending_by (status_at session.new) result)
+        (record { out_old = O.contents out.old; out_new = O.contents out.new; told_old = M.contents messages.old; told_new = M.contents messages.new }) }
+    ensures left { IsLeft session.new result }
+    ensures read { result ≡ Err (Stop.Ended Cause.Read) → any_failed R.failures sources.old sources.new }
+    ensures taken { are_taken R.script sources.old sources.new }
+{
+    read_sources(session, sources, out, messages)?;
+    let wrapped = session.wrapped();
+    session.finish(out, messages)?;
+    Ok(wrapped)
+}
 
 /// Reads a source in its turn.
-#[tactic(auto, using(crate::proofs::Sources::file_leaves_open))]
 fn read<R: ByteSource, O: ByteSink, M: ByteSink>(
     session: &mut Session,
     source: &mut Source<R>,
@@ -20,11 +105,14 @@ fn read<R: ByteSource, O: ByteSink, M: ByteSink>(
     messages: &mut M,
 ) -> Result<(), Stop>
     requires { IsOpen session.old }
-    ensures open { OnOk result (IsOpen session.new) }
-    ensures goes { (s : Told) → told R.script source.old ≡ Some s →
+    ensures left { IsLeft session.new result }
+    ensures unfinished { OnOk result (IsOpen session.new) }
+    ensures goes { (s : Said) → StandsFor R.script source.old source.new s →
         GoesTo (after_source session.old.limits s (progress_of session.old)) session.old session.new
         (record { out_old = O.contents out.old; out_new = O.contents out.new; told_old = M.contents messages.old; told_new = M.contents messages.new })
         result }
+    ensures read { result ≡ Err (Stop.Ended Cause.Read) → has_failed R.failures source.old source.new }
+    ensures taken { is_taken R.script source.old source.new }
 {
     match source {
         Source::Opened { name, reader } => {
@@ -40,18 +128,21 @@ fn read<R: ByteSource, O: ByteSink, M: ByteSink>(
 /// Reads the sources, one behind the other, until the run ends: what they put out, taken together, is
 /// what the definition of the sources says. `Ended` by the cause that ends the run; behind a device or
 /// memory that failed a beginning of it was written.
-pub fn read_sources<R: ByteSource, O: ByteSink, M: ByteSink>(
+fn read_sources<R: ByteSource, O: ByteSink, M: ByteSink>(
     session: &mut Session,
     sources: &mut [Source<R>],
     out: &mut O,
     messages: &mut M,
 ) -> Result<(), Stop>
     requires { IsOpen session.old }
-    // session steps: all sources, where each reader tells its bytes and ends
-    ensures { (ss : List Told) → map (told R.script) sources.old ≡ map Some ss →
+    ensures left { IsLeft session.new result }
+    ensures goes { (ss : List Said) → StandFor R.script sources.old sources.new ss →
         GoesTo (after_sources session.old.limits ss (progress_of session.old)) session.old session.new
         (record { out_old = O.contents out.old; out_new = O.contents out.new; told_old = M.contents messages.old; told_new = M.contents messages.new })
         result }
+    ensures unfinished { OnOk result (IsOpen session.new) }
+    ensures read { result ≡ Err (Stop.Ended Cause.Read) → any_failed R.failures sources.old sources.new }
+    ensures taken { are_taken R.script sources.old sources.new }
 {
     'sources: for source in sources.iter_mut() {
         read(session, source, out, messages)?;

@@ -1,12 +1,12 @@
 use Rattle.std.proofs.Common.{rules, refl}
-use Rattle.m4_engine.proofs.Sources.{opened_goes, unopened_goes, unread_goes}
+use Rattle.m4_engine.proofs.Sources.{opened_stands, unopened_stands, unread_goes}
 use Rattle.m4_engine.proofs.run.read.Goals as goal
 
 pub returns-in_default-clause-goes : goal.returns-in_default-clause-goes
 returns-in_default-clause-goes g c = λ s e. unread_goes c.args.session.now c.end.new.self _ _ c.end.result c.end.ensures.answer (search rules) refl refl
 
 pub returns-in-Ok-clause-goes : goal.returns-in-Ok-clause-goes
-returns-in-Ok-clause-goes g c = λ s e. opened_goes c.args.session.now c.file.new.self c.in-Ok.name (g.R.ByteSource.script c.in-Opened.reader) (g.R.ByteSource.script c.file.new.reader) _ c.file.result s c.requires (search rules) c.file.ensures.gives
+returns-in-Ok-clause-goes g c = λ s e. opened_stands g.R.ByteSource.script c.args.session.now c.file.new.self c.in-Ok.name c.in-Opened.reader c.file.new.reader _ _ _ c.file.result s (search rules) (search rules) c.requires e c.file.ensures.gives
 
 pub returns-in-Unopened-clause-goes : goal.returns-in-Unopened-clause-goes
-returns-in-Unopened-clause-goes g c = λ s e. unopened_goes c.args.session.now c.missing.new.self c.as_slice.result.now _ c.missing.result s c.requires (search rules) refl c.missing.ensures
+returns-in-Unopened-clause-goes g c = λ s e. unopened_stands g.R.ByteSource.script c.args.session.now c.missing.new.self c.as_slice.result.now _ _ _ c.missing.result s (search rules) c.requires e refl c.missing.ensures
