@@ -18,8 +18,9 @@ use m4_engine::options::Options;
 use std::alloc::{AllocError, Global};
 
 const ABOUT: &str =
-    "Expands the macros of GNU M4's language. Also shows what a frozen state file of GNU M4 \
-    holds, and writes it in its one canonical spelling.";
+    "Expands the macros of GNU M4's language, with the builtins changecom, changequote, define, dnl \
+    and undefine. Also shows what a frozen state file of GNU M4 holds, and writes it in its one \
+    canonical spelling.";
 
 const USAGE: &str = "m4r [-L N] [--expansions=N] [FILE...]
        m4r --canon=FILE

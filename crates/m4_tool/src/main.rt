@@ -9,19 +9,22 @@ ghost use Rattle.clap.specs.Walk.{texts};
 ghost use Rattle.m4_tool.specs.CommandLine.{AreInRange, IsModeInCompany, IsRefusal, Says, StandAlone};
 ghost use Rattle.m4_tool.specs.RunEnd.{last_status};
 
-mod expand;
+mod endings;
 mod fault;
 mod line;
 mod modes;
 mod shared;
 mod sources;
 
-use expand::{expand, last_fault};
+use endings::last_fault;
 use line::{Line, LineFault};
 use m4_engine::ending::Ending;
+use m4_engine::run::run;
+use m4_engine::source::Source;
+use m4_state::memory::MemSink;
 use m4_state::standard::{StdSink, StdSource};
 use shared::{Prompting, Shared};
-use sources::{FileOrInput, INPUT, Source, source_name};
+use sources::{FileOrInput, INPUT, source_name};
 use std::alloc::{AllocError, Global};
 use std::cell::RefCell;
 use std::env::Env;
@@ -106,7 +109,8 @@ fn run_line<E: Write + Drop>(
     errors: E,
     line: &Line,
 ) -> u8
-    requires { line.now.options.prefix ≡ false }
+    requires prefix { line.now.options.prefix ≡ false }
+    requires freeze { line.now.options.freeze ≡ false }
 {
     if let Some(file) = &line.canon {
         return run_mode(rt, errors, Mode::Canon, file.as_str());
@@ -124,7 +128,8 @@ fn run_files<E: Write + Drop>(
     errors: E,
     line: &Line,
 ) -> io::Result<u8>
-    requires { line.now.options.prefix ≡ false }
+    requires prefix { line.now.options.prefix ≡ false }
+    requires freeze { line.now.options.freeze ≡ false }
 {
     let writer = BufWriter::with_capacity(rt.alloc(), BLOCK, io::writer(rt))?;
     let shown = RefCell::new(writer);
@@ -138,12 +143,23 @@ fn run_shown<R: Files + Input + Alloc<A = Global> + Eprint, E: Write + Drop, W: 
     line: &Line,
     shown: &RefCell<W>,
 ) -> Result<u8, AllocError>
-    requires { line.now.options.prefix ≡ false }
+    requires prefix { line.now.options.prefix ≡ false }
+    requires freeze { line.now.options.freeze ≡ false }
 {
-    let sources = sources_of(rt, line.files.as_slice(), shown)?;
+    let mut sources = sources_of(rt, line.files.as_slice(), shown)?;
     let mut out = StdSink::new(Shared::new(shown));
     let mut messages = StdSink::new(errors);
-    let ending = expand(rt.alloc(), line.options, sources, &mut out, &mut messages);
+    // no run is frozen yet, and none starts from a frozen file
+    let mut freeze_to = MemSink::new(rt.alloc(), 0, 1)?;
+    let ending = run(
+        rt.alloc(),
+        line.options,
+        &mut None,
+        &mut sources,
+        &mut out,
+        &mut messages,
+        &mut freeze_to,
+    );
     let flushed = out.into_inner().flush().is_ok();
     Ok(tell_end(rt, ending, flushed))
 }

@@ -7,15 +7,6 @@ use m4_state::bytes::Bytes;
 use std::alloc::{AllocError, Global};
 use std::io::{self, Read};
 
-/// A source that was opened, or one that could not be.
-#[derive(Drop)]
-pub enum Source<R> {
-    /// A reader, and the name that messages give it.
-    Opened { name: Bytes, reader: R },
-    /// A name that messages tell.
-    Unopened { name: Bytes },
-}
-
 /// A file, or standard input.
 #[derive(Drop)]
 pub enum FileOrInput<F, I> {
