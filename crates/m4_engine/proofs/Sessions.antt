@@ -1,8 +1,8 @@
 -- Sessions: what a session's calls make of what the machine leaves.
-use Rattle.std.proofs.Common.{◌≡◌, ◌⊎◌, inl, inr, ℕ, Bool, true, false, List, [], ◌++◌, Option, Some, None, refl, sym, ap, ◌∙◌, subst}
+use Rattle.std.proofs.Common.{◌≡◌, inr, ℕ, Bool, false, List, [], Option, Some, None, refl, sym, ap, ◌∙◌, subst}
 use Rattle.std.specs.Prelude.{Result, Ok, Err}
 use Rattle.m4_state.specs.State.{State}
-use Rattle.m4_state.specs.Device.{Script, after_bytes, IsAtEnd, with_bytes, HasBegun}
+use Rattle.m4_state.specs.Device.{Script, after_bytes, IsAtEnd, HasBegun}
 use Rattle.m4_input.specs.Pending.{Pending}
 use Rattle.m4_input.specs.Input.{Held, unread_file, longer, Reads, WholeGives}
 use Rattle.m4_engine.specs.declared.ending.Cause.{Cause}
@@ -10,13 +10,13 @@ use Rattle.m4_engine.specs.declared.ending.Cause.TheVariants as causes
 use Rattle.m4_engine.specs.declared.stop.Stop.{Stop}
 use Rattle.m4_engine.specs.declared.stop.Stop.TheVariants as stops
 use Rattle.m4_engine.specs.Expansion.{How, Ends, Ended}
-use Rattle.m4_engine.specs.File.{Opened, Progress, file, file_pending, over_of, over_by, after_input, unless_over, read_source, after_source}
+use Rattle.m4_engine.specs.File.{Progress, file_pending, over_of, over_by, after_input}
 use Rattle.m4_engine.specs.Run.{closed_output}
 use Rattle.m4_engine.specs.Wraps.{after_wraps, close}
 use Rattle.m4_engine.proofs.Begins.{nothing_begun}
-use Rattle.m4_engine.specs.Engine.{Engine, IsReady}
-use Rattle.m4_engine.specs.Expands.{made_before, comes_to, Expanded, Broken, Expands, at_rest, IsIdle}
-use Rattle.m4_engine.specs.Session.{Standing, Writers, progress_of, written, how_over, IsOpen, Filed, Fell, Silent, FileDone, FileBroke, FileGives, answer_by, over_behind, behind_wraps, FinishGives}
+use Rattle.m4_engine.specs.Engine.{Engine}
+use Rattle.m4_engine.specs.Expands.{comes_to, Expanded, Broken, Expands, Failures, FailsBy, at_rest}
+use Rattle.m4_engine.specs.Session.{Standing, Writers, progress_of, written, how_over, IsOpen, FileDone, FileBroke, FileGives, answer_by, over_behind, behind_wraps, FinishGives, WriteFails}
 
 -- what a file's input has in hand when it was read
 pub whole_file : (name x : List ℕ) (before behind : Option Script) (p : Pending) → Reads before behind (unread_file name).pending x p → p.may_follow ≡ false → p ≡ file_pending name x false
@@ -103,6 +103,23 @@ file_gives old new e0 e1 e2 missed over finished name i0 i before behind w cause
     subst (λ (x : Standing). FileGives name before behind x new w result) (sym o')
     (subst (λ (x : Standing). FileGives name before behind (standing_of e0 missed None false) x w result) (sym v')
     (subst (λ x. FileGives name before behind (standing_of e0 missed None false) (standing_of (at_rest e1) missed (over_behind cause None) false) w x) (sym r) g))
+
+-- the answer by the cause tells the same failures
+pub answer_fails : (cause : Cause) (f : Failures) (r : Result Unit Stop) → FailsBy cause f → r ≡ answer_by cause → WriteFails r f
+answer_fails cause f r h e = subst (λ x. WriteFails x f) (sym e) (go cause h)
+  where
+    go : (c : Cause) → FailsBy c f → WriteFails (answer_by c) f
+    go causes.Done h = h
+    go (causes.Exited n) h = h
+    go causes.EndInString h = h
+    go causes.EndInComment h = h
+    go causes.EndInArguments h = h
+    go causes.ExpansionLimit h = h
+    go causes.NestingLimit h = h
+    go (causes.Frozen x) h = h
+    go causes.Read h = h
+    go causes.Write h = h
+    go causes.OutOfMemory h = h
 
 -- no text stands saved: there is no round
 pub behind_is : (s : Standing) → IsOpen s → s.saved ≡ [] → behind_wraps s ≡ progress_of s

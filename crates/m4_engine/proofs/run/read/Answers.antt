@@ -9,4 +9,4 @@ pub returns-in-Ok-clause-goes : goal.returns-in-Ok-clause-goes
 returns-in-Ok-clause-goes g c = λ s e. opened_goes c.args.session.now c.file.new.self c.in-Ok.name (g.R.ByteSource.script c.in-Opened.reader) (g.R.ByteSource.script c.file.new.reader) _ c.file.result s c.requires (search rules) c.file.ensures.gives
 
 pub returns-in-Unopened-clause-goes : goal.returns-in-Unopened-clause-goes
-returns-in-Unopened-clause-goes g c = λ s e. unopened_goes c.args.session.now c.missing.new.self c.as_slice.result.now _ c.missing.result s c.requires (search rules) refl c.missing.ensures
+returns-in-Unopened-clause-goes g c = λ s e. unopened_goes c.args.session.now c.missing.new.self c.as_slice.result.now _ c.missing.result s c.requires (search rules) refl c.missing.ensures.gives
