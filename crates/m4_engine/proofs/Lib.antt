@@ -28,6 +28,7 @@ pub mod Named
 pub mod Turning
 pub mod LoopKeeps
 pub mod Begins
+pub mod Passing
 pub mod Running
 pub mod SavesNothing
 pub mod Sessions

@@ -82,11 +82,13 @@ some_left : (e e2 : Engine) (p : Pending) (x y : List ℕ) → e ≡ record e2 {
 some_left e e2 p x y h = sym (same_left e2 p) ∙ sym (ap (λ (d : Engine). turns_of (handed_on d) p) h) ∙ same_left e p
 
 -- a move takes a turn
-pub move_falls : (e e' e2 : Engine) (p p' : Pending) (x y : List ℕ) → e' ≡ record e2 { output = x ++ e2.output; messages = y ++ e2.messages } → Moves e' p' turns.GoesOn (λ o m. moved (configuration o m e p)) → turns_of e2 p' < turns_of e p
-move_falls e e' e2 p p' x y d h =
+pub turn_falls : (e e' : Engine) (p p' : Pending) → Moves e' p' turns.GoesOn (λ o m. moved (configuration o m e p)) → turns_of e' p' < turns_of e p
+turn_falls e e' p p' h =
     let f : turns_of e' p' + 1 ≡ turns_of e p = turns_fall Expansion Kept Ended turn join spent_at size_of calls_left falls (configuration [] [] e p) (configuration [] [] e' p') (h [] []) in
-    let g : turns_of e2 p' ≡ turns_of e' p' = some_left e' e2 p' x y d in
     omega arith
+
+pub move_falls : (e e' e2 : Engine) (p p' : Pending) (x y : List ℕ) → e' ≡ record e2 { output = x ++ e2.output; messages = y ++ e2.messages } → Moves e' p' turns.GoesOn (λ o m. moved (configuration o m e p)) → turns_of e2 p' < turns_of e p
+move_falls e e' e2 p p' x y d h = subst (λ n. n < turns_of e p) (sym (some_left e' e2 p' x y d)) (turn_falls e e' p p' h)
 
 -- what a machine comes to, where so much was handed on
 abbrev pub meaning_of : List ℕ → List ℕ → Engine → Pending → Outcome Expansion Ended

@@ -1,5 +1,5 @@
 -- Running: where the loop over an input's turns stands, and what its ends say.
-use Rattle.std.proofs.Common.{◌≡◌, ◌<◌, ℕ, List, [], ◌∷◌, ◌++◌, Option, Some, None, refl, sym, ap, ◌∙◌, subst, append-nil, append_assoc}
+use Rattle.std.proofs.Common.{◌≡◌, ◌<◌, ◌≤◌, ℕ, List, [], ◌∷◌, ◌++◌, Option, Some, None, refl, sym, ap, ◌∙◌, subst, append-nil, append_assoc, arith}
 use Rattle.m4_state.specs.Device.{with_bytes, HasBegun}
 use Rattle.m4_input.specs.Pending.{Pending}
 use Rattle.m4_input.specs.Input.{Held}
@@ -11,11 +11,12 @@ use Rattle.m4_engine.specs.Nesting.{Outcome, Halted, Closed, then_on}
 use Rattle.m4_engine.specs.OpenCalls.{resume}
 use Rattle.m4_engine.specs.Expansion.{Call, Expansion, Kept, Ended, Ends}
 use Rattle.m4_engine.specs.Expand.{turn, join, expand, expansion_of, ended_of}
-use Rattle.m4_engine.specs.Engine.{Engine, so_far_of, outer_of, here_of, configuration, handed_on, moved, IsReady, Moves}
+use Rattle.m4_engine.specs.Engine.{Engine, so_far_of, outer_of, here_of, configuration, handed_on, moved, IsReady, Moves, Passes}
 use Rattle.m4_engine.specs.Expands.{made_before, comes_to, Expanded, Broken, Expands, HandsOn, HandsOnSome, IsIdle}
 use Rattle.m4_engine.proofs.Begins.{with_both, begun_behind}
 use Rattle.m4_engine.proofs.Growth.{Extends, made_out}
 use Rattle.m4_engine.proofs.LoopKeeps.{turns_of, move_falls, meaning_of, some_means, moved_on, end_means}
+use Rattle.m4_engine.proofs.Passing.{passes_reaches, passes_ready, passes_limits}
 use Rattle.m4_engine.proofs.OnlyGrows.{extends_same, extends_more, whole_keeps, list_keeps}
 
 -- so much was handed on of what the expansion comes to, and the machine stands where the rest of it does
@@ -42,6 +43,18 @@ begins e i out told d r = record {
   means = ap (λ (cs : List Call). resume Expansion Kept Ended turn join expand (outer_of cs) (expand (here_of [] [] e i.pending))) d.open_calls;
   ready = r;
   limits = refl;
+}
+
+-- tokens that stand for themselves were put out at once
+pub passed : (e0 e e1 : Engine) (p0 : Pending) (i i1 : Held) (out0 told0 out told : Option (List ℕ)) → Running e0 p0 out0 told0 e i out told → Passes e e1 i i1 → Running e0 p0 out0 told0 e1 i1 out told
+passed e0 e e1 p0 i i1 out0 told0 out told r h = record {
+  o = r.o;
+  m = r.m;
+  output = r.output;
+  messages = r.messages;
+  means = (passes_reaches e e1 i i1 r.ready h).means r.o r.m ∙ r.means;
+  ready = passes_ready e e1 i i1 r.ready h;
+  limits = passes_limits e e1 i i1 h ∙ r.limits;
 }
 
 -- a turn after which it goes on
@@ -158,6 +171,8 @@ pub went_on : (e0 e e' e2 : Engine) (p0 : Pending) (i i' : Held) (out0 told0 out
 went_on e0 e e' e2 p0 i i' out0 told0 out told out' told' t r h k q l f =
     goes_on e0 e e' e2 p0 i i' out0 told0 out told out' told' r (subst (λ (x : Turned). Moves e' i'.pending x (λ o m. moved (configuration o m e i.pending))) k h) q l f
 
-pub fell : (e e' e2 : Engine) (p p' : Pending) (out out' told told' : Option (List ℕ)) (t : Turned) → Moves e' p' t (λ o m. moved (configuration o m e p)) → t ≡ turns.GoesOn → HandsOnSome e' e2 out out' told told' → turns_of e2 p' < turns_of e p
-fell e e' e2 p p' out out' told told' t h k f =
-    move_falls e e' e2 p p' f.front f.told f.held (subst (λ (x : Turned). Moves e' p' x (λ o m. moved (configuration o m e p))) k h)
+pub fell : (e e1 e' e2 : Engine) (i i1 : Held) (p' : Pending) (out out' told told' : Option (List ℕ)) (t : Turned) → IsReady i → Passes e e1 i i1 → Moves e' p' t (λ o m. moved (configuration o m e1 i1.pending)) → t ≡ turns.GoesOn → HandsOnSome e' e2 out out' told told' → turns_of e2 p' < turns_of e i.pending
+fell e e1 e' e2 i i1 p' out out' told told' t q w h k f =
+    let a : turns_of e2 p' < turns_of e1 i1.pending = move_falls e1 e' e2 i1.pending p' f.front f.told f.held (subst (λ (x : Turned). Moves e' p' x (λ o m. moved (configuration o m e1 i1.pending))) k h) in
+    let b : turns_of e1 i1.pending ≤ turns_of e i.pending = (passes_reaches e e1 i i1 q w).turns in
+    omega arith

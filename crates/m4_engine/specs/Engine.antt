@@ -1,10 +1,11 @@
 -- Engine: a run as the machine holds it between two turns, and the steps of a turn.
 -- Not believed: it stands between the code and `Expand`, tied to it by the turns' lemmas.
 use Rattle.std.specs.Fmt.{decimal}
-use Rattle.std.specs.Prelude.{◌≡◌, codes, nat_lt, ◌&&◌, suc, Option, Some, None, ℕ, Bool, true, false, List, [], ◌∷◌, ◌++◌, length}
+use Rattle.std.specs.Prelude.{◌≡◌, codes, nat_lt, ◌&&◌, suc, Option, Some, None, ℕ, pos, Bool, true, false, List, [], ◌∷◌, ◌++◌, length, take, ◌⊎◌}
 use Rattle.m4_state.specs.declared.definition.Def.{Def}
 use Rattle.m4_state.specs.State.{State, appended}
-use Rattle.m4_input.specs.Pending.{Pending}
+use Rattle.m4_input.specs.Pending.{Pending, text_of, consumed}
+use Rattle.m4_input.specs.Plain.{total, ArePlain}
 use Rattle.m4_builtins.specs.declared.place.Place.{Place}
 use Rattle.m4_builtins.specs.Messages.{dropped}
 use Rattle.m4_engine.specs.Expansion.{Call, Limits, RunSoFar, Mode, Outside, Collecting, Kept, Expansion, Ended, Ends, issued}
@@ -215,3 +216,18 @@ IsMade (turns.Ends causes.Read) = ⊥
 IsMade (turns.Ends causes.Write) = ⊥
 IsMade (turns.Ends causes.OutOfMemory) = ⊥
 IsMade t = Unit {0}
+
+-- outside of calls and of diversions, with nothing in front of the text: its first tokens, which stand
+-- for themselves, were put out
+pub record PassesPlain (old new : Engine) (i j : Held) : Type 0 where
+  pub lens : List ℕ
+  pub plain : ArePlain old.state lens (text_of i.pending)
+  pub outside : old.open_calls ≡ []
+  pub undiverted : (old.state).current ≡ pos 0
+  pub first : (i.pending).definition ≡ None
+  pub engine : new ≡ record old { output = old.output ++ take (total lens) (text_of i.pending) }
+  pub input : j ≡ record i { pending = consumed (total lens) i.pending }
+
+-- such tokens were put out, or nothing was done
+abbrev pub Passes : Engine → Engine → Held → Held → Type 0
+Passes old new i j = ((new ≡ old) × (j ≡ i)) ⊎ PassesPlain old new i j

@@ -12,9 +12,10 @@ use crate::turned::{TurnFault, Turned};
 use m4_input::input::Input;
 use m4_state::device::{ByteSink, ByteSource, DeviceFault};
 use m4_state::transfer::put_all;
+use std::alloc::AllocError;
 
 /// How many bytes of output are held, at most, beside those of one turn.
-const BLOCK: usize = 65536;
+pub(crate) const BLOCK: usize = 65536;
 
 impl Machine {
     /// Hands on what was put out: the messages first.
@@ -74,6 +75,9 @@ impl Machine {
         ensures counted { FailsBy result (record { out_old = O.failures out.old; out_new = O.failures out.new; told_old = M.failures messages.old; told_new = M.failures messages.new }) }
     {
         'turns: loop {
+            if let Err(AllocError) = self.pass_plain(input) {
+                return Cause::OutOfMemory;
+            }
             let turned = match self.turn(input, reader) {
                 Ok(turned) => turned,
                 Err(TurnFault::OutOfMemory) => return Cause::OutOfMemory,

@@ -10,6 +10,7 @@ pub mod ending;
 pub mod laws;
 mod machine;
 pub mod options;
+mod plain;
 mod role;
 pub mod run;
 pub mod session;
