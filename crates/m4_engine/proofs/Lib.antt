@@ -24,6 +24,7 @@ pub mod Inputs
 pub mod Acts
 pub mod Taken
 pub mod Calling
+pub mod Bare
 pub mod Named
 pub mod Turning
 pub mod LoopKeeps

@@ -9,6 +9,7 @@ mod driver;
 pub mod ending;
 pub mod laws;
 mod machine;
+mod meaning;
 pub mod options;
 mod plain;
 mod role;
