@@ -1,6 +1,8 @@
 -- Begins: writers that hold a beginning of what is to be written.
 use Rattle.std.proofs.Common.{◌≡◌, ℕ, List, [], ◌++◌, Option, Some, None, refl, sym, ap, ◌∙◌, append-nil, append_assoc}
 use Rattle.m4_state.specs.Device.{with_bytes, HasBegun}
+use Rattle.m4_engine.specs.Engine.{Engine, handed_on}
+use Rattle.m4_engine.specs.Expands.{HandsOnSome}
 
 pub with_nothing : (o : Option (List ℕ)) → o ≡ with_bytes o []
 with_nothing None = refl
@@ -26,3 +28,20 @@ begun_behind o a b x y more all e h f = (
     holds = (h.1).holds ∙ ap (λ z. with_bytes z (h.1).front) e ∙ with_both o x (h.1).front;
   },
 )
+
+-- nothing was handed on
+pub some_none : (e : Engine) (out told : Option (List ℕ)) → HandsOnSome e e out out told told
+some_none e out told = record { front = []; told = []; held = refl; output = with_nothing out; messages = with_nothing told }
+
+-- all was
+pub some_all : (e e' : Engine) (out out' told told' : Option (List ℕ)) → e' ≡ handed_on e → out' ≡ with_bytes out e.output → told' ≡ with_bytes told e.messages → HandsOnSome e e' out out' told told'
+some_all e e' out out' told told' h f g = record {
+  front = e.output;
+  told = e.messages;
+  held =
+      ap (λ (x : List ℕ). let d : Engine = record e { output = x } in d) (sym (append-nil e.output))
+      ∙ ap (λ (x : List ℕ). let d : Engine = record e { output = e.output ++ []; messages = x } in d) (sym (append-nil e.messages))
+      ∙ ap (λ (d : Engine). let k : Engine = record d { output = e.output ++ d.output; messages = e.messages ++ d.messages } in k) (sym h);
+  output = f;
+  messages = g;
+}

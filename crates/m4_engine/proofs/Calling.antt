@@ -43,7 +43,7 @@ bare_is : (fs : List Kept) (v : Outcome Expansion Ended) → step fs (bare v) �
 bare_is fs (Halted d) = refl
 bare_is fs (Closed u) = refl
 
-bare_called : (e : Engine) (c : Call) (p before : Pending) (o m : List ℕ) → nat_lt e.calls (e.limits).calls ≡ true → is_deep_in (counting e) ≡ false → step (outer_of e.open_calls) (call false c p (here_of o m e before)) ≡ called_within e.open_calls c (here_of o m (counting e) p)
+pub bare_called : (e : Engine) (c : Call) (p before : Pending) (o m : List ℕ) → nat_lt e.calls (e.limits).calls ≡ true → is_deep_in (counting e) ≡ false → step (outer_of e.open_calls) (call false c p (here_of o m e before)) ≡ called_within e.open_calls c (here_of o m (counting e) p)
 bare_called e c p before o m f h =
     counted_is e c false p before o m false f h
     ∙ bare_is (outer_of e.open_calls) (called c (here_of o m (counting e) p) (kept_in e.open_calls))

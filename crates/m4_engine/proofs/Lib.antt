@@ -24,10 +24,12 @@ pub mod Inputs
 pub mod Acts
 pub mod Taken
 pub mod Calling
+pub mod Bare
 pub mod Named
 pub mod Turning
 pub mod LoopKeeps
 pub mod Begins
+pub mod Passing
 pub mod Running
 pub mod SavesNothing
 pub mod Sessions

@@ -1,11 +1,11 @@
 -- LoopKeeps: what the machine's loop keeps, and what falls at each of its turns.
-use Rattle.std.proofs.Common.{◌≡◌, ◌⊎◌, inl, inr, ⊎_elim, ℕ, ◌+◌, ◌<◌, Bool, true, false, List, [], ◌∷◌, ◌++◌, length, refl, sym, ap, ◌∙◌, subst, arith, append-nil}
+use Rattle.std.proofs.Common.{◌≡◌, inl, inr, ℕ, ◌+◌, ◌<◌, List, [], ◌++◌, refl, sym, ap, ◌∙◌, subst, arith, append-nil, append_assoc}
 use Rattle.m4_input.specs.Pending.{Pending}
 use Rattle.m4_engine.specs.declared.ending.Cause.{Cause}
 use Rattle.m4_engine.specs.declared.turned.Turned.TheVariants as turns
 use Rattle.m4_engine.specs.Nesting.{Turn, Halt, Close, GoOn, Bare, Opens, Outcome, Halted, Closed}
-use Rattle.m4_engine.specs.OpenCalls.{Stacked, Move, Stops, Goes, meaning, moved_meaning}
-use Rattle.m4_engine.specs.Expansion.{Expansion, Kept, How, Ended, Ends}
+use Rattle.m4_engine.specs.OpenCalls.{meaning, moved_meaning}
+use Rattle.m4_engine.specs.Expansion.{Expansion, Kept, Ended, Ends}
 use Rattle.m4_engine.specs.Expand.{turn, join, spent_at, size_of, calls_left, expand}
 use Rattle.m4_engine.specs.Engine.{Engine, so_far_of, outer_of, here_of, configuration, handed_on, moved, Moves}
 use Rattle.m4_engine.proofs.CallsFall.{falls}
@@ -77,24 +77,30 @@ same_left e p =
     (alike_out e.output e.messages (e.limits).calls (e.limits).nesting)
     (outer_of e.open_calls) (here_of [] [] e p) (here_of [] [] (handed_on e) p) (still_behind e p, (refl, refl))
 
+-- a beginning of what was put out is handed on
+some_left : (e e2 : Engine) (p : Pending) (x y : List ℕ) → e ≡ record e2 { output = x ++ e2.output; messages = y ++ e2.messages } → turns_of e2 p ≡ turns_of e p
+some_left e e2 p x y h = sym (same_left e2 p) ∙ sym (ap (λ (d : Engine). turns_of (handed_on d) p) h) ∙ same_left e p
+
 -- a move takes a turn
-pub move_falls : (e e' : Engine) (p p' : Pending) → Moves e' p' turns.GoesOn (λ o m. moved (configuration o m e p)) → turns_of (handed_on e') p' < turns_of e p
-move_falls e e' p p' h =
+pub turn_falls : (e e' : Engine) (p p' : Pending) → Moves e' p' turns.GoesOn (λ o m. moved (configuration o m e p)) → turns_of e' p' < turns_of e p
+turn_falls e e' p p' h =
     let f : turns_of e' p' + 1 ≡ turns_of e p = turns_fall Expansion Kept Ended turn join spent_at size_of calls_left falls (configuration [] [] e p) (configuration [] [] e' p') (h [] []) in
-    let g : turns_of (handed_on e') p' ≡ turns_of e' p' = same_left e' p' in
     omega arith
+
+pub move_falls : (e e' e2 : Engine) (p p' : Pending) (x y : List ℕ) → e' ≡ record e2 { output = x ++ e2.output; messages = y ++ e2.messages } → Moves e' p' turns.GoesOn (λ o m. moved (configuration o m e p)) → turns_of e2 p' < turns_of e p
+move_falls e e' e2 p p' x y d h = subst (λ n. n < turns_of e p) (sym (some_left e' e2 p' x y d)) (turn_falls e e' p p' h)
 
 -- what a machine comes to, where so much was handed on
 abbrev pub meaning_of : List ℕ → List ℕ → Engine → Pending → Outcome Expansion Ended
 meaning_of o m e p = meaning Expansion Kept Ended turn join expand (configuration o m e p)
 
--- a move changes nothing of it
-pub move_means : (e e' : Engine) (p p' : Pending) (o m : List ℕ) → Moves e' p' turns.GoesOn (λ o m. moved (configuration o m e p)) → meaning_of (o ++ e'.output) (m ++ e'.messages) (handed_on e') p' ≡ meaning_of o m e p
-move_means e e' p p' o m h =
-    (rw (append-nil (o ++ e'.output), append-nil (m ++ e'.messages)) refl)
-    ∙ ap (moved_meaning Expansion Kept Ended turn join expand) (sym (h o m))
-    ∙ move_keeps Expansion Kept Ended turn join spent_at size_of calls_left falls (configuration o m e p)
+-- what was handed on stands in front of the rest
+pub some_means : (e e2 : Engine) (p : Pending) (o m x y : List ℕ) → e ≡ record e2 { output = x ++ e2.output; messages = y ++ e2.messages } → meaning_of (o ++ x) (m ++ y) e2 p ≡ meaning_of o m e p
+some_means e e2 p o m x y h =
+    (rw (append_assoc o x e2.output, append_assoc m y e2.messages) refl)
+    ∙ sym (ap (λ (d : Engine). meaning_of o m d p) h)
 
+-- a move changes nothing of it
 pub moved_on : (e e' : Engine) (p p' : Pending) (o m : List ℕ) → Moves e' p' turns.GoesOn (λ o m. moved (configuration o m e p)) → meaning_of o m e' p' ≡ meaning_of o m e p
 moved_on e e' p p' o m h =
     ap (moved_meaning Expansion Kept Ended turn join expand) (sym (h o m))

@@ -1,6 +1,6 @@
 -- Running: where the loop over an input's turns stands, and what its ends say.
-use Rattle.std.proofs.Common.{◌≡◌, ◌<◌, ℕ, List, [], ◌∷◌, ◌++◌, Option, Some, None, refl, sym, ap, ◌∙◌, subst, append-nil, append_assoc}
-use Rattle.m4_state.specs.Device.{with_bytes, HasPut, HasBegun}
+use Rattle.std.proofs.Common.{◌≡◌, ◌<◌, ◌≤◌, ℕ, List, [], ◌∷◌, ◌++◌, Option, Some, None, refl, sym, ap, ◌∙◌, subst, append-nil, append_assoc, arith}
+use Rattle.m4_state.specs.Device.{with_bytes, HasBegun}
 use Rattle.m4_input.specs.Pending.{Pending}
 use Rattle.m4_input.specs.Input.{Held}
 use Rattle.m4_engine.specs.declared.ending.Cause.{Cause}
@@ -9,13 +9,14 @@ use Rattle.m4_engine.specs.declared.turned.Turned.{Turned}
 use Rattle.m4_engine.specs.declared.turned.Turned.TheVariants as turns
 use Rattle.m4_engine.specs.Nesting.{Outcome, Halted, Closed, then_on}
 use Rattle.m4_engine.specs.OpenCalls.{resume}
-use Rattle.m4_engine.specs.Expansion.{Call, RunSoFar, Expansion, Kept, Ended, Ends}
+use Rattle.m4_engine.specs.Expansion.{Call, Expansion, Kept, Ended, Ends}
 use Rattle.m4_engine.specs.Expand.{turn, join, expand, expansion_of, ended_of}
-use Rattle.m4_engine.specs.Engine.{Engine, so_far_of, mode_of, outer_of, here_of, configuration, handed_on, moved, IsReady, Moves}
-use Rattle.m4_engine.specs.Expands.{made_before, comes_to, Expanded, Broken, Expands, HandsOn, IsIdle}
+use Rattle.m4_engine.specs.Engine.{Engine, so_far_of, outer_of, here_of, configuration, handed_on, moved, IsReady, Moves, Passes}
+use Rattle.m4_engine.specs.Expands.{made_before, comes_to, Expanded, Broken, Expands, HandsOn, HandsOnSome, IsIdle}
 use Rattle.m4_engine.proofs.Begins.{with_both, begun_behind}
 use Rattle.m4_engine.proofs.Growth.{Extends, made_out}
-use Rattle.m4_engine.proofs.LoopKeeps.{turns_of, move_falls, meaning_of, move_means, moved_on, end_means}
+use Rattle.m4_engine.proofs.LoopKeeps.{turns_of, move_falls, meaning_of, some_means, moved_on, end_means}
+use Rattle.m4_engine.proofs.Passing.{passes_reaches, passes_ready, passes_limits}
 use Rattle.m4_engine.proofs.OnlyGrows.{extends_same, extends_more, whole_keeps, list_keeps}
 
 -- so much was handed on of what the expansion comes to, and the machine stands where the rest of it does
@@ -44,16 +45,30 @@ begins e i out told d r = record {
   limits = refl;
 }
 
+-- tokens that stand for themselves were put out at once
+pub passed : (e0 e e1 : Engine) (p0 : Pending) (i i1 : Held) (out0 told0 out told : Option (List ℕ)) → Running e0 p0 out0 told0 e i out told → Passes e e1 i i1 → Running e0 p0 out0 told0 e1 i1 out told
+passed e0 e e1 p0 i i1 out0 told0 out told r h = record {
+  o = r.o;
+  m = r.m;
+  output = r.output;
+  messages = r.messages;
+  means = (passes_reaches e e1 i i1 r.ready h).means r.o r.m ∙ r.means;
+  ready = passes_ready e e1 i i1 r.ready h;
+  limits = passes_limits e e1 i i1 h ∙ r.limits;
+}
+
 -- a turn after which it goes on
-pub goes_on : (e0 e e' : Engine) (p0 : Pending) (i i' : Held) (out0 told0 out told out' told' : Option (List ℕ)) → Running e0 p0 out0 told0 e i out told → Moves e' i'.pending turns.GoesOn (λ o m. moved (configuration o m e i.pending)) → IsReady i' → e'.limits ≡ e.limits → out' ≡ with_bytes out e'.output → told' ≡ with_bytes told e'.messages → Running e0 p0 out0 told0 (handed_on e') i' out' told'
-goes_on e0 e e' p0 i i' out0 told0 out told out' told' r h q l f g = record {
-  o = r.o ++ e'.output;
-  m = r.m ++ e'.messages;
-  output = f ∙ ap (λ x. with_bytes x e'.output) r.output ∙ with_both out0 r.o e'.output;
-  messages = g ∙ ap (λ x. with_bytes x e'.messages) r.messages ∙ with_both told0 r.m e'.messages;
-  means = move_means e e' i.pending i'.pending r.o r.m h ∙ r.means;
+goes_on : (e0 e e' e2 : Engine) (p0 : Pending) (i i' : Held) (out0 told0 out told out' told' : Option (List ℕ)) → Running e0 p0 out0 told0 e i out told → Moves e' i'.pending turns.GoesOn (λ o m. moved (configuration o m e i.pending)) → IsReady i' → e'.limits ≡ e.limits → HandsOnSome e' e2 out out' told told' → Running e0 p0 out0 told0 e2 i' out' told'
+goes_on e0 e e' e2 p0 i i' out0 told0 out told out' told' r h q l f = record {
+  o = r.o ++ f.front;
+  m = r.m ++ f.told;
+  output = f.output ∙ ap (λ x. with_bytes x f.front) r.output ∙ with_both out0 r.o f.front;
+  messages = f.messages ∙ ap (λ x. with_bytes x f.told) r.messages ∙ with_both told0 r.m f.told;
+  means =
+      some_means e' e2 i'.pending r.o r.m f.front f.told f.held
+      ∙ moved_on e e' i.pending i'.pending r.o r.m h ∙ r.means;
   ready = q;
-  limits = l ∙ r.limits;
+  limits = sym (ap (λ (d : Engine). d.limits) f.held) ∙ l ∙ r.limits;
 }
 
 -- between two inputs the machine stands where an input's expansion begins
@@ -152,12 +167,12 @@ ended e0 e e' e2 p0 p' i out0 told0 out told out' told' t cause d r h k j l f g 
     subst (λ (x : Engine). Expands e0 x p0 out0 out' told0 told' cause) (sym j)
     (ends e0 e e' p0 p' i out0 told0 out told out' told' cause d r (subst (λ (x : Turned). Moves e' p' x (λ o m. moved (configuration o m e i.pending))) k h) l f g)
 
-pub went_on : (e0 e e' e2 : Engine) (p0 : Pending) (i i' : Held) (out0 told0 out told out' told' : Option (List ℕ)) (t : Turned) → Running e0 p0 out0 told0 e i out told → Moves e' i'.pending t (λ o m. moved (configuration o m e i.pending)) → t ≡ turns.GoesOn → e2 ≡ handed_on e' → IsReady i' → e'.limits ≡ e.limits → out' ≡ with_bytes out e'.output → told' ≡ with_bytes told e'.messages → Running e0 p0 out0 told0 e2 i' out' told'
-went_on e0 e e' e2 p0 i i' out0 told0 out told out' told' t r h k j q l f g =
-    subst (λ (x : Engine). Running e0 p0 out0 told0 x i' out' told') (sym j)
-    (goes_on e0 e e' p0 i i' out0 told0 out told out' told' r (subst (λ (x : Turned). Moves e' i'.pending x (λ o m. moved (configuration o m e i.pending))) k h) q l f g)
+pub went_on : (e0 e e' e2 : Engine) (p0 : Pending) (i i' : Held) (out0 told0 out told out' told' : Option (List ℕ)) (t : Turned) → Running e0 p0 out0 told0 e i out told → Moves e' i'.pending t (λ o m. moved (configuration o m e i.pending)) → t ≡ turns.GoesOn → IsReady i' → e'.limits ≡ e.limits → HandsOnSome e' e2 out out' told told' → Running e0 p0 out0 told0 e2 i' out' told'
+went_on e0 e e' e2 p0 i i' out0 told0 out told out' told' t r h k q l f =
+    goes_on e0 e e' e2 p0 i i' out0 told0 out told out' told' r (subst (λ (x : Turned). Moves e' i'.pending x (λ o m. moved (configuration o m e i.pending))) k h) q l f
 
-pub fell : (e e' e2 : Engine) (p p' : Pending) (t : Turned) → Moves e' p' t (λ o m. moved (configuration o m e p)) → t ≡ turns.GoesOn → e2 ≡ handed_on e' → turns_of e2 p' < turns_of e p
-fell e e' e2 p p' t h k j =
-    subst (λ (x : Engine). turns_of x p' < turns_of e p) (sym j)
-    (move_falls e e' p p' (subst (λ (x : Turned). Moves e' p' x (λ o m. moved (configuration o m e p))) k h))
+pub fell : (e e1 e' e2 : Engine) (i i1 : Held) (p' : Pending) (out out' told told' : Option (List ℕ)) (t : Turned) → IsReady i → Passes e e1 i i1 → Moves e' p' t (λ o m. moved (configuration o m e1 i1.pending)) → t ≡ turns.GoesOn → HandsOnSome e' e2 out out' told told' → turns_of e2 p' < turns_of e i.pending
+fell e e1 e' e2 i i1 p' out out' told told' t q w h k f =
+    let a : turns_of e2 p' < turns_of e1 i1.pending = move_falls e1 e' e2 i1.pending p' f.front f.told f.held (subst (λ (x : Turned). Moves e' p' x (λ o m. moved (configuration o m e1 i1.pending))) k h) in
+    let b : turns_of e1 i1.pending ≤ turns_of e i.pending = (passes_reaches e e1 i i1 q w).turns in
+    omega arith

@@ -1,11 +1,15 @@
 -- Engine: a run as the machine holds it between two turns, and the steps of a turn.
 -- Not believed: it stands between the code and `Expand`, tied to it by the turns' lemmas.
 use Rattle.std.specs.Fmt.{decimal}
-use Rattle.std.specs.Prelude.{◌≡◌, codes, nat_lt, ◌&&◌, suc, Option, Some, None, ℕ, Bool, true, false, List, [], ◌∷◌, ◌++◌, length}
+use Rattle.std.specs.Prelude.{◌≡◌, codes, nat_lt, ◌&&◌, suc, Option, Some, None, ℕ, pos, Bool, true, false, List, [], ◌∷◌, ◌++◌, length, take, ◌⊎◌}
 use Rattle.m4_state.specs.declared.definition.Def.{Def}
-use Rattle.m4_state.specs.State.{State, appended}
-use Rattle.m4_input.specs.Pending.{Pending}
+use Rattle.m4_state.specs.declared.definition.Def.TheVariants.{Text}
+use Rattle.m4_state.specs.State.{State, appended, top_of}
+use Rattle.m4_input.specs.Pending.{Pending, text_of, consumed}
+use Rattle.m4_input.specs.Plain.{total, ArePlain}
 use Rattle.m4_builtins.specs.declared.place.Place.{Place}
+use Rattle.m4_builtins.specs.declared.args.Arg.{Arg}
+use Rattle.m4_builtins.specs.Subst.{subst}
 use Rattle.m4_builtins.specs.Messages.{dropped}
 use Rattle.m4_engine.specs.Expansion.{Call, Limits, RunSoFar, Mode, Outside, Collecting, Kept, Expansion, Ended, Ends, issued}
 use Rattle.m4_state.specs.Definition.{IsDefinition}
@@ -13,6 +17,8 @@ use Rattle.m4_input.specs.declared.token.Token.{Token}
 use Rattle.m4_input.specs.declared.token.Token.TheVariants.{Definition}
 use Rattle.m4_input.specs.Input.{Held}
 use Rattle.m4_engine.specs.declared.ending.Cause.TheVariants as causes
+use Rattle.m4_engine.specs.declared.meaning.Meaning.{Meaning}
+use Rattle.m4_engine.specs.declared.meaning.Meaning.TheVariants as meanings
 use Rattle.m4_engine.specs.declared.turned.Turned.{Turned}
 use Rattle.m4_engine.specs.declared.turned.Turned.TheVariants as turns
 use Rattle.m4_engine.specs.Args.{dropped_if_any, with_argument, end_argument}
@@ -215,3 +221,25 @@ IsMade (turns.Ends causes.Read) = ⊥
 IsMade (turns.Ends causes.Write) = ⊥
 IsMade (turns.Ends causes.OutOfMemory) = ⊥
 IsMade t = Unit {0}
+
+-- outside of calls and of diversions, with nothing in front of the text: its first tokens, which stand
+-- for themselves, were put out
+pub record PassesPlain (old new : Engine) (i j : Held) : Type 0 where
+  pub lens : List ℕ
+  pub plain : ArePlain old.state lens (text_of i.pending)
+  pub outside : old.open_calls ≡ []
+  pub undiverted : (old.state).current ≡ pos 0
+  pub first : (i.pending).definition ≡ None
+  pub engine : new ≡ record old { output = old.output ++ take (total lens) (text_of i.pending) }
+  pub input : j ≡ record i { pending = consumed (total lens) i.pending }
+
+-- such tokens were put out, or nothing was done
+abbrev pub Passes : Engine → Engine → Held → Held → Type 0
+Passes old new i j = ((new ≡ old) × (j ≡ i)) ⊎ PassesPlain old new i j
+
+-- what a name stands for, where `bare` says that a text may be called with no list
+abbrev pub IsMeaning : Meaning → Bool → State → List ℕ → List Arg → Type 0
+IsMeaning meanings.Nothing bare s name list = top_of s name ≡ None
+IsMeaning (meanings.Expansion x) bare s name list =
+    (bare ≡ true) × (text : List ℕ) × (top_of s name ≡ Some (Text text)) × (x ≡ subst text name list s.quotes)
+IsMeaning (meanings.Definition d) bare s name list = (top_of s name ≡ Some d) × IsDefinition d

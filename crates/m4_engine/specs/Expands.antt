@@ -1,8 +1,8 @@
 -- Expands: what the expansion of an input leaves, over writers.
 -- Believed: it says by the definition `expand_input` what was written and what is left.
--- Manual: "How m4 copies input to output". Words: Expanded, Broken, Expands.
-use Rattle.std.specs.Prelude.{◌≡◌, ℕ, List, [], Option}
-use Rattle.m4_state.specs.Device.{with_bytes, HasBegun}
+-- Manual: "How m4 copies input to output". Words: Expanded, Broken, Expands, Failures, FailsBy.
+use Rattle.std.specs.Prelude.{◌≡◌, ℕ, List, [], ◌++◌, Option, Result, Ok, Err, ◌⊎◌}
+use Rattle.m4_state.specs.Device.{with_bytes, HasBegun, one_more}
 use Rattle.m4_input.specs.Pending.{Pending}
 use Rattle.m4_engine.specs.declared.ending.Cause.{Cause}
 use Rattle.m4_engine.specs.declared.ending.Cause.TheVariants as causes
@@ -46,10 +46,45 @@ Expands old new p out_old out_new told_old told_new causes.Write = Broken (comes
 Expands old new p out_old out_new told_old told_new causes.OutOfMemory = Broken (comes_to old p) out_old out_new told_old told_new
 Expands old new p out_old out_new told_old told_new cause = Expanded old new (comes_to old p) cause out_old out_new told_old told_new
 
+-- how often the writers of output and of messages have failed, before a call and behind it
+pub record Failures : Type 0 where
+  pub out_old : ℕ
+  pub out_new : ℕ
+  pub told_old : ℕ
+  pub told_new : ℕ
+
+-- no writer failed in the call
+abbrev pub NoneFailed : Failures → Type 0
+NoneFailed f = (f.out_new ≡ f.out_old) × (f.told_new ≡ f.told_old)
+
+-- one writer failed in the call, once
+abbrev pub OneFailed : Failures → Type 0
+OneFailed f =
+    ((f.out_new ≡ one_more f.out_old) × (f.told_new ≡ f.told_old))
+    ⊎ ((f.out_new ≡ f.out_old) × (f.told_new ≡ one_more f.told_old))
+
+-- a call fails where a writer failed in it
+abbrev pub FailsOnce : {A E : Type 0} → Result A E → Failures → Type 0
+FailsOnce (Ok x) f = NoneFailed f
+FailsOnce (Err e) f = OneFailed f
+
+-- an expansion ends by a write fault where a writer failed in it
+abbrev pub FailsBy : Cause → Failures → Type 0
+FailsBy causes.Write f = OneFailed f
+FailsBy cause f = NoneFailed f
+
 -- what is handed on of an engine's output and messages
 abbrev pub HandsOn : List ℕ → List ℕ → Option (List ℕ) → Option (List ℕ) → Option (List ℕ) → Option (List ℕ) → Type 0
 HandsOn output messages out_old out_new told_old told_new =
     HasBegun out_old out_new output × HasBegun told_old told_new messages
+
+-- a beginning of an engine's output and messages was handed on, and the rest is still held
+pub record HandsOnSome (old new : Engine) (out_old out_new told_old told_new : Option (List ℕ)) : Type 0 where
+  pub front : List ℕ
+  pub told : List ℕ
+  pub held : old ≡ record new { output = front ++ new.output; messages = told ++ new.messages }
+  pub output : out_new ≡ with_bytes out_old front
+  pub messages : told_new ≡ with_bytes told_old told
 
 -- an engine between two inputs
 pub record IsIdle (e : Engine) : Type 0 where

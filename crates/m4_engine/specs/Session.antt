@@ -1,19 +1,19 @@
 -- Session: a run between two of its calls, and what each call does to it.
 -- Believed. Manual: "Command line files", "Invoking m4".
 -- Words: Standing, progress_of, written, fresh_standing, IsOpen, Filed, FileGives, MissingGives,
--- FinishGives.
+-- FinishGives, WriteFails, TellFails.
 -- A session is a run's progress without what was written; what is written goes to the writers.
 use Rattle.std.specs.Prelude.{◌≡◌, ℕ, Bool, true, false, List, [], ◌∷◌, Option, Some, None, Result, Ok, Err, ◌⊎◌}
 use Rattle.m4_state.specs.State.{State}
 use Rattle.m4_state.specs.Fresh.{fresh}
-use Rattle.m4_state.specs.Device.{Script, after_bytes, IsAtEnd, IsAtFault, with_bytes, HasBegun}
+use Rattle.m4_state.specs.Device.{Script, after_bytes, IsAtEnd, IsAtFault, with_bytes, HasBegun, one_more}
 use Rattle.m4_engine.specs.declared.ending.Cause.{Cause}
 use Rattle.m4_engine.specs.declared.ending.Cause.TheVariants as causes
 use Rattle.m4_engine.specs.declared.options.Options.{Options}
 use Rattle.m4_engine.specs.declared.stop.Stop.{Stop}
 use Rattle.m4_engine.specs.declared.stop.Stop.TheVariants as stops
 use Rattle.m4_engine.specs.Expansion.{Limits, How, Ends}
-use Rattle.m4_engine.specs.Expands.{Broken}
+use Rattle.m4_engine.specs.Expands.{Broken, Failures, NoneFailed, OneFailed}
 use Rattle.m4_engine.specs.File.{Opened, Unopened, Progress, file, after_source, cannot_open}
 use Rattle.m4_engine.specs.Wraps.{after_wraps}
 use Rattle.m4_engine.specs.Run.{limits_of, status_of, closed_output, result_of}
@@ -120,6 +120,20 @@ FileGives name before behind old new w (Err (stops.Ended causes.OutOfMemory)) =
     FileBroke name before behind old new w causes.OutOfMemory
 FileGives name before behind old new w (Err (stops.Ended cause)) =
     FileDone name before behind old new w (Some cause)
+
+-- a call ends the run by a write fault where a writer failed in it
+abbrev pub WriteFails : {A : Type 0} → Result A Stop → Failures → Type 0
+WriteFails (Ok done) f = NoneFailed f
+WriteFails (Err stops.Finished) f = NoneFailed f
+WriteFails (Err (stops.Ended causes.Write)) f = OneFailed f
+WriteFails (Err (stops.Ended cause)) f = NoneFailed f
+
+-- the same of a call with one writer, which has failed so often before and behind it
+abbrev pub TellFails : Result Unit Stop → ℕ → ℕ → Type 0
+TellFails (Ok done) old new = new ≡ old
+TellFails (Err stops.Finished) old new = new ≡ old
+TellFails (Err (stops.Ended causes.Write)) old new = new ≡ one_more old
+TellFails (Err (stops.Ended cause)) old new = new ≡ old
 
 -- the status where a run stands so
 abbrev pub how_by : Option Cause → How

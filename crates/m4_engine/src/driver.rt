@@ -1,10 +1,10 @@
-//! The expansion of an input, turn by turn, whose output and messages are handed on as they arise.
-//! Manual: "How m4 copies input to output".
+//! The expansion of an input, turn by turn. Messages are handed on as they arise, and output once a
+//! block of it is held. Manual: "How m4 copies input to output".
 
 ghost use Rattle.std.specs.Prelude.{◌≡◌, OnOk, OnErr};
 ghost use Rattle.m4_state.specs.Device.{with_bytes};
 ghost use Rattle.m4_engine.specs.Engine.{IsReady, handed_on};
-ghost use Rattle.m4_engine.specs.Expands.{Expands, HandsOn, IsIdle, at_rest};
+ghost use Rattle.m4_engine.specs.Expands.{Expands, FailsBy, FailsOnce, HandsOn, HandsOnSome, IsIdle, at_rest};
 
 use crate::ending::Cause;
 use crate::machine::Machine;
@@ -12,6 +12,10 @@ use crate::turned::{TurnFault, Turned};
 use m4_input::input::Input;
 use m4_state::device::{ByteSink, ByteSource, DeviceFault};
 use m4_state::transfer::put_all;
+use std::alloc::AllocError;
+
+/// How many bytes of output are held, at most, beside those of one turn.
+pub(crate) const BLOCK: usize = 65536;
 
 impl Machine {
     /// Hands on what was put out: the messages first.
@@ -26,6 +30,7 @@ impl Machine {
         ensures messages { OnOk result (M.contents messages.new ≡ with_bytes (M.contents messages.old) self.old.messages) }
         ensures begun { OnErr result (HandsOn self.old.output self.old.messages
             (O.contents out.old) (O.contents out.new) (M.contents messages.old) (M.contents messages.new)) }
+        ensures counted { FailsOnce result (record { out_old = O.failures out.old; out_new = O.failures out.new; told_old = M.failures messages.old; told_new = M.failures messages.new }) }
     {
         put_all(messages, &self.messages)?;
         self.messages.clear();
@@ -34,8 +39,27 @@ impl Machine {
         Ok(())
     }
 
-    /// The expansion of an input of which nothing more is read, to its end: what it puts out is written
-    /// as it arises.
+    /// Hands on what was put out where a message is there, or a block of output.
+    #[tactic(auto, using(crate::proofs::Begins::some_none, crate::proofs::Begins::some_all))]
+    fn hand_on_due<O: ByteSink, M: ByteSink>(
+        &mut self,
+        out: &mut O,
+        messages: &mut M,
+    ) -> Result<(), DeviceFault>
+        ensures some { OnOk result (HandsOnSome self.old self.new
+            (O.contents out.old) (O.contents out.new) (M.contents messages.old) (M.contents messages.new)) }
+        ensures begun { OnErr result (HandsOn self.old.output self.old.messages
+            (O.contents out.old) (O.contents out.new) (M.contents messages.old) (M.contents messages.new)) }
+        ensures counted { FailsOnce result (record { out_old = O.failures out.old; out_new = O.failures out.new; told_old = M.failures messages.old; told_new = M.failures messages.new }) }
+    {
+        if !self.messages.is_empty() || self.output.len() >= BLOCK {
+            self.hand_on(out, messages)?;
+        }
+        Ok(())
+    }
+
+    /// The expansion of an input of which nothing more is read, to its end. What it puts out is
+    /// written: messages as they arise, output in blocks and at the end.
     pub fn expand<R: ByteSource, O: ByteSink, M: ByteSink>(
         &mut self,
         input: &mut Input,
@@ -48,18 +72,28 @@ impl Machine {
         ensures expands { Expands self.old self.new input.old.pending (O.contents out.old) (O.contents out.new)
             (M.contents messages.old) (M.contents messages.new) result }
         ensures unread { result ≡ Cause.Read → ⊥ }
+        ensures counted { FailsBy result (record { out_old = O.failures out.old; out_new = O.failures out.new; told_old = M.failures messages.old; told_new = M.failures messages.new }) }
     {
         'turns: loop {
+            if let Err(AllocError) = self.pass_plain(input) {
+                return Cause::OutOfMemory;
+            }
             let turned = match self.turn(input, reader) {
                 Ok(turned) => turned,
                 Err(TurnFault::OutOfMemory) => return Cause::OutOfMemory,
             };
-            if let Err(DeviceFault) = self.hand_on(out, messages) {
-                return Cause::Write;
-            }
             match turned {
-                Turned::GoesOn => {}
-                Turned::Ends(cause) => return cause,
+                Turned::GoesOn => {
+                    if let Err(DeviceFault) = self.hand_on_due(out, messages) {
+                        return Cause::Write;
+                    }
+                }
+                Turned::Ends(cause) => {
+                    return match self.hand_on(out, messages) {
+                        Ok(()) => cause,
+                        Err(DeviceFault) => Cause::Write,
+                    };
+                }
             }
         }
     }

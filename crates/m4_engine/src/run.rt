@@ -5,8 +5,9 @@ ghost use Rattle.std.specs.Prelude.{◌≡◌, Bool, false, [], None, List, Err,
 ghost use Rattle.m4_engine.specs.File.{Source as Said, after_source, after_sources};
 ghost use Rattle.m4_engine.specs.Run.{run as defined, status_of};
 ghost use Rattle.m4_engine.specs.Expansion.{Ends};
+ghost use Rattle.m4_engine.specs.Expands.{FailsBy};
 ghost use Rattle.m4_engine.specs.Told.{StandFor, StandsFor, any_failed, has_failed, are_taken, is_taken};
-ghost use Rattle.m4_engine.specs.Session.{IsOpen, IsLeft, GoesTo, progress_of, status_at};
+ghost use Rattle.m4_engine.specs.Session.{IsOpen, IsLeft, GoesTo, WriteFails, progress_of, status_at};
 ghost use Rattle.m4_engine.specs.WholeRun.{RunGives, result_behind, ending_by};
 
 use crate::ending::{Cause, Ending};
@@ -43,6 +44,8 @@ pub fn run<R: ByteSource, O: ByteSink, M: ByteSink, Z: ByteSink>(
     ensures status { (missed : Bool) × (result.status ≡ status_of (Ends result.cause) missed) }
     // a read fault comes only where a reader failed
     ensures read { result.cause ≡ Cause.Read → any_failed R.failures sources.old sources.new }
+    // a write fault comes only where a writer failed
+    ensures write { FailsBy result.cause (record { out_old = O.failures out.old; out_new = O.failures out.new; told_old = M.failures messages.old; told_new = M.failures messages.new }) }
     // whole run: each reader gave a beginning of what it tells
     ensures taken { are_taken R.script sources.old sources.new }
     ensures unfrozen { Z.contents freeze_to.new ≡ Z.contents freeze_to.old }
@@ -90,6 +93,7 @@ fn read_to_end<R: ByteSource, O: ByteSink, M: ByteSink>(
     ensures left { IsLeft session.new result }
     ensures read { result ≡ Err (Stop.Ended Cause.Read) → any_failed R.failures sources.old sources.new }
     ensures taken { are_taken R.script sources.old sources.new }
+    ensures write { WriteFails result (record { out_old = O.failures out.old; out_new = O.failures out.new; told_old = M.failures messages.old; told_new = M.failures messages.new }) }
 {
     read_sources(session, sources, out, messages)?;
     let wrapped = session.wrapped();
@@ -113,6 +117,7 @@ fn read<R: ByteSource, O: ByteSink, M: ByteSink>(
         result }
     ensures read { result ≡ Err (Stop.Ended Cause.Read) → has_failed R.failures source.old source.new }
     ensures taken { is_taken R.script source.old source.new }
+    ensures write { WriteFails result (record { out_old = O.failures out.old; out_new = O.failures out.new; told_old = M.failures messages.old; told_new = M.failures messages.new }) }
 {
     match source {
         Source::Opened { name, reader } => {
@@ -143,6 +148,7 @@ fn read_sources<R: ByteSource, O: ByteSink, M: ByteSink>(
     ensures unfinished { OnOk result (IsOpen session.new) }
     ensures read { result ≡ Err (Stop.Ended Cause.Read) → any_failed R.failures sources.old sources.new }
     ensures taken { are_taken R.script sources.old sources.new }
+    ensures write { WriteFails result (record { out_old = O.failures out.old; out_new = O.failures out.new; told_old = M.failures messages.old; told_new = M.failures messages.new }) }
 {
     'sources: for source in sources.iter_mut() {
         read(session, source, out, messages)?;

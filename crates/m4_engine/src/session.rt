@@ -2,9 +2,9 @@
 //! Manual: "Command line files", "Invoking m4".
 
 ghost use Rattle.std.specs.Prelude.{◌≡◌, true, false, Some, Err, IfOk, IfErr};
-ghost use Rattle.m4_state.specs.Device.{Puts, one_more};
+ghost use Rattle.m4_state.specs.Device.{Puts, count_after, one_more};
 ghost use Rattle.m4_engine.specs.Wraps.{close};
-ghost use Rattle.m4_engine.specs.Session.{Standing, IsOpen, answer_by, over_behind, fresh_standing, FileGives, MissingGives, FinishGives, is_saved, status_at};
+ghost use Rattle.m4_engine.specs.Session.{Standing, IsOpen, answer_by, over_behind, fresh_standing, FileGives, MissingGives, FinishGives, WriteFails, TellFails, is_saved, status_at};
 
 use crate::ending::Cause;
 use crate::machine::Machine;
@@ -92,6 +92,8 @@ impl Session {
             result }
         // a read fault comes only where the reader failed
         ensures read { result ≡ Err (Stop.Ended Cause.Read) → R.failures reader.new ≡ one_more (R.failures reader.old) }
+        // a write fault comes only where a writer failed
+        ensures write { WriteFails result (record { out_old = O.failures out.old; out_new = O.failures out.new; told_old = M.failures messages.old; told_new = M.failures messages.new }) }
     {
         if !self.is_open() {
             return Err(Stop::Finished);
@@ -139,7 +141,9 @@ impl Session {
     /// beginning of what is told.
     pub fn missing<M: ByteSink>(&mut self, name: &[u8], messages: &mut M) -> Result<(), Stop>
         // session steps: the unopened source, with its message written
-        ensures { MissingGives name.now self.old self.new (M.contents messages.old) (M.contents messages.new) result }
+        ensures gives { MissingGives name.now self.old self.new (M.contents messages.old) (M.contents messages.new) result }
+        // a write fault comes only where a writer failed
+        ensures write { TellFails result (M.failures messages.old) (M.failures messages.new) }
     {
         if !self.is_open() {
             return Err(Stop::Finished);
@@ -159,9 +163,11 @@ impl Session {
         messages: &mut M,
     ) -> Result<(), Stop>
         // session steps: the saved texts, then the diversions
-        ensures { FinishGives self.old self.new
+        ensures gives { FinishGives self.old self.new
             (record { out_old = O.contents out.old; out_new = O.contents out.new; told_old = M.contents messages.old; told_new = M.contents messages.new })
             result }
+        // a write fault comes only where a writer failed
+        ensures write { WriteFails result (record { out_old = O.failures out.old; out_new = O.failures out.new; told_old = M.failures messages.old; told_new = M.failures messages.new }) }
     {
         let _ = messages;
         if !self.is_open() {
@@ -185,7 +191,8 @@ impl Session {
 
 /// Issues the diversions by rising number, each one as it is taken out.
 fn issue<O: ByteSink>(state: &mut State, out: &mut O) -> Result<(), DeviceFault>
-    ensures { Puts result (O.contents out.old) (O.contents out.new) (close state.old) }
+    ensures puts { Puts result (O.contents out.old) (O.contents out.new) (close state.old) }
+    ensures counted { O.failures out.new ≡ count_after result (O.failures out.old) }
 {
     while let Some((_, text)) = state.take_least() {
         put_all(out, &text)?;

@@ -1,7 +1,7 @@
 //! One turn of an expansion: the first token of what is pending, and what it does.
 //! Manual: "Macro invocation", "Macro arguments", "How m4 copies input to output".
 
-ghost use Rattle.std.specs.Prelude.{◌≡◌, ◌<◌, nat_lt, suc, [], ◌∷◌, ◌++◌, None, Ok, IfOk, OnOk, IfSome, true, length, codes};
+ghost use Rattle.std.specs.Prelude.{◌≡◌, ◌<◌, nat_lt, suc, List, ℕ, [], ◌∷◌, ◌++◌, None, Ok, IfOk, OnOk, IfSome, true, false, length, codes};
 ghost use Rattle.std.specs.Fmt.{decimal};
 ghost use Rattle.m4_state.specs.State.{top_of};
 ghost use Rattle.m4_input.specs.Paren.{paren_at};
@@ -9,22 +9,27 @@ ghost use Rattle.m4_input.specs.Token.{Refused};
 ghost use Rattle.m4_builtins.specs.Messages.{error};
 ghost use Rattle.m4_input.specs.Input.{Held, answer_of};
 ghost use Rattle.m4_input.specs.Pending.{Pending, line_of, consumed};
-ghost use Rattle.m4_engine.specs.Engine.{Moves, IsFront, IsMade, IsToken, IsReady, moved, configuration, Stays, with_made, ending_argument, telling, counting, calls_text, nested_text, is_deep_in, IfHead, mode_of, close_in, step, here_of, outer_of, called_within};
+ghost use Rattle.m4_engine.specs.Engine.{Moves, IsFront, IsMade, IsToken, IsReady, moved, configuration, Stays, with_made, ending_argument, telling, counting, calls_text, nested_text, is_deep_in, IfHead, IsMeaning, mode_of, close_in, step, here_of, outer_of, called_within};
 ghost use Rattle.m4_builtins.specs.Act.{IsPushed};
+ghost use Rattle.m4_builtins.specs.Subst.{subst};
+ghost use Rattle.m4_state.specs.declared.definition.Def.TheVariants.{Text};
 ghost use Rattle.m4_engine.specs.Nesting.{Closed};
-ghost use Rattle.m4_engine.specs.Expansion.{Expansion, reading};
+ghost use Rattle.m4_engine.specs.Expansion.{Call, Expansion, reading};
 ghost use Rattle.m4_engine.specs.Expand.{skip_or_push, take_token, take_front, take_name, take_other, take_end, call as call_turn, call_of, needs_list};
 
 use crate::call::OpenCall;
 use crate::ending::Cause;
 use crate::machine::Machine;
+use crate::meaning::Meaning;
 use crate::role::Role;
 use crate::turned::{TurnFault, Turned};
 use itoa::Buffer;
 use m4_builtins::act::act;
+use m4_builtins::args::{ArgList, Args};
 use m4_builtins::effect::Effect;
 use m4_builtins::messages::{dropped_message, error_message};
 use m4_builtins::place::Place;
+use m4_builtins::substitute::substitute;
 use m4_input::delims::Delims;
 use m4_input::fault::InputFault;
 use m4_input::front::{Answer, Unended};
@@ -34,7 +39,6 @@ use m4_input::token::Token;
 use m4_state::bytes::Bytes;
 use m4_state::definition::Def;
 use m4_state::device::ByteSource;
-use std::alloc::AllocError;
 
 /// Whether a definition is recognised only with parameters.
 fn needs_list(definition: &Def) -> bool
@@ -320,30 +324,73 @@ impl Machine {
         ensures limits { OnOk result (self.new.limits ≡ self.old.limits) }
         ensures made { IfOk result IsMade }
     {
-        let Some(definition) = self.definition(name.as_slice())? else {
-            self.put_text(name.as_slice())?;
-            return Ok(Turned::GoesOn);
-        };
         let listed = self.sees_list(input, reader)?;
+        let list = ArgList::from(Vec::new(self.alloc));
+        let args = Args { name, list };
+        let definition = match self.meaning(&args, self.may_expand(listed))? {
+            Meaning::Nothing => {
+                self.put_text(args.name.as_slice())?;
+                return Ok(Turned::GoesOn);
+            }
+            Meaning::Expansion(text) => return self.take_expansion(text, input, reader),
+            Meaning::Definition(definition) => definition,
+        };
         if !listed && needs_list(&definition) {
-            self.put_text(name.as_slice())?;
+            self.put_text(args.name.as_slice())?;
             return Ok(Turned::GoesOn);
         }
+        let Args { name, .. } = args;
         let file = Bytes::from_slice(self.alloc, input.name())?;
         let call = OpenCall::new(self.alloc, definition, name, Place { file, line });
         self.take_call(call, listed, input, reader)
     }
 
-    /// The definition on top of a name.
-    fn definition(&self, name: &[u8]) -> Result<Option<Def>, AllocError>
-        ensures value { IfOk result (λ d. d ≡ top_of self.now.state name.now) }
-        ensures valid { IfOk result (λ d. IsFront d) }
+    /// Whether a call can be made with no list, within the limits.
+    fn may_expand(&self, listed: bool) -> bool
+        ensures { result ≡ true → (listed ≡ false)
+            × (nat_lt self.now.calls self.now.limits.calls ≡ true) × (is_deep_in self.now ≡ false) }
+    {
+        !listed && self.has_room() && !self.is_deep()
+    }
+
+    /// What a name stands for. Of a text that is called with no list it is what the call gives, with
+    /// no copy of the text.
+    fn meaning(&self, args: &Args, bare: bool) -> Result<Meaning, TurnFault>
+        ensures { IfOk result (λ v. IsMeaning v bare self.now.state args.now.name args.now.list) }
     {
         let _in_order = self.state.current();
-        match self.state.top(name) {
-            None => Ok(None),
-            Some(definition) => Ok(Some(definition.share()?)),
+        match self.state.top(args.name.as_slice()) {
+            None => Ok(Meaning::Nothing),
+            Some(Def::Text(text)) if bare => {
+                let text = substitute(self.alloc, text.as_slice(), args, self.state.quotes())?;
+                Ok(Meaning::Expansion(text))
+            }
+            Some(definition) => Ok(Meaning::Definition(definition.share()?)),
         }
+    }
+
+    /// What a call with no list gives, for a definition that is a text.
+    fn take_expansion<R: ByteSource>(
+        &mut self,
+        text: Bytes,
+        input: &mut Input,
+        reader: &mut R,
+    ) -> Result<Turned, TurnFault>
+        requires ready { IsReady input.old }
+        requires taken { input.old.pending.definition ≡ None }
+        requires room { nat_lt self.old.calls self.old.limits.calls ≡ true }
+        requires shallow { is_deep_in self.old ≡ false }
+        ensures moves { (c : Call) (x : List ℕ) → c.definition ≡ Text x → text ≡ subst x c.name c.done self.old.state.quotes
+            → IfOk result (λ t. (before : Pending) → Moves self.new input.new.pending t
+            (λ o m. step (outer_of self.old.open_calls) (call_turn false c input.old.pending (here_of o m self.old before)))) }
+        ensures ready { result ≡ Ok Turned.GoesOn → Stays input.old input.new }
+        ensures limits { OnOk result (self.new.limits ≡ self.old.limits) }
+        ensures made { IfOk result IsMade }
+    {
+        self.count();
+        self.put_effect(b"", b"")?;
+        read_on(input, reader, false, Some(Pushed::Text(text)))?;
+        Ok(Turned::GoesOn)
     }
 
     /// Whether an argument list follows.

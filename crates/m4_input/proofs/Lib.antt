@@ -4,3 +4,4 @@ pub mod Scans
 pub mod Parts
 pub mod Lines
 pub mod Calls
+pub mod PlainRuns

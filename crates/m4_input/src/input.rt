@@ -6,10 +6,10 @@
 //!
 //! Contracts see `Held` (`specs/Input.antt`). Manual: "How m4 copies input to output".
 
-ghost use Rattle.std.specs.Prelude.{◌≡◌, Some, None, OnOk, OnErr, IfErr, IfSome, Err, true, false};
+ghost use Rattle.std.specs.Prelude.{◌≡◌, ◌≤◌, Some, None, OnOk, OnErr, IfErr, IfSome, Err, true, false, length};
 ghost use Rattle.m4_state.specs.Device.{Script};
 ghost use Rattle.m4_input.specs.DelimsView.{pair_of};
-ghost use Rattle.m4_input.specs.Pending.{line_of, name_of};
+ghost use Rattle.m4_input.specs.Pending.{consumed, line_of, name_of, text_of};
 
 use crate::delims::Delims;
 use crate::fault::InputFault;
@@ -83,6 +83,29 @@ impl Input {
             Some(name) => name.as_slice(),
             None => &[],
         }
+    }
+
+    /// The bytes that are pending, where they lie in one piece; none where a definition stands in
+    /// front of them, and perhaps where a call has pushed text.
+    pub fn piece(&self) -> Option<&[u8]>
+        ensures text { IfSome result (λ x. x.now ≡ text_of self.now.pending) }
+        ensures first { IfSome result (λ x. self.now.pending.definition ≡ None) }
+    {
+        if self.definition.is_some() {
+            return None;
+        }
+        self.text.piece()
+    }
+
+    /// Takes the first n bytes away, of an input that was read whole.
+    pub fn consume(&mut self, n: usize)
+        requires closed { self.old.pending.may_follow ≡ false }
+        requires within { n ≤ length (text_of self.old.pending) }
+        // exact steps: what is left behind so many bytes
+        ensures { self.new ≡ record self.old { pending = consumed n self.old.pending } }
+    {
+        self.definition = None;
+        self.text.consume(n);
     }
 
     /// Puts a value in front, to be read before everything else. `OutOfMemory` where a growth is

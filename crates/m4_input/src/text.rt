@@ -3,7 +3,7 @@
 //! The pushed bytes stand with the last byte first, so that pushing and taking cost what they are
 //! long. The file stays where it is, and only the place up to which it is read moves on.
 
-ghost use Rattle.std.specs.Prelude.{◌≡◌, ◌≤◌, ◌++◌, [], OnOk, OnErr, length};
+ghost use Rattle.std.specs.Prelude.{◌≡◌, ◌≤◌, ◌++◌, [], IfSome, OnOk, OnErr, length};
 ghost use Rattle.m4_input.specs.Pending.{newlines_in};
 
 use crate::window::Window;
@@ -76,6 +76,17 @@ impl Text {
         ensures { result ≡ text_in self.now }
     {
         Window::new(&self.pushed, self.file.split_at(self.at).1)
+    }
+
+    /// The bytes, where they lie in one piece: no text is pushed.
+    pub fn piece(&self) -> Option<&[u8]>
+        ensures { IfSome result (λ x. x.now ≡ text_in self.now) }
+    {
+        if self.pushed.is_empty() {
+            Some(self.file.split_at(self.at).1)
+        } else {
+            None
+        }
     }
 
     /// Puts text in front. A refusal leaves all as it was.

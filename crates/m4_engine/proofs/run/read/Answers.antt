@@ -9,4 +9,4 @@ pub returns-in-Ok-clause-goes : goal.returns-in-Ok-clause-goes
 returns-in-Ok-clause-goes g c = λ s e. opened_stands g.R.ByteSource.script c.args.session.now c.file.new.self c.in-Ok.name c.in-Opened.reader c.file.new.reader _ _ _ c.file.result s (search rules) (search rules) c.requires e c.file.ensures.gives
 
 pub returns-in-Unopened-clause-goes : goal.returns-in-Unopened-clause-goes
-returns-in-Unopened-clause-goes g c = λ s e. unopened_stands g.R.ByteSource.script c.args.session.now c.missing.new.self c.as_slice.result.now _ _ _ c.missing.result s (search rules) c.requires e refl c.missing.ensures
+returns-in-Unopened-clause-goes g c = λ s e. unopened_stands g.R.ByteSource.script c.args.session.now c.missing.new.self c.as_slice.result.now _ _ _ c.missing.result s (search rules) c.requires e refl c.missing.ensures.gives

@@ -10,7 +10,7 @@ returns-in_err-read_sources-clause-gives g c = λ ss s.
 
 pub returns-in_err-finish-clause-gives : goal.returns-in_err-finish-clause-gives
 returns-in_err-finish-clause-gives g c = λ ss s.
-    late_so c.args.session.now.limits ss (after_sources c.args.session.now.limits ss (progress_of c.args.session.now)) c.args.session.now c.read_sources.new.session c.finish.new.self _ _ _ _ _ _ refl (c.in_ok-read_sources.ensures.goes ss s) c.in_err-finish.field-0.0 c.finish.result c.from_residual-in_err-finish.result (search rules) (search rules) c.in_ok-read_sources.ensures.unfinished c.finish.ensures
+    late_so c.args.session.now.limits ss (after_sources c.args.session.now.limits ss (progress_of c.args.session.now)) c.args.session.now c.read_sources.new.session c.finish.new.self _ _ _ _ _ _ refl (c.in_ok-read_sources.ensures.goes ss s) c.in_err-finish.field-0.0 c.finish.result c.from_residual-in_err-finish.result (search rules) (search rules) c.in_ok-read_sources.ensures.unfinished c.finish.ensures.gives
 
 pub returns-clause-gives : goal.returns-clause-gives
 returns-clause-gives g c = λ ss s.

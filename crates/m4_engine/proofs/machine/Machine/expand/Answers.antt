@@ -1,24 +1,46 @@
-use Rattle.std.proofs.Common.{rules}
-use Rattle.m4_engine.proofs.Running.{begins, went_on, fell, ended, breaks, write_breaks}
+use Rattle.std.proofs.Common.{rules, refl, ◌∙◌}
+use Rattle.m4_engine.proofs.Running.{begins, passed, went_on, fell, ended, breaks, write_breaks}
+use Rattle.m4_engine.proofs.Passing.{passes_ready}
 use Rattle.m4_engine.proofs.machine.Machine.expand.Goals as goal
 
 pub turns-init : goal.turns-init
-turns-init g c = begins c.args.self.now c.args.input.now _ _ c.requires.idle c.requires.ready
+turns-init g c = record { runs = begins c.args.self.now c.args.input.now _ _ c.requires.idle c.requires.ready; out = refl; told = refl }
 
-pub turn-requires : goal.turn-requires
-turn-requires g c = c.turns.invariant.ready
-
-pub returns-in-Err-OutOfMemory-clause-expands : goal.returns-in-Err-OutOfMemory-clause-expands
-returns-in-Err-OutOfMemory-clause-expands g c = breaks c.args.self.now c.turns.self c.args.input.now.pending c.turns.input _ _ _ _ c.requires.idle c.turns.invariant
+pub pass_plain-requires : goal.pass_plain-requires
+pass_plain-requires g c = c.turns.invariant.runs.ready
 
 pub returns-in-Err-clause-expands : goal.returns-in-Err-clause-expands
-returns-in-Err-clause-expands g c = write_breaks c.args.self.now c.turns.self c.turn.new.self c.args.input.now.pending c.turn.new.input.pending c.turns.input c.in-Ok.turned _ _ _ _ _ _ c.requires.idle c.turns.invariant c.in-Ok.ensures.moves c.in-Err.ensures.begun
+returns-in-Err-clause-expands g c = breaks c.args.self.now c.turns.self c.args.input.now.pending c.turns.input _ _ _ _ c.requires.idle c.turns.invariant.runs
 
-pub returns-in-Ends-clause-expands : goal.returns-in-Ends-clause-expands
-returns-in-Ends-clause-expands g c = ended c.args.self.now c.turns.self c.turn.new.self c.hand_on.new.self c.args.input.now.pending c.turn.new.input.pending c.turns.input _ _ _ _ _ _ c.in-Ok.turned c.in-Ends.cause c.requires.idle c.turns.invariant c.in-Ok.ensures.moves c.in-Ends.is c.in_default.ensures.engine c.in-Ok.ensures.limits c.in_default.ensures.output c.in_default.ensures.messages
+pub turn-requires : goal.turn-requires
+turn-requires g c = passes_ready c.turns.self c.pass_plain.new.self c.turns.input c.pass_plain.new.input c.turns.invariant.runs.ready c.in_default.ensures
+
+pub returns-in-Err-OutOfMemory-clause-expands : goal.returns-in-Err-OutOfMemory-clause-expands
+returns-in-Err-OutOfMemory-clause-expands g c = breaks c.args.self.now c.turns.self c.args.input.now.pending c.turns.input _ _ _ _ c.requires.idle c.turns.invariant.runs
+
+pub returns-in-Err-hand_on_due-clause-expands : goal.returns-in-Err-hand_on_due-clause-expands
+returns-in-Err-hand_on_due-clause-expands g c =
+    let r = passed c.args.self.now c.turns.self c.pass_plain.new.self c.args.input.now.pending c.turns.input c.pass_plain.new.input _ _ _ _ c.turns.invariant.runs c.in_default.ensures in
+    write_breaks c.args.self.now c.pass_plain.new.self c.turn.new.self c.args.input.now.pending c.turn.new.input.pending c.pass_plain.new.input c.in-Ok.turned _ _ _ _ _ _ c.requires.idle r c.in-Ok.ensures.moves c.in-Err-hand_on_due.ensures.begun
+
+pub returns-in-Err-hand_on-clause-expands : goal.returns-in-Err-hand_on-clause-expands
+returns-in-Err-hand_on-clause-expands g c =
+    let r = passed c.args.self.now c.turns.self c.pass_plain.new.self c.args.input.now.pending c.turns.input c.pass_plain.new.input _ _ _ _ c.turns.invariant.runs c.in_default.ensures in
+    write_breaks c.args.self.now c.pass_plain.new.self c.turn.new.self c.args.input.now.pending c.turn.new.input.pending c.pass_plain.new.input c.in-Ok.turned _ _ _ _ _ _ c.requires.idle r c.in-Ok.ensures.moves c.in-Err-hand_on.ensures.begun
+
+pub returns-in-Ok-hand_on-clause-expands : goal.returns-in-Ok-hand_on-clause-expands
+returns-in-Ok-hand_on-clause-expands g c =
+    let r = passed c.args.self.now c.turns.self c.pass_plain.new.self c.args.input.now.pending c.turns.input c.pass_plain.new.input _ _ _ _ c.turns.invariant.runs c.in_default.ensures in
+    ended c.args.self.now c.pass_plain.new.self c.turn.new.self c.hand_on.new.self c.args.input.now.pending c.turn.new.input.pending c.pass_plain.new.input _ _ _ _ _ _ c.in-Ok.turned c.in-Ends.cause c.requires.idle r c.in-Ok.ensures.moves c.in-Ends.is c.in-Ok-hand_on.ensures.engine c.in-Ok.ensures.limits c.in-Ok-hand_on.ensures.output c.in-Ok-hand_on.ensures.messages
 
 pub turns-smaller : goal.turns-smaller
-turns-smaller g c = fell c.turns.self c.turn.new.self c.hand_on.new.self c.turns.input.pending c.turn.new.input.pending c.in-Ok.turned c.in-Ok.ensures.moves c.in-GoesOn.is c.in_default.ensures.engine
+turns-smaller g c = fell c.turns.self c.pass_plain.new.self c.turn.new.self c.hand_on_due.new.self c.turns.input c.pass_plain.new.input c.turn.new.input.pending _ _ _ _ c.in-Ok.turned c.turns.invariant.runs.ready c.in_default.ensures c.in-Ok.ensures.moves c.in-GoesOn.is c.in_default-hand_on_due.ensures.some
 
 pub turns-preserved : goal.turns-preserved
-turns-preserved g c = went_on c.args.self.now c.turns.self c.turn.new.self c.hand_on.new.self c.args.input.now.pending c.turns.input c.turn.new.input _ _ _ _ _ _ c.in-Ok.turned c.turns.invariant c.in-Ok.ensures.moves c.in-GoesOn.is c.in_default.ensures.engine (search rules) c.in-Ok.ensures.limits c.in_default.ensures.output c.in_default.ensures.messages
+turns-preserved g c =
+    let r = passed c.args.self.now c.turns.self c.pass_plain.new.self c.args.input.now.pending c.turns.input c.pass_plain.new.input _ _ _ _ c.turns.invariant.runs c.in_default.ensures in
+    record {
+      runs = went_on c.args.self.now c.pass_plain.new.self c.turn.new.self c.hand_on_due.new.self c.args.input.now.pending c.pass_plain.new.input c.turn.new.input _ _ _ _ _ _ c.in-Ok.turned r c.in-Ok.ensures.moves c.in-GoesOn.is (search rules) c.in-Ok.ensures.limits c.in_default-hand_on_due.ensures.some;
+      out = c.in_default-hand_on_due.ensures.counted.0 ∙ c.turns.invariant.out;
+      told = c.in_default-hand_on_due.ensures.counted.1 ∙ c.turns.invariant.told;
+    }

@@ -1,0 +1,127 @@
+-- Passing: tokens that stand for themselves are put out at once as turns would put them out.
+use Rattle.std.proofs.Common.{◌≡◌, inl, inr, ℕ, ℤ, pos, ◌+◌, ◌-◌, ◌<◌, ◌≤◌, false, List, [], ◌∷◌, ◌++◌, Option, None, take, drop, length, refl, sym, ap, ◌∙◌, subst, arith, append-nil, append_assoc, add-zero, length-drop}
+use Rattle.std.proofs.Math.Seq.{take-add}
+use Rattle.std.proofs.lemmas.List.{drop-drop}
+use Rattle.m4_state.specs.declared.definition.Def.{Def}
+use Rattle.m4_state.specs.State.{State}
+use Rattle.m4_input.specs.declared.front.Scan.{Scan}
+use Rattle.m4_input.specs.declared.token.Token.TheVariants.{Name, Byte}
+use Rattle.m4_input.specs.declared.front.Scan.TheVariants.{Found}
+use Rattle.m4_input.specs.Pending.{Pending, text_of, consumed, newlines_in}
+use Rattle.m4_input.specs.Token.{front_by, front_from, scan, token_at}
+use Rattle.m4_input.specs.Plain.{IsPlain, total, ArePlain}
+use Rattle.m4_input.specs.Input.{Held}
+use Rattle.m4_input.proofs.Parts.{drop_parts, newlines_further}
+use Rattle.m4_engine.specs.declared.turned.Turned.TheVariants as turns
+use Rattle.m4_engine.specs.Nesting.{Turn, GoOn}
+use Rattle.m4_engine.specs.OpenCalls.{take_turn}
+use Rattle.m4_engine.specs.Expansion.{Call, Expansion, Kept, Ended, reading, put_text}
+use Rattle.m4_engine.specs.Expand.{turn, join, take_front, take_name}
+use Rattle.m4_engine.specs.Engine.{Engine, here_of, configuration, moved, IsReady, Moves, PassesPlain, Passes}
+use Rattle.m4_engine.proofs.LoopKeeps.{turns_of, turn_falls, meaning_of, moved_on}
+
+-- an engine outside of calls and of diversions
+abbrev at_top : Engine → Engine
+at_top e = record e { state = record e.state { current = pos 0 }; open_calls = [] }
+
+abbrev with_output : List ℕ → Engine → Engine
+with_output x e = record e { output = e.output ++ x }
+
+-- the token at the front, where nothing stands before the text
+found_at : (s : State) (p : Pending) (v : Scan) → p.definition ≡ None → p.may_follow ≡ false → scan s.quotes s.comments false (text_of p) ≡ v → token_at s.quotes s.comments p ≡ front_by p v
+found_at s p v d f e =
+    ap (λ o. front_from o s.quotes s.comments p) d
+    ∙ ap (λ b. front_by p (scan s.quotes s.comments b (text_of p))) f
+    ∙ ap (front_by p) e
+
+-- a turn puts out such a token
+plain_turn : (e : Engine) (p : Pending) (n : ℕ) → p.definition ≡ None → p.may_follow ≡ false → IsPlain e.state n (text_of p) → (o m : List ℕ) → turn (here_of o m (at_top e) p) ≡ GoOn (put_text (take n (text_of p)) (reading (consumed n p) (here_of o m (at_top e) p)))
+plain_turn e p n d f (inl h) o m =
+    ap (λ v. take_front v (here_of o m (at_top e) p)) (found_at e.state p (Found (Name (take n (text_of p))) n) d f h.0)
+    ∙ ap (λ v. take_name v (take n (text_of p)) (consumed n p) (here_of o m (at_top e) p)) h.1
+plain_turn e p n d f (inr h) o m =
+    ap (λ v. take_front v (here_of o m (at_top e) p)) (found_at e.state p (Found (Byte h.0) n) d f h.1)
+    ∙ ap (λ (x : List ℕ). let t : Turn Expansion Kept Ended = GoOn (put_text x (reading (consumed n p) (here_of o m (at_top e) p))) in t) (sym h.2)
+
+plain_moves : (e : Engine) (p : Pending) (n : ℕ) → p.definition ≡ None → p.may_follow ≡ false → IsPlain e.state n (text_of p) → Moves (with_output (take n (text_of p)) (at_top e)) (consumed n p) turns.GoesOn (λ o m. moved (configuration o m (at_top e) p))
+plain_moves e p n d f h = λ o m.
+    ap (take_turn Expansion Kept Ended turn join []) (plain_turn e p n d f h o m)
+    ∙ (rw (append_assoc o e.output (take n (text_of p))) refl)
+
+consumed_none : (p : Pending) → p.definition ≡ None → consumed 0 p ≡ p
+consumed_none p d =
+    let none : 0 - length p.pushed ≡ 0 = omega arith in
+    ap (λ m. let q : Pending = record p { definition = None; unread = drop m p.unread; newlines = p.newlines + newlines_in (take m p.unread) } in q) none
+    ∙ ap (λ m. let q : Pending = record p { definition = None; newlines = m } in q) (add-zero p.newlines)
+    ∙ ap (λ (o : Option Def). let q : Pending = record p { definition = o } in q) (sym d)
+
+consumed_twice : (n k : ℕ) (p : Pending) → consumed k (consumed n p) ≡ consumed (n + k) p
+consumed_twice n k p =
+    let a = n - length p.pushed in
+    let b = k - length (drop n p.pushed) in
+    let long : length (drop n p.pushed) ≡ length p.pushed - n = length-drop n p.pushed in
+    let both : a + b ≡ (n + k) - length p.pushed = omega arith in
+    let further : newlines_in (take (a + b) p.unread) ≡ newlines_in (take a p.unread) + newlines_in (take b (drop a p.unread)) = newlines_further p.unread a b in
+    let count : (p.newlines + newlines_in (take a p.unread)) + newlines_in (take b (drop a p.unread)) ≡ p.newlines + newlines_in (take (a + b) p.unread) = omega arith in
+    ap (λ (x : List ℕ). let q : Pending = record p { definition = None; pushed = x; unread = drop b (drop a p.unread); newlines = (p.newlines + newlines_in (take a p.unread)) + newlines_in (take b (drop a p.unread)) } in q) (drop-drop k n p.pushed)
+    ∙ ap (λ (x : List ℕ). let q : Pending = record p { definition = None; pushed = drop (n + k) p.pushed; unread = x; newlines = (p.newlines + newlines_in (take a p.unread)) + newlines_in (take b (drop a p.unread)) } in q) (drop-drop b a p.unread)
+    ∙ ap (λ m. let q : Pending = record p { definition = None; pushed = drop (n + k) p.pushed; unread = drop (a + b) p.unread; newlines = m } in q) count
+    ∙ ap (λ m. let q : Pending = record p { definition = None; pushed = drop (n + k) p.pushed; unread = drop m p.unread; newlines = p.newlines + newlines_in (take m p.unread) } in q) both
+
+-- the rest of an expansion is the same, in no more turns
+pub record Reaches (e : Engine) (p : Pending) (e1 : Engine) (p1 : Pending) : Type 0 where
+  pub means : (o m : List ℕ) → meaning_of o m e1 p1 ≡ meaning_of o m e p
+  pub turns : turns_of e1 p1 ≤ turns_of e p
+
+nothing_reaches : (e : Engine) (p : Pending) → Reaches e p e p
+nothing_reaches e p = record { means = λ o m. refl; turns = omega arith }
+
+move_reaches : (e e1 e2 : Engine) (p p1 p2 : Pending) → Moves e1 p1 turns.GoesOn (λ o m. moved (configuration o m e p)) → Reaches e1 p1 e2 p2 → Reaches e p e2 p2
+move_reaches e e1 e2 p p1 p2 h r =
+    let f : turns_of e1 p1 < turns_of e p = turn_falls e e1 p p1 h in
+    let g : turns_of e2 p2 ≤ turns_of e1 p1 = r.turns in
+    record { means = λ o m. r.means o m ∙ moved_on e e1 p p1 o m h; turns = omega arith }
+
+-- what is put out for a token and for those behind it
+both_put : (n k : ℕ) (e : Engine) (p : Pending) → with_output (take k (text_of (consumed n p))) (with_output (take n (text_of p)) e) ≡ with_output (take (n + k) (text_of p)) e
+both_put n k e p =
+    ap (λ (x : List ℕ). with_output (take k x) (with_output (take n (text_of p)) e)) (sym (drop_parts n p.pushed p.unread))
+    ∙ ap (λ (x : List ℕ). let d : Engine = record e { output = x } in d)
+    (append_assoc e.output (take n (text_of p)) (take k (drop n (text_of p))) ∙ ap (λ (x : List ℕ). e.output ++ x) (sym (take-add n k (text_of p))))
+
+run_reaches : (lens : List ℕ) (e : Engine) (p : Pending) → p.definition ≡ None → p.may_follow ≡ false → ArePlain e.state lens (text_of p) → Reaches (at_top e) p (with_output (take (total lens) (text_of p)) (at_top e)) (consumed (total lens) p)
+run_reaches [] e p d f h =
+    subst (λ (q : Pending). Reaches (at_top e) p (with_output [] (at_top e)) q) (sym (consumed_none p d))
+    (subst (λ (x : List ℕ). Reaches (at_top e) p (record (at_top e) { output = x }) p) (sym (append-nil e.output)) (nothing_reaches (at_top e) p))
+run_reaches (n ∷ lens) e p d f h =
+    let e1 : Engine = with_output (take n (text_of p)) (at_top e) in
+    let r = run_reaches lens e1 (consumed n p) refl f (subst (ArePlain e.state lens) (drop_parts n p.pushed p.unread) h.1) in
+    move_reaches (at_top e) e1 _ p (consumed n p) _ (plain_moves e p n d f h.0)
+    (subst (λ (x : Engine). Reaches e1 (consumed n p) x (consumed (n + total lens) p)) (both_put n (total lens) (at_top e) p)
+    (subst (λ (q : Pending). Reaches e1 (consumed n p) (with_output (take (total lens) (text_of (consumed n p))) e1) q) (consumed_twice n (total lens) p) r))
+
+-- the engine is at its top where it says so
+top_is : (e : Engine) → e.open_calls ≡ [] → (e.state).current ≡ pos 0 → at_top e ≡ e
+top_is e h k =
+    ap (λ (x : List Call). let d : Engine = record e { state = record e.state { current = pos 0 }; open_calls = x } in d) (sym h)
+    ∙ ap (λ (n : ℤ). let d : Engine = record e { state = record e.state { current = n } } in d) (sym k)
+
+plain_reaches : (e e1 : Engine) (i i1 : Held) → IsReady i → PassesPlain e e1 i i1 → Reaches e i.pending e1 i1.pending
+plain_reaches e e1 i i1 r h =
+    let t = run_reaches h.lens e i.pending h.first r.closed h.plain in
+    let x = subst (λ (d : Engine). Reaches d i.pending (with_output (take (total h.lens) (text_of i.pending)) d) (consumed (total h.lens) i.pending)) (top_is e h.outside h.undiverted) t in
+    subst (λ (d : Engine). Reaches e i.pending d i1.pending) (sym h.engine)
+    (subst (λ (j : Held). Reaches e i.pending (with_output (take (total h.lens) (text_of i.pending)) e) j.pending) (sym h.input) x)
+
+pub passes_reaches : (e e1 : Engine) (i i1 : Held) → IsReady i → Passes e e1 i i1 → Reaches e i.pending e1 i1.pending
+passes_reaches e e1 i i1 r (inl h) =
+    subst (λ (d : Engine). Reaches e i.pending d i1.pending) (sym h.0) (subst (λ (j : Held). Reaches e i.pending e j.pending) (sym h.1) (nothing_reaches e i.pending))
+passes_reaches e e1 i i1 r (inr h) = plain_reaches e e1 i i1 r h
+
+pub passes_ready : (e e1 : Engine) (i i1 : Held) → IsReady i → Passes e e1 i i1 → IsReady i1
+passes_ready e e1 i i1 r (inl h) = subst IsReady (sym h.1) r
+passes_ready e e1 i i1 r (inr h) = subst IsReady (sym h.input) (record { sound = r.sound; closed = r.closed; front = tt })
+
+pub passes_limits : (e e1 : Engine) (i i1 : Held) → Passes e e1 i i1 → e1.limits ≡ e.limits
+passes_limits e e1 i i1 (inl h) = ap (λ (d : Engine). d.limits) h.0
+passes_limits e e1 i i1 (inr h) = ap (λ (d : Engine). d.limits) h.engine

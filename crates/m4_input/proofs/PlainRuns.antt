@@ -1,0 +1,21 @@
+-- PlainRuns: tokens that stand for themselves, one behind the other.
+use Rattle.std.proofs.Common.{◌≡◌, ℕ, ◌+◌, List, [], ◌∷◌, ◌++◌, drop, refl, sym, ap, ◌∙◌, subst, arith}
+use Rattle.std.proofs.lemmas.List.{drop-drop}
+use Rattle.m4_state.specs.State.{State}
+use Rattle.m4_input.specs.Plain.{IsPlain, total, ArePlain, IsPlainRun}
+
+-- a token more
+longer : (s : State) (n : ℕ) (lens x : List ℕ) → ArePlain s lens x → IsPlain s n (drop (total lens) x) → ArePlain s (lens ++ n ∷ []) x × (total (lens ++ n ∷ []) ≡ total lens + n)
+longer s n [] x a p = ((p, tt), omega arith)
+longer s n (m ∷ lens) x a p =
+    let r = longer s n lens (drop m x) a.1 (subst (IsPlain s n) (sym (drop-drop (total lens) m x)) p) in
+    let t : total (lens ++ n ∷ []) ≡ total lens + n = r.1 in
+    ((a.0, r.0), omega arith)
+
+pub plain_none : (s : State) (x : List ℕ) → IsPlainRun s 0 x
+plain_none s x = ([], tt, refl)
+
+pub plain_more : (s : State) (k n : ℕ) (x : List ℕ) → IsPlainRun s k x → IsPlain s n (drop k x) → IsPlainRun s (k + n) x
+plain_more s k n x r p =
+    let q = longer s n r.0 x r.1 (subst (λ (m : ℕ). IsPlain s n (drop m x)) (sym r.2) p) in
+    (r.0 ++ n ∷ [], q.0, q.1 ∙ ap (λ (m : ℕ). m + n) r.2)
