@@ -42,9 +42,9 @@ pub fn run<R: ByteSource, O: ByteSink, M: ByteSink, Z: ByteSink>(
         (record { out_old = O.contents out.old; out_new = O.contents out.new; told_old = M.contents messages.old; told_new = M.contents messages.new }) }
     // whole run: the status of its cause
     ensures status { (missed : Bool) × (result.status ≡ status_of (Ends result.cause) missed) }
-    // a read fault comes only where a reader failed
+    // safe and total: a read fault comes only where a reader failed in this call
     ensures read { result.cause ≡ Cause.Read → any_failed R.failures sources.old sources.new }
-    // a write fault comes only where a writer failed
+    // safe and total: a write fault comes only where a writer failed in this call
     ensures write { FailsBy result.cause (record { out_old = O.failures out.old; out_new = O.failures out.new; told_old = M.failures messages.old; told_new = M.failures messages.new }) }
     // whole run: each reader gave a beginning of what it tells
     ensures taken { are_taken R.script sources.old sources.new }

@@ -47,7 +47,8 @@ impl Session {
     pub fn fresh(alloc: Global, options: Options) -> Result<Session, Stop>
         requires { options.prefix ≡ false }
         // session steps: the fresh state, with nothing read
-        ensures { IfOk result (λ s. s ≡ fresh_standing options) }
+        ensures fresh { IfOk result (λ s. s ≡ fresh_standing options) }
+        ensures refused { IfErr result (λ stop. stop ≡ Stop.Ended Cause.OutOfMemory) }
     {
         let Ok(state) = State::fresh(alloc, options.prefix) else {
             return Err(Stop::Ended(Cause::OutOfMemory));
@@ -90,9 +91,9 @@ impl Session {
         ensures gives { FileGives name (R.script reader.old) (R.script reader.new) self.old self.new
             (record { out_old = O.contents out.old; out_new = O.contents out.new; told_old = M.contents messages.old; told_new = M.contents messages.new })
             result }
-        // a read fault comes only where the reader failed
+        // safe and total: a read fault comes only where the reader failed in this call
         ensures read { result ≡ Err (Stop.Ended Cause.Read) → R.failures reader.new ≡ one_more (R.failures reader.old) }
-        // a write fault comes only where a writer failed
+        // safe and total: a write fault comes only where a writer failed in this call
         ensures write { WriteFails result (record { out_old = O.failures out.old; out_new = O.failures out.new; told_old = M.failures messages.old; told_new = M.failures messages.new }) }
     {
         if !self.is_open() {
@@ -142,7 +143,7 @@ impl Session {
     pub fn missing<M: ByteSink>(&mut self, name: &[u8], messages: &mut M) -> Result<(), Stop>
         // session steps: the unopened source, with its message written
         ensures gives { MissingGives name.now self.old self.new (M.contents messages.old) (M.contents messages.new) result }
-        // a write fault comes only where a writer failed
+        // safe and total: a write fault comes only where a writer failed in this call
         ensures write { TellFails result (M.failures messages.old) (M.failures messages.new) }
     {
         if !self.is_open() {
@@ -166,7 +167,7 @@ impl Session {
         ensures gives { FinishGives self.old self.new
             (record { out_old = O.contents out.old; out_new = O.contents out.new; told_old = M.contents messages.old; told_new = M.contents messages.new })
             result }
-        // a write fault comes only where a writer failed
+        // safe and total: a write fault comes only where a writer failed in this call
         ensures write { WriteFails result (record { out_old = O.failures out.old; out_new = O.failures out.new; told_old = M.failures messages.old; told_new = M.failures messages.new }) }
     {
         let _ = messages;
