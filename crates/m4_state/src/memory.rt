@@ -86,6 +86,7 @@ impl MemSink {
         requires { 0 < at_most }
         ensures contents { IfOk result (λ s. ⟦<MemSink as ByteSink>⟧.contents s ≡ Some []) }
         ensures failures { IfOk result (λ s. ⟦<MemSink as ByteSink>⟧.failures s ≡ 0) }
+        ensures room { IfOk result (λ s. (s.room ≡ room) × (s.at_most ≡ at_most)) }
     {
         Ok(MemSink {
             held: Vec::with_capacity(alloc, room)?,
