@@ -1,6 +1,6 @@
 -- InputView: what the fields of an input stand for, and what the parts of its calls do.
 -- Not believed: it only bridges the code and specs/Input.antt.
--- Words: view_of, IsUnread, IsLasting, IsHeld, unread_again, Fills, fault_of, Takes.
+-- Words: view_of, IsUnread, IsHeld, unread_again, Fills, fault_of, Takes.
 use Rattle.std.specs.Prelude.{◌≡◌, ℕ, true, false, List, [], Option, Some, None, Result, Ok, Err, IfSome}
 use Rattle.m4_state.specs.Device.{Script}
 use Rattle.m4_state.specs.declared.delimiters.Delimiters.{Delimiters}
@@ -11,7 +11,7 @@ use Rattle.m4_input.specs.declared.front.Unended.TheVariants.{InString, InCommen
 use Rattle.m4_input.specs.declared.input.Input.TheInside.{Inside}
 use Rattle.m4_input.specs.declared.token.Token.{Token}
 use Rattle.m4_input.specs.Pending.{Pending}
-use Rattle.m4_input.specs.Input.{Held, Reads, Stopped, all_read}
+use Rattle.m4_input.specs.Input.{Held, Reads, IsLasting, Stopped, all_read}
 use Rattle.m4_input.specs.Token.{Taken, Refused, token_at}
 
 -- the fields, with the text's parts
@@ -32,13 +32,6 @@ view_of i = record {
 abbrev pub IsUnread : Pending → Type 0
 IsUnread p = (p.unread ≡ []) × (p.newlines ≡ 0)
 
--- a fault that is answered from now on
-abbrev pub IsLasting : InputFault → Type 0
-IsLasting (faults.EndInString line) = ⊥
-IsLasting (faults.EndInComment line) = ⊥
-IsLasting faults.Read = Unit {0}
-IsLasting faults.OutOfMemory = Unit {0}
-
 -- what is true of each input
 abbrev pub IsHeld : Held → Type 0
 IsHeld h =
@@ -55,7 +48,7 @@ Fills before behind old new (Ok done) =
     × ((new.pending).may_follow ≡ false) × (new.fault ≡ None)
     × ((old.pending).may_follow ≡ true → IsUnread old.pending)
 Fills before behind old new (Err fault) =
-    (x : List ℕ) × Stopped fault before behind old new x × IsLasting fault
+    (x : List ℕ) × Stopped fault before behind old new x
 
 -- the fault of what has no end
 abbrev pub fault_of : Unended → ℕ → InputFault

@@ -47,8 +47,8 @@ impl Model for Input {
 }
 
 impl Input {
-    ghost use Rattle.m4_input.specs.Input.{Held, unread_file, with_pushed, all_read, NextGives, ParenGives, SkipGives, WholeGives, failures_behind};
-    ghost use Rattle.m4_input.specs.InputView.{IsLasting, unread_again, fault_of, Fills, Takes};
+    ghost use Rattle.m4_input.specs.Input.{Held, IsLasting, unread_file, with_pushed, all_read, NextGives, ParenGives, SkipGives, WholeGives, failures_behind};
+    ghost use Rattle.m4_input.specs.InputView.{unread_again, fault_of, Fills, Takes};
 
     /// A file that is read from its start.
     pub fn file(alloc: Global, name: Bytes) -> Input
