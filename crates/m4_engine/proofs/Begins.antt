@@ -16,6 +16,10 @@ with_both (Some held) x y = ap Some (append_assoc held x y)
 pub nothing_begun : (o : Option (List ℕ)) (x : List ℕ) → HasBegun o o x
 nothing_begun o x = (x, record { front = []; parts = refl; holds = with_nothing o })
 
+-- a writer that has taken all has taken a beginning
+pub all_begun : (o a : Option (List ℕ)) (x : List ℕ) → a ≡ with_bytes o x → HasBegun o a x
+all_begun o a x e = ([], record { front = x; parts = sym (append-nil x); holds = e })
+
 -- what was put before, and a beginning of what comes behind it
 pub begun_behind : (o a b : Option (List ℕ)) (x y more all : List ℕ) → a ≡ with_bytes o x → HasBegun a b y → all ≡ (x ++ y) ++ more → HasBegun o b all
 begun_behind o a b x y more all e h f = (

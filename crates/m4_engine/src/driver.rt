@@ -18,7 +18,7 @@ use std::alloc::AllocError;
 pub(crate) const BLOCK: usize = 65536;
 
 impl Machine {
-    /// Hands on what was put out: the messages first.
+    /// Hands on what was put out: the output first, since more of it is held than of messages.
     #[tactic(auto, using(crate::proofs::Begins::nothing_begun))]
     fn hand_on<O: ByteSink, M: ByteSink>(
         &mut self,
@@ -32,10 +32,10 @@ impl Machine {
             (O.contents out.old) (O.contents out.new) (M.contents messages.old) (M.contents messages.new)) }
         ensures counted { FailsOnce result (record { out_old = O.failures out.old; out_new = O.failures out.new; told_old = M.failures messages.old; told_new = M.failures messages.new }) }
     {
-        put_all(messages, &self.messages)?;
-        self.messages.clear();
         put_all(out, &self.output)?;
         self.output.clear();
+        put_all(messages, &self.messages)?;
+        self.messages.clear();
         Ok(())
     }
 

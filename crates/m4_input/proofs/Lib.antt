@@ -5,3 +5,4 @@ pub mod Parts
 pub mod Lines
 pub mod Calls
 pub mod PlainRuns
+pub mod Pieces

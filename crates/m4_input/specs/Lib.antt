@@ -6,4 +6,6 @@ pub mod Plain
 pub mod Paren
 pub mod Input
 pub mod Text
+pub mod PieceView
+pub mod TextView
 pub mod InputView

@@ -1,10 +1,9 @@
 -- Text: the bytes that an input holds, as its code keeps them.
 -- Not believed: it only bridges the code and specs/Pending.antt. Words: HeldText, text_in,
--- text_behind, LiesIn, view_of.
-use Rattle.std.specs.Prelude.{ℕ, ◌+◌, ◌-◌, ◌≤◌, List, ◌++◌, length, take, drop, reverse}
+-- text_behind, LiesIn.
+use Rattle.std.specs.Prelude.{ℕ, ◌+◌, ◌-◌, ◌≤◌, List, ◌++◌, length, take, drop}
 use Rattle.m4_input.specs.declared.front.Scan.{Scan}
 use Rattle.m4_input.specs.declared.front.Scan.TheVariants.{Found, Broken, NeedsMore}
-use Rattle.m4_input.specs.declared.text.Text.TheInside.{Inside}
 use Rattle.m4_input.specs.Pending.{newlines_in}
 
 -- pushed text, then what is unread of a file; and the newlines of the file that were read
@@ -16,14 +15,6 @@ pub record HeldText : Type 0 where
 -- the bytes in their order
 abbrev pub text_in : HeldText → List ℕ
 text_in t = t.pushed ++ t.unread
-
--- what is left behind the first n bytes of the file
-abbrev pub file_behind : ℕ → HeldText → HeldText
-file_behind n t = record {
-  pushed = t.pushed;
-  unread = drop n t.unread;
-  newlines = t.newlines + newlines_in (take n t.unread);
-}
 
 -- what is left behind the first n bytes
 abbrev pub text_behind : ℕ → HeldText → HeldText
@@ -38,11 +29,3 @@ abbrev pub LiesIn : ℕ → Scan → Type 0
 LiesIn len (Found t n) = n ≤ len
 LiesIn len (Broken what) = Unit {0}
 LiesIn len NeedsMore = Unit {0}
-
--- the fields: the pushed bytes, the last byte first; the file's; and how many of these were read
-abbrev pub view_of : Inside → HeldText
-view_of t = record {
-  pushed = reverse t.pushed.items;
-  unread = drop t.at t.file.items;
-  newlines = t.newlines;
-}

@@ -248,7 +248,9 @@ impl Input {
                 if taken.failed {
                     return Err(self.stop(InputFault::Read));
                 }
-                self.text.set_file(taken.bytes);
+                if let Err(AllocError) = self.text.set_file(taken.bytes) {
+                    return Err(self.stop(InputFault::OutOfMemory));
+                }
                 self.may_follow = false;
                 Ok(())
             }
@@ -259,7 +261,7 @@ impl Input {
     fn forget_file(&mut self)
         ensures { self.new ≡ unread_again self.old }
     {
-        self.text.set_file(Vec::new(self.alloc));
+        self.text.drop_file();
         self.may_follow = true;
     }
 

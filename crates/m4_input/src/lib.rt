@@ -11,6 +11,7 @@ pub mod fault;
 mod follows;
 pub mod front;
 pub mod input;
+mod piece;
 pub mod plain;
 pub mod pushed;
 mod scan;

@@ -72,3 +72,6 @@ fn word_len(bytes: &[u8]) -> usize
     }
     k
 }
+
+#[cfg(test)]
+mod tests;

@@ -1,11 +1,12 @@
 //! The bytes that an input holds: text that calls have pushed, and then the bytes of one file.
 //!
-//! The pushed bytes stand with the last byte first, so that pushing and taking cost what they are
-//! long. The file stays where it is, and only the place up to which it is read moves on.
+//! Pushed text stands in one piece with the file's bytes where these leave room for it. Else it
+//! stands apart, with the last byte first, so that pushing and taking cost what it is long; and so
+//! does all that is pushed in front of it.
 
 ghost use Rattle.std.specs.Prelude.{◌≡◌, ◌≤◌, ◌++◌, [], IfSome, OnOk, OnErr, length};
-ghost use Rattle.m4_input.specs.Pending.{newlines_in};
 
+use crate::piece::Piece;
 use crate::window::Window;
 use std::alloc::{AllocError, Global};
 use std::marker::Model;
@@ -14,33 +15,20 @@ use std::marker::Model;
 #[derive(Drop)]
 pub struct Text {
     pushed: Vec<u8>,
-    file: Vec<u8>,
-    at: usize,
-    newlines: usize,
+    piece: Piece,
 }
 
 impl Model for Text {
-    ghost use Rattle.std.specs.Prelude.{◌≡◌, ◌≤◌, length, take};
-    ghost use Rattle.m4_input.specs.Pending.{newlines_in};
-    ghost use Rattle.m4_input.specs.Text.{HeldText, view_of};
+    ghost use Rattle.m4_input.specs.Text.{HeldText};
+    ghost use Rattle.m4_input.specs.TextView.{view_of};
 
     ghost Value = { HeldText };
 
     ghost view = { view_of };
-
-    ghost invariant = { λ t. (t.at ≤ length t.file.items)
-        × (t.newlines ≡ newlines_in (take t.at t.file.items)) };
-}
-
-/// How many newlines there are.
-fn count_newlines(bytes: &[u8]) -> usize
-    ensures { result ≡ newlines_in bytes.now }
-{
-    bytes.iter().filter(|b| **b == b'\n').count()
 }
 
 impl Text {
-    ghost use Rattle.m4_input.specs.Text.{text_in, text_behind, file_behind};
+    ghost use Rattle.m4_input.specs.Text.{text_in, text_behind};
 
     /// No bytes.
     pub fn new(alloc: Global) -> Text
@@ -48,42 +36,47 @@ impl Text {
     {
         Text {
             pushed: Vec::new(alloc),
-            file: Vec::new(alloc),
-            at: 0,
-            newlines: 0,
+            piece: Piece::new(alloc),
         }
     }
 
-    /// Has these bytes of a file in place of those that it had.
-    pub fn set_file(&mut self, bytes: Vec<u8>)
-        ensures { self.new
-            ≡ record { pushed = self.old.pushed; unread = bytes.items; newlines = 0 } }
+    /// Has these bytes of a file, where none of a file are left. A refusal leaves all as it was.
+    pub fn set_file(&mut self, bytes: Vec<u8>) -> Result<(), AllocError>
+        requires { self.old.unread ≡ [] }
+        ensures ok { OnOk result (self.new
+            ≡ record { pushed = self.old.pushed; unread = bytes.items; newlines = 0 }) }
+        ensures err { OnErr result (self.new ≡ self.old) }
     {
-        self.file = bytes;
-        self.at = 0;
-        self.newlines = 0;
+        self.piece.set_file(bytes)
+    }
+
+    /// Drops what is unread of the file, and counts none of its newlines.
+    pub fn drop_file(&mut self)
+        ensures { self.new ≡ record { pushed = self.old.pushed; unread = []; newlines = 0 } }
+    {
+        self.piece.drop_file();
     }
 
     /// How many newlines of the file were read.
     pub fn newlines(&self) -> usize
         ensures { result ≡ self.now.newlines }
     {
-        self.newlines
+        self.piece.newlines()
     }
 
     /// The bytes, seen from the front.
     pub fn window(&self) -> Window<'_>
         ensures { result ≡ text_in self.now }
     {
-        Window::new(&self.pushed, self.file.split_at(self.at).1)
+        Window::new(&self.pushed, self.piece.rest())
     }
 
-    /// The bytes, where they lie in one piece: no text is pushed.
+    /// The bytes, where they lie in one piece: no text stands apart.
     pub fn piece(&self) -> Option<&[u8]>
         ensures { IfSome result (λ x. x.now ≡ text_in self.now) }
     {
         if self.pushed.is_empty() {
-            Some(self.file.split_at(self.at).1)
+            Some(self.piece.rest())
         } else {
             None
         }
@@ -95,6 +88,9 @@ impl Text {
             (self.new ≡ record self.old { pushed = text.now ++ self.old.pushed }) }
         ensures err { OnErr result (self.new ≡ self.old) }
     {
+        if self.pushed.is_empty() && self.piece.push(text) {
+            return Ok(());
+        }
         let len = self.pushed.len();
         self.pushed.extend_from_slice(text)?;
         self.pushed.split_at_mut(len).1.reverse();
@@ -111,17 +107,7 @@ impl Text {
             self.pushed.truncate(len - n);
         } else {
             self.pushed.clear();
-            self.read(n - len);
+            self.piece.consume(n - len);
         }
-    }
-
-    /// Takes the first n bytes of the file away.
-    fn read(&mut self, n: usize)
-        requires { n ≤ length self.old.unread }
-        ensures { self.new ≡ file_behind n self.old }
-    {
-        let bytes = self.file.split_at(self.at).1.split_at(n).0;
-        self.newlines += count_newlines(bytes);
-        self.at += n;
     }
 }

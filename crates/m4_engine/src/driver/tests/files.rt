@@ -1,7 +1,8 @@
 //! Files that are read to their end without a message.
 
-use super::{USUAL, expands};
+use super::{USUAL, expands, file, machine};
 use crate::ending::Cause;
+use m4_state::memory::{MemSink, MemSource};
 use std::test::Fail;
 
 // A text, what it puts out, and how many calls it makes.
@@ -83,5 +84,22 @@ fn builtins_change_what_follows(rt: HostRuntime) -> Result<(), Fail> {
         let got = expands(rt.alloc(), USUAL, text, (output, b"", Cause::Done))?;
         assert_eq!(rt; got, (true, calls));
     }
+    Ok(())
+}
+
+#[test]
+fn more_than_a_block_of_text(rt: HostRuntime) -> Result<(), Fail> {
+    let mut text = Vec::new(rt.alloc());
+    for _ in 0..20000 {
+        text.extend_from_slice(b"a long text, ")?;
+    }
+    let mut machine = machine(rt.alloc(), USUAL)?;
+    let mut input = file(rt.alloc(), &text)?;
+    let mut reader = MemSource::new(b"", 1, false);
+    let mut out = MemSink::new(rt.alloc(), 300000, 5000)?;
+    let mut told = MemSink::new(rt.alloc(), 0, 1)?;
+    let cause = machine.expand(&mut input, &mut reader, &mut out, &mut told);
+    assert!(rt; cause == Cause::Done);
+    assert!(rt; out.written() == text.as_slice());
     Ok(())
 }

@@ -1,6 +1,6 @@
 //! What calls do to an input besides taking tokens.
 
-ghost use Rattle.std.specs.Prelude.{◌≡◌, None, OnOk};
+ghost use Rattle.std.specs.Prelude.{◌≡◌, None, IfOk, OnOk, false};
 
 use super::{default_delims, file, is};
 use crate::delims::Delims;
@@ -185,5 +185,43 @@ fn faults_are_printed(rt: HostRuntime) -> Result<(), Fail> {
     let fault = InputFault::EndInString { line: 3 };
     let printed = format!(in rt.alloc(); "{fault}")?;
     assert_eq!(rt; printed.as_str(), "I1 EndInString");
+    Ok(())
+}
+
+// A file with this text, read whole.
+fn whole(alloc: Global, text: &[u8]) -> Result<Input, Fail>
+    ensures { IfOk result (λ i. i.pending.may_follow ≡ false) }
+{
+    let mut input = Input::file(alloc, Bytes::from_slice(alloc, b"a.m4")?);
+    input.read_whole(&mut MemSource::new(text, 4096, false))?;
+    Ok(input)
+}
+
+// Takes so many bytes away, or all where there are fewer.
+fn take_front(input: &mut Input, n: usize)
+    requires { input.old.pending.may_follow ≡ false }
+    ensures { input.new.pending.definition ≡ None }
+{
+    let len = match input.piece() {
+        Some(text) => text.len().min(n),
+        None => 0,
+    };
+    input.consume(len);
+}
+
+#[test]
+fn pushed_text_stands_in_one_piece_where_there_is_room(rt: HostRuntime) -> Result<(), Fail> {
+    let delims = default_delims();
+    let mut reader = MemSource::new(b"", 1, false);
+    let mut input = whole(rt.alloc(), b"ab\nc")?;
+    assert!(rt; input.piece() == Some(b"ab\nc".as_slice()));
+    take_front(&mut input, 3);
+    push_text(rt.alloc(), &mut input, b"x\n")?;
+    assert!(rt; input.piece() == Some(b"x\nc".as_slice()));
+    assert!(rt; input.line() == 2);
+    push_text(rt.alloc(), &mut input, b"longer ")?;
+    assert!(rt; input.piece().is_none());
+    let name = input.next(&mut reader, &delims)?;
+    assert!(rt; is(&name, 'n', b"longer"));
     Ok(())
 }

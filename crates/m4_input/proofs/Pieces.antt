@@ -1,0 +1,124 @@
+-- Pieces: bytes of a file, of which some were read, and pushed text before those that were not.
+use Rattle.std.proofs.Common.{◌≡◌, ℕ, zero, suc, ◌+◌, ◌-◌, ◌<◌, ◌≤◌, List, [], ◌∷◌, ◌++◌, length, take, drop, refl, sym, ap, ◌∙◌, arith, length-append, length-drop, min}
+use Rattle.std.proofs.Math.ListN.{drop_of_length-le}
+use Rattle.std.proofs.Math.Seq.{drop-append_seam}
+use Rattle.std.proofs.lemmas.List.{take-append-drop, drop-drop, length-take}
+use Rattle.m4_input.specs.Pending.{newlines_in}
+use Rattle.m4_input.specs.Text.{HeldText, text_in, text_behind}
+use Rattle.m4_input.proofs.Parts.{drop_parts, take_parts, take_long, pushed_behind}
+
+-- the pushed bytes and those behind them
+pub piece_text : (at n : ℕ) (b : List ℕ) → drop at b ≡ take n (drop at b) ++ drop (at + n) b
+piece_text at n b = sym (take-append-drop n (drop at b)) ∙ ap (λ (x : List ℕ). take n (drop at b) ++ x) (drop-drop n at b)
+
+-- the bytes behind a place are gone
+taken_twice : (n : ℕ) (b : List ℕ) → take n (take n b) ≡ take n b
+taken_twice zero b = refl
+taken_twice (suc n) [] = refl
+taken_twice (suc n) (x ∷ b) = ap (λ (y : List ℕ). x ∷ y) (taken_twice n b)
+
+pub still_pushed : (at n : ℕ) (b : List ℕ) → take n (drop at (take (at + n) b)) ≡ take n (drop at b)
+still_pushed zero n b = let e : 0 + n ≡ n = omega arith in ap (λ m. take n (take m b)) e ∙ taken_twice n b
+still_pushed (suc at) n [] = let e : suc at + n ≡ suc (at + n) = omega arith in ap (λ m. take n (drop (suc at) (take m []))) e
+still_pushed (suc at) n (x ∷ b) = let e : suc at + n ≡ suc (at + n) = omega arith in ap (λ m. take n (drop (suc at) (take m (x ∷ b)))) e ∙ still_pushed at n b
+
+pub none_behind : (n : ℕ) (b : List ℕ) → drop n (take n b) ≡ []
+none_behind zero b = refl
+none_behind (suc n) [] = refl
+none_behind (suc n) (x ∷ b) = none_behind n b
+
+seam_at : (n : ℕ) (x y : List ℕ) → length x ≡ n → drop n (x ++ y) ≡ y
+seam_at n x y e = ap (λ m. drop m (x ++ y)) (sym e) ∙ drop-append_seam x y
+
+-- text that was put over bytes that were read
+pub over_front : (b text : List ℕ) (at : ℕ) → length text ≤ at → at ≤ length b → drop (at - length text) (take (at - length text) b ++ (text ++ drop at b)) ≡ text ++ drop at b
+over_front b text at h k =
+    let l : length (take (at - length text) b) ≡ at - length text = omega (arith, length-take (at - length text) b) in
+    seam_at (at - length text) (take (at - length text) b) (text ++ drop at b) l
+
+over_pushed : (x y : List ℕ) (n : ℕ) → take (n + length x) (x ++ y) ≡ x ++ take n y
+over_pushed x y n =
+    let e : (n + length x) - length x ≡ n = omega arith in
+    take_parts (n + length x) x y
+    ∙ ap (λ (z : List ℕ). z ++ take ((n + length x) - length x) y) (take_long (n + length x) x (omega arith))
+    ∙ ap (λ m. x ++ take m y) e
+
+over_unread : (x y : List ℕ) (n : ℕ) → drop (n + length x) (x ++ y) ≡ drop n y
+over_unread x y n =
+    let e : (n + length x) - length x ≡ n = omega arith in
+    drop_parts (n + length x) x y
+    ∙ ap (λ (z : List ℕ). z ++ drop ((n + length x) - length x) y) (drop_of_length-le x (omega arith))
+    ∙ ap (λ m. drop m y) e
+
+-- what a piece holds, by its bytes
+abbrev pub piece_of : List ℕ → ℕ → ℕ → ℕ → HeldText
+piece_of b at ahead newlines = record { pushed = take ahead (drop at b); unread = drop (at + ahead) b; newlines = newlines }
+
+pub pushed_over : (b text new : List ℕ) (at n newlines : ℕ) → length text ≤ at → at ≤ length b → new ≡ take (at - length text) b ++ (text ++ drop at b) → piece_of new (at - length text) (n + length text) newlines ≡ record { pushed = text ++ take n (drop at b); unread = drop (at + n) b; newlines = newlines }
+pushed_over b text new at n newlines h k e =
+    let f : drop (at - length text) new ≡ text ++ drop at b = ap (drop (at - length text)) e ∙ over_front b text at h k in
+    let u : drop ((at - length text) + (n + length text)) new ≡ drop (at + n) b =
+    sym (drop-drop (n + length text) (at - length text) new) ∙ ap (drop (n + length text)) f ∙ over_unread text (drop at b) n ∙ drop-drop n at b in
+    ap (λ (x : List ℕ). let t : HeldText = record { pushed = take (n + length text) x; unread = drop ((at - length text) + (n + length text)) new; newlines = newlines } in t) f
+    ∙ ap (λ (x : List ℕ). let t : HeldText = record { pushed = x; unread = drop ((at - length text) + (n + length text)) new; newlines = newlines } in t) (over_pushed text (drop at b) n)
+    ∙ ap (λ (x : List ℕ). let t : HeldText = record { pushed = text ++ take n (drop at b); unread = x; newlines = newlines } in t) u
+
+pub file_dropped : (b new : List ℕ) (at n : ℕ) → new ≡ take (at + n) b → piece_of new at n 0 ≡ record { pushed = take n (drop at b); unread = []; newlines = 0 }
+file_dropped b new at n e =
+    ap (λ (x : List ℕ). piece_of x at n 0) e
+    ∙ ap (λ (x : List ℕ). let t : HeldText = record { pushed = x; unread = drop (at + n) (take (at + n) b); newlines = 0 } in t) (still_pushed at n b)
+    ∙ ap (λ (x : List ℕ). let t : HeldText = record { pushed = take n (drop at b); unread = x; newlines = 0 } in t) (none_behind (at + n) b)
+
+none_taken : (m : ℕ) → take m [] ≡ (let x : List ℕ = [] in x)
+none_taken zero = refl
+none_taken (suc m) = refl
+
+-- pushed bytes are taken away
+take_further : (a n : ℕ) (x : List ℕ) → n ≤ a → take (a - n) (drop n x) ≡ drop n (take a x)
+take_further a zero x h = let e : a - 0 ≡ a = omega arith in ap (λ m. take m x) e
+take_further zero (suc n) x h = absurd (omega arith)
+take_further (suc a) (suc n) [] h = none_taken (suc a - suc n)
+take_further (suc a) (suc n) (b ∷ x) h = let e : suc a - suc n ≡ a - n = omega arith in ap (λ m. take m (drop n x)) e ∙ take_further a n x (omega arith)
+
+pushed_length : (at a : ℕ) (b : List ℕ) → at + a ≤ length b → length (take a (drop at b)) ≡ a
+pushed_length at a b h = omega (arith, length-take a (drop at b), length-drop at b)
+
+pub pushed_taken : (b : List ℕ) (at a n newlines : ℕ) → n ≤ a → at + a ≤ length b → piece_of b (at + n) (a - n) newlines ≡ text_behind n (piece_of b at a newlines)
+pushed_taken b at a n newlines h k =
+    let l : length (take a (drop at b)) ≡ a = pushed_length at a b k in
+    let e : (at + n) + (a - n) ≡ at + a = omega arith in
+    ap (λ m. let t : HeldText = record { pushed = take (a - n) (drop (at + n) b); unread = drop m b; newlines = newlines } in t) e
+    ∙ pushed_behind (piece_of b at a newlines) (take (a - n) (drop (at + n) b)) n (omega arith) (ap (take (a - n)) (sym (drop-drop n at b)) ∙ take_further a n (drop at b) h)
+
+-- all pushed bytes are taken away, and some of the file
+pub file_read : (pu un : List ℕ) (a n : ℕ) → length pu ≡ a → a ≤ n → drop a (take n (pu ++ un)) ≡ take (n - length pu) un
+file_read pu un a n l h =
+    ap (drop a) (take_parts n pu un ∙ ap (λ (z : List ℕ). z ++ take (n - length pu) un) (take_long n pu (omega arith)))
+    ∙ seam_at a pu (take (n - length pu) un) l
+
+pub file_taken : (b of_file : List ℕ) (at a n newlines count : ℕ) → a ≤ n → at + a ≤ length b → of_file ≡ drop a (take n (take a (drop at b) ++ drop (at + a) b)) → count ≡ newlines_in of_file → piece_of b (at + n) 0 (newlines + count) ≡ text_behind n (piece_of b at a newlines)
+file_taken b of_file at a n newlines count h k e c =
+    let pu = take a (drop at b) in
+    let l : length pu ≡ a = pushed_length at a b k in
+    let f : of_file ≡ take (n - length pu) (drop (at + a) b) = e ∙ file_read pu (drop (at + a) b) a n l h in
+    let none : [] ≡ drop n pu = sym (drop_of_length-le pu (omega arith)) in
+    let m : (at + n) + 0 ≡ (at + a) + (n - length pu) = omega arith in
+    ap (λ i. let t : HeldText = record { pushed = []; unread = drop i b; newlines = newlines + count } in t) m
+    ∙ ap (λ (x : List ℕ). let t : HeldText = record { pushed = []; unread = x; newlines = newlines + count } in t) (sym (drop-drop (n - length pu) (at + a) b))
+    ∙ ap (λ (x : List ℕ). let t : HeldText = record { pushed = x; unread = drop (n - length pu) (drop (at + a) b); newlines = newlines + count } in t) none
+    ∙ ap (λ i. let t : HeldText = record { pushed = drop n pu; unread = drop (n - length pu) (drop (at + a) b); newlines = newlines + i } in t) (c ∙ ap newlines_in f)
+
+-- text that stands apart in front is taken away, and then some of the piece
+pub apart_taken : (x : List ℕ) (t : HeldText) (n : ℕ) → length x ≤ n → text_behind (n - length x) t ≡ text_behind n (record t { pushed = x ++ t.pushed })
+apart_taken x t n h =
+    let l : length (x ++ t.pushed) ≡ length x + length t.pushed = length-append x t.pushed in
+    let m : (n - length x) - length t.pushed ≡ n - length (x ++ t.pushed) = omega arith in
+    let p : drop (n - length x) t.pushed ≡ drop n (x ++ t.pushed) =
+    sym (drop_parts n x t.pushed ∙ ap (λ (z : List ℕ). z ++ drop (n - length x) t.pushed) (drop_of_length-le x (omega arith))) in
+    ap (λ i. let u : HeldText = record { pushed = drop (n - length x) t.pushed; unread = drop i t.unread; newlines = t.newlines + newlines_in (take i t.unread) } in u) m
+    ∙ ap (λ (z : List ℕ). let u : HeldText = record { pushed = z; unread = drop (n - length (x ++ t.pushed)) t.unread; newlines = t.newlines + newlines_in (take (n - length (x ++ t.pushed)) t.unread) } in u) p
+
+pub apart_left : (x y : List ℕ) (n : ℕ) → n ≤ length x → drop n x ++ y ≡ drop n (x ++ y)
+apart_left x y n h =
+    let e : 0 ≡ n - length x = omega arith in
+    ap (λ m. drop n x ++ drop m y) e ∙ sym (drop_parts n x y)
