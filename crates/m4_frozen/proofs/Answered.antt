@@ -48,7 +48,7 @@ refusal_is_fault e bytes h =
     fault_at bytes (fault_of bytes e) (says_err e bytes (file_at bytes) (file_says bytes) h)
 
 -- no row is a failure of the reader
-not_read : (bytes : List ℕ) (fault : FrozenFault) → IsFault bytes fault → fault.kind ≡ kinds.Read
+pub not_read : (bytes : List ℕ) (fault : FrozenFault) → IsFault bytes fault → fault.kind ≡ kinds.Read
     → ⊥
 not_read bytes fault h e = rw e at h.fits
 
@@ -105,6 +105,30 @@ failed_answer_is_fault given =
           (rw here at f)),
       refl,
     )))
+
+-- A refusal that passes the test is settled by the bytes.
+pub settled_if_stays : (given : List ℕ) (e : Refusal) → file_at given ≡ Err e
+    → is_settled e.kind (drop (length given - e.bytes_left) given) ≡ true
+    → IsSettledBy given (fault_of given e)
+settled_if_stays given e refused f =
+    let h : IsFault given (fault_of given e) =
+    says_err e given (file_at given) (file_says given) refused in
+    let here : drop (length given - e.bytes_left) given ≡ h.here =
+    ap (drop (length given - e.bytes_left)) h.spelled
+    ∙ drop_at (h.front ++ h.before) h.here (length given - e.bytes_left) (sym h.place) in
+    (settled_is_firm given (fault_of given e) h).1 (firm_from_settled e.kind h.here (rw here at f))
+
+-- One that doesn't is a failure where the reader failed.
+pub failed_unless_stays : (given : List ℕ) (e : Refusal) → file_at given ≡ Err e
+    → is_settled e.kind (drop (length given - e.bytes_left) given) ≡ false
+    → IsFaultOfFailed given (read_fault given)
+failed_unless_stays given e refused f =
+    rw (refused, f) at (failed_answer_is_fault given)
+
+-- So it is where nothing is refused.
+pub failed_if_read : (given : List ℕ) (ds : List Directive) → file_at given ≡ Ok ds
+    → IsFaultOfFailed given (read_fault given)
+failed_if_read given ds e = rw e at (failed_answer_is_fault given)
 
 -- the bytes that a reader gave before it failed have one fault
 failed_one : (given : List ℕ) (a b : FrozenFault) → IsFaultOfFailed given a

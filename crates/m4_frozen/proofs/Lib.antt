@@ -1,6 +1,5 @@
 pub mod ByteTests
 pub mod Digits
-pub mod DirectiveLoop
 pub mod SkippedLines
 pub mod ReadBack
 pub mod Parts
@@ -11,6 +10,10 @@ pub mod LongestFront
 pub mod Settled
 pub mod Unsettled
 pub mod Answered
+pub mod ReadOn
+pub mod TextRead
+pub mod Told
+pub mod WindowRead
 pub mod Examples
 pub mod FreezeParts
 pub mod ListingParts

@@ -338,7 +338,7 @@ no_both_open open_line b bs (inl e) = e
 no_both_open open_line b bs (inr e) = absurd cc
 
 -- two tests that fail
-and_nots : (a b : Bool) → not a && not b ≡ true → (a ≡ false) × (b ≡ false)
+pub and_nots : (a b : Bool) → not a && not b ≡ true → (a ≡ false) × (b ≡ false)
 and_nots false false e = (refl, refl)
 and_nots true b e = absurd cc
 and_nots false true e = absurd cc
@@ -417,7 +417,7 @@ StartSays bytes (Err e) = (front : List ℕ) × (before : List ℕ) × (here : L
     × (e.bytes_left ≡ length here)
 
 -- lines and the version stand, or a row fits
-start_says_of : (bytes rest : List ℕ) → HasLines false bytes rest
+pub start_says_of : (bytes rest : List ℕ) → HasLines false bytes rest
     → StartSays bytes (behind_version rest)
 start_says_of bytes [] h = (h.0, h.1, [], passed_skipped h.0 h.2, (refl, inr (h.3, refl)), h.4, refl)
 start_says_of bytes (b ∷ bs) h =

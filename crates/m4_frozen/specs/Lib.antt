@@ -7,6 +7,8 @@ pub mod FaultAt
 pub mod Outcome
 pub mod ReaderSteps
 pub mod StepOutcome
+pub mod Underway
+pub mod Blocks
 pub mod Laws
 pub mod Denote
 pub mod Freeze

@@ -10,7 +10,7 @@ ghost use Rattle.m4_frozen.specs.declared.fault.ReadStop.TheVariants.{OutOfMemor
 
 use m4_state::device::DeviceFault;
 use m4_state::fault::StateFault;
-use std::alloc::{AllocError, AllocFailed};
+use std::alloc::AllocError;
 use thiserror::Error;
 
 /// What is wrong with a frozen file, or why it could not be read.
@@ -97,17 +97,25 @@ pub(crate) struct Refusal {
     pub(crate) bytes_left: usize,
 }
 
-/// Why directives could not be listed.
+/// Why no more directives can be read.
 #[derive(Debug, Drop)]
 pub(crate) enum ReadStop {
     OutOfMemory,
     Refused(Refusal),
 }
 
-impl<T: Drop> From<AllocFailed<T>> for ReadStop {
+impl From<AllocError> for ReadStop {
     ghost from_gives = { λ _ e. e ≡ OutOfMemory };
 
-    fn from(_failed: AllocFailed<T>) -> ReadStop {
+    fn from(_refused: AllocError) -> ReadStop {
+        ReadStop::OutOfMemory
+    }
+}
+
+impl From<StateFault> for ReadStop {
+    ghost from_gives = { λ _ e. e ≡ OutOfMemory };
+
+    fn from(_refused: StateFault) -> ReadStop {
         ReadStop::OutOfMemory
     }
 }

@@ -2,22 +2,22 @@
 //!
 //! Manual: "Frozen file format".
 
-ghost use Rattle.std.specs.Prelude.{◌≡◌, false};
-ghost use Rattle.m4_frozen.specs.ReaderSteps as steps;
+ghost use Rattle.m4_frozen.specs.Underway.{Skips};
 
-/// The bytes behind empty lines and comment lines.
-pub(crate) fn skip_lines(bytes: &[u8]) -> &[u8]
-    ensures { result.now ≡ steps.skip_lines false bytes.now }
+/// Whether a comment has begun behind empty lines and comment lines, and the bytes there. `inside`
+/// says that one had begun before them.
+pub(crate) fn skip_lines(inside: bool, bytes: &[u8]) -> (bool, &[u8])
+    ensures { Skips inside bytes.now result.0 result.1.now }
 {
-    let mut inside = false;
+    let mut in_comment = inside;
     for (i, b) in bytes.iter().enumerate() {
-        if inside {
-            inside = *b != b'\n';
+        if in_comment {
+            in_comment = *b != b'\n';
         } else if *b == b'#' {
-            inside = true;
+            in_comment = true;
         } else if *b != b'\n' {
-            return bytes.split_at(i).1;
+            return (false, bytes.split_at(i).1);
         }
     }
-    &[]
+    (in_comment, &[])
 }

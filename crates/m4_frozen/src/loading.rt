@@ -1,13 +1,19 @@
-//! What a frozen file stands for: its directives applied in order to the empty state, and the text
-//! that they issue. Manual: "Frozen file format".
+//! A frozen file that is read as its bytes come: each directive is applied to the state as soon as it
+//! is whole. Manual: "Frozen file format".
 
-ghost use Rattle.std.specs.Prelude.{◌≡◌, IfOk, OnOk, List, ℕ};
-ghost use Rattle.std.specs.List.{flat_map};
+ghost use Rattle.std.specs.Prelude.{◌≡◌, ◌++◌, [], true, None, IfOk, OnOk};
 ghost use Rattle.m4_state.specs.Definition.{IsDefinition};
-ghost use Rattle.m4_frozen.specs.Denote.{with_directive, issued_by, definition_named, denote};
-ghost use Rattle.m4_frozen.specs.DirectiveView.{directive_of, directives_of};
+ghost use Rattle.m4_frozen.specs.Denote.{with_directive, issued_by, definition_named};
+ghost use Rattle.m4_state.specs.State.{appended};
+ghost use Rattle.m4_frozen.specs.Directive as directives;
+ghost use Rattle.m4_frozen.specs.DirectiveView.{directive_of};
+ghost use Rattle.m4_frozen.specs.Underway as underway;
 
 use crate::directive::Directive;
+use crate::fault::{FrozenKind, ReadStop, Refusal, refused_at};
+use crate::lines::skip_lines;
+use crate::reader::{behind_version, diversion_line, next_directive, stays};
+use crate::strings::{diversion_head, expect_byte};
 use m4_state::builtin::Builtin;
 use m4_state::bytes::Bytes;
 use m4_state::definition::Def;
@@ -24,63 +30,239 @@ pub struct Loaded {
     pub issued: Bytes,
 }
 
-/// What these directives stand for. The strings are copied, and nothing else is.
-pub fn load(alloc: Global, directives: &[Directive<'_>]) -> Result<Loaded, StateFault>
-    ensures { IfOk result (λ l. l ≡ denote (directives_of directives.now)) }
-{
-    let state = state_of(alloc, directives)?;
-    let issued = issued_text(alloc, directives)?;
-    Ok(Loaded { state, issued })
+/// What the directives that came leave, and what may come next.
+#[derive(Drop)]
+pub(crate) struct Loading {
+    state: State,
+    issued: Vec<u8>,
+    /// Whether the version came.
+    versioned: bool,
+    /// Whether a comment line has begun.
+    inside: bool,
+    /// How many bytes of the current diversion's text have not come, if one has begun: a text goes to
+    /// the state as it comes, so that a long one is not held twice.
+    missing: Option<usize>,
 }
 
-/// The state that the directives leave.
-fn state_of(alloc: Global, directives: &[Directive<'_>]) -> Result<State, StateFault>
-    ensures { IfOk result (λ s. s ≡ (denote (directives_of directives.now)).state) }
-{
-    let mut state = State::empty(alloc)?;
-    for directive in directives {
-        apply(alloc, &mut state, directive)?;
+/// Where more bytes are needed.
+#[derive(Clone, Copy, Debug)]
+pub(crate) struct Pause {
+    /// How many bytes are not read yet: the last ones.
+    pub(crate) left: usize,
+    /// Why the file is refused if it ends there.
+    pub(crate) refusal: Option<Refusal>,
+}
+
+impl Loading {
+    /// Nothing came yet.
+    pub(crate) fn new(alloc: Global) -> Result<Loading, StateFault>
+        ensures { IfOk result (underway.IsRead []) }
+    {
+        Ok(Loading {
+            state: State::empty(alloc)?,
+            issued: Vec::new(alloc),
+            versioned: false,
+            inside: false,
+            missing: None,
+        })
     }
-    Ok(state)
-}
 
-/// The texts that the directives issue, joined.
-fn issued_text(alloc: Global, directives: &[Directive<'_>]) -> Result<Bytes, AllocError>
-    ensures { IfOk result (λ bytes. bytes ≡ (denote (directives_of directives.now)).issued) }
-{
-    let mut issued = Vec::new(alloc);
-    for directive in directives {
-        if let Directive::Diversion(0, text) = directive {
-            issued.extend_from_slice(text)?;
+    /// Reads all that is whole in the next bytes, those that were left before first.
+    ///
+    /// A refusal stays whatever follows. A stop may leave a part of a directive applied, and no call
+    /// may follow it.
+    pub(crate) fn advance(&mut self, alloc: Global, bytes: &[u8]) -> Result<Pause, ReadStop>
+        ensures { underway.ReadsOn (λ read. underway.IsRead read self.old) bytes.now self.new result }
+    {
+        let Some(missing) = self.missing else {
+            return self.read_whole(alloc, bytes);
+        };
+        let one = match self.read_text(missing, bytes) {
+            Ok(one) => one,
+            Err(stop) => return Err(stop),
+        };
+        match one {
+            Some(behind) => self.read_whole(alloc, behind),
+            None => Ok(Pause {
+                left: 0,
+                refusal: Some(refused_at(FrozenKind::PrematureEnd, &[])),
+            }),
         }
     }
-    Ok(Bytes::from(issued))
-}
 
-/// Applies one directive. A refusal may leave a part of it applied: the state is then dropped.
-fn apply(alloc: Global, state: &mut State, directive: &Directive<'_>) -> Result<(), StateFault>
-    ensures { OnOk result (state.new ≡ with_directive state.old (directive_of directive.now)) }
-{
-    match directive {
-        Directive::Quotes(begin, end) => state.set_quotes(
-            Bytes::from_slice(alloc, begin)?,
-            Bytes::from_slice(alloc, end)?,
-        ),
-        Directive::Comments(begin, end) => state.set_comments(
-            Bytes::from_slice(alloc, begin)?,
-            Bytes::from_slice(alloc, end)?,
-        ),
-        Directive::Text(name, text) => state.push(
-            Bytes::from_slice(alloc, name)?,
-            Def::Text(Bytes::from_slice(alloc, text)?),
-        ),
-        Directive::Builtin(name, builtin) => state.push(
-            Bytes::from_slice(alloc, name)?,
-            builtin_or_placeholder(alloc, builtin)?,
-        ),
-        Directive::Diversion(number, text) => {
-            state.divert(*number);
-            state.append(text)
+    /// Reads all that is whole, where no text is open.
+    fn read_whole(&mut self, alloc: Global, bytes: &[u8]) -> Result<Pause, ReadStop>
+        requires { self.old.missing ≡ None }
+        ensures { underway.Advances bytes.now self.old self.new result }
+    {
+        let mut rest = bytes;
+        loop {
+            let (inside, here) = skip_lines(self.inside, rest);
+            self.inside = inside;
+            let one = match self.read_one(alloc, here) {
+                Ok(one) => one,
+                Err(stop) => return self.pause_at(stop, here),
+            };
+            match one {
+                Some(behind) => rest = behind,
+                None => {
+                    return Ok(Pause {
+                        left: 0,
+                        refusal: None,
+                    });
+                }
+            }
+        }
+    }
+
+    /// Reads the version or a directive, which no line stands before. Answers the bytes behind it,
+    /// or none where nothing is left.
+    fn read_one<'a>(&mut self, alloc: Global, bytes: &'a [u8]) -> Result<Option<&'a [u8]>, ReadStop>
+        requires { underway.StandsAt self.old.inside bytes.now }
+        ensures { underway.ReadsOne bytes.now self.old self.new result }
+    {
+        if self.versioned {
+            return self.read_directive(alloc, bytes);
+        }
+        let behind = behind_version(bytes)?;
+        self.versioned = true;
+        Ok(Some(behind))
+    }
+
+    /// Reads a directive. The version came.
+    fn read_directive<'a>(
+        &mut self,
+        alloc: Global,
+        bytes: &'a [u8],
+    ) -> Result<Option<&'a [u8]>, ReadStop>
+        requires stands { underway.StandsAt self.old.inside bytes.now }
+        requires versioned { self.old.versioned ≡ true }
+        ensures { underway.ReadsOne bytes.now self.old self.new result }
+    {
+        match next_directive(bytes)? {
+            None => Ok(None),
+            Some((directive, behind)) => {
+                self.apply(alloc, &directive)?;
+                Ok(Some(behind))
+            }
+        }
+    }
+
+    /// A pause at these bytes, the last ones that came, unless the stop stays whatever follows them.
+    fn pause_at(&mut self, stop: ReadStop, here: &[u8]) -> Result<Pause, ReadStop>
+        requires { underway.IsWithin stop self.old.inside here.now }
+        ensures { underway.PausesAt stop here.now self.old self.new result }
+    {
+        let ReadStop::Refused(refusal) = stop else {
+            return Err(ReadStop::OutOfMemory);
+        };
+        if stays(refusal, here) {
+            return Err(ReadStop::Refused(refusal));
+        }
+        let opened = self.open_text(here)?;
+        Ok(Pause {
+            left: if opened { 0 } else { here.len() },
+            refusal: Some(refusal),
+        })
+    }
+
+    /// Begins a diversion, if one stands here whose text or its newline has not come.
+    fn open_text(&mut self, here: &[u8]) -> Result<bool, StateFault>
+        requires { underway.StandsAt self.old.inside here.now }
+        ensures { underway.Opens here.now self.old self.new result }
+    {
+        let Some(line) = diversion_line(here) else {
+            return Ok(false);
+        };
+        let Ok(((number, len), text)) = diversion_head(line) else {
+            return Ok(false);
+        };
+        let len = len as usize;
+        if !self.versioned || len < text.len() {
+            return Ok(false);
+        }
+        self.state.divert(number);
+        self.add(text)?;
+        self.missing = Some(len - text.len());
+        Ok(true)
+    }
+
+    /// Reads what came of a text: up to its end, whose newline is taken too, or all of the bytes.
+    fn read_text<'a>(
+        &mut self,
+        missing: usize,
+        bytes: &'a [u8],
+    ) -> Result<Option<&'a [u8]>, ReadStop>
+        ensures { underway.ReadsText bytes.now self.old missing self.new result }
+    {
+        let (more, behind) = bytes.split_at(missing.min(bytes.len()));
+        self.add(more)?;
+        if behind.is_empty() {
+            self.missing = Some(missing - more.len());
+            return Ok(None);
+        }
+        let behind = expect_byte(b'\n', behind)?;
+        self.missing = None;
+        Ok(Some(behind))
+    }
+
+    /// Adds text to the current diversion, or to what is issued where its number is 0.
+    fn add(&mut self, text: &[u8]) -> Result<(), StateFault>
+        ensures added { OnOk result (self.new ≡ record self.old {
+          state = appended self.old.state text.now;
+          issued = self.new.issued;
+        }) }
+        ensures issued { OnOk result (self.new.issued.items
+            ≡ self.old.issued.items ++ issued_by (directives.Diversion self.old.state.current text.now)) }
+    {
+        self.state.append(text)?;
+        if self.state.current() == 0 {
+            self.issued.extend_from_slice(text)?;
+        }
+        Ok(())
+    }
+
+    /// Applies a directive: to the state, or to the text that is issued. A refusal may leave a part of
+    /// it applied: the state is then dropped.
+    fn apply(&mut self, alloc: Global, directive: &Directive<'_>) -> Result<(), StateFault>
+        ensures applied { OnOk result (self.new ≡ record self.old {
+          state = with_directive self.old.state (directive_of directive.now);
+          issued = self.new.issued;
+        }) }
+        ensures issued { OnOk result (self.new.issued.items
+            ≡ self.old.issued.items ++ issued_by (directive_of directive.now)) }
+    {
+        match directive {
+            Directive::Quotes(begin, end) => self.state.set_quotes(
+                Bytes::from_slice(alloc, begin)?,
+                Bytes::from_slice(alloc, end)?,
+            ),
+            Directive::Comments(begin, end) => self.state.set_comments(
+                Bytes::from_slice(alloc, begin)?,
+                Bytes::from_slice(alloc, end)?,
+            ),
+            Directive::Text(name, text) => self.state.push(
+                Bytes::from_slice(alloc, name)?,
+                Def::Text(Bytes::from_slice(alloc, text)?),
+            ),
+            Directive::Builtin(name, builtin) => self.state.push(
+                Bytes::from_slice(alloc, name)?,
+                builtin_or_placeholder(alloc, builtin)?,
+            ),
+            Directive::Diversion(number, text) => {
+                self.state.divert(*number);
+                self.add(text)
+            }
+        }
+    }
+
+    /// What was loaded, at the end of the file.
+    pub(crate) fn loaded(self) -> Loaded
+        ensures { result ≡ record { state = self.state; issued = self.issued.items } }
+    {
+        Loaded {
+            state: self.state,
+            issued: Bytes::from(self.issued),
         }
     }
 }

@@ -1,83 +1,21 @@
-//! Directives read from the bytes of a whole file.
+//! The version and directives, read at the front of bytes.
 //!
-//! Each step takes the bytes from its place on and gives back those behind it, so a file is read
-//! once, from front to end, and nothing is copied. The private contracts speak of the reader's own
-//! steps, `specs/ReaderSteps.antt`; [`read_directives`] alone speaks of the grammar, `Spells`, and of
-//! the table of faults, `FaultAt`. Manual: "Frozen file format".
+//! Each step takes the bytes from its place on and gives back those behind it, and nothing is
+//! copied. A step that more bytes could make whole is refused like any other: `stays` tells the two
+//! apart. Contracts speak of the reader's own steps, `specs/ReaderSteps.antt`.
+//! Manual: "Frozen file format".
 
-ghost use Rattle.std.specs.Prelude.{◌≡◌, IfOk, IfErr, List, Err, true, false};
+ghost use Rattle.std.specs.Prelude.{◌≡◌, ◌≤◌, ◌-◌, ◌∷◌, length, drop, IfSome};
+ghost use Rattle.m4_frozen.specs.Ascii.{letter_D};
 ghost use Rattle.std.specs.Option.{option_map};
-ghost use Rattle.m4_frozen.specs.Directive.{Directive as Said};
-ghost use Rattle.m4_frozen.specs.DirectiveView.{directive_of, directives_of};
-ghost use Rattle.m4_frozen.specs.FaultAt as faults;
-ghost use Rattle.m4_frozen.specs.Outcome.{IfFault, IsFaultOf};
+ghost use Rattle.m4_frozen.specs.DirectiveView.{directive_of};
 ghost use Rattle.m4_frozen.specs.ReaderSteps as steps;
-ghost use Rattle.m4_frozen.specs.Spells.{Spells};
-ghost use Rattle.m4_frozen.specs.declared.fault.FrozenKind.TheVariants as kinds;
-ghost use Rattle.m4_frozen.specs.StepOutcome.{Gives, GivesIfRoom};
+ghost use Rattle.m4_frozen.specs.StepOutcome.{Gives};
 
 use crate::directive::Directive;
-use crate::fault::{FrozenFault, FrozenKind, ReadStop, Refusal, no_memory, refused_at};
-use crate::lines::skip_lines;
+use crate::fault::{FrozenKind, Refusal, refused_at};
 use crate::number::{are_digits, version};
 use crate::strings::{diversion, expect_byte, pair};
-use std::alloc::Global;
-
-/// The directives of a frozen file, or of what a reader gave before it failed.
-///
-/// The strings of the directives lie in `bytes`. Where the reader failed there are no directives:
-/// the fault is the one that stays whatever bytes would have followed, if the bytes have such a
-/// one, else the failure. Takes time in proportion to the bytes and memory in proportion to the
-/// directives, whatever lengths are stated.
-/// Manual: "Frozen file format".
-pub fn read_directives(
-    alloc: Global,
-    bytes: &[u8],
-    reader_failed: bool,
-) -> Result<Vec<Directive<'_>>, FrozenFault>
-    // exact reader: what is answered is what the bytes spell, and the reader ended behind them
-    ensures found { IfOk result (λ ds.
-        (reader_failed ≡ false) × Spells (directives_of ds.items) bytes.now) }
-    // exact reader: whatever is spelled is read, unless memory runs out
-    ensures accepts { IfFault result (λ _.
-        (ds : List Said) → Spells ds bytes.now → reader_failed ≡ true) }
-
-    // exact reader: else the first fault from the front, at its byte; for a reader that failed the
-    // one that is settled, else the failure, behind the last byte
-    ensures fault { IfFault result (λ f. IsFaultOf reader_failed bytes.now f) }
-
-    // safe and total: want of memory is at no byte, and a failure comes only from the reader
-    ensures no_memory { IfErr result (λ f. f.kind ≡ kinds.OutOfMemory → f.offset ≡ 0) }
-    ensures read_fault { IfErr result (λ f. f.kind ≡ kinds.Read → reader_failed ≡ true) }
-{
-    match file(alloc, bytes) {
-        Err(ReadStop::OutOfMemory) => Err(no_memory()),
-        Err(ReadStop::Refused(refusal)) if reader_failed => Err(fault_of_failed(bytes, refusal)),
-        Err(ReadStop::Refused(refusal)) => Err(fault_of(bytes, refusal)),
-        Ok(_) if reader_failed => Err(read_fault(bytes)),
-        Ok(list) => Ok(list),
-    }
-}
-
-/// The failure of a reader behind the bytes that it gave.
-fn read_fault(given: &[u8]) -> FrozenFault
-    ensures { result ≡ faults.read_fault given.now }
-{
-    FrozenFault {
-        kind: FrozenKind::Read,
-        offset: given.len() as u64,
-    }
-}
-
-/// The fault that a refusal of these bytes is, whose place is counted from the front here alone.
-fn fault_of(bytes: &[u8], refusal: Refusal) -> FrozenFault
-    ensures { result ≡ steps.fault_of bytes.now refusal }
-{
-    FrozenFault {
-        kind: refusal.kind,
-        offset: bytes.len().saturating_sub(refusal.bytes_left) as u64,
-    }
-}
 
 /// Whether a fault of this kind stays whatever follows the bytes from its place on.
 ///
@@ -91,31 +29,18 @@ fn is_settled(kind: FrozenKind, here: &[u8]) -> bool
     }
 }
 
-/// The fault of a reader that failed behind bytes that are refused.
-fn fault_of_failed(given: &[u8], refusal: Refusal) -> FrozenFault
-    ensures { result ≡ steps.failed_answer given.now (Err refusal) }
+/// Whether a refusal stays whatever follows these bytes, the last ones that came.
+pub(crate) fn stays(refusal: Refusal, bytes: &[u8]) -> bool
+    requires { refusal.bytes_left ≤ length bytes.now }
+    ensures { result ≡ steps.is_settled refusal.kind
+        (drop (length bytes.now - refusal.bytes_left) bytes.now) }
 {
-    let here = given
-        .split_at(given.len().saturating_sub(refusal.bytes_left))
-        .1;
-    if is_settled(refusal.kind, here) {
-        return fault_of(given, refusal);
-    }
-    read_fault(given)
-}
-
-/// The directives of a whole file.
-#[tactic(auto, unfolding(crate::specs::ReaderSteps::file_at))]
-fn file(alloc: Global, bytes: &[u8]) -> Result<Vec<Directive<'_>>, ReadStop>
-    ensures { GivesIfRoom (λ v. directives_of v.items) result (steps.file_at bytes.now) }
-{
-    let rest = behind_version(skip_lines(bytes))?;
-    // Each directive takes a byte at least, so that the last round finds the end.
-    directives(alloc, rest.len() + 1, rest)
+    let here = bytes.split_at(bytes.len() - refusal.bytes_left).1;
+    is_settled(refusal.kind, here)
 }
 
 /// The bytes behind the line of the version.
-fn behind_version(bytes: &[u8]) -> Result<&[u8], Refusal>
+pub(crate) fn behind_version(bytes: &[u8]) -> Result<&[u8], Refusal>
     ensures { Gives (λ x. x.now) result (steps.behind_version bytes.now) }
 {
     match bytes {
@@ -125,28 +50,19 @@ fn behind_version(bytes: &[u8]) -> Result<&[u8], Refusal>
     }
 }
 
-/// The directives up to the end, at most so many.
-fn directives(alloc: Global, count: usize, bytes: &[u8]) -> Result<Vec<Directive<'_>>, ReadStop>
-    ensures { GivesIfRoom (λ v. directives_of v.items) result
-        (steps.directives_at count bytes.now) }
+/// The bytes behind the letter of a diversion, if it stands at the front.
+pub(crate) fn diversion_line(bytes: &[u8]) -> Option<&[u8]>
+    ensures { IfSome result (λ line. bytes.now ≡ letter_D ∷ line.now) }
 {
-    let mut list = Vec::new(alloc);
-    let mut rest = bytes;
-    for _ in 0..count {
-        match next_directive(skip_lines(rest))? {
-            None => return Ok(list),
-            Some((one, after)) => {
-                list.push(one)?;
-                rest = after;
-            }
-        }
+    match bytes {
+        [b'D', line @ ..] => Some(line),
+        _ => None,
     }
-    Ok(list)
 }
 
 /// The next directive, if one comes, and the bytes behind it.
 #[tactic(auto, unfolding(crate::specs::ReaderSteps::directive_at))]
-fn next_directive(bytes: &[u8]) -> Result<Option<(Directive<'_>, &[u8])>, Refusal>
+pub(crate) fn next_directive(bytes: &[u8]) -> Result<Option<(Directive<'_>, &[u8])>, Refusal>
     ensures { Gives (option_map (λ x. (directive_of x.0, x.1.now))) result
         (steps.next_at bytes.now) }
 {

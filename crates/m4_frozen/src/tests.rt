@@ -11,7 +11,7 @@ use crate::fault::{FrozenFault, WriteFault};
 use crate::loading::Loaded;
 use crate::reading::read_frozen;
 use m4_state::memory::MemSource;
-use std::alloc::Global;
+use std::alloc::{AllocError, Global};
 use std::test::Fail;
 
 // How many bytes a device gives or takes at a time.
@@ -26,6 +26,15 @@ fn read(
 ) -> Result<Loaded, FrozenFault> {
     let mut reader = MemSource::new(bytes, block.max(1), reader_fails);
     read_frozen(alloc, &mut reader)
+}
+
+// A comment line of so many bytes, its newline among them, and then these bytes.
+fn behind_a_comment(alloc: Global, before: usize, bytes: &[u8]) -> Result<Vec<u8>, AllocError> {
+    let mut file = Vec::new(alloc);
+    file.resize(before.saturating_sub(1), b'#')?;
+    file.push(b'\n')?;
+    file.extend_from_slice(bytes)?;
+    Ok(file)
 }
 
 #[test]

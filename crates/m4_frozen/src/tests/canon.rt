@@ -1,10 +1,9 @@
 //! Files that are read and frozen again, by readers and writers that give or take a few bytes at a
 //! time, and by writers that fail amid the text.
 
-use super::{BLOCKS, read};
-use crate::directive::Directive;
+use super::{BLOCKS, behind_a_comment, read};
 use crate::fault::WriteFault;
-use crate::loading::load;
+use crate::window::BLOCK;
 use crate::writer::write_frozen;
 use m4_state::bytes::Bytes;
 use m4_state::definition::Def;
@@ -103,6 +102,26 @@ fn a_writer_fails_behind_each_byte(rt: HostRuntime) -> Result<(), Fail> {
     Ok(())
 }
 
+// A file with one directive of each letter, and the canonical lines of what it holds.
+const EACH_LETTER: &[u8] =
+    b"# c\n\nV1\nQ1,1\n[]\nC0,0\n\nT2 , 03\na\n# b\nF3,3\ndnldnl\nD1,2\nzz\nD0,2\nhi\n# e";
+
+const EACH_CANONICAL: &[u8] = b"Q1,1\n[]\nC0,0\n\nT2,3\na\n# b\nF3,3\ndnldnl\nD1,2\nzz\nD0,0\n\n";
+
+#[test]
+fn a_block_ends_at_each_byte(rt: HostRuntime) -> Result<(), Fail> {
+    let want = canonical(rt.alloc(), EACH_CANONICAL)?;
+    for cut in 0..=EACH_LETTER.len() {
+        let file = behind_a_comment(rt.alloc(), BLOCK.saturating_sub(cut), EACH_LETTER)?;
+        let loaded = read(rt.alloc(), &file, 4096, false)?;
+        let mut writer = MemSink::new(rt.alloc(), want.len(), 4096)?;
+        write_frozen(&loaded.state, &mut writer)?;
+        assert_eq!(rt; writer.written(), want.as_slice(), "cut at {cut}");
+        assert_eq!(rt; loaded.issued.as_slice(), b"hi".as_slice(), "cut at {cut}");
+    }
+    Ok(())
+}
+
 #[test]
 fn a_large_text_comes_back(rt: HostRuntime) -> Result<(), Fail> {
     let mut definition = Vec::new(rt.alloc());
@@ -126,13 +145,8 @@ fn a_large_text_comes_back(rt: HostRuntime) -> Result<(), Fail> {
 
 #[test]
 fn directives_are_loaded(rt: HostRuntime) -> Result<(), Fail> {
-    let directives: [Directive<'_>; 4] = [
-        Directive::Quotes(b"[", b""),
-        Directive::Text(b"a", b"b"),
-        Directive::Diversion(0, b"hi"),
-        Directive::Diversion(-1, b"zz"),
-    ];
-    let loaded = load(rt.alloc(), &directives)?;
+    let file = b"V1\nQ1,0\n[\nT1,1\nab\nD0,2\nhi\nD-1,2\nzz\n";
+    let loaded = read(rt.alloc(), file, 4096, false)?;
     assert_eq!(rt; loaded.state.quotes().0, b"[".as_slice());
     assert_eq!(rt; loaded.state.quotes().1, b"'".as_slice());
     assert_eq!(rt; loaded.state.stack(b"a").len(), 1);

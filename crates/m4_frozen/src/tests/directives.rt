@@ -1,16 +1,12 @@
 //! The directives of files and the faults of others, also from readers that give a few bytes at a
 //! time or fail.
 
-use super::{BLOCKS, read};
-use crate::directive::Directive;
+use super::{BLOCKS, behind_a_comment, read};
 use crate::fault::{FrozenFault, FrozenKind};
-use crate::reader::read_directives;
 use crate::reading::read_frozen;
+use crate::window::BLOCK;
 use m4_state::memory::MemSource;
 use std::test::Fail;
-
-// A file with one directive of each letter.
-const ALL: &[u8] = b"# c\n\nV1\nQ1,1\n[]\nC0,0\n\nT2 , 03\na\n# b\nF3,3\ndnldnl\nD-1,2\nzz\n# e";
 
 // Three lines of the version and of directives, and a comment: 3, 8, 9 and 4 bytes.
 const CUT: &[u8] = b"V1\nT1,1\nab\nD2,3\nx\ny\n# e\n";
@@ -84,33 +80,12 @@ const FAULTS: [(&[u8], bool, FrozenKind, u64); 29] = [
 ];
 
 #[test]
-fn directives_are_read(rt: HostRuntime) -> Result<(), Fail> {
-    let list = read_directives(rt.alloc(), ALL, false)?;
-    let want: [Directive<'_>; 5] = [
-        Directive::Quotes(b"[", b"]"),
-        Directive::Comments(b"", b""),
-        Directive::Text(b"a\n", b"# b"),
-        Directive::Builtin(b"dnl", b"dnl"),
-        Directive::Diversion(-1, b"zz"),
-    ];
-    assert_eq!(rt; list.as_slice(), want.as_slice());
-    let least = read_directives(rt.alloc(), b"V1\nD-2147483648,0\n\n", false)?;
-    assert_eq!(rt;
-        least.as_slice(),
-        [Directive::Diversion(i32::MIN, b"")].as_slice()
-    );
-    Ok(())
-}
-
-#[test]
 fn faults_are_placed(rt: HostRuntime) {
     for (i, (bytes, reader_failed, kind, offset)) in FAULTS.iter().enumerate() {
-        let got = read_directives(rt.alloc(), bytes, *reader_failed).err();
         let want = FrozenFault {
             kind: *kind,
             offset: *offset,
         };
-        assert_eq!(rt; got, Some(want), "row {i}");
         for block in BLOCKS {
             let got = read(rt.alloc(), bytes, block, *reader_failed).err();
             assert_eq!(rt; got, Some(want), "row {i} by {block}");
@@ -118,13 +93,11 @@ fn faults_are_placed(rt: HostRuntime) {
     }
 }
 
-// How many directives a beginning of `CUT` holds, or the fault that it has at its end.
-fn beginning(len: usize) -> Result<usize, FrozenKind> {
+// Whether a beginning of `CUT` is a file, or the fault that it has at its end.
+fn beginning(len: usize) -> Result<(), FrozenKind> {
     match len {
         0 => Err(FrozenKind::NoVersion),
-        3 => Ok(0),
-        11 => Ok(1),
-        20..=24 => Ok(2),
+        3 | 11 | 20..=24 => Ok(()),
         _ => Err(FrozenKind::PrematureEnd),
     }
 }
@@ -133,19 +106,32 @@ fn beginning(len: usize) -> Result<usize, FrozenKind> {
 fn a_file_is_cut_at_each_byte(rt: HostRuntime) {
     for len in 0..=CUT.len() {
         let bytes = CUT.split_at(len).0;
-        let got = read_directives(rt.alloc(), bytes, false).map(|list| list.len());
-        let want = beginning(len).map_err(|kind| FrozenFault {
+        let want = beginning(len).err().map(|kind| FrozenFault {
             kind,
             offset: len as u64,
         });
-        assert_eq!(rt; got, want, "cut after {len} bytes");
-        let failed = read_directives(rt.alloc(), bytes, true).err();
-        let read = FrozenFault {
-            kind: FrozenKind::Read,
-            offset: len as u64,
-        };
-        assert_eq!(rt; failed, Some(read), "failed after {len} bytes");
+        for block in BLOCKS {
+            let got = read(rt.alloc(), bytes, block, false).err();
+            assert_eq!(rt; got, want, "cut after {len} bytes by {block}");
+        }
     }
+}
+
+#[test]
+fn faults_are_placed_in_later_blocks(rt: HostRuntime) -> Result<(), Fail> {
+    for (i, (bytes, reader_failed, kind, offset)) in FAULTS.iter().enumerate() {
+        for cut in 0..=bytes.len() {
+            let before = BLOCK.saturating_sub(cut);
+            let file = behind_a_comment(rt.alloc(), before, bytes)?;
+            let got = read(rt.alloc(), &file, 4096, *reader_failed).err();
+            let want = FrozenFault {
+                kind: *kind,
+                offset: (before as u64).saturating_add(*offset),
+            };
+            assert_eq!(rt; got, Some(want), "row {i}, cut at {cut}");
+        }
+    }
+    Ok(())
 }
 
 #[test]

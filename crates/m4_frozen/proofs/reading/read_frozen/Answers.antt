@@ -1,21 +1,133 @@
-use Rattle.std.proofs.Common.{◌≡◌, List, ℕ, Bool, true, Option, Some, None, Result, Ok, Err, sym, subst, ◌∙◌}
-use Rattle.std.specs.Prelude.{IfSome}
-use Rattle.m4_state.specs.Device.{Script}
-use Rattle.m4_frozen.specs.declared.fault.FrozenFault.{FrozenFault}
-use Rattle.m4_frozen.specs.Directive.{Directive as Said}
-use Rattle.m4_frozen.specs.Outcome.{IfFault}
-use Rattle.m4_frozen.specs.Spells.{Spells}
+-- Each window is read on; what is answered for it is what the clauses say.
+use Rattle.std.proofs.Common.{◌∙◌}
+use Rattle.std.proofs.lemmas.Result.{err_from_is_err_and}
+use Rattle.m4_frozen.proofs.WindowRead.{filled, left_within, dropped, window_refused, window_ended, window_failed, never_read}
 use Rattle.m4_frozen.proofs.reading.read_frozen.Goals as goal
 
--- what is said of the bytes that came is said of those that the reader tells
-accepts_told : {A : Type 0} (r : Result A FrozenFault) (told : Option Script) (bytes : List ℕ) (failed : Bool)
-    → IfSome told (λ s. (bytes ≡ s.bytes) × (failed ≡ s.fails)) → IfFault r (λ _. (ds : List Said) → Spells ds bytes → failed ≡ true)
-    → IfFault r (λ _. IfSome told (λ s. (ds : List Said) → Spells ds s.bytes → s.fails ≡ true))
-accepts_told (Ok x) told bytes failed came h = tt
-accepts_told (Err e) None bytes failed came h = λ other. tt
-accepts_told (Err e) (Some s) bytes failed came h = λ other ds spelled. sym came.1 ∙ h other ds (subst (Spells ds) (sym came.0) spelled)
+pub returns-in_err-pause-clause-accepts : goal.returns-in_err-pause-clause-accepts
+returns-in_err-pause-clause-accepts g c =
+    let p = err_from_is_err_and c.from_residual-in_err-pause.result c.from_residual-in_err-pause.ensures.1 in
+    rw (p.1, p.2) (window_refused (g.R.ByteSource.script c.args.reader.now) (g.R.ByteSource.script c.fill.new.reader)
+    c.fill.new.self
+    c.loop-loading.loading c.read_window.new.loading c.in_err-pause.field-0.0
+    (filled (g.R.ByteSource.script c.args.reader.now) (g.R.ByteSource.script c.loop-loading.reader)
+    (g.R.ByteSource.script c.fill.new.reader) c.loop-loading.window c.fill.new.self c.loop-loading.loading
+    c.loop-loading.invariant.0 c.in_ok-behind.ensures.takes.0)
+    c.in_err-pause.ensures).accepts
 
-pub returns-clause-accepts : goal.returns-clause-accepts
-returns-clause-accepts g c =
-    accepts_told c.read_taken.result (g.R.ByteSource.script c.args.reader.now) c.in_ok-taken.taken.bytes.items c.in_ok-taken.taken.failed c.in_ok-taken.ensures.bytes
-    (rw c.deref.ensures.value at c.read_taken.ensures.accepts)
+pub returns-in_err-pause-clause-fault : goal.returns-in_err-pause-clause-fault
+returns-in_err-pause-clause-fault g c =
+    let p = err_from_is_err_and c.from_residual-in_err-pause.result c.from_residual-in_err-pause.ensures.1 in
+    rw (p.1, p.2) (window_refused (g.R.ByteSource.script c.args.reader.now) (g.R.ByteSource.script c.fill.new.reader)
+    c.fill.new.self
+    c.loop-loading.loading c.read_window.new.loading c.in_err-pause.field-0.0
+    (filled (g.R.ByteSource.script c.args.reader.now) (g.R.ByteSource.script c.loop-loading.reader)
+    (g.R.ByteSource.script c.fill.new.reader) c.loop-loading.window c.fill.new.self c.loop-loading.loading
+    c.loop-loading.invariant.0 c.in_ok-behind.ensures.takes.0)
+    c.in_err-pause.ensures).fault
+
+pub returns-in_err-pause-clause-no_memory : goal.returns-in_err-pause-clause-no_memory
+returns-in_err-pause-clause-no_memory g c =
+    let p = err_from_is_err_and c.from_residual-in_err-pause.result c.from_residual-in_err-pause.ensures.1 in
+    rw (p.1, p.2) (window_refused (g.R.ByteSource.script c.args.reader.now) (g.R.ByteSource.script c.fill.new.reader)
+    c.fill.new.self
+    c.loop-loading.loading c.read_window.new.loading c.in_err-pause.field-0.0
+    (filled (g.R.ByteSource.script c.args.reader.now) (g.R.ByteSource.script c.loop-loading.reader)
+    (g.R.ByteSource.script c.fill.new.reader) c.loop-loading.window c.fill.new.self c.loop-loading.loading
+    c.loop-loading.invariant.0 c.in_ok-behind.ensures.takes.0)
+    c.in_err-pause.ensures).no_memory
+
+pub returns-in_err-pause-clause-read_fault : goal.returns-in_err-pause-clause-read_fault
+returns-in_err-pause-clause-read_fault g c =
+    let p = err_from_is_err_and c.from_residual-in_err-pause.result c.from_residual-in_err-pause.ensures.1 in
+    never_read _ c.from_residual-in_err-pause.result
+    (rw (p.1, p.2) (window_refused (g.R.ByteSource.script c.args.reader.now) (g.R.ByteSource.script c.fill.new.reader)
+    c.fill.new.self
+    c.loop-loading.loading c.read_window.new.loading c.in_err-pause.field-0.0
+    (filled (g.R.ByteSource.script c.args.reader.now) (g.R.ByteSource.script c.loop-loading.reader)
+    (g.R.ByteSource.script c.fill.new.reader) c.loop-loading.window c.fill.new.self c.loop-loading.loading
+    c.loop-loading.invariant.0 c.in_ok-behind.ensures.takes.0)
+    c.in_err-pause.ensures).not_read)
+
+pub keep_last-requires : goal.keep_last-requires
+keep_last-requires g c =
+    left_within (g.R.ByteSource.script c.args.reader.now) (g.R.ByteSource.script c.fill.new.reader)
+    c.fill.new.self
+    c.loop-loading.loading c.read_window.new.loading c.in_ok-pause.pause
+    (filled (g.R.ByteSource.script c.args.reader.now) (g.R.ByteSource.script c.loop-loading.reader)
+    (g.R.ByteSource.script c.fill.new.reader) c.loop-loading.window c.fill.new.self c.loop-loading.loading
+    c.loop-loading.invariant.0 c.in_ok-behind.ensures.takes.0)
+    c.in_ok-pause.ensures
+
+pub loop-loading-preserved : goal.loop-loading-preserved
+loop-loading-preserved g c = (
+  dropped (g.R.ByteSource.script c.args.reader.now) (g.R.ByteSource.script c.fill.new.reader)
+      c.fill.new.self
+      c.keep_last.new.self c.loop-loading.loading c.read_window.new.loading c.in_ok-pause.pause
+      (filled (g.R.ByteSource.script c.args.reader.now) (g.R.ByteSource.script c.loop-loading.reader)
+      (g.R.ByteSource.script c.fill.new.reader) c.loop-loading.window c.fill.new.self c.loop-loading.loading
+      c.loop-loading.invariant.0 c.in_ok-behind.ensures.takes.0)
+      c.in_ok-pause.ensures c.keep_last.ensures.bytes c.keep_last.ensures.came,
+  (rw c.in-More.is at c.in_ok-behind.ensures.counted) ∙ c.loop-loading.invariant.1,
+)
+
+pub returns-in-End-clause-loaded : goal.returns-in-End-clause-loaded
+returns-in-End-clause-loaded g c =
+    (window_ended (g.R.ByteSource.script c.args.reader.now) (g.R.ByteSource.script c.fill.new.reader)
+    c.fill.new.self
+    c.loop-loading.loading c.read_window.new.loading c.in_ok-pause.pause c.end.result
+    (filled (g.R.ByteSource.script c.args.reader.now) (g.R.ByteSource.script c.loop-loading.reader)
+    (g.R.ByteSource.script c.fill.new.reader) c.loop-loading.window c.fill.new.self c.loop-loading.loading
+    c.loop-loading.invariant.0 c.in_ok-behind.ensures.takes.0)
+    c.in_ok-pause.ensures (rw c.in-End.is at c.in_ok-behind.ensures.takes.1) c.end.ensures).loaded
+
+pub returns-in-End-clause-accepts : goal.returns-in-End-clause-accepts
+returns-in-End-clause-accepts g c =
+    (window_ended (g.R.ByteSource.script c.args.reader.now) (g.R.ByteSource.script c.fill.new.reader)
+    c.fill.new.self
+    c.loop-loading.loading c.read_window.new.loading c.in_ok-pause.pause c.end.result
+    (filled (g.R.ByteSource.script c.args.reader.now) (g.R.ByteSource.script c.loop-loading.reader)
+    (g.R.ByteSource.script c.fill.new.reader) c.loop-loading.window c.fill.new.self c.loop-loading.loading
+    c.loop-loading.invariant.0 c.in_ok-behind.ensures.takes.0)
+    c.in_ok-pause.ensures (rw c.in-End.is at c.in_ok-behind.ensures.takes.1) c.end.ensures).accepts
+
+pub returns-in-End-clause-fault : goal.returns-in-End-clause-fault
+returns-in-End-clause-fault g c =
+    (window_ended (g.R.ByteSource.script c.args.reader.now) (g.R.ByteSource.script c.fill.new.reader)
+    c.fill.new.self
+    c.loop-loading.loading c.read_window.new.loading c.in_ok-pause.pause c.end.result
+    (filled (g.R.ByteSource.script c.args.reader.now) (g.R.ByteSource.script c.loop-loading.reader)
+    (g.R.ByteSource.script c.fill.new.reader) c.loop-loading.window c.fill.new.self c.loop-loading.loading
+    c.loop-loading.invariant.0 c.in_ok-behind.ensures.takes.0)
+    c.in_ok-pause.ensures (rw c.in-End.is at c.in_ok-behind.ensures.takes.1) c.end.ensures).fault
+
+pub returns-in-End-clause-no_memory : goal.returns-in-End-clause-no_memory
+returns-in-End-clause-no_memory g c =
+    (window_ended (g.R.ByteSource.script c.args.reader.now) (g.R.ByteSource.script c.fill.new.reader)
+    c.fill.new.self
+    c.loop-loading.loading c.read_window.new.loading c.in_ok-pause.pause c.end.result
+    (filled (g.R.ByteSource.script c.args.reader.now) (g.R.ByteSource.script c.loop-loading.reader)
+    (g.R.ByteSource.script c.fill.new.reader) c.loop-loading.window c.fill.new.self c.loop-loading.loading
+    c.loop-loading.invariant.0 c.in_ok-behind.ensures.takes.0)
+    c.in_ok-pause.ensures (rw c.in-End.is at c.in_ok-behind.ensures.takes.1) c.end.ensures).no_memory
+
+pub returns-in-End-clause-read_fault : goal.returns-in-End-clause-read_fault
+returns-in-End-clause-read_fault g c =
+    never_read _ c.end.result
+    (window_ended (g.R.ByteSource.script c.args.reader.now) (g.R.ByteSource.script c.fill.new.reader)
+    c.fill.new.self
+    c.loop-loading.loading c.read_window.new.loading c.in_ok-pause.pause c.end.result
+    (filled (g.R.ByteSource.script c.args.reader.now) (g.R.ByteSource.script c.loop-loading.reader)
+    (g.R.ByteSource.script c.fill.new.reader) c.loop-loading.window c.fill.new.self c.loop-loading.loading
+    c.loop-loading.invariant.0 c.in_ok-behind.ensures.takes.0)
+    c.in_ok-pause.ensures (rw c.in-End.is at c.in_ok-behind.ensures.takes.1) c.end.ensures).not_read
+
+pub returns-in-Failure-clause-fault : goal.returns-in-Failure-clause-fault
+returns-in-Failure-clause-fault g c = λ room.
+    window_failed (g.R.ByteSource.script c.args.reader.now) (g.R.ByteSource.script c.fill.new.reader)
+    c.fill.new.self
+    c.loop-loading.loading c.read_window.new.loading c.in_ok-pause.pause c.failure.result
+    (filled (g.R.ByteSource.script c.args.reader.now) (g.R.ByteSource.script c.loop-loading.reader)
+    (g.R.ByteSource.script c.fill.new.reader) c.loop-loading.window c.fill.new.self c.loop-loading.loading
+    c.loop-loading.invariant.0 c.in_ok-behind.ensures.takes.0)
+    c.in_ok-pause.ensures (rw c.in-Failure.is at c.in_ok-behind.ensures.takes.1) c.failure.ensures

@@ -1,0 +1,160 @@
+-- A file that is read window by window: what goes on, and what is answered.
+use Rattle.std.proofs.Common.{◌≡◌, ◌≢◌, ℕ, ◌-◌, ◌≤◌, true, false, List, [], ◌++◌, length, drop, Option, Some, None, Result, Ok, Err, refl, sym, ap, ◌∙◌, append_assoc, arith, inl, inr}
+use Rattle.std.specs.Prelude.{IfSome, IfOk, IfErr}
+use Rattle.std.proofs.lemmas.List.{length-append, drop_at}
+use Rattle.m4_state.specs.Device.{Script, after_bytes, IsAtEnd, IsAtFault}
+use Rattle.m4_frozen.specs.declared.fault.FrozenFault.{FrozenFault}
+use Rattle.m4_frozen.specs.declared.fault.FrozenKind.TheVariants as kinds
+use Rattle.m4_frozen.specs.declared.fault.Refusal.{Refusal}
+use Rattle.m4_frozen.specs.declared.loading.Loaded.{Loaded}
+use Rattle.m4_frozen.specs.declared.loading.Loading.{Loading}
+use Rattle.m4_frozen.specs.declared.loading.Pause.{Pause}
+use Rattle.m4_frozen.specs.declared.window.Window.{Window}
+use Rattle.m4_frozen.specs.Blocks.{HasCome, IsUnderway, ReadsWindow, EndsAs}
+use Rattle.m4_frozen.specs.Directive.{Directive}
+use Rattle.m4_frozen.specs.FaultAt.{FaultAt, IsSettledBy, IsFaultOfFailed, read_fault}
+use Rattle.m4_frozen.specs.Outcome.{IfFault, IsFaultOf, Loads}
+use Rattle.m4_frozen.specs.Spells.{Spells}
+use Rattle.m4_frozen.specs.Underway.{EndsSo}
+use Rattle.m4_frozen.proofs.Answered.{read_is_spelled, not_read, fault_has_memory, failed_unless_stays, failed_if_read}
+use Rattle.m4_frozen.proofs.Told.{settled_told, ended_told, loaded_told, failed_told, refused_told}
+
+-- blocks one behind the other
+after_both : (x y : List ℕ) (s : Option Script)
+    → after_bytes x (after_bytes y s) ≡ after_bytes (x ++ y) s
+after_both x y None = refl
+after_both x y (Some s) =
+    ap (λ (z : List ℕ). let t : Script = record { bytes = z; fails = s.fails } in Some t)
+    (sym (append_assoc x y s.bytes))
+
+-- bytes came
+pub filled : (at_first told later : Option Script) (w v : Window) (l : Loading)
+    → IsUnderway at_first told w l → HasCome w v told later → IsUnderway at_first later v l
+filled at_first told later w v l u c =
+    let all : u.read ++ v.bytes.items ≡ (u.read ++ w.bytes.items) ++ c.block =
+    ap (λ (xs : List ℕ). u.read ++ xs) c.bytes ∙ sym (append_assoc u.read w.bytes.items c.block) in record {
+      read = u.read;
+      gives = u.gives ∙ ap (after_bytes (u.read ++ w.bytes.items)) c.gives
+          ∙ after_both (u.read ++ w.bytes.items) c.block later
+          ∙ ap (λ (xs : List ℕ). after_bytes xs later) (sym all);
+      came = omega (arith, c.came, u.came, ap length all, length-append (u.read ++ w.bytes.items) c.block);
+      has_read = u.has_read;
+    }
+
+-- what is left is among the bytes
+pub left_within : (at_first told : Option Script) (w : Window) (old new : Loading) (pause : Pause)
+    → IsUnderway at_first told w old → ReadsWindow w old new (Ok pause)
+    → pause.left ≤ length w.bytes.items
+left_within at_first told w old new pause u r =
+    let p = r u.read u.has_read in
+    omega (arith, p.left, ap length p.spelled, length-append p.front p.rest)
+
+-- what was read is dropped
+pub dropped : (at_first told : Option Script) (w v : Window) (old new : Loading) (pause : Pause)
+    → IsUnderway at_first told w old → ReadsWindow w old new (Ok pause)
+    → v.bytes.items ≡ drop (length w.bytes.items - pause.left) w.bytes.items → v.came ≡ w.came
+    → IsUnderway at_first told v new
+dropped at_first told w v old new pause u r kept came =
+    let p = r u.read u.has_read in
+    let rest : v.bytes.items ≡ p.rest =
+    kept ∙ ap (drop (length w.bytes.items - pause.left)) p.spelled
+    ∙ drop_at p.front p.rest (length w.bytes.items - pause.left)
+    (omega (arith, p.left, ap length p.spelled, length-append p.front p.rest)) in
+    let all : (u.read ++ p.front) ++ v.bytes.items ≡ u.read ++ w.bytes.items =
+    append_assoc u.read p.front v.bytes.items
+    ∙ ap (λ (xs : List ℕ). u.read ++ xs) (ap (λ (xs : List ℕ). p.front ++ xs) rest ∙ sym p.spelled) in record {
+      read = u.read ++ p.front;
+      gives = u.gives ∙ ap (λ (xs : List ℕ). after_bytes xs told) (sym all);
+      came = came ∙ u.came ∙ ap length (sym all);
+      has_read = p.has_read;
+    }
+
+-- what the clauses of `read_frozen` say of an answer, but for failures
+pub record Answers (at_first : Option Script) (r : Result Loaded FrozenFault) : Type 0 where
+  pub loaded : IfOk r (λ l. IfSome at_first (λ s. (s.fails ≡ false) × Loads s.bytes l))
+  pub accepts : IfFault r (λ f. IfSome at_first (λ s. (ds : List Directive) → Spells ds s.bytes → s.fails ≡ true))
+  pub fault : IfFault r (λ f. IfSome at_first (λ s. IsFaultOf s.fails s.bytes f))
+  pub no_memory : IfErr r (λ f. f.kind ≡ kinds.OutOfMemory → f.offset ≡ 0)
+  pub not_read : IfErr r (λ f. f.kind ≡ kinds.Read → ⊥)
+
+-- a fault of the bytes
+refuses : (at_first : Option Script) (f : FrozenFault)
+    → IfSome at_first (λ s. IsFaultOf s.fails s.bytes f) → f.kind ≢ kinds.OutOfMemory
+    → (f.kind ≡ kinds.Read → ⊥) → Answers at_first (Err f)
+refuses at_first f h room unread = record {
+  loaded = tt;
+  accepts = λ other. refused_told at_first f h;
+  fault = λ other. h;
+  no_memory = λ e. absurd (room e);
+  not_read = unread;
+}
+
+-- want of memory
+lacks_memory : (at_first : Option Script) → Answers at_first (Err (record { kind = kinds.OutOfMemory; offset = 0 }))
+lacks_memory at_first = record {
+  loaded = tt;
+  accepts = λ room. absurd (room refl);
+  fault = λ room. absurd (room refl);
+  no_memory = λ e. refl;
+  not_read = λ e. cc;
+}
+
+-- a fault of a window
+pub window_refused : (at_first told : Option Script) (w : Window) (old new : Loading) (f : FrozenFault)
+    → IsUnderway at_first told w old → ReadsWindow w old new (Err f) → Answers at_first (Err f)
+window_refused at_first told w old new f u (inl e) = rw e (lacks_memory at_first)
+window_refused at_first told w old new f u (inr h) =
+    let given : List ℕ = u.read ++ w.bytes.items in
+    let settled : IsSettledBy given f = h u.read u.has_read u.came in
+    let now : FaultAt (given ++ []) f = settled [] in
+    refuses at_first f (settled_told at_first told given f u.gives settled)
+    (fault_has_memory false (given ++ []) f now) (not_read (given ++ []) f now.is)
+
+-- the end of the file
+pub window_ended : (at_first told : Option Script) (w : Window) (old new : Loading) (pause : Pause)
+    (r : Result Loaded FrozenFault)
+    → IsUnderway at_first told w old → ReadsWindow w old new (Ok pause) → IsAtEnd told
+    → EndsAs w new pause r → Answers at_first r
+window_ended at_first told w old new pause (Ok l) u p end h =
+    let given : List ℕ = u.read ++ w.bytes.items in
+    let ends = (p u.read u.has_read).ends in record {
+      loaded = loaded_told at_first told given l u.gives end (h given ends);
+      accepts = tt;
+      fault = tt;
+      no_memory = tt;
+      not_read = tt;
+    }
+window_ended at_first told w old new pause (Err f) u p end h =
+    let given : List ℕ = u.read ++ w.bytes.items in
+    let now : FaultAt given f = h given (p u.read u.has_read).ends u.came in
+    refuses at_first f (ended_told at_first told given f u.gives end now)
+    (fault_has_memory false given f now) (not_read given f now.is)
+
+-- what a pause says of a reader that failed
+failed_pause : (given : List ℕ) (l : Loading) (refusal : Option Refusal) → EndsSo given l refusal
+    → IsFaultOfFailed given (read_fault given)
+failed_pause given l None h = failed_if_read given h.directives ((read_is_spelled h.directives given).1 h.spelled)
+failed_pause given l (Some e) h = failed_unless_stays given e h.0 h.1
+
+-- the reader failed
+pub window_failed : (at_first told : Option Script) (w : Window) (old new : Loading) (pause : Pause)
+    (f : FrozenFault)
+    → IsUnderway at_first told w old → ReadsWindow w old new (Ok pause) → IsAtFault told
+    → f ≡ record { kind = kinds.Read; offset = w.came }
+    → IfSome at_first (λ s. IsFaultOf s.fails s.bytes f)
+window_failed at_first told w old new pause f u p end e =
+    let given : List ℕ = u.read ++ w.bytes.items in
+    let place : f ≡ read_fault given = e ∙ ap (λ (n : ℕ). record { kind = kinds.Read; offset = n }) u.came in
+    failed_told at_first told given f u.gives end
+    (rw place (failed_pause given new pause.refusal (p u.read u.has_read).ends))
+
+-- an answer that another one is
+pub same_answer : (at_first : Option Script) (r s : Result Loaded FrozenFault) → r ≡ s
+    → Answers at_first s → Answers at_first r
+same_answer at_first r s e h = rw e h
+
+-- what is never answered
+pub never_read : (P : Type 0) (r : Result Loaded FrozenFault) → IfErr r (λ f. f.kind ≡ kinds.Read → ⊥)
+    → IfErr r (λ f. f.kind ≡ kinds.Read → P)
+never_read P (Ok l) h = tt
+never_read P (Err f) h = λ e. absurd (h e)

@@ -1,0 +1,13 @@
+-- What came so far stands behind what was there, and no take failed.
+use Rattle.std.proofs.Common.{◌≡◌, ◌≤◌}
+use Rattle.m4_frozen.specs.Blocks.{HasCome}
+use Rattle.m4_frozen.proofs.window.Window.fill.Given as goal
+
+abbrev pub invariant-loop-n : goal.invariant-loop-n
+invariant-loop-n g l =
+    HasCome l.initial.self l.self (g.R.ByteSource.script l.initial.reader) (g.R.ByteSource.script l.reader)
+    × (g.R.ByteSource.failures l.reader ≡ g.R.ByteSource.failures l.initial.reader)
+    × (g.R.ByteSource.takes_left l.reader ≤ g.R.ByteSource.takes_left l.initial.reader)
+
+abbrev pub decreases-loop-n : goal.decreases-loop-n
+decreases-loop-n g l = g.R.ByteSource.takes_left l.reader

@@ -1,0 +1,61 @@
+-- Where a file stands whose bytes come block by block from a reader.
+-- Not believed: private contracts cite it; `read_frozen` says the same of whole files.
+-- Words: Fills, Stands, failures_behind, IsUnderway.
+use Rattle.std.specs.Prelude.{◌≡◌, ℕ, ◌+◌, List, ◌++◌, length, Option, Result, Ok, Err, ◌⊎◌}
+use Rattle.m4_state.specs.Device.{Script, after_bytes, one_more, IsAtEnd, IsAtFault}
+use Rattle.m4_frozen.specs.declared.fault.FrozenKind.TheVariants as kinds
+use Rattle.m4_frozen.specs.declared.fault.FrozenFault.{FrozenFault}
+use Rattle.m4_frozen.specs.declared.loading.Loaded.{Loaded}
+use Rattle.m4_frozen.specs.declared.loading.Loading.{Loading}
+use Rattle.m4_frozen.specs.declared.loading.Pause.{Pause}
+use Rattle.m4_frozen.specs.declared.window.Behind.{Behind}
+use Rattle.m4_frozen.specs.declared.window.Behind.TheVariants as behinds
+use Rattle.m4_frozen.specs.declared.window.Window.{Window}
+use Rattle.m4_frozen.specs.FaultAt.{FaultAt, IsSettledBy}
+use Rattle.m4_frozen.specs.Outcome.{Loads}
+use Rattle.m4_frozen.specs.Underway.{IsRead, HasPaused, EndsSo}
+
+-- where a reader stands of which this is known
+abbrev pub Stands : Behind → Option Script → Type 0
+Stands behinds.More told = Unit {0}
+Stands behinds.End told = IsAtEnd told
+Stands behinds.Failure told = IsAtFault told
+
+-- the count of its failures
+abbrev pub failures_behind : Behind → ℕ → ℕ
+failures_behind behinds.Failure n = one_more n
+failures_behind behind n = n
+
+-- bytes came behind those that were there
+pub record HasCome (old new : Window) (told_old told_new : Option Script) : Type 0 where
+  pub block : List ℕ
+  pub bytes : new.bytes.items ≡ old.bytes.items ++ block
+  pub came : new.came ≡ old.came + length block
+  pub gives : told_old ≡ after_bytes block told_new
+
+-- so they did, and this is known of the reader
+abbrev pub Fills : Window → Window → Option Script → Option Script → Behind → Type 0
+Fills old new told_old told_new behind = HasCome old new told_old told_new × Stands behind told_new
+
+-- what came was read, but for the bytes of the window
+pub record IsUnderway (at_first told : Option Script) (window : Window) (loading : Loading)
+    : Type 0 where
+  pub read : List ℕ
+  pub gives : at_first ≡ after_bytes (read ++ window.bytes.items) told
+  pub came : window.came ≡ length (read ++ window.bytes.items)
+  pub has_read : IsRead read loading
+
+-- what is read of a window, whose bytes stand behind those that were read
+abbrev pub ReadsWindow : Window → Loading → Loading → Result Pause FrozenFault → Type 0
+ReadsWindow window old new (Ok pause) =
+    (read : List ℕ) → IsRead read old → HasPaused read window.bytes.items new pause
+ReadsWindow window old new (Err fault) = (fault ≡ record { kind = kinds.OutOfMemory; offset = 0 })
+    ⊎ ((read : List ℕ) → IsRead read old → window.came ≡ length (read ++ window.bytes.items)
+    → IsSettledBy (read ++ window.bytes.items) fault)
+
+-- what is answered where the file ends behind a window
+abbrev pub EndsAs : Window → Loading → Pause → Result Loaded FrozenFault → Type 0
+EndsAs window loading pause (Ok loaded) = (given : List ℕ) → EndsSo given loading pause.refusal
+    → Loads given loaded
+EndsAs window loading pause (Err fault) = (given : List ℕ) → EndsSo given loading pause.refusal
+    → window.came ≡ length given → FaultAt given fault
