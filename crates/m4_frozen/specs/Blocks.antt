@@ -1,4 +1,4 @@
--- Where a file stands whose bytes come block by block from a reader.
+-- Blocks: where a file stands whose bytes come block by block from a reader.
 -- Not believed: private contracts cite it; `read_frozen` says the same of whole files.
 -- Words: Fills, Stands, failures_behind, IsUnderway.
 use Rattle.std.specs.Prelude.{◌≡◌, ℕ, ◌+◌, List, ◌++◌, length, Option, Result, Ok, Err, ◌⊎◌}

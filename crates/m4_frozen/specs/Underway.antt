@@ -1,4 +1,4 @@
--- What was read of a file so far, where its bytes come block by block.
+-- Underway: what was read of a file so far, where its bytes come block by block.
 -- Not believed: private contracts cite it; `read_frozen` says the same of whole files.
 -- Words: Skips, HasRead, ReadsOne, PausesAt, Advances.
 use Rattle.std.specs.Prelude.{◌≡◌, ℕ, ℤ, ◌+◌, ◌-◌, ◌<◌, ◌≤◌, Bool, true, false, List, [], ◌∷◌, ◌++◌, length, drop, Option, Some, None, Result, Ok, Err, ◌⊎◌}
