@@ -11,6 +11,7 @@ pub mod Settled
 pub mod Unsettled
 pub mod Answered
 pub mod ReadOn
+pub mod TextRead
 pub mod Told
 pub mod WindowRead
 pub mod Examples

@@ -12,9 +12,9 @@ use Rattle.std.proofs.lemmas.Bool.Decides.{nat_tests}
 use Rattle.m4_frozen.specs.Ascii.{newline, comma, minus_sign, letter_C, letter_D, letter_F, letter_Q, letter_T, letter_V}
 use Rattle.m4_frozen.specs.declared.fault.Refusal.{Refusal}
 use Rattle.m4_frozen.specs.Directive.{Directive, Quotes, Comments, Text, Builtin, Diversion}
-use Rattle.m4_frozen.specs.Spells.{is_blank, AreBlanks, AreDigits, value_of, IsNumber, IsPair, AreSkippedLines, SpellsAll, Spells, signed, with_sign, IsDiversion, SpellsOne}
+use Rattle.m4_frozen.specs.Spells.{is_blank, AreBlanks, AreDigits, value_of, IsNumber, IsPair, AreSkippedLines, SpellsAll, Spells, signed, IsSigned, with_sign, IsDiversion, SpellsOne}
 use Rattle.m4_frozen.specs.Layout.{no_digit_first}
-use Rattle.m4_frozen.specs.ReaderSteps.{skip_blanks, digits_at, some_digits_at, one_at_least, length_at, string_at, pair_at, with_pair, magnitude_at, signed_at, diversion_at, directive_at, skip_lines, next_at, directives_at, version_at, file_at}
+use Rattle.m4_frozen.specs.ReaderSteps.{skip_blanks, digits_at, some_digits_at, one_at_least, length_at, string_at, pair_at, with_pair, magnitude_at, signed_at, head_at, diversion_at, directive_at, skip_lines, next_at, directives_at, version_at, file_at}
 use Rattle.m4_frozen.proofs.SkippedLines.{skip_lines-append, skip_lines-last}
 use Rattle.m4_frozen.proofs.ByteTests.{both_true}
 
@@ -95,7 +95,7 @@ string_at-append n text rest e =
 abbrev strings_of : List ℕ → List ℕ → List ℕ → List ℕ
 strings_of first second rest = first ++ (second ++ newline ∷ rest)
 
-abbrev comma_on : List ℕ → List ℕ → List ℕ → List ℕ
+abbrev pub comma_on : List ℕ → List ℕ → List ℕ → List ℕ
 comma_on blanks number rest = blanks ++ comma ∷ (number ++ newline ∷ rest)
 
 -- what stands behind the letter of a pair, grouped as it is read
@@ -199,24 +199,32 @@ abbrev diversion_text : (number : ℤ) (text bytes : List ℕ) → IsDiversion n
 diversion_text number text bytes p rest =
     p.first_number ++ comma_on p.blanks p.second_number (text ++ newline ∷ rest)
 
--- a diversion is read behind its letter
-diversion_at-spelled : (number : ℤ) (text bytes rest : List ℕ) → (p : IsDiversion number text bytes)
-    → diversion_at (diversion_text number text bytes p rest) ≡ Ok ((number, text), rest)
-unfolding diversion_at
-diversion_at-spelled number text bytes rest p =
-    let text_on : List ℕ = text ++ newline ∷ rest in
-    let c : List ℕ = comma_on p.blanks p.second_number text_on in
-    let n = p.number_is in
-    let start : skip_blanks (p.first_number ++ c) ≡ skip_blanks (with_sign n.minus n.digits ++ c) =
+-- the number and the length of a diversion are read
+pub head_at-spelled : (number : ℤ) (len : ℕ) (first blanks second rest : List ℕ) → IsSigned number first
+    → FitsSigned w32 number → AreBlanks blanks → IsNumber len second → len < 2 ^ 64
+    → head_at (first ++ comma_on blanks second rest) ≡ Ok ((number, len), rest)
+head_at-spelled number len first blanks second rest n fits are m lt =
+    let c : List ℕ = comma_on blanks second rest in
+    let start : skip_blanks (first ++ c) ≡ skip_blanks (with_sign n.minus n.digits ++ c) =
     ap (λ (bs : List ℕ). skip_blanks (bs ++ c)) n.spelled
     ∙ ap skip_blanks (append_assoc n.blanks (with_sign n.minus n.digits) c)
     ∙ skip_blanks-append n.blanks (with_sign n.minus n.digits ++ c) n.are_blanks in
     rw (
       start,
       signed_at-digits n.minus n.digits c number n.are_digits
-          (comma_apart p.blanks p.second_number text_on p.are_blanks) n.value p.fits.0,
-      comma_found p.blanks p.second_number text_on p.are_blanks,
-      length_at-number (length text) p.second_number (newline ∷ text_on) p.text_length p.fits.1 refl,
+          (comma_apart blanks second rest are) n.value fits,
+      comma_found blanks second rest are,
+      length_at-number len second (newline ∷ rest) m lt refl,
+    ) refl
+
+-- a diversion is read behind its letter
+diversion_at-spelled : (number : ℤ) (text bytes rest : List ℕ) → (p : IsDiversion number text bytes)
+    → diversion_at (diversion_text number text bytes p rest) ≡ Ok ((number, text), rest)
+unfolding diversion_at
+diversion_at-spelled number text bytes rest p =
+    rw (
+      head_at-spelled number (length text) p.first_number p.blanks p.second_number
+          (text ++ newline ∷ rest) p.number_is p.fits.0 p.are_blanks p.text_length p.fits.1,
       string_at-append (length text) text (newline ∷ rest) refl,
     ) refl
 

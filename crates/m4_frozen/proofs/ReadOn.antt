@@ -1,5 +1,5 @@
 -- A file that is read on: lines are skipped, the version or a directive is read, or it is refused.
-use Rattle.std.proofs.Common.{◌≡◌, ℕ, zero, suc, ◌+◌, ◌-◌, ◌<◌, ◌≤◌, Bool, true, false, eqb, List, [], ◌∷◌, ◌++◌, length, drop, Some, None, Result, Ok, Err, refl, sym, ap, subst, ◌∙◌, append_assoc, arith, inl, inr}
+use Rattle.std.proofs.Common.{◌≡◌, ℕ, zero, suc, ◌+◌, ◌-◌, ◌<◌, ◌≤◌, Bool, true, false, eqb, List, [], ◌∷◌, ◌++◌, length, drop, Option, Some, None, Result, Ok, Err, refl, sym, ap, subst, ◌∙◌, append_assoc, arith, inl, inr}
 use Rattle.std.specs.Prelude.{fold}
 use Rattle.std.proofs.lemmas.List.{append-nil, length-append, drop_at, drop-drop}
 use Rattle.std.proofs.lemmas.List.Elements.{All-nil}
@@ -17,7 +17,7 @@ use Rattle.m4_frozen.specs.Outcome.{Loads}
 use Rattle.m4_frozen.specs.Spells.{IsSkippedLine, AreSkippedLines}
 use Rattle.m4_frozen.specs.ReaderSteps.{◌>>=◌, skip_lines, next_at, directive_at, directives_at, behind_version, file_at, is_settled}
 use Rattle.m4_frozen.proofs.ByteTests.{test}
-use Rattle.m4_frozen.specs.Underway.{StandsAt, Skips, with_front, left_at, HasRead, HasReadOne, HasAdvanced, HasPaused, ReadsOne, IsWithin, PausesAt, Advances, stays}
+use Rattle.m4_frozen.specs.Underway.{StandsAt, Skips, with_front, left_at, HasRead, ReadAs, IsRead, HasReadOne, HasAdvanced, HasPaused, Keeps, ReadsOne, IsWithin, PausesAt, Advances, EndsSo, stays}
 use Rattle.m4_frozen.proofs.SkippedLines.{skip_lines-append}
 use Rattle.m4_frozen.proofs.ReadBack.{one_is_read, next_at-spelled, version_at-number}
 use Rattle.m4_frozen.proofs.Parts.{Step}
@@ -30,7 +30,7 @@ with_front-nil (Ok ds) = refl
 with_front-nil (Err e) = refl
 
 -- a directive that is read goes behind those before it
-regroup : (front : List Directive) (d : Directive) (read : Result (List Directive) Refusal)
+pub regroup : (front : List Directive) (d : Directive) (read : Result (List Directive) Refusal)
     → with_front front (read >>= λ ds. Ok (d ∷ ds)) ≡ with_front (front ++ d ∷ []) read
 regroup front d (Ok ds) = ap (λ (xs : List Directive). Ok xs) (simp append_assoc)
 regroup front d (Err e) = refl
@@ -84,14 +84,14 @@ skip_twice false (b ∷ bs) = elim (test (eqb b newline)) [
 ]
 
 -- lines before directives say nothing
-directives_at-skip : (n : ℕ) (bytes : List ℕ)
+pub directives_at-skip : (n : ℕ) (bytes : List ℕ)
     → directives_at n (skip_lines false bytes) ≡ directives_at n bytes
 unfolding directives_at
 directives_at-skip zero bytes = refl
 directives_at-skip (suc n) bytes = rw (skip_twice false bytes) refl
 
 -- where no line begins, none is skipped
-at_letter : (inside : Bool) (bytes : List ℕ)
+pub at_letter : (inside : Bool) (bytes : List ℕ)
     → StandsAt inside bytes
     → skip_lines inside bytes ≡ bytes
 at_letter true [] h = refl
@@ -148,6 +148,7 @@ has_read_version bytes behind l (inr at) v e =
       one = s.one;
       spelled = s.spelled;
       some = s.some;
+      no_text = refl;
       has_read = λ read h. record {
         directives = h.directives;
         state = h.state;
@@ -192,7 +193,7 @@ no_lines : AreSkippedLines []
 no_lines = ([], All-nil IsSkippedLine, refl)
 
 -- the state behind one more directive
-fold-push : (s : State) (ds : List Directive) (d : Directive)
+pub fold-push : (s : State) (ds : List Directive) (d : Directive)
     → fold with_directive s (ds ++ d ∷ []) ≡ with_directive (fold with_directive s ds) d
 fold-push s [] d = refl
 fold-push s (x ∷ ds) d = fold-push (with_directive s x) ds d
@@ -212,24 +213,27 @@ one_more (suc n) front d bytes after lt h =
 pub has_read_directive : (bytes behind : List ℕ) (d : Directive) (l new : Loading)
     → StandsAt l.inside bytes
     → l.versioned ≡ true → next_at bytes ≡ Ok (Some (d, behind))
-    → new.state ≡ with_directive l.state d → new.issued.items ≡ l.issued.items ++ issued_by d
-    → new.versioned ≡ l.versioned → new.inside ≡ l.inside
+    → new ≡ record l { state = with_directive l.state d; issued = new.issued }
+    → new.issued.items ≡ l.issued.items ++ issued_by d
     → HasReadOne bytes l new behind
-has_read_directive [] behind d l new at v e s i nv ni = absurd cc
-has_read_directive (b ∷ bs) behind d l new (inl none) v e s i nv ni = absurd cc
-has_read_directive (b ∷ bs) behind d l new (inr at) v e s i nv ni =
+has_read_directive [] behind d l new at v e s i = absurd cc
+has_read_directive (b ∷ bs) behind d l new (inl none) v e s i = absurd cc
+has_read_directive (b ∷ bs) behind d l new (inr at) v e s i =
     let k = directive_ok b bs (directive_at b bs) d behind (directive_here b bs at.1) e in record {
       one = b ∷ k.0;
       spelled = ap (λ (xs : List ℕ). b ∷ xs) k.2;
       some = omega arith;
+      no_text = ap (λ (x : Loading). x.missing) s;
       has_read = λ read h. record {
         directives = h.directives ++ d ∷ [];
-        state = s ∙ ap (λ (x : State). with_directive x d) h.state
+        state = ap (λ (x : Loading). x.state) s ∙ ap (λ (x : State). with_directive x d) h.state
             ∙ sym (fold-push empty h.directives d);
         issued = i ∙ rw (h.issued, flat_map-append issued_by h.directives (d ∷ []), append-nil (issued_by d)) refl;
         goes_on = λ more. let g = h.goes_on ((b ∷ k.0) ++ more) in
             let next : next_at (skip_lines false ((b ∷ k.0) ++ more)) ≡ Ok (Some (d, more)) =
             next_at-spelled d [] (b ∷ k.0) more no_lines (one_is_read d (b ∷ k.0) more k.1) in
+            let nv : new.versioned ≡ true = ap (λ (x : Loading). x.versioned) s ∙ v in
+            let ni : new.inside ≡ false = ap (λ (x : Loading). x.inside) s ∙ at.0 in
             record {
               count = g.count - 1;
               enough = omega (arith, g.enough, length-append (b ∷ k.0) more);
@@ -237,7 +241,7 @@ has_read_directive (b ∷ bs) behind d l new (inr at) v e s i nv ni =
                   ∙ (rw (at.0, v) at g.answer)
                   ∙ ap (with_front h.directives) (directives_at-skip g.count ((b ∷ k.0) ++ more))
                   ∙ one_more g.count h.directives d ((b ∷ k.0) ++ more) more (omega (arith, g.enough)) next
-                  ∙ rw (nv, v, ni, at.0) (ap (with_front (h.directives ++ d ∷ []))
+                  ∙ rw (nv, ni) (ap (with_front (h.directives ++ d ∷ []))
                   (sym (directives_at-skip (g.count - 1) more)));
             };
       };
@@ -335,6 +339,7 @@ pub advanced_more : (bytes rest here behind : List ℕ) (old l new : Loading) (i
 advanced_more bytes rest here behind old l new inside a s o = record {
   front = a.front ++ s.skipped ++ o.one;
   spelled = rw (a.spelled, s.spelled, o.spelled) (simp append_assoc);
+  no_text = o.no_text ∙ a.no_text;
   has_read = λ read h.
       rw (append_assoc a.front s.skipped o.one, sym (append_assoc read a.front (s.skipped ++ o.one)), sym (append_assoc (read ++ a.front) s.skipped o.one))
       (o.has_read (read ++ a.front ++ s.skipped)
@@ -348,12 +353,16 @@ pub advanced_less : (rest here behind : List ℕ) (l new : Loading) (inside : Bo
 advanced_less rest here behind l new inside s o =
     omega (arith, ap length s.spelled, length-append s.skipped here, ap length o.spelled, length-append o.one behind, o.some)
 
+-- where no text is open
+pub plain : (read : List ℕ) (l : Loading) → l.missing ≡ None → HasRead read l → IsRead read l
+plain read l n h = subst (λ (o : Option ℕ). ReadAs o read l) (sym n) h
+
 -- all was read
 pub paused_at_end : (bytes rest here : List ℕ) (old l : Loading) (inside : Bool) (read : List ℕ)
     → HasAdvanced bytes old l rest → Skips l.inside rest inside here → here ≡ []
-    → l.versioned ≡ true → HasRead read old
+    → l.versioned ≡ true → old.missing ≡ None → HasRead read old
     → HasPaused read bytes (record l { inside = inside }) (record { left = 0; refusal = None })
-paused_at_end bytes rest here old l inside read a s none v h =
+paused_at_end bytes rest here old l inside read a s none v n h =
     let new : Loading = record l { inside = inside } in
     let all : bytes ≡ a.front ++ s.skipped = a.spelled ∙ ap (λ (xs : List ℕ). a.front ++ xs) (s.spelled ∙ rw (none, append-nil s.skipped) refl) in
     let got : HasRead (read ++ bytes) new =
@@ -363,34 +372,47 @@ paused_at_end bytes rest here old l inside read a s none v h =
       rest = [];
       spelled = sym (append-nil bytes);
       left = refl;
-      has_read = got;
+      has_read = plain (read ++ bytes) new (a.no_text ∙ n) got;
       ends = loads_at_end (read ++ bytes) new got v;
     }
 
 -- more bytes are needed
-pub paused_before_end : (bytes rest here : List ℕ) (old l : Loading) (inside : Bool) (x : Refusal)
-    (read : List ℕ)
+pub paused_before_end : (bytes rest here : List ℕ) (old l final : Loading) (inside : Bool)
+    (x : Refusal) (pause : Pause) (read : List ℕ) → old.missing ≡ None
     → HasAdvanced bytes old l rest → Skips l.inside rest inside here → x.bytes_left ≤ length here
     → ((before : List ℕ) → HasRead before (record l { inside = inside }) → file_at (before ++ here) ≡ Err x)
-    → stays here x ≡ false → HasRead read old
-    → HasPaused read bytes (record l { inside = inside }) (record { left = length here; refusal = Some x })
-paused_before_end bytes rest here old l inside x read a s le refused unsettled h =
+    → pause.refusal ≡ Some x → stays here x ≡ false
+    → Keeps here (record l { inside = inside }) final pause.left → HasRead read old
+    → HasPaused read bytes final pause
+paused_before_end bytes rest here old l final inside x pause read n a s le refused is unsettled keeps h =
     let new : Loading = record l { inside = inside } in
-    let parts : read ++ bytes ≡ read ++ (a.front ++ s.skipped) ++ here =
-    rw (a.spelled, s.spelled) (simp append_assoc) in
-    let got : HasRead (read ++ (a.front ++ s.skipped)) new =
+    let read_here : List ℕ = read ++ (a.front ++ s.skipped) in
+    let parts : read ++ bytes ≡ read_here ++ here = rw (a.spelled, s.spelled) (simp append_assoc) in
+    let got : HasRead read_here new =
     rw (sym (append_assoc read a.front s.skipped))
-    (has_read_lines (read ++ a.front) s.skipped l inside (a.has_read read h) s.same) in record {
-      front = a.front ++ s.skipped;
-      rest = here;
-      spelled = rw (a.spelled, s.spelled) (simp append_assoc);
-      left = refl;
-      has_read = got;
-      ends = (
-        ap file_at parts ∙ refused (read ++ (a.front ++ s.skipped)) got,
-        ap (λ (xs : List ℕ). stays xs x) parts ∙ stays_behind (read ++ (a.front ++ s.skipped)) here x le ∙ unsettled,
-      );
-    }
+    (has_read_lines (read ++ a.front) s.skipped l inside (a.has_read read h) s.same) in
+    let so : EndsSo (read ++ bytes) final (Some x) = (
+      ap file_at parts ∙ refused read_here got,
+      ap (λ (xs : List ℕ). stays xs x) parts ∙ stays_behind read_here here x le ∙ unsettled,
+    ) in
+    elim keeps [
+      | inl k ↦ record {
+        front = a.front ++ s.skipped;
+        rest = here;
+        spelled = rw (a.spelled, s.spelled) (simp append_assoc);
+        left = sym k.0;
+        has_read = subst (IsRead read_here) (sym k.1) (plain read_here new (a.no_text ∙ n) got);
+        ends = rw is so;
+      }
+      | inr k ↦ record {
+        front = bytes;
+        rest = [];
+        spelled = sym (append-nil bytes);
+        left = sym k.0;
+        has_read = subst (λ (xs : List ℕ). IsRead xs final) (sym parts) (k.1 read_here got);
+        ends = rw is so;
+      }
+    ]
 
 -- the refusal stays
 pub refused_for_good : (bytes rest here : List ℕ) (old l : Loading) (inside : Bool) (x : Refusal)
@@ -411,19 +433,24 @@ refused_for_good bytes rest here old l inside x read a s le refused settled h =
     )
 
 -- a stop where one more was to be read, and what is answered for it
-pub advance_stopped : (bytes rest here : List ℕ) (old l new : Loading) (inside : Bool) (stop : ReadStop)
-    (r : Result Pause ReadStop)
+pub advance_stopped : (bytes rest here : List ℕ) (old l new final : Loading) (inside : Bool)
+    (stop : ReadStop) (r : Result Pause ReadStop) → old.missing ≡ None
     → HasAdvanced bytes old l rest → Skips l.inside rest inside here
-    → ReadsOne here (record l { inside = inside }) new (Err stop) → PausesAt stop here r
-    → Advances bytes old new r
-advance_stopped bytes rest here old l new inside stops.OutOfMemory r a s o p = rw p tt
-advance_stopped bytes rest here old l new inside (stops.Refused x) (Ok pause) a s o p = λ read h.
-    rw (p.0, o.0) (paused_before_end bytes rest here old l inside x read a s o.1 o.2 p.1 h)
-advance_stopped bytes rest here old l new inside (stops.Refused x) (Err stop) a s o p =
-    rw p.0 (λ read h. refused_for_good bytes rest here old l inside x read a s o.1 o.2 p.1 h)
+    → ReadsOne here (record l { inside = inside }) new (Err stop) → PausesAt stop here new final r
+    → Advances bytes old final r
+advance_stopped bytes rest here old l new final inside stop (Err stops.OutOfMemory) n a s o p = tt
+advance_stopped bytes rest here old l new final inside stop (Err (stops.Refused x)) n a s o p =
+    let q = rw p.0 at o in
+    λ read h. refused_for_good bytes rest here old l inside x read a s q.1 q.2 p.1 h
+advance_stopped bytes rest here old l new final inside stops.OutOfMemory (Ok pause) n a s o p = absurd p
+advance_stopped bytes rest here old l new final inside (stops.Refused x) (Ok pause) n a s o p =
+    λ read h. paused_before_end bytes rest here old l final inside x pause read n a s o.1 o.2 p.0 p.1
+    (subst (λ (y : Loading). Keeps here y final pause.left) o.0 p.2) h
 
 -- so the place of its refusal is among the bytes
-pub stop_within : (here : List ℕ) (old new : Loading) (stop : ReadStop)
-    → ReadsOne here old new (Err stop) → IsWithin stop here
-stop_within here old new stops.OutOfMemory o = tt
-stop_within here old new (stops.Refused x) o = o.1
+pub stop_within : (here : List ℕ) (l new : Loading) (inside : Bool) (stop : ReadStop)
+    → StandsAt inside here
+    → ReadsOne here (record l { inside = inside }) new (Err stop) → IsWithin stop new.inside here
+stop_within here l new inside stops.OutOfMemory at o = tt
+stop_within here l new inside (stops.Refused x) at o =
+    (o.1, rw (ap (λ (y : Loading). y.inside) o.0) at)

@@ -13,7 +13,7 @@ use Rattle.m4_frozen.specs.declared.window.Behind.TheVariants as behinds
 use Rattle.m4_frozen.specs.declared.window.Window.{Window}
 use Rattle.m4_frozen.specs.FaultAt.{FaultAt, IsSettledBy}
 use Rattle.m4_frozen.specs.Outcome.{Loads}
-use Rattle.m4_frozen.specs.Underway.{HasRead, HasPaused, EndsSo}
+use Rattle.m4_frozen.specs.Underway.{IsRead, HasPaused, EndsSo}
 
 -- where a reader stands of which this is known
 abbrev pub Stands : Behind → Option Script → Type 0
@@ -43,14 +43,14 @@ pub record IsUnderway (at_first told : Option Script) (window : Window) (loading
   pub read : List ℕ
   pub gives : at_first ≡ after_bytes (read ++ window.bytes.items) told
   pub came : window.came ≡ length (read ++ window.bytes.items)
-  pub has_read : HasRead read loading
+  pub has_read : IsRead read loading
 
 -- what is read of a window, whose bytes stand behind those that were read
 abbrev pub ReadsWindow : Window → Loading → Loading → Result Pause FrozenFault → Type 0
 ReadsWindow window old new (Ok pause) =
-    (read : List ℕ) → HasRead read old → HasPaused read window.bytes.items new pause
+    (read : List ℕ) → IsRead read old → HasPaused read window.bytes.items new pause
 ReadsWindow window old new (Err fault) = (fault ≡ record { kind = kinds.OutOfMemory; offset = 0 })
-    ⊎ ((read : List ℕ) → HasRead read old → window.came ≡ length (read ++ window.bytes.items)
+    ⊎ ((read : List ℕ) → IsRead read old → window.came ≡ length (read ++ window.bytes.items)
     → IsSettledBy (read ++ window.bytes.items) fault)
 
 -- what is answered where the file ends behind a window

@@ -113,16 +113,22 @@ signed_at (b ∷ bs) =
     if b == minus_sign then magnitude_at (b ∷ bs) true bs
     else magnitude_at (b ∷ bs) false (b ∷ bs)
 
--- `number,len NL str NL`, and the bytes behind it
-unfoldable pub diversion_at : List ℕ → Result ((ℤ × List ℕ) × List ℕ) Refusal
-diversion_at bytes = do
+-- `number,len NL`, and the bytes behind it
+abbrev pub head_at : List ℕ → Result ((ℤ × ℕ) × List ℕ) Refusal
+head_at bytes = do
   z ← signed_at (skip_blanks bytes)
   r ← expect_byte comma (skip_blanks z.1)
   m ← length_at r
   r ← expect_byte newline m.1
-  t ← string_at m.0 r
+  Ok ((z.0, m.0), r)
+
+-- `number,len NL str NL`, and the bytes behind it
+unfoldable pub diversion_at : List ℕ → Result ((ℤ × List ℕ) × List ℕ) Refusal
+diversion_at bytes = do
+  h ← head_at bytes
+  t ← string_at h.0.1 h.1
   r ← expect_byte newline t.1
-  Ok ((z.0, t.0), r)
+  Ok ((h.0.0, t.0), r)
 
 -- a directive by its letter, behind which the bytes stand
 unfoldable pub directive_at : ℕ → List ℕ → Result (Directive × List ℕ) Refusal

@@ -1,17 +1,21 @@
 -- What was read of a file so far, where its bytes come block by block.
 -- Not believed: private contracts cite it; `read_frozen` says the same of whole files.
 -- Words: Skips, HasRead, ReadsOne, PausesAt, Advances.
-use Rattle.std.specs.Prelude.{◌≡◌, ℕ, ◌+◌, ◌-◌, ◌<◌, ◌≤◌, Bool, true, false, List, [], ◌++◌, length, drop, Option, Some, None, Result, Ok, Err, ◌⊎◌}
+use Rattle.std.specs.Prelude.{◌≡◌, ℕ, ℤ, ◌+◌, ◌-◌, ◌<◌, ◌≤◌, Bool, true, false, List, [], ◌∷◌, ◌++◌, length, drop, Option, Some, None, Result, Ok, Err, ◌⊎◌}
 use Rattle.std.specs.Borrow.{Bor}
+use Rattle.m4_state.specs.State.{diverted, appended}
+use Rattle.m4_state.specs.declared.fault.StateFault.{StateFault}
+use Rattle.m4_frozen.specs.Ascii.{newline}
+use Rattle.m4_frozen.specs.declared.fault.FrozenKind.TheVariants as kinds
 use Rattle.m4_frozen.specs.declared.fault.ReadStop.{ReadStop}
 use Rattle.m4_frozen.specs.declared.fault.ReadStop.TheVariants as stops
 use Rattle.m4_frozen.specs.declared.fault.Refusal.{Refusal}
 use Rattle.m4_frozen.specs.declared.loading.Loading.{Loading}
 use Rattle.m4_frozen.specs.declared.loading.Pause.{Pause}
-use Rattle.m4_frozen.specs.Denote.{denote}
-use Rattle.m4_frozen.specs.Directive.{Directive}
+use Rattle.m4_frozen.specs.Denote.{denote, issued_by}
+use Rattle.m4_frozen.specs.Directive.{Directive, Diversion}
 use Rattle.m4_frozen.specs.Outcome.{Loads}
-use Rattle.m4_frozen.specs.ReaderSteps.{◌>>=◌, skip_lines, directives_at, behind_version, file_at, is_settled}
+use Rattle.m4_frozen.specs.ReaderSteps.{◌>>=◌, skip_lines, string_at, expect_byte, directives_at, behind_version, file_at, is_settled}
 
 -- no line stands at the front, where this says whether a comment has begun
 abbrev pub StandsAt : Bool → List ℕ → Type 0
@@ -52,29 +56,80 @@ pub record HasRead (read : List ℕ) (loading : Loading) : Type 0 where
 pub record HasAdvanced (bytes : List ℕ) (old new : Loading) (rest : List ℕ) : Type 0 where
   pub front : List ℕ
   pub spelled : bytes ≡ front ++ rest
+  pub no_text : new.missing ≡ old.missing
   pub has_read : (read : List ℕ) → HasRead read old → HasRead (read ++ front) new
+
+-- what is read behind the beginning of a diversion's text, of which so many bytes are missing
+unfoldable pub text_left : ℕ → ℤ → List ℕ → ℕ → List ℕ → Result (List Directive) Refusal
+text_left count number came missing bytes = do
+  t ← string_at missing bytes
+  r ← expect_byte newline t.1
+  ds ← directives_at count r
+  Ok (Diversion number (came ++ t.0) ∷ ds)
+
+-- what a file is read as that goes on with these bytes within a text
+pub record GoesOnIn (read : List ℕ) (ds : List Directive) (number : ℤ) (came : List ℕ)
+    (missing : ℕ) (more : List ℕ) : Type 0 where
+  pub count : ℕ
+  pub enough : length more ≤ count
+  pub answer : file_at (read ++ more) ≡ with_front ds (text_left count number came missing more)
+
+-- these bytes were read, whatever follows them, the last ones of them the beginning of a text
+pub record HasReadIn (read : List ℕ) (loading : Loading) (missing : ℕ) : Type 0 where
+  pub directives : List Directive
+  pub number : ℤ
+  pub came : List ℕ
+  pub state : loading.state ≡ appended (diverted (denote directives).state number) came
+  pub issued : loading.issued.items ≡ (denote directives).issued ++ issued_by (Diversion number came)
+  pub place : (loading.versioned ≡ true) × (loading.inside ≡ false)
+  pub goes_on : (more : List ℕ) → GoesOnIn read directives number came missing more
+
+-- these bytes were read, within a text where so many bytes of one are missing
+abbrev pub ReadAs : Option ℕ → List ℕ → Loading → Type 0
+ReadAs None read loading = HasRead read loading
+ReadAs (Some missing) read loading = HasReadIn read loading missing
+
+abbrev pub IsRead : List ℕ → Loading → Type 0
+IsRead read loading = ReadAs loading.missing read loading
+
+-- the refusal of a file that ends too early
+abbrev pub short : Refusal
+short = record { kind = kinds.PrematureEnd; bytes_left = 0 }
 
 -- whether the fault of these bytes stays, whatever follows them
 abbrev pub stays : List ℕ → Refusal → Bool
 stays given e = is_settled e.kind (drop (length given - e.bytes_left) given)
 
--- the place of a refusal is among these bytes
-abbrev pub IsWithin : ReadStop → List ℕ → Type 0
-IsWithin stops.OutOfMemory here = Unit {0}
-IsWithin (stops.Refused e) here = e.bytes_left ≤ length here
+-- the place of a refusal is among these bytes, at which no line stands
+abbrev pub IsWithin : ReadStop → Bool → List ℕ → Type 0
+IsWithin stops.OutOfMemory inside here = Unit {0}
+IsWithin (stops.Refused e) inside here = (e.bytes_left ≤ length here) × StandsAt inside here
+
+-- a diversion is begun whose text is not whole, or nothing is read
+abbrev pub Opens : List ℕ → Loading → Loading → Result Bool StateFault → Type 0
+Opens here old new (Ok true) = (read : List ℕ) → HasRead read old → IsRead (read ++ here) new
+Opens here old new (Ok false) = new ≡ old
+Opens here old new (Err fault) = Unit {0}
+
+-- the last bytes are kept, or they begin a text
+abbrev pub Keeps : List ℕ → Loading → Loading → ℕ → Type 0
+Keeps here old new left = ((left ≡ length here) × (new ≡ old))
+    ⊎ ((left ≡ 0) × ((read : List ℕ) → HasRead read old → IsRead (read ++ here) new))
 
 -- a pause where more bytes could mend a refusal, else the stop itself
-abbrev pub PausesAt : ReadStop → List ℕ → Result Pause ReadStop → Type 0
-PausesAt stops.OutOfMemory here r = r ≡ Err stops.OutOfMemory
-PausesAt (stops.Refused e) here (Ok pause) =
-    (pause ≡ record { left = length here; refusal = Some e }) × (stays here e ≡ false)
-PausesAt (stops.Refused e) here (Err stop) = (stop ≡ stops.Refused e) × (stays here e ≡ true)
+abbrev pub PausesAt : ReadStop → List ℕ → Loading → Loading → Result Pause ReadStop → Type 0
+PausesAt stop here old new (Err stops.OutOfMemory) = Unit {0}
+PausesAt stop here old new (Err (stops.Refused e)) = (stop ≡ stops.Refused e) × (stays here e ≡ true)
+PausesAt stops.OutOfMemory here old new (Ok pause) = ⊥
+PausesAt (stops.Refused e) here old new (Ok pause) =
+    (pause.refusal ≡ Some e) × (stays here e ≡ false) × Keeps here old new pause.left
 
 -- the version or a directive was read at the front
 pub record HasReadOne (bytes : List ℕ) (old new : Loading) (behind : List ℕ) : Type 0 where
   pub one : List ℕ
   pub spelled : bytes ≡ one ++ behind
   pub some : 0 < length one
+  pub no_text : new.missing ≡ old.missing
   pub has_read : (read : List ℕ) → HasRead read old → HasRead (read ++ one) new
 
 -- what stands at the front: the version or a directive; the end; or a refusal
@@ -96,12 +151,34 @@ pub record HasPaused (read bytes : List ℕ) (new : Loading) (pause : Pause) : T
   pub rest : List ℕ
   pub spelled : bytes ≡ front ++ rest
   pub left : length rest ≡ pause.left
-  pub has_read : HasRead (read ++ front) new
+  pub has_read : IsRead (read ++ front) new
   pub ends : EndsSo (read ++ bytes) new pause.refusal
 
--- what is read of more bytes: all that are whole, or a fault that stays
+-- what is read of more bytes, where this was read before: all that are whole, or a fault that stays
+abbrev pub ReadsOn : (List ℕ → Type 0) → List ℕ → Loading → Result Pause ReadStop → Type 0
+ReadsOn Before bytes new (Ok pause) = (read : List ℕ) → Before read → HasPaused read bytes new pause
+ReadsOn Before bytes new (Err stops.OutOfMemory) = Unit {0}
+ReadsOn Before bytes new (Err (stops.Refused e)) = (read : List ℕ) → Before read
+    → (file_at (read ++ bytes) ≡ Err e) × (stays (read ++ bytes) e ≡ true)
+
+-- where no text is open
 abbrev pub Advances : List ℕ → Loading → Loading → Result Pause ReadStop → Type 0
-Advances bytes old new (Ok pause) = (read : List ℕ) → HasRead read old → HasPaused read bytes new pause
-Advances bytes old new (Err stops.OutOfMemory) = Unit {0}
-Advances bytes old new (Err (stops.Refused e)) = (read : List ℕ) → HasRead read old
+Advances bytes old new r = ReadsOn (λ read. HasRead read old) bytes new r
+
+-- a text was read to its end
+pub record HasReadText (bytes : List ℕ) (old : Loading) (missing : ℕ) (new : Loading)
+    (behind : List ℕ) : Type 0 where
+  pub one : List ℕ
+  pub spelled : bytes ≡ one ++ behind
+  pub no_text : new.missing ≡ None
+  pub has_read : (read : List ℕ) → HasReadIn read old missing → HasRead (read ++ one) new
+
+-- what is read of a text: its end, all the bytes, or a refusal
+abbrev pub ReadsText : List ℕ → Loading → ℕ → Loading
+    → Result (Option (Bor (List ℕ))) ReadStop → Type 0
+ReadsText bytes old missing new (Ok (Some behind)) = HasReadText bytes old missing new behind.now
+ReadsText bytes old missing new (Ok None) = (read : List ℕ) → HasReadIn read old missing
+    → IsRead (read ++ bytes) new × (file_at (read ++ bytes) ≡ Err short)
+ReadsText bytes old missing new (Err stops.OutOfMemory) = Unit {0}
+ReadsText bytes old missing new (Err (stops.Refused e)) = (read : List ℕ) → HasReadIn read old missing
     → (file_at (read ++ bytes) ≡ Err e) × (stays (read ++ bytes) e ≡ true)

@@ -1,16 +1,19 @@
 //! A frozen file that is read as its bytes come: each directive is applied to the state as soon as it
 //! is whole. Manual: "Frozen file format".
 
-ghost use Rattle.std.specs.Prelude.{◌≡◌, ◌++◌, [], true, IfOk, OnOk};
+ghost use Rattle.std.specs.Prelude.{◌≡◌, ◌++◌, [], true, None, IfOk, OnOk};
 ghost use Rattle.m4_state.specs.Definition.{IsDefinition};
 ghost use Rattle.m4_frozen.specs.Denote.{with_directive, issued_by, definition_named};
+ghost use Rattle.m4_state.specs.State.{appended};
+ghost use Rattle.m4_frozen.specs.Directive as directives;
 ghost use Rattle.m4_frozen.specs.DirectiveView.{directive_of};
 ghost use Rattle.m4_frozen.specs.Underway as underway;
 
 use crate::directive::Directive;
-use crate::fault::{ReadStop, Refusal};
+use crate::fault::{FrozenKind, ReadStop, Refusal, refused_at};
 use crate::lines::skip_lines;
-use crate::reader::{behind_version, next_directive, stays};
+use crate::reader::{behind_version, diversion_line, next_directive, stays};
+use crate::strings::{diversion_head, expect_byte};
 use m4_state::builtin::Builtin;
 use m4_state::bytes::Bytes;
 use m4_state::definition::Def;
@@ -36,6 +39,9 @@ pub(crate) struct Loading {
     versioned: bool,
     /// Whether a comment line has begun.
     inside: bool,
+    /// How many bytes of the current diversion's text have not come, if one has begun: a text goes to
+    /// the state as it comes, so that a long one is not held twice.
+    missing: Option<usize>,
 }
 
 /// Where more bytes are needed.
@@ -50,13 +56,14 @@ pub(crate) struct Pause {
 impl Loading {
     /// Nothing came yet.
     pub(crate) fn new(alloc: Global) -> Result<Loading, StateFault>
-        ensures { IfOk result (underway.HasRead []) }
+        ensures { IfOk result (underway.IsRead []) }
     {
         Ok(Loading {
             state: State::empty(alloc)?,
             issued: Vec::new(alloc),
             versioned: false,
             inside: false,
+            missing: None,
         })
     }
 
@@ -65,6 +72,23 @@ impl Loading {
     /// A refusal stays whatever follows. A stop may leave a part of a directive applied, and no call
     /// may follow it.
     pub(crate) fn advance(&mut self, alloc: Global, bytes: &[u8]) -> Result<Pause, ReadStop>
+        ensures { underway.ReadsOn (λ read. underway.IsRead read self.old) bytes.now self.new result }
+    {
+        let Some(missing) = self.missing else {
+            return self.read_whole(alloc, bytes);
+        };
+        match self.read_text(missing, bytes)? {
+            Some(behind) => self.read_whole(alloc, behind),
+            None => Ok(Pause {
+                left: 0,
+                refusal: Some(refused_at(FrozenKind::PrematureEnd, &[])),
+            }),
+        }
+    }
+
+    /// Reads all that is whole, where no text is open.
+    fn read_whole(&mut self, alloc: Global, bytes: &[u8]) -> Result<Pause, ReadStop>
+        requires { self.old.missing ≡ None }
         ensures { underway.Advances bytes.now self.old self.new result }
     {
         let mut rest = bytes;
@@ -73,7 +97,7 @@ impl Loading {
             self.inside = inside;
             let one = match self.read_one(alloc, here) {
                 Ok(one) => one,
-                Err(stop) => return pause_at(stop, here),
+                Err(stop) => return self.pause_at(stop, here),
             };
             match one {
                 Some(behind) => rest = behind,
@@ -120,17 +144,112 @@ impl Loading {
         }
     }
 
-    /// Applies a directive: to the state, and to the text that is issued.
-    fn apply(&mut self, alloc: Global, directive: &Directive<'_>) -> Result<(), StateFault>
-        ensures state { OnOk result (self.new.state ≡ with_directive self.old.state (directive_of directive.now)) }
-        ensures issued { OnOk result (self.new.issued.items ≡ self.old.issued.items ++ issued_by (directive_of directive.now)) }
-        ensures place { (self.new.versioned ≡ self.old.versioned) × (self.new.inside ≡ self.old.inside) }
+    /// A pause at these bytes, the last ones that came, unless the stop stays whatever follows them.
+    fn pause_at(&mut self, stop: ReadStop, here: &[u8]) -> Result<Pause, ReadStop>
+        requires { underway.IsWithin stop self.old.inside here.now }
+        ensures { underway.PausesAt stop here.now self.old self.new result }
     {
-        apply(alloc, &mut self.state, directive)?;
-        if let Directive::Diversion(0, text) = directive {
+        let ReadStop::Refused(refusal) = stop else {
+            return Err(ReadStop::OutOfMemory);
+        };
+        if stays(refusal, here) {
+            return Err(ReadStop::Refused(refusal));
+        }
+        let opened = self.open_text(here)?;
+        Ok(Pause {
+            left: if opened { 0 } else { here.len() },
+            refusal: Some(refusal),
+        })
+    }
+
+    /// Begins a diversion, if one stands here whose text or its newline has not come.
+    fn open_text(&mut self, here: &[u8]) -> Result<bool, StateFault>
+        requires { underway.StandsAt self.old.inside here.now }
+        ensures { underway.Opens here.now self.old self.new result }
+    {
+        let Some(line) = diversion_line(here) else {
+            return Ok(false);
+        };
+        let Ok(((number, len), text)) = diversion_head(line) else {
+            return Ok(false);
+        };
+        let len = len as usize;
+        if !self.versioned || len < text.len() {
+            return Ok(false);
+        }
+        self.state.divert(number);
+        self.add(text)?;
+        self.missing = Some(len - text.len());
+        Ok(true)
+    }
+
+    /// Reads what came of a text: up to its end, whose newline is taken too, or all of the bytes.
+    fn read_text<'a>(
+        &mut self,
+        missing: usize,
+        bytes: &'a [u8],
+    ) -> Result<Option<&'a [u8]>, ReadStop>
+        ensures { underway.ReadsText bytes.now self.old missing self.new result }
+    {
+        let (more, behind) = bytes.split_at(missing.min(bytes.len()));
+        self.add(more)?;
+        if behind.is_empty() {
+            self.missing = Some(missing - more.len());
+            return Ok(None);
+        }
+        let behind = expect_byte(b'\n', behind)?;
+        self.missing = None;
+        Ok(Some(behind))
+    }
+
+    /// Adds text to the current diversion, or to what is issued where its number is 0.
+    fn add(&mut self, text: &[u8]) -> Result<(), StateFault>
+        ensures added { OnOk result (self.new ≡ record self.old {
+          state = appended self.old.state text.now;
+          issued = self.new.issued;
+        }) }
+        ensures issued { OnOk result (self.new.issued.items
+            ≡ self.old.issued.items ++ issued_by (directives.Diversion self.old.state.current text.now)) }
+    {
+        self.state.append(text)?;
+        if self.state.current() == 0 {
             self.issued.extend_from_slice(text)?;
         }
         Ok(())
+    }
+
+    /// Applies a directive: to the state, or to the text that is issued. A refusal may leave a part of
+    /// it applied: the state is then dropped.
+    fn apply(&mut self, alloc: Global, directive: &Directive<'_>) -> Result<(), StateFault>
+        ensures applied { OnOk result (self.new ≡ record self.old {
+          state = with_directive self.old.state (directive_of directive.now);
+          issued = self.new.issued;
+        }) }
+        ensures issued { OnOk result (self.new.issued.items
+            ≡ self.old.issued.items ++ issued_by (directive_of directive.now)) }
+    {
+        match directive {
+            Directive::Quotes(begin, end) => self.state.set_quotes(
+                Bytes::from_slice(alloc, begin)?,
+                Bytes::from_slice(alloc, end)?,
+            ),
+            Directive::Comments(begin, end) => self.state.set_comments(
+                Bytes::from_slice(alloc, begin)?,
+                Bytes::from_slice(alloc, end)?,
+            ),
+            Directive::Text(name, text) => self.state.push(
+                Bytes::from_slice(alloc, name)?,
+                Def::Text(Bytes::from_slice(alloc, text)?),
+            ),
+            Directive::Builtin(name, builtin) => self.state.push(
+                Bytes::from_slice(alloc, name)?,
+                builtin_or_placeholder(alloc, builtin)?,
+            ),
+            Directive::Diversion(number, text) => {
+                self.state.divert(*number);
+                self.add(text)
+            }
+        }
     }
 
     /// What was loaded, at the end of the file.
@@ -140,51 +259,6 @@ impl Loading {
         Loaded {
             state: self.state,
             issued: Bytes::from(self.issued),
-        }
-    }
-}
-
-/// A pause at these bytes, the last ones that came, unless the stop stays whatever follows them.
-fn pause_at(stop: ReadStop, here: &[u8]) -> Result<Pause, ReadStop>
-    requires { underway.IsWithin stop here.now }
-    ensures { underway.PausesAt stop here.now result }
-{
-    let ReadStop::Refused(refusal) = stop else {
-        return Err(ReadStop::OutOfMemory);
-    };
-    if stays(refusal, here) {
-        return Err(ReadStop::Refused(refusal));
-    }
-    Ok(Pause {
-        left: here.len(),
-        refusal: Some(refusal),
-    })
-}
-
-/// Applies one directive. A refusal may leave a part of it applied: the state is then dropped.
-fn apply(alloc: Global, state: &mut State, directive: &Directive<'_>) -> Result<(), StateFault>
-    ensures { OnOk result (state.new ≡ with_directive state.old (directive_of directive.now)) }
-{
-    match directive {
-        Directive::Quotes(begin, end) => state.set_quotes(
-            Bytes::from_slice(alloc, begin)?,
-            Bytes::from_slice(alloc, end)?,
-        ),
-        Directive::Comments(begin, end) => state.set_comments(
-            Bytes::from_slice(alloc, begin)?,
-            Bytes::from_slice(alloc, end)?,
-        ),
-        Directive::Text(name, text) => state.push(
-            Bytes::from_slice(alloc, name)?,
-            Def::Text(Bytes::from_slice(alloc, text)?),
-        ),
-        Directive::Builtin(name, builtin) => state.push(
-            Bytes::from_slice(alloc, name)?,
-            builtin_or_placeholder(alloc, builtin)?,
-        ),
-        Directive::Diversion(number, text) => {
-            state.divert(*number);
-            state.append(text)
         }
     }
 }

@@ -5,7 +5,8 @@
 //! apart. Contracts speak of the reader's own steps, `specs/ReaderSteps.antt`.
 //! Manual: "Frozen file format".
 
-ghost use Rattle.std.specs.Prelude.{◌≡◌, ◌≤◌, ◌-◌, length, drop};
+ghost use Rattle.std.specs.Prelude.{◌≡◌, ◌≤◌, ◌-◌, ◌∷◌, length, drop, IfSome};
+ghost use Rattle.m4_frozen.specs.Ascii.{letter_D};
 ghost use Rattle.std.specs.Option.{option_map};
 ghost use Rattle.m4_frozen.specs.DirectiveView.{directive_of};
 ghost use Rattle.m4_frozen.specs.ReaderSteps as steps;
@@ -46,6 +47,16 @@ pub(crate) fn behind_version(bytes: &[u8]) -> Result<&[u8], Refusal>
         [] => Err(refused_at(FrozenKind::NoVersion, bytes)),
         [b'V', rest @ ..] => expect_byte(b'\n', version(rest)?),
         [..] => Err(refused_at(FrozenKind::NoVersion, bytes)),
+    }
+}
+
+/// The bytes behind the letter of a diversion, if it stands at the front.
+pub(crate) fn diversion_line(bytes: &[u8]) -> Option<&[u8]>
+    ensures { IfSome result (λ line. bytes.now ≡ letter_D ∷ line.now) }
+{
+    match bytes {
+        [b'D', line @ ..] => Some(line),
+        _ => None,
     }
 }
 

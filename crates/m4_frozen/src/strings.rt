@@ -50,15 +50,23 @@ pub(crate) fn pair(bytes: &[u8]) -> Result<((&[u8], &[u8]), &[u8]), Refusal>
     Ok(((first, second), rest))
 }
 
-/// The number of a diversion, a length and the string, and the bytes behind them.
-#[tactic(auto, unfolding(crate::specs::ReaderSteps::diversion_at))]
-pub(crate) fn diversion(bytes: &[u8]) -> Result<((i32, &[u8]), &[u8]), Refusal>
-    ensures { Gives (λ x. ((x.0.0, x.0.1.now), x.1.now)) result (steps.diversion_at bytes.now) }
+/// The number of a diversion and the length of its text, and the bytes behind their line.
+pub(crate) fn diversion_head(bytes: &[u8]) -> Result<((i32, u64), &[u8]), Refusal>
+    ensures { Gives (λ x. ((x.0.0, x.0.1), x.1.now)) result (steps.head_at bytes.now) }
 {
     let (number, rest) = signed_number(skip_blanks(bytes))?;
     let rest = expect_byte(b',', skip_blanks(rest))?;
     let (n, rest) = length(rest)?;
     let rest = expect_byte(b'\n', rest)?;
+    Ok(((number, n), rest))
+}
+
+/// The number of a diversion, a length and the string, and the bytes behind them.
+#[tactic(auto, unfolding(crate::specs::ReaderSteps::diversion_at))]
+pub(crate) fn diversion(bytes: &[u8]) -> Result<((i32, &[u8]), &[u8]), Refusal>
+    ensures { Gives (λ x. ((x.0.0, x.0.1.now), x.1.now)) result (steps.diversion_at bytes.now) }
+{
+    let ((number, n), rest) = diversion_head(bytes)?;
     let (text, rest) = string(n, rest)?;
     let rest = expect_byte(b'\n', rest)?;
     Ok(((number, text), rest))

@@ -1,24 +1,9 @@
--- Each round reads lines and one more, pauses, or stops.
-use Rattle.m4_frozen.proofs.ReadOn.{advanced_more, paused_at_end, advance_stopped}
+-- The rest of a text is read, and then what is behind it.
+use Rattle.m4_frozen.proofs.TextRead.{text_then_whole}
 use Rattle.m4_frozen.proofs.loading.Loading.advance.Goals as goal
 
-pub loop-one-preserved : goal.loop-one-preserved
-loop-one-preserved c =
-    advanced_more c.args.bytes.now c.loop-one.rest.now c.skip_lines-inside.result.1.now
-    c.in-Some.behind.now c.args.self.now c.loop-one.self c.read_one.new.self
-    c.skip_lines-inside.result.0 c.loop-one.invariant c.skip_lines-inside.ensures
-    (rw c.in-Some.is at c.in-Ok.ensures)
-
-pub returns-in-None : goal.returns-in-None
-returns-in-None c = λ read h.
-    let o = rw c.in-None.is at c.in-Ok.ensures in
-    rw o.2 (paused_at_end c.args.bytes.now c.loop-one.rest.now c.skip_lines-inside.result.1.now
-    c.args.self.now c.loop-one.self c.skip_lines-inside.result.0 read c.loop-one.invariant
-    c.skip_lines-inside.ensures o.0 o.1 h)
-
-pub returns-in-Err : goal.returns-in-Err
-returns-in-Err c =
-    advance_stopped c.args.bytes.now c.loop-one.rest.now c.skip_lines-inside.result.1.now
-    c.args.self.now c.loop-one.self c.read_one.new.self c.skip_lines-inside.result.0 c.in-Err.stop
-    c.pause_at.result c.loop-one.invariant c.skip_lines-inside.ensures c.in-Err.ensures
-    c.pause_at.ensures
+pub returns-in-Some-2 : goal.returns-in-Some-2
+returns-in-Some-2 c =
+    text_then_whole c.args.bytes.now c.in-Some-2.behind.now c.args.self.now c.read_text.new.self
+    c.read_whole-in-Some-2.new.self c.in-Some.missing c.read_whole-in-Some-2.result c.in-Some.is
+    (rw c.in-Some-2.is at c.in_ok-behind.ensures) c.read_whole-in-Some-2.ensures

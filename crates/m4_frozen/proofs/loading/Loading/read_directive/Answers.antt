@@ -28,5 +28,4 @@ returns-in_ok-apply-in-Some c =
     has_read_directive c.args.bytes.now c.in-Some.behind.now (directive_of c.in-Some.directive)
     c.args.self.now c.apply.new.self c.requires.stands c.requires.versioned
     (rw c.in-Some.is at c.in_ok-next_directive.ensures)
-    c.in_ok-apply-in-Some.ensures.state c.in_ok-apply-in-Some.ensures.issued
-    c.in_ok-apply-in-Some.ensures.place.0 c.in_ok-apply-in-Some.ensures.place.1
+    c.in_ok-apply-in-Some.ensures.applied c.in_ok-apply-in-Some.ensures.issued

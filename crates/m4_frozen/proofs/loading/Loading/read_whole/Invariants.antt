@@ -1,7 +1,7 @@
 -- All but the rest was read.
 use Rattle.std.proofs.Common.{length}
 use Rattle.m4_frozen.specs.Underway.{HasAdvanced}
-use Rattle.m4_frozen.proofs.loading.Loading.advance.Given as goal
+use Rattle.m4_frozen.proofs.loading.Loading.read_whole.Given as goal
 
 abbrev pub invariant-loop-one : goal.invariant-loop-one
 invariant-loop-one l = HasAdvanced l.bytes l.initial.self l.self l.rest
