@@ -77,11 +77,7 @@ impl Loading {
         let Some(missing) = self.missing else {
             return self.read_whole(alloc, bytes);
         };
-        let one = match self.read_text(missing, bytes) {
-            Ok(one) => one,
-            Err(stop) => return Err(stop),
-        };
-        match one {
+        match self.read_text(missing, bytes)? {
             Some(behind) => self.read_whole(alloc, behind),
             None => Ok(Pause {
                 left: 0,
