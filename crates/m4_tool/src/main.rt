@@ -23,10 +23,9 @@ use m4_engine::run::run;
 use m4_engine::source::Source;
 use m4_state::memory::MemSink;
 use m4_state::standard::{StdSink, StdSource};
-use shared::{Prompting, Shared};
+use shared::{Prompting, Shown};
 use sources::{FileOrInput, INPUT, source_name};
 use std::alloc::{AllocError, Global};
-use std::cell::RefCell;
 use std::env::Env;
 use std::io::{BufReader, BufWriter, ErrorKind, Input, Read, Write};
 use std::process::ExitCode;
@@ -131,24 +130,24 @@ fn run_files<E: Write + Drop>(
     requires prefix { line.now.options.prefix ≡ false }
     requires freeze { line.now.options.freeze ≡ false }
 {
-    let writer = BufWriter::with_capacity(rt.alloc(), BLOCK, io::writer(rt))?;
-    let shown = RefCell::new(writer);
-    Ok(run_shown(rt, errors, line, &shown)?)
+    let output = BufWriter::with_capacity(rt.alloc(), BLOCK, io::writer(rt))?;
+    let messages = BufWriter::with_capacity(rt.alloc(), BLOCK, errors)?;
+    let shown = Shown::new(output, messages);
+    Ok(run_shown(rt, line, &shown)?)
 }
 
-// The same, with what is written shown in this cell.
-fn run_shown<R: Files + Input + Alloc<A = Global> + Eprint, E: Write + Drop, W: Write>(
+// The same, with what is written shown by these writers.
+fn run_shown<R: Files + Input + Alloc<A = Global> + Eprint, W: Write, E: Write>(
     rt: &R,
-    errors: E,
     line: &Line,
-    shown: &RefCell<W>,
+    shown: &Shown<W, E>,
 ) -> Result<u8, AllocError>
     requires prefix { line.now.options.prefix ≡ false }
     requires freeze { line.now.options.freeze ≡ false }
 {
     let mut sources = sources_of(rt, line.files.as_slice(), shown)?;
-    let mut out = StdSink::new(Shared::new(shown));
-    let mut messages = StdSink::new(errors);
+    let mut out = StdSink::new(shown.output());
+    let mut messages = StdSink::new(shown.messages());
     // no run is frozen yet, and none starts from a frozen file
     let mut freeze_to = MemSink::new(rt.alloc(), 0, 1)?;
     let ending = run(
@@ -160,16 +159,16 @@ fn run_shown<R: Files + Input + Alloc<A = Global> + Eprint, E: Write + Drop, W: 
         &mut messages,
         &mut freeze_to,
     );
-    let flushed = out.into_inner().flush().is_ok();
+    let flushed = shown.flush();
     Ok(tell_end(rt, ending, flushed))
 }
 
 // The files of the line, opened in their order; standard input where there is none.
-fn sources_of<'a, R: Files + Input + Alloc<A = Global>, W: Write>(
+fn sources_of<'a, R: Files + Input + Alloc<A = Global>, W: Write, E: Write>(
     rt: &R,
     files: &[String],
-    shown: &'a RefCell<W>,
-) -> Result<Vec<Source<Opened<'a, R, W>>>, AllocError> {
+    shown: &'a Shown<W, E>,
+) -> Result<Vec<Source<Opened<'a, R, W, E>>>, AllocError> {
     let mut sources = Vec::new(rt.alloc());
     if files.is_empty() {
         sources.push(opened(rt, INPUT, shown)?)?;
@@ -181,19 +180,19 @@ fn sources_of<'a, R: Files + Input + Alloc<A = Global>, W: Write>(
 }
 
 // What a source of the run is read through.
-type Opened<'a, R, W> = StdSource<
-    FileOrInput<<R as Files>::File, Prompting<'a, <R as Input>::Reader, W>>,
+type Opened<'a, R, W, E> = StdSource<
+    FileOrInput<<R as Files>::File, Prompting<'a, <R as Input>::Reader, W, E>>,
 >;
 
 // A file of the line, opened unless that fails.
-fn opened<'a, R: Files + Input + Alloc<A = Global>, W: Write>(
+fn opened<'a, R: Files + Input + Alloc<A = Global>, W: Write, E: Write>(
     rt: &R,
     file: &str,
-    shown: &'a RefCell<W>,
-) -> Result<Source<Opened<'a, R, W>>, AllocError> {
+    shown: &'a Shown<W, E>,
+) -> Result<Source<Opened<'a, R, W, E>>, AllocError> {
     let name = source_name(rt.alloc(), file)?;
     if file == INPUT {
-        let input = Prompting::new(rt.reader(), Shared::new(shown));
+        let input = Prompting::new(rt.reader(), shown);
         let reader = StdSource::new(FileOrInput::Input(input));
         return Ok(Source::Opened { name, reader });
     }

@@ -1,5 +1,6 @@
-//! Standard output, which two parts of a run write to: the run itself, and the reader of standard
-//! input, which flushes it, so that who types the input has read what came before.
+//! Standard output and standard error, each of which two parts of a run write to: the run itself, and
+//! the reader of standard input, which flushes them, so that who types the input has read what came
+//! before.
 
 use std::cell::RefCell;
 use std::io::{self, ErrorKind, Read, Write};
@@ -8,13 +9,6 @@ use std::io::{self, ErrorKind, Read, Write};
 #[derive(Drop)]
 pub struct Shared<'a, W> {
     cell: &'a RefCell<W>,
-}
-
-impl<'a, W> Shared<'a, W> {
-    /// The writer in this cell.
-    pub fn new(cell: &'a RefCell<W>) -> Shared<'a, W> {
-        Shared { cell }
-    }
 }
 
 impl<W: Write> Write for Shared<'_, W> {
@@ -33,21 +27,59 @@ impl<W: Write> Write for Shared<'_, W> {
     }
 }
 
-/// A reader that flushes a writer before each read.
+/// What a run shows: its output and its messages.
 #[derive(Drop)]
-pub struct Prompting<'a, R, W> {
-    reader: R,
-    shown: Shared<'a, W>,
+pub struct Shown<W, E> {
+    output: RefCell<W>,
+    messages: RefCell<E>,
 }
 
-impl<'a, R, W> Prompting<'a, R, W> {
-    /// This reader, which flushes the writer.
-    pub fn new(reader: R, shown: Shared<'a, W>) -> Prompting<'a, R, W> {
+impl<W, E> Shown<W, E> {
+    /// These two writers.
+    pub fn new(output: W, messages: E) -> Shown<W, E> {
+        Shown {
+            output: RefCell::new(output),
+            messages: RefCell::new(messages),
+        }
+    }
+
+    /// The writer of the output.
+    pub fn output(&self) -> Shared<'_, W> {
+        Shared { cell: &self.output }
+    }
+
+    /// The writer of the messages.
+    pub fn messages(&self) -> Shared<'_, E> {
+        Shared {
+            cell: &self.messages,
+        }
+    }
+}
+
+impl<W: Write, E: Write> Shown<W, E> {
+    /// Flushes both, the output first, and answers whether both could be flushed.
+    pub fn flush(&self) -> bool {
+        let output = self.output().flush().is_ok();
+        let messages = self.messages().flush().is_ok();
+        output && messages
+    }
+}
+
+/// A reader that flushes what was shown before each read.
+#[derive(Drop)]
+pub struct Prompting<'a, R, W, E> {
+    reader: R,
+    shown: &'a Shown<W, E>,
+}
+
+impl<'a, R, W, E> Prompting<'a, R, W, E> {
+    /// This reader, which flushes these writers.
+    pub fn new(reader: R, shown: &'a Shown<W, E>) -> Prompting<'a, R, W, E> {
         Prompting { reader, shown }
     }
 }
 
-impl<R: Read, W: Write> Read for Prompting<'_, R, W> {
+impl<R: Read, W: Write, E: Write> Read for Prompting<'_, R, W, E> {
     fn read(&mut self, buf: &mut [u8]) -> io::Result<usize> {
         // What could not be flushed stays in the writer, and the fault comes again at its last flush.
         let _flushed = self.shown.flush();
