@@ -7,6 +7,7 @@ pub mod Spelled
 pub mod RowsRefused
 pub mod FirstFault
 pub mod LongestFront
+pub mod NamedRead
 pub mod Settled
 pub mod Unsettled
 pub mod Answered

@@ -14,7 +14,7 @@ use Rattle.m4_frozen.specs.declared.fault.Refusal.{Refusal}
 use Rattle.m4_frozen.specs.Directive.{Directive, Quotes, Comments, Text, Builtin, Diversion}
 use Rattle.m4_frozen.specs.Spells.{is_blank, AreBlanks, AreDigits, value_of, IsNumber, IsPair, AreSkippedLines, SpellsAll, Spells, signed, IsSigned, with_sign, IsDiversion, SpellsOne}
 use Rattle.m4_frozen.specs.Layout.{no_digit_first}
-use Rattle.m4_frozen.specs.ReaderSteps.{skip_blanks, digits_at, some_digits_at, one_at_least, length_at, string_at, pair_at, with_pair, magnitude_at, signed_at, head_at, diversion_at, directive_at, skip_lines, next_at, directives_at, version_at, file_at}
+use Rattle.m4_frozen.specs.ReaderSteps.{skip_blanks, digits_at, some_digits_at, one_at_least, length_at, string_at, pair_head_at, pair_at, with_pair, magnitude_at, signed_at, head_at, diversion_at, directive_at, skip_lines, next_at, directives_at, version_at, file_at}
 use Rattle.m4_frozen.proofs.SkippedLines.{skip_lines-append, skip_lines-last}
 use Rattle.m4_frozen.proofs.ByteTests.{both_true}
 
@@ -121,6 +121,19 @@ comma_found blanks number rest are =
 comma_apart : (blanks number rest : List ℕ) → AreBlanks blanks
     → IsTrue (no_digit_first (comma_on blanks number rest))
 comma_apart blanks number rest are = skip_apart blanks comma (number ++ newline ∷ rest) are refl
+
+-- the first string of a pair and the length of the second are read
+pub pair_head_at-spelled : (n : ℕ) (name : List ℕ) (len : ℕ) (first blanks second rest : List ℕ) → length name ≡ n
+    → IsNumber n first → n < 2 ^ 64 → AreBlanks blanks → IsNumber len second → len < 2 ^ 64
+    → pair_head_at (first ++ comma_on blanks second (name ++ rest)) ≡ Ok ((name, len), rest)
+pair_head_at-spelled n name len first blanks second rest is number fits are m lt =
+    let on : List ℕ = name ++ rest in
+    rw (
+      length_at-number n first (comma_on blanks second on) number fits (comma_apart blanks second on are),
+      comma_found blanks second on are,
+      length_at-number len second (newline ∷ on) m lt refl,
+      string_at-append n name rest is,
+    ) refl
 
 -- a pair is read behind its letter
 pair_at-spelled : (letter : ℕ) (first second bytes rest : List ℕ)

@@ -9,6 +9,7 @@ use Rattle.m4_frozen.specs.Ascii.{newline, hash, letter_V}
 use Rattle.m4_frozen.specs.declared.fault.Refusal.{Refusal}
 use Rattle.m4_frozen.specs.declared.fault.ReadStop.{ReadStop}
 use Rattle.m4_frozen.specs.declared.fault.ReadStop.TheVariants as stops
+use Rattle.m4_frozen.specs.declared.begun.Begun.{Begun}
 use Rattle.m4_frozen.specs.declared.loading.Loading.{Loading}
 use Rattle.m4_frozen.specs.declared.loading.Pause.{Pause}
 use Rattle.m4_frozen.specs.Denote.{with_directive, issued_by}
@@ -223,7 +224,7 @@ has_read_directive (b ∷ bs) behind d l new (inr at) v e s i =
       one = b ∷ k.0;
       spelled = ap (λ (xs : List ℕ). b ∷ xs) k.2;
       some = omega arith;
-      no_text = ap (λ (x : Loading). x.missing) s;
+      no_text = ap (λ (x : Loading). x.begun) s;
       has_read = λ read h. record {
         directives = h.directives ++ d ∷ [];
         state = ap (λ (x : Loading). x.state) s ∙ ap (λ (x : State). with_directive x d) h.state
@@ -354,13 +355,13 @@ advanced_less rest here behind l new inside s o =
     omega (arith, ap length s.spelled, length-append s.skipped here, ap length o.spelled, length-append o.one behind, o.some)
 
 -- where no text is open
-pub plain : (read : List ℕ) (l : Loading) → l.missing ≡ None → HasRead read l → IsRead read l
-plain read l n h = subst (λ (o : Option ℕ). ReadAs o read l) (sym n) h
+pub plain : (read : List ℕ) (l : Loading) → l.begun ≡ None → HasRead read l → IsRead read l
+plain read l n h = subst (λ (o : Option Begun). ReadAs o read l) (sym n) h
 
 -- all was read
 pub paused_at_end : (bytes rest here : List ℕ) (old l : Loading) (inside : Bool) (read : List ℕ)
     → HasAdvanced bytes old l rest → Skips l.inside rest inside here → here ≡ []
-    → l.versioned ≡ true → old.missing ≡ None → HasRead read old
+    → l.versioned ≡ true → old.begun ≡ None → HasRead read old
     → HasPaused read bytes (record l { inside = inside }) (record { left = 0; refusal = None })
 paused_at_end bytes rest here old l inside read a s none v n h =
     let new : Loading = record l { inside = inside } in
@@ -378,7 +379,7 @@ paused_at_end bytes rest here old l inside read a s none v n h =
 
 -- more bytes are needed
 pub paused_before_end : (bytes rest here : List ℕ) (old l final : Loading) (inside : Bool)
-    (x : Refusal) (pause : Pause) (read : List ℕ) → old.missing ≡ None
+    (x : Refusal) (pause : Pause) (read : List ℕ) → old.begun ≡ None
     → HasAdvanced bytes old l rest → Skips l.inside rest inside here → x.bytes_left ≤ length here
     → ((before : List ℕ) → HasRead before (record l { inside = inside }) → file_at (before ++ here) ≡ Err x)
     → pause.refusal ≡ Some x → stays here x ≡ false
@@ -434,7 +435,7 @@ refused_for_good bytes rest here old l inside x read a s le refused settled h =
 
 -- a stop where one more was to be read, and what is answered for it
 pub advance_stopped : (bytes rest here : List ℕ) (old l new final : Loading) (inside : Bool)
-    (stop : ReadStop) (r : Result Pause ReadStop) → old.missing ≡ None
+    (stop : ReadStop) (r : Result Pause ReadStop) → old.begun ≡ None
     → HasAdvanced bytes old l rest → Skips l.inside rest inside here
     → ReadsOne here (record l { inside = inside }) new (Err stop) → PausesAt stop here new final r
     → Advances bytes old final r

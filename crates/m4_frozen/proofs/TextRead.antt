@@ -1,4 +1,4 @@
--- A diversion's text that is read as its bytes come.
+-- A text that is read as its bytes come: a diversion's or a name's.
 use Rattle.std.proofs.Common.{◌≡◌, ◌≢◌, ℕ, zero, suc, ◌+◌, ◌-◌, ◌≤◌, ℤ, pos, negsuc, Bool, true, false, cond, ltb, eqb, List, [], ◌∷◌, ◌++◌, length, take, drop, min, Option, Some, None, unwrap_or, Ordering, Less, Equal, Greater, Result, Ok, Err, refl, sym, ap, subst, ◌∙◌, append_assoc, arith, inl, inr}
 use Rattle.std.specs.Prelude.{FitsSigned}
 use Rattle.std.specs.Int.{w32}
@@ -15,13 +15,17 @@ use Rattle.m4_frozen.specs.declared.fault.FrozenKind.TheVariants as kinds
 use Rattle.m4_frozen.specs.declared.fault.Refusal.{Refusal}
 use Rattle.m4_frozen.specs.declared.fault.ReadStop.{ReadStop}
 use Rattle.m4_frozen.specs.declared.fault.ReadStop.TheVariants as stops
+use Rattle.m4_frozen.specs.declared.begun.Begun.{Begun}
+use Rattle.m4_frozen.specs.declared.begun.Begun.TheVariants as begun
+use Rattle.m4_frozen.specs.declared.begun.NamedText.{NamedText}
 use Rattle.m4_frozen.specs.declared.loading.Loading.{Loading}
 use Rattle.m4_frozen.specs.declared.loading.Pause.{Pause}
-use Rattle.m4_frozen.specs.Denote.{issued_by, denote}
+use Rattle.m4_frozen.specs.Denote.{issued_by, denote, with_directive}
 use Rattle.m4_frozen.specs.Directive.{Directive, Diversion}
 use Rattle.m4_frozen.specs.Layout.{Length, Number, Comma, NewLine, Layout, Done, Then}
 use Rattle.m4_frozen.specs.ReaderSteps.{◌>>=◌, string_at, expect_byte, head_at, diversion_at, directive_at, directives_at, file_at}
-use Rattle.m4_frozen.specs.Underway.{StandsAt, with_front, text_left, HasRead, HasReadIn, HasReadText, ReadAs, IsRead, Advances, EndsSo, ReadsOn, short, stays}
+use Rattle.std.specs.Borrow.{Bor}
+use Rattle.m4_frozen.specs.Underway.{StandsAt, with_front, text_left, HasRead, HasReadIn, HasReadNamed, IsWithinText, HasReadText, ReadsText, ReadsBehind, ReadAs, IsRead, Advances, EndsSo, ReadsOn, short, stays}
 use Rattle.m4_frozen.proofs.ByteTests.{test, lt_of, ge_of, eq_of}
 use Rattle.m4_frozen.proofs.ReadBack.{head_at-spelled, comma_on}
 use Rattle.m4_frozen.proofs.Parts.{Step, layout_at, LayoutSays, layout_says}
@@ -103,40 +107,42 @@ abbrev in_front : List ℕ → List ℕ × List ℕ → Step (List ℕ)
 in_front c t = Ok (c ++ t.0, t.1)
 
 -- a directive, and those behind it
-abbrev then_all : ℕ → Directive → List ℕ → Result (List Directive) Refusal
+abbrev pub then_all : ℕ → Directive → List ℕ → Result (List Directive) Refusal
 then_all count d rest = directives_at count rest >>= λ ds. Ok (d ∷ ds)
 
 -- a text whose beginning came, its newline, and what is behind it
-abbrev then_text : ℕ → ℤ → List ℕ → List ℕ × List ℕ → Result (List Directive) Refusal
-then_text count z came t = expect_byte newline t.1 >>= then_all count (Diversion z (came ++ t.0))
+abbrev pub then_text : ℕ → (List ℕ → Directive) → List ℕ → List ℕ × List ℕ → Result (List Directive) Refusal
+then_text count make came t = expect_byte newline t.1 >>= then_all count (make (came ++ t.0))
 
 -- what is left of a text behind more of it
-text_of : (count : ℕ) (z : ℤ) (came c : List ℕ) (r : Step (List ℕ))
-    → ((r >>= in_front c) >>= then_text count z came) ≡ (r >>= then_text count z (came ++ c))
-text_of count z came c (Ok t) = rw (append_assoc came c t.0) refl
-text_of count z came c (Err e) = refl
+text_of : (count : ℕ) (make : List ℕ → Directive) (came c : List ℕ) (r : Step (List ℕ))
+    → ((r >>= in_front c) >>= then_text count make came) ≡ (r >>= then_text count make (came ++ c))
+text_of count make came c (Ok t) = rw (append_assoc came c t.0) refl
+text_of count make came c (Err e) = refl
 
-text_left-more : (count : ℕ) (z : ℤ) (came c : List ℕ) (n m : ℕ) (more : List ℕ) → n ≡ length c + m
-    → text_left count z came n (c ++ more) ≡ text_left count z (came ++ c) m more
+text_left-more : (count : ℕ) (make : List ℕ → Directive) (came c : List ℕ) (n m : ℕ) (more : List ℕ)
+    → n ≡ length c + m → text_left count make came n (c ++ more) ≡ text_left count make (came ++ c) m more
 unfolding text_left
-text_left-more count z came c n m more e =
-    rw (string_at-behind n m c more e) (text_of count z came c (string_at m more))
+text_left-more count make came c n m more e =
+    rw (string_at-behind n m c more e) (text_of count make came c (string_at m more))
 
 -- nothing is left of it
 string_at-none : (bytes : List ℕ) → string_at 0 bytes ≡ Ok ([], bytes)
 unfolding string_at
 string_at-none bytes = let k : ltb (length bytes) 0 ≡ false = le-ltb _ _ (omega arith) in rw k refl
 
-text_left-none : (count : ℕ) (z : ℤ) (came more : List ℕ) → text_left count z came 0 more
-    ≡ (expect_byte newline more >>= λ r. (directives_at count r >>= λ ds. Ok (Diversion z came ∷ ds)))
+text_left-none : (count : ℕ) (make : List ℕ → Directive) (came more : List ℕ)
+    → text_left count make came 0 more
+    ≡ (expect_byte newline more >>= λ r. (directives_at count r >>= λ ds. Ok (make came ∷ ds)))
 unfolding text_left
-text_left-none count z came more = rw (string_at-none more, append-nil came) refl
+text_left-none count make came more = rw (string_at-none more, append-nil came) refl
 
 -- the file ends within it
-text_left-short : (count : ℕ) (z : ℤ) (came : List ℕ) (m : ℕ) → text_left count z came m [] ≡ Err short
+text_left-short : (count : ℕ) (make : List ℕ → Directive) (came : List ℕ) (m : ℕ)
+    → text_left count make came m [] ≡ Err short
 unfolding text_left string_at
-text_left-short count z came zero = refl
-text_left-short count z came (suc m) = let k : ltb 0 (suc m) ≡ true = lt-ltb _ _ (omega arith) in rw k refl
+text_left-short count make came zero = refl
+text_left-short count make came (suc m) = let k : ltb 0 (suc m) ≡ true = lt-ltb _ _ (omega arith) in rw k refl
 
 -- the line of a diversion, by its parts
 abbrev head_layout : Layout (ℤ × ℕ)
@@ -196,10 +202,10 @@ abbrev as_directive : (ℤ × List ℕ) × List ℕ → Step Directive
 as_directive p = Ok (Diversion p.0.0 p.0.1, p.1)
 
 -- a directive comes
-abbrev as_next : Directive × List ℕ → Result (Option (Directive × List ℕ)) Refusal
+abbrev pub as_next : Directive × List ℕ → Result (Option (Directive × List ℕ)) Refusal
 as_next d = Ok (Some d)
 
-abbrev behind_next : ℕ → Option (Directive × List ℕ) → Result (List Directive) Refusal
+abbrev pub behind_next : ℕ → Option (Directive × List ℕ) → Result (List Directive) Refusal
 behind_next count o = elim o [ None ↦ Ok [] | Some d ↦ then_all count d.0 d.1 ]
 
 -- what is read behind the newline of a text
@@ -212,16 +218,50 @@ closed_of count z text (Err e) = refl
 -- and behind its line
 opened_of : (count : ℕ) (z : ℤ) (r : Step (List ℕ))
     → ((((r >>= to_newline z) >>= as_directive) >>= as_next) >>= behind_next count)
-    ≡ (r >>= then_text count z [])
+    ≡ (r >>= then_text count (Diversion z) [])
 opened_of count z (Ok t) = closed_of count z t.0 (expect_byte newline t.1)
 opened_of count z (Err e) = refl
 
 -- a diversion is read as its text
 opened : (count : ℕ) (z : ℤ) (n : ℕ) (line tail : List ℕ) → head_at line ≡ Ok ((z, n), tail)
-    → directives_at (suc count) (letter_D ∷ line) ≡ text_left count z [] n tail
+    → directives_at (suc count) (letter_D ∷ line) ≡ text_left count (Diversion z) [] n tail
 unfolding directives_at directive_at diversion_at text_left
 opened count z n line tail e =
     rw e (opened_of count z (string_at n tail))
+
+-- the beginning of a text is read so whatever follows it
+pub within_opened : (read line rest text : List ℕ) (letter : ℕ) (make : List ℕ → Directive) (n : ℕ) (l new : Loading)
+    → l.versioned ≡ true → l.inside ≡ false → new.versioned ≡ l.versioned → new.inside ≡ l.inside
+    → length text ≤ n → (h : HasRead read l)
+    → ((count : ℕ) (more : List ℕ) → directives_at (suc count) (letter ∷ (line ++ more))
+    ≡ text_left count make [] n (text ++ more))
+    → IsWithinText (read ++ letter ∷ line) new h.directives make text (n - length text)
+within_opened read line rest text letter make n l new v i nv ni le h begins =
+    let here : List ℕ = letter ∷ line in record {
+      place = (nv ∙ v, ni ∙ i);
+      goes_on = λ more. let g = h.goes_on (here ++ more) in
+          let c : g.count ≡ suc (g.count - 1) = omega (arith, g.enough) in
+          record {
+            count = g.count - 1;
+            enough = omega (arith, g.enough, length-append here more);
+            answer = ap file_at (append_assoc read here more)
+                ∙ (rw (i, v) at g.answer)
+                ∙ ap (with_front h.directives) (directives_at-skip g.count (here ++ more)
+                ∙ ap (λ (x : ℕ). directives_at x (here ++ more)) c
+                ∙ begins (g.count - 1) more
+                ∙ text_left-more (g.count - 1) make [] text n (n - length text) more (omega arith));
+          };
+    }
+
+-- a head that is read is read so whatever follows it
+diversion_begins : (line text : List ℕ) (z : ℤ) (n : ℕ) → head_at line ≡ Ok ((z, n), text)
+    → (count : ℕ) (more : List ℕ) → directives_at (suc count) (letter_D ∷ (line ++ more))
+    ≡ text_left count (Diversion z) [] n (text ++ more)
+diversion_begins line text z n e count more =
+    let k = has_head line z n text e in
+    let parts : line ++ more ≡ k.one ++ (text ++ more) =
+    ap (λ (xs : List ℕ). xs ++ more) k.spelled ∙ append_assoc k.one text more in
+    opened count z n (line ++ more) (text ++ more) (ap head_at parts ∙ k.gives (text ++ more))
 
 -- a diversion was begun
 pub has_read_opened : (read line text : List ℕ) (z : ℤ) (n : ℕ) (l new : Loading)
@@ -230,15 +270,14 @@ pub has_read_opened : (read line text : List ℕ) (z : ℤ) (n : ℕ) (l new : L
     → new ≡ record l {
       state = appended (diverted l.state z) text;
       issued = new.issued;
-      missing = Some (n - length text);
+      begun = Some (begun.Diversion (n - length text));
     }
     → new.issued.items ≡ l.issued.items ++ issued_by (Diversion z text)
     → HasRead read l → IsRead (read ++ letter_D ∷ line) new
 has_read_opened read line text z n l new (inl none) v e le is i h = absurd cc
 has_read_opened read line text z n l new (inr at) v e le is i h =
-    let k = has_head line z n text e in
     let here : List ℕ = letter_D ∷ line in
-    let open_now : new.missing ≡ Some (n - length text) = ap (λ (x : Loading). x.missing) is in
+    let open_now : new.begun ≡ Some (begun.Diversion (n - length text)) = ap (λ (x : Loading). x.begun) is in
     let r : HasReadIn (read ++ here) new (n - length text) = record {
       directives = h.directives;
       number = z;
@@ -246,25 +285,11 @@ has_read_opened read line text z n l new (inr at) v e le is i h =
       state = ap (λ (x : Loading). x.state) is
           ∙ ap (λ (s : State). appended (diverted s z) text) h.state;
       issued = i ∙ ap (λ (xs : List ℕ). xs ++ issued_by (Diversion z text)) h.issued;
-      place = (ap (λ (x : Loading). x.versioned) is ∙ v, ap (λ (x : Loading). x.inside) is ∙ at.0);
-      goes_on = λ more. let g = h.goes_on (here ++ more) in
-          let c : g.count ≡ suc (g.count - 1) = omega (arith, g.enough) in
-          let parts : line ++ more ≡ k.one ++ (text ++ more) =
-          ap (λ (xs : List ℕ). xs ++ more) k.spelled ∙ append_assoc k.one text more in
-          let whole : head_at (line ++ more) ≡ Ok ((z, n), text ++ more) =
-          ap head_at parts ∙ k.gives (text ++ more) in
-          record {
-            count = g.count - 1;
-            enough = omega (arith, g.enough, length-append here more);
-            answer = ap file_at (append_assoc read here more)
-                ∙ (rw (at.0, v) at g.answer)
-                ∙ ap (with_front h.directives) (directives_at-skip g.count (here ++ more)
-                ∙ ap (λ (x : ℕ). directives_at x (here ++ more)) c
-                ∙ opened (g.count - 1) z n (line ++ more) (text ++ more) whole
-                ∙ text_left-more (g.count - 1) z [] text n (n - length text) more (omega arith));
-          };
+      within = within_opened read line [] text letter_D (Diversion z) n l new v at.0
+          (ap (λ (x : Loading). x.versioned) is) (ap (λ (x : Loading). x.inside) is) le h
+          (diversion_begins line text z n e);
     } in
-    subst (λ (o : Option ℕ). ReadAs o (read ++ here) new) (sym open_now) r
+    subst (λ (o : Option Begun). ReadAs o (read ++ here) new) (sym open_now) r
 
 -- the number of the current diversion
 number_is : (read : List ℕ) (l : Loading) (m : ℕ) (h : HasReadIn read l m)
@@ -282,16 +307,40 @@ issued_more read bytes issued l m h i =
     ∙ ap (λ (xs : List ℕ). (denote h.directives).issued ++ xs) (issued_by-twice h.number h.came bytes)
 
 -- more of a text was read
+module _ (read bytes : List ℕ) (l new : Loading) (ds : List Directive) (make : List ℕ → Directive) (came : List ℕ)
+    (m : ℕ) (w : IsWithinText read l ds make came m) where
+  pub within_more : length bytes ≤ m → new.versioned ≡ l.versioned → new.inside ≡ l.inside
+      → IsWithinText (read ++ bytes) new ds make (came ++ bytes) (m - length bytes)
+  within_more le nv ni = record {
+    place = (nv ∙ w.place.0, ni ∙ w.place.1);
+    goes_on = λ more. let g = w.goes_on (bytes ++ more) in record {
+      count = g.count;
+      enough = omega (arith, g.enough, length-append bytes more);
+      answer = ap file_at (append_assoc read bytes more) ∙ g.answer
+          ∙ ap (with_front ds)
+          (text_left-more g.count make came bytes m (m - length bytes) more (omega arith));
+    };
+  }
+
+  -- the file would end too early there
+  pub within_short : file_at read ≡ Err short
+  within_short =
+      let g = w.goes_on [] in
+      ap file_at (sym (append-nil read)) ∙ g.answer
+      ∙ ap (with_front ds) (text_left-short g.count make came m)
+
 pub has_read_more : (read bytes : List ℕ) (l new : Loading) (m : ℕ) → length bytes ≤ m
     → new ≡ record l {
       state = appended l.state bytes;
       issued = new.issued;
-      missing = Some (m - length bytes);
+      begun = Some (begun.Diversion (m - length bytes));
     }
     → new.issued.items ≡ l.issued.items ++ issued_by (Diversion l.state.current bytes)
     → HasReadIn read l m → IsRead (read ++ bytes) new × (file_at (read ++ bytes) ≡ Err short)
 has_read_more read bytes l new m le is i h =
-    let open_now : new.missing ≡ Some (m - length bytes) = ap (λ (x : Loading). x.missing) is in
+    let open_now : new.begun ≡ Some (begun.Diversion (m - length bytes)) = ap (λ (x : Loading). x.begun) is in
+    let w = within_more read bytes l new h.directives (Diversion h.number) h.came m h.within le
+        (ap (λ (x : Loading). x.versioned) is) (ap (λ (x : Loading). x.inside) is) in
     let r : HasReadIn (read ++ bytes) new (m - length bytes) = record {
       directives = h.directives;
       number = h.number;
@@ -299,72 +348,60 @@ has_read_more read bytes l new m le is i h =
       state = ap (λ (x : Loading). x.state) is ∙ ap (λ (s : State). appended s bytes) h.state
           ∙ appended-twice (diverted (denote h.directives).state h.number) h.came bytes;
       issued = issued_more read bytes new.issued.items l m h i;
-      place = (ap (λ (x : Loading). x.versioned) is ∙ h.place.0, ap (λ (x : Loading). x.inside) is ∙ h.place.1);
-      goes_on = λ more. let g = h.goes_on (bytes ++ more) in record {
-        count = g.count;
-        enough = omega (arith, g.enough, length-append bytes more);
-        answer = ap file_at (append_assoc read bytes more) ∙ g.answer
-            ∙ ap (with_front h.directives)
-            (text_left-more g.count h.number h.came bytes m (m - length bytes) more (omega arith));
-      };
-    } in
-    let g = r.goes_on [] in (
-      subst (λ (o : Option ℕ). ReadAs o (read ++ bytes) new) (sym open_now) r,
-      ap file_at (sym (append-nil (read ++ bytes))) ∙ g.answer
-          ∙ ap (with_front r.directives) (text_left-short g.count r.number r.came (m - length bytes)),
+      within = w;
+    } in (
+      subst (λ (o : Option Begun). ReadAs o (read ++ bytes) new) (sym open_now) r,
+      within_short (read ++ bytes) [] new new h.directives (Diversion h.number) (h.came ++ bytes) (m - length bytes) w,
     )
 
 -- all of the bytes were
-pub has_read_all : (bytes c behind : List ℕ) (l new : Loading) (m : ℕ) → bytes ≡ c ++ behind
-    → behind ≡ [] → length c ≤ m
-    → new ≡ record l {
-      state = appended l.state c;
-      issued = new.issued;
-      missing = Some (m - length c);
-    }
-    → new.issued.items ≡ l.issued.items ++ issued_by (Diversion l.state.current c)
-    → (read : List ℕ) → HasReadIn read l m
-    → IsRead (read ++ bytes) new × (file_at (read ++ bytes) ≡ Err short)
-has_read_all bytes c behind l new m parts none le is i read h =
-    let same : bytes ≡ c = parts ∙ rw (none, append-nil c) refl in
-    subst (λ (xs : List ℕ). IsRead (read ++ xs) new × (file_at (read ++ xs) ≡ Err short)) (sym same)
-    (has_read_more read c l new m le is i h)
+pub all_bytes : (P : List ℕ → Type 0) (bytes c behind : List ℕ) → bytes ≡ c ++ behind → behind ≡ [] → P c → P bytes
+all_bytes P bytes c behind parts none h = subst P (sym (parts ∙ rw (none, append-nil c) refl)) h
 
 -- what stands behind a whole text
-text_left-whole : (count : ℕ) (z : ℤ) (came c behind : List ℕ) (n : ℕ) → n ≡ length c
-    → text_left count z came n (c ++ behind)
-    ≡ (expect_byte newline behind >>= λ r. (directives_at count r >>= λ ds. Ok (Diversion z (came ++ c) ∷ ds)))
-text_left-whole count z came c behind n e =
-    text_left-more count z came c n 0 behind (omega (arith, e)) ∙ text_left-none count z (came ++ c) behind
+text_left-whole : (count : ℕ) (make : List ℕ → Directive) (came c behind : List ℕ) (n : ℕ) → n ≡ length c
+    → text_left count make came n (c ++ behind)
+    ≡ (expect_byte newline behind >>= λ r. (directives_at count r >>= λ ds. Ok (make (came ++ c) ∷ ds)))
+text_left-whole count make came c behind n e =
+    text_left-more count make came c n 0 behind (omega (arith, e)) ∙ text_left-none count make (came ++ c) behind
 
 -- a text was read whole
-has_read_closed : (read c rest : List ℕ) (l new : Loading) (m : ℕ) → m ≡ length c
-    → new ≡ record l { state = appended l.state c; issued = new.issued; missing = None }
-    → new.issued.items ≡ l.issued.items ++ issued_by (Diversion l.state.current c)
-    → HasReadIn read l m → HasRead (read ++ (c ++ newline ∷ [])) new
-has_read_closed read c rest l new m all is i h =
-    let d : Directive = Diversion h.number (h.came ++ c) in
-    let nv : new.versioned ≡ true = ap (λ (x : Loading). x.versioned) is ∙ h.place.0 in
-    let ni : new.inside ≡ false = ap (λ (x : Loading). x.inside) is ∙ h.place.1 in record {
-      directives = h.directives ++ d ∷ [];
-      state = ap (λ (x : Loading). x.state) is ∙ ap (λ (s : State). appended s c) h.state
-          ∙ appended-twice (diverted (denote h.directives).state h.number) h.came c
-          ∙ sym (fold-push empty h.directives d);
-      issued = issued_more read c new.issued.items l m h i
-          ∙ rw (flat_map-append issued_by h.directives (d ∷ []), append-nil (issued_by d)) refl;
-      goes_on = λ more. let g = h.goes_on ((c ++ newline ∷ []) ++ more) in
+pub has_read_closed : (read c : List ℕ) (l new : Loading) (ds : List Directive) (make : List ℕ → Directive) (came : List ℕ) (m : ℕ)
+    → IsWithinText read l ds make came m → m ≡ length c
+    → new.versioned ≡ l.versioned → new.inside ≡ l.inside
+    → new.state ≡ with_directive (denote ds).state (make (came ++ c))
+    → new.issued.items ≡ (denote ds).issued ++ issued_by (make (came ++ c))
+    → HasRead (read ++ (c ++ newline ∷ [])) new
+has_read_closed read c l new ds make came m w all nv ni state issued =
+    let d : Directive = make (came ++ c) in record {
+      directives = ds ++ d ∷ [];
+      state = state ∙ sym (fold-push empty ds d);
+      issued = issued ∙ rw (flat_map-append issued_by ds (d ∷ []), append-nil (issued_by d)) refl;
+      goes_on = λ more. let g = w.goes_on ((c ++ newline ∷ []) ++ more) in
           let parts : (c ++ newline ∷ []) ++ more ≡ c ++ newline ∷ more = append_assoc c (newline ∷ []) more in
           record {
             count = g.count;
             enough = omega (arith, g.enough, ap length parts, length-append c (newline ∷ more));
             answer = ap file_at (append_assoc read (c ++ newline ∷ []) more) ∙ g.answer
-                ∙ ap (with_front h.directives) (ap (text_left g.count h.number h.came m) parts
-                ∙ text_left-whole g.count h.number h.came c (newline ∷ more) m all)
-                ∙ regroup h.directives d (directives_at g.count more)
-                ∙ rw (nv, ni) (ap (with_front (h.directives ++ d ∷ []))
+                ∙ ap (with_front ds) (ap (text_left g.count make came m) parts
+                ∙ text_left-whole g.count make came c (newline ∷ more) m all)
+                ∙ regroup ds d (directives_at g.count more)
+                ∙ rw (nv ∙ w.place.0, ni ∙ w.place.1) (ap (with_front (ds ++ d ∷ []))
                 (sym (directives_at-skip g.count more)));
           };
     }
+
+-- a diversion's
+diverted_closed : (read c : List ℕ) (l new : Loading) (m : ℕ) → m ≡ length c
+    → new ≡ record l { state = appended l.state c; issued = new.issued }
+    → new.issued.items ≡ l.issued.items ++ issued_by (Diversion l.state.current c)
+    → HasReadIn read l m → HasRead (read ++ (c ++ newline ∷ [])) new
+diverted_closed read c l new m all is i h =
+    has_read_closed read c l new h.directives (Diversion h.number) h.came m h.within all
+    (ap (λ (x : Loading). x.versioned) is) (ap (λ (x : Loading). x.inside) is)
+    (ap (λ (x : Loading). x.state) is ∙ ap (λ (s : State). appended s c) h.state
+    ∙ appended-twice (diverted (denote h.directives).state h.number) h.came c)
+    (issued_more read c new.issued.items l m h i)
 
 -- the byte that has to stand there does
 newline_stands : (behind rest : List ℕ) → expect_byte newline behind ≡ Ok rest → behind ≡ newline ∷ rest
@@ -374,19 +411,28 @@ newline_stands (b ∷ bs) rest e = elim (test (eqb b newline)) [
   | inr k ↦ absurd (let p = rw k at e in cc)
 ]
 
--- so the text ends there
-pub has_read_text : (bytes c behind rest : List ℕ) (l new : Loading) (m : ℕ)
-    → bytes ≡ c ++ behind → m ≡ length c → expect_byte newline behind ≡ Ok rest
-    → new ≡ record l { state = appended l.state c; issued = new.issued; missing = None }
-    → new.issued.items ≡ l.issued.items ++ issued_by (Diversion l.state.current c)
-    → HasReadText bytes l m new rest
-has_read_text bytes c behind rest l new m parts all e is i = record {
+-- so a text ends there
+pub text_ends : (Before : List ℕ → Type 0) (bytes c behind rest : List ℕ) (new : Loading)
+    → bytes ≡ c ++ behind → expect_byte newline behind ≡ Ok rest → new.begun ≡ None
+    → ((read : List ℕ) → Before read → HasRead (read ++ (c ++ newline ∷ [])) new)
+    → HasReadText Before bytes new rest
+text_ends Before bytes c behind rest new parts e none closed = record {
   one = c ++ newline ∷ [];
   spelled = parts ∙ ap (λ (xs : List ℕ). c ++ xs) (newline_stands behind rest e)
       ∙ sym (append_assoc c (newline ∷ []) rest);
-  no_text = ap (λ (x : Loading). x.missing) is;
-  has_read = λ read h. has_read_closed read c rest l new m all is i h;
+  no_text = none;
+  has_read = closed;
 }
+
+pub has_read_text : (bytes c behind rest : List ℕ) (l new : Loading) (m : ℕ)
+    → bytes ≡ c ++ behind → m ≡ length c → expect_byte newline behind ≡ Ok rest → l.begun ≡ None
+    → new ≡ record l { state = appended l.state c; issued = new.issued }
+    → new.issued.items ≡ l.issued.items ++ issued_by (Diversion l.state.current c)
+    → HasReadText (λ read. HasReadIn read l m) bytes new rest
+has_read_text bytes c behind rest l new m parts all e none is i =
+    text_ends (λ read. HasReadIn read l m) bytes c behind rest new parts e
+    (ap (λ (x : Loading). x.begun) is ∙ none)
+    (λ read h. diverted_closed read c l new m all is i h)
 
 -- another byte is refused for good
 settled_here : (b : ℕ) (bs : List ℕ) (e : Refusal) → expect_byte newline (b ∷ bs) ≡ Err e
@@ -396,32 +442,32 @@ settled_here b bs e h = elim (test (eqb b newline)) [
   | inr k ↦ (let p = rw k at h in cc)
 ]
 
-pub text_refused : (bytes c behind : List ℕ) (l : Loading) (m : ℕ) (e : Refusal)
-    → bytes ≡ c ++ behind → m ≡ length c → behind ≢ []
-    → expect_byte newline behind ≡ Err e → (read : List ℕ) → HasReadIn read l m
+pub text_refused : (read bytes c behind : List ℕ) (l : Loading) (ds : List Directive) (make : List ℕ → Directive) (came : List ℕ)
+    (m : ℕ) (e : Refusal) → bytes ≡ c ++ behind → m ≡ length c → behind ≢ []
+    → expect_byte newline behind ≡ Err e → IsWithinText read l ds make came m
     → (file_at (read ++ bytes) ≡ Err e) × (stays (read ++ bytes) e ≡ true)
-text_refused bytes c [] l m e parts all some h read r = absurd (some refl)
-text_refused bytes c (b ∷ bs) l m e parts all some h read r =
-    let g = r.goes_on bytes in
+text_refused read bytes c [] l ds make came m e parts all some h w = absurd (some refl)
+text_refused read bytes c (b ∷ bs) l ds make came m e parts all some h w =
+    let g = w.goes_on bytes in
     let is = settled_here b bs e h in
-    let so : text_left g.count r.number r.came m bytes ≡ Err e =
-    ap (text_left g.count r.number r.came m) parts
-    ∙ text_left-whole g.count r.number r.came c (b ∷ bs) m all ∙ rw h refl in
+    let so : text_left g.count make came m bytes ≡ Err e =
+    ap (text_left g.count make came m) parts
+    ∙ text_left-whole g.count make came c (b ∷ bs) m all ∙ rw h refl in
     let whole : read ++ bytes ≡ (read ++ c) ++ b ∷ bs =
     ap (λ (xs : List ℕ). read ++ xs) parts ∙ sym (append_assoc read c (b ∷ bs)) in (
-      g.answer ∙ ap (with_front r.directives) so,
+      g.answer ∙ ap (with_front ds) so,
       ap (λ (xs : List ℕ). stays xs e) whole
           ∙ stays_behind (read ++ c) (b ∷ bs) e (rw is (omega arith))
           ∙ rw is (let k : length (b ∷ bs) - length (b ∷ bs) ≡ 0 = omega arith in rw k refl),
     )
 
 -- what is read behind a text is read behind what was read before it
-pub text_then_whole : (bytes behind : List ℕ) (old mid new : Loading) (m : ℕ)
-    (r : Result Pause ReadStop) → old.missing ≡ Some m
-    → HasReadText bytes old m mid behind → Advances behind mid new r
-    → ReadsOn (λ read. IsRead read old) bytes new r
-text_then_whole bytes behind old mid new m (Ok pause) is x a = λ read h.
-    let p = a (read ++ x.one) (x.has_read read (subst (λ (o : Option ℕ). ReadAs o read old) is h)) in
+pub text_then_whole : (Before : List ℕ → Type 0) (bytes behind : List ℕ) (mid new : Loading)
+    (r : Result Pause ReadStop)
+    → HasReadText Before bytes mid behind → Advances behind mid new r
+    → ReadsOn Before bytes new r
+text_then_whole Before bytes behind mid new (Ok pause) x a = λ read h.
+    let p = a (read ++ x.one) (x.has_read read h) in
     let same : read ++ bytes ≡ (read ++ x.one) ++ behind =
     ap (λ (xs : List ℕ). read ++ xs) x.spelled ∙ sym (append_assoc read x.one behind) in record {
       front = x.one ++ p.front;
@@ -431,19 +477,60 @@ text_then_whole bytes behind old mid new m (Ok pause) is x a = λ read h.
       has_read = subst (λ (xs : List ℕ). IsRead xs new) (append_assoc read x.one p.front) p.has_read;
       ends = subst (λ (xs : List ℕ). EndsSo xs new pause.refusal) (sym same) p.ends;
     }
-text_then_whole bytes behind old mid new m (Err stops.OutOfMemory) is x a = tt
-text_then_whole bytes behind old mid new m (Err (stops.Refused e)) is x a = λ read h.
-    let p = a (read ++ x.one) (x.has_read read (subst (λ (o : Option ℕ). ReadAs o read old) is h)) in
+text_then_whole Before bytes behind mid new (Err stops.OutOfMemory) x a = tt
+text_then_whole Before bytes behind mid new (Err (stops.Refused e)) x a = λ read h.
+    let p = a (read ++ x.one) (x.has_read read h) in
     let same : read ++ bytes ≡ (read ++ x.one) ++ behind =
     ap (λ (xs : List ℕ). read ++ xs) x.spelled ∙ sym (append_assoc read x.one behind) in
     (ap file_at same ∙ p.0, ap (λ (xs : List ℕ). stays xs e) same ∙ p.1)
 
--- no text is open: the same of what was read
-pub whole_at_once : (bytes : List ℕ) (old new : Loading) (r : Result Pause ReadStop)
-    → old.missing ≡ None → Advances bytes old new r → ReadsOn (λ read. IsRead read old) bytes new r
-whole_at_once bytes old new (Ok pause) is a = λ read h. a read (subst (λ (o : Option ℕ). ReadAs o read old) is h)
-whole_at_once bytes old new (Err stops.OutOfMemory) is a = tt
-whole_at_once bytes old new (Err (stops.Refused e)) is a = λ read h. a read (subst (λ (o : Option ℕ). ReadAs o read old) is h)
+-- nothing stands behind all
+drop_all : (xs : List ℕ) → drop (length xs) xs ≡ []
+drop_all [] = refl
+drop_all (x ∷ xs) = drop_all xs
+
+-- where a text is not whole, all of the bytes were read
+all_were_read : (Before : List ℕ → Type 0) (bytes : List ℕ) (new : Loading)
+    → ((read : List ℕ) → Before read → IsRead (read ++ bytes) new × (file_at (read ++ bytes) ≡ Err short))
+    → ReadsOn Before bytes new (Ok (record { left = 0; refusal = Some short }))
+all_were_read Before bytes new all = λ read h. let a = all read h in record {
+  front = bytes;
+  rest = [];
+  spelled = sym (append-nil bytes);
+  left = refl;
+  has_read = a.0;
+  ends = (a.1, short_is_open (read ++ bytes));
+}
+  where
+    short_is_open : (given : List ℕ) → stays given short ≡ false
+    short_is_open given = let all : length given - 0 ≡ length given = omega arith in rw (all, drop_all given) refl
+
+-- a text, and what is behind it
+pub text_and_behind : (Before : List ℕ → Type 0) (bytes : List ℕ) (behind : Option (Bor (List ℕ))) (mid new : Loading)
+    (r : Result Pause ReadStop)
+    → ReadsText Before bytes mid (Ok behind) → ReadsBehind behind mid new r → ReadsOn Before bytes new r
+text_and_behind Before bytes None mid new r x b = rw (b.1, b.0) (all_were_read Before bytes mid x)
+text_and_behind Before bytes (Some behind) mid new r x b = text_then_whole Before bytes behind.now mid new r x b
+
+-- the same of what was read, where that is the same
+pub read_on_as : (Before Since : List ℕ → Type 0) (bytes : List ℕ) (new : Loading) (r : Result Pause ReadStop)
+    → ((read : List ℕ) → Since read → Before read) → ReadsOn Before bytes new r → ReadsOn Since bytes new r
+read_on_as Before Since bytes new (Ok pause) same a = λ read h. a read (same read h)
+read_on_as Before Since bytes new (Err stops.OutOfMemory) same a = tt
+read_on_as Before Since bytes new (Err (stops.Refused e)) same a = λ read h. a read (same read h)
+
+-- a diversion's text that is read on: the same was read
+pub diverted_since : (read : List ℕ) (old : Loading) (o now : Option Begun) (m : ℕ) → o ≡ old.begun
+    → o ≡ Some (begun.Diversion m) → IsRead read old → HasReadIn read (record old { begun = now }) m
+diverted_since read old o now m was at h =
+    let k : HasReadIn read old m = subst (λ (x : Option Begun). ReadAs x read old) (sym was ∙ at) h in record {
+      directives = k.directives;
+      number = k.number;
+      came = k.came;
+      state = k.state;
+      issued = k.issued;
+      within = record { place = k.within.place; goes_on = k.within.goes_on };
+    }
 
 -- bytes that are split
 pub two_parts : (bytes front behind : List ℕ) (n : ℕ) → front ≡ take n bytes → behind ≡ drop n bytes

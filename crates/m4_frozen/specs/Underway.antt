@@ -10,10 +10,13 @@ use Rattle.m4_frozen.specs.declared.fault.FrozenKind.TheVariants as kinds
 use Rattle.m4_frozen.specs.declared.fault.ReadStop.{ReadStop}
 use Rattle.m4_frozen.specs.declared.fault.ReadStop.TheVariants as stops
 use Rattle.m4_frozen.specs.declared.fault.Refusal.{Refusal}
+use Rattle.m4_frozen.specs.declared.begun.Begun.{Begun}
+use Rattle.m4_frozen.specs.declared.begun.Begun.TheVariants as begun
+use Rattle.m4_frozen.specs.declared.begun.NamedText.{NamedText}
 use Rattle.m4_frozen.specs.declared.loading.Loading.{Loading}
 use Rattle.m4_frozen.specs.declared.loading.Pause.{Pause}
 use Rattle.m4_frozen.specs.Denote.{denote, issued_by}
-use Rattle.m4_frozen.specs.Directive.{Directive, Diversion}
+use Rattle.m4_frozen.specs.Directive.{Directive, Text, Diversion}
 use Rattle.m4_frozen.specs.Outcome.{Loads}
 use Rattle.m4_frozen.specs.ReaderSteps.{◌>>=◌, skip_lines, string_at, expect_byte, directives_at, behind_version, file_at, is_settled}
 
@@ -56,41 +59,54 @@ pub record HasRead (read : List ℕ) (loading : Loading) : Type 0 where
 pub record HasAdvanced (bytes : List ℕ) (old new : Loading) (rest : List ℕ) : Type 0 where
   pub front : List ℕ
   pub spelled : bytes ≡ front ++ rest
-  pub no_text : new.missing ≡ old.missing
+  pub no_text : new.begun ≡ old.begun
   pub has_read : (read : List ℕ) → HasRead read old → HasRead (read ++ front) new
 
--- what is read behind the beginning of a diversion's text, of which so many bytes are missing
-unfoldable pub text_left : ℕ → ℤ → List ℕ → ℕ → List ℕ → Result (List Directive) Refusal
-text_left count number came missing bytes = do
+-- what is read behind the beginning of a directive's text, of which so many bytes are missing
+unfoldable pub text_left : ℕ → (List ℕ → Directive) → List ℕ → ℕ → List ℕ → Result (List Directive) Refusal
+text_left count make came missing bytes = do
   t ← string_at missing bytes
   r ← expect_byte newline t.1
   ds ← directives_at count r
-  Ok (Diversion number (came ++ t.0) ∷ ds)
+  Ok (make (came ++ t.0) ∷ ds)
 
 -- what a file is read as that goes on with these bytes within a text
-pub record GoesOnIn (read : List ℕ) (ds : List Directive) (number : ℤ) (came : List ℕ)
-    (missing : ℕ) (more : List ℕ) : Type 0 where
+pub record GoesOnIn (read : List ℕ) (ds : List Directive) (make : List ℕ → Directive)
+    (came : List ℕ) (missing : ℕ) (more : List ℕ) : Type 0 where
   pub count : ℕ
   pub enough : length more ≤ count
-  pub answer : file_at (read ++ more) ≡ with_front ds (text_left count number came missing more)
+  pub answer : file_at (read ++ more) ≡ with_front ds (text_left count make came missing more)
 
--- these bytes were read, whatever follows them, the last ones of them the beginning of a text
+-- these bytes were read behind the directives, whatever follows them: the beginning of a text
+pub record IsWithinText (read : List ℕ) (loading : Loading) (ds : List Directive)
+    (make : List ℕ → Directive) (came : List ℕ) (missing : ℕ) : Type 0 where
+  pub place : (loading.versioned ≡ true) × (loading.inside ≡ false)
+  pub goes_on : (more : List ℕ) → GoesOnIn read ds make came missing more
+
+-- a diversion's, which goes to the state as it comes
 pub record HasReadIn (read : List ℕ) (loading : Loading) (missing : ℕ) : Type 0 where
   pub directives : List Directive
   pub number : ℤ
   pub came : List ℕ
   pub state : loading.state ≡ appended (diverted (denote directives).state number) came
   pub issued : loading.issued.items ≡ (denote directives).issued ++ issued_by (Diversion number came)
-  pub place : (loading.versioned ≡ true) × (loading.inside ≡ false)
-  pub goes_on : (more : List ℕ) → GoesOnIn read directives number came missing more
+  pub within : IsWithinText read loading directives (Diversion number) came missing
 
--- these bytes were read, within a text where so many bytes of one are missing
-abbrev pub ReadAs : Option ℕ → List ℕ → Loading → Type 0
+-- a name's, which is kept until it is whole
+pub record HasReadNamed (read : List ℕ) (loading : Loading) (text : NamedText) : Type 0 where
+  pub directives : List Directive
+  pub state : loading.state ≡ (denote directives).state
+  pub issued : loading.issued.items ≡ (denote directives).issued
+  pub within : IsWithinText read loading directives (Text text.name) text.text.items text.missing
+
+-- these bytes were read, within such a text if one has begun
+abbrev pub ReadAs : Option Begun → List ℕ → Loading → Type 0
 ReadAs None read loading = HasRead read loading
-ReadAs (Some missing) read loading = HasReadIn read loading missing
+ReadAs (Some (begun.Diversion missing)) read loading = HasReadIn read loading missing
+ReadAs (Some (begun.Name text)) read loading = HasReadNamed read loading text
 
 abbrev pub IsRead : List ℕ → Loading → Type 0
-IsRead read loading = ReadAs loading.missing read loading
+IsRead read loading = ReadAs loading.begun read loading
 
 -- the refusal of a file that ends too early
 abbrev pub short : Refusal
@@ -105,7 +121,7 @@ abbrev pub IsWithin : ReadStop → Bool → List ℕ → Type 0
 IsWithin stops.OutOfMemory inside here = Unit {0}
 IsWithin (stops.Refused e) inside here = (e.bytes_left ≤ length here) × StandsAt inside here
 
--- a diversion is begun whose text is not whole, or nothing is read
+-- a text is begun that is not whole, or nothing is read
 abbrev pub Opens : List ℕ → Loading → Loading → Result Bool StateFault → Type 0
 Opens here old new (Ok true) = (read : List ℕ) → HasRead read old → IsRead (read ++ here) new
 Opens here old new (Ok false) = new ≡ old
@@ -129,7 +145,7 @@ pub record HasReadOne (bytes : List ℕ) (old new : Loading) (behind : List ℕ)
   pub one : List ℕ
   pub spelled : bytes ≡ one ++ behind
   pub some : 0 < length one
-  pub no_text : new.missing ≡ old.missing
+  pub no_text : new.begun ≡ old.begun
   pub has_read : (read : List ℕ) → HasRead read old → HasRead (read ++ one) new
 
 -- what stands at the front: the version or a directive; the end; or a refusal
@@ -165,20 +181,25 @@ ReadsOn Before bytes new (Err (stops.Refused e)) = (read : List ℕ) → Before 
 abbrev pub Advances : List ℕ → Loading → Loading → Result Pause ReadStop → Type 0
 Advances bytes old new r = ReadsOn (λ read. HasRead read old) bytes new r
 
--- a text was read to its end
-pub record HasReadText (bytes : List ℕ) (old : Loading) (missing : ℕ) (new : Loading)
+-- a text was read to its end, of which this was read before
+pub record HasReadText (Before : List ℕ → Type 0) (bytes : List ℕ) (new : Loading)
     (behind : List ℕ) : Type 0 where
   pub one : List ℕ
   pub spelled : bytes ≡ one ++ behind
-  pub no_text : new.missing ≡ None
-  pub has_read : (read : List ℕ) → HasReadIn read old missing → HasRead (read ++ one) new
+  pub no_text : new.begun ≡ None
+  pub has_read : (read : List ℕ) → Before read → HasRead (read ++ one) new
 
 -- what is read of a text: its end, all the bytes, or a refusal
-abbrev pub ReadsText : List ℕ → Loading → ℕ → Loading
+abbrev pub ReadsText : (List ℕ → Type 0) → List ℕ → Loading
     → Result (Option (Bor (List ℕ))) ReadStop → Type 0
-ReadsText bytes old missing new (Ok (Some behind)) = HasReadText bytes old missing new behind.now
-ReadsText bytes old missing new (Ok None) = (read : List ℕ) → HasReadIn read old missing
+ReadsText Before bytes new (Ok (Some behind)) = HasReadText Before bytes new behind.now
+ReadsText Before bytes new (Ok None) = (read : List ℕ) → Before read
     → IsRead (read ++ bytes) new × (file_at (read ++ bytes) ≡ Err short)
-ReadsText bytes old missing new (Err stops.OutOfMemory) = Unit {0}
-ReadsText bytes old missing new (Err (stops.Refused e)) = (read : List ℕ) → HasReadIn read old missing
+ReadsText Before bytes new (Err stops.OutOfMemory) = Unit {0}
+ReadsText Before bytes new (Err (stops.Refused e)) = (read : List ℕ) → Before read
     → (file_at (read ++ bytes) ≡ Err e) × (stays (read ++ bytes) e ≡ true)
+
+-- what is read behind a text, where it has ended
+abbrev pub ReadsBehind : Option (Bor (List ℕ)) → Loading → Loading → Result Pause ReadStop → Type 0
+ReadsBehind None old new r = (new ≡ old) × (r ≡ Ok (record { left = 0; refusal = Some short }))
+ReadsBehind (Some behind) old new r = Advances behind.now old new r

@@ -7,6 +7,7 @@
 //! Manual: "Frozen file format", "Fast loading of frozen state".
 #![tactic(auto)]
 
+mod begun;
 mod directive;
 pub mod fault;
 pub mod inspector;

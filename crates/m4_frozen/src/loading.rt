@@ -1,7 +1,7 @@
 //! A frozen file that is read as its bytes come: each directive is applied to the state as soon as it
 //! is whole. Manual: "Frozen file format".
 
-ghost use Rattle.std.specs.Prelude.{◌≡◌, ◌++◌, [], true, None, IfOk, OnOk};
+ghost use Rattle.std.specs.Prelude.{◌≡◌, ◌++◌, [], true, None, IfSome, IfOk, OnOk};
 ghost use Rattle.m4_state.specs.Definition.{IsDefinition};
 ghost use Rattle.m4_frozen.specs.Denote.{with_directive, issued_by, definition_named};
 ghost use Rattle.m4_state.specs.State.{appended};
@@ -9,11 +9,12 @@ ghost use Rattle.m4_frozen.specs.Directive as directives;
 ghost use Rattle.m4_frozen.specs.DirectiveView.{directive_of};
 ghost use Rattle.m4_frozen.specs.Underway as underway;
 
+use crate::begun::{Begun, NamedText};
 use crate::directive::Directive;
 use crate::fault::{FrozenKind, ReadStop, Refusal, refused_at};
 use crate::lines::skip_lines;
-use crate::reader::{behind_version, diversion_line, next_directive, stays};
-use crate::strings::{diversion_head, expect_byte};
+use crate::reader::{behind_version, line_behind, next_directive, stays};
+use crate::strings::{diversion_head, expect_byte, pair_head};
 use m4_state::builtin::Builtin;
 use m4_state::bytes::Bytes;
 use m4_state::definition::Def;
@@ -39,9 +40,8 @@ pub(crate) struct Loading {
     versioned: bool,
     /// Whether a comment line has begun.
     inside: bool,
-    /// How many bytes of the current diversion's text have not come, if one has begun: a text goes to
-    /// the state as it comes, so that a long one is not held twice.
-    missing: Option<usize>,
+    /// The text that has begun and is not whole, if there is one.
+    begun: Option<Begun>,
 }
 
 /// Where more bytes are needed.
@@ -63,7 +63,7 @@ impl Loading {
             issued: Vec::new(alloc),
             versioned: false,
             inside: false,
-            missing: None,
+            begun: None,
         })
     }
 
@@ -74,10 +74,25 @@ impl Loading {
     pub(crate) fn advance(&mut self, alloc: Global, bytes: &[u8]) -> Result<Pause, ReadStop>
         ensures { underway.ReadsOn (λ read. underway.IsRead read self.old) bytes.now self.new result }
     {
-        let Some(missing) = self.missing else {
-            return self.read_whole(alloc, bytes);
-        };
-        match self.read_text(missing, bytes)? {
+        match self.begun.take() {
+            None => self.read_whole(alloc, bytes),
+            Some(Begun::Diversion(missing)) => {
+                let behind = self.read_diverted(missing, bytes)?;
+                self.read_behind(alloc, behind)
+            }
+            Some(Begun::Name(text)) => {
+                let behind = self.read_named(text, bytes)?;
+                self.read_behind(alloc, behind)
+            }
+        }
+    }
+
+    /// Reads what stands behind a text, or pauses where that is not whole.
+    fn read_behind(&mut self, alloc: Global, behind: Option<&[u8]>) -> Result<Pause, ReadStop>
+        requires { IfSome behind (λ _. self.old.begun ≡ None) }
+        ensures { underway.ReadsBehind behind.entry self.old self.new result }
+    {
+        match behind {
             Some(behind) => self.read_whole(alloc, behind),
             None => Ok(Pause {
                 left: 0,
@@ -88,7 +103,7 @@ impl Loading {
 
     /// Reads all that is whole, where no text is open.
     fn read_whole(&mut self, alloc: Global, bytes: &[u8]) -> Result<Pause, ReadStop>
-        requires { self.old.missing ≡ None }
+        requires { self.old.begun ≡ None }
         ensures { underway.Advances bytes.now self.old self.new result }
     {
         let mut rest = bytes;
@@ -97,7 +112,7 @@ impl Loading {
             self.inside = inside;
             let one = match self.read_one(alloc, here) {
                 Ok(one) => one,
-                Err(stop) => return self.pause_at(stop, here),
+                Err(stop) => return self.pause_at(alloc, stop, here),
             };
             match one {
                 Some(behind) => rest = behind,
@@ -145,7 +160,7 @@ impl Loading {
     }
 
     /// A pause at these bytes, the last ones that came, unless the stop stays whatever follows them.
-    fn pause_at(&mut self, stop: ReadStop, here: &[u8]) -> Result<Pause, ReadStop>
+    fn pause_at(&mut self, alloc: Global, stop: ReadStop, here: &[u8]) -> Result<Pause, ReadStop>
         requires { underway.IsWithin stop self.old.inside here.now }
         ensures { underway.PausesAt stop here.now self.old self.new result }
     {
@@ -155,19 +170,53 @@ impl Loading {
         if stays(refusal, here) {
             return Err(ReadStop::Refused(refusal));
         }
-        let opened = self.open_text(here)?;
+        let opened = self.open_text(alloc, here)?;
         Ok(Pause {
             left: if opened { 0 } else { here.len() },
             refusal: Some(refusal),
         })
     }
 
-    /// Begins a diversion, if one stands here whose text or its newline has not come.
-    fn open_text(&mut self, here: &[u8]) -> Result<bool, StateFault>
+    /// Begins a text, if one stands here that, or whose newline, has not come.
+    fn open_text(&mut self, alloc: Global, here: &[u8]) -> Result<bool, StateFault>
         requires { underway.StandsAt self.old.inside here.now }
         ensures { underway.Opens here.now self.old self.new result }
     {
-        let Some(line) = diversion_line(here) else {
+        if self.open_named(alloc, here)? {
+            return Ok(true);
+        }
+        self.open_diverted(here)
+    }
+
+    /// Begins the text of a name.
+    fn open_named(&mut self, alloc: Global, here: &[u8]) -> Result<bool, StateFault>
+        requires { underway.StandsAt self.old.inside here.now }
+        ensures { underway.Opens here.now self.old self.new result }
+    {
+        let Some(line) = line_behind(b'T', here) else {
+            return Ok(false);
+        };
+        let Ok(((name, len), text)) = pair_head(line) else {
+            return Ok(false);
+        };
+        let len = len as usize;
+        if !self.versioned || len < text.len() {
+            return Ok(false);
+        }
+        self.begun = Some(Begun::Name(NamedText {
+            name: Bytes::from_slice(alloc, name)?,
+            text: Vec::from_slice(alloc, text)?,
+            missing: len - text.len(),
+        }));
+        Ok(true)
+    }
+
+    /// Begins a diversion, whose text goes to the state as it comes.
+    fn open_diverted(&mut self, here: &[u8]) -> Result<bool, StateFault>
+        requires { underway.StandsAt self.old.inside here.now }
+        ensures { underway.Opens here.now self.old self.new result }
+    {
+        let Some(line) = line_behind(b'D', here) else {
             return Ok(false);
         };
         let Ok(((number, len), text)) = diversion_head(line) else {
@@ -179,26 +228,57 @@ impl Loading {
         }
         self.state.divert(number);
         self.add(text)?;
-        self.missing = Some(len - text.len());
+        self.begun = Some(Begun::Diversion(len - text.len()));
         Ok(true)
     }
 
-    /// Reads what came of a text: up to its end, whose newline is taken too, or all of the bytes.
-    fn read_text<'a>(
+    /// Reads what came of a diversion's text: up to its end, whose newline is taken too, or all of the
+    /// bytes.
+    fn read_diverted<'a>(
         &mut self,
         missing: usize,
         bytes: &'a [u8],
     ) -> Result<Option<&'a [u8]>, ReadStop>
-        ensures { underway.ReadsText bytes.now self.old missing self.new result }
+        requires { self.old.begun ≡ None }
+        ensures { underway.ReadsText (λ read. underway.HasReadIn read self.old missing) bytes.now self.new result }
     {
         let (more, behind) = bytes.split_at(missing.min(bytes.len()));
         self.add(more)?;
         if behind.is_empty() {
-            self.missing = Some(missing - more.len());
+            self.begun = Some(Begun::Diversion(missing - more.len()));
             return Ok(None);
         }
         let behind = expect_byte(b'\n', behind)?;
-        self.missing = None;
+        Ok(Some(behind))
+    }
+
+    /// Reads what came of a name's text: up to its end, whose newline is taken too, or all of the
+    /// bytes. The name has its definition once the text is whole.
+    fn read_named<'a>(
+        &mut self,
+        begun: NamedText,
+        bytes: &'a [u8],
+    ) -> Result<Option<&'a [u8]>, ReadStop>
+        requires { self.old.begun ≡ None }
+        ensures { underway.ReadsText (λ read. underway.HasReadNamed read self.old begun) bytes.now self.new result }
+    {
+        let NamedText {
+            name,
+            mut text,
+            missing,
+        } = begun;
+        let (more, behind) = bytes.split_at(missing.min(bytes.len()));
+        text.extend_from_slice(more)?;
+        if behind.is_empty() {
+            self.begun = Some(Begun::Name(NamedText {
+                name,
+                text,
+                missing: missing - more.len(),
+            }));
+            return Ok(None);
+        }
+        let behind = expect_byte(b'\n', behind)?;
+        self.state.push(name, Def::Text(Bytes::from(text)))?;
         Ok(Some(behind))
     }
 

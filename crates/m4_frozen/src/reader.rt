@@ -6,7 +6,6 @@
 //! Manual: "Frozen file format".
 
 ghost use Rattle.std.specs.Prelude.{◌≡◌, ◌≤◌, ◌-◌, ◌∷◌, length, drop, IfSome};
-ghost use Rattle.m4_frozen.specs.Ascii.{letter_D};
 ghost use Rattle.std.specs.Option.{option_map};
 ghost use Rattle.m4_frozen.specs.DirectiveView.{directive_of};
 ghost use Rattle.m4_frozen.specs.ReaderSteps as steps;
@@ -50,12 +49,12 @@ pub(crate) fn behind_version(bytes: &[u8]) -> Result<&[u8], Refusal>
     }
 }
 
-/// The bytes behind the letter of a diversion, if it stands at the front.
-pub(crate) fn diversion_line(bytes: &[u8]) -> Option<&[u8]>
-    ensures { IfSome result (λ line. bytes.now ≡ letter_D ∷ line.now) }
+/// The bytes behind a letter, if it stands at the front.
+pub(crate) fn line_behind(letter: u8, bytes: &[u8]) -> Option<&[u8]>
+    ensures { IfSome result (λ line. bytes.now ≡ letter ∷ line.now) }
 {
     match bytes {
-        [b'D', line @ ..] => Some(line),
+        [first, line @ ..] if *first == letter => Some(line),
         _ => None,
     }
 }

@@ -35,16 +35,24 @@ fn string(len: u64, bytes: &[u8]) -> Result<(&[u8], &[u8]), Refusal>
     Ok(bytes.split_at(len))
 }
 
-/// Two lengths and the two strings, and the bytes behind them.
-#[tactic(auto, unfolding(crate::specs::ReaderSteps::pair_at))]
-pub(crate) fn pair(bytes: &[u8]) -> Result<((&[u8], &[u8]), &[u8]), Refusal>
-    ensures { Gives (λ x. ((x.0.0.now, x.0.1.now), x.1.now)) result (steps.pair_at bytes.now) }
+/// Two lengths and the first string: it and the second one's length, and the bytes behind it.
+pub(crate) fn pair_head(bytes: &[u8]) -> Result<((&[u8], u64), &[u8]), Refusal>
+    ensures { Gives (λ x. ((x.0.0.now, x.0.1), x.1.now)) result (steps.pair_head_at bytes.now) }
 {
     let (n, rest) = length(bytes)?;
     let rest = expect_byte(b',', skip_blanks(rest))?;
     let (m, rest) = length(rest)?;
     let rest = expect_byte(b'\n', rest)?;
     let (first, rest) = string(n, rest)?;
+    Ok(((first, m), rest))
+}
+
+/// Two lengths and the two strings, and the bytes behind them.
+#[tactic(auto, unfolding(crate::specs::ReaderSteps::pair_at))]
+pub(crate) fn pair(bytes: &[u8]) -> Result<((&[u8], &[u8]), &[u8]), Refusal>
+    ensures { Gives (λ x. ((x.0.0.now, x.0.1.now), x.1.now)) result (steps.pair_at bytes.now) }
+{
+    let ((first, m), rest) = pair_head(bytes)?;
     let (second, rest) = string(m, rest)?;
     let rest = expect_byte(b'\n', rest)?;
     Ok(((first, second), rest))

@@ -1,0 +1,167 @@
+-- A name's text that is read as its bytes come.
+use Rattle.std.proofs.Common.{◌≡◌, ◌≢◌, ℕ, suc, ◌+◌, ◌-◌, ◌<◌, ◌≤◌, ◌^◌, true, List, [], ◌∷◌, ◌++◌, length, Option, Some, None, Result, Ok, Err, refl, sym, ap, subst, ◌∙◌, append_assoc, arith, inl, inr}
+use Rattle.std.proofs.lemmas.List.{append-nil}
+use Rattle.m4_state.specs.State.{State, pushed}
+use Rattle.m4_state.specs.declared.definition.Def.TheVariants as defs
+use Rattle.m4_frozen.specs.Ascii.{newline, letter_T}
+use Rattle.m4_frozen.specs.declared.begun.Begun.{Begun}
+use Rattle.m4_frozen.specs.declared.begun.Begun.TheVariants as begun
+use Rattle.m4_frozen.specs.declared.begun.NamedText.{NamedText}
+use Rattle.m4_frozen.specs.declared.fault.Refusal.{Refusal}
+use Rattle.m4_frozen.specs.declared.loading.Loading.{Loading}
+use Rattle.m4_frozen.specs.Denote.{denote}
+use Rattle.m4_frozen.specs.Directive.{Directive, Text}
+use Rattle.m4_frozen.specs.Layout.{Length, Comma, NewLine, String, Layout, Done, Then}
+use Rattle.m4_frozen.specs.ReaderSteps.{◌>>=◌, string_at, expect_byte, pair_head_at, pair_at, directive_at, directives_at, file_at}
+use Rattle.m4_frozen.specs.Spells.{AreBlanks, IsNumber}
+use Rattle.m4_frozen.specs.Underway.{StandsAt, text_left, HasRead, HasReadNamed, HasReadText, ReadAs, IsRead, short}
+use Rattle.m4_frozen.proofs.ReadBack.{pair_head_at-spelled, comma_on}
+use Rattle.m4_frozen.proofs.Parts.{Step, layout_at, LayoutSays, layout_says}
+use Rattle.m4_frozen.proofs.Spelled.{bind_assoc}
+use Rattle.m4_frozen.proofs.TextRead.{then_all, then_text, as_next, behind_next, within_opened, within_more, within_short, has_read_closed, text_ends}
+
+-- the first string of a pair and the length of the second, by their parts
+abbrev head_layout : Layout (List ℕ × ℕ)
+head_layout = Then Length (λ n. Then Comma (λ c. Then Length (λ m. Then NewLine (λ e. Then (String n) (λ name. Done (name, m))))))
+
+head_is_layout : (bytes : List ℕ) → pair_head_at bytes ≡ layout_at head_layout bytes
+head_is_layout bytes = simp bind_assoc refl
+
+-- what is read is read so whatever follows it
+record HasHead (bytes name : List ℕ) (n : ℕ) (rest : List ℕ) : Type 0 where
+  one : List ℕ
+  spelled : bytes ≡ one ++ rest
+  gives : (more : List ℕ) → pair_head_at (one ++ more) ≡ Ok ((name, n), more)
+
+head_says : (bytes name : List ℕ) (n : ℕ) (rest : List ℕ) (r : Step (List ℕ × ℕ))
+    → LayoutSays head_layout bytes r → r ≡ Ok ((name, n), rest) → HasHead bytes name n rest
+head_says bytes name n rest r says e =
+    let h = rw e at says in
+    let h1 = h.1 in
+    let h2 = h1.6 in
+    let h3 = h2.6 in
+    let h4 = h3.6 in
+    let h5 = h4.6 in
+    let same : (h5.0, h3.0) ≡ (name, n) = h5.6.0 in record {
+      one = h.0;
+      spelled = h.2;
+      gives = λ more.
+          let parts : h.0 ++ more ≡ h1.1 ++ comma_on h2.3.0 h3.1 (h5.0 ++ more) =
+          rw (h1.5, h2.5, h2.3.2, h3.5, h4.5, h4.3, h5.5, h5.3.0, h5.6.1) (simp append_assoc) in
+          ap pair_head_at parts
+          ∙ pair_head_at-spelled h1.0 h5.0 h3.0 h1.1 h2.3.0 h3.1 more h5.3.1 h1.3.0 h1.3.1 h2.3.1 h3.3.0 h3.3.1
+          ∙ ap (λ (p : List ℕ × ℕ). Ok (p, more)) same;
+    }
+
+has_head : (bytes name : List ℕ) (n : ℕ) (rest : List ℕ) → pair_head_at bytes ≡ Ok ((name, n), rest)
+    → HasHead bytes name n rest
+has_head bytes name n rest e =
+    head_says bytes name n rest (layout_at head_layout bytes) (layout_says head_layout bytes)
+    (sym (head_is_layout bytes) ∙ e)
+
+-- the second string of a pair, and the bytes behind its newline
+abbrev with_rest : List ℕ → List ℕ → List ℕ → Step (List ℕ × List ℕ)
+with_rest name text rest = Ok ((name, text), rest)
+
+abbrev to_newline : List ℕ → List ℕ × List ℕ → Step (List ℕ × List ℕ)
+to_newline name t = expect_byte newline t.1 >>= with_rest name t.0
+
+-- a pair behind `T` is a directive
+abbrev as_directive : (List ℕ × List ℕ) × List ℕ → Step Directive
+as_directive p = Ok (Text p.0.0 p.0.1, p.1)
+
+-- what is read behind the newline of a text
+closed_of : (count : ℕ) (name text : List ℕ) (r : Result (List ℕ) Refusal)
+    → ((((r >>= with_rest name text) >>= as_directive) >>= as_next) >>= behind_next count)
+    ≡ (r >>= then_all count (Text name text))
+closed_of count name text (Ok rest) = refl
+closed_of count name text (Err e) = refl
+
+-- and behind the name
+opened_of : (count : ℕ) (name : List ℕ) (r : Step (List ℕ))
+    → ((((r >>= to_newline name) >>= as_directive) >>= as_next) >>= behind_next count)
+    ≡ (r >>= then_text count (Text name) [])
+opened_of count name (Ok t) = closed_of count name t.0 (expect_byte newline t.1)
+opened_of count name (Err e) = refl
+
+-- a definition is read as its text
+opened : (count : ℕ) (name : List ℕ) (n : ℕ) (line tail : List ℕ) → pair_head_at line ≡ Ok ((name, n), tail)
+    → directives_at (suc count) (letter_T ∷ line) ≡ text_left count (Text name) [] n tail
+unfolding directives_at directive_at pair_at text_left
+opened count name n line tail e =
+    rw e (opened_of count name (string_at n tail))
+
+text_begins : (line text name : List ℕ) (n : ℕ) → pair_head_at line ≡ Ok ((name, n), text)
+    → (count : ℕ) (more : List ℕ) → directives_at (suc count) (letter_T ∷ (line ++ more))
+    ≡ text_left count (Text name) [] n (text ++ more)
+text_begins line text name n e count more =
+    let k = has_head line name n text e in
+    let parts : line ++ more ≡ k.one ++ (text ++ more) =
+    ap (λ (xs : List ℕ). xs ++ more) k.spelled ∙ append_assoc k.one text more in
+    opened count name n (line ++ more) (text ++ more) (ap pair_head_at parts ∙ k.gives (text ++ more))
+
+-- what stands in a text stands in an equal one
+as_named : (read : List ℕ) (l new : Loading) (t : NamedText) → new.begun ≡ Some (begun.Name t)
+    → HasReadNamed read new t → IsRead read new
+as_named read l new t is h = subst (λ (o : Option Begun). ReadAs o read new) (sym is) h
+
+-- a name's text was begun
+pub named_opened : (read line text : List ℕ) (t : NamedText) (n : ℕ) (l new : Loading)
+    → StandsAt l.inside (letter_T ∷ line) → l.versioned ≡ true
+    → pair_head_at line ≡ Ok ((t.name, n), text) → length text ≤ n
+    → t.text.items ≡ text → t.missing ≡ n - length text
+    → new ≡ record l { begun = Some (begun.Name t) }
+    → HasRead read l → IsRead (read ++ letter_T ∷ line) new
+named_opened read line text t n l new (inl none) v e le items missing is h = absurd cc
+named_opened read line text t n l new (inr at) v e le items missing is h =
+    as_named (read ++ letter_T ∷ line) l new t (ap (λ (x : Loading). x.begun) is) (record {
+      directives = h.directives;
+      state = ap (λ (x : Loading). x.state) is ∙ h.state;
+      issued = ap (λ (x : Loading). x.issued.items) is ∙ h.issued;
+      within = rw (items, missing) (within_opened read line [] text letter_T (Text t.name) n l new v at.0
+          (ap (λ (x : Loading). x.versioned) is) (ap (λ (x : Loading). x.inside) is) le h
+          (text_begins line text t.name n e));
+    })
+
+-- more of it was read
+pub named_more : (read bytes : List ℕ) (l new : Loading) (t u : NamedText) → length bytes ≤ t.missing
+    → u.name ≡ t.name → u.text.items ≡ t.text.items ++ bytes → u.missing ≡ t.missing - length bytes
+    → new ≡ record l { begun = Some (begun.Name u) }
+    → HasReadNamed read l t → IsRead (read ++ bytes) new × (file_at (read ++ bytes) ≡ Err short)
+named_more read bytes l new t u le name items missing is h =
+    let w = within_more read bytes l new h.directives (Text t.name) t.text.items t.missing h.within le
+        (ap (λ (x : Loading). x.versioned) is) (ap (λ (x : Loading). x.inside) is) in (
+      as_named (read ++ bytes) l new u (ap (λ (x : Loading). x.begun) is) (record {
+        directives = h.directives;
+        state = ap (λ (x : Loading). x.state) is ∙ h.state;
+        issued = ap (λ (x : Loading). x.issued.items) is ∙ h.issued;
+        within = rw (name, items, missing) w;
+      }),
+      within_short (read ++ bytes) [] new new h.directives (Text t.name) (t.text.items ++ bytes) (t.missing - length bytes) w,
+    )
+
+-- it was read whole, and is the name's definition
+pub named_text : (bytes c behind rest whole : List ℕ) (l new : Loading) (t : NamedText)
+    → bytes ≡ c ++ behind → t.missing ≡ length c → expect_byte newline behind ≡ Ok rest → l.begun ≡ None
+    → whole ≡ t.text.items ++ c
+    → new ≡ record l { state = pushed l.state t.name (defs.Text whole) }
+    → HasReadText (λ read. HasReadNamed read l t) bytes new rest
+named_text bytes c behind rest whole l new t parts all e none items is =
+    text_ends (λ read. HasReadNamed read l t) bytes c behind rest new parts e
+    (ap (λ (x : Loading). x.begun) is ∙ none)
+    (λ read h. has_read_closed read c l new h.directives (Text t.name) t.text.items t.missing h.within all
+    (ap (λ (x : Loading). x.versioned) is) (ap (λ (x : Loading). x.inside) is)
+    (ap (λ (x : Loading). x.state) is ∙ ap (λ (xs : List ℕ). pushed l.state t.name (defs.Text xs)) items
+    ∙ ap (λ (s : State). pushed s t.name (defs.Text (t.text.items ++ c))) h.state)
+    (ap (λ (x : Loading). x.issued.items) is ∙ h.issued ∙ sym (append-nil (denote h.directives).issued)))
+
+-- a name's text that is read on: the same was read
+pub named_since : (read : List ℕ) (old : Loading) (o now : Option Begun) (t : NamedText) → o ≡ old.begun
+    → o ≡ Some (begun.Name t) → IsRead read old → HasReadNamed read (record old { begun = now }) t
+named_since read old o now t was at h =
+    let k : HasReadNamed read old t = subst (λ (x : Option Begun). ReadAs x read old) (sym was ∙ at) h in record {
+      directives = k.directives;
+      state = k.state;
+      issued = k.issued;
+      within = record { place = k.within.place; goes_on = k.within.goes_on };
+    }
