@@ -12,6 +12,7 @@ pub mod Settled
 pub mod Unsettled
 pub mod Answered
 pub mod ReadOn
+pub mod HeldParts
 pub mod TextRead
 pub mod Told
 pub mod WindowRead

@@ -1,5 +1,5 @@
 -- A name's text that is read as its bytes come.
-use Rattle.std.proofs.Common.{◌≡◌, ◌≢◌, ℕ, suc, ◌+◌, ◌-◌, ◌<◌, ◌≤◌, ◌^◌, true, List, [], ◌∷◌, ◌++◌, length, Option, Some, None, Result, Ok, Err, refl, sym, ap, subst, ◌∙◌, append_assoc, arith, inl, inr}
+use Rattle.std.proofs.Common.{◌≡◌, ℕ, suc, ◌-◌, ◌≤◌, true, List, [], ◌∷◌, ◌++◌, length, Option, Some, None, Result, Ok, Err, refl, sym, ap, subst, ◌∙◌, append_assoc, inl, inr}
 use Rattle.std.proofs.lemmas.List.{append-nil}
 use Rattle.m4_state.specs.State.{State, pushed}
 use Rattle.m4_state.specs.declared.definition.Def.TheVariants as defs
@@ -13,7 +13,6 @@ use Rattle.m4_frozen.specs.Denote.{denote}
 use Rattle.m4_frozen.specs.Directive.{Directive, Text}
 use Rattle.m4_frozen.specs.Layout.{Length, Comma, NewLine, String, Layout, Done, Then}
 use Rattle.m4_frozen.specs.ReaderSteps.{◌>>=◌, string_at, expect_byte, pair_head_at, pair_at, directive_at, directives_at, file_at}
-use Rattle.m4_frozen.specs.Spells.{AreBlanks, IsNumber}
 use Rattle.m4_frozen.specs.Underway.{StandsAt, text_left, HasRead, HasReadNamed, HasReadText, ReadAs, IsRead, short}
 use Rattle.m4_frozen.proofs.ReadBack.{pair_head_at-spelled, comma_on}
 use Rattle.m4_frozen.proofs.Parts.{Step, layout_at, LayoutSays, layout_says}
@@ -130,7 +129,7 @@ pub named_more : (read bytes : List ℕ) (l new : Loading) (t u : NamedText) →
     → HasReadNamed read l t → IsRead (read ++ bytes) new × (file_at (read ++ bytes) ≡ Err short)
 named_more read bytes l new t u le name items missing is h =
     let w = within_more read bytes l new h.directives (Text t.name) t.text.items t.missing h.within le
-        (ap (λ (x : Loading). x.versioned) is) (ap (λ (x : Loading). x.inside) is) in (
+    (ap (λ (x : Loading). x.versioned) is) (ap (λ (x : Loading). x.inside) is) in (
       as_named (read ++ bytes) l new u (ap (λ (x : Loading). x.begun) is) (record {
         directives = h.directives;
         state = ap (λ (x : Loading). x.state) is ∙ h.state;

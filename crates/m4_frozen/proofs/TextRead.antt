@@ -17,7 +17,6 @@ use Rattle.m4_frozen.specs.declared.fault.ReadStop.{ReadStop}
 use Rattle.m4_frozen.specs.declared.fault.ReadStop.TheVariants as stops
 use Rattle.m4_frozen.specs.declared.begun.Begun.{Begun}
 use Rattle.m4_frozen.specs.declared.begun.Begun.TheVariants as begun
-use Rattle.m4_frozen.specs.declared.begun.NamedText.{NamedText}
 use Rattle.m4_frozen.specs.declared.loading.Loading.{Loading}
 use Rattle.m4_frozen.specs.declared.loading.Pause.{Pause}
 use Rattle.m4_frozen.specs.Denote.{issued_by, denote, with_directive}
@@ -25,7 +24,7 @@ use Rattle.m4_frozen.specs.Directive.{Directive, Diversion}
 use Rattle.m4_frozen.specs.Layout.{Length, Number, Comma, NewLine, Layout, Done, Then}
 use Rattle.m4_frozen.specs.ReaderSteps.{◌>>=◌, string_at, expect_byte, head_at, diversion_at, directive_at, directives_at, file_at}
 use Rattle.std.specs.Borrow.{Bor}
-use Rattle.m4_frozen.specs.Underway.{StandsAt, with_front, text_left, HasRead, HasReadIn, HasReadNamed, IsWithinText, HasReadText, ReadsText, ReadsBehind, ReadAs, IsRead, Advances, EndsSo, ReadsOn, short, stays}
+use Rattle.m4_frozen.specs.Underway.{StandsAt, with_front, text_left, HasRead, HasReadIn, IsWithinText, HasReadText, ReadsText, ReadsBehind, ReadAs, IsRead, Advances, EndsSo, ReadsOn, short, stays}
 use Rattle.m4_frozen.proofs.ByteTests.{test, lt_of, ge_of, eq_of}
 use Rattle.m4_frozen.proofs.ReadBack.{head_at-spelled, comma_on}
 use Rattle.m4_frozen.proofs.Parts.{Step, layout_at, LayoutSays, layout_says}
@@ -340,7 +339,7 @@ pub has_read_more : (read bytes : List ℕ) (l new : Loading) (m : ℕ) → leng
 has_read_more read bytes l new m le is i h =
     let open_now : new.begun ≡ Some (begun.Diversion (m - length bytes)) = ap (λ (x : Loading). x.begun) is in
     let w = within_more read bytes l new h.directives (Diversion h.number) h.came m h.within le
-        (ap (λ (x : Loading). x.versioned) is) (ap (λ (x : Loading). x.inside) is) in
+    (ap (λ (x : Loading). x.versioned) is) (ap (λ (x : Loading). x.inside) is) in
     let r : HasReadIn (read ++ bytes) new (m - length bytes) = record {
       directives = h.directives;
       number = h.number;

@@ -31,20 +31,20 @@ after_both x y (Some s) =
 pub filled : (at_first told later : Option Script) (w v : Window) (l : Loading)
     → IsUnderway at_first told w l → HasCome w v told later → IsUnderway at_first later v l
 filled at_first told later w v l u c =
-    let all : u.read ++ v.bytes.items ≡ (u.read ++ w.bytes.items) ++ c.block =
-    ap (λ (xs : List ℕ). u.read ++ xs) c.bytes ∙ sym (append_assoc u.read w.bytes.items c.block) in record {
+    let all : u.read ++ v.bytes ≡ (u.read ++ w.bytes) ++ c.block =
+    ap (λ (xs : List ℕ). u.read ++ xs) c.bytes ∙ sym (append_assoc u.read w.bytes c.block) in record {
       read = u.read;
-      gives = u.gives ∙ ap (after_bytes (u.read ++ w.bytes.items)) c.gives
-          ∙ after_both (u.read ++ w.bytes.items) c.block later
+      gives = u.gives ∙ ap (after_bytes (u.read ++ w.bytes)) c.gives
+          ∙ after_both (u.read ++ w.bytes) c.block later
           ∙ ap (λ (xs : List ℕ). after_bytes xs later) (sym all);
-      came = omega (arith, c.came, u.came, ap length all, length-append (u.read ++ w.bytes.items) c.block);
+      came = omega (arith, c.came, u.came, ap length all, length-append (u.read ++ w.bytes) c.block);
       has_read = u.has_read;
     }
 
 -- what is left is among the bytes
 pub left_within : (at_first told : Option Script) (w : Window) (old new : Loading) (pause : Pause)
     → IsUnderway at_first told w old → ReadsWindow w old new (Ok pause)
-    → pause.left ≤ length w.bytes.items
+    → pause.left ≤ length w.bytes
 left_within at_first told w old new pause u r =
     let p = r u.read u.has_read in
     omega (arith, p.left, ap length p.spelled, length-append p.front p.rest)
@@ -52,16 +52,16 @@ left_within at_first told w old new pause u r =
 -- what was read is dropped
 pub dropped : (at_first told : Option Script) (w v : Window) (old new : Loading) (pause : Pause)
     → IsUnderway at_first told w old → ReadsWindow w old new (Ok pause)
-    → v.bytes.items ≡ drop (length w.bytes.items - pause.left) w.bytes.items → v.came ≡ w.came
+    → v.bytes ≡ drop (length w.bytes - pause.left) w.bytes → v.came ≡ w.came
     → IsUnderway at_first told v new
 dropped at_first told w v old new pause u r kept came =
     let p = r u.read u.has_read in
-    let rest : v.bytes.items ≡ p.rest =
-    kept ∙ ap (drop (length w.bytes.items - pause.left)) p.spelled
-    ∙ drop_at p.front p.rest (length w.bytes.items - pause.left)
+    let rest : v.bytes ≡ p.rest =
+    kept ∙ ap (drop (length w.bytes - pause.left)) p.spelled
+    ∙ drop_at p.front p.rest (length w.bytes - pause.left)
     (omega (arith, p.left, ap length p.spelled, length-append p.front p.rest)) in
-    let all : (u.read ++ p.front) ++ v.bytes.items ≡ u.read ++ w.bytes.items =
-    append_assoc u.read p.front v.bytes.items
+    let all : (u.read ++ p.front) ++ v.bytes ≡ u.read ++ w.bytes =
+    append_assoc u.read p.front v.bytes
     ∙ ap (λ (xs : List ℕ). u.read ++ xs) (ap (λ (xs : List ℕ). p.front ++ xs) rest ∙ sym p.spelled) in record {
       read = u.read ++ p.front;
       gives = u.gives ∙ ap (λ (xs : List ℕ). after_bytes xs told) (sym all);
@@ -104,7 +104,7 @@ pub window_refused : (at_first told : Option Script) (w : Window) (old new : Loa
     → IsUnderway at_first told w old → ReadsWindow w old new (Err f) → Answers at_first (Err f)
 window_refused at_first told w old new f u (inl e) = rw e (lacks_memory at_first)
 window_refused at_first told w old new f u (inr h) =
-    let given : List ℕ = u.read ++ w.bytes.items in
+    let given : List ℕ = u.read ++ w.bytes in
     let settled : IsSettledBy given f = h u.read u.has_read u.came in
     let now : FaultAt (given ++ []) f = settled [] in
     refuses at_first f (settled_told at_first told given f u.gives settled)
@@ -116,7 +116,7 @@ pub window_ended : (at_first told : Option Script) (w : Window) (old new : Loadi
     → IsUnderway at_first told w old → ReadsWindow w old new (Ok pause) → IsAtEnd told
     → EndsAs w new pause r → Answers at_first r
 window_ended at_first told w old new pause (Ok l) u p end h =
-    let given : List ℕ = u.read ++ w.bytes.items in
+    let given : List ℕ = u.read ++ w.bytes in
     let ends = (p u.read u.has_read).ends in record {
       loaded = loaded_told at_first told given l u.gives end (h given ends);
       accepts = tt;
@@ -125,7 +125,7 @@ window_ended at_first told w old new pause (Ok l) u p end h =
       not_read = tt;
     }
 window_ended at_first told w old new pause (Err f) u p end h =
-    let given : List ℕ = u.read ++ w.bytes.items in
+    let given : List ℕ = u.read ++ w.bytes in
     let now : FaultAt given f = h given (p u.read u.has_read).ends u.came in
     refuses at_first f (ended_told at_first told given f u.gives end now)
     (fault_has_memory false given f now) (not_read given f now.is)
@@ -143,7 +143,7 @@ pub window_failed : (at_first told : Option Script) (w : Window) (old new : Load
     → f ≡ record { kind = kinds.Read; offset = w.came }
     → IfSome at_first (λ s. IsFaultOf s.fails s.bytes f)
 window_failed at_first told w old new pause f u p end e =
-    let given : List ℕ = u.read ++ w.bytes.items in
+    let given : List ℕ = u.read ++ w.bytes in
     let place : f ≡ read_fault given = e ∙ ap (λ (n : ℕ). record { kind = kinds.Read; offset = n }) u.came in
     failed_told at_first told given f u.gives end
     (rw place (failed_pause given new pause.refusal (p u.read u.has_read).ends))

@@ -29,7 +29,7 @@ failures_behind behind n = n
 -- bytes came behind those that were there
 pub record HasCome (old new : Window) (told_old told_new : Option Script) : Type 0 where
   pub block : List ℕ
-  pub bytes : new.bytes.items ≡ old.bytes.items ++ block
+  pub bytes : new.bytes ≡ old.bytes ++ block
   pub came : new.came ≡ old.came + length block
   pub gives : told_old ≡ after_bytes block told_new
 
@@ -41,17 +41,17 @@ Fills old new told_old told_new behind = HasCome old new told_old told_new × St
 pub record IsUnderway (at_first told : Option Script) (window : Window) (loading : Loading)
     : Type 0 where
   pub read : List ℕ
-  pub gives : at_first ≡ after_bytes (read ++ window.bytes.items) told
-  pub came : window.came ≡ length (read ++ window.bytes.items)
+  pub gives : at_first ≡ after_bytes (read ++ window.bytes) told
+  pub came : window.came ≡ length (read ++ window.bytes)
   pub has_read : IsRead read loading
 
 -- what is read of a window, whose bytes stand behind those that were read
 abbrev pub ReadsWindow : Window → Loading → Loading → Result Pause FrozenFault → Type 0
 ReadsWindow window old new (Ok pause) =
-    (read : List ℕ) → IsRead read old → HasPaused read window.bytes.items new pause
+    (read : List ℕ) → IsRead read old → HasPaused read window.bytes new pause
 ReadsWindow window old new (Err fault) = (fault ≡ record { kind = kinds.OutOfMemory; offset = 0 })
-    ⊎ ((read : List ℕ) → IsRead read old → window.came ≡ length (read ++ window.bytes.items)
-    → IsSettledBy (read ++ window.bytes.items) fault)
+    ⊎ ((read : List ℕ) → IsRead read old → window.came ≡ length (read ++ window.bytes)
+    → IsSettledBy (read ++ window.bytes) fault)
 
 -- what is answered where the file ends behind a window
 abbrev pub EndsAs : Window → Loading → Pause → Result Loaded FrozenFault → Type 0

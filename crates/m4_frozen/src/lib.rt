@@ -10,6 +10,7 @@
 mod begun;
 mod directive;
 pub mod fault;
+mod held;
 pub mod inspector;
 pub mod laws;
 mod lines;

@@ -6,11 +6,9 @@ ghost use Rattle.m4_frozen.specs.declared.fault.FrozenKind.TheVariants as kinds;
 ghost use Rattle.m4_frozen.specs.declared.window.Behind.TheVariants as behinds;
 
 use crate::fault::{FrozenFault, FrozenKind, Refusal};
+use crate::held::{BLOCK, Held};
 use m4_state::device::{ByteSource, DeviceFault};
 use std::alloc::{AllocError, Global};
-
-/// How many bytes are asked of a reader at a time.
-pub(crate) const BLOCK: usize = 16384;
 
 /// What a reader gives behind the bytes that came.
 #[derive(Clone, Copy, Debug, PartialEq, Eq)]
@@ -26,27 +24,27 @@ pub(crate) enum Behind {
 /// The last bytes that came, and how many came in all.
 #[derive(Drop)]
 pub(crate) struct Window {
-    bytes: Vec<u8>,
+    bytes: Held,
     came: u64,
 }
 
 impl Window {
     /// Nothing came yet.
     pub(crate) fn new(alloc: Global) -> Window
-        ensures bytes { result.bytes.items ≡ [] }
+        ensures bytes { result.bytes ≡ [] }
         ensures came { result.came ≡ 0 }
     {
         Window {
-            bytes: Vec::new(alloc),
+            bytes: Held::new(alloc),
             came: 0,
         }
     }
 
     /// The bytes.
     pub(crate) fn bytes(&self) -> &[u8]
-        ensures { result.now ≡ self.now.bytes.items }
+        ensures { result.now ≡ self.now.bytes }
     {
-        &self.bytes
+        self.bytes.as_slice()
     }
 
     /// Takes more bytes, at least as many as there are, so that what is read again is no more than
@@ -59,40 +57,35 @@ impl Window {
         ensures falls { IfOk result (λ behind. behind ≡ behinds.More
             → R.takes_left reader.new < R.takes_left reader.old) }
     {
-        let enough = self.bytes.len().saturating_mul(2).max(BLOCK);
-        let mut block = [0u8; BLOCK];
+        let enough = self.bytes().len().saturating_mul(2).max(BLOCK);
+        self.bytes.move_to_front();
         loop {
-            match reader.take(&mut block) {
+            match self.bytes.take_from(reader)? {
                 Ok(0) => return Ok(Behind::End),
-                Ok(n) => self.push(&block[..n])?,
+                Ok(n) => self.count(n)?,
                 Err(DeviceFault) => return Ok(Behind::Failure),
             }
-            if self.bytes.len() >= enough {
+            if self.bytes().len() >= enough {
                 return Ok(Behind::More);
             }
         }
     }
 
-    /// Puts a block behind the others.
-    fn push(&mut self, block: &[u8]) -> Result<(), AllocError>
-        ensures bytes { OnOk result (self.new.bytes.items ≡ self.old.bytes.items ++ block.now) }
-        ensures came { OnOk result (self.new.came ≡ self.old.came + length block.now) }
+    /// Counts bytes that came.
+    fn count(&mut self, n: usize) -> Result<(), AllocError>
+        ensures { OnOk result (self.new ≡ record self.old { came = self.old.came + n }) }
     {
-        let came = self.came.checked_add(block.len() as u64).ok_or(AllocError)?;
-        self.bytes.extend_from_slice(block)?;
-        self.came = came;
+        self.came = self.came.checked_add(n as u64).ok_or(AllocError)?;
         Ok(())
     }
 
     /// Drops all bytes but the last ones.
     pub(crate) fn keep_last(&mut self, count: usize)
-        requires { count ≤ length self.old.bytes.items }
-        ensures bytes { self.new.bytes.items ≡ drop (length self.old.bytes.items - count) self.old.bytes.items }
+        requires { count ≤ length self.old.bytes }
+        ensures bytes { self.new.bytes ≡ drop (length self.old.bytes - count) self.old.bytes }
         ensures came { self.new.came ≡ self.old.came }
     {
-        let read = self.bytes.len() - count;
-        self.bytes.rotate_left(read);
-        self.bytes.truncate(count);
+        self.bytes.keep_last(count);
     }
 
     /// The fault that a refusal is, whose place is counted from the front here alone.

@@ -27,7 +27,7 @@ use shared::{Prompting, Shown};
 use sources::{FileOrInput, INPUT, source_name};
 use std::alloc::{AllocError, Global};
 use std::env::Env;
-use std::io::{BufReader, BufWriter, ErrorKind, Input, Read, Write};
+use std::io::{BufWriter, ErrorKind, Input, Read, Write};
 use std::process::ExitCode;
 use std::rt::Files;
 use std::{fs, io};
@@ -243,7 +243,7 @@ fn run_opened<F: Read + Drop, E: Write + Drop>(
     opened: F,
 ) -> io::Result<u8> {
     let alloc = rt.alloc();
-    let mut reader = StdSource::new(BufReader::with_capacity(alloc, BLOCK, opened)?);
+    let mut reader = StdSource::new(opened);
     let mut out = StdSink::new(BufWriter::with_capacity(alloc, BLOCK, io::writer(rt))?);
     let mut messages = StdSink::new(errors);
     let name = file.as_bytes();

@@ -3,7 +3,7 @@
 
 use super::{BLOCKS, behind_a_comment, read};
 use crate::fault::WriteFault;
-use crate::window::BLOCK;
+use crate::held::BLOCK;
 use crate::writer::write_frozen;
 use m4_state::bytes::Bytes;
 use m4_state::definition::Def;

@@ -3,8 +3,8 @@
 
 use super::{BLOCKS, behind_a_comment, read};
 use crate::fault::{FrozenFault, FrozenKind};
+use crate::held::BLOCK;
 use crate::reading::read_frozen;
-use crate::window::BLOCK;
 use m4_state::memory::MemSource;
 use std::test::Fail;
 

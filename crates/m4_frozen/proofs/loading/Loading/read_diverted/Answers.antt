@@ -1,5 +1,5 @@
 -- More of a diversion's text was read, or it ends, or it is refused.
-use Rattle.std.proofs.Common.{◌≡◌, ◌≢◌, ◌-◌, [], length, Some, None, ap, arith, sym, ◌∙◌, List, ℕ, ◌++◌, Err}
+use Rattle.std.proofs.Common.{◌≡◌, ◌≢◌, ◌-◌, [], length, Some, ap, arith, sym, ◌∙◌, List, ℕ, ◌++◌, Err}
 use Rattle.std.proofs.lemmas.Result.{err_from_is_err_and}
 use Rattle.std.proofs.lemmas.List.{nil_from_length}
 use Rattle.m4_frozen.specs.declared.begun.Begun.TheVariants as begun

@@ -1,5 +1,5 @@
 -- More of a name's text was read, or it ends, or it is refused.
-use Rattle.std.proofs.Common.{◌≡◌, ◌≢◌, ◌-◌, ◌++◌, [], length, Some, None, refl, ap, arith, sym, ◌∙◌, List, ℕ, Err}
+use Rattle.std.proofs.Common.{◌≡◌, ◌≢◌, ◌-◌, ◌++◌, [], length, Some, refl, ap, arith, sym, ◌∙◌, List, ℕ, Err}
 use Rattle.std.proofs.lemmas.Result.{err_from_is_err_and}
 use Rattle.std.proofs.lemmas.List.{nil_from_length}
 use Rattle.m4_state.specs.State.{State}
