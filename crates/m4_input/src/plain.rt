@@ -8,7 +8,7 @@ ghost use Rattle.m4_input.specs.Plain.{IsPlain, IsPlainRun};
 ghost use Rattle.m4_input.specs.Token.{run_length, starts_with};
 
 use crate::delims::Delims;
-use crate::window::{is_letter_byte, is_word_byte};
+use crate::window::{is_letter_byte, word_len};
 use m4_state::state::State;
 
 /// How many bytes at the front are such tokens. It looks no further behind the token that reaches
@@ -59,18 +59,6 @@ fn may_begin(first: u8, pair: &(&[u8], &[u8])) -> bool
         Some(byte) => *byte == first,
         None => false,
     }
-}
-
-/// How many bytes of a name stand at the front.
-fn word_len(bytes: &[u8]) -> usize
-    ensures value { result ≡ run_length is_name_byte bytes.now }
-    ensures within { result ≤ length bytes.now }
-{
-    let mut k = 0;
-    while k < bytes.len() && is_word_byte(bytes[k]) {
-        k += 1;
-    }
-    k
 }
 
 #[cfg(test)]
