@@ -31,7 +31,8 @@ impl Model for Piece {
         × (p.newlines + (length p.bytes.items - (p.at + p.ahead)) < 2 ^ 64) };
 }
 
-/// How many newlines there are.
+/// How many newlines there are. Out of line, so that the loop has the registers for itself.
+#[inline(never)]
 fn count_newlines(bytes: &[u8]) -> usize
     ensures { result ≡ newlines_in bytes.now }
 {

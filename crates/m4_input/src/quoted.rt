@@ -27,7 +27,9 @@ fn mark_of(byte: u8, begin: u8, end: u8) -> Mark
     }
 }
 
-/// How many bytes stand before the end-quote that closes the string.
+/// How many bytes stand before the end-quote that closes the string. Out of line, so that the loop has
+/// the registers for itself.
+#[inline(never)]
 pub fn quoted_len(text: &[u8], begin: u8, end: u8) -> Option<usize>
     ensures value { result ≡ level (record { begin = begin ∷ []; end = end ∷ [] }) false 0 0 text.now }
     ensures within { IfSome result (λ n. n + 1 ≤ length text.now) }

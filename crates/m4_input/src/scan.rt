@@ -40,7 +40,7 @@ impl<'a> Window<'a> {
 
     /// How many bytes stand before the end-quote that closes the string. An end-quote that is empty
     /// stands at each byte.
-    fn string_len(&self, at: usize, quotes: &Pair<'_>, may_follow: bool) -> Option<usize>
+    pub fn string_len(&self, at: usize, quotes: &Pair<'_>, may_follow: bool) -> Option<usize>
         requires within { at ≤ length self.now }
         requires begin { 0 < length quotes.now.0.now }
         ensures value { result ≡ level (pair_of quotes.now) may_follow 0 0 (drop at self.now) }
@@ -102,7 +102,7 @@ impl<'a> Window<'a> {
     }
 
     /// Which kind of token begins here.
-    fn kind(&self, delims: &Delims<'_>, may_follow: bool, first: u8) -> Kind
+    pub fn kind(&self, delims: &Delims<'_>, may_follow: bool, first: u8) -> Kind
         requires { self.now ≡ first ∷ drop 1 self.now }
         ensures value { result ≡ kind_of (pair_of delims.now.quotes) (pair_of delims.now.comments)
             may_follow first (drop 1 self.now) }
