@@ -36,7 +36,11 @@ impl Model for Piece {
 fn count_newlines(bytes: &[u8]) -> usize
     ensures { result ≡ newlines_in bytes.now }
 {
-    bytes.iter().filter(|b| **b == b'\n').count()
+    let mut count = 0usize;
+    for byte in bytes {
+        count += usize::from(*byte == b'\n');
+    }
+    count
 }
 
 /// Puts a text over what stands in front of a place.
