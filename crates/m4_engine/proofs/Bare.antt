@@ -1,27 +1,42 @@
 -- Bare: a text that is called with no list, as the definitions' move.
-use Rattle.std.proofs.Common.{◌≡◌, ℕ, Bool, true, false, List, [], Option, Some, None, refl, sym, ap, ◌∙◌, subst}
-use Rattle.std.specs.Prelude.{nat_lt}
+use Rattle.std.proofs.Common.{◌≡◌, ℕ, true, false, List, [], Some, None, refl, sym, ap, ◌∙◌}
+use Rattle.std.specs.Prelude.{nat_lt, Result, IfOk}
 use Rattle.m4_state.specs.declared.definition.Def.{Def}
 use Rattle.m4_state.specs.declared.definition.Def.TheVariants.{Text}
+use Rattle.m4_state.specs.declared.delimiters.Delimiters.{Delimiters}
+use Rattle.m4_builtins.specs.declared.args.Arg.{Arg}
 use Rattle.m4_input.specs.declared.pushed.Pushed.TheVariants as pushes
 use Rattle.m4_input.specs.Pending.{Pending}
-use Rattle.m4_builtins.specs.Act.{Acted, expands, act}
+use Rattle.m4_builtins.specs.Act.{expands, act}
 use Rattle.m4_builtins.specs.Subst.{subst as substituted}
+use Rattle.m4_engine.specs.declared.turned.Turned.{Turned}
+use Rattle.m4_engine.specs.declared.turned.TurnFault.{TurnFault}
 use Rattle.m4_engine.specs.declared.turned.Turned.TheVariants as turns
 use Rattle.m4_engine.specs.Nesting.{Closed}
 use Rattle.m4_engine.specs.Expansion.{Call, Expansion, reading}
 use Rattle.m4_engine.specs.Expand.{skip_or_push, call}
-use Rattle.m4_engine.specs.Engine.{Engine, outer_of, here_of, counting, with_made, is_deep_in, step, Moves}
-use Rattle.m4_engine.proofs.Acts.{called_goes, moves_by}
-use Rattle.m4_engine.proofs.Calling.{bare_called}
+use Rattle.m4_engine.specs.Engine.{Engine, outer_of, here_of, counting, with_made, is_deep_in, called_within, step, Moves}
+use Rattle.m4_engine.proofs.Acts.{called_goes}
+use Rattle.m4_engine.proofs.Calling.{bare_made}
 
 acted_text : (c : Call) (t x : List ℕ) (e : Engine) → c.definition ≡ Text t → x ≡ substituted t c.name c.done (e.state).quotes → act c.definition c.name c.done c.place e.state ≡ expands e.state x
 acted_text c t x e d h =
     ap (λ (k : Def). act k c.name c.done c.place e.state) d
     ∙ ap (expands e.state) (sym h)
 
--- what the call gives is read again
-pub expansion_goes : (e e2 e1 : Engine) (c : Call) (t x : List ℕ) (p p' : Pending) → c.definition ≡ Text t → x ≡ substituted t c.name c.done (e.state).quotes → nat_lt e.calls (e.limits).calls ≡ true → is_deep_in e ≡ false → e2 ≡ counting e → e1 ≡ with_made [] [] None e2 → ((s : Expansion) → s.pending ≡ p → skip_or_push false (Some (pushes.Text x)) s ≡ Closed (reading p' s)) → (before : Pending) → Moves e1 p' turns.GoesOn (λ o m. step (outer_of e.open_calls) (call false c p (here_of o m e before)))
-expansion_goes e e2 e1 c t x p p' d h room shallow k m r before = λ o n.
-    bare_called e c p before o n room shallow
-    ∙ called_goes (counting e) e1 c (expands e.state x) p p' (acted_text c t x e d h) refl (m ∙ ap (with_made [] [] None) k) r o n
+-- what a text gives is read again
+pub text_goes : (e e1 : Engine) (c : Call) (t x : List ℕ) (p p' : Pending) → c.definition ≡ Text t → x ≡ substituted t c.name c.done (e.state).quotes → e1 ≡ with_made [] [] None e → ((s : Expansion) → s.pending ≡ p → skip_or_push false (Some (pushes.Text x)) s ≡ Closed (reading p' s)) → Moves e1 p' turns.GoesOn (λ o m. called_within e.open_calls c (here_of o m e p))
+text_goes e e1 c t x p p' d h m r = λ o n. called_goes e e1 c (expands e.state x) p p' (acted_text c t x e d h) refl m r o n
+
+-- the same of a call with no list
+pub bare_goes : (e e2 e1 : Engine) (c : Call) (p p' : Pending) (r : Result Turned TurnFault) → nat_lt e.calls (e.limits).calls ≡ true → is_deep_in e ≡ false → e2 ≡ counting e → IfOk r (λ t. Moves e1 p' t (λ o m. called_within e2.open_calls c (here_of o m e2 p))) → IfOk r (λ t. (before : Pending) → Moves e1 p' t (λ o m. step (outer_of e.open_calls) (call false c p (here_of o m e before))))
+bare_goes e e2 e1 c p p' r room shallow k h = bare_made e e2 e1 c false p p' r refl room k (ap is_deep_in k ∙ shallow) h
+
+-- a text with the same arguments put in
+pub substituted_by : (t x n name : List ℕ) (l list : List Arg) (q r : Delimiters) → x ≡ substituted t n l q → n ≡ name → l ≡ list → q.begin ≡ r.begin → q.end ≡ r.end → x ≡ substituted t name list r
+substituted_by t x n name l list q r h i j f g =
+    h
+    ∙ ap (λ (y : List ℕ). substituted t y l q) i
+    ∙ ap (λ (y : List Arg). substituted t name y q) j
+    ∙ ap (λ (y : List ℕ). let d : Delimiters = record { begin = y; end = q.end } in substituted t name list d) f
+    ∙ ap (λ (y : List ℕ). let d : Delimiters = record { begin = r.begin; end = y } in substituted t name list d) g

@@ -1,18 +1,16 @@
 -- Calling: a call that is refused, bare or listed, as the definitions' move.
-use Rattle.std.proofs.Common.{◌≡◌, ℕ, suc, Bool, true, false, List, [], ◌∷◌, ◌++◌, length, refl, sym, ap, ◌∙◌, subst, append_assoc}
-use Rattle.std.specs.Prelude.{Result, Ok, Err, IfOk, codes, nat_lt}
-use Rattle.std.specs.Fmt.{decimal}
+use Rattle.std.proofs.Common.{◌≡◌, ℕ, Bool, true, false, List, refl, sym, ap, ◌∙◌, subst, append_assoc}
+use Rattle.std.specs.Prelude.{Result, Ok, Err, IfOk, nat_lt}
 use Rattle.m4_input.specs.Pending.{Pending, consumed}
 use Rattle.m4_builtins.specs.declared.place.Place.{Place}
 use Rattle.m4_builtins.specs.Messages.{error}
 use Rattle.m4_engine.specs.declared.ending.Cause.{Cause}
 use Rattle.m4_engine.specs.declared.ending.Cause.TheVariants as causes
 use Rattle.m4_engine.specs.declared.turned.Turned.{Turned}
-use Rattle.m4_engine.specs.declared.turned.Turned.TheVariants as turns
 use Rattle.m4_engine.specs.declared.turned.TurnFault.{TurnFault}
-use Rattle.m4_engine.specs.Nesting.{Turn, Halt, Outcome, Halted, Closed}
-use Rattle.m4_engine.specs.OpenCalls.{Move, Stops, Goes, pop}
-use Rattle.m4_engine.specs.Expansion.{Call, Expansion, Kept, Ended, Ends, with_call, fail}
+use Rattle.m4_engine.specs.Nesting.{Outcome, Halted, Closed}
+use Rattle.m4_engine.specs.OpenCalls.{Stops, Goes, pop}
+use Rattle.m4_engine.specs.Expansion.{Call, Expansion, Kept, Ended, Ends, fail}
 use Rattle.m4_engine.specs.Expand.{turn, join, called, bare, collect, call_unless_deep, call_if_room, call}
 use Rattle.m4_engine.specs.Engine.{Engine, so_far_of, kept_in, outer_of, here_of, configuration, telling, counting, calls_text, nested_text, beginning, is_deep_in, called_within, step, Moves}
 use Rattle.m4_engine.proofs.Acts.{moves_by}

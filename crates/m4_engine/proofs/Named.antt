@@ -3,7 +3,6 @@ use Rattle.std.proofs.Common.{◌≡◌, [], subst, ℕ, Bool, true, false, List
 use Rattle.std.specs.Prelude.{unwrap_or, Result, Ok, Err, IfOk}
 use Rattle.m4_state.specs.declared.definition.Def.{Def}
 use Rattle.m4_state.specs.State.{top_of}
-use Rattle.m4_input.specs.declared.front.Answer.TheVariants.{Yes, No}
 use Rattle.m4_input.specs.Pending.{Pending, name_of, line_of}
 use Rattle.m4_input.specs.Paren.{paren_at}
 use Rattle.m4_input.specs.Input.{answer_of}

@@ -1,15 +1,17 @@
--- Passing: tokens that stand for themselves are put out at once as turns would put them out.
-use Rattle.std.proofs.Common.{◌≡◌, inl, inr, ℕ, ℤ, pos, ◌+◌, ◌-◌, ◌<◌, ◌≤◌, false, List, [], ◌∷◌, ◌++◌, Option, None, take, drop, length, refl, sym, ap, ◌∙◌, subst, arith, append-nil, append_assoc, add-zero, length-drop}
+-- Passing: tokens that are text are put where they go at once as turns would put them there.
+use Rattle.std.specs.Prelude.{◌==◌, not, ◌&&◌, ◌||◌}
+use Rattle.std.proofs.Common.{◌≡◌, inl, inr, Bool, true, ℕ, ℤ, pos, ◌+◌, ◌-◌, ◌<◌, ◌≤◌, false, List, [], ◌∷◌, ◌++◌, Option, None, take, drop, length, refl, sym, ap, ◌∙◌, subst, arith, append-nil, append_assoc, add-zero, length-drop}
 use Rattle.std.proofs.Math.Seq.{take-add}
 use Rattle.std.proofs.lemmas.List.{drop-drop}
 use Rattle.m4_state.specs.declared.definition.Def.{Def}
 use Rattle.m4_state.specs.State.{State}
 use Rattle.m4_input.specs.declared.front.Scan.{Scan}
-use Rattle.m4_input.specs.declared.token.Token.TheVariants.{Name, Byte}
+use Rattle.m4_input.specs.declared.token.Token.TheVariants.{Name, Str, Byte}
 use Rattle.m4_input.specs.declared.front.Scan.TheVariants.{Found}
 use Rattle.m4_input.specs.Pending.{Pending, text_of, consumed, newlines_in}
 use Rattle.m4_input.specs.Token.{front_by, front_from, scan, token_at}
-use Rattle.m4_input.specs.Plain.{IsPlain, total, ArePlain}
+use Rattle.m4_input.specs.Ascii.{is_space}
+use Rattle.m4_input.specs.Plain.{IsPlain, total, ArePlain, is_inner, IsInner}
 use Rattle.m4_input.specs.Input.{Held}
 use Rattle.m4_input.proofs.Parts.{drop_parts, newlines_further}
 use Rattle.m4_engine.specs.declared.turned.Turned.TheVariants as turns
@@ -17,7 +19,9 @@ use Rattle.m4_engine.specs.Nesting.{Turn, GoOn}
 use Rattle.m4_engine.specs.OpenCalls.{take_turn}
 use Rattle.m4_engine.specs.Expansion.{Call, Expansion, Kept, Ended, reading, put_text}
 use Rattle.m4_engine.specs.Expand.{turn, join, take_front, take_name}
-use Rattle.m4_engine.specs.Engine.{Engine, here_of, configuration, moved, IsReady, Moves, PassesPlain, Passes}
+use Rattle.m4_engine.specs.declared.role.Role.TheVariants.{Other}
+use Rattle.m4_engine.specs.Args.{role_by, role_of, take_byte}
+use Rattle.m4_engine.specs.Engine.{Engine, here_of, outer_of, configuration, put_in, with_text, moved, IsReady, Moves, PassesPlain, PassesInner, Passes}
 use Rattle.m4_engine.proofs.LoopKeeps.{turns_of, turn_falls, meaning_of, moved_on}
 
 -- an engine outside of calls and of diversions
@@ -113,15 +117,83 @@ plain_reaches e e1 i i1 r h =
     subst (λ (d : Engine). Reaches e i.pending d i1.pending) (sym h.engine)
     (subst (λ (j : Held). Reaches e i.pending (with_output (take (total h.lens) (text_of i.pending)) e) j.pending) (sym h.input) x)
 
+-- an engine within a list
+abbrev at_call : Call → List Call → Engine → Engine
+at_call c cs e = record e { open_calls = c ∷ cs }
+
+inner_role : (b : ℕ) (c : Call) → is_inner b ≡ true → role_of b c ≡ Other
+inner_role b c h = by_tests (b == 40) (b == 41) (b == 44) (is_space b) h
+  where
+    by_tests : (w x y z : Bool) → not (w || (x || (y || z))) ≡ true → role_by w x (y && (c.parentheses == 0)) (z && not c.begun) ≡ Other
+    by_tests true x y z e = cc
+    by_tests false true y z e = cc
+    by_tests false false true z e = cc
+    by_tests false false false true e = cc
+    by_tests false false false false e = refl
+
+-- a turn puts such a token into the argument
+inner_turn : (c : Call) (cs : List Call) (e : Engine) (p : Pending) (n : ℕ) (x : List ℕ) → p.definition ≡ None → p.may_follow ≡ false → IsInner e.state n x (text_of p) → (o m : List ℕ) → turn (here_of o m (at_call c cs e) p) ≡ GoOn (put_text x (reading (consumed n p) (here_of o m (at_call c cs e) p)))
+inner_turn c cs e p n x d f (inl h) o m =
+    ap (λ v. take_front v (here_of o m (at_call c cs e) p)) (found_at e.state p (Found (Str x) n) d f h)
+inner_turn c cs e p n x d f (inr (inl h)) o m =
+    ap (λ v. take_front v (here_of o m (at_call c cs e) p)) (found_at e.state p (Found (Name x) n) d f h.0)
+    ∙ ap (λ v. take_name v x (consumed n p) (here_of o m (at_call c cs e) p)) h.1
+inner_turn c cs e p n x d f (inr (inr h)) o m =
+    let s = reading (consumed n p) (here_of o m (at_call c cs e) p) in
+    ap (λ v. take_front v (here_of o m (at_call c cs e) p)) (found_at e.state p (Found (Byte h.0) n) d f h.1)
+    ∙ ap (λ r. take_byte r h.0 c s) (inner_role h.0 c h.3)
+    ∙ ap (λ (y : List ℕ). let t : Turn Expansion Kept Ended = GoOn (put_text y s) in t) (sym h.2)
+
+inner_moves : (c : Call) (cs : List Call) (e : Engine) (p : Pending) (n : ℕ) (x : List ℕ) → p.definition ≡ None → p.may_follow ≡ false → IsInner e.state n x (text_of p) → Moves (with_text x (at_call c cs e)) (consumed n p) turns.GoesOn (λ o m. moved (configuration o m (at_call c cs e) p))
+inner_moves c cs e p n x d f h = λ o m.
+    ap (take_turn Expansion Kept Ended turn join (outer_of (c ∷ cs))) (inner_turn c cs e p n x d f h o m)
+    ∙ (rw (append-nil (o ++ e.output)) refl)
+
+inner_at : (c : Call) (cs : List Call) (e : Engine) (p : Pending) (n : ℕ) (x : List ℕ) → p.definition ≡ None → p.may_follow ≡ false → IsInner e.state n x (text_of p) → Reaches (at_call c cs e) p (with_text x (at_call c cs e)) (consumed n p)
+inner_at c cs e p n x d f h =
+    move_reaches (at_call c cs e) (with_text x (at_call c cs e)) _ p (consumed n p) _ (inner_moves c cs e p n x d f h) (nothing_reaches (with_text x (at_call c cs e)) (consumed n p))
+
+inner_by : (cs : List Call) (e : Engine) (p : Pending) (n : ℕ) (x : List ℕ) → e.open_calls ≡ cs → (cs ≡ [] → ⊥) → p.definition ≡ None → p.may_follow ≡ false → IsInner e.state n x (text_of p) → Reaches e p (with_text x e) (consumed n p)
+inner_by [] e p n x g i d f h = absurd (i refl)
+inner_by (c ∷ cs) e p n x g i d f h =
+    let same : at_call c cs e ≡ e = ap (λ (y : List Call). let k : Engine = record e { open_calls = y } in k) (sym g) in
+    subst (λ (k : Engine). Reaches k p (with_text x k) (consumed n p)) same (inner_at c cs e p n x d f h)
+
+inner_reaches : (e e1 : Engine) (i i1 : Held) → IsReady i → PassesInner e e1 i i1 → Reaches e i.pending e1 i1.pending
+inner_reaches e e1 i i1 r h =
+    subst (λ (d : Engine). Reaches e i.pending d i1.pending) (sym h.engine)
+    (subst (λ (j : Held). Reaches e i.pending (with_text h.text e) j.pending) (sym h.input)
+    (inner_by e.open_calls e i.pending h.len h.text refl h.inside h.first r.closed h.inner))
+
+text_limits : (cs : List Call) (x : List ℕ) (e : Engine) → (put_in cs x e).limits ≡ e.limits
+text_limits [] x e = refl
+text_limits (c ∷ cs) x e = refl
+
+-- where the innermost call has a text, its token was passed
+pub passes_inner : (old new : Engine) (c : Call) (cs : List Call) (i j : Held) (n : ℕ) (x : List ℕ) → old.open_calls ≡ c ∷ cs → IsInner old.state n x (text_of i.pending) → (i.pending).definition ≡ None → new ≡ record old { open_calls = record c { begun = true; bytes = c.bytes ++ x } ∷ cs } → j ≡ record i { pending = consumed n i.pending } → Passes old new i j
+passes_inner old new c cs i j n x e h d f g =
+    inr (inr (record {
+      len = n;
+      text = x;
+      inner = h;
+      inside = λ k. let z : c ∷ cs ≡ [] = sym e ∙ k in cc;
+      first = d;
+      engine = f ∙ sym (ap (λ y. put_in y x old) e);
+      input = g;
+    }))
+
 pub passes_reaches : (e e1 : Engine) (i i1 : Held) → IsReady i → Passes e e1 i i1 → Reaches e i.pending e1 i1.pending
 passes_reaches e e1 i i1 r (inl h) =
     subst (λ (d : Engine). Reaches e i.pending d i1.pending) (sym h.0) (subst (λ (j : Held). Reaches e i.pending e j.pending) (sym h.1) (nothing_reaches e i.pending))
-passes_reaches e e1 i i1 r (inr h) = plain_reaches e e1 i i1 r h
+passes_reaches e e1 i i1 r (inr (inl h)) = plain_reaches e e1 i i1 r h
+passes_reaches e e1 i i1 r (inr (inr h)) = inner_reaches e e1 i i1 r h
 
 pub passes_ready : (e e1 : Engine) (i i1 : Held) → IsReady i → Passes e e1 i i1 → IsReady i1
 passes_ready e e1 i i1 r (inl h) = subst IsReady (sym h.1) r
-passes_ready e e1 i i1 r (inr h) = subst IsReady (sym h.input) (record { sound = r.sound; closed = r.closed; front = tt })
+passes_ready e e1 i i1 r (inr (inl h)) = subst IsReady (sym h.input) (record { sound = r.sound; closed = r.closed; front = tt })
+passes_ready e e1 i i1 r (inr (inr h)) = subst IsReady (sym h.input) (record { sound = r.sound; closed = r.closed; front = tt })
 
 pub passes_limits : (e e1 : Engine) (i i1 : Held) → Passes e e1 i i1 → e1.limits ≡ e.limits
 passes_limits e e1 i i1 (inl h) = ap (λ (d : Engine). d.limits) h.0
-passes_limits e e1 i i1 (inr h) = ap (λ (d : Engine). d.limits) h.engine
+passes_limits e e1 i i1 (inr (inl h)) = ap (λ (d : Engine). d.limits) h.engine
+passes_limits e e1 i i1 (inr (inr h)) = ap (λ (d : Engine). d.limits) h.engine ∙ text_limits e.open_calls h.text e

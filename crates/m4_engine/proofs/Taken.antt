@@ -1,6 +1,6 @@
 -- Taken: what a closed input's next token says of the definitions' token.
-use Rattle.std.proofs.Common.{◌≡◌, ℕ, Bool, true, false, ◌||◌, List, [], ◌∷◌, ◌++◌, Option, Some, None, refl, sym, ap, ◌∙◌, subst, arith}
-use Rattle.std.specs.Prelude.{Result, Ok, Err, ◌==◌}
+use Rattle.std.proofs.Common.{◌≡◌, ℕ, Bool, true, false, ◌||◌, List, [], ◌∷◌, Option, Some, None, refl, sym, ap, ◌∙◌, subst, arith}
+use Rattle.std.specs.Prelude.{Ok, ◌==◌}
 use Rattle.std.proofs.lemmas.Bool.Decides.{nat_tests}
 use Rattle.m4_state.specs.Device.{Script}
 use Rattle.m4_state.specs.declared.definition.Def.{Def}
@@ -10,7 +10,7 @@ use Rattle.m4_input.specs.declared.token.Token.TheVariants.{Byte}
 use Rattle.m4_input.specs.declared.front.Scan.{Scan}
 use Rattle.m4_input.specs.declared.front.Scan.TheVariants.{Found, Broken, NeedsMore}
 use Rattle.m4_input.specs.declared.front.Kind.TheVariants.{ByteHere}
-use Rattle.m4_input.specs.declared.front.Answer.TheVariants.{Yes, No}
+use Rattle.m4_input.specs.declared.front.Answer.TheVariants.{Yes}
 use Rattle.m4_input.specs.Ascii.{is_letter}
 use Rattle.m4_input.specs.Pending.{Pending, text_of, consumed}
 use Rattle.m4_input.specs.Token.{starts_with, kind_by, scan_kind, kind_of, scan, Front, Taken, Refused, More, front_by, front_from, token_at}

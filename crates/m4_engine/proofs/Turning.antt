@@ -1,5 +1,5 @@
 -- Turning: a turn is what the token at the front makes of it.
-use Rattle.std.proofs.Common.{◌≡◌, ℕ, List, Option, refl, sym, ap, ◌∙◌, subst}
+use Rattle.std.proofs.Common.{◌≡◌, ℕ, List, Option, sym, ap, ◌∙◌, subst}
 use Rattle.std.specs.Prelude.{Result, Ok, Err, IfOk}
 use Rattle.m4_state.specs.Device.{Script}
 use Rattle.m4_state.specs.declared.delimiters.Delimiters.{Delimiters}
@@ -10,7 +10,7 @@ use Rattle.m4_input.specs.declared.token.Token.TheVariants.{End}
 use Rattle.m4_input.specs.declared.front.Unended.{Unended}
 use Rattle.m4_input.specs.declared.front.Unended.TheVariants.{InString, InComment}
 use Rattle.m4_input.specs.Pending.{Pending, line_of, name_of}
-use Rattle.m4_input.specs.Token.{Front, Taken, Refused, token_at}
+use Rattle.m4_input.specs.Token.{Taken, Refused, token_at}
 use Rattle.m4_input.specs.Input.{Held, NextGives}
 use Rattle.m4_builtins.specs.declared.place.Place.{Place}
 use Rattle.m4_builtins.specs.Args.{or_empty}
@@ -19,7 +19,7 @@ use Rattle.m4_engine.specs.declared.turned.Turned.{Turned}
 use Rattle.m4_engine.specs.declared.turned.TurnFault.{TurnFault}
 use Rattle.m4_engine.specs.Nesting.{Halted}
 use Rattle.m4_engine.specs.OpenCalls.{Stops}
-use Rattle.m4_engine.specs.Expansion.{Expansion, Kept, Ends}
+use Rattle.m4_engine.specs.Expansion.{Ends}
 use Rattle.m4_engine.specs.Expand.{take_end, take_token, take_front, unended_text, unended_cause}
 use Rattle.m4_engine.specs.Engine.{Engine, so_far_of, mode_of, outer_of, here_of, configuration, telling, step, moved, IsReady, Moves}
 use Rattle.m4_engine.proofs.Acts.{moves_by}

@@ -6,7 +6,7 @@ use Rattle.m4_state.specs.declared.definition.Def.{Def}
 use Rattle.m4_state.specs.declared.definition.Def.TheVariants.{Text}
 use Rattle.m4_state.specs.State.{State, appended, top_of}
 use Rattle.m4_input.specs.Pending.{Pending, text_of, consumed}
-use Rattle.m4_input.specs.Plain.{total, ArePlain}
+use Rattle.m4_input.specs.Plain.{total, ArePlain, IsInner}
 use Rattle.m4_builtins.specs.declared.place.Place.{Place}
 use Rattle.m4_builtins.specs.declared.args.Arg.{Arg}
 use Rattle.m4_builtins.specs.Subst.{subst}
@@ -233,9 +233,19 @@ pub record PassesPlain (old new : Engine) (i j : Held) : Type 0 where
   pub engine : new ≡ record old { output = old.output ++ take (total lens) (text_of i.pending) }
   pub input : j ≡ record i { pending = consumed (total lens) i.pending }
 
--- such tokens were put out, or nothing was done
+-- within a list, with nothing in front of the text: its first token is text, which the argument has
+pub record PassesInner (old new : Engine) (i j : Held) : Type 0 where
+  pub len : ℕ
+  pub text : List ℕ
+  pub inner : IsInner old.state len text (text_of i.pending)
+  pub inside : old.open_calls ≡ [] → ⊥
+  pub first : (i.pending).definition ≡ None
+  pub engine : new ≡ with_text text old
+  pub input : j ≡ record i { pending = consumed len i.pending }
+
+-- such tokens were put where they go, or nothing was done
 abbrev pub Passes : Engine → Engine → Held → Held → Type 0
-Passes old new i j = ((new ≡ old) × (j ≡ i)) ⊎ PassesPlain old new i j
+Passes old new i j = ((new ≡ old) × (j ≡ i)) ⊎ (PassesPlain old new i j ⊎ PassesInner old new i j)
 
 -- what a name stands for, where `bare` says that a text may be called with no list
 abbrev pub IsMeaning : Meaning → Bool → State → List ℕ → List Arg → Type 0

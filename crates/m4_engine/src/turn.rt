@@ -118,6 +118,10 @@ impl Machine {
         ensures made { IfOk result IsMade }
     {
         let (definition, args, place) = call.into_parts();
+        if let Def::Text(text) = &definition {
+            let text = substitute(self.alloc, text.as_slice(), &args, self.state.quotes())?;
+            return self.take_text(text, input, reader);
+        }
         let Effect {
             push,
             messages,
@@ -255,20 +259,15 @@ impl Machine {
         self.most_nested > 0 && open as u64 >= self.most_nested
     }
 
-    /// Takes the parenthesis that begins a list.
-    fn take_parenthesis<R: ByteSource>(
-        &self,
-        input: &mut Input,
-        reader: &mut R,
-    ) -> Result<(), TurnFault>
+    /// Takes the parenthesis that begins a list. It was seen to be a token, so that it is one byte.
+    fn take_parenthesis(&self, input: &mut Input)
         requires ready { IsReady input.old }
-        requires taken { input.old.pending.definition ≡ None }
         requires stands { paren_at self.now.state.quotes self.now.state.comments input.old.pending ≡ Answer.Yes }
-        ensures taken { OnOk result (input.new.pending ≡ consumed 1 input.old.pending) }
-        ensures ready { OnOk result (Stays input.old input.new) }
+        ensures taken { input.new.pending ≡ consumed 1 input.old.pending }
+        ensures ready { Stays input.old input.new }
     {
-        input.next(reader, &Delims::of(&self.state))?;
-        Ok(())
+        let _in_order = self.state.current();
+        input.consume(1);
     }
 
     /// A name that is called, whose list follows or not.
@@ -301,7 +300,7 @@ impl Machine {
         if !listed {
             return self.call(call, input, reader);
         }
-        self.take_parenthesis(input, reader)?;
+        self.take_parenthesis(input);
         self.begin(call)?;
         Ok(Turned::GoesOn)
     }
@@ -388,6 +387,25 @@ impl Machine {
         ensures made { IfOk result IsMade }
     {
         self.count();
+        self.take_text(text, input, reader)
+    }
+
+    /// What a text with its arguments put in leaves: it is read before everything else.
+    fn take_text<R: ByteSource>(
+        &mut self,
+        text: Bytes,
+        input: &mut Input,
+        reader: &mut R,
+    ) -> Result<Turned, TurnFault>
+        requires ready { IsReady input.old }
+        requires taken { input.old.pending.definition ≡ None }
+        ensures moves { (c : Call) (x : List ℕ) → c.definition ≡ Text x → text ≡ subst x c.name c.done self.old.state.quotes
+            → IfOk result (λ t. Moves self.new input.new.pending t
+            (λ o m. called_within self.old.open_calls c (here_of o m self.old input.old.pending))) }
+        ensures ready { result ≡ Ok Turned.GoesOn → Stays input.old input.new }
+        ensures limits { OnOk result (self.new.limits ≡ self.old.limits) }
+        ensures made { IfOk result IsMade }
+    {
         self.put_effect(b"", b"")?;
         read_on(input, reader, false, Some(Pushed::Text(text)))?;
         Ok(Turned::GoesOn)

@@ -1,10 +1,10 @@
 -- Pieces: bytes of a file, of which some were read, and pushed text before those that were not.
-use Rattle.std.proofs.Common.{◌≡◌, ℕ, zero, suc, ◌+◌, ◌-◌, ◌<◌, ◌≤◌, List, [], ◌∷◌, ◌++◌, length, take, drop, refl, sym, ap, ◌∙◌, arith, length-append, length-drop, min}
+use Rattle.std.proofs.Common.{◌≡◌, ℕ, zero, suc, ◌+◌, ◌-◌, ◌≤◌, List, [], ◌∷◌, ◌++◌, length, take, drop, refl, sym, ap, ◌∙◌, arith, length-append, length-drop}
 use Rattle.std.proofs.Math.ListN.{drop_of_length-le}
 use Rattle.std.proofs.Math.Seq.{drop-append_seam}
 use Rattle.std.proofs.lemmas.List.{take-append-drop, drop-drop, length-take}
 use Rattle.m4_input.specs.Pending.{newlines_in}
-use Rattle.m4_input.specs.Text.{HeldText, text_in, text_behind}
+use Rattle.m4_input.specs.Text.{HeldText, text_behind}
 use Rattle.m4_input.proofs.Parts.{drop_parts, take_parts, take_long, pushed_behind}
 
 -- the pushed bytes and those behind them

@@ -4,7 +4,7 @@ use Rattle.std.proofs.Math.ListN.{drop_of_length-le}
 use Rattle.std.proofs.lemmas.List.{drop-drop}
 use Rattle.std.proofs.lemmas.Bool.Decides.{nat_tests}
 use Rattle.m4_state.specs.declared.delimiters.Delimiters.{Delimiters}
-use Rattle.std.specs.Prelude.{◌==◌, slice_get, IfSome, IfNone}
+use Rattle.std.specs.Prelude.{◌==◌, nat_lt, slice_get, slice_index_or, IfSome, IfNone}
 use Rattle.m4_input.specs.declared.front.Mark.{Mark}
 use Rattle.m4_input.specs.declared.front.Mark.TheVariants.{EndQuote, BeginQuote, PlainByte, CutQuote}
 use Rattle.m4_input.specs.Pending.{one_more}
@@ -145,3 +145,25 @@ moved_up q p x at r n k b s e pos h =
     let one : n + 1 ≡ suc n = omega arith in
     subst (λ m. Stands q p x at r m (k + length q.begin)) (sym one)
     (moved_on q p x at r n k b (suc n) (length q.begin) s e pos (begins_length q.begin (drop k x) (mark_up _ _ _ h)) (omega arith) (level_at q p n b (drop (k + 1) x) BeginQuote (ap (mark_at q p) (sym e) ∙ sym h)))
+
+pub moved_past : (q : Delimiters) (p : Bool) (x : List ℕ) (at : ℕ) (r : Option ℕ) (n k b : ℕ) → Stands q p x at r n k → drop k x ≡ b ∷ drop (k + 1) x → PlainByte ≡ mark_at q p (b ∷ drop (k + 1) x) → Stands q p x at r n (k + 1)
+moved_past q p x at r n k b s e h =
+    let fits : 1 ≤ length (drop k x) = subst (λ (y : List ℕ). 1 ≤ length y) (sym e) (omega arith) in
+    moved_on q p x at r n k b n 1 s e (omega arith) fits (omega arith) (level_at q p n b (drop (k + 1) x) PlainByte (sym h))
+
+pub ended_here : (q : Delimiters) (p : Bool) (x : List ℕ) (r : Option ℕ) (k b : ℕ) → Stands q p x 0 r 0 k → drop k x ≡ b ∷ drop (k + 1) x → EndQuote ≡ mark_at q p (b ∷ drop (k + 1) x) → Some k ≡ r
+ended_here q p x r k b s e h =
+    let here : level q p 0 0 (drop k x) ≡ Some 0 = ap (level q p 0 0) e ∙ level_at q p 0 b (drop (k + 1) x) EndQuote (sym h) in
+    let far : k ≡ k - 0 + 0 = omega arith in
+    ap Some far ∙ ap (further (k - 0)) (sym here) ∙ s.same
+
+-- the byte at a place that is within
+pub at_place : (x : List ℕ) (k b d : ℕ) → true ≡ nat_lt k (length x) → b ≡ slice_index_or x k d → drop k x ≡ b ∷ drop (k + 1) x
+at_place x k b d h e =
+    let l : k < length x = grind (arith, nat_tests) in
+    rw (drop-cons x k d l, sym e, add-one) refl
+
+pub cut_here : (q : Delimiters) (p : Bool) (x : List ℕ) (r : Option ℕ) (n k b : ℕ) → Stands q p x 0 r n k → drop k x ≡ b ∷ drop (k + 1) x → CutQuote ≡ mark_at q p (b ∷ drop (k + 1) x) → None ≡ r
+cut_here q p x r n k b s e h =
+    let here : level q p n 0 (drop k x) ≡ None = ap (level q p n 0) e ∙ level_at q p n b (drop (k + 1) x) CutQuote (sym h) in
+    ap (further (k - 0)) (sym here) ∙ s.same

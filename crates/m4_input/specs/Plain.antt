@@ -1,10 +1,11 @@
 -- Plain: tokens at the front of a text that stand for themselves.
 -- Not believed: it only says which turns a run may take at once, by the tokens of `scan`.
--- Words: IsPlain, total, ArePlain, IsPlainRun.
-use Rattle.std.specs.Prelude.{◌≡◌, ℕ, ◌+◌, false, List, [], ◌∷◌, None, take, drop, ◌⊎◌}
+-- Words: IsPlain, total, ArePlain, IsPlainRun, is_inner, IsInner.
+use Rattle.std.specs.Prelude.{◌≡◌, ◌==◌, ◌||◌, ℕ, ◌+◌, Bool, true, false, not, List, [], ◌∷◌, None, take, drop, ◌⊎◌}
 use Rattle.m4_state.specs.State.{State, top_of}
-use Rattle.m4_input.specs.declared.token.Token.TheVariants.{Name, Byte}
+use Rattle.m4_input.specs.declared.token.Token.TheVariants.{Name, Str, Byte}
 use Rattle.m4_input.specs.declared.front.Scan.TheVariants.{Found}
+use Rattle.m4_input.specs.Ascii.{open_parenthesis, close_parenthesis, comma, is_space}
 use Rattle.m4_input.specs.Token.{scan}
 
 -- the first token, of n bytes, is a name that has no definition, or a byte that is no other token
@@ -26,3 +27,14 @@ ArePlain s (n ∷ ns) x = IsPlain s n x × ArePlain s ns (drop n x)
 -- the first n bytes are such tokens
 abbrev pub IsPlainRun : State → ℕ → List ℕ → Type 0
 IsPlainRun s n x = (lens : List ℕ) × ArePlain s lens x × (total lens ≡ n)
+
+-- a byte that means nothing in an argument list
+abbrev pub is_inner : ℕ → Bool
+is_inner b = not ((b == open_parenthesis) || ((b == close_parenthesis) || ((b == comma) || is_space b)))
+
+-- the first token, of n bytes, is text x wherever it stands in a list
+abbrev pub IsInner : State → ℕ → List ℕ → List ℕ → Type 0
+IsInner s n x y =
+    (scan s.quotes s.comments false y ≡ Found (Str x) n)
+    ⊎ (((scan s.quotes s.comments false y ≡ Found (Name x) n) × (top_of s x ≡ None))
+    ⊎ ((b : ℕ) × (scan s.quotes s.comments false y ≡ Found (Byte b) n) × (x ≡ b ∷ []) × (is_inner b ≡ true)))

@@ -14,6 +14,7 @@ pub mod input;
 mod piece;
 pub mod plain;
 pub mod pushed;
+mod quoted;
 mod scan;
 mod text;
 pub mod token;

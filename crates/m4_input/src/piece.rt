@@ -31,11 +31,16 @@ impl Model for Piece {
         × (p.newlines + (length p.bytes.items - (p.at + p.ahead)) < 2 ^ 64) };
 }
 
-/// How many newlines there are.
+/// How many newlines there are. Out of line, so that the loop has the registers for itself.
+#[inline(never)]
 fn count_newlines(bytes: &[u8]) -> usize
     ensures { result ≡ newlines_in bytes.now }
 {
-    bytes.iter().filter(|b| **b == b'\n').count()
+    let mut count = 0usize;
+    for byte in bytes {
+        count += usize::from(*byte == b'\n');
+    }
+    count
 }
 
 /// Puts a text over what stands in front of a place.

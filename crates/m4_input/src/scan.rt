@@ -11,6 +11,7 @@ ghost use Rattle.m4_input.specs.Text.{LiesIn};
 
 use crate::delims::Delims;
 use crate::front::{Kind, Mark, Scan, Unended};
+use crate::quoted::{quoted_len, single};
 use crate::token::Token;
 use crate::window::{Window, is_letter_byte};
 use std::alloc::{AllocError, Global};
@@ -39,7 +40,21 @@ impl<'a> Window<'a> {
 
     /// How many bytes stand before the end-quote that closes the string. An end-quote that is empty
     /// stands at each byte.
-    fn string_len(&self, at: usize, quotes: &Pair<'_>, may_follow: bool) -> Option<usize>
+    pub fn string_len(&self, at: usize, quotes: &Pair<'_>, may_follow: bool) -> Option<usize>
+        requires within { at ≤ length self.now }
+        requires begin { 0 < length quotes.now.0.now }
+        ensures value { result ≡ level (pair_of quotes.now) may_follow 0 0 (drop at self.now) }
+        ensures closed { IfSome result (λ n. at + (n + length quotes.now.1.now) ≤ length self.now) }
+    {
+        let shorts = (single(quotes.0), single(quotes.1));
+        match (shorts, self.tail(at), may_follow) {
+            ((Some(begin), Some(end)), Some(tail), false) => quoted_len(tail, begin, end),
+            _ => self.string_len_by_steps(at, quotes, may_follow),
+        }
+    }
+
+    /// The same, place by place.
+    fn string_len_by_steps(&self, at: usize, quotes: &Pair<'_>, may_follow: bool) -> Option<usize>
         requires within { at ≤ length self.now }
         requires begin { 0 < length quotes.now.0.now }
         ensures value { result ≡ level (pair_of quotes.now) may_follow 0 0 (drop at self.now) }
@@ -87,7 +102,7 @@ impl<'a> Window<'a> {
     }
 
     /// Which kind of token begins here.
-    fn kind(&self, delims: &Delims<'_>, may_follow: bool, first: u8) -> Kind
+    pub fn kind(&self, delims: &Delims<'_>, may_follow: bool, first: u8) -> Kind
         requires { self.now ≡ first ∷ drop 1 self.now }
         ensures value { result ≡ kind_of (pair_of delims.now.quotes) (pair_of delims.now.comments)
             may_follow first (drop 1 self.now) }

@@ -8,6 +8,7 @@ ghost use Rattle.std.specs.Prelude.{◌≡◌, ◌+◌, ◌^◌, ◌<◌, ◌≤
 ghost use Rattle.m4_input.specs.Ascii.{is_letter, is_name_byte};
 ghost use Rattle.m4_input.specs.Token.{begins, is_cut, run_length, before};
 
+use crate::quoted::{len_before, single};
 use m4_state::bytes::Bytes;
 use std::alloc::{AllocError, Global};
 use std::marker::Model;
@@ -43,6 +44,18 @@ pub fn is_word_byte(b: u8) -> bool
     is_letter_byte(b) || b.is_ascii_digit()
 }
 
+/// How many bytes of a name stand at the front.
+pub fn word_len(bytes: &[u8]) -> usize
+    ensures value { result ≡ run_length is_name_byte bytes.now }
+    ensures within { result ≤ length bytes.now }
+{
+    let mut k = 0;
+    while k < bytes.len() && is_word_byte(bytes[k]) {
+        k += 1;
+    }
+    k
+}
+
 impl<'a> Window<'a> {
     /// The text of these two parts.
     pub fn new(pushed: &'a [u8], file: &'a [u8]) -> Window<'a>
@@ -75,6 +88,17 @@ impl<'a> Window<'a> {
         } else {
             self.file.get(at - self.pushed.len()).copied()
         }
+    }
+
+    /// The bytes from a place on, where they lie in the file alone.
+    pub fn tail(&self, at: usize) -> Option<&'a [u8]>
+        requires { at ≤ length self.now }
+        ensures { IfSome result (λ x. x.now ≡ drop at self.now) }
+    {
+        if at < self.pushed.len() {
+            return None;
+        }
+        Some(self.file.split_at(at - self.pushed.len()).1)
     }
 
     /// Whether a delimiter stands at a place.
@@ -125,6 +149,9 @@ impl<'a> Window<'a> {
         ensures value { result ≡ run_length is_name_byte (drop at self.now) }
         ensures within { at + result ≤ length self.now }
     {
+        if let Some(tail) = self.tail(at) {
+            return word_len(tail);
+        }
         let mut k = at;
         while let Some(b) = self.byte(k) {
             if !is_word_byte(b) {
@@ -136,8 +163,20 @@ impl<'a> Window<'a> {
     }
 
     /// How many bytes stand before the first such delimiter.
-    #[tactic(auto, using(crate::proofs::Scans::before_step, crate::proofs::Scans::before_none))]
     pub fn find(&self, at: usize, delimiter: &[u8]) -> Option<usize>
+        requires { at ≤ length self.now }
+        ensures value { result ≡ before delimiter.now (drop at self.now) }
+        ensures within { IfSome result (λ n. at + (n + length delimiter.now) ≤ length self.now) }
+    {
+        match (single(delimiter), self.tail(at)) {
+            (Some(byte), Some(tail)) => len_before(tail, byte),
+            _ => self.find_by_steps(at, delimiter),
+        }
+    }
+
+    /// The same, place by place.
+    #[tactic(auto, using(crate::proofs::Scans::before_step, crate::proofs::Scans::before_none))]
+    fn find_by_steps(&self, at: usize, delimiter: &[u8]) -> Option<usize>
         requires { at ≤ length self.now }
         ensures value { result ≡ before delimiter.now (drop at self.now) }
         ensures within { IfSome result (λ n. at + (n + length delimiter.now) ≤ length self.now) }

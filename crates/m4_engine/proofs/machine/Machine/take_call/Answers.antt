@@ -1,6 +1,5 @@
 use Rattle.std.proofs.Common.{rules}
 use Rattle.m4_engine.proofs.Calling.{refused_calls, depth_refused, bare_made, list_begins}
-use Rattle.m4_engine.proofs.Taken.{next_paren}
 use Rattle.m4_engine.proofs.machine.Machine.take_call.Goals as goal
 
 pub returns-then-not-has_room-clause-moves : goal.returns-then-not-has_room-clause-moves
@@ -13,4 +12,4 @@ pub returns-then-not-listed-clause-moves : goal.returns-then-not-listed-clause-m
 returns-then-not-listed-clause-moves g c = bare_made c.args.self.now c.count.new.self c.call-then-not-listed.new.self c.args.call c.args.listed c.args.input.now.pending c.call-then-not-listed.new.input.pending c.call-then-not-listed.result (search rules) (search rules) c.count.ensures (search rules) c.call-then-not-listed.ensures.moves
 
 pub returns-clause-moves : goal.returns-clause-moves
-returns-clause-moves g c = λ before o m. list_begins c.args.self.now c.count.new.self c.begin.new.self c.args.call c.args.listed c.args.input.now.pending c.take_parenthesis.new.input.pending before o m (search rules) (search rules) c.count.ensures (search rules) c.in_ok-take_parenthesis.ensures.taken c.in_ok-begin.ensures
+returns-clause-moves g c = λ before o m. list_begins c.args.self.now c.count.new.self c.begin.new.self c.args.call c.args.listed c.args.input.now.pending c.take_parenthesis.new.input.pending before o m (search rules) (search rules) c.count.ensures (search rules) c.take_parenthesis.ensures.taken c.in_ok-begin.ensures

@@ -1,5 +1,5 @@
-use Rattle.std.proofs.Common.{rules, ◌≡◌, List, ℕ, take, drop, ◌++◌, ◌+◌, ap, sym, ◌∙◌, arith}
-use Rattle.m4_input.specs.Text.{HeldText, text_in, text_behind}
+use Rattle.std.proofs.Common.{◌≡◌, take, drop, ◌++◌, ◌+◌, ap, sym, ◌∙◌, arith}
+use Rattle.m4_input.specs.Text.{text_in, text_behind}
 use Rattle.m4_input.proofs.Pieces.{pushed_taken, file_taken}
 use Rattle.m4_input.proofs.piece.Piece.consume.Goals as goal
 

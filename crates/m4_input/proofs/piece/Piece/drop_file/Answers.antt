@@ -1,4 +1,4 @@
-use Rattle.std.proofs.Common.{rules, ◌∙◌, ap, []}
+use Rattle.std.proofs.Common.{◌∙◌, ap, []}
 use Rattle.m4_input.specs.Text.{HeldText}
 use Rattle.m4_input.proofs.Pieces.{file_dropped}
 use Rattle.m4_input.proofs.piece.Piece.drop_file.Goals as goal

@@ -1,4 +1,4 @@
-use Rattle.std.proofs.Common.{rules, ◌≡◌, ◌-◌, ◌+◌, ◌≤◌, List, ℕ, ◌++◌, length, take, drop, ap, ◌∙◌, arith}
+use Rattle.std.proofs.Common.{◌≡◌, ◌-◌, ◌+◌, List, ℕ, ◌++◌, length, take, drop, ap, ◌∙◌, arith}
 use Rattle.m4_input.specs.Text.{HeldText}
 use Rattle.m4_input.proofs.Parts.{refilled}
 use Rattle.m4_input.proofs.Pieces.{piece_of, pushed_over}

@@ -1,7 +1,7 @@
 use Rattle.std.proofs.Common.{◌≡◌, ◌+◌, ◌-◌, ◌≤◌, length, drop}
 use Rattle.m4_input.specs.Ascii.{is_name_byte}
 use Rattle.m4_input.specs.Token.{run_length}
-use Rattle.m4_input.proofs.plain.word_len.Given as goal
+use Rattle.m4_input.proofs.window.word_len.Given as goal
 
 -- the run goes on as far as it goes on from here
 abbrev pub invariant-loop-k : goal.invariant-loop-k

@@ -1,7 +1,7 @@
 use Rattle.std.proofs.Common.{◌≡◌, ◌-◌, ◌≤◌, length, drop}
 use Rattle.m4_input.specs.Token.{before}
 use Rattle.m4_input.proofs.Scans.{further}
-use Rattle.m4_input.proofs.window.Window.find.Given as goal
+use Rattle.m4_input.proofs.window.Window.find_by_steps.Given as goal
 
 -- the bytes so far, and those before the first delimiter in the rest
 abbrev pub invariant-loop-k : goal.invariant-loop-k

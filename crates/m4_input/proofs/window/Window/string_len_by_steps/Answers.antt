@@ -2,7 +2,7 @@ use Rattle.std.proofs.Common.{◌<◌, length, arith}
 use Rattle.std.proofs.lemmas.Bool.Decides.{nat_tests}
 use Rattle.m4_input.specs.DelimsView.{pair_of}
 use Rattle.m4_input.proofs.Scans.{moved_down, moved_up}
-use Rattle.m4_input.proofs.window.Window.string_len.Goals as goal
+use Rattle.m4_input.proofs.window.Window.string_len_by_steps.Goals as goal
 
 pub places-preserved-in-EndQuote : goal.places-preserved-in-EndQuote
 places-preserved-in-EndQuote c =

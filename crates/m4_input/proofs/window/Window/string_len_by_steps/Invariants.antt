@@ -2,7 +2,7 @@ use Rattle.std.proofs.Common.{◌-◌, length, drop}
 use Rattle.m4_input.specs.Token.{level}
 use Rattle.m4_input.specs.DelimsView.{pair_of}
 use Rattle.m4_input.proofs.Scans.{Stands}
-use Rattle.m4_input.proofs.window.Window.string_len.Given as goal
+use Rattle.m4_input.proofs.window.Window.string_len_by_steps.Given as goal
 
 -- the bytes so far, and those before the end-quote in the rest
 abbrev pub invariant-places : goal.invariant-places

@@ -1,0 +1,69 @@
+//! The end of a string whose quotes are a byte each, and a byte that ends something, in bytes that
+//! lie in one piece. Manual: "Quoted strings".
+
+ghost use Rattle.std.specs.Prelude.{◌≡◌, ◌+◌, ◌≤◌, ◌∷◌, [], List, ℕ, false, IfSome, length};
+ghost use Rattle.m4_input.specs.Token.{before, level, mark_at};
+
+use crate::front::Mark;
+
+/// The byte of a delimiter that has one alone.
+pub fn single(delimiter: &[u8]) -> Option<u8>
+    ensures { IfSome result (λ b. delimiter.now ≡ b ∷ []) }
+{
+    let (first, rest) = delimiter.split_first()?;
+    if rest.is_empty() { Some(*first) } else { None }
+}
+
+/// What a byte is within a string.
+fn mark_of(byte: u8, begin: u8, end: u8) -> Mark
+    ensures { (y : List ℕ) → result ≡ mark_at (record { begin = begin ∷ []; end = end ∷ [] }) false (byte ∷ y) }
+{
+    if byte == end {
+        Mark::EndQuote
+    } else if byte == begin {
+        Mark::BeginQuote
+    } else {
+        Mark::PlainByte
+    }
+}
+
+/// How many bytes stand before the end-quote that closes the string. Out of line, so that the loop has
+/// the registers for itself.
+#[inline(never)]
+pub fn quoted_len(text: &[u8], begin: u8, end: u8) -> Option<usize>
+    ensures value { result ≡ level (record { begin = begin ∷ []; end = end ∷ [] }) false 0 0 text.now }
+    ensures within { IfSome result (λ n. n + 1 ≤ length text.now) }
+{
+    let mut open = 0usize;
+    let mut k = 0usize;
+    'places: while let Some(byte) = text.get(k) {
+        match mark_of(*byte, begin, end) {
+            Mark::EndQuote => {
+                if open == 0 {
+                    return Some(k);
+                }
+                open -= 1;
+            }
+            Mark::BeginQuote => open += 1,
+            Mark::PlainByte => {}
+            Mark::CutQuote => return None,
+        }
+        k += 1;
+    }
+    None
+}
+
+/// How many bytes stand before the first such byte.
+pub fn len_before(text: &[u8], byte: u8) -> Option<usize>
+    ensures value { result ≡ before (byte ∷ []) text.now }
+    ensures within { IfSome result (λ n. n + 1 ≤ length text.now) }
+{
+    let mut k = 0usize;
+    while let Some(b) = text.get(k) {
+        if *b == byte {
+            return Some(k);
+        }
+        k += 1;
+    }
+    None
+}
