@@ -21,7 +21,7 @@ use Rattle.m4_state.specs.Definition.{IsDefinition}
 use Rattle.m4_state.specs.Delimiters.{default_quotes, default_comments, chosen, IsPaired}
 use Rattle.m4_state.specs.State.{State, Diversion as NumberedText, IsDiversion, IsState, empty, pushed, with_text, holds_text}
 use Rattle.m4_state.specs.Table.{Pairs, byte_order, with_push, IsStack}
-use Rattle.m4_state.proofs.Places.{both}
+use Rattle.m4_state.proofs.Pairs.{both}
 use Rattle.m4_state.proofs.TextsByNumber.{with_text-some}
 use Rattle.m4_frozen.specs.Denote.{builtin_or_placeholder, with_directive, issued_by, denote}
 use Rattle.m4_frozen.specs.Directive.{Directive, Quotes, Comments, Diversion}

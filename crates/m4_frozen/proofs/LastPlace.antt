@@ -5,7 +5,7 @@ use Rattle.std.specs.List.{AllByRecursion}
 use Rattle.std.specs.Ordering.{ordering_reverse}
 use Rattle.std.specs.Cmp.{IsTotalOrder, tied_itself}
 use Rattle.std.specs.FinMap.Entries.{find, put, is_sorted}
-use Rattle.m4_state.proofs.Places.{both, less}
+use Rattle.m4_state.proofs.Pairs.{both, less}
 
 -- what is below a key has that key above it
 above : {K : Type 0} (R : K → K → Ordering) → IsTotalOrder R → (k x : K) → R x k ≡ Less

@@ -1,12 +1,16 @@
--- The entries of the code's table, seen as pairs.
--- Not believed: it only says which fields hold a pair.
-use Rattle.std.specs.Prelude.{List, map}
-use Rattle.m4_state.specs.declared.entries.Entry.{Entry}
-use Rattle.m4_state.specs.Table.{Pair, Pairs}
+-- The entries of the code's table, seen as pairs in byte order.
+-- Not believed: it only says that entries in any order stand for one list of pairs.
+use Rattle.std.specs.Prelude.{ℕ, List, [], ◌∷◌, Vec}
+use Rattle.std.specs.FinMap.{put}
+use Rattle.std.specs.declared.alloc.Global.{Global}
+use Rattle.m4_state.specs.declared.definition.Def.{Def}
+use Rattle.m4_state.specs.Table.{Pairs, byte_order}
 
--- an entry's name and stack
-abbrev pub pair_of : Entry → Pair
-pair_of e = (e.name, e.stack.items)
+-- a name and its definitions, as the hash table keeps them
+abbrev pub Entry : Type 0
+Entry = Vec ℕ Global × Vec Def Global
 
-abbrev pub pairs_of : List Entry → Pairs
-pairs_of es = map pair_of es
+-- each entry put in its place
+abbrev pub in_order : List Entry → Pairs
+in_order [] = []
+in_order (e ∷ es) = put byte_order e.0.items e.1.items (in_order es)

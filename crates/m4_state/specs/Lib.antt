@@ -5,7 +5,6 @@ pub mod Device
 pub mod DiversionEntries
 pub mod Entries
 pub mod Fresh
-pub mod Place
 pub mod State
 pub mod StateView
 pub mod Table

@@ -1,109 +1,100 @@
-//! Entries in byte order, as a table keeps them: a name is found by halves.
+//! Entries in a hash table by their names: what a table's functions do in it.
 
-ghost use Rattle.std.specs.Prelude.{◌≡◌, ◌≤◌, ◌++◌, ◌∷◌, [], length, IfOk, IfErr, OnOk, OnErr, IsTrue, map};
-ghost use Rattle.std.specs.FinMap.{is_sorted};
-ghost use Rattle.std.specs.List.{insert};
+ghost use Rattle.std.specs.Prelude.{◌≡◌, ◌++◌, ◌∷◌, [], IfOk, OnOk, OnErr, map, nat_eq};
+ghost use Rattle.std.specs.Cmp.Lexicographic.{pointwise};
 ghost use Rattle.m4_state.specs.Definition.{IsDefinition};
+ghost use Rattle.std.specs.FinMap.{put};
+ghost use Rattle.std.specs.List.{IsDistinct};
+ghost use Rattle.indexmap.specs.IndexMap.{keys};
 ghost use Rattle.m4_state.specs.Table.{byte_order, stack_at, with_push, with_top, without, but_last, IsTable, IsSizedTable};
-ghost use Rattle.m4_state.specs.Entries.{pairs_of};
-ghost use Rattle.m4_state.specs.Place.{IsFound, IsMissing};
+ghost use Rattle.m4_state.specs.Entries.{in_order};
 
 use crate::bytes::Bytes;
 use crate::definition::Def;
-use std::alloc::{AllocError, Global};
-use std::cmp::Ordering;
+use indexmap::IndexMap;
+use std::alloc::AllocError;
 
-/// A name and its definitions, the oldest first. There is at least one.
-#[derive(Debug, Drop)]
-pub struct Entry {
-    pub name: Bytes,
-    pub stack: Vec<Def>,
-}
-
-/// Where a name stands, or where it would.
-fn place_of(entries: &[Entry], name: &[u8]) -> Result<usize, usize>
-    requires { IsTrue (is_sorted byte_order (pairs_of entries.now)) }
-    ensures found { IfOk result (IsFound byte_order name.now (pairs_of entries.now)) }
-    ensures missing { IfErr result (IsMissing byte_order name.now (pairs_of entries.now)) }
-{
-    entries.binary_search_by(|entry| compare(entry, name))
-}
-
-/// How an entry's name stands to a name, in byte order.
-fn compare(entry: &Entry, name: &[u8]) -> Ordering
-    ensures { result ≡ byte_order entry.now.name name.now }
-{
-    entry.name.as_slice().cmp(name)
-}
+/// Names with their definitions, the oldest first. Each name has at least one.
+pub type Entries = IndexMap<Vec<u8>, Vec<Def>>;
 
 /// The definitions of a name.
-pub fn stack_in<'a>(entries: &'a [Entry], name: &[u8]) -> &'a [Def]
-    requires { IsTrue (is_sorted byte_order (pairs_of entries.now)) }
-    ensures { result.now ≡ stack_at (pairs_of entries.now) name.now }
+pub fn stack_in<'a>(entries: &'a Entries, name: &[u8]) -> &'a [Def]
+    ensures { result.now ≡ stack_at (in_order entries.now.entries) name.now }
 {
-    match place_of(entries, name) {
-        Ok(i) => &entries[i].stack,
-        Err(_) => &[],
+    match entries.get(name) {
+        Some(stack) => stack.as_slice(),
+        None => &[],
     }
 }
 
-/// The names, in order.
-pub fn names_in(alloc: Global, entries: &[Entry]) -> Result<Vec<Bytes>, AllocError>
-    ensures { IfOk result (λ names. names.items ≡ map (λ e. e.0) (pairs_of entries.now)) }
+/// The names, in byte order.
+pub fn names_in(entries: &Entries) -> Result<Vec<Bytes>, AllocError>
+    ensures { IfOk result (λ names. names.items ≡ map (λ e. e.0) (in_order entries.now.entries)) }
 {
+    let mut names = copied_names(entries)?;
+    names.sort_unstable_by(|a, b| a.as_slice().cmp(b.as_slice()));
+    Ok(names)
+}
+
+/// The names, as the hash table has them.
+fn copied_names(entries: &Entries) -> Result<Vec<Bytes>, AllocError>
+    ensures names { IfOk result (λ names. names.items ≡ map (λ k. k.items) (keys entries.now)) }
+    ensures distinct { IfOk result (λ names. IsDistinct (pointwise nat_eq) names.items) }
+{
+    let alloc = *entries.allocator();
     let mut names = Vec::with_capacity(alloc, entries.len())?;
-    for entry in entries {
-        names.push(entry.name.share()?)?;
+    for name in entries.keys() {
+        names.push(Bytes::from_slice(alloc, name)?)?;
     }
     Ok(names)
 }
 
 /// Puts a definition on top of a name's. What can fail comes first, so a refusal changes nothing.
-pub fn push_in(entries: &mut Vec<Entry>, name: Bytes, def: Def) -> Result<(), AllocError>
-    requires table { IsTable (pairs_of entries.old.items) }
-    requires sized { IsSizedTable (pairs_of entries.old.items) }
+pub fn push_in(entries: &mut Entries, name: Bytes, def: Def) -> Result<(), AllocError>
+    requires table { IsTable (in_order entries.old.entries) }
+    requires sized { IsSizedTable (in_order entries.old.entries) }
     requires definition { IsDefinition def }
-    ensures ok { OnOk result (pairs_of entries.new.items ≡ with_push (pairs_of entries.old.items) name def) }
-    ensures err { OnErr result (pairs_of entries.new.items ≡ pairs_of entries.old.items) }
-    ensures table { OnOk result (IsTable (pairs_of entries.new.items)) }
-    ensures sized { OnOk result (IsSizedTable (pairs_of entries.new.items)) }
+    ensures ok { OnOk result (in_order entries.new.entries ≡ with_push (in_order entries.old.entries) name def) }
+    ensures err { OnErr result (in_order entries.new.entries ≡ in_order entries.old.entries) }
+    ensures table { OnOk result (IsTable (in_order entries.new.entries)) }
+    ensures sized { OnOk result (IsSizedTable (in_order entries.new.entries)) }
 {
     let _len = def.len();
-    match place_of(entries, name.as_slice()) {
-        Ok(i) => entries[i].stack.push(def)?,
-        Err(i) => insert_in(entries, i, name, def)?,
+    match entries.get_index_of(name.as_slice()) {
+        Some(i) => entries[i].push(def)?,
+        None => insert_in(entries, name, def)?,
     }
     Ok(())
 }
 
 /// Replaces the definition on top of a name's, or makes the first one. What can fail comes first, so
 /// a refusal changes nothing.
-pub fn define_in(entries: &mut Vec<Entry>, name: Bytes, def: Def) -> Result<(), AllocError>
-    requires table { IsTable (pairs_of entries.old.items) }
-    requires sized { IsSizedTable (pairs_of entries.old.items) }
+pub fn define_in(entries: &mut Entries, name: Bytes, def: Def) -> Result<(), AllocError>
+    requires table { IsTable (in_order entries.old.entries) }
+    requires sized { IsSizedTable (in_order entries.old.entries) }
     requires definition { IsDefinition def }
-    ensures ok { OnOk result (pairs_of entries.new.items ≡ with_top (pairs_of entries.old.items) name def) }
-    ensures err { OnErr result (pairs_of entries.new.items ≡ pairs_of entries.old.items) }
-    ensures table { OnOk result (IsTable (pairs_of entries.new.items)) }
-    ensures sized { OnOk result (IsSizedTable (pairs_of entries.new.items)) }
+    ensures ok { OnOk result (in_order entries.new.entries ≡ with_top (in_order entries.old.entries) name def) }
+    ensures err { OnErr result (in_order entries.new.entries ≡ in_order entries.old.entries) }
+    ensures table { OnOk result (IsTable (in_order entries.new.entries)) }
+    ensures sized { OnOk result (IsSizedTable (in_order entries.new.entries)) }
 {
     let _len = def.len();
-    match place_of(entries, name.as_slice()) {
-        Ok(i) => put_top(&mut entries[i].stack, def)?,
-        Err(i) => insert_in(entries, i, name, def)?,
+    match entries.get_index_of(name.as_slice()) {
+        Some(i) => put_top(&mut entries[i], def)?,
+        None => insert_in(entries, name, def)?,
     }
     Ok(())
 }
 
-/// Puts a name with one definition in at a place.
-fn insert_in(entries: &mut Vec<Entry>, i: usize, name: Bytes, def: Def) -> Result<(), AllocError>
-    requires { i ≤ length entries.old.items }
-    ensures ok { OnOk result (pairs_of entries.new.items ≡ insert (pairs_of entries.old.items) i (name, def ∷ [])) }
-    ensures err { OnErr result (entries.new.items ≡ entries.old.items) }
+/// Puts a name with one definition in. The name's bytes are taken over.
+fn insert_in(entries: &mut Entries, name: Bytes, def: Def) -> Result<(), AllocError>
+    ensures ok { OnOk result (in_order entries.new.entries ≡ put byte_order name (def ∷ []) (in_order entries.old.entries)) }
+    ensures err { OnErr result (entries.new.entries ≡ entries.old.entries) }
 {
-    let mut stack = Vec::new(*entries.allocator());
+    let alloc = *entries.allocator();
+    let mut stack = Vec::with_capacity(alloc, 1)?;
     stack.push(def)?;
-    entries.insert(i, Entry { name, stack })?;
+    entries.insert(name.into_vec(), stack)?;
     Ok(())
 }
 
@@ -120,14 +111,12 @@ fn put_top(stack: &mut Vec<Def>, def: Def) -> Result<(), AllocError>
 }
 
 /// Takes a name's entry out, if there is one.
-pub fn undefine_in(entries: &mut Vec<Entry>, name: &[u8])
-    requires table { IsTable (pairs_of entries.old.items) }
-    requires sized { IsSizedTable (pairs_of entries.old.items) }
-    ensures value { pairs_of entries.new.items ≡ without (pairs_of entries.old.items) name.now }
-    ensures table { IsTable (pairs_of entries.new.items) }
-    ensures sized { IsSizedTable (pairs_of entries.new.items) }
+pub fn undefine_in(entries: &mut Entries, name: &[u8])
+    requires table { IsTable (in_order entries.old.entries) }
+    requires sized { IsSizedTable (in_order entries.old.entries) }
+    ensures value { in_order entries.new.entries ≡ without (in_order entries.old.entries) name.now }
+    ensures table { IsTable (in_order entries.new.entries) }
+    ensures sized { IsSizedTable (in_order entries.new.entries) }
 {
-    if let Ok(i) = place_of(entries, name) {
-        let _taken = entries.remove(i);
-    }
+    let _taken = entries.swap_remove(name);
 }

@@ -85,7 +85,7 @@ impl State {
     }
 
     /// The definitions of a name, the oldest first; none where it has none. Takes time in
-    /// proportion to the name and to the logarithm of the number of names.
+    /// proportion to the name, however many names there are.
     pub fn stack(&self, name: &[u8]) -> &[Def]
         // exact steps: what the record has at the name
         ensures { result.now ≡ stack_of self.now name.now }
@@ -101,7 +101,7 @@ impl State {
         self.stack(name).last()
     }
 
-    /// The names that have a definition, in byte order.
+    /// The names that have a definition, in byte order, into which they are sorted each time.
     pub fn names(&self) -> Result<Vec<Bytes>, StateFault>
         // exact steps: the names of the record, in its order
         ensures { IfOk result (λ names. names.items ≡ names_of self.now) }

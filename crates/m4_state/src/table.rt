@@ -1,31 +1,34 @@
-//! Names with their definitions, in byte order: the only module that knows how they are kept.
+//! Names with their definitions: the only module, with `entries`, that knows how they are kept.
 //!
-//! A look-up searches by halves. A new name moves those behind it, so that a table whose names come
-//! in byte order, as in a canonical frozen file, grows at its end.
+//! They stand in a hash table, in the order in which the names were first defined, but that the last
+//! one takes the place of one that is undefined. A look-up takes time in proportion to the name,
+//! however many there are. Contracts see them in byte order all the same; `names` sorts them into it
+//! when it is asked.
 
 ghost use Rattle.std.specs.Prelude.{◌≡◌, IfOk, OnOk, OnErr, map, []};
 
 use crate::bytes::Bytes;
 use crate::definition::Def;
-use crate::entries::{Entry, define_in, names_in, push_in, stack_in, undefine_in};
+use crate::entries::{Entries, define_in, names_in, push_in, stack_in, undefine_in};
+use indexmap::IndexMap;
 use std::alloc::{AllocError, Global};
 use std::marker::Model;
 
 /// Names with their definitions, which contracts see as a list of pairs in byte order.
 #[derive(Debug, Drop)]
 pub struct Table {
-    entries: Vec<Entry>,
+    entries: Entries,
 }
 
 impl Model for Table {
     ghost use Rattle.m4_state.specs.Table.{Pairs, IsTable, IsSizedTable};
-    ghost use Rattle.m4_state.specs.Entries.{pairs_of};
+    ghost use Rattle.m4_state.specs.Entries.{in_order};
 
     ghost Value = { Pairs };
 
-    ghost view = { λ t. pairs_of t.entries.items };
+    ghost view = { λ t. in_order t.entries.entries };
 
-    ghost invariant = { λ t. IsTable (pairs_of t.entries.items) × IsSizedTable (pairs_of t.entries.items) };
+    ghost invariant = { λ t. IsTable (in_order t.entries.entries) × IsSizedTable (in_order t.entries.entries) };
 }
 
 impl Table {
@@ -37,13 +40,8 @@ impl Table {
         ensures { result ≡ [] }
     {
         Table {
-            entries: Vec::new(alloc),
+            entries: IndexMap::new(alloc),
         }
-    }
-
-    /// The allocator that the table grows by.
-    pub fn allocator(&self) -> Global {
-        *self.entries.allocator()
     }
 
     /// The definitions of a name, the oldest first; none where it isn't in the table.
@@ -57,7 +55,7 @@ impl Table {
     pub fn names(&self) -> Result<Vec<Bytes>, AllocError>
         ensures { IfOk result (λ names. names.items ≡ map (λ e. e.0) self.now) }
     {
-        names_in(self.allocator(), &self.entries)
+        names_in(&self.entries)
     }
 
     /// Puts a definition on top of a name's.

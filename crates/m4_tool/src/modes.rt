@@ -3,12 +3,14 @@
 //! A mode reads its file whole, writes all of its output or none of it, and says on the messages why
 //! it wrote none. An output that fails may hold a beginning.
 
-ghost use Rattle.std.specs.Prelude.{◌≡◌, IfSome};
+ghost use Rattle.std.specs.Prelude.{◌≡◌, ℕ, IfSome};
+ghost use Rattle.m4_state.specs.Device.{Script};
 ghost use Rattle.m4_tool.specs.ModeFault.{status_of};
-ghost use Rattle.m4_tool.specs.Modes.{CanonEnds, InspectEnds, IsOfDevice, Tells, Ended};
+ghost use Rattle.m4_tool.specs.Modes.{Holds, CanonEnds, InspectEnds, IsOfDevice, Tells, Ended};
 
 use crate::fault::ModeFault;
 use m4_frozen::inspector::list;
+use m4_frozen::loading::Loaded;
 use m4_frozen::reading::read_frozen;
 use m4_frozen::writer::write_frozen;
 use m4_state::device::{ByteSink, ByteSource};
@@ -74,6 +76,15 @@ fn canonicalise<R: ByteSource, O: ByteSink>(
         (O.failures out.old) (O.failures out.new) }
 {
     let loaded = read_frozen(alloc, reader)?;
+    write_loaded(&loaded, out)
+}
+
+/// The canonical text of what was loaded, where that issues none.
+fn write_loaded<O: ByteSink>(loaded: &Loaded, out: &mut O) -> Result<(), ModeFault>
+    ensures ends { (script : Script) → Holds script loaded.now
+        → CanonEnds result script (O.contents out.old) (O.contents out.new) }
+    ensures of_device { (reads : ℕ) → IsOfDevice result reads reads (O.failures out.old) (O.failures out.new) }
+{
     if !loaded.issued.as_slice().is_empty() {
         return Err(ModeFault::Issues);
     }

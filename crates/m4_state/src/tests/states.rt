@@ -102,6 +102,36 @@ fn keeps_names_in_byte_order(rt: HostRuntime) -> Result<(), Fail> {
     Ok(())
 }
 
+// Defines a name as a text.
+fn define(alloc: Global, state: &mut State, name: &[u8], text: &[u8]) -> Result<(), StateFault> {
+    state.define(bytes(alloc, name)?, Def::Text(bytes(alloc, text)?))
+}
+
+// A name that is undefined and defined again has its place among the names again.
+#[test]
+fn sorts_a_name_defined_again(rt: HostRuntime) -> Result<(), Fail> {
+    let alloc = rt.alloc();
+    let mut state = State::empty(alloc)?;
+    define(alloc, &mut state, b"b", b"1")?;
+    define(alloc, &mut state, b"a", b"2")?;
+    define(alloc, &mut state, b"c", b"3")?;
+    state.undefine(b"b");
+    define(alloc, &mut state, b"b", b"4")?;
+    let want = [
+        (b"a".as_slice(), b"2".as_slice()),
+        (b"b", b"4"),
+        (b"c", b"3"),
+    ];
+    let names = state.names()?;
+    assert_eq!(rt; names.len(), want.len());
+    for (name, (want, text)) in names.iter().zip(want) {
+        assert_eq!(rt; name.as_slice(), want);
+        assert_eq!(rt; state.stack(want).len(), 1);
+        assert_eq!(rt; text_of(&state.stack(want)[0]), text);
+    }
+    Ok(())
+}
+
 #[test]
 fn top_is_the_newest(rt: HostRuntime) -> Result<(), Fail> {
     let alloc = rt.alloc();

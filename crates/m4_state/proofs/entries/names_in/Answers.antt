@@ -1,10 +1,14 @@
-use Rattle.std.proofs.Common.{List, map, ap, sym, ◌∙◌, arith}
-use Rattle.std.proofs.lemmas.List.{take_all}
-use Rattle.m4_state.specs.declared.entries.Entry.{Entry}
-use Rattle.m4_state.proofs.Tables.{names_of_pairs}
+use Rattle.std.proofs.Common.{rules}
+use Rattle.std.specs.Ordering.{is_lt}
+use Rattle.std.specs.Cmp.Lexicographic.{nat_list_cmp_total}
+use Rattle.std.proofs.lemmas.List.Sorted.{ranks_by, answers_always}
+use Rattle.m4_state.specs.Table.{byte_order}
+use Rattle.m4_state.proofs.SortedNames.{sorted_names_in_order}
 use Rattle.m4_state.proofs.entries.names_in.Goals as goal
 
--- all entries were passed
+-- the names were copied, and then sorted
 pub returns : goal.returns
 returns c =
-    c.loop-entry.invariant ∙ ap (λ (es : List Entry). map (λ e. e.name) es) (take_all c.loop-entry.entry-index c.args.entries.now (omega arith)) ∙ sym (names_of_pairs c.args.entries.now)
+    sorted_names_in_order c.args.entries.now.entries c.in_ok-names.names.items c.sort_unstable_by.new.self.items
+    c.in_ok-names.ensures.names c.in_ok-names.ensures.distinct c.sort_unstable_by.ensures.permutation
+    (c.sort_unstable_by.ensures.sorted (λ x y. is_lt (byte_order x y)) (ranks_by nat_list_cmp_total (λ x. x)) (answers_always _ _ _ (λ f a r g h. search rules)))
