@@ -17,7 +17,6 @@ use std::alloc::Global;
 use std::marker::Model;
 
 /// Names with their definitions, delimiters and diversions.
-#[derive(Drop)]
 pub struct State {
     alloc: Global,
     table: Table,
@@ -36,6 +35,20 @@ impl Model for State {
     ghost view = { view_of };
 
     ghost invariant = { λ s. IsState (view_of s) × IsSized (view_of s) };
+}
+
+// Written out, so that a caller's proof sees one call and not the drop of each field.
+impl Drop for State {
+    fn drop(self) {
+        let State {
+            alloc: _alloc,
+            table: _table,
+            quotes: _quotes,
+            comments: _comments,
+            diversions: _diversions,
+            current: _current,
+        } = self;
+    }
 }
 
 impl State {
