@@ -19,7 +19,7 @@ use std::marker::Model;
 
 /// A call before its list is closed: the definition, the name and the place as they were when the
 /// name was read, the arguments that are complete, and what the next one has so far.
-#[derive(Debug, Drop)]
+#[derive(Debug)]
 pub struct OpenCall {
     pub definition: Def,
     pub name: Bytes,
@@ -42,6 +42,22 @@ impl Model for OpenCall {
     ghost view = { call_view };
 
     ghost invariant = { λ c. (c.parentheses ≤ length c.bytes.items) × IsCall (call_view c) };
+}
+
+// Written out, so that a caller's proof sees one call and not the drop of each field.
+impl Drop for OpenCall {
+    fn drop(self) {
+        let OpenCall {
+            definition: _definition,
+            name: _name,
+            place: _place,
+            done: _done,
+            parentheses: _parentheses,
+            begun: _begun,
+            bytes: _bytes,
+            tokens: _tokens,
+        } = self;
+    }
 }
 
 impl OpenCall {
@@ -188,7 +204,10 @@ impl OpenCall {
             name,
             place,
             done,
-            ..
+            parentheses: _parentheses,
+            begun: _begun,
+            bytes: _bytes,
+            tokens: _tokens,
         } = self;
         let list = ArgList::from(done);
         (definition, Args { name, list }, place)

@@ -18,7 +18,6 @@ use std::alloc::{AllocError, Global};
 use std::marker::Model;
 
 /// What a run has made so far, and the calls whose lists are open.
-#[derive(Drop)]
 pub struct Machine {
     pub alloc: Global,
     pub most_calls: u64,
@@ -41,6 +40,23 @@ impl Model for Machine {
     ghost view = { engine_view };
 
     ghost invariant = { λ m. m.innermost ≡ None → m.outer.items ≡ [] };
+}
+
+// Written out, so that a caller's proof sees one call and not the drop of each field.
+impl Drop for Machine {
+    fn drop(self) {
+        let Machine {
+            alloc: _alloc,
+            most_calls: _most_calls,
+            most_nested: _most_nested,
+            state: _state,
+            calls: _calls,
+            innermost: _innermost,
+            outer: _outer,
+            output: _output,
+            messages: _messages,
+        } = self;
+    }
 }
 
 impl Machine {

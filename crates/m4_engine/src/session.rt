@@ -22,7 +22,6 @@ use std::alloc::Global;
 use std::marker::Model;
 
 /// A run between two calls.
-#[derive(Drop)]
 pub struct Session {
     machine: Machine,
     missed: bool,
@@ -40,6 +39,18 @@ impl Model for Session {
     ghost view = { session_view };
 
     ghost invariant = { λ s. IsIdle s.machine };
+}
+
+// Written out, so that a caller's proof sees one call and not the drop of each field.
+impl Drop for Session {
+    fn drop(self) {
+        let Session {
+            machine: _machine,
+            missed: _missed,
+            over: _over,
+            finished: _finished,
+        } = self;
+    }
 }
 
 impl Session {

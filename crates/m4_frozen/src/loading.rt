@@ -23,7 +23,6 @@ use m4_state::state::State;
 use std::alloc::{AllocError, Global};
 
 /// What a frozen file gives: a state, and the text that is issued before any input is read.
-#[derive(Drop)]
 pub struct Loaded {
     /// The state that the directives leave.
     pub state: State,
@@ -31,8 +30,17 @@ pub struct Loaded {
     pub issued: Bytes,
 }
 
+// Written out, so that a caller's proof sees one call and not the drop of each field.
+impl Drop for Loaded {
+    fn drop(self) {
+        let Loaded {
+            state: _state,
+            issued: _issued,
+        } = self;
+    }
+}
+
 /// What the directives that came leave, and what may come next.
-#[derive(Drop)]
 pub(crate) struct Loading {
     state: State,
     issued: Vec<u8>,
@@ -42,6 +50,19 @@ pub(crate) struct Loading {
     inside: bool,
     /// The text that has begun and is not whole, if there is one.
     begun: Option<Begun>,
+}
+
+// Written out, so that a caller's proof sees one call and not the drop of each field.
+impl Drop for Loading {
+    fn drop(self) {
+        let Loading {
+            state: _state,
+            issued: _issued,
+            versioned: _versioned,
+            inside: _inside,
+            begun: _begun,
+        } = self;
+    }
 }
 
 /// Where more bytes are needed.
@@ -336,9 +357,16 @@ impl Loading {
     pub(crate) fn loaded(self) -> Loaded
         ensures { result ≡ record { state = self.state; issued = self.issued.items } }
     {
+        let Loading {
+            state,
+            issued,
+            versioned: _versioned,
+            inside: _inside,
+            begun: _begun,
+        } = self;
         Loaded {
-            state: self.state,
-            issued: Bytes::from(self.issued),
+            state,
+            issued: Bytes::from(issued),
         }
     }
 }
