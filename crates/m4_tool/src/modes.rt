@@ -15,6 +15,7 @@ use m4_frozen::reading::read_frozen;
 use m4_frozen::writer::write_frozen;
 use m4_state::device::{ByteSink, ByteSource};
 use std::alloc::Global;
+use std::mem::forget;
 
 /// Writes the canonical text of the state in a frozen file, and answers the exit status.
 pub fn canon<R: ByteSource, O: ByteSink, M: ByteSink>(
@@ -76,7 +77,10 @@ fn canonicalise<R: ByteSource, O: ByteSink>(
         (O.failures out.old) (O.failures out.new) }
 {
     let loaded = read_frozen(alloc, reader)?;
-    write_loaded(&loaded, out)
+    let end = write_loaded(&loaded, out);
+    // the program ends behind it, so its strings are not given back one by one
+    forget(loaded);
+    end
 }
 
 /// The canonical text of what was loaded, where that issues none.
@@ -104,8 +108,10 @@ fn list_file<R: ByteSource, O: ByteSink>(
         (O.failures out.old) (O.failures out.new) }
 {
     let loaded = read_frozen(alloc, reader)?;
-    list(&loaded, out)?;
-    Ok(())
+    let listed = list(&loaded, out);
+    // as in `canonicalise`
+    forget(loaded);
+    Ok(listed?)
 }
 
 /// The status of an end, whose fault is said on the messages.

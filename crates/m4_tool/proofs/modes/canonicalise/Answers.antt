@@ -10,4 +10,4 @@ if_some (Some x) P Q h f = f x h
 -- what was loaded is what the reader's file holds
 pub returns-clause-ends : goal.returns-clause-ends
 returns-clause-ends g c =
-    if_some _ _ _ c.in_ok-loaded.ensures.loaded (λ script h. c.write_loaded.ensures.ends script (record { ended = h.0; loads = h.1 }))
+    if_some _ _ _ c.in_ok-loaded.ensures.loaded (λ script h. c.write_loaded-end.ensures.ends script (record { ended = h.0; loads = h.1 }))
