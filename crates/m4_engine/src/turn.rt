@@ -1,7 +1,7 @@
 //! One turn of an expansion: the first token of what is pending, and what it does.
 //! Manual: "Macro invocation", "Macro arguments", "How m4 copies input to output".
 
-ghost use Rattle.std.specs.Prelude.{◌≡◌, ◌<◌, nat_lt, suc, List, ℕ, [], ◌∷◌, ◌++◌, None, Ok, IfOk, OnOk, IfSome, true, false, length, codes};
+ghost use Rattle.std.specs.Prelude.{◌≡◌, ◌<◌, ◌&&◌, not, nat_lt, suc, List, ℕ, [], ◌∷◌, ◌++◌, None, Ok, IfOk, OnOk, IfSome, true, false, length, codes};
 ghost use Rattle.std.specs.Fmt.{decimal};
 ghost use Rattle.m4_state.specs.State.{top_of};
 ghost use Rattle.m4_input.specs.Paren.{paren_at};
@@ -346,7 +346,8 @@ impl Machine {
 
     /// Whether a call can be made with no list, within the limits.
     fn may_expand(&self, listed: bool) -> bool
-        ensures { result ≡ true → (listed ≡ false)
+        ensures value { result ≡ (not listed && (nat_lt self.now.calls self.now.limits.calls && not (is_deep_in self.now))) }
+        ensures room { result ≡ true → (listed ≡ false)
             × (nat_lt self.now.calls self.now.limits.calls ≡ true) × (is_deep_in self.now ≡ false) }
     {
         !listed && self.has_room() && !self.is_deep()

@@ -1,14 +1,15 @@
 //! The end of a string whose quotes are a byte each, and a byte that ends something, in bytes that
 //! lie in one piece. Manual: "Quoted strings".
 
-ghost use Rattle.std.specs.Prelude.{◌≡◌, ◌+◌, ◌≤◌, ◌∷◌, [], List, ℕ, false, IfSome, length};
+ghost use Rattle.std.specs.Prelude.{◌≡◌, ◌≢◌, ◌+◌, ◌≤◌, ◌∷◌, [], List, ℕ, false, IfSome, IfNone, length};
 ghost use Rattle.m4_input.specs.Token.{before, level, mark_at};
 
 use crate::front::Mark;
 
 /// The byte of a delimiter that has one alone.
 pub fn single(delimiter: &[u8]) -> Option<u8>
-    ensures { IfSome result (λ b. delimiter.now ≡ b ∷ []) }
+    ensures some { IfSome result (λ b. delimiter.now ≡ b ∷ []) }
+    ensures none { IfNone result ((b : ℕ) → delimiter.now ≢ b ∷ []) }
 {
     let (first, rest) = delimiter.split_first()?;
     if rest.is_empty() { Some(*first) } else { None }

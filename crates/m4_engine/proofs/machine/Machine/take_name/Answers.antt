@@ -14,7 +14,7 @@ pub returns-in-Expansion-clause-moves : goal.returns-in-Expansion-clause-moves
 returns-in-Expansion-clause-moves g c =
     let at : Place = record { file = name_of c.args.input.now.pending; line = c.args.line } in
     let v = subst (λ (m : Meaning). IsMeaning m c.may_expand.result c.args.self.now.state c.args.name c.from-list.result) c.in-Expansion.is c.in_ok-meaning.ensures in
-    let fits = c.may_expand.ensures v.0 in
+    let fits = c.may_expand.ensures.room v.0 in
     let none = v.3 ∙ ap (λ (l : List Arg). substituted v.1 c.args.name l c.args.self.now.state.quotes) (c.from-list.ensures ∙ c.new.ensures.items) in
     name_called c.args.self.now c.take_expansion.new.self (Text v.1) c.args.name false c.args.input.now.pending c.sees_list.new.input.pending c.take_expansion.new.input.pending at (call_of (Text v.1) c.args.name at) c.take_expansion.result
     (sym v.2) (search rules) (λ e. refl) refl (search rules) refl (c.take_expansion.ensures.moves (call_of (Text v.1) c.args.name at) v.1 refl none)
