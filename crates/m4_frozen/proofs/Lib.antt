@@ -19,6 +19,7 @@ pub mod WindowRead
 pub mod Examples
 pub mod FreezeParts
 pub mod ListingParts
+pub mod Plain
 pub mod CanonicalSpelled
 pub mod CanonicalDenoted
 pub mod LastPlace

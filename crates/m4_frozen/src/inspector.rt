@@ -4,7 +4,7 @@
 //! come while the names are listed, before the first byte.
 
 ghost use Rattle.std.specs.Prelude.{◌≡◌, ◌<◌, OnOk, Err};
-ghost use Rattle.std.specs.List.{flat_map};
+ghost use Rattle.std.specs.List.{flat_map, list_all};
 ghost use Rattle.m4_state.specs.Device.{with_bytes, one_more, count_after, HasBegun, Puts};
 ghost use Rattle.m4_state.specs.State.{AreDiversions};
 ghost use Rattle.m4_frozen.specs.InspectorSteps as steps;
@@ -233,8 +233,20 @@ fn put_word<W: ByteSink>(word: &[u8], bytes: &[u8], writer: &mut W) -> Result<()
     put_shown(bytes, writer)
 }
 
-/// The bytes, each as it is or as a backslash and two hexadecimal digits.
+/// The bytes, each as it is or as a backslash and two hexadecimal digits. Most names are shown as they
+/// are, and then they are put in one piece.
 fn put_shown<W: ByteSink>(bytes: &[u8], writer: &mut W) -> Result<(), DeviceFault>
+    ensures puts { Puts result (W.contents writer.old) (W.contents writer.new) (flat_map lines.show_byte bytes.now) }
+    ensures counted { W.failures writer.new ≡ count_after result (W.failures writer.old) }
+{
+    if are_plain(bytes) {
+        return put_all(writer, bytes);
+    }
+    put_each(bytes, writer)
+}
+
+/// The same, byte by byte.
+fn put_each<W: ByteSink>(bytes: &[u8], writer: &mut W) -> Result<(), DeviceFault>
     ensures puts { Puts result (W.contents writer.old) (W.contents writer.new) (flat_map lines.show_byte bytes.now) }
     ensures counted { W.failures writer.new ≡ count_after result (W.failures writer.old) }
 {
@@ -244,12 +256,26 @@ fn put_shown<W: ByteSink>(bytes: &[u8], writer: &mut W) -> Result<(), DeviceFaul
     Ok(())
 }
 
+/// Whether all are shown as they are.
+fn are_plain(bytes: &[u8]) -> bool
+    ensures { result ≡ list_all lines.is_plain bytes.now }
+{
+    bytes.iter().all(|&byte| is_plain(byte))
+}
+
+/// Whether a byte is shown as it is.
+fn is_plain(byte: u8) -> bool
+    ensures { result ≡ lines.is_plain byte }
+{
+    byte >= 33 && byte <= 126 && byte != b'\\'
+}
+
 /// One byte, as it is or as a backslash and two hexadecimal digits.
 fn put_byte<W: ByteSink>(byte: u8, writer: &mut W) -> Result<(), DeviceFault>
     ensures puts { Puts result (W.contents writer.old) (W.contents writer.new) (lines.show_byte byte) }
     ensures counted { W.failures writer.new ≡ count_after result (W.failures writer.old) }
 {
-    if byte >= 33 && byte <= 126 && byte != b'\\' {
+    if is_plain(byte) {
         return put_all(writer, &[byte]);
     }
     put_all(writer, &[b'\\', hex_digit(byte / 16), hex_digit(byte % 16)])

@@ -1,16 +1,10 @@
-use Rattle.std.proofs.Common.{◌∙◌}
-use Rattle.m4_state.proofs.CallerLaws.{HasPut-put, HasPut-cut, Puts-refused, flat_map-drop}
-use Rattle.m4_frozen.specs.Listing.{show_byte}
+use Rattle.std.proofs.Common.{ℕ, List, sym, subst, ◌∙◌}
+use Rattle.m4_state.specs.Device.{Puts}
+use Rattle.m4_frozen.proofs.Plain.{shown_as_they_are}
 use Rattle.m4_frozen.proofs.inspector.put_shown.Goals as goal
 
--- a byte failed
-pub returns-in_err-put_byte-clause-puts : goal.returns-in_err-put_byte-clause-puts
-returns-in_err-put_byte-clause-puts g c =
-    let left = rw (flat_map-drop show_byte c.args.bytes.now c.loop-byte.byte-index 0 c.loop-byte-test.true) at c.loop-byte.invariant.0 in
-    Puts-refused c.from_residual.result _ _ _ c.from_residual.ensures.0 (HasPut-cut _ _ _ left c.in_err-put_byte.ensures.puts.0 c.in_err-put_byte.ensures.puts.1)
-
--- a byte was put
-pub loop-byte-preserved : goal.loop-byte-preserved
-loop-byte-preserved g c =
-    let left = rw (flat_map-drop show_byte c.args.bytes.now c.loop-byte.byte-index 0 c.loop-byte-test.true) at c.loop-byte.invariant.0 in
-    (HasPut-put _ _ _ left c.in_ok-put_byte.ensures.puts, c.in_ok-put_byte.ensures.counted ∙ c.loop-byte.invariant.1)
+-- the bytes stand for themselves
+pub returns-then-are_plain-clause-puts : goal.returns-then-are_plain-clause-puts
+returns-then-are_plain-clause-puts g c =
+    subst (λ (t : List ℕ). Puts c.put_all.result (g.W.ByteSink.contents c.args.writer.now) (g.W.ByteSink.contents c.put_all.new.writer) t)
+    (sym (shown_as_they_are c.args.bytes.now (sym c.are_plain.ensures ∙ c.if-are_plain.true))) c.put_all.ensures.puts

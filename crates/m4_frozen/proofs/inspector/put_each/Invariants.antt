@@ -2,7 +2,7 @@ use Rattle.std.proofs.Common.{◌≡◌, drop}
 use Rattle.std.specs.List.{flat_map}
 use Rattle.m4_state.specs.Device.{HasPut}
 use Rattle.m4_frozen.specs.Listing.{show_byte}
-use Rattle.m4_frozen.proofs.inspector.put_shown.Given as goal
+use Rattle.m4_frozen.proofs.inspector.put_each.Given as goal
 
 -- the bytes that are left are the rest of the text
 abbrev pub invariant-loop-byte : goal.invariant-loop-byte
