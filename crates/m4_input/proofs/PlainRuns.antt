@@ -1,8 +1,9 @@
 -- PlainRuns: tokens that stand for themselves, one behind the other.
-use Rattle.std.proofs.Common.{◌≡◌, ℕ, ◌+◌, List, [], ◌∷◌, ◌++◌, drop, refl, sym, ap, ◌∙◌, subst, arith}
+use Rattle.std.proofs.Common.{◌≡◌, inl, inr, ℕ, ◌+◌, List, [], ◌∷◌, ◌++◌, drop, refl, sym, ap, ◌∙◌, subst, arith}
 use Rattle.std.proofs.lemmas.List.{drop-drop}
 use Rattle.m4_state.specs.State.{State}
-use Rattle.m4_input.specs.Plain.{IsPlain, total, ArePlain, IsPlainRun}
+use Rattle.m4_input.specs.declared.plain.First.TheVariants as firsts
+use Rattle.m4_input.specs.Plain.{IsPlain, total, ArePlain, IsPlainRun, IsFirst}
 
 -- a token more
 longer : (s : State) (n : ℕ) (lens x : List ℕ) → ArePlain s lens x → IsPlain s n (drop (total lens) x) → ArePlain s (lens ++ n ∷ []) x × (total (lens ++ n ∷ []) ≡ total lens + n)
@@ -19,3 +20,11 @@ pub plain_more : (s : State) (k n : ℕ) (x : List ℕ) → IsPlainRun s k x →
 plain_more s k n x r p =
     let q = longer s n r.0 x r.1 (subst (λ (m : ℕ). IsPlain s n (drop m x)) (sym r.2) p) in
     (r.0 ++ n ∷ [], q.0, q.1 ∙ ap (λ (m : ℕ). m + n) r.2)
+
+-- a name more
+pub plain_word : (s : State) (k n : ℕ) (x y : List ℕ) → IsPlainRun s k x → y ≡ drop k x → IsFirst s y (firsts.Word n) → IsPlainRun s (k + n) x
+plain_word s k n x y r e h = plain_more s k n x r (subst (IsPlain s n) e (inl h))
+
+-- a byte more
+pub plain_byte : (s : State) (k b : ℕ) (x y : List ℕ) → IsPlainRun s k x → y ≡ drop k x → IsFirst s y (firsts.Byte b) → IsPlainRun s (k + 1) x
+plain_byte s k b x y r e h = plain_more s k 1 x r (subst (IsPlain s 1) e (inr (b, h.0, h.1)))

@@ -1,12 +1,16 @@
 -- Plain: tokens at the front of a text that stand for themselves.
 -- Not believed: it only says which turns a run may take at once, by the tokens of `scan`.
--- Words: IsPlain, total, ArePlain, IsPlainRun, is_inner, IsInner.
-use Rattle.std.specs.Prelude.{◌≡◌, ◌==◌, ◌||◌, ℕ, ◌+◌, Bool, true, false, not, List, [], ◌∷◌, None, take, drop, ◌⊎◌}
+-- Words: IsPlain, total, ArePlain, IsPlainRun, is_inner, IsInner, IsFirst, FirstLies.
+use Rattle.std.specs.Prelude.{◌≡◌, ◌==◌, ◌||◌, ◌<◌, ◌≤◌, ℕ, ◌+◌, Bool, true, false, not, List, [], ◌∷◌, Some, None, take, drop, ◌⊎◌}
 use Rattle.m4_state.specs.State.{State, top_of}
 use Rattle.m4_input.specs.declared.token.Token.TheVariants.{Name, Str, Byte}
 use Rattle.m4_input.specs.declared.front.Scan.TheVariants.{Found}
 use Rattle.m4_input.specs.Ascii.{open_parenthesis, close_parenthesis, comma, is_space}
 use Rattle.m4_input.specs.Token.{scan}
+use Rattle.m4_input.specs.Paren.{paren_in}
+use Rattle.m4_input.specs.Input.{answer_of}
+use Rattle.m4_input.specs.declared.plain.First.{First}
+use Rattle.m4_input.specs.declared.plain.First.TheVariants as firsts
 
 -- the first token, of n bytes, is a name that has no definition, or a byte that is no other token
 abbrev pub IsPlain : State → ℕ → List ℕ → Type 0
@@ -38,3 +42,21 @@ IsInner s n x y =
     (scan s.quotes s.comments false y ≡ Found (Str x) n)
     ⊎ (((scan s.quotes s.comments false y ≡ Found (Name x) n) × (top_of s x ≡ None))
     ⊎ ((b : ℕ) × (scan s.quotes s.comments false y ≡ Found (Byte b) n) × (x ≡ b ∷ []) × (is_inner b ≡ true)))
+
+-- what one look tells of the first token
+abbrev pub IsFirst : State → List ℕ → First → Type 0
+IsFirst s x (firsts.Word n) = (scan s.quotes s.comments false x ≡ Found (Name (take n x)) n) × (top_of s (take n x) ≡ None)
+IsFirst s x (firsts.Byte b) = (scan s.quotes s.comments false x ≡ Found (Byte b) 1) × (take 1 x ≡ b ∷ [])
+IsFirst s x (firsts.Quoted begin len all) = scan s.quotes s.comments false x ≡ Found (Str (take len (drop begin x))) all
+IsFirst s x (firsts.Called n listed d) =
+    (scan s.quotes s.comments false x ≡ Found (Name (take n x)) n) × (top_of s (take n x) ≡ Some d.now)
+    × (paren_in s.quotes s.comments false (drop n x) ≡ answer_of listed)
+IsFirst s x firsts.Other = Unit {0}
+
+-- it lies within a text of so many bytes
+abbrev pub FirstLies : ℕ → First → Type 0
+FirstLies m (firsts.Word n) = (0 < n) × (n ≤ m)
+FirstLies m (firsts.Byte b) = 0 < m
+FirstLies m (firsts.Quoted begin len all) = (begin + len ≤ m) × (all ≤ m)
+FirstLies m (firsts.Called n listed d) = n ≤ m
+FirstLies m firsts.Other = Unit {0}

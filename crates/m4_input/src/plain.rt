@@ -1,9 +1,11 @@
 //! Tokens that stand for themselves: names that have no definition, and bytes that are no other
 //! token. What a run puts out for them is what it reads, so that it can take many at once.
 
-ghost use Rattle.std.specs.Prelude.{◌≡◌, ◌+◌, ◌<◌, ◌≤◌, ◌∷◌, List, ℕ, false, IfSome, length, take, drop};
+ghost use Rattle.std.specs.Prelude.{◌≡◌, ◌+◌, ◌<◌, ◌≤◌, ◌∷◌, List, ℕ, true, false, IfSome, length, take, drop};
 ghost use Rattle.m4_input.specs.DelimsView.{pair_of};
-ghost use Rattle.m4_input.specs.Plain.{IsPlain, IsPlainRun, is_inner, IsInner};
+ghost use Rattle.m4_input.specs.Input.{answer_of};
+ghost use Rattle.m4_input.specs.Paren.{paren_in};
+ghost use Rattle.m4_input.specs.Plain.{IsPlainRun, IsFirst, FirstLies, is_inner, IsInner};
 ghost use Rattle.m4_input.specs.declared.front.Scan.TheVariants.{Found};
 ghost use Rattle.m4_input.specs.declared.token.Token.TheVariants.{Str};
 ghost use Rattle.m4_input.specs.Token.{scan, starts_with};
@@ -11,65 +13,106 @@ ghost use Rattle.m4_input.specs.Token.{scan, starts_with};
 use crate::delims::Delims;
 use crate::front::Kind;
 use crate::window::{Window, is_letter_byte, word_len};
+use m4_state::definition::Def;
 use m4_state::state::State;
 
-/// How many bytes at the front are such tokens. It looks no further behind the token that reaches
-/// `most`, and may stop in front of a byte that a delimiter begins with.
-pub fn plain_len(text: &[u8], state: &State, most: usize) -> usize
+/// The first token of a text, as far as one look tells it.
+#[derive(Clone, Copy, Debug)]
+pub enum First<'a> {
+    /// A name that has no definition, of so many bytes.
+    Word(usize),
+    /// A byte that belongs to no other token.
+    Byte(u8),
+    /// A string: how many bytes its begin-quote has, its text, and the whole.
+    Quoted(usize, usize, usize),
+    /// A name of so many bytes, whether an argument list follows it, and its definition.
+    Called(usize, bool, &'a Def),
+    /// Any other token, or what may begin with a delimiter.
+    Other,
+}
+
+/// How many bytes at the front are tokens that stand for themselves, and what stands behind them. It
+/// looks no further behind the token that reaches `most`.
+pub fn plain_run<'a>(text: &[u8], state: &'a State, most: usize) -> (usize, First<'a>)
     // exact steps: tokens of the definition `scan`, each a name without a definition or a byte
-    ensures plain { IsPlainRun state.now result text.now }
-    ensures within { result ≤ length text.now }
+    ensures plain { IsPlainRun state.now result.0 text.now }
+    ensures within { result.0 ≤ length text.now }
+    ensures behind { IsFirst state.now (drop result.0 text.now) result.1 }
+    ensures lies { FirstLies (length (drop result.0 text.now)) result.1 }
 {
     let delims = Delims::of(state);
     let mut len = 0;
-    while let Some(n) = token_len(text.split_at(len).1, state, &delims) {
-        len += n;
-        if len >= most {
-            break;
+    while len < most {
+        match first_token(text.split_at(len).1, state, &delims) {
+            First::Word(n) => len += n,
+            First::Byte(_) => len += 1,
+            first => return (len, first),
         }
     }
-    len
+    (len, First::Other)
 }
 
-/// How many bytes the first token has, if it is such a one.
-fn token_len(text: &[u8], state: &State, delims: &Delims<'_>) -> Option<usize>
+/// The first token, where it is no string.
+fn first_token<'a>(text: &[u8], state: &'a State, delims: &Delims<'_>) -> First<'a>
     requires quotes { pair_of delims.now.quotes ≡ state.now.quotes }
     requires comments { pair_of delims.now.comments ≡ state.now.comments }
-    ensures plain { IfSome result (λ n. IsPlain state.now n text.now) }
-    ensures some { IfSome result (λ n. 0 < n) }
-    ensures within { IfSome result (λ n. n ≤ length text.now) }
+    ensures first { IsFirst state.now text.now result }
+    ensures lies { FirstLies (length text.now) result }
 {
-    let first = *text.first()?;
-    if may_begin(first, &delims.comments) || may_begin(first, &delims.quotes) {
-        return None;
+    let Some(first) = text.first() else {
+        return First::Other;
+    };
+    if may_begin(*first, &delims.comments) || may_begin(*first, &delims.quotes) {
+        return First::Other;
     }
-    if !is_letter_byte(first) {
-        return Some(1);
+    if !is_letter_byte(*first) {
+        return First::Byte(*first);
     }
     let len = word_len(text);
-    match state.top(text.split_at(len).0) {
-        None => Some(len),
-        Some(_) => None,
+    let (name, behind) = text.split_at(len);
+    match state.top(name) {
+        None => First::Word(len),
+        Some(definition) => First::Called(len, sees_paren(behind, delims), definition),
     }
 }
 
-/// The first token, where it is text wherever it stands in an argument list: in front of how many
-/// bytes its text stands, how many that has, and how many the token has.
-pub fn inner_text(text: &[u8], state: &State) -> Option<(usize, usize, usize)>
-    // exact steps: a string, or what stands for itself and means nothing in a list
-    ensures inner { IfSome result (λ t. IsInner state.now t.2 (take t.1 (drop t.0 text.now)) text.now) }
-    ensures within { IfSome result (λ t. (t.0 + t.1 ≤ length text.now) × (t.2 ≤ length text.now)) }
+/// Whether the first token is a parenthesis that opens.
+fn sees_paren(text: &[u8], delims: &Delims<'_>) -> bool
+    ensures { paren_in (pair_of delims.now.quotes) (pair_of delims.now.comments) false text.now ≡ answer_of result }
+{
+    Window::new(&[], text).sees_paren(delims)
+}
+
+/// The first token, where an argument list is read.
+pub fn first_in_list<'a>(text: &[u8], state: &'a State) -> First<'a>
+    // exact steps: the token of the definition `scan`, with what is known of its name
+    ensures first { IsFirst state.now text.now result }
+    ensures lies { FirstLies (length text.now) result }
 {
     let delims = Delims::of(state);
-    let first = *text.first()?;
-    if may_begin(first, &delims.quotes) {
-        return string_text(text, &delims);
+    match text.first() {
+        Some(first) if may_begin(*first, &delims.quotes) => match string_text(text, &delims) {
+            Some((begin, len, all)) => First::Quoted(begin, len, all),
+            None => First::Other,
+        },
+        _ => first_token(text, state, &delims),
     }
-    if !is_inner(first) {
-        return None;
+}
+
+/// In front of how many bytes a token's text stands, how many that has, and how many the token has,
+/// where it is text wherever it stands in an argument list.
+pub fn inner_text(first: &First<'_>) -> Option<(usize, usize, usize)>
+    // exact steps: a string, or what stands for itself and means nothing in a list
+    ensures inner { IfSome result (λ t. (s : State) (x : List ℕ) → IsFirst s x first.now
+        → IsInner s t.2 (take t.1 (drop t.0 x)) x) }
+    ensures within { IfSome result (λ t. (n : ℕ) → FirstLies n first.now → (t.0 + t.1 ≤ n) × (t.2 ≤ n)) }
+{
+    match *first {
+        First::Quoted(begin, len, all) => Some((begin, len, all)),
+        First::Word(len) => Some((0, len, len)),
+        First::Byte(byte) if is_inner(byte) => Some((0, 1, 1)),
+        First::Byte(_) | First::Called(..) | First::Other => None,
     }
-    let len = token_len(text, state, &delims)?;
-    Some((0, len, len))
 }
 
 /// Whether a byte means nothing in an argument list.
@@ -79,7 +122,7 @@ fn is_inner(byte: u8) -> bool
     !matches!(byte, b'(' | b')' | b',' | b' ' | 9..=13)
 }
 
-/// The same of a string.
+/// The string at the front.
 fn string_text(text: &[u8], delims: &Delims<'_>) -> Option<(usize, usize, usize)>
     ensures string { IfSome result (λ t. scan (pair_of delims.now.quotes) (pair_of delims.now.comments) false text.now
         ≡ Found (Str (take t.1 (drop t.0 text.now))) t.2) }

@@ -1,7 +1,8 @@
-//! Rows by hand: how much of a text stands for itself, and which first token is text in a list.
+//! Rows by hand: how much of a text stands for itself and what stands behind it, and which first token
+//! is text in a list.
 //! Manual: "How m4 copies input to output", "Macro arguments".
 
-use super::{inner_text, plain_len};
+use super::{First, first_in_list, inner_text, plain_run};
 use m4_state::bytes::Bytes;
 use m4_state::definition::Def;
 use m4_state::state::State;
@@ -50,7 +51,17 @@ fn with_f(alloc: Global) -> Result<State, Fail> {
 
 // How many bytes of a text stand for themselves, up to the token that reaches `most`.
 fn len_of(alloc: Global, text: &[u8], most: usize) -> Result<usize, Fail> {
-    Ok(plain_len(text, &with_f(alloc)?, most))
+    Ok(plain_run(text, &with_f(alloc)?, most).0)
+}
+
+// Whether behind what stands for itself `f` is called, with a list or without.
+fn is_called(alloc: Global, text: &[u8], with_list: bool) -> Result<bool, Fail> {
+    Ok(match plain_run(text, &with_f(alloc)?, 100).1 {
+        First::Called(len, listed, Def::Text(value)) => {
+            len == 1 && listed == with_list && value.as_slice() == b"x".as_slice()
+        }
+        _ => false,
+    })
 }
 
 #[test]
@@ -69,10 +80,30 @@ fn it_stops_behind_the_token_that_reaches_the_most(rt: HostRuntime) -> Result<()
 }
 
 #[test]
+fn a_call_behind_them_is_seen(rt: HostRuntime) -> Result<(), Fail> {
+    assert!(rt; is_called(rt.alloc(), b"a f", false)?);
+    assert!(rt; is_called(rt.alloc(), b"a f(b)", true)?);
+    assert!(rt; is_called(rt.alloc(), b"f (b)", false)?);
+    assert!(rt; !is_called(rt.alloc(), b"a ff(b)", true)?);
+    assert!(rt; !is_called(rt.alloc(), b"a `f'", false)?);
+    Ok(())
+}
+
+#[test]
+fn bytes_that_mean_something_in_a_list(rt: HostRuntime) -> Result<(), Fail> {
+    let state = with_f(rt.alloc())?;
+    for byte in b"(), \n" {
+        let text = [*byte, b'f'];
+        assert!(rt; matches!(first_in_list(&text, &state), First::Byte(b) if b == *byte));
+    }
+    Ok(())
+}
+
+#[test]
 fn tokens_that_are_text_in_a_list(rt: HostRuntime) -> Result<(), Fail> {
     let state = with_f(rt.alloc())?;
     for (text, want) in TOKENS {
-        assert!(rt; inner_text(text, &state) == want);
+        assert!(rt; inner_text(&first_in_list(text, &state)) == want);
     }
     Ok(())
 }
