@@ -1,6 +1,6 @@
 -- Bare: a text that is called with no list, as the definitions' move.
-use Rattle.std.proofs.Common.{◌≡◌, ℕ, true, false, List, [], Some, None, refl, sym, ap, ◌∙◌}
-use Rattle.std.specs.Prelude.{nat_lt, Result, IfOk}
+use Rattle.std.proofs.Common.{◌≡◌, ℕ, Bool, true, false, List, [], Some, None, refl, sym, ap, ◌∙◌}
+use Rattle.std.specs.Prelude.{nat_lt, not, ◌&&◌, Result, IfOk}
 use Rattle.m4_state.specs.declared.definition.Def.{Def}
 use Rattle.m4_state.specs.declared.definition.Def.TheVariants.{Text}
 use Rattle.m4_state.specs.declared.delimiters.Delimiters.{Delimiters}
@@ -15,7 +15,7 @@ use Rattle.m4_engine.specs.declared.turned.Turned.TheVariants as turns
 use Rattle.m4_engine.specs.Nesting.{Closed}
 use Rattle.m4_engine.specs.Expansion.{Call, Expansion, reading}
 use Rattle.m4_engine.specs.Expand.{skip_or_push, call}
-use Rattle.m4_engine.specs.Engine.{Engine, outer_of, here_of, counting, with_made, is_deep_in, called_within, step, Moves}
+use Rattle.m4_engine.specs.Engine.{Engine, outer_of, here_of, counting, with_made, is_deep_in, is_bare, called_within, step, Moves}
 use Rattle.m4_engine.proofs.Acts.{called_goes}
 use Rattle.m4_engine.proofs.Calling.{bare_made}
 
@@ -40,3 +40,13 @@ substituted_by t x n name l list q r h i j f g =
     ∙ ap (λ (y : List Arg). substituted t name y q) j
     ∙ ap (λ (y : List ℕ). let d : Delimiters = record { begin = y; end = q.end } in substituted t name list d) f
     ∙ ap (λ (y : List ℕ). let d : Delimiters = record { begin = r.begin; end = y } in substituted t name list d) g
+
+-- a call that is bare has no list, and the limits leave it
+pub bare_fits : (listed : Bool) (e : Engine) → is_bare listed e ≡ true → (listed ≡ false) × (nat_lt e.calls (e.limits).calls ≡ true) × (is_deep_in e ≡ false)
+bare_fits listed e h = by_parts listed (nat_lt e.calls (e.limits).calls) (is_deep_in e) h
+  where
+    by_parts : (l r d : Bool) → not l && (r && not d) ≡ true → (l ≡ false) × (r ≡ true) × (d ≡ false)
+    by_parts true r d e = cc
+    by_parts false false d e = cc
+    by_parts false true true e = cc
+    by_parts false true false e = (refl, refl, refl)

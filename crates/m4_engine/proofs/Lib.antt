@@ -32,6 +32,7 @@ pub mod Begins
 pub mod Passing
 pub mod Running
 pub mod SavesNothing
+pub mod Seen
 pub mod Sessions
 pub mod Issues
 pub mod Sources

@@ -32,7 +32,7 @@ abbrev with_output : List ℕ → Engine → Engine
 with_output x e = record e { output = e.output ++ x }
 
 -- the token at the front, where nothing stands before the text
-found_at : (s : State) (p : Pending) (v : Scan) → p.definition ≡ None → p.may_follow ≡ false → scan s.quotes s.comments false (text_of p) ≡ v → token_at s.quotes s.comments p ≡ front_by p v
+pub found_at : (s : State) (p : Pending) (v : Scan) → p.definition ≡ None → p.may_follow ≡ false → scan s.quotes s.comments false (text_of p) ≡ v → token_at s.quotes s.comments p ≡ front_by p v
 found_at s p v d f e =
     ap (λ o. front_from o s.quotes s.comments p) d
     ∙ ap (λ b. front_by p (scan s.quotes s.comments b (text_of p))) f

@@ -4,12 +4,12 @@
 //! `specs/`, and what is proved of these alone in [`laws`]. Manual: "Macro invocation", "Macro arguments".
 #![tactic(auto)]
 
+mod ahead;
 mod call;
 mod driver;
 pub mod ending;
 pub mod laws;
 mod machine;
-mod meaning;
 pub mod options;
 mod plain;
 mod role;

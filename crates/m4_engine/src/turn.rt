@@ -1,7 +1,7 @@
 //! One turn of an expansion: the first token of what is pending, and what it does.
 //! Manual: "Macro invocation", "Macro arguments", "How m4 copies input to output".
 
-ghost use Rattle.std.specs.Prelude.{◌≡◌, ◌<◌, ◌&&◌, not, nat_lt, suc, List, ℕ, [], ◌∷◌, ◌++◌, None, Ok, IfOk, OnOk, IfSome, true, false, length, codes};
+ghost use Rattle.std.specs.Prelude.{◌≡◌, ◌<◌, ◌&&◌, not, nat_lt, suc, List, ℕ, [], ◌∷◌, ◌++◌, None, Some, Ok, IfOk, OnOk, IfSome, true, false, length, codes};
 ghost use Rattle.std.specs.Fmt.{decimal};
 ghost use Rattle.m4_state.specs.State.{top_of};
 ghost use Rattle.m4_input.specs.Paren.{paren_at};
@@ -9,7 +9,7 @@ ghost use Rattle.m4_input.specs.Token.{Refused};
 ghost use Rattle.m4_builtins.specs.Messages.{error};
 ghost use Rattle.m4_input.specs.Input.{Held, answer_of};
 ghost use Rattle.m4_input.specs.Pending.{Pending, line_of, consumed};
-ghost use Rattle.m4_engine.specs.Engine.{Moves, IsFront, IsMade, IsToken, IsReady, moved, configuration, Stays, with_made, ending_argument, telling, counting, calls_text, nested_text, is_deep_in, IfHead, IsMeaning, mode_of, close_in, step, here_of, outer_of, called_within};
+ghost use Rattle.m4_engine.specs.Engine.{Moves, IsFront, IsMade, IsToken, IsReady, moved, configuration, Stays, with_made, ending_argument, telling, counting, calls_text, nested_text, is_deep_in, IfHead, IsMeaning, IsAhead, is_bare, mode_of, close_in, step, here_of, outer_of, called_within};
 ghost use Rattle.m4_builtins.specs.Act.{IsPushed};
 ghost use Rattle.m4_builtins.specs.Subst.{subst};
 ghost use Rattle.m4_state.specs.declared.definition.Def.TheVariants.{Text};
@@ -17,10 +17,10 @@ ghost use Rattle.m4_engine.specs.Nesting.{Closed};
 ghost use Rattle.m4_engine.specs.Expansion.{Call, Expansion, reading};
 ghost use Rattle.m4_engine.specs.Expand.{skip_or_push, take_token, take_front, take_name, take_other, take_end, call as call_turn, call_of, needs_list};
 
+use crate::ahead::{Ahead, Meaning, Named};
 use crate::call::OpenCall;
 use crate::ending::Cause;
 use crate::machine::Machine;
-use crate::meaning::Meaning;
 use crate::role::Role;
 use crate::turned::{TurnFault, Turned};
 use itoa::Buffer;
@@ -324,21 +324,81 @@ impl Machine {
         ensures made { IfOk result IsMade }
     {
         let listed = self.sees_list(input, reader)?;
+        let Some(definition) = self.state.top(name.as_slice()) else {
+            self.put_text(name.as_slice())?;
+            return Ok(Turned::GoesOn);
+        };
+        let named = self.named(name, listed, definition)?;
+        self.take_named(named, line, input, reader)
+    }
+
+    /// A name that has a definition, with what that gives where it is a text and no list follows.
+    pub fn named(&self, name: Bytes, listed: bool, definition: &Def) -> Result<Named, TurnFault>
+        requires { top_of self.now.state name ≡ Some definition.now }
+        ensures value { IfOk result (λ n. (n.name ≡ name) × (n.listed ≡ listed)) }
+        ensures meaning { IfOk result (λ n. IsMeaning n.meaning (is_bare listed self.now) self.now.state name) }
+    {
         let list = ArgList::from(Vec::new(self.alloc));
         let args = Args { name, list };
-        let definition = match self.meaning(&args, self.may_expand(listed))? {
-            Meaning::Nothing => {
-                self.put_text(args.name.as_slice())?;
-                return Ok(Turned::GoesOn);
+        let meaning = self.meaning(&args, self.may_expand(listed), definition)?;
+        let Args { name, .. } = args;
+        Ok(Named {
+            name,
+            listed,
+            meaning,
+        })
+    }
+
+    /// What a name with this definition stands for. Of a text that is called with no list it is what
+    /// the call gives, with no copy of the text.
+    fn meaning(&self, args: &Args, bare: bool, definition: &Def) -> Result<Meaning, TurnFault>
+        requires top { top_of self.now.state args.now.name ≡ Some definition.now }
+        requires list { args.now.list ≡ [] }
+        ensures { IfOk result (λ v. IsMeaning v bare self.now.state args.now.name) }
+    {
+        let _in_order = self.state.current();
+        match definition {
+            Def::Text(text) if bare => {
+                let text = substitute(self.alloc, text.as_slice(), args, self.state.quotes())?;
+                Ok(Meaning::Expansion(text))
             }
+            _ => Ok(Meaning::Definition(definition.share()?)),
+        }
+    }
+
+    /// A name that has a definition, behind which stands what is pending.
+    pub fn take_named<R: ByteSource>(
+        &mut self,
+        named: Named,
+        line: u64,
+        input: &mut Input,
+        reader: &mut R,
+    ) -> Result<Turned, TurnFault>
+        requires ready { IsReady input.old }
+        requires taken { input.old.pending.definition ≡ None }
+        requires list { paren_at self.old.state.quotes self.old.state.comments input.old.pending ≡ answer_of named.listed }
+        requires meaning { IsMeaning named.meaning (is_bare named.listed self.old) self.old.state named.name }
+        ensures moves { IfOk result (λ t. (before : Pending) → line ≡ line_of before
+            → before.file ≡ input.old.pending.file → Moves self.new input.new.pending t
+            (λ o m. step (outer_of self.old.open_calls)
+            (take_name (top_of self.old.state named.name) named.name input.old.pending (here_of o m self.old before)))) }
+        ensures ready { result ≡ Ok Turned.GoesOn → Stays input.old input.new }
+        ensures limits { OnOk result (self.new.limits ≡ self.old.limits) }
+        ensures made { IfOk result IsMade }
+    {
+        let Named {
+            name,
+            listed,
+            meaning,
+        } = named;
+        let definition = match meaning {
             Meaning::Expansion(text) => return self.take_expansion(text, input, reader),
             Meaning::Definition(definition) => definition,
         };
         if !listed && needs_list(&definition) {
-            self.put_text(args.name.as_slice())?;
+            self.put_text(name.as_slice())?;
             return Ok(Turned::GoesOn);
         }
-        let Args { name, .. } = args;
         let file = Bytes::from_slice(self.alloc, input.name())?;
         let call = OpenCall::new(self.alloc, definition, name, Place { file, line });
         self.take_call(call, listed, input, reader)
@@ -346,27 +406,9 @@ impl Machine {
 
     /// Whether a call can be made with no list, within the limits.
     fn may_expand(&self, listed: bool) -> bool
-        ensures value { result ≡ (not listed && (nat_lt self.now.calls self.now.limits.calls && not (is_deep_in self.now))) }
-        ensures room { result ≡ true → (listed ≡ false)
-            × (nat_lt self.now.calls self.now.limits.calls ≡ true) × (is_deep_in self.now ≡ false) }
+        ensures value { result ≡ is_bare listed self.now }
     {
         !listed && self.has_room() && !self.is_deep()
-    }
-
-    /// What a name stands for. Of a text that is called with no list it is what the call gives, with
-    /// no copy of the text.
-    fn meaning(&self, args: &Args, bare: bool) -> Result<Meaning, TurnFault>
-        ensures { IfOk result (λ v. IsMeaning v bare self.now.state args.now.name args.now.list) }
-    {
-        let _in_order = self.state.current();
-        match self.state.top(args.name.as_slice()) {
-            None => Ok(Meaning::Nothing),
-            Some(Def::Text(text)) if bare => {
-                let text = substitute(self.alloc, text.as_slice(), args, self.state.quotes())?;
-                Ok(Meaning::Expansion(text))
-            }
-            Some(definition) => Ok(Meaning::Definition(definition.share()?)),
-        }
     }
 
     /// What a call with no list gives, for a definition that is a text.
@@ -477,10 +519,12 @@ impl Machine {
     /// One turn: the first token of what is pending, and what it does.
     pub fn turn<R: ByteSource>(
         &mut self,
+        ahead: Ahead,
         input: &mut Input,
         reader: &mut R,
     ) -> Result<Turned, TurnFault>
-        requires { IsReady input.old }
+        requires ready { IsReady input.old }
+        requires ahead { IsAhead ahead self.old input.old.pending }
         ensures moves { IfOk result (λ t. Moves self.new input.new.pending t
             (λ o m. moved (configuration o m self.old input.old.pending))) }
         ensures ready { result ≡ Ok Turned.GoesOn → IsReady input.new }
@@ -488,6 +532,34 @@ impl Machine {
         ensures made { IfOk result IsMade }
     {
         let line = input.line();
+        match ahead {
+            Ahead::Unknown => self.take_next(line, input, reader),
+            Ahead::Byte(byte) => {
+                input.consume(1);
+                self.take_token(Token::Byte(byte), line, input, reader)
+            }
+            Ahead::Named(named) => {
+                input.consume(named.name.as_slice().len());
+                self.take_named(named, line, input, reader)
+            }
+        }
+    }
+
+    /// The first token of what is pending, of which nothing is known, and what it does.
+    fn take_next<R: ByteSource>(
+        &mut self,
+        line: u64,
+        input: &mut Input,
+        reader: &mut R,
+    ) -> Result<Turned, TurnFault>
+        requires ready { IsReady input.old }
+        requires line { line ≡ line_of input.old.pending }
+        ensures moves { IfOk result (λ t. Moves self.new input.new.pending t
+            (λ o m. moved (configuration o m self.old input.old.pending))) }
+        ensures ready { result ≡ Ok Turned.GoesOn → IsReady input.new }
+        ensures limits { OnOk result (self.new.limits ≡ self.old.limits) }
+        ensures made { IfOk result IsMade }
+    {
         let front = input.next(reader, &Delims::of(&self.state));
         match front {
             Ok(token) => self.take_token(token, line, input, reader),

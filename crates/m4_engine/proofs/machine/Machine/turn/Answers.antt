@@ -1,21 +1,21 @@
-use Rattle.std.proofs.Common.{rules}
-use Rattle.m4_input.specs.declared.front.Unended.TheVariants.{InString, InComment}
-use Rattle.m4_input.specs.DelimsView.{pair_of}
-use Rattle.m4_engine.proofs.Taken.{next_taken}
-use Rattle.m4_engine.proofs.Turning.{turn_taken, turn_unended, string_unended, comment_unended}
+use Rattle.std.proofs.Common.{rules, refl}
+use Rattle.m4_input.specs.declared.token.Token.TheVariants.{Name, Byte}
+use Rattle.m4_engine.proofs.Seen.{byte_front, name_front, name_list}
+use Rattle.m4_engine.proofs.Turning.{turn_taken}
 use Rattle.m4_engine.proofs.machine.Machine.turn.Goals as goal
 
-pub returns-in-Ok-clause-moves : goal.returns-in-Ok-clause-moves
-returns-in-Ok-clause-moves g c =
-    let h = next_taken (pair_of c.of.result.quotes) (pair_of c.of.result.comments) _ _ c.args.input.now c.next-front.new.self c.in-Ok.token c.requires c.in-Ok.ensures.gives in
-    turn_taken c.args.self.now c.take_token.new.self (pair_of c.of.result.quotes) (pair_of c.of.result.comments) c.in-Ok.token c.line-line.result c.args.input.now.pending c.next-front.new.self.pending c.take_token.new.input.pending c.take_token.result (search rules) (search rules) h.0 c.line-line.ensures h.1.file c.take_token.ensures.moves
+pub returns-in-Byte-clause-moves : goal.returns-in-Byte-clause-moves
+returns-in-Byte-clause-moves g c =
+    let e = c.args.self.now in
+    turn_taken e c.take_token.new.self e.state.quotes e.state.comments (Byte c.in-Byte.byte) c.line-line.result c.args.input.now.pending c.consume.new.self.pending c.take_token.new.input.pending c.take_token.result refl refl
+    (byte_front c.args.ahead e c.args.input.now.pending c.consume.new.self.pending c.in-Byte.byte c.in-Byte.is c.requires.ready.closed (search rules) c.requires.ahead) c.line-line.ensures (search rules) c.take_token.ensures.moves
 
-pub returns-in-Err-EndInString-clause-moves : goal.returns-in-Err-EndInString-clause-moves
-returns-in-Err-EndInString-clause-moves g c =
-    let h = string_unended (pair_of c.of.result.quotes) (pair_of c.of.result.comments) _ _ c.args.input.now c.next-front.new.self c.next-front.result c.in-Err-EndInString.line c.requires (search rules) c.next-front.ensures.gives in
-    turn_unended c.args.self.now c.take_unended.new.self (pair_of c.of.result.quotes) (pair_of c.of.result.comments) InString c.in-Err-EndInString.line c.args.input.now.pending c.next-front.new.self.pending c.next-front.new.self.pending c.take_unended.result (search rules) (search rules) h.0 h.1 c.take_unended.ensures.moves
+pub take_named-requires-clause-list : goal.take_named-requires-clause-list
+take_named-requires-clause-list g c = name_list c.args.ahead c.args.self.now c.args.input.now.pending c.consume-in-Named.new.self.pending c.in-Named.named c.in-Named.is c.requires.ready.closed (search rules) c.requires.ahead
 
-pub returns-in-Err-EndInComment-clause-moves : goal.returns-in-Err-EndInComment-clause-moves
-returns-in-Err-EndInComment-clause-moves g c =
-    let h = comment_unended (pair_of c.of.result.quotes) (pair_of c.of.result.comments) _ _ c.args.input.now c.next-front.new.self c.next-front.result c.in-Err-EndInComment.line c.requires (search rules) c.next-front.ensures.gives in
-    turn_unended c.args.self.now c.take_unended-in-Err-EndInComment.new.self (pair_of c.of.result.quotes) (pair_of c.of.result.comments) InComment c.in-Err-EndInComment.line c.args.input.now.pending c.next-front.new.self.pending c.next-front.new.self.pending c.take_unended-in-Err-EndInComment.result (search rules) (search rules) h.0 h.1 c.take_unended-in-Err-EndInComment.ensures.moves
+pub returns-in-Named-clause-moves : goal.returns-in-Named-clause-moves
+returns-in-Named-clause-moves g c =
+    let e = c.args.self.now in
+    let n = c.in-Named.named in
+    turn_taken e c.take_named.new.self e.state.quotes e.state.comments (Name n.name) c.line-line.result c.args.input.now.pending c.consume-in-Named.new.self.pending c.take_named.new.input.pending c.take_named.result refl refl
+    (name_front c.args.ahead e c.args.input.now.pending c.consume-in-Named.new.self.pending n c.in-Named.is c.requires.ready.closed (search rules) c.requires.ahead) c.line-line.ensures (search rules) c.take_named.ensures.moves
