@@ -7,6 +7,7 @@
 mod call;
 mod driver;
 pub mod ending;
+mod head;
 pub mod laws;
 mod machine;
 mod meaning;
