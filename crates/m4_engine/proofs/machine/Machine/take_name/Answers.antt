@@ -21,6 +21,6 @@ returns-in-Expansion-clause-moves g c =
 
 pub returns-clause-moves : goal.returns-clause-moves
 returns-clause-moves g c =
-    let at : Place = record { file = c.in_ok-file.file; line = c.args.line } in
+    let at : Place = record { file = name_of c.args.input.now.pending; line = c.args.line } in
     name_called c.args.self.now c.take_call.new.self c.in-Definition.definition c.args.name c.in_ok-listed.listed c.args.input.now.pending c.sees_list.new.input.pending c.take_call.new.input.pending at c.new-call.result c.take_call.result
     (search rules) (search rules) (search rules) (search rules) (search rules) (search rules) c.take_call.ensures.moves
