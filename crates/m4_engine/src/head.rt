@@ -189,3 +189,6 @@ impl Head {
         }
     }
 }
+
+#[cfg(test)]
+mod tests;
