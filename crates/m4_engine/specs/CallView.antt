@@ -6,9 +6,9 @@ use Rattle.m4_engine.specs.Expansion.{Call}
 -- a call whose arguments are being collected
 abbrev pub call_view : Inside → Call
 call_view c = record {
-  definition = c.definition;
-  name = c.name;
-  place = c.place;
+  definition = (c.head).definition;
+  name = (c.head).name;
+  place = (c.head).place;
   done = c.done.items;
   parentheses = c.parentheses;
   begun = c.begun;

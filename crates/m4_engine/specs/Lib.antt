@@ -10,6 +10,8 @@ pub mod Run
 pub mod Settled
 pub mod Carries
 pub mod Laws
+pub mod CallHead
+pub mod HeadView
 pub mod CallView
 pub mod Engine
 pub mod MachineView

@@ -9,21 +9,19 @@ ghost use Rattle.m4_engine.specs.Args.{role_of, argument_of, dropped_if_any, wit
 ghost use Rattle.m4_engine.specs.Engine.{IsCall, told_if};
 ghost use Rattle.m4_engine.specs.Expand.{call_of};
 
+use crate::head::Head;
 use crate::role::Role;
-use m4_builtins::args::{Arg, ArgList, Args};
-use m4_builtins::place::Place;
+use m4_builtins::args::{Arg, ArgList};
 use m4_state::bytes::Bytes;
 use m4_state::definition::Def;
 use std::alloc::{AllocError, Global};
 use std::marker::Model;
 
-/// A call before its list is closed: the definition, the name and the place as they were when the
-/// name was read, the arguments that are complete, and what the next one has so far.
+/// A call before its list is closed: what it was when its name was read, the arguments that are
+/// complete, and what the next one has so far.
 #[derive(Debug)]
 pub struct OpenCall {
-    pub definition: Def,
-    pub name: Bytes,
-    pub place: Place,
+    pub head: Head,
     pub done: Vec<Arg>,
     pub parentheses: usize,
     pub begun: bool,
@@ -48,9 +46,7 @@ impl Model for OpenCall {
 impl Drop for OpenCall {
     fn drop(self) {
         let OpenCall {
-            definition: _definition,
-            name: _name,
-            place: _place,
+            head: _head,
             done: _done,
             parentheses: _parentheses,
             begun: _begun,
@@ -62,27 +58,18 @@ impl Drop for OpenCall {
 
 impl OpenCall {
     /// A call of which no argument was read yet.
-    pub fn new(alloc: Global, definition: Def, name: Bytes, place: Place) -> OpenCall
-        requires { IsDefinition definition }
-        ensures { result ≡ call_of definition name place }
+    pub fn new(alloc: Global, head: Head) -> OpenCall
+        ensures { result ≡ call_of head.definition head.name head.place }
     {
+        let _in_order = head.line();
         OpenCall {
-            definition,
-            name,
-            place,
+            head,
             done: Vec::new(alloc),
             parentheses: 0,
             begun: false,
             bytes: Vec::new(alloc),
             tokens: Vec::new(alloc),
         }
-    }
-
-    /// Where the call stands.
-    pub fn place(&self) -> &Place
-        ensures { result.now ≡ self.now.place }
-    {
-        &self.place
     }
 
     /// What a byte means here, where it belongs to no other token.
@@ -190,26 +177,22 @@ impl OpenCall {
         Ok(drops)
     }
 
-    /// The definition, the name with the arguments, and the place of a call whose list is complete.
-    pub fn into_parts(self) -> (Def, Args, Place)
-        ensures definition { result.0 ≡ self.definition }
-        ensures name { result.1.name ≡ self.name }
-        ensures list { result.1.list ≡ self.done }
-        ensures place { result.2 ≡ self.place }
-        ensures valid { IsDefinition result.0 }
-        ensures arguments { AllByRecursion IsArg result.1.list }
+    /// What a call was when its name was read, and its arguments, once its list is complete.
+    pub fn into_parts(self) -> (Head, ArgList)
+        ensures definition { result.0.definition ≡ self.definition }
+        ensures name { result.0.name ≡ self.name }
+        ensures place { result.0.place ≡ self.place }
+        ensures list { result.1 ≡ self.done }
+        ensures arguments { AllByRecursion IsArg result.1 }
     {
         let OpenCall {
-            definition,
-            name,
-            place,
+            head,
             done,
             parentheses: _parentheses,
             begun: _begun,
             bytes: _bytes,
             tokens: _tokens,
         } = self;
-        let list = ArgList::from(done);
-        (definition, Args { name, list }, place)
+        (head, ArgList::from(done))
     }
 }

@@ -20,6 +20,7 @@ ghost use Rattle.m4_engine.specs.Expand.{skip_or_push, take_token, take_front, t
 use crate::ahead::{Ahead, Meaning, Named};
 use crate::call::OpenCall;
 use crate::ending::Cause;
+use crate::head::Head;
 use crate::machine::Machine;
 use crate::role::Role;
 use crate::turned::{TurnFault, Turned};
@@ -85,7 +86,8 @@ impl Machine {
         let Some(call) = &self.innermost else {
             return Ok(Turned::Ends(Cause::Done));
         };
-        let message = error_message(self.alloc, &call.place, b"end of input in argument list")?;
+        let place = call.head.place()?;
+        let message = error_message(self.alloc, &place, b"end of input in argument list")?;
         self.tell(message.as_slice())?;
         Ok(Turned::Ends(Cause::EndInArguments))
     }
@@ -117,11 +119,16 @@ impl Machine {
         ensures limits { OnOk result (self.new.limits ≡ self.old.limits) }
         ensures made { IfOk result IsMade }
     {
-        let (definition, args, place) = call.into_parts();
-        if let Def::Text(text) = &definition {
-            let text = substitute(self.alloc, text.as_slice(), &args, self.state.quotes())?;
+        let (head, list) = call.into_parts();
+        let name = Bytes::from_slice(self.alloc, head.name())?;
+        let args = Args { name, list };
+        // A text is read where it lies, with no copy.
+        if let Some(text) = head.text() {
+            let text = substitute(self.alloc, text, &args, self.state.quotes())?;
             return self.take_text(text, input, reader);
         }
+        let definition = head.definition()?;
+        let place = head.place()?;
         let Effect {
             push,
             messages,
@@ -147,7 +154,8 @@ impl Machine {
             return Ok(());
         };
         if call.end_argument()? {
-            let message = dropped_message(self.alloc, &call.place)?;
+            let place = call.head.place()?;
+            let message = dropped_message(self.alloc, &place)?;
             self.tell(message.as_slice())?;
         }
         Ok(())
@@ -225,14 +233,16 @@ impl Machine {
     fn refuse_calls(&mut self, call: &OpenCall) -> Result<(), TurnFault>
         ensures { OnOk result (self.new ≡ telling (error call.now.place (calls_text self.old.limits.calls)) self.old) }
     {
-        self.refuse(call.place(), self.most_calls, b" calls")
+        let place = call.head.place()?;
+        self.refuse(&place, self.most_calls, b" calls")
     }
 
     /// Tells that too many calls are open.
     fn refuse_depth(&mut self, call: &OpenCall) -> Result<(), TurnFault>
         ensures { OnOk result (self.new ≡ telling (error call.now.place (nested_text self.old.limits.nesting)) self.old) }
     {
-        self.refuse(call.place(), self.most_nested, b" nested calls")
+        let place = call.head.place()?;
+        self.refuse(&place, self.most_nested, b" nested calls")
     }
 
     /// Whether the limit leaves a call.
@@ -399,8 +409,8 @@ impl Machine {
             self.put_text(name.as_slice())?;
             return Ok(Turned::GoesOn);
         }
-        let file = Bytes::from_slice(self.alloc, input.name())?;
-        let call = OpenCall::new(self.alloc, definition, name, Place { file, line });
+        let head = Head::new(self.alloc, name.as_slice(), &definition, input.name(), line)?;
+        let call = OpenCall::new(self.alloc, head);
         self.take_call(call, listed, input, reader)
     }
 

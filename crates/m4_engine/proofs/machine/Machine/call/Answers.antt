@@ -7,11 +7,11 @@ use Rattle.m4_engine.proofs.Bare.{substituted_by}
 use Rattle.m4_engine.proofs.SavesNothing.{acted_saves}
 use Rattle.m4_engine.proofs.machine.Machine.call.Goals as goal
 
-pub returns-in-Some-clause-moves : goal.returns-in-Some-clause-moves
-returns-in-Some-clause-moves g c = λ o m.
+pub returns-in-Some-exit-clause-moves : goal.returns-in-Some-exit-clause-moves
+returns-in-Some-exit-clause-moves g c = λ o m.
     let a : Acted = record { state = c.act.new.state; effect = c.in_ok-push.field-0 } in
     let e : Engine = record c.args.self.now { state = c.act.new.state } in
-    called_exits c.args.self.now c.put_effect.new.self c.args.call a c.args.input.now.pending c.in-Some.code (search rules) (search rules) (made_plain c.put_effect.new.self e (a.effect).messages (a.effect).output (a.effect).wrap (search rules) (acted_saves c.args.call.definition c.args.call.name c.args.call.done c.args.call.place c.args.self.now.state a (search rules))) o m
+    called_exits c.args.self.now c.put_effect.new.self c.args.call a c.args.input.now.pending c.in-Some-exit.code (search rules) (search rules) (made_plain c.put_effect.new.self e (a.effect).messages (a.effect).output (a.effect).wrap (search rules) (acted_saves c.args.call.definition c.args.call.name c.args.call.done c.args.call.place c.args.self.now.state a (search rules))) o m
 
 pub returns-clause-moves : goal.returns-clause-moves
 returns-clause-moves g c = λ o m.
@@ -19,8 +19,8 @@ returns-clause-moves g c = λ o m.
     let e : Engine = record c.args.self.now { state = c.act.new.state } in
     called_goes c.args.self.now c.put_effect.new.self c.args.call a c.args.input.now.pending c.read_on.new.input.pending (search rules) (search rules) (made_plain c.put_effect.new.self e (a.effect).messages (a.effect).output (a.effect).wrap (search rules) (acted_saves c.args.call.definition c.args.call.name c.args.call.done c.args.call.place c.args.self.now.state a (search rules))) (search rules) o m
 
-pub returns-in-Text-clause-moves : goal.returns-in-Text-clause-moves
-returns-in-Text-clause-moves g c =
-    let text = c.as_slice.result.now in
+pub returns-in-Some-clause-moves : goal.returns-in-Some-clause-moves
+returns-in-Some-clause-moves g c =
+    let text = c.in-Some.text.now in
     c.take_text.ensures.moves c.args.call text (search rules)
     (substituted_by text c.in_ok-text.text _ c.args.call.name _ c.args.call.done (pair_of c.quotes.result) _ c.in_ok-text.ensures (search rules) (search rules) (search rules) (search rules))

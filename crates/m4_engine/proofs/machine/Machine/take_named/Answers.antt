@@ -21,7 +21,7 @@ returns-in-Expansion-clause-moves g c =
 
 pub returns-clause-moves : goal.returns-clause-moves
 returns-clause-moves g c =
-    let at : Place = record { file = c.in_ok-file.file; line = c.args.line } in
+    let at : Place = record { file = name_of c.args.input.now.pending; line = c.args.line } in
     let n = c.args.named in
     let v = subst (λ (m : Meaning). IsMeaning m (is_bare n.listed c.args.self.now) c.args.self.now.state n.name) c.in-Definition.is c.requires.meaning in
     name_called c.args.self.now c.take_call.new.self c.in-Definition.definition n.name n.listed c.args.input.now.pending c.args.input.now.pending c.take_call.new.input.pending at c.new-call.result c.take_call.result

@@ -1,0 +1,11 @@
+-- CallHead: what a call is before its arguments.
+-- Not believed: the definitions' call has the same three parts, and `CallView` says which.
+use Rattle.std.specs.Prelude.{ℕ, List}
+use Rattle.m4_state.specs.declared.definition.Def.{Def}
+use Rattle.m4_builtins.specs.declared.place.Place.{Place}
+
+-- the definition, the name and the place of a call, as they were when the name was read
+pub record CallHead : Type 0 where
+  pub definition : Def
+  pub name : List ℕ
+  pub place : Place

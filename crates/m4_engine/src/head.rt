@@ -1,0 +1,194 @@
+//! What a call is before its arguments, in one piece of memory. Manual: "Macro invocation".
+//!
+//! A call keeps its name, its definition and its place until its list ends. Calls nest, and then there
+//! are as many of these as calls are open: so a call asks for memory once, and not for each of them.
+
+ghost use Rattle.std.specs.Prelude.{◌≡◌, ◌+◌, ◌≤◌, List, ℕ, length, take, drop, IfOk, IfSome, IfNone};
+ghost use Rattle.m4_state.specs.Definition.{IsDefinition};
+ghost use Rattle.m4_state.specs.declared.definition.Def.TheVariants.{Text};
+ghost use Rattle.m4_engine.specs.Expand.{needs_list};
+ghost use Rattle.m4_engine.specs.HeadView.{definition_at};
+
+use m4_builtins::place::Place;
+use m4_state::builtin::Builtin;
+use m4_state::bytes::Bytes;
+use m4_state::definition::Def;
+use std::alloc::{AllocError, Global};
+use std::marker::Model;
+
+/// Which definition it is. The bytes of a text or of a placeholder's name are kept elsewhere.
+#[derive(Clone, Copy, Debug)]
+enum Kind {
+    Text,
+    Builtin(Builtin),
+    Placeholder,
+}
+
+/// What a call is before its arguments: its name, its definition and its place, as they were when the
+/// name was read. A definition that is changed or taken away while the list is read changes no call
+/// that is open. Manual: "Macro invocation".
+#[derive(Debug)]
+pub struct Head {
+    kind: Kind,
+    line: u64,
+    name_len: usize,
+    text_len: usize,
+    // The name, the definition's text or its name, and the file, with nothing in between.
+    strings: Vec<u8>,
+}
+
+impl Model for Head {
+    ghost use Rattle.m4_engine.specs.CallHead.{CallHead};
+
+    ghost Value = { CallHead };
+
+    ghost use Rattle.m4_engine.specs.HeadView.{head_view, IsHead};
+
+    ghost view = { head_view };
+
+    ghost invariant = { IsHead };
+}
+
+// Written out, so that a caller's proof sees one call and not the drop of each field.
+impl Drop for Head {
+    fn drop(self) {
+        let Head {
+            kind: _kind,
+            line: _line,
+            name_len: _name_len,
+            text_len: _text_len,
+            strings: _strings,
+        } = self;
+    }
+}
+
+/// Which definition it is, and its bytes: a builtin has none.
+fn kind_of(definition: &Def) -> (Kind, &[u8])
+    ensures { definition_at result.0 result.1.now ≡ definition.now }
+{
+    match definition {
+        Def::Text(text) => (Kind::Text, text.as_slice()),
+        Def::Builtin(builtin) => (Kind::Builtin(*builtin), b""),
+        Def::Placeholder(name) => (Kind::Placeholder, name.as_slice()),
+    }
+}
+
+/// So many bytes from a place on.
+fn part(bytes: &[u8], at: usize, len: usize) -> &[u8]
+    requires { at + len ≤ length bytes.now }
+    ensures { result.now ≡ take len (drop at bytes.now) }
+{
+    bytes.split_at(at).1.split_at(len).0
+}
+
+impl Head {
+    /// A head with copies of these.
+    pub fn new(
+        alloc: Global,
+        name: &[u8],
+        definition: &Def,
+        file: &[u8],
+        line: u64,
+    ) -> Result<Head, AllocError>
+        requires { IsDefinition definition.now }
+        ensures { IfOk result (λ h. h ≡ record {
+          definition = definition.now;
+          name = name.now;
+          place = record { file = file.now; line = line };
+        }) }
+    {
+        let (kind, text) = kind_of(definition);
+        let len = name
+            .len()
+            .saturating_add(text.len())
+            .saturating_add(file.len());
+        let mut strings = Vec::with_capacity(alloc, len)?;
+        strings.extend_from_slice(name)?;
+        strings.extend_from_slice(text)?;
+        strings.extend_from_slice(file)?;
+        Ok(Head {
+            kind,
+            line,
+            name_len: name.len(),
+            text_len: text.len(),
+            strings,
+        })
+    }
+
+    /// The name by which the macro was called.
+    pub fn name(&self) -> &[u8]
+        ensures { result.now ≡ self.now.name }
+    {
+        self.strings.split_at(self.name_len).0
+    }
+
+    /// The name of the file in which the call stands; empty in wrapped text.
+    pub fn file(&self) -> &[u8]
+        ensures { result.now ≡ self.now.place.file }
+    {
+        let behind_name = self.strings.split_at(self.name_len).1;
+        behind_name.split_at(self.text_len).1
+    }
+
+    /// The line of the call's name; 0 in wrapped text.
+    pub fn line(&self) -> u64
+        ensures line { result ≡ self.now.place.line }
+        ensures in_order { IsDefinition self.now.definition }
+    {
+        self.line
+    }
+
+    /// The definition, where it is a text.
+    pub fn text(&self) -> Option<&[u8]>
+        ensures some { IfSome result (λ x. self.now.definition ≡ Text x.now) }
+        ensures none { IfNone result ((x : List ℕ) → self.now.definition ≡ Text x → ⊥) }
+    {
+        match self.kind {
+            Kind::Text => Some(part(&self.strings, self.name_len, self.text_len)),
+            Kind::Builtin(_) | Kind::Placeholder => None,
+        }
+    }
+
+    /// The definition once more.
+    pub fn definition(&self) -> Result<Def, AllocError>
+        ensures value { IfOk result (λ d. d ≡ self.now.definition) }
+        ensures valid { IfOk result IsDefinition }
+    {
+        let alloc = *self.strings.allocator();
+        match self.kind {
+            Kind::Text => Ok(Def::Text(Bytes::from_slice(
+                alloc,
+                part(&self.strings, self.name_len, self.text_len),
+            )?)),
+            Kind::Builtin(builtin) => Ok(Def::Builtin(builtin)),
+            Kind::Placeholder => Ok(Def::Placeholder(Bytes::from_slice(
+                alloc,
+                part(&self.strings, self.name_len, self.text_len),
+            )?)),
+        }
+    }
+
+    /// Where the call stands.
+    pub fn place(&self) -> Result<Place, AllocError>
+        ensures { IfOk result (λ p. p ≡ self.now.place) }
+    {
+        let file = Bytes::from_slice(*self.strings.allocator(), self.file())?;
+        Ok(Place {
+            file,
+            line: self.line,
+        })
+    }
+
+    /// Whether the definition is recognised only with parameters.
+    pub fn needs_list(&self) -> bool
+        ensures { result ≡ needs_list self.now.definition }
+    {
+        match self.kind {
+            Kind::Builtin(builtin) => builtin.needs_args(),
+            Kind::Text | Kind::Placeholder => false,
+        }
+    }
+}
+
+#[cfg(test)]
+mod tests;
