@@ -21,6 +21,7 @@ impl Machine {
     /// Puts the tokens at the front that are text where they go: up to a block of them, where text
     /// goes to the output, and one of them within a list. It leaves what as many turns would leave,
     /// and tells what it has seen behind them.
+    #[inline(always)]
     pub fn pass_plain(&mut self, input: &mut Input) -> Result<Ahead, TurnFault>
         requires { IsReady input.old }
         ensures passes { OnOk result (Passes self.old self.new input.old input.new) }
@@ -42,6 +43,7 @@ impl Machine {
     }
 
     /// How many bytes at the front are tokens that stand for themselves, and what stands behind them.
+    #[inline(always)]
     fn look(&self, text: &[u8]) -> Result<(usize, Ahead), TurnFault>
         ensures plain { IfOk result (λ r. IsPlainRun self.now.state r.0 text.now) }
         ensures within { IfOk result (λ r. r.0 ≤ length text.now) }
@@ -53,6 +55,7 @@ impl Machine {
     }
 
     /// Puts the first token into the innermost call's argument, where it is text.
+    #[inline(always)]
     fn pass_inner(&mut self, input: &mut Input) -> Result<Ahead, TurnFault>
         requires { IsReady input.old }
         ensures passes { OnOk result (Passes self.old self.new input.old input.new) }
@@ -74,6 +77,7 @@ impl Machine {
     }
 
     /// The first token where it is text within a list, and what stands behind that.
+    #[inline(always)]
     fn look_in_list(&self, text: &[u8]) -> Result<(Option<Inner>, Ahead), TurnFault>
         ensures inner { IfOk result (λ r. IfSome r.0 (λ t. IsInner self.now.state t.2 (take t.1 (drop t.0 text.now)) text.now)) }
         ensures within { IfOk result (λ r. IfSome r.0 (λ t. (t.0 + t.1 ≤ length text.now) × (t.2 ≤ length text.now))) }
@@ -92,6 +96,7 @@ impl Machine {
     }
 
     /// What was seen of a text's first token, as a turn takes it.
+    #[inline(always)]
     fn seen(&self, first: First<'_>, text: &[u8]) -> Result<Ahead, TurnFault>
         requires first { IsFirst self.now.state text.now first }
         requires lies { FirstLies (length text.now) first }

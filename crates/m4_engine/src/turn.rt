@@ -93,6 +93,7 @@ impl Machine {
     }
 
     /// Puts what a call has made where it goes, beside what it pushes and skips.
+    #[inline(always)]
     fn put_effect(&mut self, messages: &[u8], output: &[u8]) -> Result<(), TurnFault>
         ensures { OnOk result (self.new ≡ with_made messages.now output.now None self.old) }
     {
@@ -281,6 +282,7 @@ impl Machine {
     }
 
     /// A name that is called, whose list follows or not.
+    #[inline(always)]
     fn take_call<R: ByteSource>(
         &mut self,
         call: OpenCall,
@@ -343,6 +345,7 @@ impl Machine {
     }
 
     /// A name that has a definition, with what that gives where it is a text and no list follows.
+    #[inline(always)]
     pub fn named(&self, name: Bytes, listed: bool, definition: &Def) -> Result<Named, TurnFault>
         requires { top_of self.now.state name ≡ Some definition.now }
         ensures value { IfOk result (λ n. (n.name ≡ name) × (n.listed ≡ listed)) }
@@ -361,6 +364,7 @@ impl Machine {
 
     /// What a name with this definition stands for. Of a text that is called with no list it is what
     /// the call gives, with no copy of the text.
+    #[inline(always)]
     fn meaning(&self, args: &Args, bare: bool, definition: &Def) -> Result<Meaning, TurnFault>
         requires top { top_of self.now.state args.now.name ≡ Some definition.now }
         requires list { args.now.list ≡ [] }
@@ -377,6 +381,7 @@ impl Machine {
     }
 
     /// A name that has a definition, behind which stands what is pending.
+    #[inline(always)]
     pub fn take_named<R: ByteSource>(
         &mut self,
         named: Named,
@@ -422,6 +427,7 @@ impl Machine {
     }
 
     /// What a call with no list gives, for a definition that is a text.
+    #[inline(always)]
     fn take_expansion<R: ByteSource>(
         &mut self,
         text: Bytes,
@@ -444,6 +450,7 @@ impl Machine {
     }
 
     /// What a text with its arguments put in leaves: it is read before everything else.
+    #[inline(always)]
     fn take_text<R: ByteSource>(
         &mut self,
         text: Bytes,
@@ -476,6 +483,7 @@ impl Machine {
     }
 
     /// A token, which is taken already.
+    #[inline(always)]
     fn take_token<R: ByteSource>(
         &mut self,
         token: Token,
@@ -527,6 +535,7 @@ impl Machine {
     }
 
     /// One turn: the first token of what is pending, and what it does.
+    #[inline(always)]
     pub fn turn<R: ByteSource>(
         &mut self,
         ahead: Ahead,
@@ -556,6 +565,7 @@ impl Machine {
     }
 
     /// The first token of what is pending, of which nothing is known, and what it does.
+    #[inline(always)]
     fn take_next<R: ByteSource>(
         &mut self,
         line: u64,

@@ -53,6 +53,7 @@ pub fn plain_run<'a>(text: &[u8], state: &'a State, most: usize) -> (usize, Firs
 }
 
 /// The first token, where it is no string.
+#[inline(always)]
 fn first_token<'a>(text: &[u8], state: &'a State, delims: &Delims<'_>) -> First<'a>
     requires quotes { pair_of delims.now.quotes ≡ state.now.quotes }
     requires comments { pair_of delims.now.comments ≡ state.now.comments }
@@ -84,6 +85,7 @@ fn sees_paren(text: &[u8], delims: &Delims<'_>) -> bool
 }
 
 /// The first token, where an argument list is read.
+#[inline(always)]
 pub fn first_in_list<'a>(text: &[u8], state: &'a State) -> First<'a>
     // exact steps: the token of the definition `scan`, with what is known of its name
     ensures first { IsFirst state.now text.now result }
@@ -101,6 +103,7 @@ pub fn first_in_list<'a>(text: &[u8], state: &'a State) -> First<'a>
 
 /// In front of how many bytes a token's text stands, how many that has, and how many the token has,
 /// where it is text wherever it stands in an argument list.
+#[inline(always)]
 pub fn inner_text(first: &First<'_>) -> Option<(usize, usize, usize)>
     // exact steps: a string, or what stands for itself and means nothing in a list
     ensures inner { IfSome result (λ t. (s : State) (x : List ℕ) → IsFirst s x first.now
@@ -123,6 +126,7 @@ fn is_inner(byte: u8) -> bool
 }
 
 /// The string at the front.
+#[inline(always)]
 fn string_text(text: &[u8], delims: &Delims<'_>) -> Option<(usize, usize, usize)>
     ensures string { IfSome result (λ t. scan (pair_of delims.now.quotes) (pair_of delims.now.comments) false text.now
         ≡ Found (Str (take t.1 (drop t.0 text.now))) t.2) }
@@ -141,6 +145,7 @@ fn string_text(text: &[u8], delims: &Delims<'_>) -> Option<(usize, usize, usize)
 }
 
 /// Whether the first of two delimiters begins with this byte.
+#[inline(always)]
 fn may_begin(first: u8, pair: &(&[u8], &[u8])) -> bool
     ensures { result ≡ false → (y : List ℕ) → starts_with (pair_of pair.now) (first ∷ y) ≡ false }
 {
