@@ -1,29 +1,21 @@
 -- Engine: a run as the machine holds it between two turns, and the steps of a turn.
 -- Not believed: it stands between the code and `Expand`, tied to it by the turns' lemmas.
 use Rattle.std.specs.Fmt.{decimal}
-use Rattle.std.specs.Prelude.{◌≡◌, codes, nat_lt, not, ◌&&◌, ◌<◌, ◌≤◌, suc, Option, Some, None, ℕ, pos, Bool, true, false, List, [], ◌∷◌, ◌++◌, length, take, drop, ◌⊎◌}
+use Rattle.std.specs.Prelude.{◌≡◌, codes, nat_lt, not, ◌&&◌, suc, Option, Some, None, ℕ, pos, Bool, true, false, List, [], ◌∷◌, ◌++◌, length, take, ◌⊎◌}
 use Rattle.m4_state.specs.declared.definition.Def.{Def}
-use Rattle.m4_state.specs.declared.definition.Def.TheVariants.{Text}
-use Rattle.m4_state.specs.State.{State, appended, top_of}
+use Rattle.m4_state.specs.State.{State, appended}
 use Rattle.m4_input.specs.Pending.{Pending, text_of, consumed}
 use Rattle.m4_input.specs.Plain.{total, ArePlain, IsInner}
 use Rattle.m4_builtins.specs.declared.place.Place.{Place}
-use Rattle.m4_builtins.specs.Subst.{subst}
 use Rattle.m4_builtins.specs.Messages.{dropped}
 use Rattle.m4_engine.specs.Expansion.{Call, Limits, RunSoFar, Mode, Outside, Collecting, Kept, Expansion, Ended, Ends, issued}
 use Rattle.m4_state.specs.Definition.{IsDefinition}
 use Rattle.m4_input.specs.declared.token.Token.{Token}
-use Rattle.m4_input.specs.declared.token.Token.TheVariants.{Name, Byte, Definition}
-use Rattle.m4_input.specs.declared.front.Scan.TheVariants.{Found}
-use Rattle.m4_input.specs.Token.{scan}
-use Rattle.m4_input.specs.Paren.{paren_in}
-use Rattle.m4_input.specs.Input.{Held, answer_of}
+use Rattle.m4_input.specs.declared.token.Token.TheVariants.{Definition}
+use Rattle.m4_input.specs.Input.{Held}
 use Rattle.m4_engine.specs.declared.ending.Cause.TheVariants as causes
-use Rattle.m4_engine.specs.declared.ahead.Meaning.{Meaning}
-use Rattle.m4_engine.specs.declared.ahead.Meaning.TheVariants as meanings
-use Rattle.m4_engine.specs.declared.ahead.Named.{Named}
 use Rattle.m4_engine.specs.declared.ahead.Ahead.{Ahead}
-use Rattle.m4_engine.specs.declared.ahead.Ahead.TheVariants as aheads
+use Rattle.m4_engine.specs.Ahead.{IsAheadOf}
 use Rattle.m4_engine.specs.declared.turned.Turned.{Turned}
 use Rattle.m4_engine.specs.declared.turned.Turned.TheVariants as turns
 use Rattle.m4_engine.specs.Args.{dropped_if_any, with_argument, end_argument}
@@ -252,36 +244,14 @@ pub record PassesInner (old new : Engine) (i j : Held) : Type 0 where
 abbrev pub Passes : Engine → Engine → Held → Held → Type 0
 Passes old new i j = ((new ≡ old) × (j ≡ i)) ⊎ (PassesPlain old new i j ⊎ PassesInner old new i j)
 
+-- whether the limits leave a call
+abbrev pub leaves_call : Engine → Bool
+leaves_call e = nat_lt e.calls (e.limits).calls && not (is_deep_in e)
+
 -- whether a text is called with no list, within the limits
 abbrev pub is_bare : Bool → Engine → Bool
-is_bare listed e = not listed && (nat_lt e.calls (e.limits).calls && not (is_deep_in e))
-
--- what a name stands for, where `bare` says that a text is called with no list
-abbrev pub IsMeaning : Meaning → Bool → State → List ℕ → Type 0
-IsMeaning (meanings.Expansion x) bare s name =
-    (bare ≡ true) × (text : List ℕ) × (top_of s name ≡ Some (Text text)) × (x ≡ subst text name [] s.quotes)
-IsMeaning (meanings.Definition d) bare s name = (top_of s name ≡ Some d) × IsDefinition d
-
--- a name with a definition that stands first in a text, where `bare` says the same
-pub record IsNamed (n : Named) (s : State) (bare : Bool) (x : List ℕ) : Type 0 where
-  pub scanned : scan s.quotes s.comments false x ≡ Found (Name n.name) (length n.name)
-  pub within : length n.name ≤ length x
-  pub list : paren_in s.quotes s.comments false (drop (length n.name) x) ≡ answer_of n.listed
-  pub meaning : IsMeaning n.meaning bare s n.name
-
--- what was seen of the first token of a text
-abbrev pub IsSeen : Ahead → Engine → List ℕ → Type 0
-IsSeen aheads.Unknown e x = Unit {0}
-IsSeen (aheads.Byte b) e x = (scan (e.state).quotes (e.state).comments false x ≡ Found (Byte b) 1) × (0 < length x)
-IsSeen (aheads.Named n) e x = IsNamed n e.state (is_bare n.listed e) x
-
--- where something was seen, no definition stands before the text
-abbrev pub StandsFirst : Ahead → Pending → Type 0
-StandsFirst aheads.Unknown p = Unit {0}
-StandsFirst (aheads.Byte b) p = p.definition ≡ None
-StandsFirst (aheads.Named n) p = p.definition ≡ None
+is_bare listed e = not listed && leaves_call e
 
 -- what was seen of the token at the front
-pub record IsAhead (a : Ahead) (e : Engine) (p : Pending) : Type 0 where
-  pub seen : IsSeen a e (text_of p)
-  pub first : StandsFirst a p
+abbrev pub IsAhead : Ahead → Engine → Pending → Type 0
+IsAhead a e p = IsAheadOf a e.state (leaves_call e) p

@@ -12,6 +12,7 @@ pub mod Carries
 pub mod Laws
 pub mod CallHead
 pub mod HeadView
+pub mod Ahead
 pub mod CallView
 pub mod Engine
 pub mod MachineView

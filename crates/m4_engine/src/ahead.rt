@@ -1,22 +1,36 @@
 //! What stands at the front, where it was seen when the tokens before it were passed.
 
+ghost use Rattle.std.specs.Prelude.{◌≡◌, ◌&&◌, not, None, Some, IfOk, length};
+ghost use Rattle.m4_state.specs.State.{top_of};
+ghost use Rattle.m4_input.specs.Pending.{text_of};
+ghost use Rattle.m4_input.specs.Plain.{IsFirst, FirstLies};
+ghost use Rattle.m4_engine.specs.Ahead.{IsMeaning, IsAheadOf};
+
+use crate::head::Head;
+use crate::turned::TurnFault;
+use m4_builtins::args::{ArgList, Args};
+use m4_builtins::substitute::substitute;
+use m4_input::input::Input;
+use m4_input::plain::First;
 use m4_state::bytes::Bytes;
 use m4_state::definition::Def;
+use m4_state::state::State;
+use std::alloc::Global;
 
 /// What a name with a definition stands for.
 #[derive(Debug, Drop)]
 pub enum Meaning {
     /// A call with no list, of a text, which gives this.
     Expansion(Bytes),
-    /// A definition.
-    Definition(Def),
+    /// A call that is to be made.
+    Call(Head),
 }
 
-/// A name that has a definition.
+/// A name of so many bytes that has a definition.
 #[derive(Debug, Drop)]
 pub struct Named {
-    /// The name.
-    pub name: Bytes,
+    /// How many bytes the name has.
+    pub len: usize,
     /// Whether an argument list follows it.
     pub listed: bool,
     /// What it stands for.
@@ -32,4 +46,67 @@ pub enum Ahead {
     Byte(u8),
     /// A name that has a definition.
     Named(Named),
+}
+
+impl Meaning {
+    /// What a name with this definition stands for, by its file and its line. Of a text that is called
+    /// with no list (`bare`) it is what the call gives, with no copy of the text.
+    #[inline(always)]
+    pub fn of(
+        alloc: Global,
+        state: &State,
+        bare: bool,
+        name: &[u8],
+        definition: &Def,
+        place: (&[u8], u64),
+    ) -> Result<Meaning, TurnFault>
+        requires { top_of state.now name.now ≡ Some definition.now }
+        ensures { IfOk result (λ m. IsMeaning m bare state.now name.now (record { file = place.entry.0.now; line = place.entry.1 })) }
+    {
+        let _in_order = state.current();
+        match definition {
+            Def::Text(text) if bare => {
+                let name = Bytes::from_slice(alloc, name)?;
+                let list = ArgList::from(Vec::new(alloc));
+                let args = Args { name, list };
+                let text = substitute(alloc, text.as_slice(), &args, state.quotes())?;
+                Ok(Meaning::Expansion(text))
+            }
+            _ => {
+                let head = Head::new(alloc, name, definition, place.0, place.1)?;
+                Ok(Meaning::Call(head))
+            }
+        }
+    }
+}
+
+/// The token at the front, of which this was seen; `room` says whether the limits leave a call.
+#[inline(always)]
+pub fn ahead_of(
+    alloc: Global,
+    state: &State,
+    room: bool,
+    first: First<'_>,
+    input: &Input,
+) -> Result<Ahead, TurnFault>
+    requires first { IsFirst state.now (text_of input.now.pending) first }
+    requires lies { FirstLies (length (text_of input.now.pending)) first }
+    requires front { input.now.pending.definition ≡ None }
+    ensures { IfOk result (λ a. IsAheadOf a state.now room input.now.pending) }
+{
+    match (first, input.piece()) {
+        (First::Byte(byte), _) => Ok(Ahead::Byte(byte)),
+        (First::Called(len, listed, definition), Some(text)) => {
+            let name = text.split_at(len).0;
+            let place = (input.name(), input.line());
+            let bare = !listed && room;
+            let meaning = Meaning::of(alloc, state, bare, name, definition, place)?;
+            Ok(Ahead::Named(Named {
+                len,
+                listed,
+                meaning,
+            }))
+        }
+        _ => Ok(Ahead::Unknown),
+    }
 }

@@ -122,6 +122,21 @@ impl Head {
         self.strings.split_at(self.name_len).0
     }
 
+    /// The name, with no copy.
+    pub fn into_name(self) -> Bytes
+        ensures { result ≡ self.name }
+    {
+        let Head {
+            kind: _kind,
+            line: _line,
+            name_len,
+            text_len: _text_len,
+            mut strings,
+        } = self;
+        strings.truncate(name_len);
+        Bytes::from(strings)
+    }
+
     /// The name of the file in which the call stands; empty in wrapped text.
     pub fn file(&self) -> &[u8]
         ensures { result.now ≡ self.now.place.file }

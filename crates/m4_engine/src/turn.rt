@@ -9,18 +9,18 @@ ghost use Rattle.m4_input.specs.Token.{Refused};
 ghost use Rattle.m4_builtins.specs.Messages.{error};
 ghost use Rattle.m4_input.specs.Input.{Held, answer_of};
 ghost use Rattle.m4_input.specs.Pending.{Pending, line_of, consumed};
-ghost use Rattle.m4_engine.specs.Engine.{Moves, IsFront, IsMade, IsToken, IsReady, moved, configuration, Stays, with_made, ending_argument, telling, counting, calls_text, nested_text, is_deep_in, IfHead, IsMeaning, IsAhead, is_bare, mode_of, close_in, step, here_of, outer_of, called_within};
+ghost use Rattle.m4_engine.specs.Engine.{Moves, IsFront, IsMade, IsToken, IsReady, moved, configuration, Stays, with_made, ending_argument, telling, counting, calls_text, nested_text, is_deep_in, IfHead, IsAhead, is_bare, leaves_call, mode_of, close_in, step, here_of, outer_of, called_within};
+ghost use Rattle.m4_engine.specs.Ahead.{IsMeaning, Fits};
 ghost use Rattle.m4_builtins.specs.Act.{IsPushed};
 ghost use Rattle.m4_builtins.specs.Subst.{subst};
 ghost use Rattle.m4_state.specs.declared.definition.Def.TheVariants.{Text};
 ghost use Rattle.m4_engine.specs.Nesting.{Closed};
-ghost use Rattle.m4_engine.specs.Expansion.{Call, Expansion, reading};
-ghost use Rattle.m4_engine.specs.Expand.{skip_or_push, take_token, take_front, take_name, take_other, take_end, call as call_turn, call_of, needs_list};
+ghost use Rattle.m4_engine.specs.Expansion.{Call, Expansion, reading, place_at};
+ghost use Rattle.m4_engine.specs.Expand.{skip_or_push, take_token, take_front, take_name, take_other, take_end, call as call_turn, call_of};
 
 use crate::ahead::{Ahead, Meaning, Named};
 use crate::call::OpenCall;
 use crate::ending::Cause;
-use crate::head::Head;
 use crate::machine::Machine;
 use crate::role::Role;
 use crate::turned::{TurnFault, Turned};
@@ -40,16 +40,6 @@ use m4_input::token::Token;
 use m4_state::bytes::Bytes;
 use m4_state::definition::Def;
 use m4_state::device::ByteSource;
-
-/// Whether a definition is recognised only with parameters.
-fn needs_list(definition: &Def) -> bool
-    ensures { result ≡ needs_list definition.now }
-{
-    match definition {
-        Def::Builtin(builtin) => builtin.needs_args(),
-        Def::Text(_) | Def::Placeholder(_) => false,
-    }
-}
 
 /// What is read behind a call: what follows the line, or first the value that the call pushes.
 #[tactic(auto, using(crate::proofs::Inputs::skipped, crate::proofs::Inputs::pushed))]
@@ -121,15 +111,19 @@ impl Machine {
         ensures made { IfOk result IsMade }
     {
         let (head, list) = call.into_parts();
-        let name = Bytes::from_slice(self.alloc, head.name())?;
-        let args = Args { name, list };
         // A text is read where it lies, with no copy.
         if let Some(text) = head.text() {
+            let name = Bytes::from_slice(self.alloc, head.name())?;
+            let args = Args { name, list };
             let text = substitute(self.alloc, text, &args, self.state.quotes())?;
             return self.take_text(text, input, reader);
         }
         let definition = head.definition()?;
         let place = head.place()?;
+        let args = Args {
+            name: head.into_name(),
+            list,
+        };
         let Effect {
             push,
             messages,
@@ -336,94 +330,74 @@ impl Machine {
         ensures made { IfOk result IsMade }
     {
         let listed = self.sees_list(input, reader)?;
+        let bare = !listed && self.leaves_call();
         let Some(definition) = self.state.top(name.as_slice()) else {
             self.put_text(name.as_slice())?;
             return Ok(Turned::GoesOn);
         };
-        let named = self.named(name, listed, definition)?;
-        self.take_named(named, line, input, reader)
-    }
-
-    /// A name that has a definition, with what that gives where it is a text and no list follows.
-    #[inline(always)]
-    pub fn named(&self, name: Bytes, listed: bool, definition: &Def) -> Result<Named, TurnFault>
-        requires { top_of self.now.state name ≡ Some definition.now }
-        ensures value { IfOk result (λ n. (n.name ≡ name) × (n.listed ≡ listed)) }
-        ensures meaning { IfOk result (λ n. IsMeaning n.meaning (is_bare listed self.now) self.now.state name) }
-    {
-        let list = ArgList::from(Vec::new(self.alloc));
-        let args = Args { name, list };
-        let meaning = self.meaning(&args, self.may_expand(listed), definition)?;
-        let Args { name, .. } = args;
-        Ok(Named {
-            name,
-            listed,
-            meaning,
-        })
-    }
-
-    /// What a name with this definition stands for. Of a text that is called with no list it is what
-    /// the call gives, with no copy of the text.
-    #[inline(always)]
-    fn meaning(&self, args: &Args, bare: bool, definition: &Def) -> Result<Meaning, TurnFault>
-        requires top { top_of self.now.state args.now.name ≡ Some definition.now }
-        requires list { args.now.list ≡ [] }
-        ensures { IfOk result (λ v. IsMeaning v bare self.now.state args.now.name) }
-    {
-        let _in_order = self.state.current();
-        match definition {
-            Def::Text(text) if bare => {
-                let text = substitute(self.alloc, text.as_slice(), args, self.state.quotes())?;
-                Ok(Meaning::Expansion(text))
-            }
-            _ => Ok(Meaning::Definition(definition.share()?)),
-        }
+        let len = name.as_slice().len();
+        let place = (input.name(), line);
+        let meaning = Meaning::of(
+            self.alloc,
+            &self.state,
+            bare,
+            name.as_slice(),
+            definition,
+            place,
+        )?;
+        self.take_named(
+            Named {
+                len,
+                listed,
+                meaning,
+            },
+            input,
+            reader,
+        )
     }
 
     /// A name that has a definition, behind which stands what is pending.
     #[inline(always)]
-    pub fn take_named<R: ByteSource>(
+    fn take_named<R: ByteSource>(
         &mut self,
         named: Named,
-        line: u64,
         input: &mut Input,
         reader: &mut R,
     ) -> Result<Turned, TurnFault>
         requires ready { IsReady input.old }
         requires taken { input.old.pending.definition ≡ None }
         requires list { paren_at self.old.state.quotes self.old.state.comments input.old.pending ≡ answer_of named.listed }
-        requires meaning { IsMeaning named.meaning (is_bare named.listed self.old) self.old.state named.name }
-        ensures moves { IfOk result (λ t. (before : Pending) → line ≡ line_of before
-            → before.file ≡ input.old.pending.file → Moves self.new input.new.pending t
-            (λ o m. step (outer_of self.old.open_calls)
-            (take_name (top_of self.old.state named.name) named.name input.old.pending (here_of o m self.old before)))) }
+        requires fits { Fits named.meaning (is_bare named.listed self.old) }
+        ensures moves { IfOk result (λ t. (name : List ℕ) (before : Pending)
+            → IsMeaning named.meaning (is_bare named.listed self.old) self.old.state name (place_at before)
+            → Moves self.new input.new.pending t (λ o m. step (outer_of self.old.open_calls)
+            (take_name (top_of self.old.state name) name input.old.pending (here_of o m self.old before)))) }
         ensures ready { result ≡ Ok Turned.GoesOn → Stays input.old input.new }
         ensures limits { OnOk result (self.new.limits ≡ self.old.limits) }
         ensures made { IfOk result IsMade }
     {
         let Named {
-            name,
+            len: _len,
             listed,
             meaning,
         } = named;
-        let definition = match meaning {
+        let head = match meaning {
             Meaning::Expansion(text) => return self.take_expansion(text, input, reader),
-            Meaning::Definition(definition) => definition,
+            Meaning::Call(head) => head,
         };
-        if !listed && needs_list(&definition) {
-            self.put_text(name.as_slice())?;
+        if !listed && head.needs_list() {
+            self.put_text(head.name())?;
             return Ok(Turned::GoesOn);
         }
-        let head = Head::new(self.alloc, name.as_slice(), &definition, input.name(), line)?;
         let call = OpenCall::new(self.alloc, head);
         self.take_call(call, listed, input, reader)
     }
 
-    /// Whether a call can be made with no list, within the limits.
-    fn may_expand(&self, listed: bool) -> bool
-        ensures value { result ≡ is_bare listed self.now }
+    /// Whether the limits leave a call.
+    pub fn leaves_call(&self) -> bool
+        ensures { result ≡ leaves_call self.now }
     {
-        !listed && self.has_room() && !self.is_deep()
+        self.has_room() && !self.is_deep()
     }
 
     /// What a call with no list gives, for a definition that is a text.
@@ -558,8 +532,8 @@ impl Machine {
                 self.take_token(Token::Byte(byte), line, input, reader)
             }
             Ahead::Named(named) => {
-                input.consume(named.name.as_slice().len());
-                self.take_named(named, line, input, reader)
+                input.consume(named.len);
+                self.take_named(named, input, reader)
             }
         }
     }

@@ -101,19 +101,22 @@ pub fn first_in_list<'a>(text: &[u8], state: &'a State) -> First<'a>
     }
 }
 
-/// In front of how many bytes a token's text stands, how many that has, and how many the token has,
-/// where it is text wherever it stands in an argument list.
+/// A token's text and how many bytes the token has, where it is text wherever it stands in an
+/// argument list.
 #[inline(always)]
-pub fn inner_text(first: &First<'_>) -> Option<(usize, usize, usize)>
+pub fn inner_text<'a>(first: &First<'_>, text: &'a [u8]) -> Option<(&'a [u8], usize)>
+    requires { FirstLies (length text.now) first.now }
     // exact steps: a string, or what stands for itself and means nothing in a list
-    ensures inner { IfSome result (λ t. (s : State) (x : List ℕ) → IsFirst s x first.now
-        → IsInner s t.2 (take t.1 (drop t.0 x)) x) }
-    ensures within { IfSome result (λ t. (n : ℕ) → FirstLies n first.now → (t.0 + t.1 ≤ n) × (t.2 ≤ n)) }
+    ensures inner { IfSome result (λ t. (s : State) → IsFirst s text.now first.now → IsInner s t.1 t.0.now text.now) }
+    ensures within { IfSome result (λ t. t.1 ≤ length text.now) }
 {
     match *first {
-        First::Quoted(begin, len, all) => Some((begin, len, all)),
-        First::Word(len) => Some((0, len, len)),
-        First::Byte(byte) if is_inner(byte) => Some((0, 1, 1)),
+        First::Quoted(begin, len, all) => {
+            let behind = text.split_at(begin).1;
+            Some((behind.split_at(len).0, all))
+        }
+        First::Word(len) => Some((text.split_at(len).0, len)),
+        First::Byte(byte) if is_inner(byte) => Some((text.split_at(1).0, 1)),
         First::Byte(_) | First::Called(..) | First::Other => None,
     }
 }

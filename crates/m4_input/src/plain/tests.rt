@@ -22,15 +22,14 @@ const ROWS: [(&[u8], usize); 9] = [
     (b"a # b", 2),
 ];
 
-// A text, and where `f` is defined, in front of how many bytes the text of its first token stands,
-// how many bytes that has, and how many the token has.
-const TOKENS: [(&[u8], Option<(usize, usize, usize)>); 14] = [
-    (b"`a b'c", Some((1, 3, 5))),
-    (b"``a'' ", Some((1, 3, 5))),
-    (b"`'", Some((1, 0, 2))),
+// A text, and where `f` is defined, the text of its first token and how many bytes the token has.
+const TOKENS: [(&[u8], Option<(&[u8], usize)>); 14] = [
+    (b"`a b'c", Some((b"a b", 5))),
+    (b"``a'' ", Some((b"`a'", 5))),
+    (b"`'", Some((b"", 2))),
     (b"`a", None),
-    (b"ab(c", Some((0, 2, 2))),
-    (b"1f", Some((0, 1, 1))),
+    (b"ab(c", Some((b"ab", 2))),
+    (b"1f", Some((b"1", 1))),
     (b"f", None),
     (b"", None),
     (b"(a", None),
@@ -103,7 +102,7 @@ fn bytes_that_mean_something_in_a_list(rt: HostRuntime) -> Result<(), Fail> {
 fn tokens_that_are_text_in_a_list(rt: HostRuntime) -> Result<(), Fail> {
     let state = with_f(rt.alloc())?;
     for (text, want) in TOKENS {
-        assert!(rt; inner_text(&first_in_list(text, &state)) == want);
+        assert!(rt; inner_text(&first_in_list(text, &state), text) == want);
     }
     Ok(())
 }

@@ -1,12 +1,17 @@
 use Rattle.std.proofs.Common.{rules, refl}
 use Rattle.m4_engine.specs.Engine.{Engine}
 use Rattle.m4_engine.specs.MachineView.{engine_view}
-use Rattle.m4_engine.proofs.Seen.{ahead_behind}
+use Rattle.m4_engine.proofs.Seen.{first_behind, lies_behind, seen_same}
 use Rattle.m4_engine.proofs.machine.Machine.pass_plain.Goals as goal
+
+pub ahead_of-requires-clause-first : goal.ahead_of-requires-clause-first
+ahead_of-requires-clause-first c = first_behind c.self.inside.state c.plain_run-len.result.1 c.args.input.now.pending c.consume.new.self.pending c.plain_run-len.result.0 c.in-Some.text.now c.in-Some.ensures.text (search rules) c.plain_run-len.ensures.behind
+
+pub ahead_of-requires-clause-lies : goal.ahead_of-requires-clause-lies
+ahead_of-requires-clause-lies c = lies_behind c.plain_run-len.result.1 c.args.input.now.pending c.consume.new.self.pending c.plain_run-len.result.0 c.in-Some.text.now c.in-Some.ensures.text (search rules) c.plain_run-len.ensures.lies
 
 pub returns-clause-ahead : goal.returns-clause-ahead
 returns-clause-ahead c =
     let old : Engine = engine_view c.self.inside in
     let new : Engine = record old { output = c.extend_from_slice.new.self.items } in
-    ahead_behind c.in_ok-len.ahead old new c.args.input.now.pending c.consume.new.self.pending c.in_ok-len.len c.in-Some.text.now
-    c.in-Some.ensures.text (search rules) refl refl refl refl (search rules)
+    seen_same c.in_ok-ahead.ahead old new c.leaves_call-room.result c.consume.new.self.pending (search rules) refl refl refl refl c.in_ok-ahead.ensures

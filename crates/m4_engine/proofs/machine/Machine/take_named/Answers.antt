@@ -1,28 +1,25 @@
-use Rattle.std.proofs.Common.{rules, false, refl, sym, ap, ◌∙◌, subst}
-use Rattle.m4_state.specs.declared.definition.Def.TheVariants.{Text}
-use Rattle.m4_input.specs.Pending.{name_of}
-use Rattle.m4_builtins.specs.declared.place.Place.{Place}
-use Rattle.m4_engine.specs.declared.ahead.Meaning.{Meaning}
-use Rattle.m4_engine.specs.Expand.{call_of}
-use Rattle.m4_engine.specs.Engine.{IsMeaning, is_bare}
-use Rattle.m4_input.specs.Input.{answer_of}
+use Rattle.std.proofs.Common.{rules, refl}
+use Rattle.m4_engine.specs.Engine.{is_bare}
 use Rattle.m4_engine.proofs.Bare.{bare_fits}
-use Rattle.m4_engine.proofs.Named.{name_called}
+use Rattle.m4_engine.proofs.Seen.{expansion_moves, made_moves, bare_moves}
 use Rattle.m4_engine.proofs.machine.Machine.take_named.Goals as goal
 
 pub returns-in-Expansion-clause-moves : goal.returns-in-Expansion-clause-moves
 returns-in-Expansion-clause-moves g c =
-    let at : Place = record { file = name_of c.args.input.now.pending; line = c.args.line } in
+    let e = c.args.self.now in
     let n = c.args.named in
-    let v = subst (λ (m : Meaning). IsMeaning m (is_bare n.listed c.args.self.now) c.args.self.now.state n.name) c.in-Expansion.is c.requires.meaning in
-    let fits = bare_fits n.listed c.args.self.now v.0 in
-    name_called c.args.self.now c.take_expansion.new.self (Text v.1) n.name false c.args.input.now.pending c.args.input.now.pending c.take_expansion.new.input.pending at (call_of (Text v.1) n.name at) c.take_expansion.result
-    (sym v.2) (c.requires.list ∙ ap answer_of fits.0) (λ e. refl) refl refl refl (c.take_expansion.ensures.moves (call_of (Text v.1) n.name at) v.1 refl v.3)
+    let p = c.args.input.now.pending in
+    let fits = bare_fits n.listed e (search rules) in
+    expansion_moves e c.take_expansion.new.self n.meaning c.in-Expansion.text (is_bare n.listed e) n.listed p c.take_expansion.new.input.pending c.take_expansion.result c.in-Expansion.is c.requires.list fits.0 c.take_expansion.ensures.moves
+
+pub returns-then-needs_list-clause-moves : goal.returns-then-needs_list-clause-moves
+returns-then-needs_list-clause-moves g c =
+    let n = c.args.named in
+    bare_moves c.args.self.now c.put_text.new.self n.meaning c.in-Call.head (is_bare n.listed c.args.self.now) n.listed c.args.input.now.pending c.in-Call.is c.requires.list (search rules) (search rules) (search rules)
 
 pub returns-clause-moves : goal.returns-clause-moves
 returns-clause-moves g c =
-    let at : Place = record { file = name_of c.args.input.now.pending; line = c.args.line } in
+    let e = c.args.self.now in
     let n = c.args.named in
-    let v = subst (λ (m : Meaning). IsMeaning m (is_bare n.listed c.args.self.now) c.args.self.now.state n.name) c.in-Definition.is c.requires.meaning in
-    name_called c.args.self.now c.take_call.new.self c.in-Definition.definition n.name n.listed c.args.input.now.pending c.args.input.now.pending c.take_call.new.input.pending at c.new-call.result c.take_call.result
-    (sym v.0) c.requires.list (search rules) (search rules) refl (search rules) c.take_call.ensures.moves
+    let p = c.args.input.now.pending in
+    made_moves e c.take_call.new.self n.meaning c.in-Call.head c.new-call.result (is_bare n.listed e) n.listed p p c.take_call.new.input.pending c.take_call.result c.in-Call.is c.new-call.ensures refl c.requires.list (search rules) c.take_call.ensures.moves

@@ -1,6 +1,10 @@
-use Rattle.std.proofs.Common.{rules, refl}
+use Rattle.std.proofs.Common.{rules, ℕ, refl, sym, subst, take}
+use Rattle.m4_input.specs.Pending.{text_of, name_of}
 use Rattle.m4_input.specs.declared.token.Token.TheVariants.{Name, Byte}
-use Rattle.m4_engine.proofs.Seen.{byte_front, name_front, name_list}
+use Rattle.m4_builtins.specs.declared.place.Place.{Place}
+use Rattle.m4_engine.specs.Ahead.{IsMeaning}
+use Rattle.m4_engine.specs.Engine.{is_bare}
+use Rattle.m4_engine.proofs.Seen.{byte_front, name_front, name_list, name_means, named_moves}
 use Rattle.m4_engine.proofs.Turning.{turn_taken}
 use Rattle.m4_engine.proofs.machine.Machine.turn.Goals as goal
 
@@ -17,5 +21,11 @@ pub returns-in-Named-clause-moves : goal.returns-in-Named-clause-moves
 returns-in-Named-clause-moves g c =
     let e = c.args.self.now in
     let n = c.in-Named.named in
-    turn_taken e c.take_named.new.self e.state.quotes e.state.comments (Name n.name) c.line-line.result c.args.input.now.pending c.consume-in-Named.new.self.pending c.take_named.new.input.pending c.take_named.result refl refl
-    (name_front c.args.ahead e c.args.input.now.pending c.consume-in-Named.new.self.pending n c.in-Named.is c.requires.ready.closed (search rules) c.requires.ahead) c.line-line.ensures (search rules) c.take_named.ensures.moves
+    let p = c.args.input.now.pending in
+    let q = c.consume-in-Named.new.self.pending in
+    let name = take n.len (text_of p) in
+    let at : Place = record { file = name_of p; line = c.line-line.result } in
+    let means = subst (λ (l : ℕ). IsMeaning n.meaning (is_bare n.listed e) e.state name (record { file = name_of p; line = l })) (sym c.line-line.ensures) (name_means c.args.ahead e p n c.in-Named.is c.requires.ahead) in
+    turn_taken e c.take_named.new.self e.state.quotes e.state.comments (Name name) c.line-line.result p q c.take_named.new.input.pending c.take_named.result refl refl
+    (name_front c.args.ahead e p q n c.in-Named.is c.requires.ready.closed (search rules) c.requires.ahead) c.line-line.ensures (search rules)
+    (named_moves e c.take_named.new.self n.meaning (is_bare n.listed e) name at q q c.take_named.new.input.pending c.take_named.result (search rules) refl means c.take_named.ensures.moves)

@@ -1,0 +1,47 @@
+-- Ahead: what was seen of the token at the front, before a turn takes it.
+-- Not believed: it stands between the code and `Expand`, tied to it by the turns' lemmas.
+-- Words: IsMeaning, Fits, IsNamed, IsAheadOf.
+use Rattle.std.specs.Prelude.{◌≡◌, ◌&&◌, ◌<◌, ◌≤◌, not, Bool, true, false, ℕ, List, [], None, Some, length, take, drop}
+use Rattle.m4_state.specs.declared.definition.Def.TheVariants.{Text}
+use Rattle.m4_state.specs.State.{State, top_of}
+use Rattle.m4_input.specs.declared.front.Scan.TheVariants.{Found}
+use Rattle.m4_input.specs.declared.token.Token.TheVariants.{Name, Byte}
+use Rattle.m4_input.specs.Pending.{Pending, text_of, name_of, line_of}
+use Rattle.m4_input.specs.Token.{scan}
+use Rattle.m4_input.specs.Paren.{paren_in}
+use Rattle.m4_input.specs.Input.{answer_of}
+use Rattle.m4_builtins.specs.declared.place.Place.{Place}
+use Rattle.m4_builtins.specs.Subst.{subst}
+use Rattle.m4_engine.specs.declared.ahead.Meaning.{Meaning}
+use Rattle.m4_engine.specs.declared.ahead.Meaning.TheVariants as meanings
+use Rattle.m4_engine.specs.declared.ahead.Named.{Named}
+use Rattle.m4_engine.specs.declared.ahead.Ahead.{Ahead}
+use Rattle.m4_engine.specs.declared.ahead.Ahead.TheVariants as aheads
+
+-- what a name stands for that is read at a place, where `bare` says that a text is called with no list
+abbrev pub IsMeaning : Meaning → Bool → State → List ℕ → Place → Type 0
+IsMeaning (meanings.Expansion x) bare s name place =
+    (bare ≡ true) × (text : List ℕ) × (top_of s name ≡ Some (Text text)) × (x ≡ subst text name [] s.quotes)
+IsMeaning (meanings.Call h) bare s name place =
+    (top_of s name ≡ Some h.definition) × (h.name ≡ name) × (h.place ≡ place)
+
+-- what a call gives is known where it is bare
+abbrev pub Fits : Meaning → Bool → Type 0
+Fits (meanings.Expansion x) bare = bare ≡ true
+Fits (meanings.Call h) bare = Unit {0}
+
+-- a name with a definition that stands first, where `room` says that the limits leave a call
+pub record IsNamed (n : Named) (s : State) (room : Bool) (p : Pending) : Type 0 where
+  pub first : p.definition ≡ None
+  pub scanned : scan s.quotes s.comments false (text_of p) ≡ Found (Name (take n.len (text_of p))) n.len
+  pub within : n.len ≤ length (text_of p)
+  pub list : paren_in s.quotes s.comments false (drop n.len (text_of p)) ≡ answer_of n.listed
+  pub meaning :
+      IsMeaning n.meaning (not n.listed && room) s (take n.len (text_of p)) (record { file = name_of p; line = line_of p })
+
+-- what was seen of the token at the front
+abbrev pub IsAheadOf : Ahead → State → Bool → Pending → Type 0
+IsAheadOf aheads.Unknown s room p = Unit {0}
+IsAheadOf (aheads.Byte b) s room p =
+    (p.definition ≡ None) × (scan s.quotes s.comments false (text_of p) ≡ Found (Byte b) 1) × (0 < length (text_of p))
+IsAheadOf (aheads.Named n) s room p = IsNamed n s room p
