@@ -75,9 +75,8 @@ impl Machine {
         ensures counted { FailsBy result (record { out_old = O.failures out.old; out_new = O.failures out.new; told_old = M.failures messages.old; told_new = M.failures messages.new }) }
     {
         'turns: loop {
-            let ahead = match self.pass_plain(input) {
-                Ok(ahead) => ahead,
-                Err(TurnFault::OutOfMemory) => return Cause::OutOfMemory,
+            let Ok(ahead) = self.pass_plain(input) else {
+                return Cause::OutOfMemory;
             };
             let turned = match self.turn(ahead, input, reader) {
                 Ok(turned) => turned,

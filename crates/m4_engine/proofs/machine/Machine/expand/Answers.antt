@@ -9,8 +9,8 @@ turns-init g c = record { runs = begins c.args.self.now c.args.input.now _ _ c.r
 pub pass_plain-requires : goal.pass_plain-requires
 pass_plain-requires g c = c.turns.invariant.runs.ready
 
-pub returns-in-Err-OutOfMemory-clause-expands : goal.returns-in-Err-OutOfMemory-clause-expands
-returns-in-Err-OutOfMemory-clause-expands g c = breaks c.args.self.now c.turns.self c.args.input.now.pending c.turns.input _ _ _ _ c.requires.idle c.turns.invariant.runs
+pub returns-in_default-clause-expands : goal.returns-in_default-clause-expands
+returns-in_default-clause-expands g c = breaks c.args.self.now c.turns.self c.args.input.now.pending c.turns.input _ _ _ _ c.requires.idle c.turns.invariant.runs
 
 pub turn-requires : goal.turn-requires
 turn-requires g c = record {
@@ -18,8 +18,8 @@ turn-requires g c = record {
   ahead = c.in-Ok.ensures.ahead;
 }
 
-pub returns-in-Err-OutOfMemory-turn-clause-expands : goal.returns-in-Err-OutOfMemory-turn-clause-expands
-returns-in-Err-OutOfMemory-turn-clause-expands g c = breaks c.args.self.now c.turns.self c.args.input.now.pending c.turns.input _ _ _ _ c.requires.idle c.turns.invariant.runs
+pub returns-in-Err-OutOfMemory-clause-expands : goal.returns-in-Err-OutOfMemory-clause-expands
+returns-in-Err-OutOfMemory-clause-expands g c = breaks c.args.self.now c.turns.self c.args.input.now.pending c.turns.input _ _ _ _ c.requires.idle c.turns.invariant.runs
 
 pub returns-in-Err-clause-expands : goal.returns-in-Err-clause-expands
 returns-in-Err-clause-expands g c =
@@ -37,13 +37,13 @@ returns-in-Ok-hand_on-clause-expands g c =
     ended c.args.self.now c.pass_plain.new.self c.turn.new.self c.hand_on.new.self c.args.input.now.pending c.turn.new.input.pending c.pass_plain.new.input _ _ _ _ _ _ c.in-Ok-turn.turned c.in-Ends.cause c.requires.idle r c.in-Ok-turn.ensures.moves c.in-Ends.is c.in-Ok-hand_on.ensures.engine c.in-Ok-turn.ensures.limits c.in-Ok-hand_on.ensures.output c.in-Ok-hand_on.ensures.messages
 
 pub turns-smaller : goal.turns-smaller
-turns-smaller g c = fell c.turns.self c.pass_plain.new.self c.turn.new.self c.hand_on_due.new.self c.turns.input c.pass_plain.new.input c.turn.new.input.pending _ _ _ _ c.in-Ok-turn.turned c.turns.invariant.runs.ready c.in-Ok.ensures.passes c.in-Ok-turn.ensures.moves c.in-GoesOn.is c.in_default.ensures.some
+turns-smaller g c = fell c.turns.self c.pass_plain.new.self c.turn.new.self c.hand_on_due.new.self c.turns.input c.pass_plain.new.input c.turn.new.input.pending _ _ _ _ c.in-Ok-turn.turned c.turns.invariant.runs.ready c.in-Ok.ensures.passes c.in-Ok-turn.ensures.moves c.in-GoesOn.is c.in_default-hand_on_due.ensures.some
 
 pub turns-preserved : goal.turns-preserved
 turns-preserved g c =
     let r = passed c.args.self.now c.turns.self c.pass_plain.new.self c.args.input.now.pending c.turns.input c.pass_plain.new.input _ _ _ _ c.turns.invariant.runs c.in-Ok.ensures.passes in
     record {
-      runs = went_on c.args.self.now c.pass_plain.new.self c.turn.new.self c.hand_on_due.new.self c.args.input.now.pending c.pass_plain.new.input c.turn.new.input _ _ _ _ _ _ c.in-Ok-turn.turned r c.in-Ok-turn.ensures.moves c.in-GoesOn.is (search rules) c.in-Ok-turn.ensures.limits c.in_default.ensures.some;
-      out = c.in_default.ensures.counted.0 ∙ c.turns.invariant.out;
-      told = c.in_default.ensures.counted.1 ∙ c.turns.invariant.told;
+      runs = went_on c.args.self.now c.pass_plain.new.self c.turn.new.self c.hand_on_due.new.self c.args.input.now.pending c.pass_plain.new.input c.turn.new.input _ _ _ _ _ _ c.in-Ok-turn.turned r c.in-Ok-turn.ensures.moves c.in-GoesOn.is (search rules) c.in-Ok-turn.ensures.limits c.in_default-hand_on_due.ensures.some;
+      out = c.in_default-hand_on_due.ensures.counted.0 ∙ c.turns.invariant.out;
+      told = c.in_default-hand_on_due.ensures.counted.1 ∙ c.turns.invariant.told;
     }
