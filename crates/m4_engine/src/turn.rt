@@ -457,7 +457,6 @@ impl Machine {
     }
 
     /// A token, which is taken already.
-    #[inline(always)]
     fn take_token<R: ByteSource>(
         &mut self,
         token: Token,
@@ -539,7 +538,7 @@ impl Machine {
     }
 
     /// The first token of what is pending, of which nothing is known, and what it does.
-    #[inline(always)]
+    #[inline(never)]
     fn take_next<R: ByteSource>(
         &mut self,
         line: u64,
