@@ -1,15 +1,15 @@
 -- Act: what a call does to the state, and what it leaves to be done.
 -- Believed. Its lemmas: `ActKeeps` (a state in order stays so).
 -- Manual: "Defining a macro", "Deleting a macro", "Deleting whitespace in input", "Changing the
--- quote characters", "Changing the comment delimiters", "Arguments to macros".
--- Words: row, act, IsPushed. One line a builtin, one a kind of definition.
+-- quote characters", "Changing the comment delimiters", "Arguments to macros", "Macro invocation".
+-- Words: row, act, IsPushed, needs_list. One line a builtin, one a kind of definition.
 -- own: a placeholder, which stands for a builtin of another m4, expands to nothing with a warning.
 use Rattle.std.specs.Prelude.{ℕ, Bool, true, false, nat_lt, List, [], ◌∷◌, ◌++◌, Option, Some, None, length, map, fold}
 use Rattle.m4_state.specs.declared.builtin.Builtin.{Builtin}
 use Rattle.m4_state.specs.declared.builtin.Builtin.TheVariants.{Define, Undefine, Dnl, Changequote, Changecom}
 use Rattle.m4_state.specs.declared.definition.Def.{Def}
 use Rattle.m4_state.specs.declared.definition.Def.TheVariants as defs
-use Rattle.m4_state.specs.Builtin.{takes_tokens, least_of, most_of}
+use Rattle.m4_state.specs.Builtin.{needs_args, takes_tokens, least_of, most_of}
 use Rattle.m4_state.specs.Definition.{IsDefinition}
 use Rattle.m4_state.specs.Delimiters.{default_quotes}
 use Rattle.m4_state.specs.State.{State, defined, undefined, with_quotes, with_comments}
@@ -33,6 +33,12 @@ abbrev pub IsPushed : Option Pushed → Type 0
 IsPushed None = Unit {0}
 IsPushed (Some (pushes.Text x)) = Unit {0}
 IsPushed (Some (pushes.Definition d)) = IsDefinition d
+
+-- whether a definition is recognised only with parameters: without a list its name is text
+abbrev pub needs_list : Def → Bool
+needs_list (defs.Text x) = false
+needs_list (defs.Builtin b) = needs_args b
+needs_list (defs.Placeholder x) = false
 
 -- nothing is left to be done
 abbrev pub nothing : Effect

@@ -3,3 +3,5 @@ pub mod Subst
 pub mod Messages
 pub mod Act
 pub mod Numbers
+pub mod CallHead
+pub mod HeadView

@@ -1,4 +1,4 @@
-//! What a call does: the texts with their arguments put in, and the builtins.
+//! What a call is, and what it does: the texts with their arguments put in, and the builtins.
 //!
 //! [`act::act`] does a call. `specs/Subst.antt` says what a text expands to, `specs/Act.antt` what each
 //! call does, `specs/Messages.antt` what is told of it.
@@ -9,6 +9,7 @@ pub mod act;
 pub mod args;
 pub mod effect;
 pub mod fault;
+pub mod head;
 pub mod messages;
 pub mod place;
 mod rows;

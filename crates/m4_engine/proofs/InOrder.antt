@@ -22,7 +22,7 @@ use Rattle.m4_engine.specs.Expansion.{RunSoFar, Limits, Call, Mode, Outside, Col
 use Rattle.m4_engine.specs.declared.role.Role.{Role}
 use Rattle.m4_engine.specs.declared.role.Role.TheVariants.{Opening, Closing, Separator, Blank, Other}
 use Rattle.m4_engine.specs.Args.{end_argument, with_parenthesis, role_of, take_closing, take_byte}
-use Rattle.m4_engine.specs.Expand.{with_pushed, skip_all, skip_line, skip_or_push, effected, acted_at, kept_of, behind_call, called, join_by, join, call_of, bare, collect, call_unless_deep, is_deep, call_if_room, needs_list, call_without_list, take_call, take_name, take_other, take_end, take_token, take_front, turn, size_of, calls_left, spent_at, expand}
+use Rattle.m4_engine.specs.Expand.{with_pushed, skip_all, skip_line, skip_or_push, effected, acted_at, kept_of, behind_call, called, join_by, join, call_of, bare, collect, call_unless_deep, is_deep, call_if_room, call_without_list, take_call, take_name, take_other, take_end, take_token, take_front, turn, size_of, calls_left, spent_at, expand}
 use Rattle.m4_state.specs.declared.definition.Def.TheVariants as defs
 use Rattle.m4_state.specs.declared.builtin.Builtin.{Builtin}
 use Rattle.m4_state.specs.Builtin.{builtin_named}
@@ -32,7 +32,7 @@ use Rattle.m4_state.proofs.Tables.{AllByRecursion-push}
 use Rattle.m4_state.proofs.StaysInOrder.{IsState-appended, IsState-pushed, IsState-with_quotes, IsState-with_comments, IsState-diverted, IsState-empty, IsState-fresh, top_definition}
 use Rattle.m4_input.proofs.Consumed.{NoDefinition, scan_plain}
 use Rattle.m4_builtins.specs.Args.{IsArg}
-use Rattle.m4_builtins.specs.Act.{IsPushed}
+use Rattle.m4_builtins.specs.Act.{IsPushed, needs_list}
 use Rattle.m4_builtins.proofs.ActKeeps.{act_keeps, act_pushes}
 use Rattle.m4_frozen.specs.Directive.{Directive, Quotes, Comments, Text, Builtin as NamedBuiltin, Diversion}
 use Rattle.m4_frozen.specs.Spells.{SpellsAll, SpellsOne}

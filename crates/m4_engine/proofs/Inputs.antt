@@ -6,9 +6,7 @@ use Rattle.m4_state.specs.declared.definition.Def.{Def}
 use Rattle.m4_input.specs.declared.pushed.Pushed.{Pushed}
 use Rattle.m4_input.specs.declared.pushed.Pushed.TheVariants as pushes
 use Rattle.m4_input.specs.Pending.{Pending, consumed, text_of, line_length}
-use Rattle.m4_input.specs.Input.{Held, longer, with_pushed, all_read, all_read_if_ended, behind_line_of, behind_line, Reads, SkipGives, ParenGives, answer_of}
-use Rattle.m4_state.specs.declared.delimiters.Delimiters.{Delimiters}
-use Rattle.m4_input.specs.Paren.{paren_at}
+use Rattle.m4_input.specs.Input.{Held, longer, with_pushed, all_read, all_read_if_ended, behind_line_of, behind_line, Reads, SkipGives}
 use Rattle.m4_builtins.specs.Act.{IsPushed}
 use Rattle.m4_engine.specs.Nesting.{Closed}
 use Rattle.m4_engine.specs.Expansion.{Expansion, reading}
@@ -72,12 +70,3 @@ pushed old new v r n i e = (
   (λ s f. value_pushed v s ∙ ap (λ (p : Pending). Closed (reading (with_pushed v p) s)) f ∙ sym (ap (λ (h : Held). Closed (reading h.pending s)) e)),
   subst (Stays old) (sym e) (value_keeps v old r n i),
 )
-
--- a test leaves a closed input as it is
-pub seen : (q c : Delimiters) (before behind : Option Script) (old new : Held) (b : Bool) → IsReady old → ParenGives q c before behind old new (Ok b) → (paren_at q c old.pending ≡ answer_of b) × (new ≡ old)
-seen q c before behind old new b r g =
-    let e : new.pending ≡ old.pending = closed_reads before behind old.pending g.0 new.pending g.1 r.closed in (
-      sym (ap (paren_at q c) e) ∙ g.2,
-      ap (λ (p : Pending). let h : Held = record { pending = p; fault = new.fault } in h) e
-          ∙ ap (λ f. let h : Held = record { pending = old.pending; fault = f } in h) (g.4 ∙ sym g.3),
-    )

@@ -1,6 +1,6 @@
 -- Named: a name that is called, as the definitions' move.
-use Rattle.std.proofs.Common.{◌≡◌, [], subst, ℕ, Bool, true, false, List, Option, Some, None, refl, sym, ap, ◌∙◌}
-use Rattle.std.specs.Prelude.{unwrap_or, Result, Ok, Err, IfOk}
+use Rattle.std.proofs.Common.{◌≡◌, [], ℕ, Bool, true, false, List, Option, Some, None, refl, sym, ap, ◌∙◌}
+use Rattle.std.specs.Prelude.{unwrap_or}
 use Rattle.m4_state.specs.declared.definition.Def.{Def}
 use Rattle.m4_state.specs.State.{top_of}
 use Rattle.m4_input.specs.Pending.{Pending, name_of, line_of}
@@ -8,12 +8,10 @@ use Rattle.m4_input.specs.Paren.{paren_at}
 use Rattle.m4_input.specs.Input.{answer_of}
 use Rattle.m4_builtins.specs.declared.place.Place.{Place}
 use Rattle.m4_builtins.specs.Args.{or_empty}
-use Rattle.m4_engine.specs.declared.turned.Turned.{Turned}
-use Rattle.m4_engine.specs.declared.turned.TurnFault.{TurnFault}
-use Rattle.m4_engine.specs.Expansion.{Call, Expansion, Kept, place_at}
-use Rattle.m4_engine.specs.Expand.{call, call_of, needs_list, take_call, take_name, call_without_list}
-use Rattle.m4_engine.specs.Engine.{Engine, outer_of, here_of, step, Moves}
-use Rattle.m4_engine.proofs.Acts.{moves_by}
+use Rattle.m4_builtins.specs.Act.{needs_list}
+use Rattle.m4_engine.specs.Expansion.{Expansion, Kept, place_at}
+use Rattle.m4_engine.specs.Expand.{call, call_of, take_call, take_name, call_without_list}
+use Rattle.m4_engine.specs.Engine.{Engine, outer_of, here_of, step}
 
 -- the file of a place, as two definitions give it
 file_is : (o : Option (List ℕ)) → or_empty o ≡ unwrap_or o []
@@ -39,14 +37,3 @@ named e d name listed p before at o m h k i j =
     ∙ ap (λ v. step (outer_of e.open_calls) (take_call v (call_of d name (place_at before)) p (here_of o m e before))) k
     ∙ recognised listed (outer_of e.open_calls) d name (place_at before) p (here_of o m e before) i
     ∙ ap (λ (x : Place). step (outer_of e.open_calls) (call listed (call_of d name x) p (here_of o m e before))) (sym j)
-
--- a name that is called
-pub named_result : (e e1 : Engine) (d : Def) (name : List ℕ) (listed : Bool) (p p' : Pending) (at : Place) (r : Result Turned TurnFault) → Some d ≡ top_of e.state name → paren_at (e.state).quotes (e.state).comments p ≡ answer_of listed → (listed ≡ false → needs_list d ≡ false) → at.file ≡ name_of p → IfOk r (λ t. (before : Pending) → Moves e1 p' t (λ o m. step (outer_of e.open_calls) (call listed (call_of d name at) p (here_of o m e before)))) → IfOk r (λ t. (before : Pending) → at.line ≡ line_of before → before.file ≡ p.file → Moves e1 p' t (λ o m. step (outer_of e.open_calls) (take_name (top_of e.state name) name p (here_of o m e before))))
-named_result e e1 d name listed p p' at (Ok t) h k i f g = λ before l q. moves_by e1 p' t _ _ (λ o m. named e d name listed p before at o m h k i (place_is at before p f l q)) (g before)
-named_result e e1 d name listed p p' at (Err x) h k i f g = tt
-
--- the same, where the call and what is pending have names of their own
-pub name_called : (e e1 : Engine) (d : Def) (name : List ℕ) (listed : Bool) (p q p' : Pending) (at : Place) (c : Call) (r : Result Turned TurnFault) → Some d ≡ top_of e.state name → paren_at (e.state).quotes (e.state).comments p ≡ answer_of listed → (listed ≡ false → needs_list d ≡ false) → at.file ≡ name_of p → q ≡ p → c ≡ call_of d name at → IfOk r (λ t. (before : Pending) → Moves e1 p' t (λ o m. step (outer_of e.open_calls) (call listed c q (here_of o m e before)))) → IfOk r (λ t. (before : Pending) → at.line ≡ line_of before → before.file ≡ p.file → Moves e1 p' t (λ o m. step (outer_of e.open_calls) (take_name (top_of e.state name) name p (here_of o m e before))))
-name_called e e1 d name listed p q p' at c r h k i f a b g =
-    let G : Call → Pending → Type 0 = λ c q. IfOk r (λ t. (before : Pending) → Moves e1 p' t (λ o m. step (outer_of e.open_calls) (call listed c q (here_of o m e before)))) in
-    named_result e e1 d name listed p p' at r h k i f (subst (G (call_of d name at)) a (subst (λ (c : Call). G c q) b g))

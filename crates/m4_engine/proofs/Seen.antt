@@ -12,6 +12,7 @@ use Rattle.m4_input.specs.declared.front.Scan.TheVariants.{Found}
 use Rattle.m4_input.specs.declared.token.Token.TheVariants.{Name, Byte}
 use Rattle.m4_input.proofs.Parts.{drop_parts}
 use Rattle.m4_builtins.specs.declared.place.Place.{Place}
+use Rattle.m4_builtins.specs.Act.{needs_list}
 use Rattle.m4_engine.specs.declared.ahead.Meaning.{Meaning}
 use Rattle.m4_engine.specs.declared.ahead.Named.{Named}
 use Rattle.m4_engine.specs.declared.ahead.Ahead.{Ahead}
@@ -19,7 +20,7 @@ use Rattle.m4_engine.specs.declared.ahead.Ahead.TheVariants as aheads
 use Rattle.m4_engine.specs.declared.turned.Turned.{Turned}
 use Rattle.m4_engine.specs.declared.turned.TurnFault.{TurnFault}
 use Rattle.m4_engine.specs.Expansion.{Call, Limits, place_at, issued, reading, put_text}
-use Rattle.m4_engine.specs.Expand.{call, call_of, needs_list, take_call, call_without_list, take_name}
+use Rattle.m4_engine.specs.Expand.{call, call_of, take_call, call_without_list, take_name}
 use Rattle.m4_engine.specs.Ahead.{IsMeaning, IsAheadOf}
 use Rattle.m4_engine.specs.Engine.{Engine, outer_of, here_of, leaves_call, is_bare, configuration, put_in, with_text, step, Moves, IsAhead}
 use Rattle.m4_state.specs.State.{top_of}
@@ -27,7 +28,7 @@ use Rattle.m4_builtins.specs.Subst.{subst as substituted}
 use Rattle.m4_state.specs.declared.definition.Def.TheVariants.{Text}
 use Rattle.m4_engine.specs.declared.ahead.Meaning.TheVariants as meanings
 use Rattle.m4_engine.specs.declared.turned.Turned.TheVariants as turns
-use Rattle.m4_engine.specs.CallHead.{CallHead}
+use Rattle.m4_builtins.specs.CallHead.{CallHead}
 use Rattle.m4_engine.specs.Nesting.{GoOn}
 use Rattle.m4_engine.specs.OpenCalls.{Goes}
 use Rattle.m4_engine.proofs.Acts.{moves_by}

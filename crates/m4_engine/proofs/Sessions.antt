@@ -15,8 +15,8 @@ use Rattle.m4_engine.specs.Run.{result_of}
 use Rattle.m4_engine.specs.Wraps.{after_wraps, close}
 use Rattle.m4_engine.proofs.Begins.{nothing_begun}
 use Rattle.m4_engine.specs.Engine.{Engine}
-use Rattle.m4_engine.specs.Expands.{comes_to, Expanded, Broken, Expands, Failures, FailsBy, at_rest}
-use Rattle.m4_engine.specs.Session.{Standing, Writers, progress_of, written, how_over, IsOpen, FileDone, FileBroke, FileGives, answer_by, over_behind, behind_wraps, FinishGives, WriteFails}
+use Rattle.m4_engine.specs.Expands.{comes_to, Expanded, Broken, Expands, at_rest}
+use Rattle.m4_engine.specs.Session.{Standing, Writers, progress_of, written, how_over, IsOpen, FileDone, FileBroke, FileGives, answer_by, over_behind, behind_wraps, FinishGives}
 
 -- what a file's input has in hand when it was read
 pub whole_file : (name x : List ℕ) (before behind : Option Script) (p : Pending) → Reads before behind (unread_file name).pending x p → p.may_follow ≡ false → p ≡ file_pending name x false
@@ -103,23 +103,6 @@ file_gives old new e0 e1 e2 missed over finished name i0 i before behind w cause
     subst (λ (x : Standing). FileGives name before behind x new w result) (sym o')
     (subst (λ (x : Standing). FileGives name before behind (standing_of e0 missed None false) x w result) (sym v')
     (subst (λ x. FileGives name before behind (standing_of e0 missed None false) (standing_of (at_rest e1) missed (over_behind cause None) false) w x) (sym r) g))
-
--- the answer by the cause tells the same failures
-pub answer_fails : (cause : Cause) (f : Failures) (r : Result Unit Stop) → FailsBy cause f → r ≡ answer_by cause → WriteFails r f
-answer_fails cause f r h e = subst (λ x. WriteFails x f) (sym e) (go cause h)
-  where
-    go : (c : Cause) → FailsBy c f → WriteFails (answer_by c) f
-    go causes.Done h = h
-    go (causes.Exited n) h = h
-    go causes.EndInString h = h
-    go causes.EndInComment h = h
-    go causes.EndInArguments h = h
-    go causes.ExpansionLimit h = h
-    go causes.NestingLimit h = h
-    go (causes.Frozen x) h = h
-    go causes.Read h = h
-    go causes.Write h = h
-    go causes.OutOfMemory h = h
 
 -- no text stands saved: there is no round
 pub behind_is : (s : Standing) → IsOpen s → s.saved ≡ [] → behind_wraps s ≡ progress_of s

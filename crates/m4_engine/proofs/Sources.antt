@@ -1,6 +1,6 @@
 -- Sources: what a session's call on a source is, where the reader tells its bytes and ends.
 use Rattle.std.proofs.Common.{◌≡◌, ◌⊎◌, inl, inr, ℕ, false, List, [], ◌++◌, Option, Some, None, refl, sym, ap, ◌∙◌, subst, append-nil}
-use Rattle.std.specs.Prelude.{Result, Ok, Err, IfSome}
+use Rattle.std.specs.Prelude.{Result, Ok, Err}
 use Rattle.m4_state.specs.Device.{Script, after_bytes, IsAtEnd, with_bytes, HasBegun}
 use Rattle.m4_engine.specs.declared.ending.Cause.{Cause}
 use Rattle.m4_engine.specs.declared.ending.Cause.TheVariants as causes
@@ -133,11 +133,6 @@ unread_goes old new w p e i v o m =
     subst (λ (x : Stop). GoesTo p old new w (Err x)) (sym i)
     (record { over = v; output = silent_begun w.out_old w.out_new _ o; messages = silent_begun w.told_old w.told_new _ m })
 
--- where a source tells of itself
-pub if_told : (o : Option Source) (P : Source → Type 0) → ((s : Source) → o ≡ Some s → P s) → IfSome o P
-if_told None P h = tt
-if_told (Some s) P h = h s refl
-
 unopened_is : {R : Type 0} (script : R → Option Script) (name : List ℕ) (behind : RunSource R) (s : Source) → StandsFor script (sources.Unopened name) behind s → Unopened name ≡ s
 unopened_is script name behind s (inl t) = let e : Unopened name ≡ s = cc in e
 unopened_is script name behind s (inr m) = sym m
@@ -146,10 +141,6 @@ pub unopened_stands : {R : Type 0} (script : R → Option Script) (old new : Sta
 unopened_stands script old new name first behind w r s f l t o h =
     let k : StandsFor script (sources.Unopened name) behind s = subst (λ x. StandsFor script x behind s) f t in
     subst (λ (s : Source). GoesTo (after_source old.limits s (progress_of old)) old new w r) (unopened_is script name behind s k) (missing_goes old new name w r l o h)
-
--- a file that was read to its end leaves the session open
-pub file_leaves_open : (old new : Standing) (name : List ℕ) (before behind : Option Script) (w : Writers) → FileGives name before behind old new w (Ok tt) → IsOpen new
-file_leaves_open old new name before behind w h = record { over = h.4; unfinished = (h.3).unfinished }
 
 -- nothing was taken
 none_taken : (b : Option Script) → b ≡ after_bytes [] b

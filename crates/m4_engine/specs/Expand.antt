@@ -7,8 +7,6 @@
 use Rattle.std.specs.Prelude.{ℕ, suc, ◌+◌, ◌-◌, Bool, true, false, ◌&&◌, nat_lt, List, [], ◌∷◌, ◌++◌, Option, Some, None, length, codes}
 use Rattle.std.specs.Fmt.{decimal}
 use Rattle.m4_state.specs.declared.definition.Def.{Def}
-use Rattle.m4_state.specs.declared.definition.Def.TheVariants as defs
-use Rattle.m4_state.specs.Builtin.{needs_args}
 use Rattle.m4_state.specs.State.{top_of}
 use Rattle.m4_input.specs.declared.token.Token.{Token}
 use Rattle.m4_input.specs.declared.token.Token.TheVariants.{Name, Str, Comment, Byte, Definition, End}
@@ -23,7 +21,7 @@ use Rattle.m4_input.specs.Token.{Front, Taken, Refused, More, token_at}
 use Rattle.m4_input.specs.Paren.{paren_at}
 use Rattle.m4_builtins.specs.declared.place.Place.{Place}
 use Rattle.m4_builtins.specs.Args.{or_empty}
-use Rattle.m4_builtins.specs.Act.{Acted, act}
+use Rattle.m4_builtins.specs.Act.{Acted, act, needs_list}
 use Rattle.m4_engine.specs.declared.ending.Cause.{Cause}
 use Rattle.m4_engine.specs.declared.ending.Cause.TheVariants as causes
 use Rattle.m4_engine.specs.Nesting.{Turn, Halt, GoOn, Bare, Opens, Outcome, Halted, Closed, expansion}
@@ -154,12 +152,6 @@ call_if_room false listed c p s =
 
 abbrev pub call : Bool → Call → Pending → Expansion → Turn Expansion Kept Ended
 call listed c p s = call_if_room (nat_lt (s.so_far).calls (s.limits).calls) listed c p s
-
--- whether a definition is recognised only with parameters
-abbrev pub needs_list : Def → Bool
-needs_list (defs.Text x) = false
-needs_list (defs.Builtin b) = needs_args b
-needs_list (defs.Placeholder x) = false
 
 -- a name with a definition and no list: text, if the definition is recognised only with one
 abbrev pub call_without_list : Bool → Call → Pending → Expansion → Turn Expansion Kept Ended

@@ -10,8 +10,6 @@ pub mod Run
 pub mod Settled
 pub mod Carries
 pub mod Laws
-pub mod CallHead
-pub mod HeadView
 pub mod Ahead
 pub mod CallView
 pub mod Engine

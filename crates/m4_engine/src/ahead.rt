@@ -6,9 +6,9 @@ ghost use Rattle.m4_input.specs.Pending.{text_of};
 ghost use Rattle.m4_input.specs.Plain.{IsFirst, FirstLies};
 ghost use Rattle.m4_engine.specs.Ahead.{IsMeaning, IsAheadOf};
 
-use crate::head::Head;
 use crate::turned::TurnFault;
 use m4_builtins::args::{ArgList, Args};
+use m4_builtins::head::Head;
 use m4_builtins::substitute::substitute;
 use m4_input::input::Input;
 use m4_input::plain::First;

@@ -9,9 +9,9 @@ ghost use Rattle.m4_engine.specs.Args.{role_of, argument_of, dropped_if_any, wit
 ghost use Rattle.m4_engine.specs.Engine.{IsCall, told_if};
 ghost use Rattle.m4_engine.specs.Expand.{call_of};
 
-use crate::head::Head;
 use crate::role::Role;
 use m4_builtins::args::{Arg, ArgList};
+use m4_builtins::head::Head;
 use m4_state::bytes::Bytes;
 use m4_state::definition::Def;
 use std::alloc::{AllocError, Global};

@@ -8,7 +8,6 @@ mod ahead;
 mod call;
 mod driver;
 pub mod ending;
-mod head;
 pub mod laws;
 mod machine;
 pub mod options;

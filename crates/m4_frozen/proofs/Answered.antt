@@ -139,18 +139,6 @@ failed_one given a b (inl s) (inr t) = absurd (t.0 a s)
 failed_one given a b (inr s) (inl t) = absurd (s.0 b t)
 failed_one given a b (inr s) (inr t) = s.1 ∙ sym t.1
 
--- the fault of a closed file is the one that its refusal stands for
-pub refused_is_fault : (failed : Bool) (e : Refusal) (bytes : List ℕ) → failed ≡ false
-    → file_at bytes ≡ Err e → IsFaultOf failed bytes (fault_of bytes e)
-refused_is_fault failed e bytes closed h = rw closed (refusal_is_fault e bytes h)
-
--- the fault of a reader that failed is the one that is made from the answer for what it gave
-pub failed_is_fault : (failed : Bool) (r : Result (List Directive) Refusal) (bytes : List ℕ)
-    → failed ≡ true → file_at bytes ≡ r → IsFaultOf failed bytes (failed_answer bytes r)
-failed_is_fault failed r bytes gave h =
-    rw gave (subst (λ (x : Result (List Directive) Refusal). IsFaultOfFailed bytes
-    (failed_answer bytes x)) h (failed_answer_is_fault bytes))
-
 -- no row is want of memory
 no_memory_row : (bytes : List ℕ) (fault : FrozenFault) → IsFault bytes fault
     → fault.kind ≡ kinds.OutOfMemory → ⊥
@@ -163,12 +151,6 @@ fault_has_memory false bytes fault h = no_memory_row bytes fault h.is
 fault_has_memory true bytes fault (inl s) = no_memory_row bytes fault (settled_now bytes fault s)
 fault_has_memory true bytes fault (inr s) = λ e. let k : kinds.Read ≡ kinds.OutOfMemory =
     ap (λ (f : FrozenFault). f.kind) (sym s.1) ∙ e in cc
-
--- what is refused isn't spelled
-pub refused_not_spelled : (e : Refusal) (ds : List Directive) (bytes : List ℕ)
-    → file_at bytes ≡ Err e → Spells ds bytes → ⊥
-refused_not_spelled e ds bytes h p = spelled_no_fault ds bytes (fault_of bytes e) p
-    (refusal_is_fault e bytes h).is
 
 -- the law that bytes spell one list of directives
 pub one_reading : OneReading
@@ -215,9 +197,3 @@ reader_steps_tied = λ bytes. record {
     λ h. failed_one bytes f (failed_answer bytes (file_at bytes)) h (failed_answer_is_fault bytes),
   );
 }
-
--- a failure is answered only where the reader failed
-pub read_fault_failed : (failed : Bool) (bytes : List ℕ) (fault : FrozenFault)
-    → IsFaultOf failed bytes fault → fault.kind ≡ kinds.Read → failed ≡ true
-read_fault_failed false bytes fault h e = absurd (not_read bytes fault h.is e)
-read_fault_failed true bytes fault h e = refl

@@ -52,7 +52,3 @@ show-some (x ∷ bytes) b is f = refl
 pub show-none : (bytes : List ℕ) (b : Bool) → b ≡ nat_eq (length bytes) 0 → b ≡ true → show bytes ≡ codes "\\."
 show-none [] b is t = refl
 show-none (x ∷ bytes) b is t = let none : length bytes + 1 ≡ 0 = eqb-true (length bytes + 1) 0 (rw add-one (sym is ∙ t)) in absurd (omega arith)
-
-pub begin_end_line-some : (word begin end : List ℕ) (b : Bool) → b ≡ nat_eq (length begin) 0 → b ≡ false → two_words_line word begin end ≡ begin_end_line word begin end
-begin_end_line-some word [] end b is f = let bad : true ≡ false = sym is ∙ f in absurd cc
-begin_end_line-some word (x ∷ begin) end b is f = refl

@@ -347,13 +347,6 @@ advanced_more bytes rest here behind old l new inside a s o = record {
       (has_read_lines (read ++ a.front) s.skipped l inside (a.has_read read h) s.same));
 }
 
--- and fewer bytes are left
-pub advanced_less : (rest here behind : List ℕ) (l new : Loading) (inside : Bool)
-    → Skips l.inside rest inside here → HasReadOne here (record l { inside = inside }) new behind
-    → length behind < length rest
-advanced_less rest here behind l new inside s o =
-    omega (arith, ap length s.spelled, length-append s.skipped here, ap length o.spelled, length-append o.one behind, o.some)
-
 -- where no text is open
 pub plain : (read : List ℕ) (l : Loading) → l.begun ≡ None → HasRead read l → IsRead read l
 plain read l n h = subst (λ (o : Option Begun). ReadAs o read l) (sym n) h

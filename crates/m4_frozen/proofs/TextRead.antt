@@ -74,11 +74,6 @@ issued_by-twice (pos zero) a b = refl
 issued_by-twice (pos (suc n)) a b = refl
 issued_by-twice (negsuc n) a b = refl
 
-issued_by-none : (z : ℤ) → issued_by (Diversion z []) ≡ []
-issued_by-none (pos zero) = refl
-issued_by-none (pos (suc n)) = refl
-issued_by-none (negsuc n) = refl
-
 -- the front of a string, and the rest of it
 take-behind : (n m : ℕ) (c more : List ℕ) → n ≡ length c + m → take n (c ++ more) ≡ c ++ take m more
 take-behind n m [] more e = let k : n ≡ m = omega arith in rw k refl

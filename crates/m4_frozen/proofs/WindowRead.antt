@@ -148,11 +148,6 @@ window_failed at_first told w old new pause f u p end e =
     failed_told at_first told given f u.gives end
     (rw place (failed_pause given new pause.refusal (p u.read u.has_read).ends))
 
--- an answer that another one is
-pub same_answer : (at_first : Option Script) (r s : Result Loaded FrozenFault) → r ≡ s
-    → Answers at_first s → Answers at_first r
-same_answer at_first r s e h = rw e h
-
 -- what is never answered
 pub never_read : (P : Type 0) (r : Result Loaded FrozenFault) → IfErr r (λ f. f.kind ≡ kinds.Read → ⊥)
     → IfErr r (λ f. f.kind ≡ kinds.Read → P)

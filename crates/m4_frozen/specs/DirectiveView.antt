@@ -1,19 +1,14 @@
--- The directives that the code lists, as the definitions see them.
+-- A directive of the code, as the definitions see it.
 -- Believed: each variant keeps its name, its number and the bytes of its strings.
--- Manual: "Frozen file format". Words: directive_of, directives_of.
-use Rattle.std.specs.Prelude.{List, map}
+-- Manual: "Frozen file format". Words: directive_of.
 use Rattle.m4_frozen.specs.declared.directive.Directive.{Directive as CodeDirective}
 use Rattle.m4_frozen.specs.declared.directive.Directive.TheVariants as code
 use Rattle.m4_frozen.specs.Directive.{Directive, Quotes, Comments, Text, Builtin, Diversion}
 
--- a directive, whose strings are no longer tied to a place in the file
+-- its strings are no longer tied to a place in the file
 abbrev pub directive_of : CodeDirective → Directive
 directive_of (code.Quotes begin end) = Quotes begin.now end.now
 directive_of (code.Comments begin end) = Comments begin.now end.now
 directive_of (code.Text name text) = Text name.now text.now
 directive_of (code.Builtin name builtin) = Builtin name.now builtin.now
 directive_of (code.Diversion number text) = Diversion number text.now
-
--- several directives, in the file's order
-abbrev pub directives_of : List CodeDirective → List Directive
-directives_of ds = map directive_of ds

@@ -9,7 +9,6 @@ use Rattle.m4_input.specs.declared.token.Token.{Token}
 use Rattle.m4_input.specs.declared.token.Token.TheVariants.{Name, Str, Comment, End}
 use Rattle.m4_input.specs.declared.front.Scan.{Scan}
 use Rattle.m4_input.specs.declared.front.Scan.TheVariants.{Found, Broken, NeedsMore}
-use Rattle.m4_input.specs.declared.front.Unended.{Unended}
 use Rattle.m4_input.specs.declared.front.Mark.{Mark}
 use Rattle.m4_input.specs.declared.front.Mark.TheVariants.{EndQuote, BeginQuote, PlainByte, CutQuote}
 use Rattle.m4_input.specs.declared.front.Kind.{Kind}
@@ -17,7 +16,7 @@ use Rattle.m4_input.specs.declared.front.Kind.TheVariants.{CommentHere, NameHere
 use Rattle.m4_input.specs.declared.front.Answer.TheVariants.{Unknown}
 use Rattle.m4_input.specs.Ascii.{is_letter, is_name_byte}
 use Rattle.m4_input.specs.Pending.{one_more}
-use Rattle.m4_input.specs.Token.{begins, is_cut, is_enabled, starts_with, may_start, run_length, before, mark_by, mark_at, level, unended, comment_found, name_unless, name_at, string_found, string_at, kind_by, kind_of, scan_kind, scan}
+use Rattle.m4_input.specs.Token.{begins, is_cut, is_enabled, starts_with, may_start, run_length, before, mark_by, mark_at, level, comment_found, name_unless, name_at, string_found, string_at, kind_by, kind_of, scan_kind, scan}
 use Rattle.m4_input.specs.Paren.{answer_by, paren_in}
 
 and_true : (a b : Bool) → (a && b) ≡ true → (a ≡ true) × (b ≡ true)
@@ -212,9 +211,6 @@ inside_stable q p k zero (b ∷ y) z n e =
 -- a scan that needs more, or stays
 abbrev pub Stays : Scan → Scan → Type 0
 Stays v w = (v ≡ NeedsMore) ⊎ (w ≡ v)
-
-unended_needs : (f g : Unended) → Stays (unended true f) (unended true g)
-unended_needs f g = inl refl
 
 comment_stays : (c : Delimiters) (p : Bool) (x z : List ℕ) (o o' : Option ℕ) → ((n : ℕ) → o ≡ Some n → (o' ≡ Some n) × (length c.begin + (n + length c.end) ≤ length x)) → Stays (comment_found c true x o) (comment_found c p (x ++ z) o')
 comment_stays c p x z None o' h = inl refl

@@ -3,7 +3,7 @@ use Rattle.std.proofs.Common.{◌≡◌, ℕ, zero, suc, ◌+◌, ◌-◌, ◌<�
 use Rattle.std.proofs.Math.ListN.{drop_of_length-le}
 use Rattle.std.proofs.Math.Seq.{drop-append_seam, take-append_seam, take-add}
 use Rattle.m4_input.specs.Pending.{newlines_in}
-use Rattle.std.proofs.lemmas.List.{take-append-drop, reverse-append, length-reverse, reverse-reverse, append-nil}
+use Rattle.std.proofs.lemmas.List.{take-append-drop, reverse-append, length-reverse, append-nil}
 use Rattle.std.proofs.lemmas.List.Sums.{sum_by-append}
 use Rattle.std.specs.Prelude.{reverse, cond, ◌==◌}
 use Rattle.m4_input.specs.Ascii.{newline}
@@ -89,24 +89,6 @@ pushed_behind t p n h e =
     ap (λ (q : List ℕ). let u : HeldText = record { pushed = q; unread = t.unread; newlines = t.newlines } in u) e
     ∙ ap (λ m. let u : HeldText = record { pushed = drop n t.pushed; unread = t.unread; newlines = m } in u) (sym (add-zero t.newlines))
     ∙ ap (λ m. let u : HeldText = record { pushed = drop n t.pushed; unread = drop m t.unread; newlines = t.newlines + newlines_in (take m t.unread) } in u) none
-
-same_front : (p front x y : List ℕ) → length front ≡ length p → front ++ y ≡ p ++ x → (front ≡ p) × (y ≡ x)
-same_front [] [] x y l e = (refl, e)
-same_front [] (b ∷ front) x y l e = absurd (omega arith)
-same_front (b ∷ p) [] x y l e = absurd (omega arith)
-same_front (b ∷ p) (d ∷ front) x y l e =
-    let rest : front ++ y ≡ p ++ x = cc in
-    let first : d ≡ b = cc in
-    let both = same_front p front x y (omega arith) rest in
-    (ap (λ (z : List ℕ). d ∷ z) both.0 ∙ ap (λ a. a ∷ p) first, both.1)
-
--- text put behind the pushed bytes, and turned round there
-pub turned_onto : (p text front back turned_back : List ℕ) → length front ≡ length p → front ++ back ≡ p ++ text → turned_back ≡ reverse back → reverse (front ++ turned_back) ≡ text ++ reverse p
-turned_onto p text front back turned_back l e h =
-    let both = same_front p front text back l e in
-    reverse-append front turned_back
-    ∙ ap (λ (z : List ℕ). z ++ reverse front) (ap reverse h ∙ reverse-reverse back ∙ both.1)
-    ∙ ap (λ (z : List ℕ). text ++ reverse z) both.0
 
 -- a list that is as long as what it stands in place of
 pub refilled : (n : ℕ) (x y : List ℕ) → length x ≡ n → take n (x ++ y) ≡ x

@@ -1,5 +1,5 @@
 -- PlainRuns: tokens that stand for themselves, one behind the other.
-use Rattle.std.proofs.Common.{◌≡◌, inl, inr, ℕ, ◌+◌, List, [], ◌∷◌, ◌++◌, drop, refl, sym, ap, ◌∙◌, subst, arith}
+use Rattle.std.proofs.Common.{◌≡◌, inl, inr, ℕ, ◌+◌, List, [], ◌∷◌, ◌++◌, drop, sym, ap, ◌∙◌, subst, arith}
 use Rattle.std.proofs.lemmas.List.{drop-drop}
 use Rattle.m4_state.specs.State.{State}
 use Rattle.m4_input.specs.declared.plain.First.TheVariants as firsts
@@ -12,9 +12,6 @@ longer s n (m ∷ lens) x a p =
     let r = longer s n lens (drop m x) a.1 (subst (IsPlain s n) (sym (drop-drop (total lens) m x)) p) in
     let t : total (lens ++ n ∷ []) ≡ total lens + n = r.1 in
     ((a.0, r.0), omega arith)
-
-pub plain_none : (s : State) (x : List ℕ) → IsPlainRun s 0 x
-plain_none s x = ([], tt, refl)
 
 pub plain_more : (s : State) (k n : ℕ) (x : List ℕ) → IsPlainRun s k x → IsPlain s n (drop k x) → IsPlainRun s (k + n) x
 plain_more s k n x r p =

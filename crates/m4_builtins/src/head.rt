@@ -6,10 +6,10 @@
 ghost use Rattle.std.specs.Prelude.{◌≡◌, ◌+◌, ◌≤◌, List, ℕ, length, take, drop, IfOk, IfSome, IfNone};
 ghost use Rattle.m4_state.specs.Definition.{IsDefinition};
 ghost use Rattle.m4_state.specs.declared.definition.Def.TheVariants.{Text};
-ghost use Rattle.m4_engine.specs.Expand.{needs_list};
-ghost use Rattle.m4_engine.specs.HeadView.{definition_at};
+ghost use Rattle.m4_builtins.specs.Act.{needs_list};
+ghost use Rattle.m4_builtins.specs.HeadView.{definition_at};
 
-use m4_builtins::place::Place;
+use crate::place::Place;
 use m4_state::builtin::Builtin;
 use m4_state::bytes::Bytes;
 use m4_state::definition::Def;
@@ -38,11 +38,11 @@ pub struct Head {
 }
 
 impl Model for Head {
-    ghost use Rattle.m4_engine.specs.CallHead.{CallHead};
+    ghost use Rattle.m4_builtins.specs.CallHead.{CallHead};
 
     ghost Value = { CallHead };
 
-    ghost use Rattle.m4_engine.specs.HeadView.{head_view, IsHead};
+    ghost use Rattle.m4_builtins.specs.HeadView.{head_view, IsHead};
 
     ghost view = { head_view };
 

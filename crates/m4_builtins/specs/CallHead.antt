@@ -1,5 +1,5 @@
 -- CallHead: what a call is before its arguments.
--- Not believed: the definitions' call has the same three parts, and `CallView` says which.
+-- Not believed: it only gives its three parts their names. Manual: "Macro invocation".
 use Rattle.std.specs.Prelude.{ℕ, List}
 use Rattle.m4_state.specs.declared.definition.Def.{Def}
 use Rattle.m4_builtins.specs.declared.place.Place.{Place}

@@ -4,10 +4,10 @@ use Rattle.std.specs.Prelude.{ℕ, List, ◌+◌, ◌≤◌, take, drop, length}
 use Rattle.m4_state.specs.declared.definition.Def.{Def}
 use Rattle.m4_state.specs.declared.definition.Def.TheVariants as defs
 use Rattle.m4_state.specs.Definition.{IsDefinition}
-use Rattle.m4_engine.specs.declared.head.Kind.{Kind}
-use Rattle.m4_engine.specs.declared.head.Kind.TheVariants as kinds
-use Rattle.m4_engine.specs.declared.head.Head.TheInside.{Inside}
-use Rattle.m4_engine.specs.CallHead.{CallHead}
+use Rattle.m4_builtins.specs.declared.head.Kind.{Kind}
+use Rattle.m4_builtins.specs.declared.head.Kind.TheVariants as kinds
+use Rattle.m4_builtins.specs.declared.head.Head.TheInside.{Inside}
+use Rattle.m4_builtins.specs.CallHead.{CallHead}
 
 -- the definition of a kind whose text is x
 abbrev pub definition_at : Kind → List ℕ → Def
