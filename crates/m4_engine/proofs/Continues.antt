@@ -17,6 +17,7 @@ use Rattle.m4_input.specs.Paren.{paren_in, paren_from, paren_at}
 use Rattle.m4_state.specs.State.{top_of}
 use Rattle.m4_input.specs.declared.pushed.Pushed.{Pushed}
 use Rattle.m4_input.specs.declared.pushed.Pushed.TheVariants as pushes
+use Rattle.m4_input.specs.Input.{longer}
 use Rattle.m4_builtins.specs.Act.{needs_list}
 use Rattle.m4_engine.specs.declared.ending.Cause.TheVariants as causes
 use Rattle.m4_engine.specs.Nesting.{Turn, Halt, Close, GoOn, Bare, Opens, Outcome, Halted, Closed, then_on, after}
@@ -24,8 +25,8 @@ use Rattle.m4_engine.specs.Expansion.{Call, Mode, Outside, Collecting, Expansion
 use Rattle.m4_engine.specs.declared.role.Role.{Role}
 use Rattle.m4_engine.specs.declared.role.Role.TheVariants.{Opening, Closing, Separator, Blank, Other}
 use Rattle.m4_engine.specs.Args.{role_of, take_closing, take_byte}
-use Rattle.m4_engine.specs.Expand.{with_pushed, skip_all, skip_line, skip_or_push, effected, acted_at, kept_of, behind_call, called, join_by, join, call_of, bare, collect, call_unless_deep, is_deep, call_if_room, call_without_list, take_call, take_name, take_other, take_token, take_front, unended_cause, turn, size_of, calls_left, spent_at, expand}
-use Rattle.m4_engine.proofs.Growth.{Extends, made_out, longer, longer_level, Continues, Begins}
+use Rattle.m4_engine.specs.Expand.{with_value, skip_all, skip_line, skip_or_push, effected, acted_at, kept_of, behind_call, called, join_by, join, call_of, bare, collect, call_unless_deep, is_deep, call_if_room, call_without_list, take_call, take_name, take_other, take_token, take_front, unended_cause, turn, size_of, calls_left, spent_at, expand}
+use Rattle.m4_engine.proofs.Growth.{Extends, made_out, longer_level, Continues, Begins}
 use Rattle.m4_input.specs.declared.front.Unended.TheVariants.{InString, InComment}
 use Rattle.m4_input.proofs.OpenEnd.{NoEnd, scan_no_end, scan_stays, scan_fits, paren_in_stays, one_more_is}
 use Rattle.m4_engine.proofs.Bounds.{expansion_is}
@@ -106,12 +107,12 @@ module _ (z : List ℕ) (b : Bool) where
         | false ↦ λ f. let h = one_more_is (line_length x) n f in let k = line_stays x h.0 h.1 in let l : h.0 ≤ length x = k.1 in let m : n ≡ suc h.0 = h.2 in (ap one_more k.0 ∙ sym (ap Some h.2), omega arith)
       ]) e
 
-  pushed_same : (v : Option Pushed) (p : Pending) → with_pushed v (longer z b p) ≡ longer z b (with_pushed v p)
+  pushed_same : (v : Option Pushed) (p : Pending) → with_value v (longer z b p) ≡ longer z b (with_value v p)
   pushed_same None p = refl
   pushed_same (Some (pushes.Text x)) p = refl
   pushed_same (Some (pushes.Definition d)) p = refl
 
-  pushed_partial : (v : Option Pushed) (p : Pending) → (with_pushed v p).may_follow ≡ p.may_follow
+  pushed_partial : (v : Option Pushed) (p : Pending) → (with_value v p).may_follow ≡ p.may_follow
   pushed_partial None p = refl
   pushed_partial (Some (pushes.Text x)) p = refl
   pushed_partial (Some (pushes.Definition d)) p = refl

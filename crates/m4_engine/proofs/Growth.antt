@@ -1,6 +1,6 @@
 -- Growth: words on what an expansion adds to what was written, and on longer inputs.
 use Rattle.std.proofs.Common.{◌≡◌, ◌≢◌, ℕ, Bool, true, List, ◌++◌, ◌⊎◌}
-use Rattle.m4_input.specs.Pending.{Pending}
+use Rattle.m4_input.specs.Input.{longer}
 use Rattle.m4_engine.specs.declared.ending.Cause.TheVariants as causes
 use Rattle.m4_engine.specs.Nesting.{Outcome, Halted, Closed}
 use Rattle.m4_engine.specs.Expansion.{RunSoFar, Expansion, Ended, Ends, WantsMore}
@@ -17,10 +17,7 @@ abbrev pub made_out : Outcome Expansion Ended → RunSoFar
 made_out (Halted d) = d.so_far
 made_out (Closed t) = t.so_far
 
--- a pending input with more bytes behind it, and an end
-abbrev pub longer : List ℕ → Bool → Pending → Pending
-longer z b p = record p { unread = p.unread ++ z; may_follow = b }
-
+-- a level whose pending input has more bytes behind it, and an end
 abbrev pub longer_level : List ℕ → Bool → Expansion → Expansion
 longer_level z b s = record s { pending = longer z b s.pending }
 

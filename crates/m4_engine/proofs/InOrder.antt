@@ -22,7 +22,7 @@ use Rattle.m4_engine.specs.Expansion.{RunSoFar, Limits, Call, Mode, Outside, Col
 use Rattle.m4_engine.specs.declared.role.Role.{Role}
 use Rattle.m4_engine.specs.declared.role.Role.TheVariants.{Opening, Closing, Separator, Blank, Other}
 use Rattle.m4_engine.specs.Args.{end_argument, with_parenthesis, role_of, take_closing, take_byte}
-use Rattle.m4_engine.specs.Expand.{with_pushed, skip_all, skip_line, skip_or_push, effected, acted_at, kept_of, behind_call, called, join_by, join, call_of, bare, collect, call_unless_deep, is_deep, call_if_room, call_without_list, take_call, take_name, take_other, take_end, take_token, take_front, turn, size_of, calls_left, spent_at, expand}
+use Rattle.m4_engine.specs.Expand.{with_value, skip_all, skip_line, skip_or_push, effected, acted_at, kept_of, behind_call, called, join_by, join, call_of, bare, collect, call_unless_deep, is_deep, call_if_room, call_without_list, take_call, take_name, take_other, take_end, take_token, take_front, turn, size_of, calls_left, spent_at, expand}
 use Rattle.m4_state.specs.declared.definition.Def.TheVariants as defs
 use Rattle.m4_state.specs.declared.builtin.Builtin.{Builtin}
 use Rattle.m4_state.specs.Builtin.{builtin_named}
@@ -143,7 +143,7 @@ unfolding ValidOut
 skip_line_valid None s h = skip_all_valid (s.pending).may_follow s h
 skip_line_valid (Some n) s h = (h.0, none_valid, h.2)
 
-pushed_valid : (v : Option Pushed) (p : Pending) → IsPushed v → ValidToken p.definition → ValidToken (with_pushed v p).definition
+pushed_valid : (v : Option Pushed) (p : Pending) → IsPushed v → ValidToken p.definition → ValidToken (with_value v p).definition
 unfolding ValidToken
 pushed_valid None p i h = h
 pushed_valid (Some (pushes.Text x)) p i h = h

@@ -56,10 +56,6 @@ skipped before behind old new v r g =
       record { ready = record { sound = g.5; closed = k.0; front = none_is_front (new.pending).definition k.1 }; file = k.2 },
     )
 
-value_pushed : (v : Pushed) (s : Expansion) → skip_or_push false (Some v) s ≡ Closed (reading (with_pushed v s.pending) s)
-value_pushed (pushes.Text x) s = refl
-value_pushed (pushes.Definition d) s = refl
-
 value_keeps : (v : Pushed) (old : Held) → IsReady old → (old.pending).definition ≡ None → IsPushed (Some v) → Stays old (record old { pending = with_pushed v old.pending })
 value_keeps (pushes.Text x) old r n i = record { ready = record { sound = r.sound; closed = r.closed; front = r.front }; file = refl }
 value_keeps (pushes.Definition d) old r n i = record { ready = record { sound = r.sound; closed = r.closed; front = i }; file = refl }
@@ -67,6 +63,6 @@ value_keeps (pushes.Definition d) old r n i = record { ready = record { sound = 
 -- a value is pushed
 pub pushed : (old new : Held) (v : Pushed) → IsReady old → (old.pending).definition ≡ None → IsPushed (Some v) → new ≡ record old { pending = with_pushed v old.pending } → ((s : Expansion) → s.pending ≡ old.pending → skip_or_push false (Some v) s ≡ Closed (reading new.pending s)) × Stays old new
 pushed old new v r n i e = (
-  (λ s f. value_pushed v s ∙ ap (λ (p : Pending). Closed (reading (with_pushed v p) s)) f ∙ sym (ap (λ (h : Held). Closed (reading h.pending s)) e)),
+  (λ s f. ap (λ (p : Pending). Closed (reading (with_pushed v p) s)) f ∙ sym (ap (λ (h : Held). Closed (reading h.pending s)) e)),
   subst (Stays old) (sym e) (value_keeps v old r n i),
 )

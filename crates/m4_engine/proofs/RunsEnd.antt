@@ -24,7 +24,7 @@ use Rattle.m4_engine.specs.Expansion.{RunSoFar, Limits, Call, Mode, Outside, Col
 use Rattle.m4_engine.specs.declared.role.Role.{Role}
 use Rattle.m4_engine.specs.declared.role.Role.TheVariants.{Opening, Closing, Separator, Blank, Other}
 use Rattle.m4_engine.specs.Args.{role_of, take_closing, take_byte}
-use Rattle.m4_engine.specs.Expand.{with_pushed, skip_all, skip_line, skip_or_push, effected, kept_of, behind_call, called, join_by, join, call_of, bare, collect, call_unless_deep, is_deep, call_if_room, call_without_list, take_call, take_name, take_other, take_end, take_token, take_front, unended_cause, turn, size_of, calls_left, spent_at, expand}
+use Rattle.m4_engine.specs.Expand.{with_value, skip_all, skip_line, skip_or_push, effected, kept_of, behind_call, called, join_by, join, call_of, bare, collect, call_unless_deep, is_deep, call_if_room, call_without_list, take_call, take_name, take_other, take_end, take_token, take_front, unended_cause, turn, size_of, calls_left, spent_at, expand}
 use Rattle.m4_engine.specs.Expand.{mode_behind_call, expansion_of, ended_of, expand_input}
 use Rattle.m4_engine.specs.declared.options.Options.{Options}
 use Rattle.m4_engine.specs.File.{Source, Opened, Unopened, Progress, file_pending, over_by, over_of, unless_over, read_source, after_source, after_sources}
@@ -77,7 +77,7 @@ unfolding Outs
 skip_line_outs None s h = skip_all_outs (s.pending).may_follow s h h
 skip_line_outs (Some n) s h = (refl, h)
 
-pushed_closed : (v : Option Pushed) (p : Pending) → p.may_follow ≡ false → (with_pushed v p).may_follow ≡ false
+pushed_closed : (v : Option Pushed) (p : Pending) → p.may_follow ≡ false → (with_value v p).may_follow ≡ false
 pushed_closed None p h = h
 pushed_closed (Some (pushes.Text x)) p h = h
 pushed_closed (Some (pushes.Definition d)) p h = h

@@ -15,10 +15,10 @@ use Rattle.m4_input.specs.declared.front.Unended.TheVariants.{InString, InCommen
 use Rattle.m4_input.specs.declared.front.Answer.{Answer}
 use Rattle.m4_input.specs.declared.front.Answer.TheVariants.{Yes, No, Unknown}
 use Rattle.m4_input.specs.declared.pushed.Pushed.{Pushed}
-use Rattle.m4_input.specs.declared.pushed.Pushed.TheVariants as pushes
-use Rattle.m4_input.specs.Pending.{Pending, text_of, consumed, with_text, with_definition, line_length}
+use Rattle.m4_input.specs.Pending.{Pending, text_of, consumed, line_length}
 use Rattle.m4_input.specs.Token.{Front, Taken, Refused, More, token_at}
 use Rattle.m4_input.specs.Paren.{paren_at}
+use Rattle.m4_input.specs.Input.{with_pushed}
 use Rattle.m4_builtins.specs.declared.place.Place.{Place}
 use Rattle.m4_builtins.specs.Args.{or_empty}
 use Rattle.m4_builtins.specs.Act.{Acted, act, needs_list}
@@ -28,11 +28,10 @@ use Rattle.m4_engine.specs.Nesting.{Turn, Halt, GoOn, Bare, Opens, Outcome, Halt
 use Rattle.m4_engine.specs.Expansion.{RunSoFar, Limits, Call, Mode, Outside, Collecting, Expansion, Kept, Ends, WantsMore, Spent, Ended, place_at, with_call, reading, stop, fail, put_text, put_token}
 use Rattle.m4_engine.specs.Args.{take_byte, role_of}
 
--- a value is put in front of what is pending
-abbrev pub with_pushed : Option Pushed → Pending → Pending
-with_pushed None p = p
-with_pushed (Some (pushes.Text x)) p = with_text x p
-with_pushed (Some (pushes.Definition d)) p = with_definition d p
+-- a value, if there is one, is put in front of what is pending
+abbrev pub with_value : Option Pushed → Pending → Pending
+with_value None p = p
+with_value (Some v) p = with_pushed v p
 
 -- a text is saved for the end
 abbrev pub with_saved : Option (List ℕ) → List (List ℕ) → List (List ℕ)
@@ -61,7 +60,7 @@ skip_line (Some n) s = Closed (reading (consumed n s.pending) s)
 -- behind a call: the rest of the line is skipped, or a value is read before everything else
 abbrev pub skip_or_push : Bool → Option Pushed → Expansion → Outcome Expansion Ended
 skip_or_push true v s = skip_line (line_length (text_of s.pending)) s
-skip_or_push false v s = Closed (reading (with_pushed v s.pending) s)
+skip_or_push false v s = Closed (reading (with_value v s.pending) s)
 
 -- behind a call that may end the run
 abbrev pub effected : Option ℕ → Bool → Option Pushed → Expansion → Outcome Expansion Ended
