@@ -15,12 +15,13 @@ use Rattle.m4_input.specs.Token.{scan, Front, Taken, Refused, More, front_by, fr
 use Rattle.m4_state.specs.State.{top_of}
 use Rattle.m4_input.specs.declared.pushed.Pushed.{Pushed}
 use Rattle.m4_builtins.specs.Act.{needs_list}
-use Rattle.m4_engine.specs.Nesting.{Turn, Halt, Close, GoOn, Bare, Opens, Outcome, Halted, Closed, Falls}
+use Rattle.m4_engine.specs.Nesting.{Turn, Halt, Close, GoOn, Bare, Opens, Outcome, Halted, Closed, after, Falls}
 use Rattle.m4_engine.specs.Expansion.{Call, Mode, Outside, Collecting, Expansion, Kept, Ended, place_at, with_call, reading}
 use Rattle.m4_engine.specs.declared.role.Role.{Role}
 use Rattle.m4_engine.specs.declared.role.Role.TheVariants.{Opening, Closing, Separator, Blank, Other}
 use Rattle.m4_engine.specs.Args.{role_of, take_closing, take_byte}
-use Rattle.m4_engine.specs.Expand.{skip_all, skip_line, skip_or_push, effected, kept_of, behind_call, called, join_by, join, call_of, bare, collect, call_unless_deep, is_deep, call_if_room, call, call_without_list, take_call, take_name, take_other, take_end, take_token, take_front, turn, definition_size, pending_size, size_of, calls_left}
+use Rattle.m4_engine.specs.Expand.{skip_all, skip_line, skip_or_push, effected, kept_of, behind_call, called, join_by, join, call_of, bare, collect, call_unless_deep, is_deep, call_if_room, call, call_without_list, take_call, take_name, take_other, take_end, take_token, take_front, turn, definition_size, pending_size, spent_at, size_of, calls_left, expand}
+use Rattle.m4_engine.proofs.Bounds.{expansion_is}
 use Rattle.m4_input.proofs.Consumed.{HasBytes, scan_bytes, text-consumed}
 
 -- what a turn from s keeps: the calls left don't rise, and a token has text
@@ -196,3 +197,7 @@ falls = record {
   opens = λ s t f e. subst (Good s) e (turn_good s);
   joins = λ s t u e. join_left t.mode s t u e;
 }
+
+-- an expansion is what its turns say
+pub expand_is : (s : Expansion) → expand s ≡ after Expansion Kept Ended join expand expand (turn s)
+expand_is s = expansion_is Expansion Kept Ended turn join spent_at size_of calls_left falls s

@@ -29,9 +29,8 @@ use Rattle.m4_engine.specs.Expand.{with_value, skip_all, skip_line, skip_or_push
 use Rattle.m4_engine.proofs.Growth.{Extends, made_out, longer_level, Continues, Begins}
 use Rattle.m4_input.specs.declared.front.Unended.TheVariants.{InString, InComment}
 use Rattle.m4_input.proofs.OpenEnd.{NoEnd, scan_no_end, scan_stays, scan_fits, paren_in_stays, one_more_is}
-use Rattle.m4_engine.proofs.Bounds.{expansion_is}
 use Rattle.m4_engine.proofs.Beside.{Follows, Fits, expansion_fits}
-use Rattle.m4_engine.proofs.CallsFall.{falls}
+use Rattle.m4_engine.proofs.CallsFall.{falls, expand_is}
 use Rattle.m4_engine.proofs.OnlyGrows.{extends_more, made, bare_made, skipped_keeps, on_answer_keeps, on_seen_keeps, whole_keeps, then_keeps, list_keeps, turn_goes}
 
 module _ (z : List ℕ) (b : Bool) where
@@ -267,15 +266,12 @@ module _ (z : List ℕ) (b : Bool) where
   abbrev Q : Ended → Outcome Expansion Ended → Type 0
   Q d o = Continues d o
 
-  whole_is : (t : Expansion) → whole t ≡ after Expansion Kept Ended join whole whole (turn t)
-  whole_is t = expansion_is Expansion Kept Ended turn join spent_at size_of calls_left falls t
-
   halts : (s t : Expansion) (d : Ended) → R s t → turn s ≡ Halt d → Q d (whole t)
   halts s t d r e =
       let m : Meets (Halt d) (turn (L s)) = subst (λ v. Meets v (turn (L s))) e (turn_meets s r.0) in
       subst (λ x. Q d (whole x)) (sym r.1)
-      (⊎_elim (λ h. inl (h.0, subst (λ o. Extends d.so_far (made_out o)) (sym (whole_is (L s))) (extends_more _ _ _ h.1 (turn_goes (turn (L s))))))
-      (λ h. inr (whole_is (L s) ∙ ap (after Expansion Kept Ended join whole whole) h.0, h.1))
+      (⊎_elim (λ h. inl (h.0, subst (λ o. Extends d.so_far (made_out o)) (sym (expand_is (L s))) (extends_more _ _ _ h.1 (turn_goes (turn (L s))))))
+      (λ h. inr (expand_is (L s) ∙ ap (after Expansion Kept Ended join whole whole) h.0, h.1))
       m)
 
   follows : Follows Expansion Kept Ended turn join whole R K Q

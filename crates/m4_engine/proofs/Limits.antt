@@ -75,7 +75,7 @@ complete_moved p q e c = subst (λ (x : Progress). Complete x) e c
 nothing_before : (p : Progress) → record { so_far = behind_record [] [] 0 p.so_far; over = p.over; missed = p.missed } ≡ p
 nothing_before p = ap (λ (n : ℕ). let q : Progress = record { so_far = record p.so_far { calls = n }; over = p.over; missed = p.missed } in q) (let h : 0 + (p.so_far).calls ≡ (p.so_far).calls = omega arith in h)
 
-over_how : (v : Option How) (h : How) (freezes : Bool) (saved : List (List ℕ)) (r : RunSoFar) (missed : Bool) → v ≡ Some h → (result_by v freezes saved r missed).how ≡ h
+pub over_how : (v : Option How) (h : How) (freezes : Bool) (saved : List (List ℕ)) (r : RunSoFar) (missed : Bool) → v ≡ Some h → (result_by v freezes saved r missed).how ≡ h
 over_how None h freezes saved r missed e = cc
 over_how (Some x) h freezes saved r missed e = cc
 

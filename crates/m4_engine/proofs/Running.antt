@@ -1,5 +1,5 @@
 -- Running: where the loop over an input's turns stands, and what its ends say.
-use Rattle.std.proofs.Common.{◌≡◌, ◌<◌, ◌≤◌, ℕ, List, [], ◌∷◌, ◌++◌, Option, Some, None, refl, sym, ap, ◌∙◌, subst, append-nil, append_assoc, arith}
+use Rattle.std.proofs.Common.{◌≡◌, ◌<◌, ◌≤◌, ℕ, List, [], ◌∷◌, ◌++◌, Option, refl, sym, ap, ◌∙◌, subst, append-nil, append_assoc, arith}
 use Rattle.m4_state.specs.Device.{with_bytes, HasBegun}
 use Rattle.m4_input.specs.Pending.{Pending}
 use Rattle.m4_input.specs.Input.{Held}
@@ -13,7 +13,7 @@ use Rattle.m4_engine.specs.Expansion.{Call, Expansion, Kept, Ended, Ends}
 use Rattle.m4_engine.specs.Expand.{turn, join, expand, expansion_of, ended_of}
 use Rattle.m4_engine.specs.Engine.{Engine, so_far_of, outer_of, here_of, configuration, handed_on, moved, IsReady, Moves, Passes}
 use Rattle.m4_engine.specs.Expands.{made_before, comes_to, Expanded, Broken, Expands, HandsOn, HandsOnSome, IsIdle}
-use Rattle.m4_engine.proofs.Begins.{with_both, begun_behind}
+use Rattle.m4_engine.proofs.Begins.{with_nothing, with_both, begun_behind}
 use Rattle.m4_engine.proofs.Growth.{Extends, made_out}
 use Rattle.m4_engine.proofs.LoopKeeps.{turns_of, move_falls, meaning_of, some_means, moved_on, end_means}
 use Rattle.m4_engine.proofs.Passing.{passes_reaches, passes_ready, passes_limits}
@@ -29,17 +29,13 @@ pub record Running (e0 : Engine) (p0 : Pending) (out0 told0 : Option (List ℕ))
   pub ready : IsReady i
   pub limits : e.limits ≡ e0.limits
 
-with_none : (o : Option (List ℕ)) → o ≡ with_bytes o []
-with_none None = refl
-with_none (Some held) = ap Some (sym (append-nil held))
-
 -- the loop begins
 pub begins : (e : Engine) (i : Held) (out told : Option (List ℕ)) → IsIdle e → IsReady i → Running e i.pending out told e i out told
 begins e i out told d r = record {
   o = [];
   m = [];
-  output = with_none out;
-  messages = with_none told;
+  output = with_nothing out;
+  messages = with_nothing told;
   means = ap (λ (cs : List Call). resume Expansion Kept Ended turn join expand (outer_of cs) (expand (here_of [] [] e i.pending))) d.open_calls;
   ready = r;
   limits = refl;

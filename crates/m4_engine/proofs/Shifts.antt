@@ -25,9 +25,8 @@ use Rattle.m4_engine.specs.Expand.{skip_all, skip_line, skip_or_push, effected, 
 use Rattle.std.specs.Prelude.{codes}
 use Rattle.std.specs.Fmt.{decimal}
 use Rattle.m4_builtins.specs.Messages.{error}
-use Rattle.m4_engine.proofs.Bounds.{expansion_is}
 use Rattle.m4_engine.proofs.Beside.{Follows, Fits, expansion_fits}
-use Rattle.m4_engine.proofs.CallsFall.{falls}
+use Rattle.m4_engine.proofs.CallsFall.{falls, expand_is}
 
 -- the record consumed one with this output, these messages and this count
 abbrev pub behind_record : List ℕ → List ℕ → ℕ → RunSoFar → RunSoFar
@@ -243,9 +242,6 @@ module _ (o m : List ℕ) (c calls calls' nesting nesting' : ℕ) (room : (k : �
   abbrev Q : Ended → Outcome Expansion Ended → Type 0
   Q d v = Limit d.how ⊎ ((e : Ended) × (v ≡ Halted e) × (d ≡ Bd e))
 
-  whole_is : (t : Expansion) → whole t ≡ after Expansion Kept Ended join whole whole (turn t)
-  whole_is t = expansion_is Expansion Kept Ended turn join spent_at size_of calls_left falls t
-
   met : (s t : Expansion) (v : Turn Expansion Kept Ended) → R s t → turn s ≡ v → Meets v (turn t)
   met s t v r e = subst (λ x. Meets x (turn t)) (sym (ap turn r.0) ∙ e) (turn_meets t r.1)
 
@@ -255,7 +251,7 @@ module _ (o m : List ℕ) (c calls calls' nesting nesting' : ℕ) (room : (k : �
   follows : Follows Expansion Kept Ended turn join whole R (λ f g. g ≡ f) Q
   unfolding Meets MeetsOut
   follows = record {
-    halt = λ s t d r e. ⊎_elim (λ h. inl h) (λ h. inr (h.0, whole_is t ∙ ap (after Expansion Kept Ended join whole whole) h.1, h.2)) (met s t (Halt d) r e);
+    halt = λ s t d r e. ⊎_elim (λ h. inl h) (λ h. inr (h.0, expand_is t ∙ ap (after Expansion Kept Ended join whole whole) h.1, h.2)) (met s t (Halt d) r e);
     close = λ s t u r e. let k = met s t (Close u) r e in (k.0, k.1, (k.2, k.3));
     go_on = λ s t u r e. let k = met s t (GoOn u) r e in (k.0, k.1, (k.2, k.3));
     bare = λ s t u r e. let k = met s t (Bare u) r e in (k.0, k.1, (k.2, k.3));

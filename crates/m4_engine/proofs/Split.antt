@@ -12,6 +12,7 @@ use Rattle.m4_engine.specs.Run.{RunResult, limits_of, closed_output, result_by, 
 use Rattle.m4_engine.specs.Carries.{Carries, frozen_state}
 use Rattle.m4_engine.specs.Laws.{freezing, Joins}
 use Rattle.m4_engine.proofs.OnePass.{over_wraps, sources_append}
+use Rattle.m4_engine.proofs.Limits.{over_how}
 use Rattle.m4_engine.proofs.RunsBehind.{Bp, Behind, sources_behind, rounds_behind}
 
 -- a run that froze is not over, and froze its state
@@ -106,10 +107,6 @@ results_join : (freezes : Bool) (saved saved' saved'' : List (List ℕ)) (r : Ru
 unfolding first_result
 results_join freezes saved saved' saved'' r None q missed = record { output = output_joins freezes r q; messages = refl; how = refl; status = refl; frozen = refl; calls = refl }
 results_join freezes saved saved' saved'' r (Some h) q missed = record { output = refl; messages = refl; how = refl; status = refl; frozen = refl; calls = refl }
-
-over_how : (v : Option How) (h : How) (freezes : Bool) (saved : List (List ℕ)) (r : RunSoFar) (missed : Bool) → v ≡ Some h → (result_by v freezes saved r missed).how ≡ h
-over_how None h freezes saved r missed e = cc
-over_how (Some x) h freezes saved r missed e = cc
 
 joined_results : (limits : Limits) (freezes : Bool) (saved saved' saved'' : List (List ℕ)) (r : RunSoFar) (j b : Progress) → BehindRun limits r j b → (result_of freezes saved'' j).how ≢ Ends causes.ExpansionLimit → Joins (first_result saved r) (result_of freezes saved' b) (result_of freezes saved'' j)
 joined_results limits freezes saved saved' saved'' r j b (inl h) n = absurd (n (over_how j.over h.0 freezes saved'' j.so_far j.missed h.1 ∙ opened limits h.0 h.2))

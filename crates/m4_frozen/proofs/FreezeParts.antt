@@ -1,5 +1,5 @@
 -- What the parts of the writer put, joined, is the canonical text.
-use Rattle.std.proofs.Common.{◌≡◌, ℕ, ℤ, pos, Bool, true, false, cond, ◌&&◌, List, [], ◌∷◌, ◌++◌, map, Some, None, refl, sym, ap, subst, ◌∙◌, append_assoc, Ordering, Less, Equal, Greater}
+use Rattle.std.proofs.Common.{◌≡◌, ℕ, ℤ, pos, Bool, true, false, cond, List, [], ◌∷◌, ◌++◌, map, Some, None, refl, sym, ap, subst, ◌∙◌, append_assoc, Ordering, Less, Equal, Greater}
 use Rattle.std.specs.Prelude.{IsTrue, int_lt, FitsSigned}
 use Rattle.std.specs.Int.{w32}
 use Rattle.std.specs.List.{flat_map, AllByRecursion}
@@ -16,6 +16,7 @@ use Rattle.m4_state.specs.declared.definition.Def.{Def}
 use Rattle.m4_state.specs.declared.delimiters.Delimiters.{Delimiters}
 use Rattle.m4_state.specs.Delimiters.{default_quotes, default_comments}
 use Rattle.m4_state.specs.Table.{Pair, Pairs, byte_order, stack_at}
+use Rattle.m4_state.proofs.Pairs.{both}
 use Rattle.m4_frozen.specs.Ascii.{letter_C, letter_Q}
 use Rattle.m4_frozen.specs.Directive.{Directive, Quotes, Comments, Diversion}
 use Rattle.m4_frozen.specs.WriterSteps.{above, delimiters_text, stack_text, names_text, texts_text, current_text, directives_text, frozen_text}
@@ -44,10 +45,6 @@ int_lt-irrefl x = by (int_lt x x) refl
     by : (b : Bool) → int_lt x x ≡ b → b ≡ false
     by true e = let less : int_cmp x x ≡ Less = less-int_lt x x e in let tie : int_cmp x x ≡ Equal = tied_itself int_cmp_total x in absurd cc
     by false e = refl
-
-both : (a b : Bool) → IsTrue (a && b) → IsTrue a × IsTrue b
-both true b h = (refl, h)
-both false b h = absurd cc
 
 -- ---- the diversions one behind the other
 

@@ -1,9 +1,6 @@
--- The law, from `Bounds` and `CallsFall`.
-use Rattle.m4_engine.specs.Expansion.{Expansion, Kept, Ended}
-use Rattle.m4_engine.specs.Expand.{turn, join, spent_at, size_of, calls_left}
-use Rattle.m4_engine.proofs.Bounds.{expansion_is}
-use Rattle.m4_engine.proofs.CallsFall.{falls}
+-- The law, from `CallsFall`.
+use Rattle.m4_engine.proofs.CallsFall.{expand_is}
 use Rattle.m4_engine.proofs.laws.expand_rules.Goals as goal
 
 pub returns : goal.returns
-returns c = expansion_is Expansion Kept Ended turn join spent_at size_of calls_left falls
+returns c = expand_is
