@@ -5,7 +5,7 @@
 //! apart. Contracts speak of the reader's own steps, `specs/ReaderSteps.antt`.
 //! Manual: "Frozen file format".
 
-ghost use Rattle.std.specs.Prelude.{◌≡◌, ◌≤◌, ◌-◌, ◌∷◌, length, drop, IfSome};
+ghost use Rattle.std.specs.Prelude.{◌≡◌, ◌≤◌, ◌-◌, ◌∷◌, ℕ, List, length, drop, IfSome, IfNone};
 ghost use Rattle.std.specs.Option.{option_map};
 ghost use Rattle.m4_frozen.specs.DirectiveView.{directive_of};
 ghost use Rattle.m4_frozen.specs.ReaderSteps as steps;
@@ -51,7 +51,8 @@ pub(crate) fn behind_version(bytes: &[u8]) -> Result<&[u8], Refusal>
 
 /// The bytes behind a letter, if it stands at the front.
 pub(crate) fn line_behind(letter: u8, bytes: &[u8]) -> Option<&[u8]>
-    ensures { IfSome result (λ line. bytes.now ≡ letter ∷ line.now) }
+    ensures some { IfSome result (λ line. bytes.now ≡ letter ∷ line.now) }
+    ensures none { IfNone result ((line : List ℕ) → bytes.now ≡ letter ∷ line → ⊥) }
 {
     match bytes {
         [first, line @ ..] if *first == letter => Some(line),

@@ -11,12 +11,12 @@ use Rattle.m4_frozen.proofs.loading.Loading.open_diverted.Goals as goal
 pub returns : goal.returns
 returns c = λ read h.
     let versioned : c.args.self.now.versioned ≡ true = search rules in
-    let at : StandsAt c.args.self.now.inside (68 ∷ c.in-Some.line.now) = rw c.in-Some.ensures at c.requires in
+    let at : StandsAt c.args.self.now.inside (68 ∷ c.in-Some.line.now) = rw c.in-Some.ensures.some at c.requires in
     let fits = head_fits c.in-Some.line.now c.in-Ok.number c.in-Ok.len c.in-Ok.text.now c.in-Ok.ensures in
     let divert = rw (to_z-of_z w32 c.in-Ok.number fits) at c.divert.ensures in
     let added = rw divert at c.in_ok-add.ensures.added in
     let issued = rw divert at c.in_ok-add.ensures.issued in
-    rw c.in-Some.ensures
+    rw c.in-Some.ensures.some
     (has_read_opened read c.in-Some.line.now c.in-Ok.text.now c.in-Ok.number c.in-Ok.len
     c.args.self.now (record c.add.new.self { begun = Some (begun.Diversion (c.in-Ok.len - length c.in-Ok.text.now)) })
     at versioned c.in-Ok.ensures c.if-len-text.false

@@ -10,7 +10,7 @@ use Rattle.m4_frozen.proofs.loading.Loading.open_named.Goals as goal
 pub returns : goal.returns
 returns c = λ read h.
     let versioned : c.args.self.now.versioned ≡ true = search rules in
-    let at : StandsAt c.args.self.now.inside (84 ∷ c.in-Some.line.now) = rw c.in-Some.ensures at c.requires in
+    let at : StandsAt c.args.self.now.inside (84 ∷ c.in-Some.line.now) = rw c.in-Some.ensures.some at c.requires in
     let t : NamedText = record {
       name = c.in_ok-from_slice.field-0;
       text = c.in_ok-from_slice-2.field-0;
@@ -18,7 +18,7 @@ returns c = λ read h.
     } in
     let head : pair_head_at c.in-Some.line.now ≡ Ok ((t.name, c.in-Ok.len), c.in-Ok.text.now) =
     rw c.in_ok-from_slice.ensures c.in-Ok.ensures in
-    rw c.in-Some.ensures
+    rw c.in-Some.ensures.some
     (named_opened read c.in-Some.line.now c.in-Ok.text.now t c.in-Ok.len
     c.args.self.now (record c.args.self.now { begun = Some (begun.Name t) })
     at versioned head c.if-len-text.false c.in_ok-from_slice-2.ensures.items refl refl h)
