@@ -1,20 +1,13 @@
 -- Begins: writers that hold a beginning of what is to be written.
-use Rattle.std.proofs.Common.{◌≡◌, ℕ, List, [], ◌++◌, Option, Some, None, refl, sym, ap, ◌∙◌, append-nil, append_assoc}
+use Rattle.std.proofs.Common.{◌≡◌, ℕ, List, [], ◌++◌, Option, refl, sym, ap, ◌∙◌, append-nil, append_assoc}
+use Rattle.m4_state.proofs.CallerLaws.{with_bytes-append, with_bytes-nil}
 use Rattle.m4_state.specs.Device.{with_bytes, HasBegun}
 use Rattle.m4_engine.specs.Engine.{Engine, handed_on}
 use Rattle.m4_engine.specs.Expands.{HandsOnSome}
 
-pub with_nothing : (o : Option (List ℕ)) → o ≡ with_bytes o []
-with_nothing None = refl
-with_nothing (Some held) = ap Some (sym (append-nil held))
-
-pub with_both : (o : Option (List ℕ)) (x y : List ℕ) → with_bytes (with_bytes o x) y ≡ with_bytes o (x ++ y)
-with_both None x y = refl
-with_both (Some held) x y = ap Some (append_assoc held x y)
-
 -- a writer that was not asked has taken a beginning
 pub nothing_begun : (o : Option (List ℕ)) (x : List ℕ) → HasBegun o o x
-nothing_begun o x = (x, record { front = []; parts = refl; holds = with_nothing o })
+nothing_begun o x = (x, record { front = []; parts = refl; holds = with_bytes-nil o })
 
 -- a writer that has taken all has taken a beginning
 pub all_begun : (o a : Option (List ℕ)) (x : List ℕ) → a ≡ with_bytes o x → HasBegun o a x
@@ -29,13 +22,13 @@ begun_behind o a b x y more all e h f = (
     parts = f ∙ ap (λ z. (x ++ z) ++ more) (h.1).parts
         ∙ ap (λ z. z ++ more) (sym (append_assoc x (h.1).front h.0))
         ∙ append_assoc (x ++ (h.1).front) h.0 more;
-    holds = (h.1).holds ∙ ap (λ z. with_bytes z (h.1).front) e ∙ with_both o x (h.1).front;
+    holds = (h.1).holds ∙ ap (λ z. with_bytes z (h.1).front) e ∙ with_bytes-append o x (h.1).front;
   },
 )
 
 -- nothing was handed on
 pub some_none : (e : Engine) (out told : Option (List ℕ)) → HandsOnSome e e out out told told
-some_none e out told = record { front = []; told = []; held = refl; output = with_nothing out; messages = with_nothing told }
+some_none e out told = record { front = []; told = []; held = refl; output = with_bytes-nil out; messages = with_bytes-nil told }
 
 -- all was
 pub some_all : (e e' : Engine) (out out' told told' : Option (List ℕ)) → e' ≡ handed_on e → out' ≡ with_bytes out e.output → told' ≡ with_bytes told e.messages → HandsOnSome e e' out out' told told'

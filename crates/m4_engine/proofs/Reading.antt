@@ -2,6 +2,7 @@
 use Rattle.std.proofs.Common.{◌≡◌, ◌⊎◌, inl, inr, ◌<◌, ◌≤◌, ℕ, zero, suc, ◌+◌, List, [], ◌∷◌, ◌++◌, length, drop, drop-cons, map, Option, Some, refl, sym, ap, ◌∙◌, subst, arith, append-nil}
 use Rattle.std.specs.Prelude.{Result, Ok, Err, slice_set, slice_index_or}
 use Rattle.std.proofs.lemmas.List.{drop-set-lt, drop-drop}
+use Rattle.m4_state.proofs.CallerLaws.{with_bytes-append, with_bytes-nil}
 use Rattle.m4_state.specs.Device.{Script, with_bytes}
 use Rattle.m4_engine.specs.declared.source.Source.{Source as RunSource}
 use Rattle.m4_engine.specs.Told.{told, may_be, may_all_be, StandFor, StandsFor, has_failed, any_failed, is_taken, are_taken}
@@ -10,7 +11,7 @@ use Rattle.m4_engine.specs.declared.stop.Stop.{Stop}
 use Rattle.m4_engine.specs.declared.stop.Stop.TheVariants as stops
 use Rattle.m4_engine.specs.declared.ending.Cause.{Cause}
 use Rattle.m4_engine.specs.Expansion.{Limits, Ends}
-use Rattle.m4_engine.proofs.Begins.{with_nothing, with_both, begun_behind}
+use Rattle.m4_engine.proofs.Begins.{begun_behind}
 use Rattle.m4_engine.proofs.OnePass.{sources_keep, over_sources}
 use Rattle.m4_engine.specs.File.{Source, Progress, after_source, after_sources}
 use Rattle.m4_engine.specs.Wraps.{after_wraps}
@@ -64,7 +65,7 @@ pub record Between (ss : List Source) (i : ℕ) (s0 s : Standing) (w : Writers) 
   pub rest : after_sources s0.limits ss (progress_of s0) ≡ after_sources s0.limits (drop i ss) (behind o m (progress_of s))
 
 pub none_read : (ss : List Source) (s : Standing) (out told : Option (List ℕ)) → Between ss 0 s s (record { out_old = out; out_new = out; told_old = told; told_new = told })
-none_read ss s out told = record { o = []; m = []; output = with_nothing out; messages = with_nothing told; limits = refl; rest = refl }
+none_read ss s out told = record { o = []; m = []; output = with_bytes-nil out; messages = with_bytes-nil told; limits = refl; rest = refl }
 
 -- what was written of a progress
 pub written_behind : (o m : List ℕ) (p q : Progress) → q ≡ written p → behind o m p ≡ behind (o ++ (p.so_far).output) (m ++ (p.so_far).messages) q
@@ -84,8 +85,8 @@ one_read ss i j s0 s s' t out0 out out' told0 told told' b d f =
     record {
       o = b.o ++ (p.so_far).output;
       m = b.m ++ (p.so_far).messages;
-      output = f.output ∙ ap (λ x. with_bytes x (p.so_far).output) b.output ∙ with_both out0 b.o (p.so_far).output;
-      messages = f.messages ∙ ap (λ x. with_bytes x (p.so_far).messages) b.messages ∙ with_both told0 b.m (p.so_far).messages;
+      output = f.output ∙ ap (λ x. with_bytes x (p.so_far).output) b.output ∙ with_bytes-append out0 b.o (p.so_far).output;
+      messages = f.messages ∙ ap (λ x. with_bytes x (p.so_far).messages) b.messages ∙ with_bytes-append told0 b.m (p.so_far).messages;
       limits = f.limits ∙ b.limits;
       rest = b.rest
           ∙ ap (λ (ts : List Source). after_sources s0.limits ts (behind b.o b.m (progress_of s))) d

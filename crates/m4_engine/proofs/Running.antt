@@ -1,5 +1,6 @@
 -- Running: where the loop over an input's turns stands, and what its ends say.
 use Rattle.std.proofs.Common.{◌≡◌, ◌<◌, ◌≤◌, ℕ, List, [], ◌∷◌, ◌++◌, Option, refl, sym, ap, ◌∙◌, subst, append-nil, append_assoc, arith}
+use Rattle.m4_state.proofs.CallerLaws.{with_bytes-append, with_bytes-nil}
 use Rattle.m4_state.specs.Device.{with_bytes, HasBegun}
 use Rattle.m4_input.specs.Pending.{Pending}
 use Rattle.m4_input.specs.Input.{Held}
@@ -13,7 +14,7 @@ use Rattle.m4_engine.specs.Expansion.{Call, Expansion, Kept, Ended, Ends}
 use Rattle.m4_engine.specs.Expand.{turn, join, expand, expansion_of, ended_of}
 use Rattle.m4_engine.specs.Engine.{Engine, so_far_of, outer_of, here_of, configuration, handed_on, moved, IsReady, Moves, Passes}
 use Rattle.m4_engine.specs.Expands.{made_before, comes_to, Expanded, Broken, Expands, HandsOn, HandsOnSome, IsIdle}
-use Rattle.m4_engine.proofs.Begins.{with_nothing, with_both, begun_behind}
+use Rattle.m4_engine.proofs.Begins.{begun_behind}
 use Rattle.m4_engine.proofs.Growth.{Extends, made_out}
 use Rattle.m4_engine.proofs.LoopKeeps.{turns_of, move_falls, meaning_of, some_means, moved_on, end_means}
 use Rattle.m4_engine.proofs.Passing.{passes_reaches, passes_ready, passes_limits}
@@ -34,8 +35,8 @@ pub begins : (e : Engine) (i : Held) (out told : Option (List ℕ)) → IsIdle e
 begins e i out told d r = record {
   o = [];
   m = [];
-  output = with_nothing out;
-  messages = with_nothing told;
+  output = with_bytes-nil out;
+  messages = with_bytes-nil told;
   means = ap (λ (cs : List Call). resume Expansion Kept Ended turn join expand (outer_of cs) (expand (here_of [] [] e i.pending))) d.open_calls;
   ready = r;
   limits = refl;
@@ -58,8 +59,8 @@ goes_on : (e0 e e' e2 : Engine) (p0 : Pending) (i i' : Held) (out0 told0 out tol
 goes_on e0 e e' e2 p0 i i' out0 told0 out told out' told' r h q l f = record {
   o = r.o ++ f.front;
   m = r.m ++ f.told;
-  output = f.output ∙ ap (λ x. with_bytes x f.front) r.output ∙ with_both out0 r.o f.front;
-  messages = f.messages ∙ ap (λ x. with_bytes x f.told) r.messages ∙ with_both told0 r.m f.told;
+  output = f.output ∙ ap (λ x. with_bytes x f.front) r.output ∙ with_bytes-append out0 r.o f.front;
+  messages = f.messages ∙ ap (λ x. with_bytes x f.told) r.messages ∙ with_bytes-append told0 r.m f.told;
   means =
       some_means e' e2 i'.pending r.o r.m f.front f.told f.held
       ∙ moved_on e e' i.pending i'.pending r.o r.m h ∙ r.means;
@@ -111,8 +112,8 @@ ends e0 e e' p0 p' i out0 told0 out told out' told' cause d r h l f g =
       state = refl;
       saved = refl;
       calls = refl;
-      output = f ∙ ap (λ x. with_bytes x e'.output) r.output ∙ with_both out0 r.o e'.output;
-      messages = g ∙ ap (λ x. with_bytes x e'.messages) r.messages ∙ with_both told0 r.m e'.messages;
+      output = f ∙ ap (λ x. with_bytes x e'.output) r.output ∙ with_bytes-append out0 r.o e'.output;
+      messages = g ∙ ap (λ x. with_bytes x e'.messages) r.messages ∙ with_bytes-append told0 r.m e'.messages;
     } in
     expands_of e0 (handed_on e') p0 out0 out' told0 told' cause (subst (λ (y : Ended). Expanded e0 (handed_on e') y cause out0 out' told0 told') (sym c) x)
 

@@ -1,6 +1,7 @@
 -- Sources: what a session's call on a source is, where the reader tells its bytes and ends.
 use Rattle.std.proofs.Common.{◌≡◌, ◌⊎◌, inl, inr, ℕ, false, List, [], ◌++◌, Option, Some, None, refl, sym, ap, ◌∙◌, subst, append-nil}
 use Rattle.std.specs.Prelude.{Result, Ok, Err}
+use Rattle.m4_state.proofs.CallerLaws.{with_bytes-nil}
 use Rattle.m4_state.specs.Device.{Script, after_bytes, IsAtEnd, with_bytes, HasBegun}
 use Rattle.m4_engine.specs.declared.ending.Cause.{Cause}
 use Rattle.m4_engine.specs.declared.ending.Cause.TheVariants as causes
@@ -13,7 +14,7 @@ use Rattle.m4_engine.specs.declared.source.Source.{Source as RunSource}
 use Rattle.m4_engine.specs.declared.source.Source.TheVariants as sources
 use Rattle.m4_engine.specs.Told.{whole, told_opened, MayHave, may_be_opened, script_of, StandsFor, is_taken}
 use Rattle.m4_engine.specs.Session.{Standing, Writers, progress_of, IsOpen, Filed, Fell, how_over, Silent, FileDone, FileBroke, FileGives, MissingGives, BrokeOff, GoesTo}
-use Rattle.m4_engine.proofs.Begins.{nothing_begun, with_nothing}
+use Rattle.m4_engine.proofs.Begins.{nothing_begun}
 
 -- a reader that tells its bytes and ends gave all of them, where it is at its end
 all_given : (name : List ℕ) (before behind : Option Script) (x : List ℕ) (s : Source) → told_opened name before ≡ Some s → before ≡ after_bytes x behind → IsAtEnd behind → s ≡ Opened name x
@@ -105,7 +106,7 @@ missing_goes old new name w (Ok done) l o h = (
     limits = h.2;
     unfinished = (h.1).unfinished;
     progress = h.3;
-    output = o ∙ with_nothing w.out_old ∙ ap (λ (r : RunSoFar). with_bytes w.out_old r.output) (sym (missing_is old name l));
+    output = o ∙ with_bytes-nil w.out_old ∙ ap (λ (r : RunSoFar). with_bytes w.out_old r.output) (sym (missing_is old name l));
     messages = h.4 ∙ ap (λ (r : RunSoFar). with_bytes w.told_old r.messages) (sym (missing_is old name l));
   },
   (h.1).over,

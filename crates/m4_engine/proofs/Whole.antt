@@ -1,6 +1,7 @@
 -- Whole: what a session's calls come to, one behind the other, is the run.
 use Rattle.std.proofs.Common.{◌≡◌, ℕ, zero, suc, Bool, false, List, [], ◌∷◌, ◌++◌, Option, Some, None, refl, sym, ap, ◌∙◌, subst, append-nil, append_assoc}
 use Rattle.std.specs.Prelude.{Result, Ok, Err}
+use Rattle.m4_state.proofs.CallerLaws.{with_bytes-append}
 use Rattle.m4_state.specs.Device.{with_bytes, HasBegun}
 use Rattle.m4_engine.specs.declared.ending.Cause.{Cause}
 use Rattle.m4_engine.specs.declared.ending.Cause.TheVariants as causes
@@ -17,7 +18,7 @@ use Rattle.m4_engine.specs.WholeRun.{wrapped_by, WroteAll, FellShort, RunGives, 
 use Rattle.m4_engine.specs.Laws.{IsBeginning}
 use Rattle.m4_engine.proofs.OnlyGrows.{extends_same}
 use Rattle.m4_engine.proofs.OnePass.{over_wraps, finish_begins}
-use Rattle.m4_engine.proofs.Begins.{nothing_begun, with_both, begun_behind}
+use Rattle.m4_engine.proofs.Begins.{nothing_begun, begun_behind}
 use Rattle.m4_engine.proofs.Reading.{behind, wraps_after, written_behind, over_behind_it}
 
 -- a beginning of a beginning
@@ -151,9 +152,9 @@ module _ (limits : Limits) (ss : List Source) (p : Progress) (old mid new : Stan
         wrapped = e ∙ ap is_saved (ap (λ (x : Progress). (x.so_far).saved) f.progress ∙ sym s);
         output = c.output
             ∙ ap (λ (x : Option (List ℕ)). with_bytes x ((B.so_far).output ++ close (B.so_far).state)) f.output
-            ∙ with_both out0 (p.so_far).output _
+            ∙ with_bytes-append out0 (p.so_far).output _
             ∙ ap (with_bytes out0) (sym (append_assoc (p.so_far).output (B.so_far).output (close (B.so_far).state)));
-        messages = c.messages ∙ ap (λ (x : Option (List ℕ)). with_bytes x (B.so_far).messages) f.messages ∙ with_both told0 (p.so_far).messages (B.so_far).messages;
+        messages = c.messages ∙ ap (λ (x : Option (List ℕ)). with_bytes x (B.so_far).messages) f.messages ∙ with_bytes-append told0 (p.so_far).messages (B.so_far).messages;
       })
 
   -- the end broke off
@@ -176,8 +177,8 @@ module _ (limits : Limits) (ss : List Source) (p : Progress) (old mid new : Stan
         how = refl;
         status = over_status new cause B.missed o (ap (λ (x : Progress). x.missed) g.progress);
         wrapped = n;
-        output = g.output ∙ ap (λ (x : Option (List ℕ)). with_bytes x (B.so_far).output) f.output ∙ with_both out0 (p.so_far).output (B.so_far).output;
-        messages = g.messages ∙ ap (λ (x : Option (List ℕ)). with_bytes x (B.so_far).messages) f.messages ∙ with_both told0 (p.so_far).messages (B.so_far).messages;
+        output = g.output ∙ ap (λ (x : Option (List ℕ)). with_bytes x (B.so_far).output) f.output ∙ with_bytes-append out0 (p.so_far).output (B.so_far).output;
+        messages = g.messages ∙ ap (λ (x : Option (List ℕ)). with_bytes x (B.so_far).messages) f.messages ∙ with_bytes-append told0 (p.so_far).messages (B.so_far).messages;
       })
 
   pub ended_late : (e : Stop) → IsOpen mid → FinishGives mid new V (Err e) → RunGives (result_behind limits ss p) (ending_by (status_at new) (Err e)) W

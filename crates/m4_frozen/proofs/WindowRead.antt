@@ -3,6 +3,7 @@ use Rattle.std.proofs.Common.{◌≡◌, ◌≢◌, ℕ, ◌-◌, ◌≤◌, tru
 use Rattle.std.specs.Prelude.{IfSome, IfOk, IfErr}
 use Rattle.std.proofs.lemmas.List.{length-append, drop_at}
 use Rattle.m4_state.specs.Device.{Script, after_bytes, IsAtEnd, IsAtFault}
+use Rattle.m4_state.proofs.CallerLaws.{after_bytes-append}
 use Rattle.m4_frozen.specs.declared.fault.FrozenFault.{FrozenFault}
 use Rattle.m4_frozen.specs.declared.fault.FrozenKind.TheVariants as kinds
 use Rattle.m4_frozen.specs.declared.fault.Refusal.{Refusal}
@@ -19,14 +20,6 @@ use Rattle.m4_frozen.specs.Underway.{EndsSo}
 use Rattle.m4_frozen.proofs.Answered.{read_is_spelled, not_read, fault_has_memory, failed_unless_stays, failed_if_read}
 use Rattle.m4_frozen.proofs.Told.{settled_told, ended_told, loaded_told, failed_told, refused_told}
 
--- blocks one behind the other
-after_both : (x y : List ℕ) (s : Option Script)
-    → after_bytes x (after_bytes y s) ≡ after_bytes (x ++ y) s
-after_both x y None = refl
-after_both x y (Some s) =
-    ap (λ (z : List ℕ). let t : Script = record { bytes = z; fails = s.fails } in Some t)
-    (sym (append_assoc x y s.bytes))
-
 -- bytes came
 pub filled : (at_first told later : Option Script) (w v : Window) (l : Loading)
     → IsUnderway at_first told w l → HasCome w v told later → IsUnderway at_first later v l
@@ -35,7 +28,7 @@ filled at_first told later w v l u c =
     ap (λ (xs : List ℕ). u.read ++ xs) c.bytes ∙ sym (append_assoc u.read w.bytes c.block) in record {
       read = u.read;
       gives = u.gives ∙ ap (after_bytes (u.read ++ w.bytes)) c.gives
-          ∙ after_both (u.read ++ w.bytes) c.block later
+          ∙ after_bytes-append (u.read ++ w.bytes) c.block later
           ∙ ap (λ (xs : List ℕ). after_bytes xs later) (sym all);
       came = omega (arith, c.came, u.came, ap length all, length-append (u.read ++ w.bytes) c.block);
       has_read = u.has_read;

@@ -1,5 +1,5 @@
 -- Laws that crates above cite: a builtin is found by its name; a text is put piece by piece into a
--- writer.
+-- writer, and taken block by block from a reader.
 use Rattle.std.proofs.Common.{◌≡◌, ℕ, ◌+◌, ◌<◌, List, [], ◌++◌, length, get_or, take, drop, drop-cons, add-one, Option, Some, None, Result, Ok, Err, refl, sym, ap, ◌∙◌, append_assoc}
 use Rattle.std.specs.List.{flat_map}
 use Rattle.std.specs.Prelude.{IsErr}
@@ -7,7 +7,7 @@ use Rattle.std.proofs.lemmas.List.{take-append-drop, append-nil}
 use Rattle.m4_state.specs.declared.builtin.Builtin.{Builtin}
 use Rattle.m4_state.specs.declared.builtin.Builtin.TheVariants.{Define, Undefine, Dnl, Changequote, Changecom}
 use Rattle.m4_state.specs.Builtin.{builtin_named, name_of}
-use Rattle.m4_state.specs.Device.{with_bytes, HasPut, HasBegun, Puts}
+use Rattle.m4_state.specs.Device.{Script, after_bytes, with_bytes, HasPut, HasBegun, Puts}
 
 -- each builtin is found by its own name
 pub builtin_named-name_of : (b : Builtin) → builtin_named (name_of b) ≡ Some b
@@ -21,6 +21,16 @@ pub with_bytes-append : (old : Option (List ℕ)) (a b : List ℕ) → with_byte
 with_bytes-append None a b = refl
 with_bytes-append (Some old) a b = ap (λ (bs : List ℕ). Some bs) (append_assoc old a b)
 
+-- nothing is put
+pub with_bytes-nil : (old : Option (List ℕ)) → old ≡ with_bytes old []
+with_bytes-nil None = refl
+with_bytes-nil (Some old) = ap (λ (bs : List ℕ). Some bs) (sym (append-nil old))
+
+-- what a reader tells behind two texts
+pub after_bytes-append : (a b : List ℕ) (s : Option Script) → after_bytes a (after_bytes b s) ≡ after_bytes (a ++ b) s
+after_bytes-append a b None = refl
+after_bytes-append a b (Some s) = ap (λ (bs : List ℕ). let t : Script = record { bytes = bs; fails = s.fails } in Some t) (sym (append_assoc a b s.bytes))
+
 pub HasPut-more : {old mid new : Option (List ℕ)} {bytes rest : List ℕ} (n : ℕ) → HasPut old mid bytes rest → new ≡ with_bytes mid (take n rest) → HasPut old new bytes (drop n rest)
 HasPut-more {old} {mid} {new} {bytes} {rest} n p e = record {
   front = p.front ++ take n rest;
@@ -30,11 +40,7 @@ HasPut-more {old} {mid} {new} {bytes} {rest} n p e = record {
 
 -- a text of which nothing was put yet
 pub HasPut-start : (old : Option (List ℕ)) (bytes : List ℕ) → HasPut old old bytes bytes
-HasPut-start old bytes = record { front = []; parts = refl; holds = start old }
-  where
-    start : (o : Option (List ℕ)) → o ≡ with_bytes o []
-    start None = refl
-    start (Some held) = ap (λ (bs : List ℕ). Some bs) (sym (append-nil held))
+HasPut-start old bytes = record { front = []; parts = refl; holds = with_bytes-nil old }
 
 -- the next piece is put
 pub HasPut-put : {old mid new : Option (List ℕ)} (bytes piece rest : List ℕ) → HasPut old mid bytes (piece ++ rest) → new ≡ with_bytes mid piece → HasPut old new bytes rest
