@@ -1,6 +1,6 @@
 -- Bare: a text that is called with no list, as the definitions' move.
 use Rattle.std.proofs.Common.{◌≡◌, ℕ, Bool, true, false, List, [], Some, None, refl, sym, ap, ◌∙◌}
-use Rattle.std.specs.Prelude.{nat_lt, not, ◌&&◌, Result, IfOk}
+use Rattle.std.specs.Prelude.{nat_lt, not, ◌&&◌, Result, Ok, Err, IfOk}
 use Rattle.m4_state.specs.declared.definition.Def.{Def}
 use Rattle.m4_state.specs.declared.definition.Def.TheVariants.{Text}
 use Rattle.m4_state.specs.declared.delimiters.Delimiters.{Delimiters}
@@ -40,6 +40,17 @@ substituted_by t x n name l list q r h i j f g =
     ∙ ap (λ (y : List Arg). substituted t name y q) j
     ∙ ap (λ (y : List ℕ). let d : Delimiters = record { begin = y; end = q.end } in substituted t name list d) f
     ∙ ap (λ (y : List ℕ). let d : Delimiters = record { begin = r.begin; end = y } in substituted t name list d) g
+
+-- a text that some calls give is what one of them gives
+pub called_as : (e e1 : Engine) (x y : List ℕ) (c : Call) (p p' : Pending) (r : Result Turned TurnFault) → IfOk r (λ t. (k : Call) (z : List ℕ) → k.definition ≡ Text z → x ≡ substituted z k.name k.done (e.state).quotes → Moves e1 p' t (λ o m. called_within e.open_calls k (here_of o m e p))) → c.definition ≡ Text y → x ≡ substituted y c.name c.done (e.state).quotes → IfOk r (λ t. Moves e1 p' t (λ o m. called_within e.open_calls c (here_of o m e p)))
+called_as e e1 x y c p p' (Ok t) h d s = h c y d s
+called_as e e1 x y c p p' (Err f) h d s = tt
+
+-- the same behind a call with no list, within the limits
+pub expanded_goes : (e e2 e1 : Engine) (x : List ℕ) (p p' : Pending) (r : Result Turned TurnFault) → nat_lt e.calls (e.limits).calls ≡ true → is_deep_in e ≡ false → e2 ≡ counting e → IfOk r (λ t. (k : Call) (z : List ℕ) → k.definition ≡ Text z → x ≡ substituted z k.name k.done (e2.state).quotes → Moves e1 p' t (λ o m. called_within e2.open_calls k (here_of o m e2 p))) → IfOk r (λ t. (k : Call) (z : List ℕ) → k.definition ≡ Text z → x ≡ substituted z k.name k.done (e.state).quotes → (before : Pending) → Moves e1 p' t (λ o m. step (outer_of e.open_calls) (call false k p (here_of o m e before))))
+expanded_goes e e2 e1 x p p' (Ok t) room shallow k h = λ c y d s.
+    bare_goes e e2 e1 c p p' (Ok t) room shallow k (h c y d (s ∙ sym (ap (λ (d : Engine). substituted y c.name c.done (d.state).quotes) k)))
+expanded_goes e e2 e1 x p p' (Err f) room shallow k h = tt
 
 -- a call that is bare has no list, and the limits leave it
 pub bare_fits : (listed : Bool) (e : Engine) → is_bare listed e ≡ true → (listed ≡ false) × (nat_lt e.calls (e.limits).calls ≡ true) × (is_deep_in e ≡ false)

@@ -4,6 +4,7 @@ use Rattle.m4_state.proofs.CallerLaws.{with_bytes-append, with_bytes-nil}
 use Rattle.m4_state.specs.Device.{with_bytes, HasBegun}
 use Rattle.m4_engine.specs.Engine.{Engine, handed_on}
 use Rattle.m4_engine.specs.Expands.{HandsOnSome}
+use Rattle.m4_engine.specs.Writers.{writers}
 
 -- a writer that was not asked has taken a beginning
 pub nothing_begun : (o : Option (List ℕ)) (x : List ℕ) → HasBegun o o x
@@ -27,11 +28,11 @@ begun_behind o a b x y more all e h f = (
 )
 
 -- nothing was handed on
-pub some_none : (e : Engine) (out told : Option (List ℕ)) → HandsOnSome e e out out told told
+pub some_none : (e : Engine) (out told : Option (List ℕ)) → HandsOnSome e e (writers out out told told)
 some_none e out told = record { front = []; told = []; held = refl; output = with_bytes-nil out; messages = with_bytes-nil told }
 
 -- all was
-pub some_all : (e e' : Engine) (out out' told told' : Option (List ℕ)) → e' ≡ handed_on e → out' ≡ with_bytes out e.output → told' ≡ with_bytes told e.messages → HandsOnSome e e' out out' told told'
+pub some_all : (e e' : Engine) (out out' told told' : Option (List ℕ)) → e' ≡ handed_on e → out' ≡ with_bytes out e.output → told' ≡ with_bytes told e.messages → HandsOnSome e e' (writers out out' told told')
 some_all e e' out out' told told' h f g = record {
   front = e.output;
   told = e.messages;

@@ -15,7 +15,8 @@ use Rattle.m4_engine.proofs.Begins.{begun_behind}
 use Rattle.m4_engine.proofs.OnePass.{sources_keep, over_sources}
 use Rattle.m4_engine.specs.File.{Source, Progress, after_source, after_sources}
 use Rattle.m4_engine.specs.Wraps.{after_wraps}
-use Rattle.m4_engine.specs.Session.{Standing, Writers, progress_of, how_over, written, IsOpen, Filed, BrokeOff, GoesTo}
+use Rattle.m4_engine.specs.Session.{Standing, progress_of, how_over, written, IsOpen, Filed, BrokeOff, GoesTo}
+use Rattle.m4_engine.specs.Writers.{Contents, writers}
 use Rattle.m4_engine.proofs.Sources.{same_taken}
 use Rattle.m4_engine.proofs.RunsBehind.{Bp, Behind, sources_behind, rounds_behind}
 
@@ -56,15 +57,15 @@ module _ (o m : List ℕ) (limits : Limits) where
       (rounds_behind o m 0 limits.calls limits.calls limits.nesting limits.nesting room (λ k h. h) (λ h. ⊥) (inr (refl, refl)) (inr refl) (λ h x. absurd x) (suc limits.calls) (B q) q (inr refl))
 
 -- some of the sources were read: so much was written, and the rest of the run is the rest of the sources
-pub record Between (ss : List Source) (i : ℕ) (s0 s : Standing) (w : Writers) : Type 0 where
+pub record Between (ss : List Source) (i : ℕ) (s0 s : Standing) (w : Contents) : Type 0 where
   pub o : List ℕ
   pub m : List ℕ
   pub output : w.out_new ≡ with_bytes w.out_old o
-  pub messages : w.told_new ≡ with_bytes w.told_old m
+  pub messages : w.messages_new ≡ with_bytes w.messages_old m
   pub limits : s.limits ≡ s0.limits
   pub rest : after_sources s0.limits ss (progress_of s0) ≡ after_sources s0.limits (drop i ss) (behind o m (progress_of s))
 
-pub none_read : (ss : List Source) (s : Standing) (out told : Option (List ℕ)) → Between ss 0 s s (record { out_old = out; out_new = out; told_old = told; told_new = told })
+pub none_read : (ss : List Source) (s : Standing) (out told : Option (List ℕ)) → Between ss 0 s s (writers out out told told)
 none_read ss s out told = record { o = []; m = []; output = with_bytes-nil out; messages = with_bytes-nil told; limits = refl; rest = refl }
 
 -- what was written of a progress
@@ -79,7 +80,7 @@ source_after s0 s o m t ts l =
     ap (after_sources s0.limits ts)
     (sources_after o m s0.limits (t ∷ []) (progress_of s) ∙ ap (λ (x : Limits). behind o m (after_source x t (progress_of s))) (sym l))
 
-pub one_read : (ss : List Source) (i j : ℕ) (s0 s s' : Standing) (t : Source) (out0 out out' told0 told told' : Option (List ℕ)) → Between ss i s0 s (record { out_old = out0; out_new = out; told_old = told0; told_new = told }) → drop i ss ≡ t ∷ drop j ss → Filed s s' (after_source s.limits t (progress_of s)) (record { out_old = out; out_new = out'; told_old = told; told_new = told' }) → Between ss j s0 s' (record { out_old = out0; out_new = out'; told_old = told0; told_new = told' })
+pub one_read : (ss : List Source) (i j : ℕ) (s0 s s' : Standing) (t : Source) (out0 out out' told0 told told' : Option (List ℕ)) → Between ss i s0 s (writers out0 out told0 told) → drop i ss ≡ t ∷ drop j ss → Filed s s' (after_source s.limits t (progress_of s)) (writers out out' told told') → Between ss j s0 s' (writers out0 out' told0 told')
 one_read ss i j s0 s s' t out0 out out' told0 told told' b d f =
     let p : Progress = after_source s.limits t (progress_of s) in
     record {
@@ -95,7 +96,7 @@ one_read ss i j s0 s s' t out0 out out' told0 told told' b d f =
     }
 
 -- all were read
-pub all_read : (ss : List Source) (i : ℕ) (s0 s : Standing) (w : Writers) → IsOpen s0 → IsOpen s → Between ss i s0 s w → drop i ss ≡ [] → GoesTo (after_sources s0.limits ss (progress_of s0)) s0 s w (Ok tt)
+pub all_read : (ss : List Source) (i : ℕ) (s0 s : Standing) (w : Contents) → IsOpen s0 → IsOpen s → Between ss i s0 s w → drop i ss ≡ [] → GoesTo (after_sources s0.limits ss (progress_of s0)) s0 s w (Ok tt)
 all_read ss i s0 s w l0 l b d =
     let e : behind b.o b.m (progress_of s) ≡ after_sources s0.limits ss (progress_of s0) = sym (b.rest ∙ ap (λ (ts : List Source). after_sources s0.limits ts (behind b.o b.m (progress_of s))) d) in
     let f : Filed s0 s (behind b.o b.m (progress_of s)) w = record {
@@ -104,12 +105,12 @@ all_read ss i s0 s w l0 l b d =
       unfinished = l.unfinished;
       progress = refl;
       output = b.output ∙ ap (with_bytes w.out_old) (sym (append-nil b.o));
-      messages = b.messages ∙ ap (with_bytes w.told_old) (sym (append-nil b.m));
+      messages = b.messages ∙ ap (with_bytes w.messages_old) (sym (append-nil b.m));
     } in
     (subst (λ (p : Progress). Filed s0 s p w) e f, l.over)
 
 -- a source broke off
-broke : (ss : List Source) (i j : ℕ) (s0 s s' : Standing) (t : Source) (cause : Cause) (out0 out out' told0 told told' : Option (List ℕ)) → Between ss i s0 s (record { out_old = out0; out_new = out; told_old = told0; told_new = told }) → drop i ss ≡ t ∷ drop j ss → BrokeOff s' (after_source s.limits t (progress_of s)) (record { out_old = out; out_new = out'; told_old = told; told_new = told' }) cause → BrokeOff s' (after_sources s0.limits ss (progress_of s0)) (record { out_old = out0; out_new = out'; told_old = told0; told_new = told' }) cause
+broke : (ss : List Source) (i j : ℕ) (s0 s s' : Standing) (t : Source) (cause : Cause) (out0 out out' told0 told told' : Option (List ℕ)) → Between ss i s0 s (writers out0 out told0 told) → drop i ss ≡ t ∷ drop j ss → BrokeOff s' (after_source s.limits t (progress_of s)) (writers out out' told told') cause → BrokeOff s' (after_sources s0.limits ss (progress_of s0)) (writers out0 out' told0 told') cause
 broke ss i j s0 s s' t cause out0 out out' told0 told told' b d f =
     let p : Progress = after_source s.limits t (progress_of s) in
     let e : after_sources s0.limits ss (progress_of s0) ≡ after_sources s0.limits (drop j ss) (behind b.o b.m p) =
@@ -125,11 +126,11 @@ broke ss i j s0 s s' t cause out0 out out' told0 told told' b d f =
 pub over_behind_it : (s' : Standing) (p : Progress) (cause : Cause) → progress_of s' ≡ written p → s'.over ≡ Some cause → p.over ≡ Some (Ends cause)
 over_behind_it s' p cause e f = ap (λ (q : Progress). q.over) (sym e) ∙ ap how_over f
 
-stops_there : (ss : List Source) (i j : ℕ) (s0 s s' : Standing) (t : Source) (cause : Cause) (out0 out out' told0 told told' : Option (List ℕ)) → IsOpen s0 → Between ss i s0 s (record { out_old = out0; out_new = out; told_old = told0; told_new = told }) → drop i ss ≡ t ∷ drop j ss → Filed s s' (after_source s.limits t (progress_of s)) (record { out_old = out; out_new = out'; told_old = told; told_new = told' }) → s'.over ≡ Some cause → Filed s0 s' (after_sources s0.limits ss (progress_of s0)) (record { out_old = out0; out_new = out'; told_old = told0; told_new = told' })
+stops_there : (ss : List Source) (i j : ℕ) (s0 s s' : Standing) (t : Source) (cause : Cause) (out0 out out' told0 told told' : Option (List ℕ)) → IsOpen s0 → Between ss i s0 s (writers out0 out told0 told) → drop i ss ≡ t ∷ drop j ss → Filed s s' (after_source s.limits t (progress_of s)) (writers out out' told told') → s'.over ≡ Some cause → Filed s0 s' (after_sources s0.limits ss (progress_of s0)) (writers out0 out' told0 told')
 unfolding one_read
 stops_there ss i j s0 s s' t cause out0 out out' told0 told told' l0 b d f v =
     let p : Progress = after_source s.limits t (progress_of s) in
-    let w : Writers = record { out_old = out0; out_new = out'; told_old = told0; told_new = told' } in
+    let w : Contents = writers out0 out' told0 told' in
     let c = one_read ss i j s0 s s' t out0 out out' told0 told told' b d f in
     let h : (behind b.o b.m p).over ≡ Some (Ends cause) = over_behind_it s' p cause f.progress v in
     let e : after_sources s0.limits ss (progress_of s0) ≡ behind b.o b.m p =
@@ -145,7 +146,7 @@ stops_there ss i j s0 s s' t cause out0 out out' told0 told told' l0 b d f v =
     })
 
 -- by the answer
-pub stopped : (ss : List Source) (i j : ℕ) (s0 s s' : Standing) (t : Source) (out0 out out' told0 told told' : Option (List ℕ)) (e : Stop) → IsOpen s0 → Between ss i s0 s (record { out_old = out0; out_new = out; told_old = told0; told_new = told }) → drop i ss ≡ t ∷ drop j ss → GoesTo (after_source s.limits t (progress_of s)) s s' (record { out_old = out; out_new = out'; told_old = told; told_new = told' }) (Err e) → GoesTo (after_sources s0.limits ss (progress_of s0)) s0 s' (record { out_old = out0; out_new = out'; told_old = told0; told_new = told' }) (Err e)
+pub stopped : (ss : List Source) (i j : ℕ) (s0 s s' : Standing) (t : Source) (out0 out out' told0 told told' : Option (List ℕ)) (e : Stop) → IsOpen s0 → Between ss i s0 s (writers out0 out told0 told) → drop i ss ≡ t ∷ drop j ss → GoesTo (after_source s.limits t (progress_of s)) s s' (writers out out' told told') (Err e) → GoesTo (after_sources s0.limits ss (progress_of s0)) s0 s' (writers out0 out' told0 told') (Err e)
 stopped ss i j s0 s s' t out0 out out' told0 told told' stops.Finished l b d h = h
 stopped ss i j s0 s s' t out0 out out' told0 told told' (stops.Ended causes.Read) l b d h = broke ss i j s0 s s' t causes.Read out0 out out' told0 told told' b d h
 stopped ss i j s0 s s' t out0 out out' told0 told told' (stops.Ended causes.Write) l b d h = broke ss i j s0 s s' t causes.Write out0 out out' told0 told told' b d h
@@ -265,10 +266,10 @@ item script i xs ys x v ss d l (inr m) =
     let k = item_may script i xs ys (slice_index_or xs i x) v ss d (drop-cons xs i x l) (subst (λ (j : ℕ). may_first script j ys (slice_set xs i v) ss) n m) in
     record { first = inr k.first; source = k.source; stands = inr k.may; there = k.there ∙ ap (λ (j : ℕ). k.source ∷ drop j ss) (sym n) }
 
-pub stopped_so : (ss : List Source) (i j : ℕ) (s0 s s' : Standing) (t : Source) (out0 out out' told0 told told' : Option (List ℕ)) (e : Stop) (q r : Result Unit Stop) → q ≡ Err e → r ≡ Err e → IsOpen s0 → Between ss i s0 s (record { out_old = out0; out_new = out; told_old = told0; told_new = told }) → drop i ss ≡ t ∷ drop j ss → GoesTo (after_source s.limits t (progress_of s)) s s' (record { out_old = out; out_new = out'; told_old = told; told_new = told' }) q → GoesTo (after_sources s0.limits ss (progress_of s0)) s0 s' (record { out_old = out0; out_new = out'; told_old = told0; told_new = told' }) r
+pub stopped_so : (ss : List Source) (i j : ℕ) (s0 s s' : Standing) (t : Source) (out0 out out' told0 told told' : Option (List ℕ)) (e : Stop) (q r : Result Unit Stop) → q ≡ Err e → r ≡ Err e → IsOpen s0 → Between ss i s0 s (writers out0 out told0 told) → drop i ss ≡ t ∷ drop j ss → GoesTo (after_source s.limits t (progress_of s)) s s' (writers out out' told told') q → GoesTo (after_sources s0.limits ss (progress_of s0)) s0 s' (writers out0 out' told0 told') r
 stopped_so ss i j s0 s s' t out0 out out' told0 told told' e q r f g l b d h =
-    subst (GoesTo (after_sources s0.limits ss (progress_of s0)) s0 s' (record { out_old = out0; out_new = out'; told_old = told0; told_new = told' })) (sym g)
-    (stopped ss i j s0 s s' t out0 out out' told0 told told' e l b d (subst (GoesTo (after_source s.limits t (progress_of s)) s s' (record { out_old = out; out_new = out'; told_old = told; told_new = told' })) f h))
+    subst (GoesTo (after_sources s0.limits ss (progress_of s0)) s0 s' (writers out0 out' told0 told')) (sym g)
+    (stopped ss i j s0 s s' t out0 out out' told0 told told' e l b d (subst (GoesTo (after_source s.limits t (progress_of s)) s s' (writers out out' told told')) f h))
 
 -- the reader at a place failed
 failed_there : {R : Type 0} (failures : R → ℕ) (i : ℕ) (xs ys : List (RunSource R)) (x v : RunSource R) → drop i xs ≡ drop i ys → drop i xs ≡ x ∷ drop (suc i) xs → has_failed failures x v → any_failed failures ys (slice_set xs i v)

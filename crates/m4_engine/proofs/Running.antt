@@ -14,6 +14,7 @@ use Rattle.m4_engine.specs.Expansion.{Call, Expansion, Kept, Ended, Ends}
 use Rattle.m4_engine.specs.Expand.{turn, join, expand, expansion_of, ended_of}
 use Rattle.m4_engine.specs.Engine.{Engine, so_far_of, outer_of, here_of, configuration, handed_on, moved, IsReady, Moves, Passes}
 use Rattle.m4_engine.specs.Expands.{made_before, comes_to, Expanded, Broken, Expands, HandsOn, HandsOnSome, IsIdle}
+use Rattle.m4_engine.specs.Writers.{writers}
 use Rattle.m4_engine.proofs.Begins.{begun_behind}
 use Rattle.m4_engine.proofs.Growth.{Extends, made_out}
 use Rattle.m4_engine.proofs.LoopKeeps.{turns_of, move_falls, meaning_of, some_means, moved_on, end_means}
@@ -55,7 +56,7 @@ passed e0 e e1 p0 i i1 out0 told0 out told r h = record {
 }
 
 -- a turn after which it goes on
-goes_on : (e0 e e' e2 : Engine) (p0 : Pending) (i i' : Held) (out0 told0 out told out' told' : Option (List ℕ)) → Running e0 p0 out0 told0 e i out told → Moves e' i'.pending turns.GoesOn (λ o m. moved (configuration o m e i.pending)) → IsReady i' → e'.limits ≡ e.limits → HandsOnSome e' e2 out out' told told' → Running e0 p0 out0 told0 e2 i' out' told'
+goes_on : (e0 e e' e2 : Engine) (p0 : Pending) (i i' : Held) (out0 told0 out told out' told' : Option (List ℕ)) → Running e0 p0 out0 told0 e i out told → Moves e' i'.pending turns.GoesOn (λ o m. moved (configuration o m e i.pending)) → IsReady i' → e'.limits ≡ e.limits → HandsOnSome e' e2 (writers out out' told told') → Running e0 p0 out0 told0 e2 i' out' told'
 goes_on e0 e e' e2 p0 i i' out0 told0 out told out' told' r h q l f = record {
   o = r.o ++ f.front;
   m = r.m ++ f.told;
@@ -82,13 +83,13 @@ comes_is e p d = ap (λ (s : Expansion). ended_of (expand s)) (sym (idle_here e 
 wrote_all : (o : Option (List ℕ)) (a : Option (List ℕ)) (x : List ℕ) → a ≡ with_bytes o x → HasBegun o a x
 wrote_all o a x e = ([], record { front = x; parts = sym (append-nil x); holds = e })
 
-broken_of : (old new : Engine) (d : Ended) (cause : Cause) (out0 out told0 told : Option (List ℕ)) → Expanded old new d cause out0 out told0 told → Broken d out0 out told0 told
+broken_of : (old new : Engine) (d : Ended) (cause : Cause) (out0 out told0 told : Option (List ℕ)) → Expanded old new d cause (writers out0 out told0 told) → Broken d (writers out0 out told0 told)
 broken_of old new d cause out0 out told0 told x = record {
   output = wrote_all out0 out (d.so_far).output x.output;
   messages = wrote_all told0 told (d.so_far).messages x.messages;
 }
 
-expands_of : (old new : Engine) (p : Pending) (out0 out told0 told : Option (List ℕ)) (cause : Cause) → Expanded old new (comes_to old p) cause out0 out told0 told → Expands old new p out0 out told0 told cause
+expands_of : (old new : Engine) (p : Pending) (out0 out told0 told : Option (List ℕ)) (cause : Cause) → Expanded old new (comes_to old p) cause (writers out0 out told0 told) → Expands old new p (writers out0 out told0 told) cause
 expands_of old new p out0 out told0 told causes.Done x = x
 expands_of old new p out0 out told0 told (causes.Exited n) x = x
 expands_of old new p out0 out told0 told causes.EndInString x = x
@@ -102,11 +103,11 @@ expands_of old new p out0 out told0 told causes.Write x = broken_of old new (com
 expands_of old new p out0 out told0 told causes.OutOfMemory x = broken_of old new (comes_to old p) causes.OutOfMemory out0 out told0 told x
 
 -- a turn after which it ends
-pub ends : (e0 e e' : Engine) (p0 p' : Pending) (i : Held) (out0 told0 out told out' told' : Option (List ℕ)) (cause : Cause) → IsIdle e0 → Running e0 p0 out0 told0 e i out told → Moves e' p' (turns.Ends cause) (λ o m. moved (configuration o m e i.pending)) → e'.limits ≡ e.limits → out' ≡ with_bytes out e'.output → told' ≡ with_bytes told e'.messages → Expands e0 (handed_on e') p0 out0 out' told0 told' cause
+pub ends : (e0 e e' : Engine) (p0 p' : Pending) (i : Held) (out0 told0 out told out' told' : Option (List ℕ)) (cause : Cause) → IsIdle e0 → Running e0 p0 out0 told0 e i out told → Moves e' p' (turns.Ends cause) (λ o m. moved (configuration o m e i.pending)) → e'.limits ≡ e.limits → out' ≡ with_bytes out e'.output → told' ≡ with_bytes told e'.messages → Expands e0 (handed_on e') p0 (writers out0 out' told0 told') cause
 ends e0 e e' p0 p' i out0 told0 out told out' told' cause d r h l f g =
     let end : Ended = record { so_far = so_far_of r.o r.m e'; how = Ends cause } in
     let c : comes_to e0 p0 ≡ end = comes_is e0 p0 d ∙ ap ended_of (sym r.means ∙ end_means e e' i.pending p' r.o r.m cause h) in
-    let x : Expanded e0 (handed_on e') end cause out0 out' told0 told' = record {
+    let x : Expanded e0 (handed_on e') end cause (writers out0 out' told0 told') = record {
       how = refl;
       limits = l ∙ r.limits;
       state = refl;
@@ -115,7 +116,7 @@ ends e0 e e' p0 p' i out0 told0 out told out' told' cause d r h l f g =
       output = f ∙ ap (λ x. with_bytes x e'.output) r.output ∙ with_bytes-append out0 r.o e'.output;
       messages = g ∙ ap (λ x. with_bytes x e'.messages) r.messages ∙ with_bytes-append told0 r.m e'.messages;
     } in
-    expands_of e0 (handed_on e') p0 out0 out' told0 told' cause (subst (λ (y : Ended). Expanded e0 (handed_on e') y cause out0 out' told0 told') (sym c) x)
+    expands_of e0 (handed_on e') p0 out0 out' told0 told' cause (subst (λ (y : Ended). Expanded e0 (handed_on e') y cause (writers out0 out' told0 told')) (sym c) x)
 
 -- what a machine comes to goes on from what it has made
 resume_keeps : (fs : List Kept) (v : Outcome Expansion Ended) → Extends (made_out v) (made_out (resume Expansion Kept Ended turn join expand fs v))
@@ -134,7 +135,7 @@ made_there e0 e p0 i out0 told0 out told d r =
     ap made_out r.means ∙ made_is (expand (here_of [] [] e0 p0)) ∙ ap (λ (x : Ended). x.so_far) (sym (comes_is e0 p0 d))
 
 -- where a turn isn't made, a beginning was handed on
-pub breaks : (e0 e : Engine) (p0 : Pending) (i : Held) (out0 told0 out told : Option (List ℕ)) → IsIdle e0 → Running e0 p0 out0 told0 e i out told → Broken (comes_to e0 p0) out0 out told0 told
+pub breaks : (e0 e : Engine) (p0 : Pending) (i : Held) (out0 told0 out told : Option (List ℕ)) → IsIdle e0 → Running e0 p0 out0 told0 e i out told → Broken (comes_to e0 p0) (writers out0 out told0 told)
 breaks e0 e p0 i out0 told0 out told d r =
     let k = subst (Extends (so_far_of r.o r.m e)) (made_there e0 e p0 i out0 told0 out told d r) (meaning_keeps r.o r.m e i.pending) in
     record {
@@ -150,7 +151,7 @@ turn_made e e' p p' o m (turns.Ends cause) h =
     subst (λ v. Extends (so_far_of o m e') (made_out v)) (sym (end_means e e' p p' o m cause h)) (extends_same (so_far_of o m e'))
 
 -- where it can't be handed on, a beginning was
-pub write_breaks : (e0 e e' : Engine) (p0 p' : Pending) (i : Held) (t : Turned) (out0 told0 out told out' told' : Option (List ℕ)) → IsIdle e0 → Running e0 p0 out0 told0 e i out told → Moves e' p' t (λ o m. moved (configuration o m e i.pending)) → HandsOn e'.output e'.messages out out' told told' → Broken (comes_to e0 p0) out0 out' told0 told'
+pub write_breaks : (e0 e e' : Engine) (p0 p' : Pending) (i : Held) (t : Turned) (out0 told0 out told out' told' : Option (List ℕ)) → IsIdle e0 → Running e0 p0 out0 told0 e i out told → Moves e' p' t (λ o m. moved (configuration o m e i.pending)) → HandsOn e'.output e'.messages (writers out out' told told') → Broken (comes_to e0 p0) (writers out0 out' told0 told')
 write_breaks e0 e e' p0 p' i t out0 told0 out told out' told' d r h b =
     let k = subst (Extends (so_far_of r.o r.m e')) (made_there e0 e p0 i out0 told0 out told d r) (turn_made e e' i.pending p' r.o r.m t h) in
     record {
@@ -159,16 +160,16 @@ write_breaks e0 e e' p0 p' i t out0 told0 out told out' told' d r h b =
     }
 
 -- the same for a turn and an engine with names of their own
-pub ended : (e0 e e' e2 : Engine) (p0 p' : Pending) (i : Held) (out0 told0 out told out' told' : Option (List ℕ)) (t : Turned) (cause : Cause) → IsIdle e0 → Running e0 p0 out0 told0 e i out told → Moves e' p' t (λ o m. moved (configuration o m e i.pending)) → t ≡ turns.Ends cause → e2 ≡ handed_on e' → e'.limits ≡ e.limits → out' ≡ with_bytes out e'.output → told' ≡ with_bytes told e'.messages → Expands e0 e2 p0 out0 out' told0 told' cause
+pub ended : (e0 e e' e2 : Engine) (p0 p' : Pending) (i : Held) (out0 told0 out told out' told' : Option (List ℕ)) (t : Turned) (cause : Cause) → IsIdle e0 → Running e0 p0 out0 told0 e i out told → Moves e' p' t (λ o m. moved (configuration o m e i.pending)) → t ≡ turns.Ends cause → e2 ≡ handed_on e' → e'.limits ≡ e.limits → out' ≡ with_bytes out e'.output → told' ≡ with_bytes told e'.messages → Expands e0 e2 p0 (writers out0 out' told0 told') cause
 ended e0 e e' e2 p0 p' i out0 told0 out told out' told' t cause d r h k j l f g =
-    subst (λ (x : Engine). Expands e0 x p0 out0 out' told0 told' cause) (sym j)
+    subst (λ (x : Engine). Expands e0 x p0 (writers out0 out' told0 told') cause) (sym j)
     (ends e0 e e' p0 p' i out0 told0 out told out' told' cause d r (subst (λ (x : Turned). Moves e' p' x (λ o m. moved (configuration o m e i.pending))) k h) l f g)
 
-pub went_on : (e0 e e' e2 : Engine) (p0 : Pending) (i i' : Held) (out0 told0 out told out' told' : Option (List ℕ)) (t : Turned) → Running e0 p0 out0 told0 e i out told → Moves e' i'.pending t (λ o m. moved (configuration o m e i.pending)) → t ≡ turns.GoesOn → IsReady i' → e'.limits ≡ e.limits → HandsOnSome e' e2 out out' told told' → Running e0 p0 out0 told0 e2 i' out' told'
+pub went_on : (e0 e e' e2 : Engine) (p0 : Pending) (i i' : Held) (out0 told0 out told out' told' : Option (List ℕ)) (t : Turned) → Running e0 p0 out0 told0 e i out told → Moves e' i'.pending t (λ o m. moved (configuration o m e i.pending)) → t ≡ turns.GoesOn → IsReady i' → e'.limits ≡ e.limits → HandsOnSome e' e2 (writers out out' told told') → Running e0 p0 out0 told0 e2 i' out' told'
 went_on e0 e e' e2 p0 i i' out0 told0 out told out' told' t r h k q l f =
     goes_on e0 e e' e2 p0 i i' out0 told0 out told out' told' r (subst (λ (x : Turned). Moves e' i'.pending x (λ o m. moved (configuration o m e i.pending))) k h) q l f
 
-pub fell : (e e1 e' e2 : Engine) (i i1 : Held) (p' : Pending) (out out' told told' : Option (List ℕ)) (t : Turned) → IsReady i → Passes e e1 i i1 → Moves e' p' t (λ o m. moved (configuration o m e1 i1.pending)) → t ≡ turns.GoesOn → HandsOnSome e' e2 out out' told told' → turns_of e2 p' < turns_of e i.pending
+pub fell : (e e1 e' e2 : Engine) (i i1 : Held) (p' : Pending) (out out' told told' : Option (List ℕ)) (t : Turned) → IsReady i → Passes e e1 i i1 → Moves e' p' t (λ o m. moved (configuration o m e1 i1.pending)) → t ≡ turns.GoesOn → HandsOnSome e' e2 (writers out out' told told') → turns_of e2 p' < turns_of e i.pending
 fell e e1 e' e2 i i1 p' out out' told told' t q w h k f =
     let a : turns_of e2 p' < turns_of e1 i1.pending = move_falls e1 e' e2 i1.pending p' f.front f.told f.held (subst (λ (x : Turned). Moves e' p' x (λ o m. moved (configuration o m e1 i1.pending))) k h) in
     let b : turns_of e1 i1.pending ≤ turns_of e i.pending = (passes_reaches e e1 i i1 q w).turns in

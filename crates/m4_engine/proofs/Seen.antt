@@ -94,7 +94,7 @@ named_moves e e1 m bare name at p q p' (Ok t) f g v k = λ before i j.
 named_moves e e1 m bare name at p q p' (Err x) f g v k = tt
 
 -- a text that is called with no list
-pub expansion_moves : (e e1 : Engine) (m : Meaning) (x : List ℕ) (bare listed : Bool) (p p' : Pending) (r : Result Turned TurnFault) → m ≡ meanings.Expansion x → paren_at (e.state).quotes (e.state).comments p ≡ answer_of listed → listed ≡ false → ((c : Call) (t : List ℕ) → c.definition ≡ Text t → x ≡ substituted t c.name c.done (e.state).quotes → IfOk r (λ u. (before : Pending) → Moves e1 p' u (λ o l. step (outer_of e.open_calls) (call false c p (here_of o l e before))))) → IfOk r (λ u. (name : List ℕ) (before : Pending) → IsMeaning m bare e.state name (place_at before) → Moves e1 p' u (λ o l. step (outer_of e.open_calls) (take_name (top_of e.state name) name p (here_of o l e before))))
+pub expansion_moves : (e e1 : Engine) (m : Meaning) (x : List ℕ) (bare listed : Bool) (p p' : Pending) (r : Result Turned TurnFault) → m ≡ meanings.Expansion x → paren_at (e.state).quotes (e.state).comments p ≡ answer_of listed → listed ≡ false → IfOk r (λ u. (c : Call) (t : List ℕ) → c.definition ≡ Text t → x ≡ substituted t c.name c.done (e.state).quotes → (before : Pending) → Moves e1 p' u (λ o l. step (outer_of e.open_calls) (call false c p (here_of o l e before)))) → IfOk r (λ u. (name : List ℕ) (before : Pending) → IsMeaning m bare e.state name (place_at before) → Moves e1 p' u (λ o l. step (outer_of e.open_calls) (take_name (top_of e.state name) name p (here_of o l e before))))
 expansion_moves e e1 m x bare listed p p' (Ok u) h i j k = λ name before w.
     let v = subst (λ (n : Meaning). IsMeaning n bare e.state name (place_at before)) h w in
     let c : Call = call_of (Text v.1) name (place_at before) in

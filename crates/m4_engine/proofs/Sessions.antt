@@ -16,7 +16,8 @@ use Rattle.m4_engine.specs.Wraps.{after_wraps, close}
 use Rattle.m4_engine.proofs.Begins.{nothing_begun}
 use Rattle.m4_engine.specs.Engine.{Engine}
 use Rattle.m4_engine.specs.Expands.{comes_to, Expanded, Broken, Expands, at_rest}
-use Rattle.m4_engine.specs.Session.{Standing, Writers, progress_of, written, how_over, IsOpen, FileDone, FileBroke, FileGives, answer_by, over_behind, behind_wraps, FinishGives}
+use Rattle.m4_engine.specs.Session.{Standing, progress_of, written, how_over, IsOpen, FileDone, FileBroke, FileGives, answer_by, over_behind, behind_wraps, FinishGives}
+use Rattle.m4_engine.specs.Writers.{Contents}
 
 -- what a file's input has in hand when it was read
 pub whole_file : (name x : List ℕ) (before behind : Option Script) (p : Pending) → Reads before behind (unread_file name).pending x p → p.may_follow ≡ false → p ≡ file_pending name x false
@@ -50,9 +51,9 @@ progress_behind new missed over cause d h s v n o =
     ∙ ap (λ (x : Option How). progress_with (d.so_far).state (d.so_far).saved (d.so_far).calls x missed) (o ∙ sym (ap over_of h))
 
 -- a file was read to an end
-file_done : (e0 e1 : Engine) (missed : Bool) (name x : List ℕ) (over : Option Cause) (cause : Cause) (before behind : Option Script) (p : Pending) (w : Writers) → before ≡ after_bytes x behind → IsAtEnd behind → p ≡ file_pending name x false → Expanded e0 e1 (comes_to e0 p) cause w.out_old w.out_new w.told_old w.told_new → how_over over ≡ over_by cause → FileDone name before behind (standing_of e0 missed None false) (standing_of (at_rest e1) missed over false) w over
+file_done : (e0 e1 : Engine) (missed : Bool) (name x : List ℕ) (over : Option Cause) (cause : Cause) (before behind : Option Script) (p : Pending) (w : Contents) → before ≡ after_bytes x behind → IsAtEnd behind → p ≡ file_pending name x false → Expanded e0 e1 (comes_to e0 p) cause w → how_over over ≡ over_by cause → FileDone name before behind (standing_of e0 missed None false) (standing_of (at_rest e1) missed over false) w over
 file_done e0 e1 missed name x over cause before behind p w g a e d o =
-    let k = subst (λ (p : Pending). Expanded e0 e1 (comes_to e0 p) cause w.out_old w.out_new w.told_old w.told_new) e d in (
+    let k = subst (λ (p : Pending). Expanded e0 e1 (comes_to e0 p) cause w) e d in (
       x,
       g,
       a,
@@ -68,15 +69,15 @@ file_done e0 e1 missed name x over cause before behind p w g a e d o =
     )
 
 -- a file broke off
-file_broke : (e0 e1 : Engine) (missed : Bool) (name x : List ℕ) (cause : Cause) (before behind : Option Script) (p : Pending) (w : Writers) → before ≡ after_bytes x behind → IsAtEnd behind → p ≡ file_pending name x false → Broken (comes_to e0 p) w.out_old w.out_new w.told_old w.told_new → FileBroke name before behind (standing_of e0 missed None false) (standing_of (at_rest e1) missed (Some cause) false) w cause
+file_broke : (e0 e1 : Engine) (missed : Bool) (name x : List ℕ) (cause : Cause) (before behind : Option Script) (p : Pending) (w : Contents) → before ≡ after_bytes x behind → IsAtEnd behind → p ≡ file_pending name x false → Broken (comes_to e0 p) w → FileBroke name before behind (standing_of e0 missed None false) (standing_of (at_rest e1) missed (Some cause) false) w cause
 file_broke e0 e1 missed name x cause before behind p w g a e d = (
   x,
   g,
   record { live = record { over = refl; unfinished = refl }; over = refl },
-  inr (a, subst (λ (p : Pending). Broken (comes_to e0 p) w.out_old w.out_new w.told_old w.told_new) e d),
+  inr (a, subst (λ (p : Pending). Broken (comes_to e0 p) w) e d),
 )
 
-by_cause : (e0 e1 : Engine) (missed : Bool) (name x : List ℕ) (cause : Cause) (before behind : Option Script) (p : Pending) (w : Writers) → before ≡ after_bytes x behind → IsAtEnd behind → p ≡ file_pending name x false → Expands e0 e1 p w.out_old w.out_new w.told_old w.told_new cause → (cause ≡ causes.Read → ⊥) → FileGives name before behind (standing_of e0 missed None false) (standing_of (at_rest e1) missed (over_behind cause None) false) w (answer_by cause)
+by_cause : (e0 e1 : Engine) (missed : Bool) (name x : List ℕ) (cause : Cause) (before behind : Option Script) (p : Pending) (w : Contents) → before ≡ after_bytes x behind → IsAtEnd behind → p ≡ file_pending name x false → Expands e0 e1 p w cause → (cause ≡ causes.Read → ⊥) → FileGives name before behind (standing_of e0 missed None false) (standing_of (at_rest e1) missed (over_behind cause None) false) w (answer_by cause)
 by_cause e0 e1 missed name x causes.Done before behind p w g a e d u = file_done e0 e1 missed name x None causes.Done before behind p w g a e d refl
 by_cause e0 e1 missed name x (causes.Exited n) before behind p w g a e d u = file_done e0 e1 missed name x (Some (causes.Exited n)) (causes.Exited n) before behind p w g a e d refl
 by_cause e0 e1 missed name x causes.EndInString before behind p w g a e d u = file_done e0 e1 missed name x (Some causes.EndInString) causes.EndInString before behind p w g a e d refl
@@ -90,7 +91,7 @@ by_cause e0 e1 missed name x causes.Write before behind p w g a e d u = file_bro
 by_cause e0 e1 missed name x causes.OutOfMemory before behind p w g a e d u = file_broke e0 e1 missed name x causes.OutOfMemory before behind p w g a e d
 
 -- a file that was read whole
-pub file_gives : (old new : Standing) (e0 e1 e2 : Engine) (missed : Bool) (over : Option Cause) (finished : Bool) (name : List ℕ) (i0 i : Held) (before behind : Option Script) (w : Writers) (cause : Cause) (result : Result Unit Stop) → old ≡ standing_of e0 missed over finished → IsOpen old → i0 ≡ unread_file name → WholeGives before behind i0 i (Ok tt) → Expands e0 e1 i.pending w.out_old w.out_new w.told_old w.told_new cause → (cause ≡ causes.Read → ⊥) → e2 ≡ at_rest e1 → new ≡ standing_of e2 missed (over_behind cause over) finished → result ≡ answer_by cause → FileGives name before behind old new w result
+pub file_gives : (old new : Standing) (e0 e1 e2 : Engine) (missed : Bool) (over : Option Cause) (finished : Bool) (name : List ℕ) (i0 i : Held) (before behind : Option Script) (w : Contents) (cause : Cause) (result : Result Unit Stop) → old ≡ standing_of e0 missed over finished → IsOpen old → i0 ≡ unread_file name → WholeGives before behind i0 i (Ok tt) → Expands e0 e1 i.pending w cause → (cause ≡ causes.Read → ⊥) → e2 ≡ at_rest e1 → new ≡ standing_of e2 missed (over_behind cause over) finished → result ≡ answer_by cause → FileGives name before behind old new w result
 file_gives old new e0 e1 e2 missed over finished name i0 i before behind w cause result o l n h d u z v r =
     let b : over ≡ None = sym (ap (λ (s : Standing). s.over) o) ∙ l.over in
     let f : finished ≡ false = sym (ap (λ (s : Standing). s.finished) o) ∙ l.unfinished in
@@ -117,13 +118,13 @@ ended_output : (s : Standing) → s.over ≡ None → (result_of false [] (progr
 ended_output s e = ap (λ (o : Option Cause). (result_of false [] (progress_of (record s { over = o }))).output) e
 
 -- the diversions could not be issued
-pub finish_broke : (old new : Standing) (w : Writers) (s : Stop) → IsOpen old → old.saved ≡ [] → s ≡ stops.Ended causes.Write → new.over ≡ Some causes.Write → w.told_new ≡ w.told_old → HasBegun w.out_old w.out_new (close old.state) → FinishGives old new w (Err s)
+pub finish_broke : (old new : Standing) (w : Contents) (s : Stop) → IsOpen old → old.saved ≡ [] → s ≡ stops.Ended causes.Write → new.over ≡ Some causes.Write → w.messages_new ≡ w.messages_old → HasBegun w.out_old w.out_new (close old.state) → FinishGives old new w (Err s)
 finish_broke old new w s l e i o m h =
     let p : progress_of old ≡ behind_wraps old = sym (behind_is old l e) in
     subst (λ (x : Stop). FinishGives old new w (Err x)) (sym i) (record {
       live = l;
       over = o;
       output = subst (HasBegun w.out_old w.out_new) (sym (ended_output old l.over) ∙ ap (λ (x : Progress). (result_of false [] x).output) p) h;
-      messages = subst (λ (x : Progress). HasBegun w.told_old w.told_new (x.so_far).messages) p
-          (subst (λ x. HasBegun w.told_old x []) (sym m) (nothing_begun w.told_old []));
+      messages = subst (λ (x : Progress). HasBegun w.messages_old w.messages_new (x.so_far).messages) p
+          (subst (λ x. HasBegun w.messages_old x []) (sym m) (nothing_begun w.messages_old []));
     })

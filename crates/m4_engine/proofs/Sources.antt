@@ -13,7 +13,8 @@ use Rattle.m4_engine.specs.File.{Source, Opened, Unopened, Progress, file, after
 use Rattle.m4_engine.specs.declared.source.Source.{Source as RunSource}
 use Rattle.m4_engine.specs.declared.source.Source.TheVariants as sources
 use Rattle.m4_engine.specs.Told.{whole, told_opened, MayHave, may_be_opened, script_of, StandsFor, is_taken}
-use Rattle.m4_engine.specs.Session.{Standing, Writers, progress_of, IsOpen, Filed, Fell, how_over, Silent, FileDone, FileBroke, FileGives, MissingGives, BrokeOff, GoesTo}
+use Rattle.m4_engine.specs.Session.{Standing, progress_of, IsOpen, Filed, Fell, how_over, Silent, FileDone, FileBroke, FileGives, MissingGives, BrokeOff, GoesTo}
+use Rattle.m4_engine.specs.Writers.{Contents}
 use Rattle.m4_engine.proofs.Begins.{nothing_begun}
 
 -- a reader that tells its bytes and ends gave all of them, where it is at its end
@@ -48,7 +49,7 @@ stands_suit : {R : Type 0} (script : R → Option Script) (name : List ℕ) (r :
 stands_suit script name r behind s (inl t) = λ x g a. all_given name (script r) (script_of script behind) x s t g a
 stands_suit script name r behind s (inr m) = may_suit name (script r) (script_of script behind) s m
 
-done_goes : (old new : Standing) (name : List ℕ) (before behind : Option Script) (w : Writers) (s : Source) (over : Option Cause) → Suits name before behind s → FileDone name before behind old new w over → Filed old new (after_source old.limits s (progress_of old)) w × (new.over ≡ over)
+done_goes : (old new : Standing) (name : List ℕ) (before behind : Option Script) (w : Contents) (s : Source) (over : Option Cause) → Suits name before behind s → FileDone name before behind old new w over → Filed old new (after_source old.limits s (progress_of old)) w × (new.over ≡ over)
 done_goes old new name before behind w s over t h =
     (subst (λ (s : Source). Filed old new (after_source old.limits s (progress_of old)) w) (sym (t h.0 h.1 h.2)) h.3, h.4)
 
@@ -59,23 +60,23 @@ source_is old name x l = ap (λ (o : Option Cause). (after_source old.limits (Op
 silent_begun : (o n : Option (List ℕ)) (x : List ℕ) → n ≡ o → HasBegun o n x
 silent_begun o n x e = subst (λ (y : Option (List ℕ)). HasBegun o y x) (sym e) (nothing_begun o x)
 
-broke_by : (old new : Standing) (name : List ℕ) (behind : Option Script) (w : Writers) (s : Source) (cause : Cause) (x : List ℕ) → (IsAtEnd behind → s ≡ Opened name x) → Fell old new cause → (Silent w ⊎ (IsAtEnd behind × Broken (file old.limits (progress_of old).so_far name x) w.out_old w.out_new w.told_old w.told_new)) → BrokeOff new (after_source old.limits s (progress_of old)) w cause
+broke_by : (old new : Standing) (name : List ℕ) (behind : Option Script) (w : Contents) (s : Source) (cause : Cause) (x : List ℕ) → (IsAtEnd behind → s ≡ Opened name x) → Fell old new cause → (Silent w ⊎ (IsAtEnd behind × Broken (file old.limits (progress_of old).so_far name x) w)) → BrokeOff new (after_source old.limits s (progress_of old)) w cause
 broke_by old new name behind w s cause x e f (inl h) = record {
   over = f.over;
   output = silent_begun w.out_old w.out_new _ h.output;
-  messages = silent_begun w.told_old w.told_new _ h.messages;
+  messages = silent_begun w.messages_old w.messages_new _ h.messages;
 }
 broke_by old new name behind w s cause x e f (inr h) =
     subst (λ (s : Source). BrokeOff new (after_source old.limits s (progress_of old)) w cause) (sym (e h.0)) (record {
       over = f.over;
       output = subst (λ (r : RunSoFar). HasBegun w.out_old w.out_new r.output) (sym (source_is old name x f.live)) (h.1).output;
-      messages = subst (λ (r : RunSoFar). HasBegun w.told_old w.told_new r.messages) (sym (source_is old name x f.live)) (h.1).messages;
+      messages = subst (λ (r : RunSoFar). HasBegun w.messages_old w.messages_new r.messages) (sym (source_is old name x f.live)) (h.1).messages;
     })
 
-broke_goes : (old new : Standing) (name : List ℕ) (before behind : Option Script) (w : Writers) (s : Source) (cause : Cause) → Suits name before behind s → FileBroke name before behind old new w cause → BrokeOff new (after_source old.limits s (progress_of old)) w cause
+broke_goes : (old new : Standing) (name : List ℕ) (before behind : Option Script) (w : Contents) (s : Source) (cause : Cause) → Suits name before behind s → FileBroke name before behind old new w cause → BrokeOff new (after_source old.limits s (progress_of old)) w cause
 broke_goes old new name before behind w s cause t h = broke_by old new name behind w s cause h.0 (λ a. t h.0 h.1 a) h.2 h.3
 
-opened_goes : (old new : Standing) (name : List ℕ) (before behind : Option Script) (w : Writers) (r : Result Unit Stop) (s : Source) → IsOpen old → Suits name before behind s → FileGives name before behind old new w r → GoesTo (after_source old.limits s (progress_of old)) old new w r
+opened_goes : (old new : Standing) (name : List ℕ) (before behind : Option Script) (w : Contents) (r : Result Unit Stop) (s : Source) → IsOpen old → Suits name before behind s → FileGives name before behind old new w r → GoesTo (after_source old.limits s (progress_of old)) old new w r
 opened_goes old new name before behind w (Ok done) s l t h = done_goes old new name before behind w s None t h
 opened_goes old new name before behind w (Err stops.Finished) s l t h = absurd ((h.0).closed l)
 opened_goes old new name before behind w (Err (stops.Ended causes.Read)) s l t h = broke_by old new name behind w s causes.Read h.0 (λ a. t h.0 h.1 a) h.3 (inl h.4)
@@ -90,7 +91,7 @@ opened_goes old new name before behind w (Err (stops.Ended causes.ExpansionLimit
 opened_goes old new name before behind w (Err (stops.Ended causes.NestingLimit)) s l t h = done_goes old new name before behind w s (Some causes.NestingLimit) t h
 opened_goes old new name before behind w (Err (stops.Ended (causes.Frozen f))) s l t h = done_goes old new name before behind w s (Some (causes.Frozen f)) t h
 
-pub opened_stands : {R : Type 0} (script : R → Option Script) (old new : Standing) (name : List ℕ) (before after : R) (first behind : RunSource R) (w : Writers) (r : Result Unit Stop) (s : Source) → first ≡ sources.Opened name before → behind ≡ sources.Opened name after → IsOpen old → StandsFor script first behind s → FileGives name (script before) (script after) old new w r → GoesTo (after_source old.limits s (progress_of old)) old new w r
+pub opened_stands : {R : Type 0} (script : R → Option Script) (old new : Standing) (name : List ℕ) (before after : R) (first behind : RunSource R) (w : Contents) (r : Result Unit Stop) (s : Source) → first ≡ sources.Opened name before → behind ≡ sources.Opened name after → IsOpen old → StandsFor script first behind s → FileGives name (script before) (script after) old new w r → GoesTo (after_source old.limits s (progress_of old)) old new w r
 opened_stands script old new name before after first behind w r s f b l t h =
     let k : StandsFor script (sources.Opened name before) (sources.Opened name after) s = subst (λ x. StandsFor script x (sources.Opened name after) s) f (subst (λ x. StandsFor script first x s) b t) in
     opened_goes old new name (script before) (script after) w r s l (stands_suit script name before (sources.Opened name after) s k) h
@@ -99,7 +100,7 @@ opened_stands script old new name before after first behind w r s f b l t h =
 missing_is : (old : Standing) (name : List ℕ) → IsOpen old → (after_source old.limits (Unopened name) (progress_of old)).so_far ≡ with_message (cannot_open name) (progress_of old).so_far
 missing_is old name l = ap (λ (o : Option Cause). (after_source old.limits (Unopened name) (record (progress_of old) { over = how_over o })).so_far) l.over
 
-pub missing_goes : (old new : Standing) (name : List ℕ) (w : Writers) (r : Result Unit Stop) → IsOpen old → w.out_new ≡ w.out_old → MissingGives name old new w.told_old w.told_new r → GoesTo (after_source old.limits (Unopened name) (progress_of old)) old new w r
+pub missing_goes : (old new : Standing) (name : List ℕ) (w : Contents) (r : Result Unit Stop) → IsOpen old → w.out_new ≡ w.out_old → MissingGives name old new w.messages_old w.messages_new r → GoesTo (after_source old.limits (Unopened name) (progress_of old)) old new w r
 missing_goes old new name w (Ok done) l o h = (
   record {
     live = l;
@@ -107,7 +108,7 @@ missing_goes old new name w (Ok done) l o h = (
     unfinished = (h.1).unfinished;
     progress = h.3;
     output = o ∙ with_bytes-nil w.out_old ∙ ap (λ (r : RunSoFar). with_bytes w.out_old r.output) (sym (missing_is old name l));
-    messages = h.4 ∙ ap (λ (r : RunSoFar). with_bytes w.told_old r.messages) (sym (missing_is old name l));
+    messages = h.4 ∙ ap (λ (r : RunSoFar). with_bytes w.messages_old r.messages) (sym (missing_is old name l));
   },
   (h.1).over,
 )
@@ -115,7 +116,7 @@ missing_goes old new name w (Err stops.Finished) l o h = absurd (h.0 l)
 missing_goes old new name w (Err (stops.Ended causes.Write)) l o h = record {
   over = (h.0).over;
   output = silent_begun w.out_old w.out_new _ o;
-  messages = subst (λ (r : RunSoFar). HasBegun w.told_old w.told_new r.messages) (sym (missing_is old name l)) h.1;
+  messages = subst (λ (r : RunSoFar). HasBegun w.messages_old w.messages_new r.messages) (sym (missing_is old name l)) h.1;
 }
 missing_goes old new name w (Err (stops.Ended causes.Read)) l o h = absurd h
 missing_goes old new name w (Err (stops.Ended causes.OutOfMemory)) l o h = absurd h
@@ -129,16 +130,16 @@ missing_goes old new name w (Err (stops.Ended causes.NestingLimit)) l o h = absu
 missing_goes old new name w (Err (stops.Ended (causes.Frozen f))) l o h = absurd h
 
 -- a source that wasn't read, for want of memory
-pub unread_goes : (old new : Standing) (w : Writers) (p : Progress) (e : Stop) → e ≡ stops.Ended causes.OutOfMemory → new.over ≡ Some causes.OutOfMemory → w.out_new ≡ w.out_old → w.told_new ≡ w.told_old → GoesTo p old new w (Err e)
+pub unread_goes : (old new : Standing) (w : Contents) (p : Progress) (e : Stop) → e ≡ stops.Ended causes.OutOfMemory → new.over ≡ Some causes.OutOfMemory → w.out_new ≡ w.out_old → w.messages_new ≡ w.messages_old → GoesTo p old new w (Err e)
 unread_goes old new w p e i v o m =
     subst (λ (x : Stop). GoesTo p old new w (Err x)) (sym i)
-    (record { over = v; output = silent_begun w.out_old w.out_new _ o; messages = silent_begun w.told_old w.told_new _ m })
+    (record { over = v; output = silent_begun w.out_old w.out_new _ o; messages = silent_begun w.messages_old w.messages_new _ m })
 
 unopened_is : {R : Type 0} (script : R → Option Script) (name : List ℕ) (behind : RunSource R) (s : Source) → StandsFor script (sources.Unopened name) behind s → Unopened name ≡ s
 unopened_is script name behind s (inl t) = let e : Unopened name ≡ s = cc in e
 unopened_is script name behind s (inr m) = sym m
 
-pub unopened_stands : {R : Type 0} (script : R → Option Script) (old new : Standing) (name : List ℕ) (first behind : RunSource R) (w : Writers) (r : Result Unit Stop) (s : Source) → first ≡ sources.Unopened name → IsOpen old → StandsFor script first behind s → w.out_new ≡ w.out_old → MissingGives name old new w.told_old w.told_new r → GoesTo (after_source old.limits s (progress_of old)) old new w r
+pub unopened_stands : {R : Type 0} (script : R → Option Script) (old new : Standing) (name : List ℕ) (first behind : RunSource R) (w : Contents) (r : Result Unit Stop) (s : Source) → first ≡ sources.Unopened name → IsOpen old → StandsFor script first behind s → w.out_new ≡ w.out_old → MissingGives name old new w.messages_old w.messages_new r → GoesTo (after_source old.limits s (progress_of old)) old new w r
 unopened_stands script old new name first behind w r s f l t o h =
     let k : StandsFor script (sources.Unopened name) behind s = subst (λ x. StandsFor script x behind s) f t in
     subst (λ (s : Source). GoesTo (after_source old.limits s (progress_of old)) old new w r) (unopened_is script name behind s k) (missing_goes old new name w r l o h)

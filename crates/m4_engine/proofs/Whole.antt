@@ -13,9 +13,10 @@ use Rattle.m4_engine.specs.Expansion.{RunSoFar, Limits, How, Ends}
 use Rattle.m4_engine.specs.File.{Source, Progress, after_sources}
 use Rattle.m4_engine.specs.Wraps.{read_saved, next_round, rounds, after_wraps, close}
 use Rattle.m4_engine.specs.Run.{RunResult, limits_of, result_by, result_of, saved_behind, saved_unless_over, status_of, run}
-use Rattle.m4_engine.specs.Session.{Standing, Writers, progress_of, how_over, how_by, IsOpen, Filed, BrokeOff, GoesTo, behind_wraps, Closed, Unfinished, FinishGives, is_saved, status_at, fresh_standing, IsLeft}
+use Rattle.m4_engine.specs.Session.{Standing, progress_of, how_over, how_by, IsOpen, Filed, BrokeOff, GoesTo, behind_wraps, Closed, Unfinished, FinishGives, is_saved, status_at, fresh_standing, IsLeft}
 use Rattle.m4_engine.specs.WholeRun.{wrapped_by, WroteAll, FellShort, RunGives, result_behind, ending_by}
 use Rattle.m4_engine.specs.Laws.{IsBeginning}
+use Rattle.m4_engine.specs.Writers.{Contents, writers}
 use Rattle.m4_engine.proofs.OnlyGrows.{extends_same}
 use Rattle.m4_engine.proofs.OnePass.{over_wraps, finish_begins}
 use Rattle.m4_engine.proofs.Begins.{nothing_begun, begun_behind}
@@ -33,13 +34,13 @@ begun_longer o n x y h b = (
 )
 
 -- a source broke off
-broke_short : (limits : Limits) (ss : List Source) (p : Progress) (new : Standing) (w : Writers) (cause : Cause) (e : Ending) → e.wrapped ≡ false → BrokeOff new p w cause → FellShort (result_behind limits ss p) e w
+broke_short : (limits : Limits) (ss : List Source) (p : Progress) (new : Standing) (w : Contents) (cause : Cause) (e : Ending) → e.wrapped ≡ false → BrokeOff new p w cause → FellShort (result_behind limits ss p) e w
 broke_short limits ss p new w cause e f h =
     let k = finish_begins false (saved_behind ss p) limits p.so_far p (extends_same p.so_far) in
     record {
       wrapped = f;
       output = begun_longer w.out_old w.out_new _ _ h.output k.0;
-      messages = begun_longer w.told_old w.told_new _ _ h.messages k.1;
+      messages = begun_longer w.messages_old w.messages_new _ _ h.messages k.1;
     }
 
 -- a run that is over has no text saved
@@ -65,7 +66,7 @@ over_status : (new : Standing) (cause : Cause) (missed : Bool) → new.over ≡ 
 over_status new cause missed e f = ap (λ (o : Option Cause). status_of (how_by o) new.missed) e ∙ ap (status_of (Ends cause)) f
 
 -- a source ended the run
-over_there : (ss : List Source) (p : Progress) (old new : Standing) (w : Writers) (cause : Cause) → Filed old new p w → new.over ≡ Some cause → WroteAll (result_behind old.limits ss p) (record { status = status_at new; cause = cause; wrapped = false }) w
+over_there : (ss : List Source) (p : Progress) (old new : Standing) (w : Contents) (cause : Cause) → Filed old new p w → new.over ≡ Some cause → WroteAll (result_behind old.limits ss p) (record { status = status_at new; cause = cause; wrapped = false }) w
 over_there ss p old new w cause f o =
     let v : p.over ≡ Some (Ends cause) = over_behind_it new p cause f.progress o in
     let q : result_behind old.limits ss p ≡ result_by (Some (Ends cause)) false [] p.so_far p.missed =
@@ -81,7 +82,7 @@ over_there ss p old new w cause f o =
     })
 
 -- the run ended before its last source did
-pub ended_early : (ss : List Source) (p : Progress) (old new : Standing) (w : Writers) (e : Stop) → GoesTo p old new w (Err e) → RunGives (result_behind old.limits ss p) (ending_by (status_at new) (Err e)) w
+pub ended_early : (ss : List Source) (p : Progress) (old new : Standing) (w : Contents) (e : Stop) → GoesTo p old new w (Err e) → RunGives (result_behind old.limits ss p) (ending_by (status_at new) (Err e)) w
 ended_early ss p old new w stops.Finished h = absurd h
 ended_early ss p old new w (stops.Ended causes.Read) h = broke_short old.limits ss p new w causes.Read _ refl h
 ended_early ss p old new w (stops.Ended causes.Write) h = broke_short old.limits ss p new w causes.Write _ refl h
@@ -119,12 +120,12 @@ saved_there : (limits : Limits) (ss : List Source) (p0 : Progress) → (p0.so_fa
 saved_there limits [] p0 e o = sym e
 saved_there limits (s ∷ ss) p0 e o = ap (λ (h : Option How). saved_unless_over h (after_sources limits (s ∷ ss) p0).so_far) o
 
-module _ (limits : Limits) (ss : List Source) (p : Progress) (old mid new : Standing) (out0 out1 out2 told0 told1 told2 : Option (List ℕ)) (l : old.limits ≡ limits) (f : Filed old mid p (record { out_old = out0; out_new = out1; told_old = told0; told_new = told1 })) (live : mid.over ≡ None) where
-  abbrev W : Writers
-  W = record { out_old = out0; out_new = out2; told_old = told0; told_new = told2 }
+module _ (limits : Limits) (ss : List Source) (p : Progress) (old mid new : Standing) (out0 out1 out2 told0 told1 told2 : Option (List ℕ)) (l : old.limits ≡ limits) (f : Filed old mid p (writers out0 out1 told0 told1)) (live : mid.over ≡ None) where
+  abbrev W : Contents
+  W = writers out0 out2 told0 told2
 
-  abbrev V : Writers
-  V = record { out_old = out1; out_new = out2; told_old = told1; told_new = told2 }
+  abbrev V : Contents
+  V = writers out1 out2 told1 told2
 
   abbrev B : Progress
   B = behind_wraps mid
@@ -196,33 +197,33 @@ module _ (limits : Limits) (ss : List Source) (p : Progress) (old mid new : Stan
   ended_late (stops.Ended (causes.Frozen x)) o h = over_end (causes.Frozen x) refl h.0 h.1
 
 -- the same with answers of their own
-pub early_so : (ss : List Source) (p : Progress) (old new : Standing) (w : Writers) (e : Stop) (q : Result Unit Stop) (r : Result Bool Stop) → q ≡ Err e → r ≡ Err e → GoesTo p old new w q → RunGives (result_behind old.limits ss p) (ending_by (status_at new) r) w
+pub early_so : (ss : List Source) (p : Progress) (old new : Standing) (w : Contents) (e : Stop) (q : Result Unit Stop) (r : Result Bool Stop) → q ≡ Err e → r ≡ Err e → GoesTo p old new w q → RunGives (result_behind old.limits ss p) (ending_by (status_at new) r) w
 early_so ss p old new w e q r f g h =
     subst (λ (x : Result Bool Stop). RunGives (result_behind old.limits ss p) (ending_by (status_at new) x) w) (sym g)
     (ended_early ss p old new w e (subst (GoesTo p old new w) f h))
 
-pub late_so : (limits : Limits) (ss : List Source) (p : Progress) (old mid new : Standing) (out0 out1 out2 told0 told1 told2 : Option (List ℕ)) → old.limits ≡ limits → GoesTo p old mid (record { out_old = out0; out_new = out1; told_old = told0; told_new = told1 }) (Ok tt) → (e : Stop) (q : Result Unit Stop) (r : Result Bool Stop) → q ≡ Err e → r ≡ Err e → IsOpen mid → FinishGives mid new (record { out_old = out1; out_new = out2; told_old = told1; told_new = told2 }) q → RunGives (result_behind limits ss p) (ending_by (status_at new) r) (record { out_old = out0; out_new = out2; told_old = told0; told_new = told2 })
+pub late_so : (limits : Limits) (ss : List Source) (p : Progress) (old mid new : Standing) (out0 out1 out2 told0 told1 told2 : Option (List ℕ)) → old.limits ≡ limits → GoesTo p old mid (writers out0 out1 told0 told1) (Ok tt) → (e : Stop) (q : Result Unit Stop) (r : Result Bool Stop) → q ≡ Err e → r ≡ Err e → IsOpen mid → FinishGives mid new (writers out1 out2 told1 told2) q → RunGives (result_behind limits ss p) (ending_by (status_at new) r) (writers out0 out2 told0 told2)
 late_so limits ss p old mid new out0 out1 out2 told0 told1 told2 l f e q r i j o h =
-    subst (λ (x : Result Bool Stop). RunGives (result_behind limits ss p) (ending_by (status_at new) x) (record { out_old = out0; out_new = out2; told_old = told0; told_new = told2 })) (sym j)
-    (ended_late limits ss p old mid new out0 out1 out2 told0 told1 told2 l f.0 f.1 e o (subst (FinishGives mid new (record { out_old = out1; out_new = out2; told_old = told1; told_new = told2 })) i h))
+    subst (λ (x : Result Bool Stop). RunGives (result_behind limits ss p) (ending_by (status_at new) x) (writers out0 out2 told0 told2)) (sym j)
+    (ended_late limits ss p old mid new out0 out1 out2 told0 told1 told2 l f.0 f.1 e o (subst (FinishGives mid new (writers out1 out2 told1 told2)) i h))
 
-pub well_so : (limits : Limits) (ss : List Source) (old mid new : Standing) (out0 out1 out2 told0 told1 told2 : Option (List ℕ)) → old.limits ≡ limits → GoesTo (after_sources limits ss (progress_of old)) old mid (record { out_old = out0; out_new = out1; told_old = told0; told_new = told1 }) (Ok tt) → old.saved ≡ [] → (wrapped : Bool) → wrapped ≡ is_saved mid.saved → Closed mid new (record { out_old = out1; out_new = out2; told_old = told1; told_new = told2 }) → RunGives (result_behind limits ss (after_sources limits ss (progress_of old))) (ending_by (status_at new) (Ok wrapped)) (record { out_old = out0; out_new = out2; told_old = told0; told_new = told2 })
+pub well_so : (limits : Limits) (ss : List Source) (old mid new : Standing) (out0 out1 out2 told0 told1 told2 : Option (List ℕ)) → old.limits ≡ limits → GoesTo (after_sources limits ss (progress_of old)) old mid (writers out0 out1 told0 told1) (Ok tt) → old.saved ≡ [] → (wrapped : Bool) → wrapped ≡ is_saved mid.saved → Closed mid new (writers out1 out2 told1 told2) → RunGives (result_behind limits ss (after_sources limits ss (progress_of old))) (ending_by (status_at new) (Ok wrapped)) (writers out0 out2 told0 told2)
 well_so limits ss old mid new out0 out1 out2 told0 told1 told2 l f e wrapped v c =
     let p : Progress = after_sources limits ss (progress_of old) in
     let o : p.over ≡ None = ap (λ (x : Progress). x.over) (sym (f.0).progress) ∙ ap how_over f.1 in
     closed_well limits ss p old mid new out0 out1 out2 told0 told1 told2 l f.0 f.1 wrapped v (saved_there limits ss (progress_of old) e o) c
 
 -- a run that did not begin, for want of memory
-pub never_began : (r : RunResult) (e : Ending) (out told : Option (List ℕ)) → e ≡ ending_by 1 (Err (stops.Ended causes.OutOfMemory)) → RunGives r e (record { out_old = out; out_new = out; told_old = told; told_new = told })
+pub never_began : (r : RunResult) (e : Ending) (out told : Option (List ℕ)) → e ≡ ending_by 1 (Err (stops.Ended causes.OutOfMemory)) → RunGives r e (writers out out told told)
 never_began r e out told i =
-    subst (λ (x : Ending). RunGives r x (record { out_old = out; out_new = out; told_old = told; told_new = told })) (sym i) (record {
+    subst (λ (x : Ending). RunGives r x (writers out out told told)) (sym i) (record {
       wrapped = refl;
       output = nothing_begun out r.output;
       messages = nothing_begun told r.messages;
     })
 
 -- from the fresh state, where nothing is frozen
-pub whole_run : (o : Options) (ss : List Source) (s : Standing) (x e : Ending) (w : Writers) → o.freeze ≡ false → s ≡ fresh_standing o → e ≡ x → RunGives (result_behind s.limits ss (after_sources s.limits ss (progress_of s))) x w → RunGives (run o None ss) e w
+pub whole_run : (o : Options) (ss : List Source) (s : Standing) (x e : Ending) (w : Contents) → o.freeze ≡ false → s ≡ fresh_standing o → e ≡ x → RunGives (result_behind s.limits ss (after_sources s.limits ss (progress_of s))) x w → RunGives (run o None ss) e w
 whole_run o ss s x e w f i j h =
     let p : Progress = after_sources (limits_of o) ss (progress_of (fresh_standing o)) in
     subst (λ (y : Ending). RunGives (run o None ss) y w) (sym j)

@@ -1,7 +1,7 @@
 -- Engine: a run as the machine holds it between two turns, and the steps of a turn.
 -- Not believed: it stands between the code and `Expand`, tied to it by the turns' lemmas.
 use Rattle.std.specs.Fmt.{decimal}
-use Rattle.std.specs.Prelude.{◌≡◌, codes, nat_lt, not, ◌&&◌, suc, Option, Some, None, ℕ, pos, Bool, true, false, List, [], ◌∷◌, ◌++◌, length, take, ◌⊎◌}
+use Rattle.std.specs.Prelude.{◌≡◌, codes, nat_lt, not, ◌&&◌, suc, Option, Some, None, ℕ, pos, Bool, true, false, List, [], ◌∷◌, ◌++◌, length, take, ◌⊎◌, Result, Ok, IfOk, OnOk}
 use Rattle.m4_state.specs.declared.definition.Def.{Def}
 use Rattle.m4_state.specs.State.{State, appended}
 use Rattle.m4_input.specs.Pending.{Pending, text_of, consumed}
@@ -17,6 +17,7 @@ use Rattle.m4_engine.specs.declared.ending.Cause.TheVariants as causes
 use Rattle.m4_engine.specs.declared.ahead.Ahead.{Ahead}
 use Rattle.m4_engine.specs.Ahead.{IsAheadOf}
 use Rattle.m4_engine.specs.declared.turned.Turned.{Turned}
+use Rattle.m4_engine.specs.declared.turned.TurnFault.{TurnFault}
 use Rattle.m4_engine.specs.declared.turned.Turned.TheVariants as turns
 use Rattle.m4_engine.specs.Args.{dropped_if_any, with_argument, end_argument}
 use Rattle.m4_engine.specs.Nesting.{Turn, GoOn, Close, Halted}
@@ -155,6 +156,32 @@ pub record Stays (old new : Held) : Type 0 where
   pub ready : IsReady new
   pub file : (new.pending).file ≡ (old.pending).file
 
+-- what each step of a turn wants: no reader is asked any more, and the token at the front was taken
+pub record IsTaken (i : Held) : Type 0 where
+  pub ready : IsReady i
+  pub taken : (i.pending).definition ≡ None
+
+-- a turn ends an expansion by no fault of a device or of memory
+abbrev pub IsMade : Turned → Type 0
+IsMade (turns.Ends causes.Read) = ⊥
+IsMade (turns.Ends causes.Write) = ⊥
+IsMade (turns.Ends causes.OutOfMemory) = ⊥
+IsMade t = Unit {0}
+
+-- what each step of a turn leaves, if memory was there: the definitions' move, and the limits; it ends
+-- the expansion by no fault of a device or of memory
+pub record Makes (result : Result Turned TurnFault) (old new : Engine) (to : Turned → Type 0) : Type 0 where
+  pub moves : IfOk result to
+  pub limits : OnOk result (new.limits ≡ old.limits)
+  pub made : IfOk result IsMade
+
+-- the same, and where the expansion goes on, the input is still one of which no reader is asked
+pub record Steps (result : Result Turned TurnFault) (old new : Engine) (i j : Held) (to : Turned → Type 0) : Type 0 where
+  pub moves : IfOk result to
+  pub ready : result ≡ Ok turns.GoesOn → Stays i j
+  pub limits : OnOk result (new.limits ≡ old.limits)
+  pub made : IfOk result IsMade
+
 -- of the innermost call, if a list is open
 abbrev pub IfHead : List Call → (Call → Type 0) → Type 0
 IfHead [] P = Unit {0}
@@ -211,13 +238,6 @@ engine_at s calls nesting = record {
   output = [];
   messages = [];
 }
-
--- a turn ends an expansion by no fault of a device or of memory
-abbrev pub IsMade : Turned → Type 0
-IsMade (turns.Ends causes.Read) = ⊥
-IsMade (turns.Ends causes.Write) = ⊥
-IsMade (turns.Ends causes.OutOfMemory) = ⊥
-IsMade t = Unit {0}
 
 -- outside of calls and of diversions, with nothing in front of the text: its first tokens, which stand
 -- for themselves, were put out

@@ -1,14 +1,15 @@
 -- Expands: what the expansion of an input leaves, over writers.
 -- Believed: it says by the definition `expand_input` what was written and what is left.
--- Manual: "How m4 copies input to output". Words: Expanded, Broken, Expands, Failures, FailsBy.
-use Rattle.std.specs.Prelude.{◌≡◌, ℕ, List, [], ◌++◌, Option, Result, Ok, Err, ◌⊎◌}
-use Rattle.m4_state.specs.Device.{with_bytes, HasBegun, one_more}
+-- Manual: "How m4 copies input to output". Words: Expanded, Broken, Expands, FailsBy.
+use Rattle.std.specs.Prelude.{◌≡◌, ℕ, List, [], ◌++◌, Result, Ok, Err}
+use Rattle.m4_state.specs.Device.{with_bytes, HasBegun}
 use Rattle.m4_input.specs.Pending.{Pending}
 use Rattle.m4_engine.specs.declared.ending.Cause.{Cause}
 use Rattle.m4_engine.specs.declared.ending.Cause.TheVariants as causes
 use Rattle.m4_engine.specs.Expansion.{RunSoFar, Ended, Ends}
 use Rattle.m4_engine.specs.Expand.{expand_input}
 use Rattle.m4_engine.specs.Engine.{Engine}
+use Rattle.m4_engine.specs.Writers.{Contents, Failures, NoneFailed, OneFailed}
 
 -- what a run has made, where its output and messages were written before
 abbrev pub made_before : Engine → RunSoFar
@@ -25,43 +26,26 @@ abbrev pub comes_to : Engine → Pending → Ended
 comes_to e p = expand_input e.limits (made_before e) p
 
 -- the expansion ended by this cause, and all that it puts out was written
-pub record Expanded (old new : Engine) (d : Ended) (cause : Cause) (out_old out_new told_old told_new : Option (List ℕ)) : Type 0 where
+pub record Expanded (old new : Engine) (d : Ended) (cause : Cause) (w : Contents) : Type 0 where
   pub how : d.how ≡ Ends cause
   pub limits : new.limits ≡ old.limits
   pub state : new.state ≡ (d.so_far).state
   pub saved : new.saved ≡ (d.so_far).saved
   pub calls : new.calls ≡ (d.so_far).calls
-  pub output : out_new ≡ with_bytes out_old (d.so_far).output
-  pub messages : told_new ≡ with_bytes told_old (d.so_far).messages
+  pub output : w.out_new ≡ with_bytes w.out_old (d.so_far).output
+  pub messages : w.messages_new ≡ with_bytes w.messages_old (d.so_far).messages
 
 -- the expansion broke off, and a beginning of what it puts out was written
-pub record Broken (d : Ended) (out_old out_new told_old told_new : Option (List ℕ)) : Type 0 where
-  pub output : HasBegun out_old out_new (d.so_far).output
-  pub messages : HasBegun told_old told_new (d.so_far).messages
+pub record Broken (d : Ended) (w : Contents) : Type 0 where
+  pub output : HasBegun w.out_old w.out_new (d.so_far).output
+  pub messages : HasBegun w.messages_old w.messages_new (d.so_far).messages
 
 -- by the cause: a device or memory breaks the expansion off
-abbrev pub Expands : Engine → Engine → Pending → Option (List ℕ) → Option (List ℕ) → Option (List ℕ) → Option (List ℕ) → Cause → Type 0
-Expands old new p out_old out_new told_old told_new causes.Read = Broken (comes_to old p) out_old out_new told_old told_new
-Expands old new p out_old out_new told_old told_new causes.Write = Broken (comes_to old p) out_old out_new told_old told_new
-Expands old new p out_old out_new told_old told_new causes.OutOfMemory = Broken (comes_to old p) out_old out_new told_old told_new
-Expands old new p out_old out_new told_old told_new cause = Expanded old new (comes_to old p) cause out_old out_new told_old told_new
-
--- how often the writers of output and of messages have failed, before a call and behind it
-pub record Failures : Type 0 where
-  pub out_old : ℕ
-  pub out_new : ℕ
-  pub told_old : ℕ
-  pub told_new : ℕ
-
--- no writer failed in the call
-abbrev pub NoneFailed : Failures → Type 0
-NoneFailed f = (f.out_new ≡ f.out_old) × (f.told_new ≡ f.told_old)
-
--- one writer failed in the call, once
-abbrev pub OneFailed : Failures → Type 0
-OneFailed f =
-    ((f.out_new ≡ one_more f.out_old) × (f.told_new ≡ f.told_old))
-    ⊎ ((f.out_new ≡ f.out_old) × (f.told_new ≡ one_more f.told_old))
+abbrev pub Expands : Engine → Engine → Pending → Contents → Cause → Type 0
+Expands old new p w causes.Read = Broken (comes_to old p) w
+Expands old new p w causes.Write = Broken (comes_to old p) w
+Expands old new p w causes.OutOfMemory = Broken (comes_to old p) w
+Expands old new p w cause = Expanded old new (comes_to old p) cause w
 
 -- a call fails where a writer failed in it
 abbrev pub FailsOnce : {A E : Type 0} → Result A E → Failures → Type 0
@@ -73,18 +57,18 @@ abbrev pub FailsBy : Cause → Failures → Type 0
 FailsBy causes.Write f = OneFailed f
 FailsBy cause f = NoneFailed f
 
--- what is handed on of an engine's output and messages
-abbrev pub HandsOn : List ℕ → List ℕ → Option (List ℕ) → Option (List ℕ) → Option (List ℕ) → Option (List ℕ) → Type 0
-HandsOn output messages out_old out_new told_old told_new =
-    HasBegun out_old out_new output × HasBegun told_old told_new messages
+-- a beginning of an engine's output and messages was written
+abbrev pub HandsOn : List ℕ → List ℕ → Contents → Type 0
+HandsOn output messages w =
+    HasBegun w.out_old w.out_new output × HasBegun w.messages_old w.messages_new messages
 
--- a beginning of an engine's output and messages was handed on, and the rest is still held
-pub record HandsOnSome (old new : Engine) (out_old out_new told_old told_new : Option (List ℕ)) : Type 0 where
+-- a beginning of an engine's output and messages was written, and the rest is still held
+pub record HandsOnSome (old new : Engine) (w : Contents) : Type 0 where
   pub front : List ℕ
   pub told : List ℕ
   pub held : old ≡ record new { output = front ++ new.output; messages = told ++ new.messages }
-  pub output : out_new ≡ with_bytes out_old front
-  pub messages : told_new ≡ with_bytes told_old told
+  pub output : w.out_new ≡ with_bytes w.out_old front
+  pub messages : w.messages_new ≡ with_bytes w.messages_old told
 
 -- an engine between two inputs
 pub record IsIdle (e : Engine) : Type 0 where

@@ -14,6 +14,7 @@ pub mod Ahead
 pub mod CallView
 pub mod Engine
 pub mod MachineView
+pub mod Writers
 pub mod Expands
 pub mod Session
 pub mod SessionView

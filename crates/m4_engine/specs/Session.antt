@@ -13,7 +13,8 @@ use Rattle.m4_engine.specs.declared.options.Options.{Options}
 use Rattle.m4_engine.specs.declared.stop.Stop.{Stop}
 use Rattle.m4_engine.specs.declared.stop.Stop.TheVariants as stops
 use Rattle.m4_engine.specs.Expansion.{Limits, How, Ends}
-use Rattle.m4_engine.specs.Expands.{Broken, Failures, NoneFailed, OneFailed}
+use Rattle.m4_engine.specs.Writers.{Contents, Failures, NoneFailed, OneFailed}
+use Rattle.m4_engine.specs.Expands.{Broken}
 use Rattle.m4_engine.specs.File.{Opened, Unopened, Progress, file, after_source, cannot_open}
 use Rattle.m4_engine.specs.Wraps.{after_wraps}
 use Rattle.m4_engine.specs.Run.{limits_of, status_of, closed_output, result_of}
@@ -63,29 +64,22 @@ pub record IsOpen (s : Standing) : Type 0 where
   pub over : s.over ≡ None
   pub unfinished : s.finished ≡ false
 
--- the writers before and behind a call
-pub record Writers : Type 0 where
-  pub out_old : Option (List ℕ)
-  pub out_new : Option (List ℕ)
-  pub told_old : Option (List ℕ)
-  pub told_new : Option (List ℕ)
-
 -- nothing was written
-pub record Silent (w : Writers) : Type 0 where
+pub record Silent (w : Contents) : Type 0 where
   pub output : w.out_new ≡ w.out_old
-  pub messages : w.told_new ≡ w.told_old
+  pub messages : w.messages_new ≡ w.messages_old
 
 -- the call was made to its end: the run's progress is p, and all that p put out was written
-pub record Filed (old new : Standing) (p : Progress) (w : Writers) : Type 0 where
+pub record Filed (old new : Standing) (p : Progress) (w : Contents) : Type 0 where
   pub live : IsOpen old
   pub limits : new.limits ≡ old.limits
   pub unfinished : new.finished ≡ false
   pub progress : progress_of new ≡ written p
   pub output : w.out_new ≡ with_bytes w.out_old (p.so_far).output
-  pub messages : w.told_new ≡ with_bytes w.told_old (p.so_far).messages
+  pub messages : w.messages_new ≡ with_bytes w.messages_old (p.so_far).messages
 
 -- a session that is over or finished answers so, and nothing changes
-pub record Refused (old new : Standing) (w : Writers) : Type 0 where
+pub record Refused (old new : Standing) (w : Contents) : Type 0 where
   pub closed : IsOpen old → ⊥
   pub same : new ≡ old
   pub silent : Silent w
@@ -96,20 +90,20 @@ pub record Fell (old new : Standing) (cause : Cause) : Type 0 where
   pub over : new.over ≡ Some cause
 
 -- a file was read, of which the reader gave x
-abbrev pub FileDone : List ℕ → Option Script → Option Script → Standing → Standing → Writers → Option Cause → Type 0
+abbrev pub FileDone : List ℕ → Option Script → Option Script → Standing → Standing → Contents → Option Cause → Type 0
 FileDone name before behind old new w over =
     (x : List ℕ) × (before ≡ after_bytes x behind) × IsAtEnd behind
     × Filed old new (after_source old.limits (Opened name x) (progress_of old)) w × (new.over ≡ over)
 
 -- a file wasn't read, or only a beginning of what it puts out was written
-abbrev pub FileBroke : List ℕ → Option Script → Option Script → Standing → Standing → Writers → Cause → Type 0
+abbrev pub FileBroke : List ℕ → Option Script → Option Script → Standing → Standing → Contents → Cause → Type 0
 FileBroke name before behind old new w cause =
     (x : List ℕ) × (before ≡ after_bytes x behind) × Fell old new cause
     × (Silent w ⊎ (IsAtEnd behind
-    × Broken (file old.limits (progress_of old).so_far name x) w.out_old w.out_new w.told_old w.told_new))
+    × Broken (file old.limits (progress_of old).so_far name x) w))
 
 -- a file: it is read to its end, or the run ends
-abbrev pub FileGives : List ℕ → Option Script → Option Script → Standing → Standing → Writers → Result Unit Stop → Type 0
+abbrev pub FileGives : List ℕ → Option Script → Option Script → Standing → Standing → Contents → Result Unit Stop → Type 0
 FileGives name before behind old new w (Ok done) = FileDone name before behind old new w None
 FileGives name before behind old new w (Err stops.Finished) = Refused old new w × (behind ≡ before)
 FileGives name before behind old new w (Err (stops.Ended causes.Read)) =
@@ -154,22 +148,22 @@ over_behind cause over = Some cause
 
 -- a source that wasn't opened: it is told of
 abbrev pub MissingGives : List ℕ → Standing → Standing → Option (List ℕ) → Option (List ℕ) → Result Unit Stop → Type 0
-MissingGives name old new told_old told_new (Ok done) =
+MissingGives name old new messages_old messages_new (Ok done) =
     IsOpen old × IsOpen new × (new.limits ≡ old.limits)
     × (progress_of new ≡ written (after_source old.limits (Unopened name) (progress_of old)))
-    × (told_new ≡ with_bytes told_old (cannot_open name))
-MissingGives name old new told_old told_new (Err stops.Finished) =
-    (IsOpen old → ⊥) × (new ≡ old) × (told_new ≡ told_old)
-MissingGives name old new told_old told_new (Err (stops.Ended causes.Write)) =
-    Fell old new causes.Write × HasBegun told_old told_new (cannot_open name)
-MissingGives name old new told_old told_new (Err (stops.Ended cause)) = ⊥
+    × (messages_new ≡ with_bytes messages_old (cannot_open name))
+MissingGives name old new messages_old messages_new (Err stops.Finished) =
+    (IsOpen old → ⊥) × (new ≡ old) × (messages_new ≡ messages_old)
+MissingGives name old new messages_old messages_new (Err (stops.Ended causes.Write)) =
+    Fell old new causes.Write × HasBegun messages_old messages_new (cannot_open name)
+MissingGives name old new messages_old messages_new (Err (stops.Ended cause)) = ⊥
 
 -- the run behind its saved texts
 abbrev pub behind_wraps : Standing → Progress
 behind_wraps s = after_wraps s.limits (progress_of s)
 
 -- the run came to its end: the saved texts were read, and the diversions were issued
-pub record Closed (old new : Standing) (w : Writers) : Type 0 where
+pub record Closed (old new : Standing) (w : Contents) : Type 0 where
   pub live : IsOpen old
   pub finished : new.finished ≡ true
   pub over : new.over ≡ None
@@ -177,17 +171,17 @@ pub record Closed (old new : Standing) (w : Writers) : Type 0 where
   pub calls : new.calls ≡ ((behind_wraps old).so_far).calls
   pub ended : (behind_wraps old).over ≡ None
   pub output : w.out_new ≡ with_bytes w.out_old (closed_output false (behind_wraps old).so_far)
-  pub messages : w.told_new ≡ with_bytes w.told_old ((behind_wraps old).so_far).messages
+  pub messages : w.messages_new ≡ with_bytes w.messages_old ((behind_wraps old).so_far).messages
 
 -- the end broke off: a beginning of what the run still puts out was written
-pub record Unfinished (old new : Standing) (w : Writers) (cause : Cause) : Type 0 where
+pub record Unfinished (old new : Standing) (w : Contents) (cause : Cause) : Type 0 where
   pub live : IsOpen old
   pub over : new.over ≡ Some cause
   pub output : HasBegun w.out_old w.out_new (result_of false [] (behind_wraps old)).output
-  pub messages : HasBegun w.told_old w.told_new ((behind_wraps old).so_far).messages
+  pub messages : HasBegun w.messages_old w.messages_new ((behind_wraps old).so_far).messages
 
 -- the end of a run
-abbrev pub FinishGives : Standing → Standing → Writers → Result Unit Stop → Type 0
+abbrev pub FinishGives : Standing → Standing → Contents → Result Unit Stop → Type 0
 FinishGives old new w (Ok done) = Closed old new w
 FinishGives old new w (Err stops.Finished) = Refused old new w
 FinishGives old new w (Err (stops.Ended causes.Done)) = ⊥
@@ -203,13 +197,13 @@ is_saved [] = false
 is_saved (x ∷ xs) = true
 
 -- what a run puts out is written up to a beginning, and the cause ends it
-pub record BrokeOff (new : Standing) (p : Progress) (w : Writers) (cause : Cause) : Type 0 where
+pub record BrokeOff (new : Standing) (p : Progress) (w : Contents) (cause : Cause) : Type 0 where
   pub over : new.over ≡ Some cause
   pub output : HasBegun w.out_old w.out_new (p.so_far).output
-  pub messages : HasBegun w.told_old w.told_new (p.so_far).messages
+  pub messages : HasBegun w.messages_old w.messages_new (p.so_far).messages
 
 -- an open session that went on to this progress, or broke off on the way there
-abbrev pub GoesTo : Progress → Standing → Standing → Writers → Result Unit Stop → Type 0
+abbrev pub GoesTo : Progress → Standing → Standing → Contents → Result Unit Stop → Type 0
 GoesTo p old new w (Ok done) = Filed old new p w × (new.over ≡ None)
 GoesTo p old new w (Err stops.Finished) = ⊥
 GoesTo p old new w (Err (stops.Ended causes.Read)) = BrokeOff new p w causes.Read

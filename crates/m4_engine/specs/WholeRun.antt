@@ -11,7 +11,8 @@ use Rattle.m4_engine.specs.Expansion.{Limits, Ends}
 use Rattle.m4_engine.specs.File.{Source, Progress}
 use Rattle.m4_engine.specs.Wraps.{after_wraps}
 use Rattle.m4_engine.specs.Run.{RunResult, result_of, saved_behind}
-use Rattle.m4_engine.specs.Session.{Writers, is_saved}
+use Rattle.m4_engine.specs.Writers.{Contents}
+use Rattle.m4_engine.specs.Session.{is_saved}
 
 -- whether text stood saved for the end, where everything was read
 abbrev pub wrapped_by : Cause → List (List ℕ) → Bool
@@ -19,27 +20,27 @@ wrapped_by causes.Done saved = is_saved saved
 wrapped_by cause saved = false
 
 -- the run ended as it is defined, and all that it puts out was written
-pub record WroteAll (r : RunResult) (e : Ending) (w : Writers) : Type 0 where
+pub record WroteAll (r : RunResult) (e : Ending) (w : Contents) : Type 0 where
   pub how : r.how ≡ Ends e.cause
   pub status : e.status ≡ r.status
   pub wrapped : e.wrapped ≡ wrapped_by e.cause r.saved
   pub output : w.out_new ≡ with_bytes w.out_old r.output
-  pub messages : w.told_new ≡ with_bytes w.told_old r.messages
+  pub messages : w.messages_new ≡ with_bytes w.messages_old r.messages
 
 -- a device or memory failed: a beginning of what the run puts out was written
-pub record FellShort (r : RunResult) (e : Ending) (w : Writers) : Type 0 where
+pub record FellShort (r : RunResult) (e : Ending) (w : Contents) : Type 0 where
   pub wrapped : e.wrapped ≡ false
   pub output : HasBegun w.out_old w.out_new r.output
-  pub messages : HasBegun w.told_old w.told_new r.messages
+  pub messages : HasBegun w.messages_old w.messages_new r.messages
 
-abbrev pub GivesBy : Cause → RunResult → Ending → Writers → Type 0
+abbrev pub GivesBy : Cause → RunResult → Ending → Contents → Type 0
 GivesBy causes.Read r e w = FellShort r e w
 GivesBy causes.Write r e w = FellShort r e w
 GivesBy causes.OutOfMemory r e w = FellShort r e w
 GivesBy cause r e w = WroteAll r e w
 
 -- what a run is by its definition, how it ended, and what was written
-abbrev pub RunGives : RunResult → Ending → Writers → Type 0
+abbrev pub RunGives : RunResult → Ending → Contents → Type 0
 RunGives r e w = GivesBy e.cause r e w
 
 -- the steps of the code: the result of a run behind its sources, and the ending by the last answer

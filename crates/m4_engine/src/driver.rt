@@ -4,6 +4,7 @@
 ghost use Rattle.std.specs.Prelude.{◌≡◌, OnOk, OnErr};
 ghost use Rattle.m4_state.specs.Device.{with_bytes};
 ghost use Rattle.m4_engine.specs.Engine.{IsReady, handed_on};
+ghost use Rattle.m4_engine.specs.Writers.{both};
 ghost use Rattle.m4_engine.specs.Expands.{Expands, FailsBy, FailsOnce, HandsOn, HandsOnSome, IsIdle, at_rest};
 
 use crate::ending::Cause;
@@ -29,8 +30,8 @@ impl Machine {
         ensures output { OnOk result (O.contents out.new ≡ with_bytes (O.contents out.old) self.old.output) }
         ensures messages { OnOk result (M.contents messages.new ≡ with_bytes (M.contents messages.old) self.old.messages) }
         ensures begun { OnErr result (HandsOn self.old.output self.old.messages
-            (O.contents out.old) (O.contents out.new) (M.contents messages.old) (M.contents messages.new)) }
-        ensures counted { FailsOnce result (record { out_old = O.failures out.old; out_new = O.failures out.new; told_old = M.failures messages.old; told_new = M.failures messages.new }) }
+            (both O.contents M.contents out.old out.new messages.old messages.new)) }
+        ensures counted { FailsOnce result (both O.failures M.failures out.old out.new messages.old messages.new) }
     {
         put_all(out, &self.output)?;
         self.output.clear();
@@ -47,10 +48,10 @@ impl Machine {
         messages: &mut M,
     ) -> Result<(), DeviceFault>
         ensures some { OnOk result (HandsOnSome self.old self.new
-            (O.contents out.old) (O.contents out.new) (M.contents messages.old) (M.contents messages.new)) }
+            (both O.contents M.contents out.old out.new messages.old messages.new)) }
         ensures begun { OnErr result (HandsOn self.old.output self.old.messages
-            (O.contents out.old) (O.contents out.new) (M.contents messages.old) (M.contents messages.new)) }
-        ensures counted { FailsOnce result (record { out_old = O.failures out.old; out_new = O.failures out.new; told_old = M.failures messages.old; told_new = M.failures messages.new }) }
+            (both O.contents M.contents out.old out.new messages.old messages.new)) }
+        ensures counted { FailsOnce result (both O.failures M.failures out.old out.new messages.old messages.new) }
     {
         if !self.messages.is_empty() || self.output.len() >= BLOCK {
             self.hand_on(out, messages)?;
@@ -69,10 +70,9 @@ impl Machine {
     ) -> Cause
         requires ready { IsReady input.old }
         requires idle { IsIdle self.old }
-        ensures expands { Expands self.old self.new input.old.pending (O.contents out.old) (O.contents out.new)
-            (M.contents messages.old) (M.contents messages.new) result }
+        ensures expands { Expands self.old self.new input.old.pending (both O.contents M.contents out.old out.new messages.old messages.new) result }
         ensures unread { result ≡ Cause.Read → ⊥ }
-        ensures counted { FailsBy result (record { out_old = O.failures out.old; out_new = O.failures out.new; told_old = M.failures messages.old; told_new = M.failures messages.new }) }
+        ensures counted { FailsBy result (both O.failures M.failures out.old out.new messages.old messages.new) }
     {
         'turns: loop {
             let Ok(ahead) = self.pass_plain(input) else {

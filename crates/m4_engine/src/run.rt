@@ -5,6 +5,7 @@ ghost use Rattle.std.specs.Prelude.{◌≡◌, Bool, false, [], None, List, Err,
 ghost use Rattle.m4_engine.specs.File.{Source as Said, after_source, after_sources};
 ghost use Rattle.m4_engine.specs.Run.{run as defined, status_of};
 ghost use Rattle.m4_engine.specs.Expansion.{Ends};
+ghost use Rattle.m4_engine.specs.Writers.{both};
 ghost use Rattle.m4_engine.specs.Expands.{FailsBy};
 ghost use Rattle.m4_engine.specs.Told.{StandFor, StandsFor, any_failed, has_failed, are_taken, is_taken};
 ghost use Rattle.m4_engine.specs.Session.{IsOpen, IsLeft, GoesTo, WriteFails, progress_of, status_at};
@@ -39,13 +40,13 @@ pub fn run<R: ByteSource, O: ByteSink, M: ByteSink, Z: ByteSink>(
     // whole run: what is written and answered is what the definition of a run says
     ensures gives { (ss : List Said) → StandFor R.script sources.old sources.new ss →
         RunGives (defined options None ss) result
-        (record { out_old = O.contents out.old; out_new = O.contents out.new; told_old = M.contents messages.old; told_new = M.contents messages.new }) }
+        (both O.contents M.contents out.old out.new messages.old messages.new) }
     // whole run: the status of its cause
     ensures status { (missed : Bool) × (result.status ≡ status_of (Ends result.cause) missed) }
     // safe and total: a read fault comes only where a reader failed in this call
     ensures read { result.cause ≡ Cause.Read → any_failed R.failures sources.old sources.new }
     // safe and total: a write fault comes only where a writer failed in this call
-    ensures write { FailsBy result.cause (record { out_old = O.failures out.old; out_new = O.failures out.new; told_old = M.failures messages.old; told_new = M.failures messages.new }) }
+    ensures write { FailsBy result.cause (both O.failures M.failures out.old out.new messages.old messages.new) }
     // whole run: each reader gave a beginning of what it tells
     ensures taken { are_taken R.script sources.old sources.new }
     ensures unfrozen { Z.contents freeze_to.new ≡ Z.contents freeze_to.old }
@@ -89,11 +90,11 @@ fn read_to_end<R: ByteSource, O: ByteSink, M: ByteSink>(
     ensures gives { (ss : List Said) → StandFor R.script sources.old sources.new ss →
         RunGives (result_behind session.old.limits ss (after_sources session.old.limits ss (progress_of session.old)))
         (ending_by (status_at session.new) result)
-        (record { out_old = O.contents out.old; out_new = O.contents out.new; told_old = M.contents messages.old; told_new = M.contents messages.new }) }
+        (both O.contents M.contents out.old out.new messages.old messages.new) }
     ensures left { IsLeft session.new result }
     ensures read { result ≡ Err (Stop.Ended Cause.Read) → any_failed R.failures sources.old sources.new }
     ensures taken { are_taken R.script sources.old sources.new }
-    ensures write { WriteFails result (record { out_old = O.failures out.old; out_new = O.failures out.new; told_old = M.failures messages.old; told_new = M.failures messages.new }) }
+    ensures write { WriteFails result (both O.failures M.failures out.old out.new messages.old messages.new) }
 {
     read_sources(session, sources, out, messages)?;
     let wrapped = session.wrapped();
@@ -113,11 +114,11 @@ fn read<R: ByteSource, O: ByteSink, M: ByteSink>(
     ensures unfinished { OnOk result (IsOpen session.new) }
     ensures goes { (s : Said) → StandsFor R.script source.old source.new s →
         GoesTo (after_source session.old.limits s (progress_of session.old)) session.old session.new
-        (record { out_old = O.contents out.old; out_new = O.contents out.new; told_old = M.contents messages.old; told_new = M.contents messages.new })
+        (both O.contents M.contents out.old out.new messages.old messages.new)
         result }
     ensures read { result ≡ Err (Stop.Ended Cause.Read) → has_failed R.failures source.old source.new }
     ensures taken { is_taken R.script source.old source.new }
-    ensures write { WriteFails result (record { out_old = O.failures out.old; out_new = O.failures out.new; told_old = M.failures messages.old; told_new = M.failures messages.new }) }
+    ensures write { WriteFails result (both O.failures M.failures out.old out.new messages.old messages.new) }
 {
     match source {
         Source::Opened { name, reader } => {
@@ -143,12 +144,12 @@ fn read_sources<R: ByteSource, O: ByteSink, M: ByteSink>(
     ensures left { IsLeft session.new result }
     ensures goes { (ss : List Said) → StandFor R.script sources.old sources.new ss →
         GoesTo (after_sources session.old.limits ss (progress_of session.old)) session.old session.new
-        (record { out_old = O.contents out.old; out_new = O.contents out.new; told_old = M.contents messages.old; told_new = M.contents messages.new })
+        (both O.contents M.contents out.old out.new messages.old messages.new)
         result }
     ensures unfinished { OnOk result (IsOpen session.new) }
     ensures read { result ≡ Err (Stop.Ended Cause.Read) → any_failed R.failures sources.old sources.new }
     ensures taken { are_taken R.script sources.old sources.new }
-    ensures write { WriteFails result (record { out_old = O.failures out.old; out_new = O.failures out.new; told_old = M.failures messages.old; told_new = M.failures messages.new }) }
+    ensures write { WriteFails result (both O.failures M.failures out.old out.new messages.old messages.new) }
 {
     'sources: for source in sources.iter_mut() {
         read(session, source, out, messages)?;

@@ -3,6 +3,7 @@
 
 ghost use Rattle.std.specs.Prelude.{◌≡◌, true, false, Some, Err, IfOk, IfErr};
 ghost use Rattle.m4_state.specs.Device.{Puts, count_after, one_more};
+ghost use Rattle.m4_engine.specs.Writers.{both};
 ghost use Rattle.m4_engine.specs.Wraps.{close};
 ghost use Rattle.m4_engine.specs.Session.{Standing, IsOpen, answer_by, over_behind, fresh_standing, FileGives, MissingGives, FinishGives, WriteFails, TellFails, is_saved, status_at};
 
@@ -100,12 +101,12 @@ impl Session {
     ) -> Result<(), Stop>
         // session steps: the definition of a file, with what it puts out written
         ensures gives { FileGives name (R.script reader.old) (R.script reader.new) self.old self.new
-            (record { out_old = O.contents out.old; out_new = O.contents out.new; told_old = M.contents messages.old; told_new = M.contents messages.new })
+            (both O.contents M.contents out.old out.new messages.old messages.new)
             result }
         // safe and total: a read fault comes only where the reader failed in this call
         ensures read { result ≡ Err (Stop.Ended Cause.Read) → R.failures reader.new ≡ one_more (R.failures reader.old) }
         // safe and total: a write fault comes only where a writer failed in this call
-        ensures write { WriteFails result (record { out_old = O.failures out.old; out_new = O.failures out.new; told_old = M.failures messages.old; told_new = M.failures messages.new }) }
+        ensures write { WriteFails result (both O.failures M.failures out.old out.new messages.old messages.new) }
     {
         if !self.is_open() {
             return Err(Stop::Finished);
@@ -176,10 +177,10 @@ impl Session {
     ) -> Result<(), Stop>
         // session steps: the saved texts, then the diversions
         ensures gives { FinishGives self.old self.new
-            (record { out_old = O.contents out.old; out_new = O.contents out.new; told_old = M.contents messages.old; told_new = M.contents messages.new })
+            (both O.contents M.contents out.old out.new messages.old messages.new)
             result }
         // safe and total: a write fault comes only where a writer failed in this call
-        ensures write { WriteFails result (record { out_old = O.failures out.old; out_new = O.failures out.new; told_old = M.failures messages.old; told_new = M.failures messages.new }) }
+        ensures write { WriteFails result (both O.failures M.failures out.old out.new messages.old messages.new) }
     {
         let _ = messages;
         if !self.is_open() {

@@ -9,7 +9,7 @@ ghost use Rattle.m4_input.specs.Token.{Refused};
 ghost use Rattle.m4_builtins.specs.Messages.{error};
 ghost use Rattle.m4_input.specs.Input.{Held, answer_of};
 ghost use Rattle.m4_input.specs.Pending.{Pending, line_of, consumed};
-ghost use Rattle.m4_engine.specs.Engine.{Moves, IsFront, IsMade, IsToken, IsReady, moved, configuration, Stays, with_made, ending_argument, telling, counting, calls_text, nested_text, is_deep_in, IfHead, IsAhead, is_bare, leaves_call, mode_of, close_in, step, here_of, outer_of, called_within};
+ghost use Rattle.m4_engine.specs.Engine.{Moves, IsTaken, IsToken, IsReady, Makes, Steps, moved, configuration, Stays, with_made, ending_argument, telling, counting, calls_text, nested_text, is_deep_in, IfHead, IsAhead, is_bare, leaves_call, mode_of, close_in, step, here_of, outer_of, called_within};
 ghost use Rattle.m4_engine.specs.Ahead.{IsMeaning, Fits};
 ghost use Rattle.m4_builtins.specs.Act.{IsPushed};
 ghost use Rattle.m4_builtins.specs.Subst.{subst};
@@ -49,8 +49,7 @@ fn read_on<R: ByteSource>(
     skip: bool,
     push: Option<Pushed>,
 ) -> Result<(), TurnFault>
-    requires ready { IsReady input.old }
-    requires taken { input.old.pending.definition ≡ None }
+    requires input { IsTaken input.old }
     requires valid { IsPushed push }
     ensures reads { OnOk result ((s : Expansion) → s.pending ≡ input.old.pending
         → skip_or_push skip push s ≡ Closed (reading input.new.pending s)) }
@@ -67,11 +66,9 @@ fn read_on<R: ByteSource>(
 impl Machine {
     /// The end of the input.
     fn take_end(&mut self) -> Result<Turned, TurnFault>
-        ensures moves { IfOk result (λ t. (before p : Pending) → Moves self.new p t
+        ensures { Makes result self.old self.new (λ t. (before p : Pending) → Moves self.new p t
             (λ o m. step (outer_of self.old.open_calls)
             (take_end (mode_of self.old.open_calls) (here_of o m self.old before)))) }
-        ensures limits { OnOk result (self.new.limits ≡ self.old.limits) }
-        ensures made { IfOk result IsMade }
     {
         let Some(call) = &self.innermost else {
             return Ok(Turned::Ends(Cause::Done));
@@ -102,13 +99,9 @@ impl Machine {
         input: &mut Input,
         reader: &mut R,
     ) -> Result<Turned, TurnFault>
-        requires ready { IsReady input.old }
-        requires taken { input.old.pending.definition ≡ None }
-        ensures moves { IfOk result (λ t. Moves self.new input.new.pending t
+        requires { IsTaken input.old }
+        ensures { Steps result self.old self.new input.old input.new (λ t. Moves self.new input.new.pending t
             (λ o m. called_within self.old.open_calls call (here_of o m self.old input.old.pending))) }
-        ensures ready { result ≡ Ok Turned.GoesOn → Stays input.old input.new }
-        ensures limits { OnOk result (self.new.limits ≡ self.old.limits) }
-        ensures made { IfOk result IsMade }
     {
         let (head, list) = call.into_parts();
         // A text is read where it lies, with no copy.
@@ -163,14 +156,10 @@ impl Machine {
         input: &mut Input,
         reader: &mut R,
     ) -> Result<Turned, TurnFault>
-        requires ready { IsReady input.old }
-        requires taken { input.old.pending.definition ≡ None }
-        ensures moves { IfOk result (λ t. Moves self.new input.new.pending t
+        requires { IsTaken input.old }
+        ensures { Steps result self.old self.new input.old input.new (λ t. Moves self.new input.new.pending t
             (λ o m. step (outer_of self.old.open_calls)
             (take_other (mode_of self.old.open_calls) byte (here_of o m self.old input.old.pending)))) }
-        ensures ready { result ≡ Ok Turned.GoesOn → Stays input.old input.new }
-        ensures limits { OnOk result (self.new.limits ≡ self.old.limits) }
-        ensures made { IfOk result IsMade }
     {
         let Some(call) = &mut self.innermost else {
             self.put_text(&[byte])?;
@@ -195,14 +184,10 @@ impl Machine {
         reader: &mut R,
     ) -> Result<Turned, TurnFault>
         requires list { IfHead self.old.open_calls (λ c. c.parentheses ≡ 0) }
-        requires ready { IsReady input.old }
-        requires taken { input.old.pending.definition ≡ None }
-        ensures moves { IfOk result (λ t. Moves self.new input.new.pending t
+        requires input { IsTaken input.old }
+        ensures { Steps result self.old self.new input.old input.new (λ t. Moves self.new input.new.pending t
             (λ o m. step (outer_of self.old.open_calls)
             (close_in self.old.open_calls (here_of o m self.old input.old.pending)))) }
-        ensures ready { result ≡ Ok Turned.GoesOn → Stays input.old input.new }
-        ensures limits { OnOk result (self.new.limits ≡ self.old.limits) }
-        ensures made { IfOk result IsMade }
     {
         self.end_argument()?;
         let Some(call) = self.close() else {
@@ -284,15 +269,11 @@ impl Machine {
         input: &mut Input,
         reader: &mut R,
     ) -> Result<Turned, TurnFault>
-        requires ready { IsReady input.old }
-        requires taken { input.old.pending.definition ≡ None }
+        requires input { IsTaken input.old }
         requires list { listed ≡ true → paren_at self.old.state.quotes self.old.state.comments input.old.pending ≡ Answer.Yes }
         requires fresh { call ≡ call_of call.definition call.name call.place }
-        ensures moves { IfOk result (λ t. (before : Pending) → Moves self.new input.new.pending t
+        ensures { Steps result self.old self.new input.old input.new (λ t. (before : Pending) → Moves self.new input.new.pending t
             (λ o m. step (outer_of self.old.open_calls) (call_turn listed call input.old.pending (here_of o m self.old before)))) }
-        ensures ready { result ≡ Ok Turned.GoesOn → Stays input.old input.new }
-        ensures limits { OnOk result (self.new.limits ≡ self.old.limits) }
-        ensures made { IfOk result IsMade }
     {
         if !self.has_room() {
             self.refuse_calls(&call)?;
@@ -319,15 +300,11 @@ impl Machine {
         input: &mut Input,
         reader: &mut R,
     ) -> Result<Turned, TurnFault>
-        requires ready { IsReady input.old }
-        requires taken { input.old.pending.definition ≡ None }
-        ensures moves { IfOk result (λ t. (before : Pending) → line ≡ line_of before
+        requires { IsTaken input.old }
+        ensures { Steps result self.old self.new input.old input.new (λ t. (before : Pending) → line ≡ line_of before
             → before.file ≡ input.old.pending.file → Moves self.new input.new.pending t
             (λ o m. step (outer_of self.old.open_calls)
             (take_name (top_of self.old.state name) name input.old.pending (here_of o m self.old before)))) }
-        ensures ready { result ≡ Ok Turned.GoesOn → Stays input.old input.new }
-        ensures limits { OnOk result (self.new.limits ≡ self.old.limits) }
-        ensures made { IfOk result IsMade }
     {
         let listed = self.sees_list(input, reader)?;
         let bare = !listed && self.leaves_call();
@@ -364,17 +341,13 @@ impl Machine {
         input: &mut Input,
         reader: &mut R,
     ) -> Result<Turned, TurnFault>
-        requires ready { IsReady input.old }
-        requires taken { input.old.pending.definition ≡ None }
+        requires input { IsTaken input.old }
         requires list { paren_at self.old.state.quotes self.old.state.comments input.old.pending ≡ answer_of named.listed }
         requires fits { Fits named.meaning (is_bare named.listed self.old) }
-        ensures moves { IfOk result (λ t. (name : List ℕ) (before : Pending)
+        ensures { Steps result self.old self.new input.old input.new (λ t. (name : List ℕ) (before : Pending)
             → IsMeaning named.meaning (is_bare named.listed self.old) self.old.state name (place_at before)
             → Moves self.new input.new.pending t (λ o m. step (outer_of self.old.open_calls)
             (take_name (top_of self.old.state name) name input.old.pending (here_of o m self.old before)))) }
-        ensures ready { result ≡ Ok Turned.GoesOn → Stays input.old input.new }
-        ensures limits { OnOk result (self.new.limits ≡ self.old.limits) }
-        ensures made { IfOk result IsMade }
     {
         let Named {
             len: _len,
@@ -408,16 +381,12 @@ impl Machine {
         input: &mut Input,
         reader: &mut R,
     ) -> Result<Turned, TurnFault>
-        requires ready { IsReady input.old }
-        requires taken { input.old.pending.definition ≡ None }
+        requires input { IsTaken input.old }
         requires room { nat_lt self.old.calls self.old.limits.calls ≡ true }
         requires shallow { is_deep_in self.old ≡ false }
-        ensures moves { (c : Call) (x : List ℕ) → c.definition ≡ Text x → text ≡ subst x c.name c.done self.old.state.quotes
-            → IfOk result (λ t. (before : Pending) → Moves self.new input.new.pending t
+        ensures { Steps result self.old self.new input.old input.new (λ t. (c : Call) (x : List ℕ) → c.definition ≡ Text x → text ≡ subst x c.name c.done self.old.state.quotes
+            → (before : Pending) → Moves self.new input.new.pending t
             (λ o m. step (outer_of self.old.open_calls) (call_turn false c input.old.pending (here_of o m self.old before)))) }
-        ensures ready { result ≡ Ok Turned.GoesOn → Stays input.old input.new }
-        ensures limits { OnOk result (self.new.limits ≡ self.old.limits) }
-        ensures made { IfOk result IsMade }
     {
         self.count();
         self.take_text(text, input, reader)
@@ -431,14 +400,10 @@ impl Machine {
         input: &mut Input,
         reader: &mut R,
     ) -> Result<Turned, TurnFault>
-        requires ready { IsReady input.old }
-        requires taken { input.old.pending.definition ≡ None }
-        ensures moves { (c : Call) (x : List ℕ) → c.definition ≡ Text x → text ≡ subst x c.name c.done self.old.state.quotes
-            → IfOk result (λ t. Moves self.new input.new.pending t
+        requires { IsTaken input.old }
+        ensures { Steps result self.old self.new input.old input.new (λ t. (c : Call) (x : List ℕ) → c.definition ≡ Text x → text ≡ subst x c.name c.done self.old.state.quotes
+            → Moves self.new input.new.pending t
             (λ o m. called_within self.old.open_calls c (here_of o m self.old input.old.pending))) }
-        ensures ready { result ≡ Ok Turned.GoesOn → Stays input.old input.new }
-        ensures limits { OnOk result (self.new.limits ≡ self.old.limits) }
-        ensures made { IfOk result IsMade }
     {
         self.put_effect(b"", b"")?;
         read_on(input, reader, false, Some(Pushed::Text(text)))?;
@@ -464,16 +429,12 @@ impl Machine {
         input: &mut Input,
         reader: &mut R,
     ) -> Result<Turned, TurnFault>
-        requires ready { IsReady input.old }
-        requires taken { input.old.pending.definition ≡ None }
+        requires input { IsTaken input.old }
         requires front { IsToken token }
-        ensures moves { IfOk result (λ t. (before : Pending) → line ≡ line_of before
+        ensures { Steps result self.old self.new input.old input.new (λ t. (before : Pending) → line ≡ line_of before
             → before.file ≡ input.old.pending.file → Moves self.new input.new.pending t
             (λ o m. step (outer_of self.old.open_calls)
             (take_token token input.old.pending (here_of o m self.old before)))) }
-        ensures ready { result ≡ Ok Turned.GoesOn → Stays input.old input.new }
-        ensures limits { OnOk result (self.new.limits ≡ self.old.limits) }
-        ensures made { IfOk result IsMade }
     {
         match token {
             Token::Name(name) => return self.take_name(name, line, input, reader),
@@ -487,11 +448,9 @@ impl Machine {
 
     /// A string or a comment that has no end.
     fn take_unended(&mut self, what: Unended, line: u64, input: &Input) -> Result<Turned, TurnFault>
-        ensures moves { IfOk result (λ t. (before p : Pending) → before.file ≡ input.now.pending.file
+        ensures { Makes result self.old self.new (λ t. (before p : Pending) → before.file ≡ input.now.pending.file
             → Moves self.new p t (λ o m. step (outer_of self.old.open_calls)
             (take_front (Refused what line) (here_of o m self.old before)))) }
-        ensures limits { OnOk result (self.new.limits ≡ self.old.limits) }
-        ensures made { IfOk result IsMade }
     {
         let file = Bytes::from_slice(self.alloc, input.name())?;
         let place = Place { file, line };
@@ -517,11 +476,8 @@ impl Machine {
     ) -> Result<Turned, TurnFault>
         requires ready { IsReady input.old }
         requires ahead { IsAhead ahead self.old input.old.pending }
-        ensures moves { IfOk result (λ t. Moves self.new input.new.pending t
+        ensures { Steps result self.old self.new input.old input.new (λ t. Moves self.new input.new.pending t
             (λ o m. moved (configuration o m self.old input.old.pending))) }
-        ensures ready { result ≡ Ok Turned.GoesOn → IsReady input.new }
-        ensures limits { OnOk result (self.new.limits ≡ self.old.limits) }
-        ensures made { IfOk result IsMade }
     {
         let line = input.line();
         match ahead {
@@ -547,11 +503,8 @@ impl Machine {
     ) -> Result<Turned, TurnFault>
         requires ready { IsReady input.old }
         requires line { line ≡ line_of input.old.pending }
-        ensures moves { IfOk result (λ t. Moves self.new input.new.pending t
+        ensures { Steps result self.old self.new input.old input.new (λ t. Moves self.new input.new.pending t
             (λ o m. moved (configuration o m self.old input.old.pending))) }
-        ensures ready { result ≡ Ok Turned.GoesOn → IsReady input.new }
-        ensures limits { OnOk result (self.new.limits ≡ self.old.limits) }
-        ensures made { IfOk result IsMade }
     {
         let front = input.next(reader, &Delims::of(&self.state));
         match front {

@@ -3,24 +3,39 @@ use Rattle.m4_input.specs.DelimsView.{pair_of}
 use Rattle.m4_builtins.specs.Act.{Acted}
 use Rattle.m4_engine.specs.Engine.{Engine}
 use Rattle.m4_engine.proofs.Acts.{called_goes, called_exits, made_plain}
-use Rattle.m4_engine.proofs.Bare.{substituted_by}
+use Rattle.m4_engine.proofs.Bare.{substituted_by, called_as}
 use Rattle.m4_engine.proofs.SavesNothing.{acted_saves}
 use Rattle.m4_engine.proofs.machine.Machine.call.Goals as goal
 
-pub returns-in-Some-exit-clause-moves : goal.returns-in-Some-exit-clause-moves
-returns-in-Some-exit-clause-moves g c = λ o m.
-    let a : Acted = record { state = c.act.new.state; effect = c.in_ok-push.field-0 } in
-    let e : Engine = record c.args.self.now { state = c.act.new.state } in
-    called_exits c.args.self.now c.put_effect.new.self c.args.call a c.args.input.now.pending c.in-Some-exit.code (search rules) (search rules) (made_plain c.put_effect.new.self e (a.effect).messages (a.effect).output (a.effect).wrap (search rules) (acted_saves c.args.call.definition c.args.call.name c.args.call.done c.args.call.place c.args.self.now.state a (search rules))) o m
+pub returns-in-Some-exit : goal.returns-in-Some-exit
+returns-in-Some-exit g c = record {
+  moves = λ o m.
+      let a : Acted = record { state = c.act.new.state; effect = c.in_ok-push.field-0 } in
+      let e : Engine = record c.args.self.now { state = c.act.new.state } in
+      called_exits c.args.self.now c.put_effect.new.self c.args.call a c.args.input.now.pending c.in-Some-exit.code (search rules) (search rules) (made_plain c.put_effect.new.self e (a.effect).messages (a.effect).output (a.effect).wrap (search rules) (acted_saves c.args.call.definition c.args.call.name c.args.call.done c.args.call.place c.args.self.now.state a (search rules))) o m;
+  ready = search rules;
+  limits = search rules;
+  made = search rules;
+}
 
-pub returns-clause-moves : goal.returns-clause-moves
-returns-clause-moves g c = λ o m.
-    let a : Acted = record { state = c.act.new.state; effect = c.in_ok-push.field-0 } in
-    let e : Engine = record c.args.self.now { state = c.act.new.state } in
-    called_goes c.args.self.now c.put_effect.new.self c.args.call a c.args.input.now.pending c.read_on.new.input.pending (search rules) (search rules) (made_plain c.put_effect.new.self e (a.effect).messages (a.effect).output (a.effect).wrap (search rules) (acted_saves c.args.call.definition c.args.call.name c.args.call.done c.args.call.place c.args.self.now.state a (search rules))) (search rules) o m
+pub returns : goal.returns
+returns g c = record {
+  moves = λ o m.
+      let a : Acted = record { state = c.act.new.state; effect = c.in_ok-push.field-0 } in
+      let e : Engine = record c.args.self.now { state = c.act.new.state } in
+      called_goes c.args.self.now c.put_effect.new.self c.args.call a c.args.input.now.pending c.read_on.new.input.pending (search rules) (search rules) (made_plain c.put_effect.new.self e (a.effect).messages (a.effect).output (a.effect).wrap (search rules) (acted_saves c.args.call.definition c.args.call.name c.args.call.done c.args.call.place c.args.self.now.state a (search rules))) (search rules) o m;
+  ready = search rules;
+  limits = search rules;
+  made = search rules;
+}
 
-pub returns-in-Some-clause-moves : goal.returns-in-Some-clause-moves
-returns-in-Some-clause-moves g c =
-    let text = c.in-Some.text.now in
-    c.take_text.ensures.moves c.args.call text (search rules)
-    (substituted_by text c.in_ok-text.text _ c.args.call.name _ c.args.call.done (pair_of c.quotes.result) _ c.in_ok-text.ensures (search rules) (search rules) (search rules) (search rules))
+pub returns-in-Some : goal.returns-in-Some
+returns-in-Some g c = record {
+  moves =
+      let text = c.in-Some.text.now in
+      called_as c.args.self.now c.take_text.new.self c.in_ok-text.text text c.args.call c.args.input.now.pending c.take_text.new.input.pending c.take_text.result c.take_text.ensures.moves (search rules)
+      (substituted_by text c.in_ok-text.text _ c.args.call.name _ c.args.call.done (pair_of c.quotes.result) _ c.in_ok-text.ensures (search rules) (search rules) (search rules) (search rules));
+  ready = search rules;
+  limits = search rules;
+  made = search rules;
+}

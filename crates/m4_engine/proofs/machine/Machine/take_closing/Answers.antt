@@ -1,8 +1,13 @@
+use Rattle.std.proofs.Common.{rules}
 use Rattle.std.proofs.Common.{◌∙◌, sym}
 use Rattle.m4_engine.proofs.Acts.{closing_result}
 use Rattle.m4_engine.proofs.machine.Machine.take_closing.Goals as goal
 
-pub returns-clause-moves : goal.returns-clause-moves
-returns-clause-moves g c =
-    closing_result c.args.self.now c.close.new.self c.call.new.self c.in-Some.call c.args.input.now.pending c.call.new.input.pending c.call.result
-    (sym c.in_ok-end_argument.ensures ∙ c.in-Some.ensures.some) c.call.ensures.moves
+pub returns : goal.returns
+returns g c = record {
+  moves = closing_result c.args.self.now c.close.new.self c.call.new.self c.in-Some.call c.args.input.now.pending c.call.new.input.pending c.call.result
+      (sym c.in_ok-end_argument.ensures ∙ c.in-Some.ensures.some) c.call.ensures.moves;
+  ready = search rules;
+  limits = search rules;
+  made = search rules;
+}

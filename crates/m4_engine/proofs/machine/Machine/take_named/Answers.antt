@@ -4,22 +4,34 @@ use Rattle.m4_engine.proofs.Bare.{bare_fits}
 use Rattle.m4_engine.proofs.Seen.{expansion_moves, made_moves, bare_moves}
 use Rattle.m4_engine.proofs.machine.Machine.take_named.Goals as goal
 
-pub returns-in-Expansion-clause-moves : goal.returns-in-Expansion-clause-moves
-returns-in-Expansion-clause-moves g c =
-    let e = c.args.self.now in
-    let n = c.args.named in
-    let p = c.args.input.now.pending in
-    let fits = bare_fits n.listed e (search rules) in
-    expansion_moves e c.take_expansion.new.self n.meaning c.in-Expansion.text (is_bare n.listed e) n.listed p c.take_expansion.new.input.pending c.take_expansion.result c.in-Expansion.is c.requires.list fits.0 c.take_expansion.ensures.moves
+pub returns-in-Expansion : goal.returns-in-Expansion
+returns-in-Expansion g c = record {
+  moves = let e = c.args.self.now in
+      let n = c.args.named in
+      let p = c.args.input.now.pending in
+      let fits = bare_fits n.listed e (search rules) in
+      expansion_moves e c.take_expansion.new.self n.meaning c.in-Expansion.text (is_bare n.listed e) n.listed p c.take_expansion.new.input.pending c.take_expansion.result c.in-Expansion.is c.requires.list fits.0 c.take_expansion.ensures.moves;
+  ready = search rules;
+  limits = search rules;
+  made = search rules;
+}
 
-pub returns-then-needs_list-clause-moves : goal.returns-then-needs_list-clause-moves
-returns-then-needs_list-clause-moves g c =
-    let n = c.args.named in
-    bare_moves c.args.self.now c.put_text.new.self n.meaning c.in-Call.head (is_bare n.listed c.args.self.now) n.listed c.args.input.now.pending c.in-Call.is c.requires.list (search rules) (search rules) (search rules)
+pub returns-then-needs_list : goal.returns-then-needs_list
+returns-then-needs_list g c = record {
+  moves = let n = c.args.named in
+      bare_moves c.args.self.now c.put_text.new.self n.meaning c.in-Call.head (is_bare n.listed c.args.self.now) n.listed c.args.input.now.pending c.in-Call.is c.requires.list (search rules) (search rules) (search rules);
+  ready = search rules;
+  limits = search rules;
+  made = search rules;
+}
 
-pub returns-clause-moves : goal.returns-clause-moves
-returns-clause-moves g c =
-    let e = c.args.self.now in
-    let n = c.args.named in
-    let p = c.args.input.now.pending in
-    made_moves e c.take_call.new.self n.meaning c.in-Call.head c.new-call.result (is_bare n.listed e) n.listed p p c.take_call.new.input.pending c.take_call.result c.in-Call.is c.new-call.ensures refl c.requires.list (search rules) c.take_call.ensures.moves
+pub returns : goal.returns
+returns g c = record {
+  moves = let e = c.args.self.now in
+      let n = c.args.named in
+      let p = c.args.input.now.pending in
+      made_moves e c.take_call.new.self n.meaning c.in-Call.head c.new-call.result (is_bare n.listed e) n.listed p p c.take_call.new.input.pending c.take_call.result c.in-Call.is c.new-call.ensures refl c.requires.list (search rules) c.take_call.ensures.moves;
+  ready = search rules;
+  limits = search rules;
+  made = search rules;
+}

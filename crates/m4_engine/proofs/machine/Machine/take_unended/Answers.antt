@@ -4,12 +4,20 @@ use Rattle.m4_builtins.specs.declared.place.Place.{Place}
 use Rattle.m4_engine.proofs.Turning.{unended_moves}
 use Rattle.m4_engine.proofs.machine.Machine.take_unended.Goals as goal
 
-pub returns-in-InString-clause-moves : goal.returns-in-InString-clause-moves
-returns-in-InString-clause-moves c = λ before p f o m.
-    let at : Place = record { file = c.in_ok-file.file; line = c.args.line } in
-    unended_moves c.args.self.now c.tell_error.new.self c.args.what InString c.args.line at c.args.input.now.pending before o m (search rules) (search rules) (search rules) f c.in_ok-tell_error-in-InString.ensures
+pub returns-in-InString : goal.returns-in-InString
+returns-in-InString c = record {
+  moves = λ before p f o m.
+      let at : Place = record { file = c.in_ok-file.file; line = c.args.line } in
+      unended_moves c.args.self.now c.tell_error.new.self c.args.what InString c.args.line at c.args.input.now.pending before o m (search rules) (search rules) (search rules) f c.in_ok-tell_error-in-InString.ensures;
+  limits = search rules;
+  made = search rules;
+}
 
-pub returns-clause-moves : goal.returns-clause-moves
-returns-clause-moves c = λ before p f o m.
-    let at : Place = record { file = c.in_ok-file.file; line = c.args.line } in
-    unended_moves c.args.self.now c.tell_error-in-InComment.new.self c.args.what InComment c.args.line at c.args.input.now.pending before o m (search rules) (search rules) (search rules) f c.in_ok-tell_error-in-InComment.ensures
+pub returns : goal.returns
+returns c = record {
+  moves = λ before p f o m.
+      let at : Place = record { file = c.in_ok-file.file; line = c.args.line } in
+      unended_moves c.args.self.now c.tell_error-in-InComment.new.self c.args.what InComment c.args.line at c.args.input.now.pending before o m (search rules) (search rules) (search rules) f c.in_ok-tell_error-in-InComment.ensures;
+  limits = search rules;
+  made = search rules;
+}

@@ -8,24 +8,32 @@ use Rattle.m4_engine.proofs.Seen.{byte_front, name_front, name_list, name_means,
 use Rattle.m4_engine.proofs.Turning.{turn_taken}
 use Rattle.m4_engine.proofs.machine.Machine.turn.Goals as goal
 
-pub returns-in-Byte-clause-moves : goal.returns-in-Byte-clause-moves
-returns-in-Byte-clause-moves g c =
-    let e = c.args.self.now in
-    turn_taken e c.take_token.new.self e.state.quotes e.state.comments (Byte c.in-Byte.byte) c.line-line.result c.args.input.now.pending c.consume.new.self.pending c.take_token.new.input.pending c.take_token.result refl refl
-    (byte_front c.args.ahead e c.args.input.now.pending c.consume.new.self.pending c.in-Byte.byte c.in-Byte.is c.requires.ready.closed (search rules) c.requires.ahead) c.line-line.ensures (search rules) c.take_token.ensures.moves
+pub returns-in-Byte : goal.returns-in-Byte
+returns-in-Byte g c = record {
+  moves = let e = c.args.self.now in
+      turn_taken e c.take_token.new.self e.state.quotes e.state.comments (Byte c.in-Byte.byte) c.line-line.result c.args.input.now.pending c.consume.new.self.pending c.take_token.new.input.pending c.take_token.result refl refl
+      (byte_front c.args.ahead e c.args.input.now.pending c.consume.new.self.pending c.in-Byte.byte c.in-Byte.is c.requires.ready.closed (search rules) c.requires.ahead) c.line-line.ensures (search rules) c.take_token.ensures.moves;
+  ready = search rules;
+  limits = search rules;
+  made = search rules;
+}
 
 pub take_named-requires-clause-list : goal.take_named-requires-clause-list
 take_named-requires-clause-list g c = name_list c.args.ahead c.args.self.now c.args.input.now.pending c.consume-in-Named.new.self.pending c.in-Named.named c.in-Named.is c.requires.ready.closed (search rules) c.requires.ahead
 
-pub returns-in-Named-clause-moves : goal.returns-in-Named-clause-moves
-returns-in-Named-clause-moves g c =
-    let e = c.args.self.now in
-    let n = c.in-Named.named in
-    let p = c.args.input.now.pending in
-    let q = c.consume-in-Named.new.self.pending in
-    let name = take n.len (text_of p) in
-    let at : Place = record { file = name_of p; line = c.line-line.result } in
-    let means = subst (λ (l : ℕ). IsMeaning n.meaning (is_bare n.listed e) e.state name (record { file = name_of p; line = l })) (sym c.line-line.ensures) (name_means c.args.ahead e p n c.in-Named.is c.requires.ahead) in
-    turn_taken e c.take_named.new.self e.state.quotes e.state.comments (Name name) c.line-line.result p q c.take_named.new.input.pending c.take_named.result refl refl
-    (name_front c.args.ahead e p q n c.in-Named.is c.requires.ready.closed (search rules) c.requires.ahead) c.line-line.ensures (search rules)
-    (named_moves e c.take_named.new.self n.meaning (is_bare n.listed e) name at q q c.take_named.new.input.pending c.take_named.result (search rules) refl means c.take_named.ensures.moves)
+pub returns-in-Named : goal.returns-in-Named
+returns-in-Named g c = record {
+  moves = let e = c.args.self.now in
+      let n = c.in-Named.named in
+      let p = c.args.input.now.pending in
+      let q = c.consume-in-Named.new.self.pending in
+      let name = take n.len (text_of p) in
+      let at : Place = record { file = name_of p; line = c.line-line.result } in
+      let means = subst (λ (l : ℕ). IsMeaning n.meaning (is_bare n.listed e) e.state name (record { file = name_of p; line = l })) (sym c.line-line.ensures) (name_means c.args.ahead e p n c.in-Named.is c.requires.ahead) in
+      turn_taken e c.take_named.new.self e.state.quotes e.state.comments (Name name) c.line-line.result p q c.take_named.new.input.pending c.take_named.result refl refl
+      (name_front c.args.ahead e p q n c.in-Named.is c.requires.ready.closed (search rules) c.requires.ahead) c.line-line.ensures (search rules)
+      (named_moves e c.take_named.new.self n.meaning (is_bare n.listed e) name at q q c.take_named.new.input.pending c.take_named.result (search rules) refl means c.take_named.ensures.moves);
+  ready = search rules;
+  limits = search rules;
+  made = search rules;
+}
