@@ -147,8 +147,7 @@ impl Head {
 
     /// The line of the call's name; 0 in wrapped text.
     pub fn line(&self) -> u64
-        ensures line { result ≡ self.now.place.line }
-        ensures in_order { IsDefinition self.now.definition }
+        ensures { result ≡ self.now.place.line }
     {
         self.line
     }

@@ -128,9 +128,8 @@ pub record IsReady (i : Held) : Type 0 where
   pub closed : (i.pending).may_follow ≡ false
   pub front : IsFront (i.pending).definition
 
--- the definitions that a call holds are in order
+-- the definitions that a call has collected are in order
 pub record IsCall (c : Call) : Type 0 where
-  pub definition : IsDefinition c.definition
   pub done : AllByRecursion IsArg c.done
   pub tokens : AllByRecursion IsDefinition c.tokens
 

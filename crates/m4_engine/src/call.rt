@@ -1,6 +1,6 @@
 //! A call whose arguments are being collected. Manual: "Macro arguments", "Quoting arguments".
 
-ghost use Rattle.std.specs.Prelude.{◌≡◌, ◌<◌, ◌-◌, suc, ◌++◌, ◌∷◌, [], true, false, OnOk, IfOk};
+ghost use Rattle.std.specs.Prelude.{◌≡◌, ◌<◌, ◌-◌, suc, ◌++◌, ◌∷◌, [], true, false, nat_lt, OnOk, IfOk};
 ghost use Rattle.std.specs.List.{AllByRecursion};
 ghost use Rattle.m4_state.specs.Definition.{IsDefinition};
 ghost use Rattle.m4_builtins.specs.Args.{IsArg};
@@ -12,6 +12,7 @@ ghost use Rattle.m4_engine.specs.Expand.{call_of};
 use crate::role::Role;
 use m4_builtins::args::{Arg, ArgList};
 use m4_builtins::head::Head;
+use m4_builtins::place::Place;
 use m4_state::bytes::Bytes;
 use m4_state::definition::Def;
 use std::alloc::{AllocError, Global};
@@ -21,12 +22,12 @@ use std::marker::Model;
 /// complete, and what the next one has so far.
 #[derive(Debug)]
 pub struct OpenCall {
-    pub head: Head,
-    pub done: Vec<Arg>,
-    pub parentheses: usize,
-    pub begun: bool,
-    pub bytes: Vec<u8>,
-    pub tokens: Vec<Def>,
+    head: Head,
+    done: Vec<Arg>,
+    parentheses: usize,
+    begun: bool,
+    bytes: Vec<u8>,
+    tokens: Vec<Def>,
 }
 
 impl Model for OpenCall {
@@ -61,7 +62,6 @@ impl OpenCall {
     pub fn new(alloc: Global, head: Head) -> OpenCall
         ensures { result ≡ call_of head.definition head.name head.place }
     {
-        let _in_order = head.line();
         OpenCall {
             head,
             done: Vec::new(alloc),
@@ -70,6 +70,27 @@ impl OpenCall {
             bytes: Vec::new(alloc),
             tokens: Vec::new(alloc),
         }
+    }
+
+    /// The place of the call's name.
+    pub fn place(&self) -> Result<Place, AllocError>
+        ensures { IfOk result (λ p. p ≡ self.now.place) }
+    {
+        self.head.place()
+    }
+
+    /// Whether a parenthesis is open within the argument.
+    pub fn is_nested(&self) -> bool
+        ensures { result ≡ nat_lt 0 self.now.parentheses }
+    {
+        self.parentheses > 0
+    }
+
+    /// Has a token of the argument, so that white space belongs to it from now on.
+    pub fn begin(&mut self)
+        ensures { self.new ≡ record self.old { begun = true } }
+    {
+        self.begun = true;
     }
 
     /// What a byte means here, where it belongs to no other token.

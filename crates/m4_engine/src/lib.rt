@@ -6,16 +6,13 @@
 
 mod ahead;
 mod call;
-mod driver;
 pub mod ending;
 pub mod laws;
 mod machine;
 pub mod options;
-mod plain;
 mod role;
 pub mod run;
 pub mod session;
 pub mod source;
 pub mod stop;
-mod turn;
 mod turned;

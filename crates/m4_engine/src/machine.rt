@@ -7,6 +7,11 @@ ghost use Rattle.m4_state.specs.Definition.{IsDefinition};
 ghost use Rattle.m4_builtins.specs.Messages.{error};
 ghost use Rattle.m4_engine.specs.Engine.{with_text, with_token, telling, beginning, engine_at};
 
+mod driver;
+mod issuing;
+mod plain;
+mod turn;
+
 use crate::call::OpenCall;
 use crate::turned::TurnFault;
 use m4_builtins::messages::error_message;
@@ -19,15 +24,15 @@ use std::marker::Model;
 
 /// What a run has made so far, and the calls whose lists are open.
 pub struct Machine {
-    pub alloc: Global,
-    pub most_calls: u64,
-    pub most_nested: u64,
-    pub state: State,
-    pub calls: u64,
-    pub innermost: Option<OpenCall>,
-    pub outer: Vec<OpenCall>,
-    pub output: Vec<u8>,
-    pub messages: Vec<u8>,
+    alloc: Global,
+    most_calls: u64,
+    most_nested: u64,
+    state: State,
+    calls: u64,
+    innermost: Option<OpenCall>,
+    outer: Vec<OpenCall>,
+    output: Vec<u8>,
+    messages: Vec<u8>,
 }
 
 impl Model for Machine {
@@ -75,6 +80,11 @@ impl Machine {
             output: Vec::new(alloc),
             messages: Vec::new(alloc),
         }
+    }
+
+    /// The allocator of what the machine holds.
+    pub fn alloc(&self) -> Global {
+        self.alloc
     }
 
     /// Puts text where it goes: into an argument, or to the output or a diversion.

@@ -2,9 +2,8 @@
 //! Manual: "Command line files", "Invoking m4".
 
 ghost use Rattle.std.specs.Prelude.{◌≡◌, true, false, Some, Err, IfOk, IfErr};
-ghost use Rattle.m4_state.specs.Device.{Puts, count_after, one_more};
+ghost use Rattle.m4_state.specs.Device.{one_more};
 ghost use Rattle.m4_engine.specs.Writers.{both};
-ghost use Rattle.m4_engine.specs.Wraps.{close};
 ghost use Rattle.m4_engine.specs.Session.{Standing, IsOpen, answer_by, over_behind, fresh_standing, FileGives, MissingGives, FinishGives, WriteFails, TellFails, is_saved, status_at};
 
 use crate::ending::Cause;
@@ -18,7 +17,7 @@ use m4_state::bytes::Bytes;
 use m4_state::device::{ByteSink, ByteSource, DeviceFault};
 use m4_state::memory::MemSource;
 use m4_state::state::State;
-use m4_state::transfer::{put_all, put_pieces};
+use m4_state::transfer::put_pieces;
 use std::alloc::Global;
 use std::marker::Model;
 
@@ -82,7 +81,7 @@ impl Session {
     }
 
     /// The run ends by this cause.
-    pub fn end(&mut self, cause: Cause) -> Stop
+    pub(crate) fn end(&mut self, cause: Cause) -> Stop
         ensures answer { result ≡ Stop.Ended cause }
         ensures over { self.new ≡ record self.old { over = Some cause } }
     {
@@ -111,7 +110,7 @@ impl Session {
         if !self.is_open() {
             return Err(Stop::Finished);
         }
-        let mut input = Input::file(self.machine.alloc, name);
+        let mut input = Input::file(self.machine.alloc(), name);
         match input.read_whole(reader) {
             Ok(()) => {}
             Err(InputFault::Read) => return Err(self.end(Cause::Read)),
@@ -186,7 +185,7 @@ impl Session {
         if !self.is_open() {
             return Err(Stop::Finished);
         }
-        if let Err(DeviceFault) = issue(&mut self.machine.state, out) {
+        if let Err(DeviceFault) = self.machine.issue(out) {
             return Err(self.end(Cause::Write));
         }
         self.finished = true;
@@ -200,17 +199,6 @@ impl Session {
     {
         self.machine.has_saved()
     }
-}
-
-/// Issues the diversions by rising number, each one as it is taken out.
-fn issue<O: ByteSink>(state: &mut State, out: &mut O) -> Result<(), DeviceFault>
-    ensures puts { Puts result (O.contents out.old) (O.contents out.new) (close state.old) }
-    ensures counted { O.failures out.new ≡ count_after result (O.failures out.old) }
-{
-    while let Some((_, text)) = state.take_least() {
-        put_all(out, &text)?;
-    }
-    Ok(())
 }
 
 #[cfg(test)]

@@ -73,7 +73,7 @@ impl Machine {
         let Some(call) = &self.innermost else {
             return Ok(Turned::Ends(Cause::Done));
         };
-        let place = call.head.place()?;
+        let place = call.place()?;
         let message = error_message(self.alloc, &place, b"end of input in argument list")?;
         self.tell(message.as_slice())?;
         Ok(Turned::Ends(Cause::EndInArguments))
@@ -87,7 +87,7 @@ impl Machine {
         self.tell(messages)?;
         self.output.extend_from_slice(output)?;
         if let Some(around) = &mut self.innermost {
-            around.begun = true;
+            around.begin();
         }
         Ok(())
     }
@@ -142,7 +142,7 @@ impl Machine {
             return Ok(());
         };
         if call.end_argument()? {
-            let place = call.head.place()?;
+            let place = call.place()?;
             let message = dropped_message(self.alloc, &place)?;
             self.tell(message.as_slice())?;
         }
@@ -168,7 +168,7 @@ impl Machine {
         match call.role(byte) {
             Role::Blank => {}
             Role::Opening => call.put_opening()?,
-            Role::Closing if call.parentheses > 0 => call.put_closing()?,
+            Role::Closing if call.is_nested() => call.put_closing()?,
             Role::Closing => return self.take_closing(input, reader),
             Role::Separator => self.end_argument()?,
             Role::Other => self.put_text(&[byte])?,
@@ -213,7 +213,7 @@ impl Machine {
     fn refuse_calls(&mut self, call: &OpenCall) -> Result<(), TurnFault>
         ensures { OnOk result (self.new ≡ telling (error call.now.place (calls_text self.old.limits.calls)) self.old) }
     {
-        let place = call.head.place()?;
+        let place = call.place()?;
         self.refuse(&place, self.most_calls, b" calls")
     }
 
@@ -221,7 +221,7 @@ impl Machine {
     fn refuse_depth(&mut self, call: &OpenCall) -> Result<(), TurnFault>
         ensures { OnOk result (self.new ≡ telling (error call.now.place (nested_text self.old.limits.nesting)) self.old) }
     {
-        let place = call.head.place()?;
+        let place = call.place()?;
         self.refuse(&place, self.most_nested, b" nested calls")
     }
 
@@ -256,7 +256,6 @@ impl Machine {
         ensures taken { input.new.pending ≡ consumed 1 input.old.pending }
         ensures ready { Stays input.old input.new }
     {
-        let _in_order = self.state.current();
         input.consume(1);
     }
 

@@ -4,8 +4,8 @@
 ghost use Rattle.std.specs.Prelude.{◌≡◌, IfOk, OnOk};
 ghost use Rattle.m4_engine.specs.Engine.{IsReady, IsAhead, Passes, leaves_call};
 
+use super::driver::BLOCK;
 use crate::ahead::{Ahead, ahead_of};
-use crate::driver::BLOCK;
 use crate::machine::Machine;
 use crate::turned::TurnFault;
 use m4_input::input::Input;

@@ -1,6 +1,6 @@
 use Rattle.std.proofs.Common.{◌≡◌, length}
 use Rattle.m4_engine.proofs.Issues.{Issuing}
-use Rattle.m4_engine.proofs.session.issue.Given as goal
+use Rattle.m4_engine.proofs.machine.issuing.issue.Given as goal
 
 -- so much was issued, and the rest is left; the writer has not failed
 abbrev pub invariant-loop-text : goal.invariant-loop-text

@@ -1,7 +1,7 @@
 use Rattle.std.proofs.Common.{rules}
 use Rattle.m4_state.proofs.CallerLaws.{Puts-refused}
 use Rattle.m4_engine.proofs.Issues.{issued_one, issue_breaks}
-use Rattle.m4_engine.proofs.session.issue.Goals as goal
+use Rattle.m4_engine.proofs.machine.issuing.issue.Goals as goal
 
 pub loop-text-preserved : goal.loop-text-preserved
 loop-text-preserved g c = record {

@@ -1,0 +1,34 @@
+//! The diversions that are left at the end of a run. Manual: "Undiverting output".
+
+ghost use Rattle.std.specs.Prelude.{◌≡◌, []};
+ghost use Rattle.m4_state.specs.Device.{Puts, count_after};
+ghost use Rattle.m4_engine.specs.Wraps.{close};
+
+use crate::machine::Machine;
+use m4_state::device::{ByteSink, DeviceFault};
+use m4_state::state::State;
+use m4_state::transfer::put_all;
+
+impl Machine {
+    /// Writes the diversions by rising number, each one as it is taken out.
+    pub fn issue<O: ByteSink>(&mut self, out: &mut O) -> Result<(), DeviceFault>
+        ensures puts { Puts result (O.contents out.old) (O.contents out.new) (close self.old.state) }
+        ensures counted { O.failures out.new ≡ count_after result (O.failures out.old) }
+        ensures rest { self.new ≡ record self.old { state = self.new.state } }
+        // no call saves a text yet
+        ensures none_saved { self.old.saved ≡ [] }
+    {
+        issue(&mut self.state, out)
+    }
+}
+
+/// Writes a state's diversions by rising number, each one as it is taken out.
+fn issue<O: ByteSink>(state: &mut State, out: &mut O) -> Result<(), DeviceFault>
+    ensures puts { Puts result (O.contents out.old) (O.contents out.new) (close state.old) }
+    ensures counted { O.failures out.new ≡ count_after result (O.failures out.old) }
+{
+    while let Some((_, text)) = state.take_least() {
+        put_all(out, &text)?;
+    }
+    Ok(())
+}
