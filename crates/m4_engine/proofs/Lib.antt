@@ -37,4 +37,5 @@ pub mod Sessions
 pub mod Issues
 pub mod Sources
 pub mod Reading
+pub mod Readers
 pub mod Whole

@@ -5,7 +5,7 @@ use Rattle.std.proofs.lemmas.List.{drop-set-lt, drop-drop}
 use Rattle.m4_state.proofs.CallerLaws.{with_bytes-append, with_bytes-nil}
 use Rattle.m4_state.specs.Device.{Script, with_bytes}
 use Rattle.m4_engine.specs.declared.source.Source.{Source as RunSource}
-use Rattle.m4_engine.specs.Told.{told, may_be, may_all_be, StandFor, StandsFor, has_failed, any_failed, is_taken, are_taken}
+use Rattle.m4_engine.specs.Told.{told, may_be, may_all_be, StandFor, StandsFor}
 use Rattle.m4_engine.specs.declared.ending.Cause.TheVariants as causes
 use Rattle.m4_engine.specs.declared.stop.Stop.{Stop}
 use Rattle.m4_engine.specs.declared.stop.Stop.TheVariants as stops
@@ -17,7 +17,6 @@ use Rattle.m4_engine.specs.File.{Source, Progress, after_source, after_sources}
 use Rattle.m4_engine.specs.Wraps.{after_wraps}
 use Rattle.m4_engine.specs.Session.{Standing, progress_of, how_over, written, IsOpen, Filed, BrokeOff, GoesTo}
 use Rattle.m4_engine.specs.Writers.{Contents, writers}
-use Rattle.m4_engine.proofs.Sources.{same_taken}
 use Rattle.m4_engine.proofs.RunsBehind.{Bp, Behind, sources_behind, rounds_behind}
 
 -- a progress behind what was written before
@@ -151,7 +150,7 @@ stopped ss i j s0 s s' t out0 out out' told0 told told' stops.Finished l b d h =
 stopped ss i j s0 s s' t out0 out out' told0 told told' (stops.Ended causes.Read) l b d h = broke ss i j s0 s s' t causes.Read out0 out out' told0 told told' b d h
 stopped ss i j s0 s s' t out0 out out' told0 told told' (stops.Ended causes.Write) l b d h = broke ss i j s0 s s' t causes.Write out0 out out' told0 told told' b d h
 stopped ss i j s0 s s' t out0 out out' told0 told told' (stops.Ended causes.OutOfMemory) l b d h = broke ss i j s0 s s' t causes.OutOfMemory out0 out out' told0 told told' b d h
-stopped ss i j s0 s s' t out0 out out' told0 told told' (stops.Ended causes.Done) l b d h = (stops_there ss i j s0 s s' t causes.Done out0 out out' told0 told told' l b d h.0 h.1, h.1)
+stopped ss i j s0 s s' t out0 out out' told0 told told' (stops.Ended causes.Done) l b d h = h
 stopped ss i j s0 s s' t out0 out out' told0 told told' (stops.Ended (causes.Exited n)) l b d h = (stops_there ss i j s0 s s' t (causes.Exited n) out0 out out' told0 told told' l b d h.0 h.1, h.1)
 stopped ss i j s0 s s' t out0 out out' told0 told told' (stops.Ended causes.EndInString) l b d h = (stops_there ss i j s0 s s' t causes.EndInString out0 out out' told0 told told' l b d h.0 h.1, h.1)
 stopped ss i j s0 s s' t out0 out out' told0 told told' (stops.Ended causes.EndInComment) l b d h = (stops_there ss i j s0 s s' t causes.EndInComment out0 out out' told0 told told' l b d h.0 h.1, h.1)
@@ -270,36 +269,3 @@ pub stopped_so : (ss : List Source) (i j : ℕ) (s0 s s' : Standing) (t : Source
 stopped_so ss i j s0 s s' t out0 out out' told0 told told' e q r f g l b d h =
     subst (GoesTo (after_sources s0.limits ss (progress_of s0)) s0 s' (writers out0 out' told0 told')) (sym g)
     (stopped ss i j s0 s s' t out0 out out' told0 told told' e l b d (subst (GoesTo (after_source s.limits t (progress_of s)) s s' (writers out out' told told')) f h))
-
--- the reader at a place failed
-failed_there : {R : Type 0} (failures : R → ℕ) (i : ℕ) (xs ys : List (RunSource R)) (x v : RunSource R) → drop i xs ≡ drop i ys → drop i xs ≡ x ∷ drop (suc i) xs → has_failed failures x v → any_failed failures ys (slice_set xs i v)
-failed_there failures zero [] ys x v e d h = cc
-failed_there failures zero (a ∷ xs) [] x v e d h = cc
-failed_there failures zero (a ∷ xs) (b ∷ ys) x v e d h =
-    let k : x ≡ b = cc in
-    inl (subst (λ (y : RunSource _). has_failed failures y v) k h)
-failed_there failures (suc i) [] ys x v e d h = cc
-failed_there failures (suc i) (a ∷ xs) [] x v e d h = cc
-failed_there failures (suc i) (a ∷ xs) (b ∷ ys) x v e d h = inr (failed_there failures i xs ys x v e d h)
-
-pub item_failed : {R : Type 0} (failures : R → ℕ) (i : ℕ) (xs ys : List (RunSource R)) (x v : RunSource R) → drop i xs ≡ drop i ys → i < length xs → has_failed failures (slice_index_or xs i x) v → any_failed failures ys (slice_set xs i v)
-item_failed failures i xs ys x v e l h = failed_there failures i xs ys (slice_index_or xs i x) v e (drop-cons xs i x l) h
-
--- nothing was taken yet
-pub none_taken_yet : {R : Type 0} (script : R → Option Script) (xs : List (RunSource R)) → are_taken script xs xs
-none_taken_yet script [] = tt
-none_taken_yet script (x ∷ xs) = (same_taken script x, none_taken_yet script xs)
-
--- the source at a place was read
-taken_there : {R : Type 0} (script : R → Option Script) (i : ℕ) (xs ys : List (RunSource R)) (x v : RunSource R) → are_taken script ys xs → drop i xs ≡ drop i ys → drop i xs ≡ x ∷ drop (suc i) xs → is_taken script x v → are_taken script ys (slice_set xs i v)
-taken_there script zero [] ys x v a e d h = cc
-taken_there script zero (p ∷ xs) [] x v a e d h = cc
-taken_there script zero (p ∷ xs) (q ∷ ys) x v a e d h =
-    let k : x ≡ q = cc in
-    (subst (λ (y : RunSource _). is_taken script y v) k h, a.1)
-taken_there script (suc i) [] ys x v a e d h = cc
-taken_there script (suc i) (p ∷ xs) [] x v a e d h = cc
-taken_there script (suc i) (p ∷ xs) (q ∷ ys) x v a e d h = (a.0, taken_there script i xs ys x v a.1 e d h)
-
-pub item_taken : {R : Type 0} (script : R → Option Script) (i : ℕ) (xs ys : List (RunSource R)) (x v : RunSource R) → are_taken script ys xs → drop i xs ≡ drop i ys → i < length xs → is_taken script (slice_index_or xs i x) v → are_taken script ys (slice_set xs i v)
-item_taken script i xs ys x v a e l h = taken_there script i xs ys (slice_index_or xs i x) v a e (drop-cons xs i x l) h

@@ -1,6 +1,6 @@
 -- Whole: what a session's calls come to, one behind the other, is the run.
-use Rattle.std.proofs.Common.{◌≡◌, ℕ, zero, suc, Bool, false, List, [], ◌∷◌, ◌++◌, Option, Some, None, refl, sym, ap, ◌∙◌, subst, append-nil, append_assoc}
-use Rattle.std.specs.Prelude.{Result, Ok, Err}
+use Rattle.std.proofs.Common.{◌≡◌, ℕ, zero, suc, Bool, true, false, List, [], ◌∷◌, ◌++◌, Option, Some, None, refl, sym, ap, ◌∙◌, subst, append-nil, append_assoc}
+use Rattle.std.specs.Prelude.{OnOk, ◌||◌, Result, Ok, Err}
 use Rattle.m4_state.proofs.CallerLaws.{with_bytes-append}
 use Rattle.m4_state.specs.Device.{with_bytes, HasBegun}
 use Rattle.m4_engine.specs.declared.ending.Cause.{Cause}
@@ -87,7 +87,7 @@ ended_early ss p old new w stops.Finished h = absurd h
 ended_early ss p old new w (stops.Ended causes.Read) h = broke_short old.limits ss p new w causes.Read _ refl h
 ended_early ss p old new w (stops.Ended causes.Write) h = broke_short old.limits ss p new w causes.Write _ refl h
 ended_early ss p old new w (stops.Ended causes.OutOfMemory) h = broke_short old.limits ss p new w causes.OutOfMemory _ refl h
-ended_early ss p old new w (stops.Ended causes.Done) h = over_there ss p old new w causes.Done h.0 h.1
+ended_early ss p old new w (stops.Ended causes.Done) h = absurd h
 ended_early ss p old new w (stops.Ended (causes.Exited n)) h = over_there ss p old new w (causes.Exited n) h.0 h.1
 ended_early ss p old new w (stops.Ended causes.EndInString) h = over_there ss p old new w causes.EndInString h.0 h.1
 ended_early ss p old new w (stops.Ended causes.EndInComment) h = over_there ss p old new w causes.EndInComment h.0 h.1
@@ -230,12 +230,50 @@ whole_run o ss s x e w f i j h =
     (subst (λ (b : Bool). RunGives (result_of b (saved_behind ss p) (after_wraps (limits_of o) p)) x w) (sym f)
     (subst (λ (y : Standing). RunGives (result_behind y.limits ss (after_sources y.limits ss (progress_of y))) x w) i h))
 
--- the status by the cause
-pub left_status : (new : Standing) (r : Result Bool Stop) (e : Ending) → IsLeft new r → e ≡ ending_by (status_at new) r → (missed : Bool) × (e.status ≡ status_of (Ends e.cause) missed)
-left_status new (Ok wrapped) e l i =
-    subst (λ (x : Ending). (missed : Bool) × (x.status ≡ status_of (Ends x.cause) missed)) (sym i)
-    (new.missed, ap (λ (o : Option Cause). status_of (how_by o) new.missed) l)
-left_status new (Err stops.Finished) e l i = absurd l
-left_status new (Err (stops.Ended cause)) e l i =
-    subst (λ (x : Ending). (missed : Bool) × (x.status ≡ status_of (Ends x.cause) missed)) (sym i)
-    (new.missed, over_status new cause new.missed l refl)
+-- a session that is over isn't at its end
+not_done : (new : Standing) (cause : Cause) → IsLeft {A = Bool} new (Err (stops.Ended cause)) → cause ≡ causes.Done → ⊥
+not_done new causes.Done l h = l
+not_done new (causes.Exited n) l h = cc
+not_done new causes.EndInString l h = cc
+not_done new causes.EndInComment l h = cc
+not_done new causes.EndInArguments l h = cc
+not_done new causes.ExpansionLimit l h = cc
+not_done new causes.NestingLimit l h = cc
+not_done new (causes.Frozen f) l h = cc
+not_done new causes.Read l h = cc
+not_done new causes.Write l h = cc
+not_done new causes.OutOfMemory l h = cc
+
+left_over : (new : Standing) (cause : Cause) → IsLeft {A = Bool} new (Err (stops.Ended cause)) → new.over ≡ Some cause
+left_over new causes.Done l = absurd l
+left_over new (causes.Exited n) l = l
+left_over new causes.EndInString l = l
+left_over new causes.EndInComment l = l
+left_over new causes.EndInArguments l = l
+left_over new causes.ExpansionLimit l = l
+left_over new causes.NestingLimit l = l
+left_over new (causes.Frozen f) l = l
+left_over new causes.Read l = l
+left_over new causes.Write l = l
+left_over new causes.OutOfMemory l = l
+
+-- the status by the cause, and by the sources where all was read
+abbrev pub StatusIs : Bool → Ending → Type 0
+StatusIs unopened e = (missed : Bool) × (e.status ≡ status_of (Ends e.cause) missed) × (e.cause ≡ causes.Done → missed ≡ unopened)
+
+pub left_status : (new : Standing) (r : Result Bool Stop) (e : Ending) (unopened : Bool) → IsLeft new r → OnOk r (new.missed ≡ (unopened || false)) → e ≡ ending_by (status_at new) r → StatusIs unopened e
+left_status new (Ok wrapped) e unopened l m i =
+    subst (StatusIs unopened) (sym i)
+    (new.missed, ap (λ (o : Option Cause). status_of (how_by o) new.missed) l, λ h. m ∙ or_false unopened)
+  where
+    or_false : (b : Bool) → (b || false) ≡ b
+    or_false true = refl
+    or_false false = refl
+left_status new (Err stops.Finished) e unopened l m i = absurd l
+left_status new (Err (stops.Ended cause)) e unopened l m i =
+    subst (StatusIs unopened) (sym i)
+    (new.missed, over_status new cause new.missed (left_over new cause l) refl, λ h. absurd (not_done new cause l h))
+
+-- a run that did not begin
+pub never_status : (e : Ending) (unopened : Bool) → e ≡ ending_by 1 (Err (stops.Ended causes.OutOfMemory)) → StatusIs unopened e
+never_status e unopened i = subst (StatusIs unopened) (sym i) (false, refl, λ h. cc)

@@ -118,7 +118,7 @@ LargerCalls =
     → (run_from o start sources).how ≢ Ends causes.ExpansionLimit
     → run_from (record o { calls = calls }) start sources ≡ run_from o start sources
 
--- each run ends by a cause: it never wants more, and no bound on its turns or rounds is reached
+-- each run ends by a cause: it never wants more
 abbrev pub RunEnds : Type 0
 RunEnds =
     (o : Options) (start : Start) (sources : List Source)

@@ -16,7 +16,7 @@ pub mod Engine
 pub mod MachineView
 pub mod Writers
 pub mod Expands
+pub mod Told
 pub mod Session
 pub mod SessionView
-pub mod Told
 pub mod WholeRun

@@ -1,7 +1,7 @@
 -- Session: a run between two of its calls, and what each call does to it.
 -- Believed. Manual: "Command line files", "Invoking m4".
 -- Words: Standing, progress_of, written, fresh_standing, IsOpen, Filed, FileGives, MissingGives,
--- FinishGives, WriteFails, TellFails.
+-- FinishGives, ReadFails, WriteFails, TellFails.
 -- A session is a run's progress without what was written; what is written goes to the writers.
 use Rattle.std.specs.Prelude.{◌≡◌, ℕ, Bool, true, false, List, [], ◌∷◌, Option, Some, None, Result, Ok, Err, ◌⊎◌}
 use Rattle.m4_state.specs.State.{State}
@@ -10,9 +10,11 @@ use Rattle.m4_state.specs.Device.{Script, after_bytes, IsAtEnd, IsAtFault, with_
 use Rattle.m4_engine.specs.declared.ending.Cause.{Cause}
 use Rattle.m4_engine.specs.declared.ending.Cause.TheVariants as causes
 use Rattle.m4_engine.specs.declared.options.Options.{Options}
+use Rattle.m4_engine.specs.declared.source.Source.{Source as RunSource}
 use Rattle.m4_engine.specs.declared.stop.Stop.{Stop}
 use Rattle.m4_engine.specs.declared.stop.Stop.TheVariants as stops
 use Rattle.m4_engine.specs.Expansion.{Limits, How, Ends}
+use Rattle.m4_engine.specs.Told.{AllPairs, has_failed, is_sound, any_failed}
 use Rattle.m4_engine.specs.Writers.{Contents, Failures, NoneFailed, OneFailed}
 use Rattle.m4_engine.specs.Expands.{Broken}
 use Rattle.m4_engine.specs.File.{Opened, Unopened, Progress, file, after_source, cannot_open}
@@ -106,6 +108,7 @@ FileBroke name before behind old new w cause =
 abbrev pub FileGives : List ℕ → Option Script → Option Script → Standing → Standing → Contents → Result Unit Stop → Type 0
 FileGives name before behind old new w (Ok done) = FileDone name before behind old new w None
 FileGives name before behind old new w (Err stops.Finished) = Refused old new w × (behind ≡ before)
+FileGives name before behind old new w (Err (stops.Ended causes.Done)) = ⊥
 FileGives name before behind old new w (Err (stops.Ended causes.Read)) =
     (x : List ℕ) × (before ≡ after_bytes x behind) × IsAtFault behind × Fell old new causes.Read × Silent w
 FileGives name before behind old new w (Err (stops.Ended causes.Write)) =
@@ -121,6 +124,20 @@ WriteFails (Ok done) f = NoneFailed f
 WriteFails (Err stops.Finished) f = NoneFailed f
 WriteFails (Err (stops.Ended causes.Write)) f = OneFailed f
 WriteFails (Err (stops.Ended cause)) f = NoneFailed f
+
+-- a call ends the run by a read fault where its reader failed in it, once; else it did not fail
+abbrev pub ReadFails : {A : Type 0} → Result A Stop → ℕ → ℕ → Type 0
+ReadFails (Err (stops.Ended causes.Read)) old new = new ≡ one_more old
+ReadFails result old new = new ≡ old
+
+-- the same of one of a run's sources, and of all of them
+abbrev pub SourceFails : {A R : Type 0} → (R → ℕ) → Result A Stop → RunSource R → RunSource R → Type 0
+SourceFails failures (Err (stops.Ended causes.Read)) before behind = has_failed failures before behind
+SourceFails failures result before behind = is_sound failures before behind
+
+abbrev pub SourcesFail : {A R : Type 0} → (R → ℕ) → Result A Stop → List (RunSource R) → List (RunSource R) → Type 0
+SourcesFail failures (Err (stops.Ended causes.Read)) before behind = any_failed failures before behind
+SourcesFail failures result before behind = AllPairs (is_sound failures) before behind
 
 -- the same of a call with one writer, which has failed so often before and behind it
 abbrev pub TellFails : Result Unit Stop → ℕ → ℕ → Type 0
@@ -168,6 +185,7 @@ pub record Closed (old new : Standing) (w : Contents) : Type 0 where
   pub finished : new.finished ≡ true
   pub over : new.over ≡ None
   pub missed : new.missed ≡ old.missed
+  pub saved : new.saved ≡ []
   pub calls : new.calls ≡ ((behind_wraps old).so_far).calls
   pub ended : (behind_wraps old).over ≡ None
   pub output : w.out_new ≡ with_bytes w.out_old (closed_output false (behind_wraps old).so_far)
@@ -206,6 +224,7 @@ pub record BrokeOff (new : Standing) (p : Progress) (w : Contents) (cause : Caus
 abbrev pub GoesTo : Progress → Standing → Standing → Contents → Result Unit Stop → Type 0
 GoesTo p old new w (Ok done) = Filed old new p w × (new.over ≡ None)
 GoesTo p old new w (Err stops.Finished) = ⊥
+GoesTo p old new w (Err (stops.Ended causes.Done)) = ⊥
 GoesTo p old new w (Err (stops.Ended causes.Read)) = BrokeOff new p w causes.Read
 GoesTo p old new w (Err (stops.Ended causes.Write)) = BrokeOff new p w causes.Write
 GoesTo p old new w (Err (stops.Ended causes.OutOfMemory)) = BrokeOff new p w causes.OutOfMemory
@@ -215,4 +234,5 @@ GoesTo p old new w (Err (stops.Ended cause)) = Filed old new p w × (new.over �
 abbrev pub IsLeft : {A : Type 0} → Standing → Result A Stop → Type 0
 IsLeft new (Ok done) = new.over ≡ None
 IsLeft new (Err stops.Finished) = ⊥
+IsLeft new (Err (stops.Ended causes.Done)) = ⊥
 IsLeft new (Err (stops.Ended cause)) = new.over ≡ Some cause

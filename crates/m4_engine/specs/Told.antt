@@ -1,8 +1,10 @@
 -- Told: the sources of the definitions that stand for a run's, by what their readers tell or gave.
--- Believed. Manual: "Command line files". Words: told, MayHave, may_be, StandFor, any_failed,
--- are_taken.
-use Rattle.std.specs.Prelude.{◌≡◌, ℕ, Bool, true, false, List, [], ◌∷◌, ◌++◌, map, Option, Some, None, ◌⊎◌}
+-- Believed. Manual: "Command line files". Words: told, MayHave, may_be, StandFor, any_unopened,
+-- AllPairs, any_failed, is_sound, ReadersFailBy, are_taken.
+use Rattle.std.specs.Prelude.{◌≡◌, ℕ, Bool, true, false, List, [], ◌∷◌, ◌++◌, map, Option, Some, None, ◌⊎◌, ◌||◌}
 use Rattle.m4_state.specs.Device.{Script, after_bytes, one_more}
+use Rattle.m4_engine.specs.declared.ending.Cause.{Cause}
+use Rattle.m4_engine.specs.declared.ending.Cause.TheVariants as causes
 use Rattle.m4_engine.specs.declared.source.Source.{Source as RunSource}
 use Rattle.m4_engine.specs.declared.source.Source.TheVariants as sources
 use Rattle.m4_engine.specs.File.{Source, Opened, Unopened}
@@ -62,16 +64,44 @@ StandFor script before behind ss =
 abbrev pub StandsFor : {R : Type 0} → (R → Option Script) → RunSource R → RunSource R → Source → Type 0
 StandsFor script before behind s = (told script before ≡ Some s) ⊎ may_be script before behind s
 
+-- a source that wasn't opened
+abbrev pub is_unopened : {R : Type 0} → RunSource R → Bool
+is_unopened (sources.Opened name reader) = false
+is_unopened (sources.Unopened name) = true
+
+-- whether one of the sources wasn't opened
+abbrev pub any_unopened : {R : Type 0} → List (RunSource R) → Bool
+any_unopened [] = false
+any_unopened (x ∷ xs) = (is_unopened x || any_unopened xs)
+
+-- each two that have one place in two lists are related so
+abbrev pub AllPairs : {A : Type 0} → (A → A → Type 0) → List A → List A → Type 0
+AllPairs P [] [] = Unit {0}
+AllPairs P (x ∷ xs) (y ∷ ys) = P x y × AllPairs P xs ys
+AllPairs P before behind = ⊥
+
 -- the reader of a source failed once more
 abbrev pub has_failed : {R : Type 0} → (R → ℕ) → RunSource R → RunSource R → Type 0
 has_failed failures (sources.Opened name before) (sources.Opened n behind) =
     failures behind ≡ one_more (failures before)
 has_failed failures before behind = ⊥
 
--- that of one of the sources did
+-- it did not fail
+abbrev pub is_sound : {R : Type 0} → (R → ℕ) → RunSource R → RunSource R → Type 0
+is_sound failures (sources.Opened name before) (sources.Opened n behind) =
+    failures behind ≡ failures before
+is_sound failures (sources.Unopened name) (sources.Unopened n) = Unit {0}
+is_sound failures before behind = ⊥
+
+-- that of one of the sources failed
 abbrev pub any_failed : {R : Type 0} → (R → ℕ) → List (RunSource R) → List (RunSource R) → Type 0
 any_failed failures (x ∷ xs) (y ∷ ys) = has_failed failures x y ⊎ any_failed failures xs ys
 any_failed failures before behind = ⊥
+
+-- a run ends by a read fault where a reader failed in it; else none did
+abbrev pub ReadersFailBy : {R : Type 0} → (R → ℕ) → Cause → List (RunSource R) → List (RunSource R) → Type 0
+ReadersFailBy failures causes.Read before behind = any_failed failures before behind
+ReadersFailBy failures cause before behind = AllPairs (is_sound failures) before behind
 
 -- so much was taken of the reader of a source, and nothing else changed
 abbrev pub is_taken : {R : Type 0} → (R → Option Script) → RunSource R → RunSource R → Type 0
@@ -81,6 +111,4 @@ is_taken script (sources.Unopened name) (sources.Unopened n) = n ≡ name
 is_taken script before behind = ⊥
 
 abbrev pub are_taken : {R : Type 0} → (R → Option Script) → List (RunSource R) → List (RunSource R) → Type 0
-are_taken script [] [] = Unit {0}
-are_taken script (x ∷ xs) (y ∷ ys) = is_taken script x y × are_taken script xs ys
-are_taken script before behind = ⊥
+are_taken script before behind = AllPairs (is_taken script) before behind

@@ -1,14 +1,14 @@
 //! A whole run: its sources, one behind the other, and then its end.
 //! Manual: "Invoking m4", "Command line files".
 
-ghost use Rattle.std.specs.Prelude.{◌≡◌, Bool, false, [], None, List, Err, OnOk};
+ghost use Rattle.std.specs.Prelude.{◌≡◌, ◌||◌, Bool, false, [], None, List, OnOk};
 ghost use Rattle.m4_engine.specs.File.{Source as Said, after_source, after_sources};
 ghost use Rattle.m4_engine.specs.Run.{run as defined, status_of};
 ghost use Rattle.m4_engine.specs.Expansion.{Ends};
 ghost use Rattle.m4_engine.specs.Writers.{both};
 ghost use Rattle.m4_engine.specs.Expands.{FailsBy};
-ghost use Rattle.m4_engine.specs.Told.{StandFor, StandsFor, any_failed, has_failed, are_taken, is_taken};
-ghost use Rattle.m4_engine.specs.Session.{IsOpen, IsLeft, GoesTo, WriteFails, progress_of, status_at};
+ghost use Rattle.m4_engine.specs.Told.{StandFor, StandsFor, ReadersFailBy, any_unopened, is_unopened, are_taken, is_taken};
+ghost use Rattle.m4_engine.specs.Session.{IsOpen, IsLeft, GoesTo, WriteFails, SourceFails, SourcesFail, progress_of, status_at};
 ghost use Rattle.m4_engine.specs.WholeRun.{RunGives, result_behind, ending_by};
 
 use crate::ending::{Cause, Ending};
@@ -41,10 +41,11 @@ pub fn run<R: ByteSource, O: ByteSink, M: ByteSink, Z: ByteSink>(
     ensures gives { (ss : List Said) → StandFor R.script sources.old sources.new ss →
         RunGives (defined options None ss) result
         (both O.contents M.contents out.old out.new messages.old messages.new) }
-    // whole run: the status of its cause
-    ensures status { (missed : Bool) × (result.status ≡ status_of (Ends result.cause) missed) }
-    // safe and total: a read fault comes only where a reader failed in this call
-    ensures read { result.cause ≡ Cause.Read → any_failed R.failures sources.old sources.new }
+    // whole run: the status of its cause, which is 1 after a source that wasn't opened
+    ensures status { (missed : Bool) × (result.status ≡ status_of (Ends result.cause) missed)
+        × (result.cause ≡ Cause.Done → missed ≡ any_unopened sources.old) }
+    // safe and total: a read fault comes where a reader failed in this call, and only there
+    ensures read { ReadersFailBy R.failures result.cause sources.old sources.new }
     // safe and total: a write fault comes only where a writer failed in this call
     ensures write { FailsBy result.cause (both O.failures M.failures out.old out.new messages.old messages.new) }
     // whole run: each reader gave a beginning of what it tells
@@ -92,7 +93,8 @@ fn read_to_end<R: ByteSource, O: ByteSink, M: ByteSink>(
         (ending_by (status_at session.new) result)
         (both O.contents M.contents out.old out.new messages.old messages.new) }
     ensures left { IsLeft session.new result }
-    ensures read { result ≡ Err (Stop.Ended Cause.Read) → any_failed R.failures sources.old sources.new }
+    ensures missed { OnOk result (session.new.missed ≡ (any_unopened sources.old || session.old.missed)) }
+    ensures read { SourcesFail R.failures result sources.old sources.new }
     ensures taken { are_taken R.script sources.old sources.new }
     ensures write { WriteFails result (both O.failures M.failures out.old out.new messages.old messages.new) }
 {
@@ -116,7 +118,8 @@ fn read<R: ByteSource, O: ByteSink, M: ByteSink>(
         GoesTo (after_source session.old.limits s (progress_of session.old)) session.old session.new
         (both O.contents M.contents out.old out.new messages.old messages.new)
         result }
-    ensures read { result ≡ Err (Stop.Ended Cause.Read) → has_failed R.failures source.old source.new }
+    ensures missed { OnOk result (session.new.missed ≡ (is_unopened source.old || session.old.missed)) }
+    ensures read { SourceFails R.failures result source.old source.new }
     ensures taken { is_taken R.script source.old source.new }
     ensures write { WriteFails result (both O.failures M.failures out.old out.new messages.old messages.new) }
 {
@@ -147,7 +150,8 @@ fn read_sources<R: ByteSource, O: ByteSink, M: ByteSink>(
         (both O.contents M.contents out.old out.new messages.old messages.new)
         result }
     ensures unfinished { OnOk result (IsOpen session.new) }
-    ensures read { result ≡ Err (Stop.Ended Cause.Read) → any_failed R.failures sources.old sources.new }
+    ensures missed { OnOk result (session.new.missed ≡ (any_unopened sources.old || session.old.missed)) }
+    ensures read { SourcesFail R.failures result sources.old sources.new }
     ensures taken { are_taken R.script sources.old sources.new }
     ensures write { WriteFails result (both O.failures M.failures out.old out.new messages.old messages.new) }
 {

@@ -1,10 +1,9 @@
 //! A run, call by call: sources one behind the other, and then its end.
 //! Manual: "Command line files", "Invoking m4".
 
-ghost use Rattle.std.specs.Prelude.{◌≡◌, true, false, Some, Err, IfOk, IfErr};
-ghost use Rattle.m4_state.specs.Device.{one_more};
+ghost use Rattle.std.specs.Prelude.{◌≡◌, true, false, Some, IfOk, IfErr, OnOk};
 ghost use Rattle.m4_engine.specs.Writers.{both};
-ghost use Rattle.m4_engine.specs.Session.{Standing, IsOpen, answer_by, over_behind, fresh_standing, FileGives, MissingGives, FinishGives, WriteFails, TellFails, is_saved, status_at};
+ghost use Rattle.m4_engine.specs.Session.{Standing, IsOpen, answer_by, over_behind, fresh_standing, FileGives, MissingGives, FinishGives, ReadFails, WriteFails, TellFails, is_saved, status_at};
 
 use crate::ending::Cause;
 use crate::machine::Machine;
@@ -102,10 +101,11 @@ impl Session {
         ensures gives { FileGives name (R.script reader.old) (R.script reader.new) self.old self.new
             (both O.contents M.contents out.old out.new messages.old messages.new)
             result }
-        // safe and total: a read fault comes only where the reader failed in this call
-        ensures read { result ≡ Err (Stop.Ended Cause.Read) → R.failures reader.new ≡ one_more (R.failures reader.old) }
+        // safe and total: a read fault comes where the reader failed in this call, and only there
+        ensures read { ReadFails result (R.failures reader.old) (R.failures reader.new) }
         // safe and total: a write fault comes only where a writer failed in this call
         ensures write { WriteFails result (both O.failures M.failures out.old out.new messages.old messages.new) }
+        ensures missed { self.new.missed ≡ self.old.missed }
     {
         if !self.is_open() {
             return Err(Stop::Finished);
@@ -156,6 +156,7 @@ impl Session {
         ensures gives { MissingGives name.now self.old self.new (M.contents messages.old) (M.contents messages.new) result }
         // safe and total: a write fault comes only where a writer failed in this call
         ensures write { TellFails result (M.failures messages.old) (M.failures messages.new) }
+        ensures missed { OnOk result (self.new.missed ≡ true) }
     {
         if !self.is_open() {
             return Err(Stop::Finished);

@@ -1,4 +1,5 @@
 use Rattle.std.proofs.Common.{rules, refl}
+use Rattle.m4_engine.proofs.Readers.{source_fails}
 use Rattle.m4_engine.proofs.Sources.{opened_stands, unopened_stands, unread_goes}
 use Rattle.m4_engine.proofs.run.read.Goals as goal
 
@@ -10,3 +11,6 @@ returns-in-Ok-clause-goes g c = λ s e. opened_stands g.R.ByteSource.script c.ar
 
 pub returns-in-Unopened-clause-goes : goal.returns-in-Unopened-clause-goes
 returns-in-Unopened-clause-goes g c = λ s e. unopened_stands g.R.ByteSource.script c.args.session.now c.missing.new.self c.as_slice.result.now _ _ _ c.missing.result s (search rules) c.requires e refl c.missing.ensures.gives
+
+pub returns-in-Ok-clause-read : goal.returns-in-Ok-clause-read
+returns-in-Ok-clause-read g c = source_fails g.R.ByteSource.failures c.in-Opened.name c.in-Opened.name c.in-Opened.reader c.file.new.reader _ _ c.file.result (search rules) (search rules) c.file.ensures.read
