@@ -12,7 +12,7 @@ use Rattle.m4_engine.specs.File.{Source, Progress, after_sources}
 use Rattle.m4_engine.specs.Start.{Start, From, start_of, begun}
 use Rattle.m4_engine.specs.Run.{limits_of, saved_behind, run, run_from}
 use Rattle.m4_engine.specs.Carries.{Carries, end_of, frozen_state}
-use Rattle.m4_engine.specs.Laws.{freezing, Joins}
+use Rattle.m4_engine.specs.Laws.{freezing, prefixed, Joins}
 use Rattle.m4_engine.proofs.SameStart.{start-spelled, starts_so}
 use Rattle.m4_engine.proofs.Split.{frozen_by, split_states}
 use Rattle.m4_engine.proofs.InOrder.{sources_valid, wraps_valid, start_valid}
@@ -32,8 +32,8 @@ frozen_in_order o frozen as' =
     wraps_valid limits (after_sources limits as' (begun start))
     (sources_valid limits as' (begun start) (start_valid o.prefix frozen start (starts_so o.prefix frozen)))
 
-pub split : (o : Options) (freezes : Bool) (frozen : Option (List ℕ)) (as' bs : List Source) (text : List ℕ) → Carries (freezing true o) (start_of o.prefix frozen) as' → (run (freezing true o) frozen as').frozen ≡ Some text → (run (freezing freezes o) frozen (as' ++ bs)).how ≢ Ends causes.ExpansionLimit → Joins (run (freezing true o) frozen as') (run (freezing freezes o) (Some text) bs) (run (freezing freezes o) frozen (as' ++ bs))
-split o freezes frozen as' bs text carries froze joint =
+pub split : (o : Options) (freezes prefix : Bool) (frozen : Option (List ℕ)) (as' bs : List Source) (text : List ℕ) → Carries (freezing true o) (start_of o.prefix frozen) as' → (run (freezing true o) frozen as').frozen ≡ Some text → (run (freezing freezes o) frozen (as' ++ bs)).how ≢ Ends causes.ExpansionLimit → Joins (run (freezing true o) frozen as') (run (prefixed prefix (freezing freezes o)) (Some text) bs) (run (freezing freezes o) frozen (as' ++ bs))
+split o freezes prefix frozen as' bs text carries froze joint =
     let start : Start = start_of o.prefix frozen in
     let s : State = frozen_state (freezing true o) start as' in
     let e : Progress = end_of (freezing true o) start as' in

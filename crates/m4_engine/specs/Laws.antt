@@ -66,6 +66,10 @@ SettledBegins =
 abbrev pub freezing : Bool → Options → Options
 freezing freezes o = record o { freeze = freezes }
 
+-- the options with another prefix
+abbrev pub prefixed : Bool → Options → Options
+prefixed prefix o = record o { prefix = prefix }
+
 -- a joint run writes what two runs write, one behind the other, and ends as the later one; the calls
 -- of the two are its calls
 pub record Joins (first second joint : RunResult) : Type 0 where
@@ -89,14 +93,15 @@ SplitStates =
     (run_from (freezing freezes o) start (as' ++ bs))
 
 -- The same of the frozen text: from any start, fresh, prefixed or reloaded, where a freezing run over
--- `as` carries, a run from the text that it froze over `bs` joins it to the run over both.
+-- `as` carries, a run from the text that it froze over `bs` joins it to the run over both. The three runs
+-- have the same limits; the run that reloads may have any prefix, since a frozen file decides alone.
 abbrev pub Split : Type 0
 Split =
-    (o : Options) (freezes : Bool) (frozen : Option (List ℕ)) (as' bs : List Source) (text : List ℕ)
+    (o : Options) (freezes prefix : Bool) (frozen : Option (List ℕ)) (as' bs : List Source) (text : List ℕ)
     → Carries (freezing true o) (start_of o.prefix frozen) as'
     → (run (freezing true o) frozen as').frozen ≡ Some text
     → (run (freezing freezes o) frozen (as' ++ bs)).how ≢ Ends causes.ExpansionLimit
-    → Joins (run (freezing true o) frozen as') (run (freezing freezes o) (Some text) bs)
+    → Joins (run (freezing true o) frozen as') (run (prefixed prefix (freezing freezes o)) (Some text) bs)
     (run (freezing freezes o) frozen (as' ++ bs))
 
 -- a limit of nesting that is as large, where 0 is the largest

@@ -1,5 +1,7 @@
 //! What a turn comes to.
 
+ghost use Rattle.m4_input.specs.Input.{IsLasting};
+
 use crate::ending::Cause;
 use m4_builtins::fault::BuiltinFault;
 use m4_input::fault::InputFault;
@@ -40,9 +42,15 @@ impl From<BuiltinFault> for TurnFault {
     }
 }
 
-impl From<InputFault> for TurnFault {
-    /// An input that was read whole asks no reader, so that nothing but memory can fail in it.
-    fn from(_: InputFault) -> TurnFault {
-        TurnFault::OutOfMemory
+impl TurnFault {
+    /// The fault of a turn by one of the input that lasts. An input that was read whole asks no reader,
+    /// so that nothing but memory can fail in it.
+    pub fn of(fault: InputFault) -> TurnFault
+        requires { IsLasting fault }
+    {
+        match fault {
+            InputFault::Read | InputFault::OutOfMemory => TurnFault::OutOfMemory,
+            InputFault::EndInString { .. } | InputFault::EndInComment { .. } => unreachable!(),
+        }
     }
 }

@@ -1,7 +1,7 @@
 //! The expansion of an input, turn by turn. Messages are handed on as they arise, and output once a
 //! block of it is held. Manual: "How m4 copies input to output".
 
-ghost use Rattle.std.specs.Prelude.{◌≡◌, OnOk, OnErr};
+ghost use Rattle.std.specs.Prelude.{◌≡◌, ◌<◌, [], length, OnOk, OnErr};
 ghost use Rattle.m4_state.specs.Device.{with_bytes};
 ghost use Rattle.m4_engine.specs.Engine.{IsReady, handed_on};
 ghost use Rattle.m4_engine.specs.Writers.{both};
@@ -51,6 +51,8 @@ impl Machine {
             (both O.contents M.contents out.old out.new messages.old messages.new)) }
         ensures begun { OnErr result (HandsOn self.old.output self.old.messages
             (both O.contents M.contents out.old out.new messages.old messages.new)) }
+        ensures none_waits { OnOk result (self.new.messages ≡ []) }
+        ensures less_than_a_block { OnOk result (length self.new.output < 65536) }
         ensures counted { FailsOnce result (both O.failures M.failures out.old out.new messages.old messages.new) }
     {
         if !self.messages.is_empty() || self.output.len() >= BLOCK {

@@ -55,12 +55,17 @@ fn read_on<R: ByteSource>(
         → skip_or_push skip push s ≡ Closed (reading input.new.pending s)) }
     ensures stays { OnOk result (Stays input.old input.new) }
 {
-    if skip {
-        input.skip_line(reader)?;
+    let read = if skip {
+        input.skip_line(reader)
     } else if let Some(value) = push {
-        input.push_front(value)?;
+        input.push_front(value)
+    } else {
+        Ok(())
+    };
+    match read {
+        Ok(()) => Ok(()),
+        Err(fault) => Err(TurnFault::of(fault)),
     }
-    Ok(())
 }
 
 impl Machine {
@@ -416,8 +421,10 @@ impl Machine {
             paren_at self.now.state.quotes self.now.state.comments input.old.pending ≡ answer_of b) }
         ensures unchanged { OnOk result (input.new ≡ input.old) }
     {
-        let listed = input.sees_paren(reader, &Delims::of(&self.state))?;
-        Ok(listed)
+        match input.sees_paren(reader, &Delims::of(&self.state)) {
+            Ok(listed) => Ok(listed),
+            Err(fault) => Err(TurnFault::of(fault)),
+        }
     }
 
     /// A token, which is taken already.
@@ -518,7 +525,7 @@ impl Machine {
                 line,
                 input,
             ),
-            Err(fault) => Err(TurnFault::from(fault)),
+            Err(fault) => Err(TurnFault::of(fault)),
         }
     }
 }
