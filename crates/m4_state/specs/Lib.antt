@@ -8,3 +8,4 @@ pub mod Fresh
 pub mod State
 pub mod StateView
 pub mod Table
+pub mod Memory

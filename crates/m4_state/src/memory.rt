@@ -1,11 +1,12 @@
 //! Devices over memory, which tell their bytes: a reader that gives a slice piece by piece, and a
 //! writer with a fixed room. Neither asks for memory in `take` or `put`.
 
-ghost use Rattle.std.specs.Prelude.{◌≡◌, ◌<◌, ◌≤◌, ◌-◌, [], length, drop, Some, IfOk, vec_len, vec_capacity};
-ghost use Rattle.m4_state.specs.Device.{Script};
+ghost use Rattle.std.specs.Prelude.{◌≡◌, ◌<◌, ◌≤◌, ◌+◌, ◌-◌, [], length, take, drop, Ok, Some, IfOk, OnErr};
+ghost use Rattle.m4_state.specs.Device.{after_bytes, count_after, IsAtEnd, IsAtFault};
 
 use crate::device::{ByteSink, ByteSource, DeviceFault};
 use std::alloc::{AllocError, Global};
+use std::marker::Model;
 
 /// Gives the bytes of a slice, at most so many a take, and then ends or fails.
 #[derive(Debug, Drop)]
@@ -15,8 +16,23 @@ pub struct MemSource<'a> {
     at_most: usize,
     fails: bool,
     failures: u64,
-    ghost within: { given ≤ length bytes.now },
-    ghost some: { 0 < at_most },
+}
+
+impl<'a> Model for MemSource<'a> {
+    ghost use Rattle.std.specs.Prelude.{◌≤◌, ◌<◌, length};
+    ghost use Rattle.m4_state.specs.Memory.{MemReader};
+
+    ghost Value = { MemReader };
+
+    ghost view = { λ s. record {
+      all = s.bytes.now;
+      taken = s.given;
+      at_most = s.at_most;
+      fails = s.fails;
+      failures = s.failures;
+    } };
+
+    ghost invariant = { λ s. (s.given ≤ length s.bytes.now) × (0 < s.at_most) };
 }
 
 impl<'a> MemSource<'a> {
@@ -25,7 +41,7 @@ impl<'a> MemSource<'a> {
         requires { 0 < at_most }
         ensures script { ⟦<MemSource<'a> as ByteSource>⟧.script result ≡ Some (record { bytes = bytes.now; fails = fails }) }
         ensures failures { ⟦<MemSource<'a> as ByteSource>⟧.failures result ≡ 0 }
-        ensures taken { result.given ≡ 0 }
+        ensures reader { result ≡ record { all = bytes.now; taken = 0; at_most = at_most; fails = fails; failures = 0 } }
     {
         MemSource {
             bytes,
@@ -38,22 +54,37 @@ impl<'a> MemSource<'a> {
 
     /// How many bytes it gave so far.
     pub fn taken(&self) -> usize
-        ensures count { result ≡ self.now.given }
+        ensures count { result ≡ self.now.taken }
+        ensures within { result ≤ length self.now.all }
         ensures rest { ⟦<MemSource<'a> as ByteSource>⟧.script self.now
-            ≡ Some (record { bytes = drop result self.now.bytes.now; fails = self.now.fails }) }
+            ≡ Some (record { bytes = drop result self.now.all; fails = self.now.fails }) }
     {
         self.given
     }
 }
 
 impl ByteSource for MemSource<'_> {
-    ghost script = { λ s. Some (record { bytes = drop s.given s.bytes.now; fails = s.fails }) };
+    ghost use Rattle.m4_state.specs.Memory.{script_of};
+
+    ghost script = { script_of };
 
     ghost failures = { λ s. s.failures };
 
-    ghost takes_left = { λ s. length s.bytes.now - s.given };
+    ghost takes_left = { λ s. length s.all - s.taken };
 
-    fn take(&mut self, buf: &mut [u8]) -> Result<usize, DeviceFault> {
+    fn take(&mut self, buf: &mut [u8]) -> Result<usize, DeviceFault>
+        requires { 0 < length buf.old }
+        ensures within { IfOk result (λ n. n ≤ length buf.old) }
+        ensures gives { IfOk result (λ n. script_of self.old ≡ after_bytes (take n buf.new) (script_of self.new)) }
+        ensures end { result ≡ Ok 0 → IsAtEnd (script_of self.new) }
+        ensures falls { IfOk result (λ n. 0 < n → length self.new.all - self.new.taken < length self.old.all - self.old.taken) }
+        ensures fault { OnErr result (IsAtFault (script_of self.old)) }
+        ensures unchanged { OnErr result (script_of self.new ≡ script_of self.old) }
+        ensures counted { self.new.failures ≡ count_after result self.old.failures }
+        // it gives the bytes that it was made with, one behind the other, and a fault gives none
+        ensures moved { IfOk result (λ n. self.new ≡ record self.old { taken = self.old.taken + n }) }
+        ensures stays { OnErr result (self.new ≡ record self.old { failures = self.new.failures }) }
+    {
         let left = self.bytes.len() - self.given;
         if left == 0 && self.fails {
             self.failures = self.failures.saturating_add(1);
@@ -74,9 +105,22 @@ pub struct MemSink {
     room: usize,
     at_most: usize,
     failures: u64,
-    ghost within: { vec_len held ≤ room },
-    ghost reserved: { room ≤ vec_capacity held },
-    ghost some: { 0 < at_most },
+}
+
+impl Model for MemSink {
+    ghost use Rattle.std.specs.Prelude.{◌≤◌, ◌<◌, vec_len, vec_capacity};
+    ghost use Rattle.m4_state.specs.Memory.{MemWriter};
+
+    ghost Value = { MemWriter };
+
+    ghost view = { λ s. record {
+      held = s.held.items;
+      room = s.room;
+      at_most = s.at_most;
+      failures = s.failures;
+    } };
+
+    ghost invariant = { λ s. (vec_len s.held ≤ s.room) × (s.room ≤ vec_capacity s.held) × (0 < s.at_most) };
 }
 
 impl MemSink {
@@ -86,7 +130,7 @@ impl MemSink {
         requires { 0 < at_most }
         ensures contents { IfOk result (λ s. ⟦<MemSink as ByteSink>⟧.contents s ≡ Some []) }
         ensures failures { IfOk result (λ s. ⟦<MemSink as ByteSink>⟧.failures s ≡ 0) }
-        ensures room { IfOk result (λ s. (s.room ≡ room) × (s.at_most ≡ at_most)) }
+        ensures writer { IfOk result (λ s. s ≡ record { held = []; room = room; at_most = at_most; failures = 0 }) }
     {
         Ok(MemSink {
             held: Vec::with_capacity(alloc, room)?,
@@ -105,7 +149,7 @@ impl MemSink {
 }
 
 impl ByteSink for MemSink {
-    ghost contents = { λ s. Some s.held.items };
+    ghost contents = { λ s. Some s.held };
 
     ghost failures = { λ s. s.failures };
 
