@@ -1,6 +1,6 @@
 //! The bytes of a file that came and were not read yet.
 
-ghost use Rattle.std.specs.Prelude.{◌≡◌, ◌+◌, ◌++◌, ◌-◌, ◌<◌, ◌≤◌, [], length, drop, IfOk, OnOk};
+ghost use Rattle.std.specs.Prelude.{◌≡◌, ◌+◌, ◌++◌, ◌-◌, ◌*◌, ◌^◌, ◌<◌, ◌≤◌, [], min, length, drop, IfOk, OnOk};
 ghost use Rattle.m4_frozen.specs.Blocks as blocks;
 ghost use Rattle.m4_frozen.specs.declared.fault.FrozenKind.TheVariants as kinds;
 ghost use Rattle.m4_frozen.specs.declared.window.Behind.TheVariants as behinds;
@@ -56,6 +56,8 @@ impl Window {
             ≡ blocks.failures_behind behind (R.failures reader.old)) }
         ensures falls { IfOk result (λ behind. behind ≡ behinds.More
             → R.takes_left reader.new < R.takes_left reader.old) }
+        ensures doubles { IfOk result (λ behind. behind ≡ behinds.More
+            → min (length self.old.bytes * 2) (2 ^ 64 - 1) ≤ length self.new.bytes) }
     {
         let enough = self.bytes().len().saturating_mul(2).max(BLOCK);
         self.bytes.move_to_front();
