@@ -9,6 +9,8 @@ pub mod act;
 pub mod args;
 pub mod effect;
 pub mod fault;
+// For the engine alone: what it keeps of a call while the list is read.
+#[doc(hidden)]
 pub mod head;
 pub mod messages;
 pub mod place;

@@ -100,6 +100,7 @@ impl Input {
 
     /// The bytes that are pending, where they lie in one piece; none where a definition stands in
     /// front of them, and perhaps where a call has pushed text.
+    #[doc(hidden)]
     pub fn piece(&self) -> Option<&[u8]>
         ensures text { IfSome result (λ x. x.now ≡ text_of self.now.pending) }
         ensures first { IfSome result (λ x. self.now.pending.definition ≡ None) }
@@ -111,6 +112,7 @@ impl Input {
     }
 
     /// Takes the first n bytes away, of an input that was read whole.
+    #[doc(hidden)]
     pub fn consume(&mut self, n: usize)
         requires closed { self.old.pending.may_follow ≡ false }
         requires within { n ≤ length (text_of self.old.pending) }

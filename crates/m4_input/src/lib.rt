@@ -12,6 +12,8 @@ mod follows;
 pub mod front;
 pub mod input;
 mod piece;
+// For the engine alone: it takes plain tokens many at a time.
+#[doc(hidden)]
 pub mod plain;
 pub mod pushed;
 mod quoted;
