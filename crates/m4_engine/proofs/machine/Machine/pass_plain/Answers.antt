@@ -15,3 +15,6 @@ returns-clause-ahead c =
     let old : Engine = engine_view c.self.inside in
     let new : Engine = record old { output = c.extend_from_slice.new.self.items } in
     seen_same c.in_ok-ahead.ahead old new c.leaves_call-room.result c.consume.new.self.pending (search rules) refl refl refl refl c.in_ok-ahead.ensures
+
+pub returns-clause-passes : goal.returns-clause-passes
+returns-clause-passes c = search rules
