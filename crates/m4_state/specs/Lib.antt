@@ -9,3 +9,4 @@ pub mod State
 pub mod StateView
 pub mod Table
 pub mod Memory
+pub mod Standard
