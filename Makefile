@@ -9,8 +9,8 @@ SOURCES := crates.txt $(shell find crates -name out -prune -o -type f -print)
 
 # The program: proved, then built. A crate that is not proved is not built.
 m4r: $(SOURCES)
-	cd crates/m4_tool && rt run -- --help > /dev/null
-	cp crates/m4_tool/out/m4_tool m4r
+	cd crates/m4r && rt run -- --help > /dev/null
+	cp crates/m4r/out/m4r m4r
 
 # Every proof from nothing, every must-fail edit, every test, and the program.
 # The last line is the gate's own: N passed, M failed.
