@@ -5,7 +5,7 @@ DESTDIR =
 
 SOURCES := crates.txt $(shell find crates -name out -prune -o -type f -print)
 
-.PHONY: check demo program install uninstall bench real-files mutants refused-memory
+.PHONY: check demo program install uninstall bench real-files mutants refused-memory wrong-bodies
 
 # The program: proved, then built. A crate that is not proved is not built.
 m4r: $(SOURCES)
@@ -43,6 +43,10 @@ mutants: m4r
 # Each request for memory of a run refused in turn.
 refused-memory: m4r
 	tests/refused_memory
+
+# The wrong bodies that the gate leaves out. Give CRATES='m4_tool ..' to try those of some crates.
+wrong-bodies:
+	tests/wrong_bodies/run $(CRATES)
 
 install: m4r
 	install -d $(DESTDIR)$(PREFIX)/bin $(DESTDIR)$(PREFIX)/share/man/man1
