@@ -118,6 +118,3 @@ fn answer<M: ByteSink>(end: Result<(), ModeFault>, file: &[u8], messages: &mut M
         }
     }
 }
-
-#[cfg(test)]
-mod tests;
