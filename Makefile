@@ -12,13 +12,10 @@ m4r: $(SOURCES)
 	cd crates/m4r && rt run -- --help > /dev/null
 	cp crates/m4r/out/m4r m4r
 
-# Every proof from nothing, every must-fail edit, every test, and the program.
-# The last line is the gate's own: N passed, M failed.
+# Every proof from nothing, every must-fail edit, every test, and the program asked by each script below that
+# needs nothing else. The last line is the gate's own: N passed, M failed.
 check:
-	tests/promises
-	tests/examples
-	tests/pages
-	rt ci
+	tests/gate
 
 # The main job on a real file, with what goes in, what comes out, and whether it is as expected.
 demo: m4r
