@@ -12,8 +12,8 @@ m4r: $(SOURCES)
 	cd crates/m4r && rt run -- --help > /dev/null
 	cp crates/m4r/out/m4r m4r
 
-# Every proof from nothing, every must-fail edit, every test, and the program asked by each script below that
-# needs nothing else. The last line is the gate's own: N passed, M failed.
+# Every proof from nothing, every must-fail edit, every test; then the scripts that ask the program.
+# The last line is the gate's own: N passed, M failed.
 check:
 	tests/gate
 
