@@ -5,20 +5,17 @@ DESTDIR =
 
 SOURCES := crates.txt $(shell find crates -name out -prune -o -type f -print)
 
-.PHONY: check demo program install uninstall bench real-files mutants refused-memory
+.PHONY: check demo program install uninstall bench real-files mutants refused-memory wrong-bodies
 
 # The program: proved, then built. A crate that is not proved is not built.
 m4r: $(SOURCES)
-	cd crates/m4_tool && rt run -- --help > /dev/null
-	cp crates/m4_tool/out/m4_tool m4r
+	cd crates/m4r && rt run -- --help > /dev/null
+	cp crates/m4r/out/m4r m4r
 
-# Every proof from nothing, every must-fail edit, every test, and the program.
+# Every proof from nothing, every must-fail edit, every test; then the scripts that ask the program.
 # The last line is the gate's own: N passed, M failed.
 check:
-	tests/promises
-	tests/examples
-	tests/pages
-	rt ci
+	tests/gate
 
 # The main job on a real file, with what goes in, what comes out, and whether it is as expected.
 demo: m4r
@@ -43,6 +40,10 @@ mutants: m4r
 # Each request for memory of a run refused in turn.
 refused-memory: m4r
 	tests/refused_memory
+
+# The wrong bodies that the gate leaves out. Give CRATES='m4_tool ..' to try those of some crates.
+wrong-bodies:
+	tests/wrong_bodies/run $(CRATES)
 
 install: m4r
 	install -d $(DESTDIR)$(PREFIX)/bin $(DESTDIR)$(PREFIX)/share/man/man1

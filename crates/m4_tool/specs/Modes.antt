@@ -1,7 +1,7 @@
 -- What the modes do with the bytes of a frozen file.
--- Believed: public contracts cite it. Words: CanonEnds, InspectEnds, Tells.
+-- Believed: public contracts cite it. Words: CanonEnds, InspectEnds, Tells, IsOfDevice, CanonRuns, InspectRuns.
 -- own: a file that would issue text has no canonical text.
-use Rattle.std.specs.Prelude.{◌≡◌, ◌≢◌, ℕ, false, List, [], Option, Result, Ok, Err}
+use Rattle.std.specs.Prelude.{◌≡◌, ◌≢◌, ℕ, false, List, [], Option, Result, Ok, Err, IfSome}
 use Rattle.m4_state.specs.Device.{Script, with_bytes, count_after, one_more, HasBegun, Puts}
 use Rattle.m4_state.specs.declared.device.DeviceFault.{DeviceFault}
 use Rattle.m4_frozen.specs.declared.fault.FrozenFault.{FrozenFault}
@@ -64,9 +64,46 @@ IsOfDevice (Err faults.Issues) reads reads' writes writes' = Unit {0}
 IsOfDevice (Err faults.Write) reads reads' writes writes' = writes' ≡ one_more writes
 IsOfDevice (Err faults.OutOfMemory) reads reads' writes writes' = Unit {0}
 
--- a mode ended in one of these ways, as its status and its messages tell
-pub record Ended (Ends : Result (Unit {0}) ModeFault → Type 0) (Says : Result (Unit {0}) ModeFault → Type 0) (answer : ℕ) : Type 0 where
+-- a reader over a call: its script, if the proofs know it, and its count of failures before and after
+pub record Reading : Type 0 where
+  pub script : Option Script
+  pub failures_old : ℕ
+  pub failures_new : ℕ
+
+-- a writer over a call: its contents, if the proofs know them, and its count of failures, before and after
+pub record Writing : Type 0 where
+  pub old : Option (List ℕ)
+  pub new : Option (List ℕ)
+  pub failures_old : ℕ
+  pub failures_new : ℕ
+
+-- the reader that is first `old` and then `new`, by its trait's words
+abbrev pub reads : {A : Type 0} → (A → Option Script) → (A → ℕ) → A → A → Reading
+reads script failures old new =
+    record { script = script old; failures_old = failures old; failures_new = failures new }
+
+-- the writer that is first `old` and then `new`, by its trait's words
+abbrev pub writes : {A : Type 0} → (A → Option (List ℕ)) → (A → ℕ) → A → A → Writing
+writes contents failures old new =
+    record { old = contents old; new = contents new; failures_old = failures old; failures_new = failures new }
+
+-- how a mode ends: `CanonEnds` or `InspectEnds`
+abbrev Ends : Type 1
+Ends = Result (Unit {0}) ModeFault → Script → Option (List ℕ) → Option (List ℕ) → Type 0
+
+-- a mode was run on this file and returned this status: there is one end that the status, the output, the
+-- devices and the messages agree on
+pub record ModeRuns (Finishes : Ends) (file : List ℕ) (reader : Reading) (out told : Writing) (answer : ℕ) : Type 0 where
   pub end : Result (Unit {0}) ModeFault
   pub status : answer ≡ status_of end
-  pub says : Says end
-  pub ends : Ends end
+  pub output : IfSome reader.script (λ script. Finishes end script out.old out.new)
+  pub device : IsOfDevice end reader.failures_old reader.failures_new out.failures_old out.failures_new
+  pub messages : Tells end file told.old told.new told.failures_old told.failures_new
+
+-- `--canon` was run on this file
+abbrev pub CanonRuns : List ℕ → Reading → Writing → Writing → ℕ → Type 0
+CanonRuns = ModeRuns CanonEnds
+
+-- `--inspect` was run on this file
+abbrev pub InspectRuns : List ℕ → Reading → Writing → Writing → ℕ → Type 0
+InspectRuns = ModeRuns InspectEnds

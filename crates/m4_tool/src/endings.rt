@@ -18,6 +18,3 @@ pub fn last_fault(cause: Cause, flushed: bool) -> Option<&'static str>
         _ => None,
     }
 }
-
-#[cfg(test)]
-mod tests;

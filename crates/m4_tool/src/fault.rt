@@ -136,6 +136,3 @@ fn text_of(kind: FrozenKind) -> &'static [u8]
         FrozenKind::OutOfMemory => b"F11 OutOfMemory",
     }
 }
-
-#[cfg(test)]
-mod tests;

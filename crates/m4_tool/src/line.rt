@@ -322,6 +322,3 @@ fn fault_of_parse(error: Error) -> LineFault
         LineFault::Parse(error)
     }
 }
-
-#[cfg(test)]
-mod tests;

@@ -6,7 +6,7 @@
 ghost use Rattle.std.specs.Prelude.{◌≡◌, ℕ, IfSome};
 ghost use Rattle.m4_state.specs.Device.{Script};
 ghost use Rattle.m4_tool.specs.ModeFault.{status_of};
-ghost use Rattle.m4_tool.specs.Modes.{Holds, CanonEnds, InspectEnds, IsOfDevice, Tells, Ended};
+ghost use Rattle.m4_tool.specs.Modes.{CanonEnds, CanonRuns, Holds, InspectEnds, InspectRuns, IsOfDevice, Tells, reads, writes};
 
 use crate::fault::ModeFault;
 use m4_frozen::inspector::list;
@@ -28,14 +28,9 @@ pub fn canon<R: ByteSource, O: ByteSink, M: ByteSink>(
     // exact writer: the canonical text of a file that is read and issues nothing, and status 0; else
     // nothing, and the line and the status of the fault
     // safe and total: a fault of a device comes only where that device failed in this call
-    ensures { Ended
-        (λ end. IfSome (R.script reader.old) (λ script.
-        CanonEnds end script (O.contents out.old) (O.contents out.new))
-        × IsOfDevice end (R.failures reader.old) (R.failures reader.new)
-        (O.failures out.old) (O.failures out.new))
-        (λ end. Tells end file.now (M.contents messages.old) (M.contents messages.new)
-        (M.failures messages.old) (M.failures messages.new))
-        result }
+    ensures { CanonRuns file.now (reads R.script R.failures reader.old reader.new)
+        (writes O.contents O.failures out.old out.new)
+        (writes M.contents M.failures messages.old messages.new) result }
 {
     let end = canonicalise(alloc, reader, out);
     answer(end, file, messages)
@@ -52,14 +47,9 @@ pub fn inspect<R: ByteSource, O: ByteSink, M: ByteSink>(
     // exact writer: the lines of a file that is read, and status 0; else nothing, and the line and the
     // status of the fault
     // safe and total: a fault of a device comes only where that device failed in this call
-    ensures { Ended
-        (λ end. IfSome (R.script reader.old) (λ script.
-        InspectEnds end script (O.contents out.old) (O.contents out.new))
-        × IsOfDevice end (R.failures reader.old) (R.failures reader.new)
-        (O.failures out.old) (O.failures out.new))
-        (λ end. Tells end file.now (M.contents messages.old) (M.contents messages.new)
-        (M.failures messages.old) (M.failures messages.new))
-        result }
+    ensures { InspectRuns file.now (reads R.script R.failures reader.old reader.new)
+        (writes O.contents O.failures out.old out.new)
+        (writes M.contents M.failures messages.old messages.new) result }
 {
     let end = list_file(alloc, reader, out);
     answer(end, file, messages)
@@ -128,6 +118,3 @@ fn answer<M: ByteSink>(end: Result<(), ModeFault>, file: &[u8], messages: &mut M
         }
     }
 }
-
-#[cfg(test)]
-mod tests;

@@ -5,6 +5,9 @@
 use std::cell::RefCell;
 use std::io::{self, ErrorKind, Read, Write};
 
+/// How many bytes of an output are kept, at most, before they are written.
+pub const BLOCK: usize = 65536;
+
 /// A writer that is shared. A call while another one goes on is refused; none does.
 #[derive(Drop)]
 pub struct Shared<'a, W> {

@@ -38,6 +38,3 @@ pub fn source_name(alloc: Global, file: &str) -> Result<Bytes, AllocError>
         Bytes::from_slice(alloc, file.as_bytes())
     }
 }
-
-#[cfg(test)]
-mod tests;

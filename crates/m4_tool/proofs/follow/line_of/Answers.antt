@@ -3,7 +3,7 @@ use Rattle.std.proofs.Common.{◌∙◌, List, ap, subst}
 use Rattle.clap.specs.Walk.{texts}
 use Rattle.clap.specs.Words.{Text}
 use Rattle.m4_tool.specs.CommandLine.{IsModeInCompany}
-use Rattle.m4_tool.proofs.line_of.Goals as goal
+use Rattle.m4_tool.proofs.follow.line_of.Goals as goal
 
 pub returns-clause-in_company : goal.returns-clause-in_company
 returns-clause-in_company c same =

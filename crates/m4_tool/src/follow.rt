@@ -1,0 +1,120 @@
+//! The program: reads its command line, does the work that the line asks for, and reports how it went.
+//!
+//! Everything that is printed for a line that cannot be followed is printed here. Manual: "Invoking
+//! m4".
+
+ghost use Rattle.std.specs.Prelude.{◌≡◌, IfErr, IfOk, false, map, string_bytes};
+ghost use Rattle.clap.specs.Walk.{texts};
+ghost use Rattle.m4_tool.specs.CommandLine.{AreInRange, IsModeInCompany, IsRefusal, Says, StandAlone};
+
+mod files;
+mod frozen;
+mod reports;
+
+use crate::line::{Line, LineFault, read_line};
+use files::run_files;
+use frozen::{Mode, run_mode};
+use reports::{FAILED, report};
+use std::alloc::{AllocError, Global};
+use std::env::Env;
+use std::io::{self, ErrorKind, Input, Write};
+use std::rt::Files;
+
+/// Follows the command line of the process, and returns the exit status. `errors` is standard error.
+pub fn exit_status<E: Write + Drop>(
+    rt: &(impl Env + Files + Input + Alloc<A = Global> + Print + Eprint),
+    errors: E,
+) -> u8 {
+    match words_of_process(rt) {
+        Ok(words) => status_of_words(rt, errors, words.as_slice()),
+        Err(fault) => report_unread_words(rt, &fault),
+    }
+}
+
+// The words that the process was started with.
+fn words_of_process(rt: &(impl Env + Alloc<A = Global>)) -> io::Result<Vec<String>> {
+    let words = std::env::args(rt)?;
+    Ok(words.collect(rt.alloc())?)
+}
+
+// Follows the line that the words spell, or says why not.
+fn status_of_words<E: Write + Drop>(
+    rt: &(impl Files + Input + Alloc<A = Global> + Print + Eprint),
+    errors: E,
+    words: &[String],
+) -> u8 {
+    match line_of(rt.alloc(), words) {
+        Ok(line) => run_line(rt, errors, &line),
+        Err(fault) => report_line_fault(rt, &fault),
+    }
+}
+
+// The line that these words spell.
+fn line_of(alloc: Global, words: &[String]) -> Result<Line, LineFault>
+    ensures says { IfOk result (Says (map string_bytes words.now)) }
+    ensures in_range { IfOk result AreInRange }
+    ensures alone { IfOk result StandAlone }
+    ensures in_company { result ≡ Err LineFault.ModeNotAlone
+        → IsModeInCompany (map string_bytes words.now) }
+    ensures refused { IfErr result (IsRefusal (map string_bytes words.now)) }
+{
+    let texts = borrowed(alloc, words)?;
+    read_line(alloc, texts.as_slice())
+}
+
+// The same words, as `read_line` takes them.
+fn borrowed<'a>(alloc: Global, words: &'a [String]) -> Result<Vec<&'a str>, AllocError>
+    ensures { IfOk result (λ same. texts same.items ≡ map string_bytes words.now) }
+{
+    let mut texts = Vec::new(alloc);
+    for word in words {
+        texts.push(word.as_str())?;
+    }
+    Ok(texts)
+}
+
+// Does what the line asks for.
+fn run_line<E: Write + Drop>(
+    rt: &(impl Files + Input + Alloc<A = Global> + Print + Eprint),
+    errors: E,
+    line: &Line,
+) -> u8
+    requires prefix { line.now.options.prefix ≡ false }
+    requires freeze { line.now.options.freeze ≡ false }
+{
+    if let Some(file) = &line.canon {
+        return run_mode(rt, errors, Mode::Canon, file.as_str());
+    }
+    if let Some(file) = &line.inspect {
+        return run_mode(rt, errors, Mode::Inspect, file.as_str());
+    }
+    run_files(rt, errors, line).unwrap_or_else(|_refused| report(rt, "out of memory"))
+}
+
+// Says why a line is not followed. Help that was asked for is an answer and no fault.
+fn report_line_fault(rt: &(impl Print + Eprint), fault: &LineFault) -> u8 {
+    match fault {
+        LineFault::ModeNotAlone => report(rt, "U1 a mode stands alone"),
+        LineFault::OutOfMemory => report(rt, "out of memory"),
+        LineFault::Parse(error) => print_answer(rt, error),
+    }
+}
+
+// The text of `clap`: help on standard output, or what it refuses on standard error.
+fn print_answer(rt: &(impl Print + Eprint), error: &clap::Error) -> u8 {
+    if error.print(rt).is_err() {
+        return report(rt, "write fault");
+    }
+    if error.use_stderr() { FAILED } else { 0 }
+}
+
+// Says why the words of the process could not be read.
+fn report_unread_words(rt: &impl Eprint, fault: &io::Error) -> u8
+    ensures { result ≡ FAILED }
+{
+    if fault.kind() == ErrorKind::OutOfMemory {
+        report(rt, "out of memory")
+    } else {
+        report(rt, "a word of the command line is not UTF-8")
+    }
+}

@@ -1,0 +1,114 @@
+//! A run over the files of a line, or over standard input.
+
+ghost use Rattle.std.specs.Prelude.{◌≡◌, false};
+ghost use Rattle.m4_tool.specs.RunEnd.{last_status};
+
+use super::reports::report;
+use crate::endings::last_fault;
+use crate::line::Line;
+use crate::shared::{BLOCK, Prompting, Shown};
+use crate::sources::{FileOrInput, INPUT, source_name};
+use m4_engine::ending::Ending;
+use m4_engine::run::run;
+use m4_engine::source::Source;
+use m4_state::memory::MemSink;
+use m4_state::standard::{StdSink, StdSource};
+use std::alloc::{AllocError, Global};
+use std::io::{BufWriter, Input, Write};
+use std::rt::Files;
+use std::{fs, io};
+
+/// Runs over the files of the line, or over standard input. What the run wrote is flushed before
+/// anything more is reported.
+pub fn run_files<E: Write + Drop>(
+    rt: &(impl Files + Input + Alloc<A = Global> + Print + Eprint),
+    errors: E,
+    line: &Line,
+) -> io::Result<u8>
+    requires prefix { line.now.options.prefix ≡ false }
+    requires freeze { line.now.options.freeze ≡ false }
+{
+    let output = BufWriter::with_capacity(rt.alloc(), BLOCK, io::writer(rt))?;
+    let messages = BufWriter::with_capacity(rt.alloc(), BLOCK, errors)?;
+    let shown = Shown::new(output, messages);
+    Ok(run_shown(rt, line, &shown)?)
+}
+
+// The same, with what is written shown by these writers.
+fn run_shown<R: Files + Input + Alloc<A = Global> + Eprint, W: Write, E: Write>(
+    rt: &R,
+    line: &Line,
+    shown: &Shown<W, E>,
+) -> Result<u8, AllocError>
+    requires prefix { line.now.options.prefix ≡ false }
+    requires freeze { line.now.options.freeze ≡ false }
+{
+    let mut sources = sources_of(rt, line.files.as_slice(), shown)?;
+    let mut out = StdSink::new(shown.output());
+    let mut messages = StdSink::new(shown.messages());
+    // no run is frozen yet, and none starts from a frozen file
+    let mut freeze_to = MemSink::new(rt.alloc(), 0, 1)?;
+    let ending = run(
+        rt.alloc(),
+        line.options,
+        &mut None,
+        &mut sources,
+        &mut out,
+        &mut messages,
+        &mut freeze_to,
+    );
+    let flushed = shown.flush();
+    Ok(tell_end(rt, ending, flushed))
+}
+
+// The files of the line, opened in their order; standard input where there is none.
+fn sources_of<'a, R: Files + Input + Alloc<A = Global>, W: Write, E: Write>(
+    rt: &R,
+    files: &[String],
+    shown: &'a Shown<W, E>,
+) -> Result<Vec<Source<Opened<'a, R, W, E>>>, AllocError> {
+    let mut sources = Vec::new(rt.alloc());
+    if files.is_empty() {
+        sources.push(opened(rt, INPUT, shown)?)?;
+    }
+    for file in files {
+        sources.push(opened(rt, file.as_str(), shown)?)?;
+    }
+    Ok(sources)
+}
+
+// What a source of the run is read through.
+type Opened<'a, R, W, E> = StdSource<
+    FileOrInput<<R as Files>::File, Prompting<'a, <R as Input>::Reader, W, E>>,
+>;
+
+// A file of the line, opened unless that fails.
+fn opened<'a, R: Files + Input + Alloc<A = Global>, W: Write, E: Write>(
+    rt: &R,
+    file: &str,
+    shown: &'a Shown<W, E>,
+) -> Result<Source<Opened<'a, R, W, E>>, AllocError> {
+    let name = source_name(rt.alloc(), file)?;
+    if file == INPUT {
+        let input = Prompting::new(rt.reader(), shown);
+        let reader = StdSource::new(FileOrInput::Input(input));
+        return Ok(Source::Opened { name, reader });
+    }
+    match fs::open(rt, file) {
+        Ok(file) => {
+            let reader = StdSource::new(FileOrInput::File(file));
+            Ok(Source::Opened { name, reader })
+        }
+        Err(_fault) => Ok(Source::Unopened { name }),
+    }
+}
+
+// Reports what the run has not reported itself, and returns the last status.
+fn tell_end(rt: &impl Eprint, ending: Ending, flushed: bool) -> u8
+    ensures { result ≡ last_status ending flushed }
+{
+    match last_fault(ending.cause, flushed) {
+        Some(text) => report(rt, text),
+        None => ending.status,
+    }
+}

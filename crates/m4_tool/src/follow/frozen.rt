@@ -1,0 +1,61 @@
+//! A mode on a file of the disk: its file is opened, and its output goes to standard output.
+
+use super::reports::{FAILED, report};
+use crate::modes;
+use crate::shared::BLOCK;
+use m4_state::standard::{StdSink, StdSource};
+use std::alloc::Global;
+use std::io::{BufWriter, Read, Write};
+use std::rt::Files;
+use std::{fs, io};
+
+/// The modes that a line may ask for.
+#[derive(Clone, Copy)]
+pub enum Mode {
+    /// The canonical text of a frozen file.
+    Canon,
+    /// The lines that list a frozen file.
+    Inspect,
+}
+
+/// Runs a mode on a file, or reports that it can't be opened.
+pub fn run_mode<E: Write + Drop>(
+    rt: &(impl Files + Alloc<A = Global> + Print + Eprint),
+    errors: E,
+    mode: Mode,
+    file: &str,
+) -> u8 {
+    match fs::open(rt, file) {
+        Ok(opened) => run_opened(rt, errors, mode, file, opened).unwrap_or_else(|_refused| report(
+            rt,
+            "out of memory",
+        )),
+        Err(_fault) => {
+            let _printed = eprintln!(rt; "m4: cannot open `{file}'");
+            FAILED
+        }
+    }
+}
+
+// Runs a mode on an opened file. What the mode wrote is flushed before its status stands.
+fn run_opened<F: Read + Drop, E: Write + Drop>(
+    rt: &(impl Alloc<A = Global> + Print + Eprint),
+    errors: E,
+    mode: Mode,
+    file: &str,
+    opened: F,
+) -> io::Result<u8> {
+    let alloc = rt.alloc();
+    let mut reader = StdSource::new(opened);
+    let mut out = StdSink::new(BufWriter::with_capacity(alloc, BLOCK, io::writer(rt))?);
+    let mut messages = StdSink::new(errors);
+    let name = file.as_bytes();
+    let status = match mode {
+        Mode::Canon => modes::canon(alloc, name, &mut reader, &mut out, &mut messages),
+        Mode::Inspect => modes::inspect(alloc, name, &mut reader, &mut out, &mut messages),
+    };
+    if status == 0 && out.into_inner().flush().is_err() {
+        return Ok(report(rt, "write fault"));
+    }
+    Ok(status)
+}

@@ -1,0 +1,15 @@
+//! The one line on standard error that reports why the program did not do its work.
+
+ghost use Rattle.std.specs.Prelude.{◌≡◌};
+
+/// The status of a run that did not do what its line asked for.
+pub const FAILED: u8 = 1;
+
+/// Prints one line on standard error, and returns the status of a run that failed. If standard error
+/// cannot be written either, only the status reports it.
+pub fn report(rt: &impl Eprint, text: &str) -> u8
+    ensures { result ≡ FAILED }
+{
+    let _printed = eprintln!(rt; "m4: {text}");
+    FAILED
+}

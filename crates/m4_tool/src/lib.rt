@@ -1,0 +1,14 @@
+//! The command line of m4r, and the work that it asks for.
+//!
+//! [`follow::exit_status`] is the program from the words of its process to its exit status. Below it,
+//! [`line`] reads the words, [`modes`] are the two modes on a frozen file, and the rest connects the
+//! runs of `m4_engine` to files and to the standard streams. Manual: "Invoking m4".
+#![tactic(auto)]
+
+pub mod endings;
+pub mod fault;
+pub mod follow;
+pub mod line;
+pub mod modes;
+mod shared;
+pub mod sources;

@@ -1,0 +1,9 @@
+//! The program m4r: the runtime, handed to `m4_tool`.
+#![tactic(auto)]
+
+use m4_tool::follow::exit_status;
+use std::process::ExitCode;
+
+fn main(rt: HostRuntime) -> ExitCode {
+    ExitCode::from(exit_status(&rt, rt.stderr()))
+}

@@ -1,0 +1,9 @@
+//! The command line and the modes, of `m4_tool`: tables of rows, with one helper for each table.
+
+mod ends;
+mod faults;
+mod lines;
+mod modes;
+mod names;
+mod shows;
+mod texts;

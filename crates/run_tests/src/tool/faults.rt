@@ -1,0 +1,68 @@
+//! The line of each fault of a mode. Its number and name are those that the kind shows of itself.
+
+use super::shows::{shows, text_of};
+use m4_frozen::fault::{FrozenFault, FrozenKind};
+use m4_state::memory::MemSink;
+use m4_tool::fault::ModeFault;
+use std::alloc::Global;
+use std::process::Abort;
+use std::test::Fail;
+
+// A kind of fault at byte 12 of the file F, and its line. Manual of the kinds: docs/FROZEN_FILE.md.
+static KINDS: [(FrozenKind, &str); 11] = [
+    (FrozenKind::NoVersion, "m4: F: F1 NoVersion at byte 12\n"),
+    (FrozenKind::Newer, "m4: F: F2 Newer at byte 12\n"),
+    (
+        FrozenKind::VersionZero,
+        "m4: F: F3 VersionZero at byte 12\n",
+    ),
+    (
+        FrozenKind::SecondVersion,
+        "m4: F: F4 SecondVersion at byte 12\n",
+    ),
+    (
+        FrozenKind::UnknownDirective,
+        "m4: F: F5 UnknownDirective at byte 12\n",
+    ),
+    (
+        FrozenKind::DigitExpected,
+        "m4: F: F6 DigitExpected at byte 12\n",
+    ),
+    (
+        FrozenKind::NumberTooLarge,
+        "m4: F: F7 NumberTooLarge at byte 12\n",
+    ),
+    (
+        FrozenKind::SeparatorExpected,
+        "m4: F: F8 SeparatorExpected at byte 12\n",
+    ),
+    (
+        FrozenKind::PrematureEnd,
+        "m4: F: F9 PrematureEnd at byte 12\n",
+    ),
+    (FrozenKind::Read, "m4: F: F10 Read\n"),
+    (FrozenKind::OutOfMemory, "m4: F: F11 OutOfMemory\n"),
+];
+
+// Compares the line of a kind with its row, and looks in it for what the kind shows of itself.
+fn check_kind(
+    rt: &(impl Abort + Alloc<A = Global>),
+    kind: FrozenKind,
+    want: &str,
+) -> Result<(), Fail> {
+    let shown = format!(in rt.alloc(); "{kind}")?;
+    let mut line = MemSink::new(rt.alloc(), 100, 100)?;
+    let put = ModeFault::Frozen(FrozenFault { kind, offset: 12 }).report(b"F", &mut line);
+    assert!(rt; put.is_ok());
+    shows(rt, shown.as_str(), want, text_of(line.written()));
+    assert!(rt; want.contains(shown.as_str()), "{want} lacks {shown}");
+    Ok(())
+}
+
+#[test]
+fn kinds_have_their_line(rt: HostRuntime) -> Result<(), Fail> {
+    for (kind, want) in &KINDS {
+        check_kind(&rt, *kind, want)?;
+    }
+    Ok(())
+}

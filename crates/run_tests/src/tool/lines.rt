@@ -1,0 +1,156 @@
+//! What each line asks for, by a table. The kinds of refusal are those that Rust's clap gives such words.
+
+use super::shows::shows;
+use m4_engine::options::Options;
+use m4_tool::line::{Line, LineFault, read_line};
+use std::alloc::Global;
+use std::process::Abort;
+use std::test::Fail;
+
+// The words of a line, and what they come to: a mode with its file, or a refusal.
+static MODES: [(&[&str], &str); 22] = [
+    (&["m4r", "--canon=state.m4f"], "canon state.m4f"),
+    (&["m4r", "--inspect=state.m4f"], "inspect state.m4f"),
+    (&["m4r", "--canon", "state.m4f"], "canon state.m4f"),
+    (&["m4r", "--canon=-"], "canon -"),
+    (&["m4r", "--inspect=-"], "inspect -"),
+    (&["m4r", "--canon", "-"], "canon -"),
+    (&["m4r", "--canon="], "canon "),
+    (&["m4r", "--canon=--inspect=b"], "canon --inspect=b"),
+    (&["m4r", "--canon=a", "--inspect=b"], "a mode in company"),
+    (&["m4r", "--inspect=b", "--canon=a"], "a mode in company"),
+    (&["m4r", "--canon=a", "b"], "a mode in company"),
+    (&["m4r", "--canon", "a", "b"], "a mode in company"),
+    (&["m4r", "--inspect=a", "-"], "a mode in company"),
+    (&["m4r", "--canon=a", "-L2"], "a mode in company"),
+    (
+        &["m4r", "--expansions=9", "--inspect=a"],
+        "a mode in company",
+    ),
+    (&["m4r", "--nope"], "refused: UnknownArgument"),
+    (
+        &["m4r", "--canon=a", "--inspect=b", "-F"],
+        "refused: UnknownArgument",
+    ),
+    (
+        &["m4r", "--canon=a", "--canon=a"],
+        "refused: ArgumentConflict",
+    ),
+    (&["m4r", "--canon"], "refused: InvalidValue"),
+    (&["m4r", "--help"], "refused: DisplayHelp"),
+    (&["m4r", "--canon=a", "--help"], "refused: DisplayHelp"),
+    (&["m4r", "-h"], "refused: UnknownArgument"),
+];
+
+// The same for lines with no mode: a run with its limits, of open calls and of all calls, and its files.
+static RUNS: [(&[&str], &str); 24] = [
+    (&["m4r"], "run 1024 4294967295 []"),
+    (&["m4r", "a.m4"], "run 1024 4294967295 [\"a.m4\"]"),
+    (&["m4r", "-"], "run 1024 4294967295 [\"-\"]"),
+    (
+        &["m4r", "b.m4", "-", "a.m4", "b.m4"],
+        "run 1024 4294967295 [\"b.m4\", \"-\", \"a.m4\", \"b.m4\"]",
+    ),
+    (
+        &["m4r", "--", "-L", "2"],
+        "run 1024 4294967295 [\"-L\", \"2\"]",
+    ),
+    (&["m4r", "-L", "0"], "run 0 4294967295 []"),
+    (&["m4r", "-L2"], "run 2 4294967295 []"),
+    (&["m4r", "--nesting-limit=3"], "run 3 4294967295 []"),
+    (&["m4r", "--nesting-limit", "3"], "run 3 4294967295 []"),
+    (&["m4r", "-L", "4294967295"], "run 4294967295 4294967295 []"),
+    (
+        &["m4r", "a", "-L", "7", "b"],
+        "run 7 4294967295 [\"a\", \"b\"]",
+    ),
+    (&["m4r", "--expansions=1"], "run 1024 1 []"),
+    (
+        &["m4r", "--expansions=4294967295"],
+        "run 1024 4294967295 []",
+    ),
+    (
+        &["m4r", "--expansions=100", "-L5", "a"],
+        "run 5 100 [\"a\"]",
+    ),
+    (&["m4r", "--expansions=0"], "refused: ValueValidation"),
+    (
+        &["m4r", "--expansions=4294967296"],
+        "refused: ValueValidation",
+    ),
+    (&["m4r", "-L", "4294967296"], "refused: ValueValidation"),
+    (
+        &["m4r", "-L", "18446744073709551616"],
+        "refused: ValueValidation",
+    ),
+    (&["m4r", "-L", "two"], "refused: ValueValidation"),
+    (&["m4r", "-L="], "refused: ValueValidation"),
+    (&["m4r", "-L"], "refused: InvalidValue"),
+    (&["m4r", "-L", "1", "-L", "1"], "refused: ArgumentConflict"),
+    (
+        &["m4r", "-L1", "--nesting-limit=1"],
+        "refused: ArgumentConflict",
+    ),
+    (
+        &["m4r", "--expansions=1", "--expansions=1"],
+        "refused: ArgumentConflict",
+    ),
+];
+
+// What a line comes to, as the tables write it.
+fn answer_of(alloc: Global, line: &Result<Line, LineFault>) -> Result<String, Fail> {
+    match line {
+        Ok(line) => asked_of(alloc, line),
+        Err(LineFault::ModeNotAlone) => Ok(String::from_str(alloc, "a mode in company")?),
+        Err(LineFault::OutOfMemory) => Ok(String::from_str(alloc, "out of memory")?),
+        Err(LineFault::Parse(error)) => Ok(format!(in alloc; "refused: {:?}", error.kind())?),
+    }
+}
+
+// What a line asks for: a mode with its file, or a run.
+fn asked_of(alloc: Global, line: &Line) -> Result<String, Fail> {
+    let Options {
+        calls,
+        nesting,
+        freeze,
+        prefix,
+    } = line.options;
+    let is_usual = nesting == 1024 && calls == 4294967295 && line.files.is_empty();
+    let files = &line.files;
+    match (&line.canon, &line.inspect) {
+        _ if freeze || prefix => Ok(format!(in alloc; "{line:?}")?),
+        (Some(file), None) if is_usual => Ok(format!(in alloc; "canon {file}")?),
+        (None, Some(file)) if is_usual => Ok(format!(in alloc; "inspect {file}")?),
+        (None, None) => Ok(format!(in alloc; "run {nesting} {calls} {files:?}")?),
+        _ => Ok(format!(in alloc; "{line:?}")?),
+    }
+}
+
+// Compares what a line comes to with its row.
+fn check_row(
+    rt: &(impl Abort + Alloc<A = Global>),
+    words: &[&str],
+    want: &str,
+) -> Result<(), Fail> {
+    let line = read_line(rt.alloc(), words);
+    let got = answer_of(rt.alloc(), &line)?;
+    let row = format!(in rt.alloc(); "{words:?}")?;
+    shows(rt, row.as_str(), want, got.as_str());
+    Ok(())
+}
+
+#[test]
+fn each_line_with_a_mode_is_read(rt: HostRuntime) -> Result<(), Fail> {
+    for (words, want) in &MODES {
+        check_row(&rt, words, want)?;
+    }
+    Ok(())
+}
+
+#[test]
+fn each_line_with_no_mode_is_read(rt: HostRuntime) -> Result<(), Fail> {
+    for (words, want) in &RUNS {
+        check_row(&rt, words, want)?;
+    }
+    Ok(())
+}

@@ -1,0 +1,250 @@
+//! The modes over devices in memory: what is on the output and on the messages, and the status.
+//!
+//! The files and their texts were written by hand from the format. Each row is run with readers and
+//! writers of several sizes, since no answer may depend on them. Manual: "Frozen file format".
+
+ghost use Rattle.std.specs.Prelude.{◌<◌};
+
+use super::shows::{shows, text_of};
+use m4_state::memory::{MemSink, MemSource};
+use m4_tool::modes::{canon, inspect};
+use std::alloc::{AllocError, Global};
+use std::process::Abort;
+use std::test::Fail;
+
+// The canonical text that has these directives.
+macro_rules! canonical {
+    ($directives:literal) => {
+        concat!("# m4 frozen state\nV1\n", $directives, "# End of frozen state file\n")
+    };
+}
+
+// A file, and its canonical text.
+static CANONICAL: [(&[u8], &str); 12] = [
+    (b"V1\n", canonical!("")),
+    (
+        b"V1\nT1,1\nbx\nT1,1\nay\nT1,1\nbz\n",
+        canonical!("T1,1\nay\nT1,1\nbx\nT1,1\nbz\n"),
+    ),
+    (b"V1\nQ1,0\n[\nC0,1\n#\n", canonical!("Q1,1\n['\nC0,0\n\n")),
+    (b"V1\nT2,3\na\n# b\n", canonical!("T2,3\na\n# b\n")),
+    (b"V1\nQ1,1\n[]\nQ1,1\n`'\n# c", canonical!("")),
+    (b"V1\nT1 , 01\nab\n", canonical!("T1,1\nab\n")),
+    (
+        b"# any\nV1\nC1,1\n#\n\n\n\nF3,3\ndnldnl\nF6,6\nformatformat\n# End of frozen state file\n",
+        canonical!("F3,3\ndnldnl\nF6,6\nformatformat\n"),
+    ),
+    (
+        b"V1\nD2,1\nx\nD2,1\ny\nD-1,2\nzz\n",
+        canonical!("D2,2\nxy\nD-1,0\n\n"),
+    ),
+    (b"V1\nD3,0\n\n", canonical!("D3,0\n\n")),
+    (b"V1\nD3,1\nx\nD0,0\n\n", canonical!("D3,1\nx\nD0,0\n\n")),
+    (
+        b"V1\nD7,1\nb\nD5,1\na\n",
+        canonical!("D5,1\na\nD7,1\nb\nD5,0\n\n"),
+    ),
+    (b"V1\nD-2147483648,0\n\n", canonical!("D-2147483648,0\n\n")),
+];
+
+// A file, whether its reader fails behind it, the status and the line that `--canon` gives.
+static REFUSED: [(&[u8], bool, u8, &str); 9] = [
+    (b"", false, 1, "m4: F: F1 NoVersion at byte 0\n"),
+    (b"# c\n\nV2\n", false, 63, "m4: F: F2 Newer at byte 6\n"),
+    (b"V0", false, 1, "m4: F: F3 VersionZero at byte 1\n"),
+    (
+        b"V1\nD0,3\nhi\n\nX\n",
+        false,
+        1,
+        "m4: F: F5 UnknownDirective at byte 12\n",
+    ),
+    (
+        b"V1\nT1,18446744073709551615\na",
+        false,
+        1,
+        "m4: F: F9 PrematureEnd at byte 28\n",
+    ),
+    (b"V1\nT1", true, 1, "m4: F: F10 Read\n"),
+    (b"V1\nX", true, 1, "m4: F: F5 UnknownDirective at byte 3\n"),
+    (b"V2", true, 63, "m4: F: F2 Newer at byte 1\n"),
+    (
+        b"V1\nD0,1\nx\n",
+        false,
+        1,
+        "m4: F: K1 text would be issued at reload\n",
+    ),
+];
+
+// A file, and the lines of the inspector.
+static LISTED: [(&[u8], &str); 4] = [
+    (
+        b"V1\nT1,1\nab\nF3,5\ncutshift\nD2,4\ntwo\n\n",
+        "quotes ` '\ncomments # \\0a\ntext a 1\nplaceholder cut shift\ndiversion 2 4\ncurrent 2\n",
+    ),
+    (
+        b"V1\nD0,2\nab\nD0,1\nc\nD2,1\nx\nD2,1\ny\nD-1,2\nzz\n",
+        "quotes ` '\ncomments # \\0a\ndiversion 2 2\ncurrent -1\nissued 3\n",
+    ),
+    (
+        b"V1\nQ0,1\nx\nC2,3\n/**/ \n",
+        "quotes none\ncomments /* */\\20\ncurrent 0\n",
+    ),
+    (
+        b"V1\nT0,2\n\\\xff\nT3,0\n\x00 a\n",
+        "quotes ` '\ncomments # \\0a\ntext \\. 2\ntext \\00\\20a 0\ncurrent 0\n",
+    ),
+];
+
+// How many bytes a reader gives and a writer accepts at most.
+const SIZES: [usize; 4] = [1, 2, 7, 4096];
+
+// The room of an output or of messages that does not fail.
+const AMPLE: usize = 4096;
+
+#[derive(Clone, Copy)]
+enum Mode {
+    Canon,
+    Inspect,
+}
+
+// A mode on a file F, whose reader may fail after it; its status, its output and its messages.
+#[derive(Clone, Copy)]
+struct Row<'a> {
+    mode: Mode,
+    file: &'a [u8],
+    fails: bool,
+    status: u8,
+    output: &'a str,
+    messages: &'a str,
+}
+
+// The devices of a run: how many bytes a call of them moves at most, and how much they have room for.
+#[derive(Clone, Copy)]
+struct Devices {
+    at_most: usize,
+    out_room: usize,
+    told_room: usize,
+}
+
+// A file that `--canon` writes as this text.
+fn written_as<'a>(file: &'a [u8], text: &'a str) -> Row<'a> {
+    Row {
+        mode: Mode::Canon,
+        file,
+        fails: false,
+        status: 0,
+        output: text,
+        messages: "",
+    }
+}
+
+// Runs a row with these devices, and compares what it leaves.
+fn check_by(
+    rt: &(impl Abort + Alloc<A = Global>),
+    row: Row<'_>,
+    devices: Devices,
+) -> Result<(), AllocError>
+    requires { 0 < devices.at_most }
+{
+    let alloc = rt.alloc();
+    let mut reader = MemSource::new(row.file, devices.at_most, row.fails);
+    let mut out = MemSink::new(alloc, devices.out_room, devices.at_most)?;
+    let mut told = MemSink::new(alloc, devices.told_room, devices.at_most)?;
+    let status = match row.mode {
+        Mode::Canon => canon(alloc, b"F", &mut reader, &mut out, &mut told),
+        Mode::Inspect => inspect(alloc, b"F", &mut reader, &mut out, &mut told),
+    };
+    let name = text_of(row.file);
+    shows(rt, name, row.output, text_of(out.written()));
+    shows(rt, name, row.messages, text_of(told.written()));
+    assert_eq!(rt; status, row.status, "{name}");
+    Ok(())
+}
+
+// Runs a row with devices of each size.
+fn check_row(rt: &(impl Abort + Alloc<A = Global>), row: Row<'_>) -> Result<(), AllocError> {
+    for at_most in SIZES {
+        let devices = Devices {
+            at_most,
+            out_room: AMPLE,
+            told_room: AMPLE,
+        };
+        check_by(rt, row, devices)?;
+    }
+    Ok(())
+}
+
+#[test]
+fn files_have_their_canonical_text(rt: HostRuntime) -> Result<(), Fail> {
+    for (file, text) in &CANONICAL {
+        check_row(&rt, written_as(file, text))?;
+        check_row(&rt, written_as(text.as_bytes(), text))?;
+    }
+    Ok(())
+}
+
+#[test]
+fn refused_files_have_their_line(rt: HostRuntime) -> Result<(), Fail> {
+    for (file, fails, status, messages) in &REFUSED {
+        let row = Row {
+            mode: Mode::Canon,
+            file,
+            fails: *fails,
+            status: *status,
+            output: "",
+            messages,
+        };
+        check_row(&rt, row)?;
+    }
+    Ok(())
+}
+
+#[test]
+fn files_are_listed(rt: HostRuntime) -> Result<(), Fail> {
+    for (file, lines) in &LISTED {
+        let row = Row {
+            mode: Mode::Inspect,
+            ..written_as(file, lines)
+        };
+        check_row(&rt, row)?;
+    }
+    Ok(())
+}
+
+// An output with too little room for the text has a beginning of it.
+#[test]
+fn an_output_that_fails_has_a_beginning(rt: HostRuntime) -> Result<(), Fail> {
+    let (file, text) = &CANONICAL[1];
+    for room in 0..text.len() {
+        let row = Row {
+            status: 1,
+            output: text.get(..room).unwrap_or(text),
+            messages: "m4: write fault\n",
+            ..written_as(file, text)
+        };
+        let devices = Devices {
+            at_most: 4096,
+            out_room: room,
+            told_room: AMPLE,
+        };
+        check_by(&rt, row, devices)?;
+    }
+    Ok(())
+}
+
+// Messages with too little room have a beginning of the line, and the status is the fault's.
+#[test]
+fn messages_that_fail_have_a_beginning(rt: HostRuntime) -> Result<(), Fail> {
+    let row = Row {
+        status: 63,
+        messages: "m4: F:",
+        ..written_as(b"V2\n", "")
+    };
+    let devices = Devices {
+        at_most: 4096,
+        out_room: AMPLE,
+        told_room: 6,
+    };
+    check_by(&rt, row, devices)?;
+    Ok(())
+}
