@@ -13,8 +13,8 @@ use Rattle.m4_engine.specs.OpenCalls.{resume}
 use Rattle.m4_engine.specs.Expansion.{Call, Expansion, Kept, Ended, Ends}
 use Rattle.m4_engine.specs.Expand.{turn, join, expand, expansion_of, ended_of}
 use Rattle.m4_engine.specs.Engine.{Engine, so_far_of, outer_of, here_of, configuration, handed_on, moved, IsReady, Moves, Passes}
-use Rattle.m4_engine.specs.Expands.{made_before, comes_to, Expanded, Broken, Expands, HandsOn, HandsOnSome, IsIdle}
-use Rattle.m4_engine.specs.Writers.{writers}
+use Rattle.m4_engine.specs.Expands.{made_before, comes_to, Expanded, Expands, HandsOn, HandsOnSome, IsIdle}
+use Rattle.m4_engine.specs.Writers.{writers, Broken}
 use Rattle.m4_engine.proofs.Begins.{begun_behind}
 use Rattle.m4_engine.proofs.Growth.{Extends, made_out}
 use Rattle.m4_engine.proofs.LoopKeeps.{turns_of, move_falls, meaning_of, some_means, moved_on, end_means}

@@ -15,9 +15,9 @@ use Rattle.m4_engine.specs.Run.{result_of}
 use Rattle.m4_engine.specs.Wraps.{after_wraps, close}
 use Rattle.m4_engine.proofs.Begins.{nothing_begun}
 use Rattle.m4_engine.specs.Engine.{Engine}
-use Rattle.m4_engine.specs.Expands.{comes_to, Expanded, Broken, Expands, at_rest}
+use Rattle.m4_engine.specs.Expands.{comes_to, Expanded, Expands, at_rest}
 use Rattle.m4_engine.specs.Session.{Standing, progress_of, written, how_over, IsOpen, FileDone, FileBroke, FileGives, answer_by, over_behind, behind_wraps, FinishGives}
-use Rattle.m4_engine.specs.Writers.{Contents}
+use Rattle.m4_engine.specs.Writers.{Contents, Broken}
 
 -- what a file's input has in hand when it was read
 pub whole_file : (name x : List ℕ) (before behind : Option Script) (p : Pending) → Reads before behind (unread_file name).pending x p → p.may_follow ≡ false → p ≡ file_pending name x false

@@ -8,13 +8,12 @@ use Rattle.m4_engine.specs.declared.ending.Cause.TheVariants as causes
 use Rattle.m4_engine.specs.declared.stop.Stop.{Stop}
 use Rattle.m4_engine.specs.declared.stop.Stop.TheVariants as stops
 use Rattle.m4_engine.specs.Expansion.{RunSoFar, with_message}
-use Rattle.m4_engine.specs.Expands.{Broken}
 use Rattle.m4_engine.specs.File.{Source, Opened, Unopened, Progress, file, after_source, cannot_open}
 use Rattle.m4_engine.specs.declared.source.Source.{Source as RunSource}
 use Rattle.m4_engine.specs.declared.source.Source.TheVariants as sources
 use Rattle.m4_engine.specs.Told.{whole, told_opened, MayHave, may_be_opened, script_of, StandsFor, is_taken}
 use Rattle.m4_engine.specs.Session.{Standing, progress_of, IsOpen, Filed, Fell, how_over, Silent, FileDone, FileBroke, FileGives, MissingGives, BrokeOff, GoesTo}
-use Rattle.m4_engine.specs.Writers.{Contents}
+use Rattle.m4_engine.specs.Writers.{Contents, Broken}
 use Rattle.m4_engine.proofs.Begins.{nothing_begun}
 
 -- a reader that tells its bytes and ends gave all of them, where it is at its end

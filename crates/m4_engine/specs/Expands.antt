@@ -1,7 +1,7 @@
 -- Expands: what the expansion of an input leaves, over writers.
--- Believed: it says by the definition `expand_input` what was written and what is left.
--- Manual: "How m4 copies input to output". Words: Expanded, Broken, Expands, FailsBy.
-use Rattle.std.specs.Prelude.{◌≡◌, ℕ, List, [], ◌++◌, Result, Ok, Err}
+-- Not believed: it stands between the machine and `Session`, which says the same of a source.
+-- Manual: "How m4 copies input to output". Words: made_before, comes_to, Expanded, Expands, HandsOn, IsIdle.
+use Rattle.std.specs.Prelude.{◌≡◌, ℕ, List, [], ◌++◌}
 use Rattle.m4_state.specs.Device.{with_bytes, HasBegun}
 use Rattle.m4_input.specs.Pending.{Pending}
 use Rattle.m4_engine.specs.declared.ending.Cause.{Cause}
@@ -9,7 +9,7 @@ use Rattle.m4_engine.specs.declared.ending.Cause.TheVariants as causes
 use Rattle.m4_engine.specs.Expansion.{RunSoFar, Ended, Ends}
 use Rattle.m4_engine.specs.Expand.{expand_input}
 use Rattle.m4_engine.specs.Engine.{Engine}
-use Rattle.m4_engine.specs.Writers.{Contents, Failures, NoneFailed, OneFailed}
+use Rattle.m4_engine.specs.Writers.{Contents, Broken}
 
 -- what a run has made, where its output and messages were written before
 abbrev pub made_before : Engine → RunSoFar
@@ -35,27 +35,12 @@ pub record Expanded (old new : Engine) (d : Ended) (cause : Cause) (w : Contents
   pub output : w.out_new ≡ with_bytes w.out_old (d.so_far).output
   pub messages : w.messages_new ≡ with_bytes w.messages_old (d.so_far).messages
 
--- the expansion broke off, and a beginning of what it puts out was written
-pub record Broken (d : Ended) (w : Contents) : Type 0 where
-  pub output : HasBegun w.out_old w.out_new (d.so_far).output
-  pub messages : HasBegun w.messages_old w.messages_new (d.so_far).messages
-
 -- by the cause: a device or memory breaks the expansion off
 abbrev pub Expands : Engine → Engine → Pending → Contents → Cause → Type 0
 Expands old new p w causes.Read = Broken (comes_to old p) w
 Expands old new p w causes.Write = Broken (comes_to old p) w
 Expands old new p w causes.OutOfMemory = Broken (comes_to old p) w
 Expands old new p w cause = Expanded old new (comes_to old p) cause w
-
--- a call fails where a writer failed in it
-abbrev pub FailsOnce : {A E : Type 0} → Result A E → Failures → Type 0
-FailsOnce (Ok x) f = NoneFailed f
-FailsOnce (Err e) f = OneFailed f
-
--- an expansion ends by a write fault where a writer failed in it
-abbrev pub FailsBy : Cause → Failures → Type 0
-FailsBy causes.Write f = OneFailed f
-FailsBy cause f = NoneFailed f
 
 -- a beginning of an engine's output and messages was written
 abbrev pub HandsOn : List ℕ → List ℕ → Contents → Type 0

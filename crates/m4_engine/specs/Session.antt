@@ -15,8 +15,7 @@ use Rattle.m4_engine.specs.declared.stop.Stop.{Stop}
 use Rattle.m4_engine.specs.declared.stop.Stop.TheVariants as stops
 use Rattle.m4_engine.specs.Expansion.{Limits, How, Ends}
 use Rattle.m4_engine.specs.Told.{AllPairs, has_failed, is_sound, any_failed}
-use Rattle.m4_engine.specs.Writers.{Contents, Failures, NoneFailed, OneFailed}
-use Rattle.m4_engine.specs.Expands.{Broken}
+use Rattle.m4_engine.specs.Writers.{Contents, Failures, NoneFailed, OneFailed, Broken}
 use Rattle.m4_engine.specs.File.{Opened, Unopened, Progress, file, after_source, cannot_open}
 use Rattle.m4_engine.specs.Wraps.{after_wraps}
 use Rattle.m4_engine.specs.Run.{limits_of, status_of, closed_output, result_of}

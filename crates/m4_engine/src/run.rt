@@ -5,8 +5,7 @@ ghost use Rattle.std.specs.Prelude.{◌≡◌, ◌||◌, Bool, false, [], None, 
 ghost use Rattle.m4_engine.specs.File.{Source as Said, after_source, after_sources};
 ghost use Rattle.m4_engine.specs.Run.{run as defined, status_of};
 ghost use Rattle.m4_engine.specs.Expansion.{Ends};
-ghost use Rattle.m4_engine.specs.Writers.{both};
-ghost use Rattle.m4_engine.specs.Expands.{FailsBy};
+ghost use Rattle.m4_engine.specs.Writers.{both, FailsBy};
 ghost use Rattle.m4_engine.specs.Told.{StandFor, StandsFor, ReadersFailBy, any_unopened, is_unopened, are_taken, is_taken};
 ghost use Rattle.m4_engine.specs.Session.{IsOpen, IsLeft, GoesTo, WriteFails, SourceFails, SourcesFail, progress_of, status_at};
 ghost use Rattle.m4_engine.specs.WholeRun.{RunGives, result_behind, ending_by};

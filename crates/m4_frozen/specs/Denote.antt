@@ -1,5 +1,4 @@
--- Denote: what a list of directives stands for: the state that loading them gives, and the text that
--- is issued then.
+-- Denote: what a list of directives stands for: a state, and the text that is issued first.
 -- Believed. Its law: `FreezeLoads` (the canonical directives of a state denote it).
 -- Manual: "Frozen file format". Words: with_directive, issued_by, denote.
 -- own: the text of a `D` is added to its diversion; that of number 0 is issued, that of a negative

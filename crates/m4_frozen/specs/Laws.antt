@@ -1,6 +1,6 @@
--- What holds of the definitions alone: the grammar and the table of faults decide each file, and
--- the canonical text of a state loads as that state.
+-- Laws: what holds of the definitions alone: each file is decided, and canonical text loads as its state.
 -- Believed as statements; the functions of the module `laws` carry their proofs.
+-- The law `TiesReaderSteps` speaks of `ReaderSteps`, which no believed statement rests on.
 -- Words: OneReading, OneAnswer, TiesReaderSteps, FreezeLoads, CanonAgain.
 use Rattle.std.specs.Prelude.{◌≡◌, ◌↔◌, ℕ, List, [], ◌⊎◌, Ok, Err}
 use Rattle.m4_state.specs.State.{State, IsState, IsSized}

@@ -1,7 +1,7 @@
 -- The table of builtins: what each is called, and how it may be called.
 -- Believed. Its lemma `builtin_named-name_of`: each builtin is found by its own name.
 -- Manual: "Builtins", "Macro invocation". Words: table, name_of, needs_args, takes_tokens, least_of,
--- most_of, builtin_named. A line a builtin in each column; the code reads these very columns.
+-- most_of, builtin_named. A line a builtin in each column; the code has columns of its own, and its clauses say that they are these.
 use Rattle.std.specs.Prelude.{ℕ, Bool, true, false, List, [], ◌∷◌, Option, Some, None, find, codes}
 use Rattle.std.specs.Str.{bytes_eq}
 use Rattle.m4_state.specs.declared.builtin.Builtin.{Builtin}

@@ -4,8 +4,8 @@
 ghost use Rattle.std.specs.Prelude.{◌≡◌, ◌<◌, [], length, OnOk, OnErr};
 ghost use Rattle.m4_state.specs.Device.{with_bytes};
 ghost use Rattle.m4_engine.specs.Engine.{IsReady, handed_on};
-ghost use Rattle.m4_engine.specs.Writers.{both};
-ghost use Rattle.m4_engine.specs.Expands.{Expands, FailsBy, FailsOnce, HandsOn, HandsOnSome, IsIdle, at_rest};
+ghost use Rattle.m4_engine.specs.Writers.{both, FailsBy, FailsOnce};
+ghost use Rattle.m4_engine.specs.Expands.{Expands, HandsOn, HandsOnSome, IsIdle, at_rest};
 
 use crate::ending::Cause;
 use crate::machine::Machine;
