@@ -8,6 +8,8 @@
 #[cfg(test)]
 mod devices;
 #[cfg(test)]
+mod frozen;
+#[cfg(test)]
 mod given;
 #[cfg(test)]
 mod report;
