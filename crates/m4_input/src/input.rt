@@ -312,6 +312,3 @@ impl Input {
         }
     }
 }
-
-#[cfg(test)]
-mod tests;

@@ -12,6 +12,8 @@ mod frozen;
 #[cfg(test)]
 mod given;
 #[cfg(test)]
+mod input;
+#[cfg(test)]
 mod report;
 #[cfg(test)]
 mod shows;
