@@ -204,6 +204,3 @@ impl Head {
         }
     }
 }
-
-#[cfg(test)]
-mod tests;

@@ -6,6 +6,8 @@
 #![tactic(auto)]
 
 #[cfg(test)]
+mod builtins;
+#[cfg(test)]
 mod devices;
 #[cfg(test)]
 mod frozen;
