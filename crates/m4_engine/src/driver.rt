@@ -108,6 +108,3 @@ impl Machine {
         self.messages.clear();
     }
 }
-
-#[cfg(test)]
-mod tests;

@@ -155,6 +155,3 @@ fn read_sources<R: ByteSource, O: ByteSink, M: ByteSink>(
     }
     Ok(())
 }
-
-#[cfg(test)]
-mod tests;

@@ -211,6 +211,3 @@ fn issue<O: ByteSink>(state: &mut State, out: &mut O) -> Result<(), DeviceFault>
     }
     Ok(())
 }
-
-#[cfg(test)]
-mod tests;
