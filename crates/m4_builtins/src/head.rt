@@ -203,6 +203,3 @@ impl Head {
         }
     }
 }
-
-#[cfg(test)]
-mod tests;

@@ -16,5 +16,3 @@ pub mod messages;
 pub mod place;
 mod rows;
 pub mod substitute;
-#[cfg(test)]
-mod tests;

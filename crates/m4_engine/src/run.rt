@@ -159,6 +159,3 @@ fn read_sources<R: ByteSource, O: ByteSink, M: ByteSink>(
     }
     Ok(())
 }
-
-#[cfg(test)]
-mod tests;

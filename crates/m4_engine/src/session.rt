@@ -201,6 +201,3 @@ impl Session {
         self.machine.has_saved()
     }
 }
-
-#[cfg(test)]
-mod tests;

@@ -19,7 +19,5 @@ mod number;
 mod reader;
 pub mod reading;
 mod strings;
-#[cfg(test)]
-mod tests;
 mod window;
 pub mod writer;

@@ -28,6 +28,3 @@ impl<'a> Delims<'a> {
         }
     }
 }
-
-#[cfg(test)]
-mod tests;

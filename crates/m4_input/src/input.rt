@@ -314,6 +314,3 @@ impl Input {
         }
     }
 }
-
-#[cfg(test)]
-mod tests;

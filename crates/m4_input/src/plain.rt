@@ -157,6 +157,3 @@ fn may_begin(first: u8, pair: &(&[u8], &[u8])) -> bool
         None => false,
     }
 }
-
-#[cfg(test)]
-mod tests;

@@ -17,6 +17,4 @@ pub mod memory;
 pub mod standard;
 pub mod state;
 mod table;
-#[cfg(test)]
-mod tests;
 pub mod transfer;

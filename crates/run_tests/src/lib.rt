@@ -1,7 +1,9 @@
-//! Tests of what the upper crates make public: each module is the tests of one of them.
+//! Rows by hand on the upper crates: whole runs, and what the program's library does with a command line.
 //!
-//! Expected values come from the manual, or were worked out by hand from the pages in docs/.
+//! The expected values were worked out by hand from the manual of GNU M4 and from the pages in docs/.
 #![tactic(auto)]
 
+#[cfg(test)]
+mod runs;
 #[cfg(test)]
 mod tool;

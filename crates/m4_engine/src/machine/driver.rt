@@ -110,6 +110,3 @@ impl Machine {
         self.messages.clear();
     }
 }
-
-#[cfg(test)]
-mod tests;

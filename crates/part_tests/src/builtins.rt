@@ -1,0 +1,95 @@
+//! Calls: what a head keeps of them, what a text gives with its arguments put in, what each builtin
+//! does, and the lines that are told.
+//! Manual: "Macro invocation", "Arguments to macros", and the chapters of the builtins.
+
+ghost use Rattle.std.specs.Prelude.{IfOk};
+ghost use Rattle.std.specs.List.{AllByRecursion};
+ghost use Rattle.m4_builtins.specs.Args.{IsArg};
+
+mod calls;
+mod heads;
+mod messages;
+mod substitutions;
+
+use crate::given::{Given, made};
+use crate::report::Report;
+use crate::shows::shows;
+use m4_builtins::args::{Arg, ArgList, Args};
+use m4_builtins::place::Place;
+use m4_state::bytes::Bytes;
+use std::alloc::{AllocError, Global};
+
+// An argument of a row.
+#[derive(Clone, Copy)]
+enum Argument {
+    // A text.
+    Text(&'static [u8]),
+    // A definition.
+    Definition(Given),
+}
+
+// The argument that a row gives.
+fn made_argument(alloc: Global, given: Argument) -> Result<Arg, AllocError>
+    ensures { IfOk result IsArg }
+{
+    match given {
+        Argument::Text(text) => Ok(Arg::Text(Bytes::from_slice(alloc, text)?)),
+        Argument::Definition(given) => Ok(Arg::Definition(made(alloc, given)?)),
+    }
+}
+
+// A call of a name with these arguments.
+fn call_of(alloc: Global, name: &[u8], given: &[Argument]) -> Result<Args, AllocError>
+    ensures { IfOk result (λ a. AllByRecursion IsArg a.list) }
+{
+    let mut items = Vec::new(alloc);
+    for one in given {
+        items.push(made_argument(alloc, *one)?)?;
+    }
+    Ok(Args {
+        name: Bytes::from_slice(alloc, name)?,
+        list: ArgList::from(items),
+    })
+}
+
+// A call of a name with these texts.
+fn text_call_of(alloc: Global, name: &[u8], texts: &[&[u8]]) -> Result<Args, AllocError>
+    ensures { IfOk result (λ a. AllByRecursion IsArg a.list) }
+{
+    let mut items = Vec::new(alloc);
+    for text in texts {
+        items.push(Arg::Text(Bytes::from_slice(alloc, text)?))?;
+    }
+    Ok(Args {
+        name: Bytes::from_slice(alloc, name)?,
+        list: ArgList::from(items),
+    })
+}
+
+// A line of a file.
+fn place_of(alloc: Global, file: &[u8], line: u64) -> Result<Place, AllocError> {
+    Ok(Place {
+        file: Bytes::from_slice(alloc, file)?,
+        line,
+    })
+}
+
+// The arguments of a call, as they come back.
+fn arguments(alloc: Global) -> Result<Vec<u8>, AllocError> {
+    let mut report = Report::new(alloc);
+    let given = [Argument::Text(b"one"), Argument::Text(b"two")];
+    let args = call_of(alloc, b"f", &given)?;
+    for arg in args.list.as_slice() {
+        match arg {
+            Arg::Text(text) => report.add(text.as_slice()),
+            Arg::Definition(_) => report.add(b"a definition"),
+        }
+        report.add(b"; ");
+    }
+    report.text()
+}
+
+#[test]
+fn arguments_in_their_order(rt: HostRuntime) {
+    shows(&rt, "two texts", b"one; two; ", arguments(rt.alloc()));
+}

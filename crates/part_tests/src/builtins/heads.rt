@@ -1,0 +1,132 @@
+//! What a head keeps of a call: its name, its definition and its place. Manual: "Macro invocation".
+
+use crate::given::{Given, made, told};
+use crate::report::Report;
+use crate::shows::shows;
+use m4_builtins::args::{Arg, ArgList};
+use m4_builtins::head::Head;
+use m4_state::bytes::Bytes;
+use std::alloc::{AllocError, Global};
+
+// A row's name, a call's name, its definition, its file and its line, and what a head tells of them:
+// name, file and line by themselves, file and line as a place, whether it needs a list, its text, if
+// it is one, and its definition.
+type Row = (
+    &'static str,
+    &'static [u8],
+    Given,
+    (&'static [u8], u64),
+    &'static [u8],
+);
+
+const ROWS: &[Row] = &[
+    (
+        "a text",
+        b"wrap",
+        Given::Text(b"<$1>\x00"),
+        (b"a.m4", 12),
+        b"wrap a.m4:12 a.m4:12, text <$1>\x00, text <$1>\x00",
+    ),
+    (
+        "a builtin that needs a list, at the greatest line",
+        b"let",
+        Given::Named(b"define"),
+        (b"dir/b.m4", 18446744073709551615),
+        b"let dir/b.m4:18446744073709551615 dir/b.m4:18446744073709551615, needs a list, builtin define",
+    ),
+    (
+        "a builtin that needs none",
+        b"dnl",
+        Given::Named(b"dnl"),
+        (b"dir/b.m4", 1),
+        b"dnl dir/b.m4:1 dir/b.m4:1, builtin dnl",
+    ),
+    (
+        "a placeholder",
+        b"printf",
+        Given::Named(b"format"),
+        (b"c.m4", 3),
+        b"printf c.m4:3 c.m4:3, placeholder format",
+    ),
+    (
+        "nothing at all",
+        b"",
+        Given::Text(b""),
+        (b"", 0),
+        b" :0 :0, text , text ",
+    ),
+    (
+        "a name alone",
+        b"x",
+        Given::Text(b""),
+        (b"", 0),
+        b"x :0 :0, text , text ",
+    ),
+    (
+        "a file alone",
+        b"",
+        Given::Text(b""),
+        (b"a.m4", 0),
+        b" a.m4:0 a.m4:0, text , text ",
+    ),
+];
+
+// Adds the name and the place.
+fn tell_place(head: &Head, report: &mut Report) {
+    report.add(head.name());
+    report.add(b" ");
+    report.add(head.file());
+    report.add(b":");
+    report.number(head.line() as i128);
+    match head.place() {
+        Ok(place) => {
+            report.add(b" ");
+            report.add(place.file.as_slice());
+            report.add(b":");
+            report.number(place.line as i128);
+        }
+        Err(AllocError) => report.refuse(),
+    }
+}
+
+// Adds what it says of its definition.
+fn tell_definition(head: &Head, report: &mut Report) {
+    if head.needs_list() {
+        report.add(b", needs a list");
+    }
+    if let Some(text) = head.text() {
+        report.add(b", text ");
+        report.add(text);
+    }
+    match head.definition() {
+        Ok(definition) => {
+            let (kind, text) = told(&definition);
+            report.add(b", ");
+            report.add(kind);
+            report.add(text);
+        }
+        Err(AllocError) => report.refuse(),
+    }
+}
+
+// What a head tells.
+fn kept(
+    alloc: Global,
+    name: &[u8],
+    given: Given,
+    place: (&[u8], u64),
+) -> Result<Vec<u8>, AllocError> {
+    let mut report = Report::new(alloc);
+    let definition = made(alloc, given)?;
+    let head = Head::new(alloc, name, &definition, place.0, place.1)?;
+    tell_place(&head, &mut report);
+    tell_definition(&head, &mut report);
+    report.text()
+}
+
+#[test]
+fn heads_keep_what_they_were_made_of(rt: HostRuntime) {
+    for &(row, name, given, place, want) in ROWS {
+        shows(&rt, row, want, kept(rt.alloc(), name, given, place));
+    }
+}

@@ -1,0 +1,104 @@
+//! What stands behind a dollar. Manual: "Arguments to macros", "Pseudo arguments".
+
+use super::{Argument, call_of, text_call_of};
+use crate::given::Given;
+use crate::report::joined;
+use crate::shows::shows;
+use m4_builtins::args::Args;
+use m4_builtins::substitute::substitute;
+use std::alloc::{AllocError, Global};
+
+// A row's name, a text, the arguments, and what the text gives under the name `f`.
+const ROWS: &[(&str, &[u8], &[&[u8]], &[u8])] = &[
+    ("an empty text", b"", &[b"a"], b""),
+    (
+        "text with no dollar",
+        b"plain # text\x00\n",
+        &[b"a"],
+        b"plain # text\x00\n",
+    ),
+    ("an argument twice", b"$1$1", &[b"a"], b"aa"),
+    ("an argument that is missing", b"<$2>", &[b"a"], b"<>"),
+    (
+        "how many, all of them, and a letter behind a dollar",
+        b"$#|$*|$2$11|$x",
+        &[b"a", b"b", b""],
+        b"3|a,b,|b|$x",
+    ),
+    ("the name", b"$0($1)", &[b"a"], b"f(a)"),
+    (
+        "all of them in quotes",
+        b"$@",
+        &[b"a", b"", b"$1"],
+        b"`a',`',`$1'",
+    ),
+    ("no arguments", b"$#$*$@", &[], b"0"),
+    ("a dollar behind a dollar", b"$$1$", &[b"a"], b"$a$"),
+    ("a dollar at the end", b"end$", &[b"a"], b"end$"),
+    ("a number with a zero in front", b"$01", &[b"a"], b"a"),
+    (
+        "the tenth argument",
+        b"$10",
+        &[b"1", b"2", b"3", b"4", b"5", b"6", b"7", b"8", b"9", b"x"],
+        b"x",
+    ),
+    ("2^64", b"$18446744073709551616!", &[b"a"], b"!"),
+    ("2^64 + 1", b"$18446744073709551617!", &[b"a"], b"!"),
+];
+
+// What a text gives.
+fn given(
+    alloc: Global,
+    text: &[u8],
+    args: &Args,
+    quotes: (&[u8], &[u8]),
+) -> Result<Vec<u8>, AllocError> {
+    match substitute(alloc, text, args, quotes) {
+        Ok(got) => joined(alloc, &[got.as_slice()]),
+        Err(_refused) => Err(AllocError),
+    }
+}
+
+// What a text gives with texts.
+fn given_texts(
+    alloc: Global,
+    text: &[u8],
+    texts: &[&[u8]],
+    quotes: (&[u8], &[u8]),
+) -> Result<Vec<u8>, AllocError> {
+    given(alloc, text, &text_call_of(alloc, b"f", texts)?, quotes)
+}
+
+#[test]
+fn what_the_dollars_stand_for(rt: HostRuntime) {
+    for &(name, text, texts, want) in ROWS {
+        let got = given_texts(rt.alloc(), text, texts, (b"`", b"'"));
+        shows(&rt, name, want, got);
+    }
+}
+
+// The quotes, and what `$@` gives with two arguments.
+const QUOTES: &[(&str, (&[u8], &[u8]), &[u8])] = &[
+    ("quotes of two bytes", (b"[[", b"]]"), b"[[a]],[[b]]"),
+    ("no quotes", (b"", b""), b"a,b"),
+];
+
+#[test]
+fn quotes_by_the_current_quotes(rt: HostRuntime) {
+    for &(name, quotes, want) in QUOTES {
+        let got = given_texts(rt.alloc(), b"$@", &[b"a", b"b"], quotes);
+        shows(&rt, name, want, got);
+    }
+}
+
+// What a text gives with a definition.
+fn given_a_definition(alloc: Global) -> Result<Vec<u8>, AllocError> {
+    let list = [Argument::Definition(Given::Named(b"dnl"))];
+    let args = call_of(alloc, b"f", &list)?;
+    given(alloc, b"<$1>$#", &args, (b"`", b"'"))
+}
+
+#[test]
+fn a_definition_gives_no_text_but_it_counts(rt: HostRuntime) {
+    shows(&rt, "a builtin", b"<>1", given_a_definition(rt.alloc()));
+}

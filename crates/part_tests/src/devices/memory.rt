@@ -1,0 +1,184 @@
+//! A reader and a writer over memory, by however many bytes they give or take at a time.
+
+use crate::report::{Report, joined};
+use crate::shows::{agrees, shows};
+use m4_state::device::{ByteSink, ByteSource, DeviceFault};
+use m4_state::memory::{MemSink, MemSource};
+use m4_state::transfer::{put_all, put_pieces, take_all};
+use std::alloc::{AllocError, Global};
+use std::test::Fail;
+
+const BYTES: &[u8] = b"some bytes, of which \x00 and \xff are two";
+
+// How many bytes a device gives or takes at most.
+const SIZES: [usize; 4] = [1, 2, 7, 4096];
+
+// A row's name, whether the reader fails behind its last byte, and what is taken of it.
+const READERS: &[(&str, bool, &[u8])] = &[
+    (
+        "a reader that ends",
+        false,
+        b"some bytes, of which \x00 and \xff are two; ended behind 36",
+    ),
+    (
+        "a reader that fails",
+        true,
+        b"some bytes, of which \x00 and \xff are two; failed behind 36",
+    ),
+];
+
+// All that is taken of a reader over the bytes, and how it ends.
+fn taken_of(alloc: Global, at_most: usize, fails: bool) -> Result<Vec<u8>, AllocError> {
+    let mut report = Report::new(alloc);
+    let mut reader = MemSource::new(BYTES, at_most.max(1), fails);
+    let taken = take_all(alloc, &mut reader)?;
+    report.add(&taken.bytes);
+    report.add(if taken.failed {
+        b"; failed behind "
+    } else {
+        b"; ended behind "
+    });
+    report.number(reader.taken() as i128);
+    report.text()
+}
+
+#[test]
+fn all_that_is_given_is_taken(rt: HostRuntime) {
+    for &(name, fails, want) in READERS {
+        for at_most in SIZES {
+            shows(&rt, name, want, taken_of(rt.alloc(), at_most, fails));
+        }
+    }
+}
+
+// All that is taken of a long text.
+fn taken_of_a_long_text(alloc: Global, text: &[u8]) -> Result<Vec<u8>, AllocError> {
+    let mut reader = MemSource::new(text, 4096, false);
+    Ok(take_all(alloc, &mut reader)?.bytes)
+}
+
+#[test]
+fn a_long_text_is_taken(rt: HostRuntime) -> Result<(), Fail> {
+    let text = vec![in rt.alloc(); b'x'; 1000000]?;
+    let got = taken_of_a_long_text(rt.alloc(), &text);
+    shows(&rt, "a text of 1,000,000 bytes", &text, got);
+    Ok(())
+}
+
+// The answers of a reader to takes of four bytes.
+fn takes_of(alloc: Global, bytes: &[u8], fails: bool) -> Result<Vec<u8>, AllocError> {
+    let mut report = Report::new(alloc);
+    let mut block = [0u8; 4];
+    let mut reader = MemSource::new(bytes, 4, fails);
+    for _ in 0..3 {
+        match reader.take(&mut block) {
+            Ok(n) => report.number(n as i128),
+            Err(DeviceFault) => report.add(b"fault"),
+        }
+        report.add(b" ");
+    }
+    report.text()
+}
+
+#[test]
+fn readers_end_and_fail_again(rt: HostRuntime) {
+    shows(
+        &rt,
+        "at the end",
+        b"2 0 0 ",
+        takes_of(rt.alloc(), b"ab", false),
+    );
+    shows(
+        &rt,
+        "amid",
+        b"2 fault fault ",
+        takes_of(rt.alloc(), b"ab", true),
+    );
+    shows(
+        &rt,
+        "at once",
+        b"fault fault fault ",
+        takes_of(rt.alloc(), b"", true),
+    );
+}
+
+// What a writer holds behind an answer.
+fn held(
+    alloc: Global,
+    answer: Result<(), DeviceFault>,
+    writer: &MemSink,
+) -> Result<Vec<u8>, AllocError> {
+    let end: &[u8] = match answer {
+        Ok(()) => b"; put",
+        Err(DeviceFault) => b"; fault",
+    };
+    joined(alloc, &[writer.written(), end])
+}
+
+// What comes of putting the bytes into a writer with so much room.
+fn put_into(alloc: Global, room: usize, at_most: usize) -> Result<Vec<u8>, AllocError> {
+    let mut writer = MemSink::new(alloc, room, at_most.max(1))?;
+    let answer = put_all(&mut writer, BYTES);
+    held(alloc, answer, &writer)
+}
+
+#[test]
+fn a_beginning_is_put_where_the_room_ends(rt: HostRuntime) {
+    for room in 0..BYTES.len() {
+        for at_most in SIZES {
+            let want = joined(rt.alloc(), &[BYTES.split_at(room).0, b"; fault"]);
+            agrees(
+                &rt,
+                "too little room",
+                want,
+                put_into(rt.alloc(), room, at_most),
+            );
+        }
+    }
+}
+
+#[test]
+fn all_bytes_are_put_where_there_is_room(rt: HostRuntime) {
+    for at_most in SIZES {
+        let want = joined(rt.alloc(), &[BYTES, b"; put"]);
+        let got = put_into(rt.alloc(), BYTES.len(), at_most);
+        agrees(&rt, "room for all", want, got);
+    }
+}
+
+// What comes of putting pieces into a writer with room for nine bytes.
+fn pieces_put(alloc: Global) -> Result<Vec<u8>, AllocError> {
+    let mut writer = MemSink::new(alloc, 9, 2)?;
+    let answer = put_pieces(&mut writer, &[b"one", b"", b"two", b"three"]);
+    held(alloc, answer, &writer)
+}
+
+// The answers of a writer with room for two bytes, and what it holds.
+fn puts_of(alloc: Global) -> Result<Vec<u8>, AllocError> {
+    let mut report = Report::new(alloc);
+    let mut writer = MemSink::new(alloc, 2, 4)?;
+    for bytes in [b"abc".as_slice(), b"c"] {
+        match writer.put(bytes) {
+            Ok(n) => report.number(n as i128),
+            Err(DeviceFault) => report.add(b" fault "),
+        }
+    }
+    report.add(writer.written());
+    report.text()
+}
+
+#[test]
+fn pieces_and_a_full_writer(rt: HostRuntime) {
+    shows(
+        &rt,
+        "pieces in their order",
+        b"onetwothr; fault",
+        pieces_put(rt.alloc()),
+    );
+    shows(
+        &rt,
+        "nothing is taken once it is full",
+        b"2 fault ab",
+        puts_of(rt.alloc()),
+    );
+}

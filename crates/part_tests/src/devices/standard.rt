@@ -1,0 +1,191 @@
+//! Devices over readers and writers of std that give or take what a script says.
+
+use crate::report::Report;
+use crate::shows::shows;
+use m4_state::device::{ByteSink, DeviceFault};
+use m4_state::standard::{StdSink, StdSource};
+use m4_state::transfer::{put_all, take_all};
+use std::alloc::{AllocError, Global};
+use std::io;
+use std::io::{Read, Write};
+
+// What a call of a reader or a writer comes to.
+#[derive(Clone, Copy)]
+enum Answer {
+    // Gives these bytes.
+    Gives(&'static [u8]),
+    // Takes so many bytes at most.
+    Takes(usize),
+    // Fails.
+    Fails,
+}
+
+// A reader and writer that answers by a script, and behind it as by the script's last word.
+#[derive(Drop)]
+struct Scripted {
+    script: &'static [Answer],
+    taken: Vec<u8>,
+}
+
+impl Scripted {
+    // The next answer; the last one stays.
+    fn next(&mut self) -> Answer {
+        match self.script {
+            [] => Answer::Fails,
+            [last] => *last,
+            [first, rest @ ..] => {
+                self.script = rest;
+                *first
+            }
+        }
+    }
+}
+
+// An error of a device.
+fn broken() -> io::Error {
+    io::Error::from(io::ErrorKind::BrokenPipe)
+}
+
+impl Read for Scripted {
+    fn read(&mut self, buf: &mut [u8]) -> io::Result<usize> {
+        match self.next() {
+            Answer::Gives(bytes) => {
+                let n = bytes.len().min(buf.len());
+                buf[..n].copy_from_slice(&bytes[..n]);
+                Ok(n)
+            }
+            Answer::Takes(_) => Ok(0),
+            Answer::Fails => Err(broken()),
+        }
+    }
+}
+
+impl Write for Scripted {
+    fn write(&mut self, buf: &[u8]) -> io::Result<usize> {
+        match self.next() {
+            Answer::Takes(most) => {
+                let n = most.min(buf.len());
+                self.taken.extend_from_slice(&buf[..n])?;
+                Ok(n)
+            }
+            Answer::Gives(_) => Ok(0),
+            Answer::Fails => Err(broken()),
+        }
+    }
+
+    fn flush(&mut self) -> io::Result<()> {
+        Ok(())
+    }
+}
+
+// A row's name, what a reader answers, and what is taken of it.
+const READERS: &[(&str, &[Answer], &[u8])] = &[
+    (
+        "a reader that ends",
+        &[
+            Answer::Gives(b"\x00ab"),
+            Answer::Gives(b"c\xff"),
+            Answer::Gives(b""),
+        ],
+        b"\x00abc\xff; ended",
+    ),
+    (
+        "a reader that fails in mid-stream",
+        &[
+            Answer::Gives(b"ab"),
+            Answer::Gives(b"cde"),
+            Answer::Fails,
+            Answer::Gives(b"fgh"),
+            Answer::Gives(b""),
+        ],
+        b"abcde; failed",
+    ),
+    ("a reader that fails at once", &[Answer::Fails], b"; failed"),
+    (
+        "a reader that gives nothing",
+        &[Answer::Gives(b"")],
+        b"; ended",
+    ),
+];
+
+// All that is taken of a reader, and how it ends.
+fn taken_of(alloc: Global, script: &'static [Answer]) -> Result<Vec<u8>, AllocError> {
+    let mut report = Report::new(alloc);
+    let mut reader = StdSource::new(Scripted {
+        script,
+        taken: Vec::new(alloc),
+    });
+    let taken = take_all(alloc, &mut reader)?;
+    report.add(&taken.bytes);
+    report.add(if taken.failed {
+        b"; failed"
+    } else {
+        b"; ended"
+    });
+    report.text()
+}
+
+#[test]
+fn all_is_taken_of_a_reader(rt: HostRuntime) {
+    for &(name, script, want) in READERS {
+        shows(&rt, name, want, taken_of(rt.alloc(), script));
+    }
+}
+
+// A row's name, what a writer answers, and what comes of putting `abcdefgh` whole into it, and then
+// `ij` once: what arrived, whether the first was put, and the answer to the second.
+const WRITERS: &[(&str, &[Answer], &[u8])] = &[
+    (
+        "a writer that takes all",
+        &[Answer::Takes(4096)],
+        b"abcdefghij; put; 2",
+    ),
+    (
+        "a writer that takes 3 bytes at a time",
+        &[Answer::Takes(3)],
+        b"abcdefghij; put; 2",
+    ),
+    (
+        "a writer that answers 0",
+        &[Answer::Takes(3), Answer::Takes(0)],
+        b"abc; fault; fault",
+    ),
+    (
+        "a writer that fails",
+        &[Answer::Takes(3), Answer::Fails],
+        b"abc; fault; fault",
+    ),
+    (
+        "a writer that fails once",
+        &[Answer::Takes(3), Answer::Fails, Answer::Takes(1)],
+        b"abci; fault; 1",
+    ),
+];
+
+// What comes of putting bytes into a writer.
+fn put_into(alloc: Global, script: &'static [Answer]) -> Result<Vec<u8>, AllocError> {
+    let mut report = Report::new(alloc);
+    let mut writer = StdSink::new(Scripted {
+        script,
+        taken: Vec::new(alloc),
+    });
+    let first = put_all(&mut writer, b"abcdefgh");
+    let second = writer.put(b"ij");
+    report.add(&writer.into_inner().taken);
+    match first {
+        Ok(()) => report.add(b"; put"),
+        Err(DeviceFault) => report.add(b"; fault"),
+    }
+    match second {
+        Ok(n) => report.counted(b"; ", n),
+        Err(DeviceFault) => report.add(b"; fault"),
+    }
+    report.text()
+}
+
+#[test]
+fn what_a_writer_takes_is_put_once(rt: HostRuntime) {
+    for &(name, script, want) in WRITERS {
+        shows(&rt, name, want, put_into(rt.alloc(), script));
+    }
+}

@@ -1,0 +1,216 @@
+//! Files that are read and written again, in their one canonical text.
+
+use super::{BLOCK, BLOCKS, HEAD, LAST, ROOM, behind_a_comment, read, tell, tell_written};
+use crate::report::{Report, joined};
+use crate::shows::agrees;
+use m4_frozen::loading::Loaded;
+use m4_frozen::writer::write_frozen;
+use m4_state::memory::MemSink;
+use m4_state::state::State;
+use std::alloc::{AllocError, Global};
+use std::test::Fail;
+
+// A row's name, a file, what of its canonical text stands between the first two lines and the last
+// one, and the text that is issued.
+type Row = (&'static str, &'static [u8], &'static [u8], &'static [u8]);
+
+const ROWS: &[Row] = &[
+    ("no directives", b"V1\n", b"", b""),
+    (
+        "names in byte order, the oldest definition first",
+        b"V1\nT1,1\nbx\nT1,1\nay\nT1,1\nbz\n",
+        b"T1,1\nay\nT1,1\nbx\nT1,1\nbz\n",
+        b"",
+    ),
+    (
+        "quotes with no end, and no comments",
+        b"V1\nQ1,0\n[\nC0,1\n#\n",
+        b"Q1,1\n['\nC0,0\n\n",
+        b"",
+    ),
+    (
+        "a text with a newline and a number sign",
+        b"V1\nT2,3\na\n# b\n",
+        b"T2,3\na\n# b\n",
+        b"",
+    ),
+    (
+        "quotes that are set and set back, and a comment with no newline",
+        b"V1\nQ1,1\n[]\nQ1,1\n`'\n# c",
+        b"",
+        b"",
+    ),
+    (
+        "blanks and zeros in a length",
+        b"V1\nT1 , 01\nab\n",
+        b"T1,1\nab\n",
+        b"",
+    ),
+    (
+        "comments that are the usual ones, empty lines, a builtin and a placeholder",
+        b"# any\nV1\nC1,1\n#\n\n\n\nF3,3\ndnldnl\nF6,6\nformatformat\n# End of frozen state file\n",
+        b"F3,3\ndnldnl\nF6,6\nformatformat\n",
+        b"",
+    ),
+    (
+        "diversions, and text that is issued",
+        b"V1\nD0,2\nab\nD0,1\nc\nD2,1\nx\nD2,1\ny\nD-1,2\nzz\n",
+        b"D2,2\nxy\nD-1,0\n\n",
+        b"abc",
+    ),
+    (
+        "a placeholder alone",
+        b"V1\nF6,6\nregexpregexp\n",
+        b"F6,6\nregexpregexp\n",
+        b"",
+    ),
+    (
+        "a builtin and a text, which comes first by its name",
+        b"V1\nF6,6\ndefinedefine\nT1,1\nab\n",
+        b"T1,1\nab\nF6,6\ndefinedefine\n",
+        b"",
+    ),
+    (
+        "diversions out of their order, of which the last is current",
+        b"V1\nD2,4\ntwo\n\nD1,4\none\n\nD2,0\n\n",
+        b"D1,4\none\n\nD2,4\ntwo\n\n",
+        b"",
+    ),
+    (
+        "text that is issued alone",
+        b"V1\nD0,3\nhi\n\n",
+        b"",
+        b"hi\n",
+    ),
+    (
+        "names and texts of the least and the greatest byte",
+        b"V1\nT2,2\n\x00\xff\xff\x00\nT1,0\n\xff\nT1,1\n\x00\x00\n",
+        b"T1,1\n\x00\x00\nT2,2\n\x00\xff\xff\x00\nT1,0\n\xff\n",
+        b"",
+    ),
+];
+
+// A canonical text that is written whole, with what stands between its first two lines and its last
+// one, and the text that is issued.
+fn canonical(alloc: Global, between: &[u8], issued: &[u8]) -> Result<Vec<u8>, AllocError> {
+    joined(alloc, &[HEAD, between, LAST, b"; written\n", issued])
+}
+
+// Adds what a writer takes of the canonical text, so many bytes at a time.
+fn write(state: &State, writer: &mut MemSink, report: &mut Report) {
+    let answer = write_frozen(state, writer);
+    tell_written(answer, writer, report);
+}
+
+// Adds what a file holds: its canonical text, and the text that is issued.
+fn write_loaded(loaded: &Loaded, writer: &mut MemSink, report: &mut Report) {
+    write(&loaded.state, writer, report);
+    report.add(loaded.issued.as_slice());
+}
+
+// A file's bytes written again, so many bytes at a time.
+fn again(alloc: Global, bytes: &[u8], block: usize) -> Result<Vec<u8>, AllocError> {
+    let mut report = Report::new(alloc);
+    let mut writer = MemSink::new(alloc, ROOM, block.max(1))?;
+    match read(alloc, bytes, block, false) {
+        Ok(loaded) => write_loaded(&loaded, &mut writer, &mut report),
+        Err(fault) => tell(alloc, fault, &mut report),
+    }
+    report.text()
+}
+
+#[test]
+fn files_are_frozen_again(rt: HostRuntime) {
+    for &(name, bytes, between, issued) in ROWS {
+        for block in BLOCKS {
+            let want = canonical(rt.alloc(), between, issued);
+            agrees(&rt, name, want, again(rt.alloc(), bytes, block));
+        }
+    }
+}
+
+// A file with one directive of each letter, and the canonical lines of what it holds.
+const EACH_LETTER: &[u8] =
+    b"# c\n\nV1\nQ1,1\n[]\nC0,0\n\nT2 , 03\na\n# b\nF3,3\ndnldnl\nD1,2\nzz\nD0,2\nhi\n# e";
+
+const EACH_CANONICAL: &[u8] = b"Q1,1\n[]\nC0,0\n\nT2,3\na\n# b\nF3,3\ndnldnl\nD1,2\nzz\nD0,0\n\n";
+
+// A file behind a comment that ends so many bytes before the first block does.
+fn again_later(alloc: Global, cut: usize) -> Result<Vec<u8>, AllocError> {
+    let file = behind_a_comment(alloc, BLOCK.saturating_sub(cut), EACH_LETTER)?;
+    again(alloc, &file, 4096)
+}
+
+#[test]
+fn a_block_ends_at_each_byte(rt: HostRuntime) {
+    for cut in 0..=EACH_LETTER.len() {
+        let want = canonical(rt.alloc(), EACH_CANONICAL, b"hi");
+        agrees(&rt, "each letter", want, again_later(rt.alloc(), cut));
+    }
+}
+
+// A file, and its canonical lines, which are the same.
+const FAILING: &[u8] = b"V1\nQ1,1\n[]\nC0,0\n\nT2,3\na\n# b\nF3,3\ndnldnl\nD2,2\nzz\nD-1,0\n\n";
+
+const FAILING_CANONICAL: &[u8] =
+    b"# m4 frozen state\nV1\nQ1,1\n[]\nC0,0\n\nT2,3\na\n# b\nF3,3\ndnldnl\nD2,2\nzz\nD-1,0\n\n# End of frozen state file\n";
+
+// What comes of writing a file's state twice into a writer that fails behind so many bytes.
+fn cut_short(alloc: Global, room: usize, block: usize) -> Result<Vec<u8>, AllocError> {
+    let mut report = Report::new(alloc);
+    let mut writer = MemSink::new(alloc, room, block.max(1))?;
+    match read(alloc, FAILING, 4096, false) {
+        Ok(loaded) => {
+            write(&loaded.state, &mut writer, &mut report);
+            write(&loaded.state, &mut writer, &mut report);
+        }
+        Err(fault) => tell(alloc, fault, &mut report),
+    }
+    report.text()
+}
+
+// What is told of that: twice the same beginning, and a fault.
+fn begun_twice(alloc: Global, beginning: &[u8]) -> Result<Vec<u8>, AllocError> {
+    let fault = b"; write fault\n";
+    joined(alloc, &[beginning, fault, beginning, fault])
+}
+
+#[test]
+fn a_writer_fails_behind_each_byte(rt: HostRuntime) {
+    for room in 0..FAILING_CANONICAL.len() {
+        for block in BLOCKS {
+            let want = begun_twice(rt.alloc(), FAILING_CANONICAL.split_at(room).0);
+            let got = cut_short(rt.alloc(), room, block);
+            agrees(&rt, "a writer that fails", want, got);
+        }
+    }
+}
+
+// A definition whose text has 1,000,000 bytes.
+fn long_definition(alloc: Global) -> Result<Vec<u8>, AllocError> {
+    let mut definition = Vec::from_slice(alloc, b"T1,1000000\na")?;
+    definition.resize(1_000_012, b'x')?;
+    definition.push(b'\n')?;
+    Ok(definition)
+}
+
+// A file written again with ample room for it.
+fn long_again(alloc: Global, file: &[u8]) -> Result<Vec<u8>, AllocError> {
+    let mut report = Report::new(alloc);
+    let mut writer = MemSink::new(alloc, file.len(), 4096)?;
+    match read(alloc, file, 4096, false) {
+        Ok(loaded) => write_loaded(&loaded, &mut writer, &mut report),
+        Err(fault) => tell(alloc, fault, &mut report),
+    }
+    report.text()
+}
+
+#[test]
+fn a_large_text_comes_back(rt: HostRuntime) -> Result<(), Fail> {
+    let definition = long_definition(rt.alloc())?;
+    let file = joined(rt.alloc(), &[HEAD, &definition, LAST])?;
+    let want = canonical(rt.alloc(), &definition, b"");
+    let got = long_again(rt.alloc(), &file);
+    agrees(&rt, "a text of 1,000,000 bytes", want, got);
+    Ok(())
+}

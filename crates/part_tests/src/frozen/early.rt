@@ -1,0 +1,122 @@
+//! Files that are refused early: with lengths that no memory has, and before the reader's end.
+
+use super::{BLOCK, BLOCKS, behind_a_comment, read, tell};
+use crate::report::Report;
+use crate::shows::shows;
+use m4_frozen::reading::read_frozen;
+use m4_state::memory::MemSource;
+use std::alloc::{AllocError, Global};
+
+// A row's name, a file that states a length of 2^64 - 1, and its fault: the file's end.
+const LENGTHS: &[(&str, &[u8], &[u8])] = &[
+    (
+        "a text's name",
+        b"V1\nT18446744073709551615,1\nab",
+        b"F9 PrematureEnd at 29",
+    ),
+    (
+        "a builtin's name",
+        b"V1\nF18446744073709551615,1\nab",
+        b"F9 PrematureEnd at 29",
+    ),
+    (
+        "the first of the quotes",
+        b"V1\nQ18446744073709551615,1\n[]",
+        b"F9 PrematureEnd at 29",
+    ),
+    (
+        "the second of the quotes",
+        b"V1\nQ1,18446744073709551615\n[]",
+        b"F9 PrematureEnd at 29",
+    ),
+    (
+        "both quotes",
+        b"V1\nQ18446744073709551615,18446744073709551615\n[]",
+        b"F9 PrematureEnd at 48",
+    ),
+    (
+        "the first of the comment delimiters",
+        b"V1\nC18446744073709551615,1\n#\n",
+        b"F9 PrematureEnd at 29",
+    ),
+    (
+        "the second of the comment delimiters",
+        b"V1\nC1,18446744073709551615\n#\n",
+        b"F9 PrematureEnd at 29",
+    ),
+    (
+        "both comment delimiters",
+        b"V1\nC18446744073709551615,18446744073709551615\n#\n",
+        b"F9 PrematureEnd at 48",
+    ),
+    (
+        "a diversion's text",
+        b"V1\nD1,18446744073709551615\nab",
+        b"F9 PrematureEnd at 29",
+    ),
+];
+
+// How reading ends.
+fn refused(alloc: Global, bytes: &[u8], block: usize) -> Result<Vec<u8>, AllocError> {
+    let mut report = Report::new(alloc);
+    match read(alloc, bytes, block, false) {
+        Ok(_loaded) => report.add(b"loaded"),
+        Err(fault) => tell(alloc, fault, &mut report),
+    }
+    report.text()
+}
+
+#[test]
+fn lengths_that_no_memory_has(rt: HostRuntime) {
+    for &(name, bytes, want) in LENGTHS {
+        for block in BLOCKS {
+            shows(&rt, name, want, refused(rt.alloc(), bytes, block));
+        }
+    }
+}
+
+// A row's name, how long a comment stands in front of `V1` and a wrong letter, and how a file of three
+// blocks that begins so ends.
+const BLOCKED: &[(&str, usize, &[u8])] = &[
+    (
+        "a fault at the front of the first block",
+        1,
+        b"F5 UnknownDirective at 4 within the first block",
+    ),
+    (
+        "a fault near the end of the first block",
+        32000,
+        b"F5 UnknownDirective at 32003 within the first block",
+    ),
+];
+
+// A file of three blocks with a wrong letter in the first one.
+fn three_blocks(alloc: Global, before: usize) -> Result<Vec<u8>, AllocError> {
+    let mut file = behind_a_comment(alloc, before, b"V1\nX\n")?;
+    file.resize(3 * BLOCK, b'#')?;
+    Ok(file)
+}
+
+// How reading such a file ends, and whether more than the first block was asked of the reader.
+fn refused_early(alloc: Global, before: usize) -> Result<Vec<u8>, AllocError> {
+    let mut report = Report::new(alloc);
+    let file = three_blocks(alloc, before)?;
+    let mut reader = MemSource::new(&file, 4096, false);
+    match read_frozen(alloc, &mut reader) {
+        Ok(_loaded) => report.add(b"loaded"),
+        Err(fault) => tell(alloc, fault, &mut report),
+    }
+    if reader.taken() <= BLOCK {
+        report.add(b" within the first block");
+    } else {
+        report.counted(b" after ", reader.taken());
+    }
+    report.text()
+}
+
+#[test]
+fn a_refused_file_is_not_read_to_its_end(rt: HostRuntime) {
+    for &(name, before, want) in BLOCKED {
+        shows(&rt, name, want, refused_early(rt.alloc(), before));
+    }
+}

@@ -1,0 +1,344 @@
+//! Files that are refused: each fault with the offset of its byte.
+
+use super::{BLOCK, BLOCKS, behind_a_comment, read, tell};
+use crate::report::{Report, printed};
+use crate::shows::{agrees, shows};
+use m4_frozen::fault::{FrozenFault, FrozenKind, WriteFault};
+use m4_frozen::reading::read_frozen;
+use m4_state::memory::MemSource;
+use std::alloc::{AllocError, Global};
+use std::process::Abort;
+
+// A row's name, what came, whether the reader failed behind it, and the fault with its offset.
+type Row = (&'static str, &'static [u8], bool, FrozenKind, usize);
+
+const ROWS: &[Row] = &[
+    ("an empty file", b"", false, FrozenKind::NoVersion, 0),
+    ("no version", b"T0,0\n\n", false, FrozenKind::NoVersion, 0),
+    (
+        "a newer version behind a comment and an empty line",
+        b"# c\n\nV2\n",
+        false,
+        FrozenKind::Newer,
+        6,
+    ),
+    (
+        "a newer version before a wrong byte",
+        b"V2x",
+        false,
+        FrozenKind::Newer,
+        1,
+    ),
+    (
+        "version 0 with no newline",
+        b"V0",
+        false,
+        FrozenKind::VersionZero,
+        1,
+    ),
+    (
+        "a second version",
+        b"V1\nV1\n",
+        false,
+        FrozenKind::SecondVersion,
+        3,
+    ),
+    (
+        "a letter that begins no directive",
+        b"V1\nX",
+        false,
+        FrozenKind::UnknownDirective,
+        3,
+    ),
+    (
+        "a line that is a blank",
+        b"V1\n \n",
+        false,
+        FrozenKind::UnknownDirective,
+        3,
+    ),
+    (
+        "a letter behind a diversion's text",
+        b"V1\nD0,3\nhi\n\nX\n",
+        false,
+        FrozenKind::UnknownDirective,
+        12,
+    ),
+    (
+        "a negative length",
+        b"V1\nT-1,0\n\n",
+        false,
+        FrozenKind::DigitExpected,
+        4,
+    ),
+    (
+        "a diversion's number above 2^31 - 1",
+        b"V1\nD2147483648,0\n\n",
+        false,
+        FrozenKind::NumberTooLarge,
+        4,
+    ),
+    (
+        "a diversion's number below -2^31",
+        b"V1\nD-2147483649,0\n\n",
+        false,
+        FrozenKind::NumberTooLarge,
+        4,
+    ),
+    (
+        "a length above 2^64 - 1",
+        b"V1\nT1,18446744073709551616\na",
+        false,
+        FrozenKind::NumberTooLarge,
+        6,
+    ),
+    (
+        "the greatest length, for a text behind a name",
+        b"V1\nT1,18446744073709551615\na",
+        false,
+        FrozenKind::PrematureEnd,
+        28,
+    ),
+    (
+        "the greatest length, for a text that begins",
+        b"V1\nT1,18446744073709551615\nabc",
+        false,
+        FrozenKind::PrematureEnd,
+        30,
+    ),
+    (
+        "a blank behind the version",
+        b"V1 \n",
+        false,
+        FrozenKind::SeparatorExpected,
+        2,
+    ),
+    (
+        "a letter behind the version",
+        b"V1x",
+        false,
+        FrozenKind::SeparatorExpected,
+        2,
+    ),
+    (
+        "a text longer than its length",
+        b"V1\nT1,1\nabc\n",
+        false,
+        FrozenKind::SeparatorExpected,
+        10,
+    ),
+    (
+        "the version alone",
+        b"V1",
+        false,
+        FrozenKind::PrematureEnd,
+        2,
+    ),
+    (
+        "failed behind a directive",
+        b"V1\nT1,1\nab\n",
+        true,
+        FrozenKind::Read,
+        11,
+    ),
+    ("failed in a length", b"V1\nT1", true, FrozenKind::Read, 5),
+    (
+        "failed behind the version",
+        b"V1",
+        true,
+        FrozenKind::Read,
+        2,
+    ),
+    ("failed behind version 0", b"V0", true, FrozenKind::Read, 2),
+    ("failed at once", b"", true, FrozenKind::Read, 0),
+    (
+        "version 0 before the failure",
+        b"V0\n",
+        true,
+        FrozenKind::VersionZero,
+        1,
+    ),
+    (
+        "a wrong letter before the failure",
+        b"V1\nX",
+        true,
+        FrozenKind::UnknownDirective,
+        3,
+    ),
+    (
+        "a newer version before the failure",
+        b"V2",
+        true,
+        FrozenKind::Newer,
+        1,
+    ),
+    (
+        "a length above 2^64 - 1 before the failure",
+        b"V1\nT18446744073709551616",
+        true,
+        FrozenKind::NumberTooLarge,
+        4,
+    ),
+    (
+        "a text longer than its length before the failure",
+        b"V1\nT1,1\nabc",
+        true,
+        FrozenKind::SeparatorExpected,
+        10,
+    ),
+];
+
+// A fault as text.
+fn told(alloc: Global, kind: FrozenKind, offset: usize) -> Result<Vec<u8>, AllocError> {
+    let mut report = Report::new(alloc);
+    let offset = offset as u64;
+    tell(alloc, FrozenFault { kind, offset }, &mut report);
+    report.text()
+}
+
+// How reading ends.
+fn refused(alloc: Global, bytes: &[u8], block: usize, fails: bool) -> Result<Vec<u8>, AllocError> {
+    let mut report = Report::new(alloc);
+    match read(alloc, bytes, block, fails) {
+        Ok(_loaded) => report.add(b"loaded"),
+        Err(fault) => tell(alloc, fault, &mut report),
+    }
+    report.text()
+}
+
+#[test]
+fn faults_are_placed(rt: HostRuntime) {
+    for &(name, bytes, fails, kind, offset) in ROWS {
+        for block in BLOCKS {
+            let want = told(rt.alloc(), kind, offset);
+            agrees(&rt, name, want, refused(rt.alloc(), bytes, block, fails));
+        }
+    }
+}
+
+// How reading ends of a row's bytes, where the first block ends so many bytes behind their start.
+fn refused_later(
+    alloc: Global,
+    bytes: &[u8],
+    cut: usize,
+    fails: bool,
+) -> Result<Vec<u8>, AllocError> {
+    let file = behind_a_comment(alloc, BLOCK.saturating_sub(cut), bytes)?;
+    refused(alloc, &file, 4096, fails)
+}
+
+// Compares how reading ends where the first block ends at each byte of these.
+fn compare_later(
+    alloc: Global,
+    rt: &impl Abort,
+    name: &str,
+    bytes: &[u8],
+    fails: bool,
+    fault: (FrozenKind, usize),
+) {
+    for cut in 0..=bytes.len() {
+        let offset = BLOCK.saturating_sub(cut).saturating_add(fault.1);
+        let want = told(alloc, fault.0, offset);
+        agrees(rt, name, want, refused_later(alloc, bytes, cut, fails));
+    }
+}
+
+#[test]
+fn faults_are_placed_in_later_blocks(rt: HostRuntime) {
+    for &(name, bytes, fails, kind, offset) in ROWS {
+        compare_later(rt.alloc(), &rt, name, bytes, fails, (kind, offset));
+    }
+}
+
+// Three lines of the version and of directives, and a comment: 3, 8, 9 and 4 bytes.
+const CUT: &[u8] = b"V1\nT1,1\nab\nD2,3\nx\ny\n# e\n";
+
+// What is told of a beginning of `CUT` of so many bytes.
+fn beginning(alloc: Global, len: usize) -> Result<Vec<u8>, AllocError> {
+    match len {
+        0 => told(alloc, FrozenKind::NoVersion, 0),
+        3 | 11 | 20..=24 => Vec::from_slice(alloc, b"loaded"),
+        _ => told(alloc, FrozenKind::PrematureEnd, len),
+    }
+}
+
+#[test]
+fn a_file_is_cut_at_each_byte(rt: HostRuntime) {
+    for len in 0..=CUT.len() {
+        for block in BLOCKS {
+            let got = refused(rt.alloc(), CUT.split_at(len).0, block, false);
+            agrees(&rt, "a file that is cut", beginning(rt.alloc(), len), got);
+        }
+    }
+}
+
+// How reading ends of a reader that fails, twice, and how many bytes it gave.
+fn failed_twice(alloc: Global, bytes: &[u8], block: usize) -> Result<Vec<u8>, AllocError> {
+    let mut report = Report::new(alloc);
+    let mut reader = MemSource::new(bytes, block.max(1), true);
+    for _ in 0..2 {
+        match read_frozen(alloc, &mut reader) {
+            Ok(_loaded) => report.add(b"loaded"),
+            Err(fault) => tell(alloc, fault, &mut report),
+        }
+        report.counted(b" of ", reader.taken());
+        report.add(b"\n");
+    }
+    report.text()
+}
+
+// What is told of a reader that fails behind so many bytes: it fails there, and then at once.
+fn failed_behind(alloc: Global, len: usize) -> Result<Vec<u8>, AllocError> {
+    let mut report = Report::new(alloc);
+    report.counted(b"F10 Read at ", len);
+    report.counted(b" of ", len);
+    report.counted(b"\nF10 Read at 0 of ", len);
+    report.add(b"\n");
+    report.text()
+}
+
+#[test]
+fn a_reader_fails_behind_each_byte(rt: HostRuntime) {
+    for len in 0..=CUT.len() {
+        for block in BLOCKS {
+            let got = failed_twice(rt.alloc(), CUT.split_at(len).0, block);
+            agrees(
+                &rt,
+                "a reader that fails",
+                failed_behind(rt.alloc(), len),
+                got,
+            );
+        }
+    }
+}
+
+// Each kind and its text, as a message prints it.
+const TEXTS: &[(FrozenKind, &str)] = &[
+    (FrozenKind::NoVersion, "F1 NoVersion"),
+    (FrozenKind::Newer, "F2 Newer"),
+    (FrozenKind::VersionZero, "F3 VersionZero"),
+    (FrozenKind::SecondVersion, "F4 SecondVersion"),
+    (FrozenKind::UnknownDirective, "F5 UnknownDirective"),
+    (FrozenKind::DigitExpected, "F6 DigitExpected"),
+    (FrozenKind::NumberTooLarge, "F7 NumberTooLarge"),
+    (FrozenKind::SeparatorExpected, "F8 SeparatorExpected"),
+    (FrozenKind::PrematureEnd, "F9 PrematureEnd"),
+    (FrozenKind::Read, "F10 Read"),
+    (FrozenKind::OutOfMemory, "F11 OutOfMemory"),
+];
+
+// The same of texts that are not written whole.
+const WRITE_TEXTS: &[(WriteFault, &str)] = &[
+    (WriteFault::Write, "G1 Write"),
+    (WriteFault::OutOfMemory, "G2 OutOfMemory"),
+];
+
+#[test]
+fn faults_are_printed(rt: HostRuntime) {
+    for &(kind, text) in TEXTS {
+        shows(&rt, text, text.as_bytes(), printed(rt.alloc(), &kind));
+    }
+    for &(fault, text) in WRITE_TEXTS {
+        shows(&rt, text, text.as_bytes(), printed(rt.alloc(), &fault));
+    }
+}

@@ -1,0 +1,120 @@
+//! States in their canonical text, and a state as it is loaded.
+
+use super::{HEAD, LAST, ROOM, read, tell, tell_written};
+use crate::report::{Report, joined};
+use crate::shows::{agrees, shows};
+use m4_frozen::loading::Loaded;
+use m4_frozen::writer::write_frozen;
+use m4_state::bytes::Bytes;
+use m4_state::definition::Def;
+use m4_state::fault::StateFault;
+use m4_state::memory::MemSink;
+use m4_state::state::State;
+use std::alloc::{AllocError, Global};
+
+// What is done to a state.
+#[derive(Clone, Copy)]
+enum Step {
+    // Defines a name as a text.
+    Define(&'static [u8], &'static [u8]),
+    // Takes a name's definitions away.
+    Undefine(&'static [u8]),
+    // Diverts to a number, and adds a text there.
+    Divert(i32, &'static [u8]),
+}
+
+// A row's name, what is done to an empty state, and what of its canonical text stands between the
+// first two lines and the last one.
+const ROWS: &[(&str, &[Step], &[u8])] = &[
+    (
+        "a text and a diversion that is not the current one",
+        &[
+            Step::Define(b"a", b"b"),
+            Step::Divert(3, b"later"),
+            Step::Divert(0, b""),
+        ],
+        b"T1,1\nab\nD3,5\nlater\nD0,0\n\n",
+    ),
+    (
+        "a name that was undefined and defined again",
+        &[
+            Step::Define(b"b", b"B"),
+            Step::Define(b"a", b"A"),
+            Step::Define(b"c", b"C"),
+            Step::Undefine(b"b"),
+            Step::Define(b"b", b"B"),
+        ],
+        b"T1,1\naA\nT1,1\nbB\nT1,1\ncC\n",
+    ),
+];
+
+// Does a step.
+fn do_step(alloc: Global, state: &mut State, step: Step) -> Result<(), StateFault> {
+    match step {
+        Step::Define(name, text) => {
+            let name = Bytes::from_slice(alloc, name)?;
+            let text = Bytes::from_slice(alloc, text)?;
+            state.define(name, Def::Text(text))
+        }
+        Step::Undefine(name) => {
+            state.undefine(name);
+            Ok(())
+        }
+        Step::Divert(number, text) => {
+            state.divert(number);
+            state.append(text)
+        }
+    }
+}
+
+// The canonical text of a row's state.
+fn frozen(alloc: Global, steps: &[Step]) -> Result<Vec<u8>, AllocError> {
+    let mut report = Report::new(alloc);
+    let mut state = State::empty(alloc).map_err(|_refused| AllocError)?;
+    for step in steps {
+        if do_step(alloc, &mut state, *step).is_err() {
+            report.refuse();
+        }
+    }
+    let mut writer = MemSink::new(alloc, ROOM, 4096)?;
+    let answer = write_frozen(&state, &mut writer);
+    tell_written(answer, &writer, &mut report);
+    report.text()
+}
+
+#[test]
+fn states_are_frozen(rt: HostRuntime) {
+    for &(name, steps, between) in ROWS {
+        let want = joined(rt.alloc(), &[HEAD, between, LAST, b"; written\n"]);
+        agrees(&rt, name, want, frozen(rt.alloc(), steps));
+    }
+}
+
+// Adds the quotes, how many definitions `a` has, the current diversion and the issued text.
+fn tell_loaded(loaded: &Loaded, report: &mut Report) {
+    let (begin, end) = loaded.state.quotes();
+    report.add(begin);
+    report.add(end);
+    report.counted(b"; a ", loaded.state.stack(b"a").len());
+    report.add(b"; current ");
+    report.number(loaded.state.current() as i128);
+    report.add(b"; issued ");
+    report.add(loaded.issued.as_slice());
+}
+
+// What is loaded of a file.
+fn loaded(alloc: Global, file: &[u8]) -> Result<Vec<u8>, AllocError> {
+    let mut report = Report::new(alloc);
+    match read(alloc, file, 4096, false) {
+        Ok(loaded) => tell_loaded(&loaded, &mut report),
+        Err(fault) => tell(alloc, fault, &mut report),
+    }
+    report.text()
+}
+
+#[test]
+fn directives_are_loaded(rt: HostRuntime) {
+    let file = b"V1\nQ1,0\n[\nT1,1\nab\nD0,2\nhi\nD-1,2\nzz\n";
+    let want = b"['; a 1; current -1; issued hi";
+    shows(&rt, "each part of a state", want, loaded(rt.alloc(), file));
+}

@@ -1,0 +1,40 @@
+//! Definitions and byte strings as rows give them.
+
+ghost use Rattle.std.specs.Prelude.{IfOk};
+ghost use Rattle.m4_state.specs.Definition.{IsDefinition};
+
+use m4_state::builtin::Builtin;
+use m4_state::bytes::Bytes;
+use m4_state::definition::Def;
+use std::alloc::{AllocError, Global};
+
+/// A definition of a row.
+#[derive(Clone, Copy)]
+pub enum Given {
+    /// A text.
+    Text(&'static [u8]),
+    /// The builtin of this name, or a placeholder where this program has none.
+    Named(&'static [u8]),
+}
+
+/// The definition that a row gives.
+pub fn made(alloc: Global, given: Given) -> Result<Def, AllocError>
+    ensures { IfOk result IsDefinition }
+{
+    match given {
+        Given::Text(text) => Ok(Def::Text(Bytes::from_slice(alloc, text)?)),
+        Given::Named(name) => match Builtin::by_name(name) {
+            Some(builtin) => Ok(Def::Builtin(builtin)),
+            None => Ok(Def::Placeholder(Bytes::from_slice(alloc, name)?)),
+        },
+    }
+}
+
+/// Which definition it is, and its text or its name.
+pub fn told(definition: &Def) -> (&'static [u8], &[u8]) {
+    match definition {
+        Def::Text(text) => (b"text ", text.as_slice()),
+        Def::Builtin(builtin) => (b"builtin ", builtin.name()),
+        Def::Placeholder(name) => (b"placeholder ", name.as_slice()),
+    }
+}

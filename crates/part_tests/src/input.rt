@@ -1,0 +1,100 @@
+//! The input: the tokens of texts, what calls do to it besides, and what is seen ahead of it.
+//! Manual: "Lexical and syntactic conventions", "Changing the quote characters", "Deleting whitespace
+//! in input", "How m4 copies input to output".
+
+ghost use Rattle.std.specs.Prelude.{◌≡◌, None, OnOk};
+
+mod calls;
+mod delims;
+mod pieces;
+mod plain;
+mod tokens;
+
+use crate::given::told;
+use crate::report::{Report, printed};
+use crate::shows::shows;
+use m4_input::delims::Delims;
+use m4_input::fault::InputFault;
+use m4_input::input::Input;
+use m4_input::pushed::Pushed;
+use m4_input::token::Token;
+use m4_state::bytes::Bytes;
+use std::alloc::{AllocError, Global};
+
+// How many bytes a reader gives at a time.
+const BLOCKS: [usize; 4] = [1, 2, 3, 4096];
+
+// The delimiters of a new state.
+const USUAL: Delims<'static> = Delims {
+    quotes: (b"`", b"'"),
+    comments: (b"#", b"\n"),
+};
+
+// No delimiters.
+const NONE: Delims<'static> = Delims {
+    quotes: (b"", b""),
+    comments: (b"", b""),
+};
+
+// A token's kind, and its text where it is not a byte.
+fn words(token: &Token) -> (&'static [u8], &[u8]) {
+    match token {
+        Token::Name(name) => (b"name ", name.as_slice()),
+        Token::Str(string) => (b"string ", string.as_slice()),
+        Token::Comment(comment) => (b"comment ", comment.as_slice()),
+        Token::Byte(_) => (b"byte ", b""),
+        Token::Definition(definition) => told(definition),
+        Token::End => (b"end", b""),
+    }
+}
+
+// Adds a token: its kind and its text.
+fn tell(token: &Token, report: &mut Report) {
+    let (kind, text) = words(token);
+    report.add(kind);
+    report.add(text);
+    if let Token::Byte(byte) = token {
+        report.add(&[*byte]);
+    }
+    report.add(b"\n");
+}
+
+// Adds a fault, with the line that it names.
+fn tell_fault(fault: InputFault, report: &mut Report) {
+    match fault {
+        InputFault::EndInString { line } => report.counted(
+            b"end in string of line ",
+            line as usize,
+        ),
+        InputFault::EndInComment { line } => report.counted(
+            b"end in comment of line ",
+            line as usize,
+        ),
+        InputFault::Read => report.add(b"read fault"),
+        InputFault::OutOfMemory => report.refuse(),
+    }
+    report.add(b"\n");
+}
+
+// Puts text in front.
+fn push(alloc: Global, input: &mut Input, bytes: &[u8]) -> Result<(), InputFault>
+    requires { input.old.pending.definition ≡ None }
+    ensures { OnOk result (input.new.pending.definition ≡ None) }
+{
+    match Bytes::from_slice(alloc, bytes) {
+        Ok(text) => input.push_front(Pushed::Text(text)),
+        Err(AllocError) => Err(InputFault::OutOfMemory),
+    }
+}
+
+#[test]
+fn faults_are_printed(rt: HostRuntime) {
+    let fault = InputFault::EndInString { line: 3 };
+    let want = b"I1 EndInString";
+    shows(
+        &rt,
+        "a string without an end",
+        want,
+        printed(rt.alloc(), &fault),
+    );
+}

@@ -1,0 +1,32 @@
+//! The delimiters of a state that has chosen its own.
+
+use crate::report::joined;
+use crate::shows::shows;
+use m4_input::delims::Delims;
+use m4_state::bytes::Bytes;
+use m4_state::fault::StateFault;
+use m4_state::state::State;
+use std::alloc::{AllocError, Global};
+
+// A state with square brackets for quotes.
+fn bracketed(alloc: Global) -> Result<State, StateFault> {
+    let mut state = State::empty(alloc)?;
+    let begin = Bytes::from_slice(alloc, b"[")?;
+    let end = Bytes::from_slice(alloc, b"]")?;
+    state.set_quotes(begin, end)?;
+    Ok(state)
+}
+
+// The delimiters of that state.
+fn delims_of(alloc: Global) -> Result<Vec<u8>, AllocError> {
+    let state = bracketed(alloc).map_err(|_refused| AllocError)?;
+    let delims = Delims::of(&state);
+    let (begin, end) = delims.quotes;
+    let (hash, newline) = delims.comments;
+    joined(alloc, &[begin, end, hash, newline])
+}
+
+#[test]
+fn delimiters_of_a_state(rt: HostRuntime) {
+    shows(&rt, "square brackets", b"[]#\n", delims_of(rt.alloc()));
+}

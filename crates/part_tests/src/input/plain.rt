@@ -1,0 +1,154 @@
+//! How much of a text stands for itself and what stands behind it, and which first token is text in an
+//! argument list, where `f` is defined as `x`.
+//! Manual: "How m4 copies input to output", "Macro arguments".
+
+use crate::given::told;
+use crate::report::Report;
+use crate::shows::shows;
+use m4_input::plain::{First, first_in_list, inner_text, plain_run};
+use m4_state::bytes::Bytes;
+use m4_state::definition::Def;
+use m4_state::fault::StateFault;
+use m4_state::state::State;
+use std::alloc::{AllocError, Global};
+
+// A row's name, a text, how far is looked, how many of its bytes stand for themselves, and the call
+// behind them, where there is one: the name's length, whether a list follows, and the definition.
+type Row = (&'static str, &'static [u8], usize, &'static [u8]);
+
+const ROWS: &[Row] = &[
+    ("an empty text", b"", 100, b"0"),
+    (
+        "text with no name that is defined",
+        b"no call: 1+2 (twice).\n",
+        100,
+        b"22",
+    ),
+    ("names that contain f", b"ff _f f1 f_", 100, b"11"),
+    ("f amid text", b"a f b", 100, b"2, 1 bytes: text x"),
+    ("f behind text", b"a f", 100, b"2, 1 bytes: text x"),
+    (
+        "f with a list",
+        b"a f(b)",
+        100,
+        b"2, 1 bytes with a list: text x",
+    ),
+    (
+        "f with a blank before a parenthesis",
+        b"f (b)",
+        100,
+        b"0, 1 bytes: text x",
+    ),
+    ("f alone", b"f", 100, b"0, 1 bytes: text x"),
+    ("f behind a digit", b"1f", 100, b"1, 1 bytes: text x"),
+    ("a builtin", b"a dnl", 100, b"2, 3 bytes: builtin dnl"),
+    ("a string", b"a `f'", 100, b"2"),
+    ("a comment", b"a # b", 100, b"2"),
+    (
+        "it stops behind the token that reaches 2 bytes",
+        b"abc def",
+        2,
+        b"3",
+    ),
+    (
+        "it stops behind the token that reaches 4 bytes",
+        b"abc def",
+        4,
+        b"4",
+    ),
+];
+
+// A fresh state where `f` is defined.
+fn with_f(alloc: Global) -> Result<State, StateFault> {
+    let mut state = State::fresh(alloc, false)?;
+    let name = Bytes::from_slice(alloc, b"f")?;
+    state.define(name, Def::Text(Bytes::from_slice(alloc, b"x")?))?;
+    Ok(state)
+}
+
+// Adds the call that a token is.
+fn tell_call(first: &First<'_>, report: &mut Report) {
+    if let First::Called(len, with_list, definition) = first {
+        report.counted(b", ", *len);
+        report.add(if *with_list {
+            b" bytes with a list: "
+        } else {
+            b" bytes: "
+        });
+        let (kind, text) = told(definition);
+        report.add(kind);
+        report.add(text);
+    }
+}
+
+// How many bytes of a text stand for themselves, and the call behind them.
+fn run_of(alloc: Global, text: &[u8], most: usize) -> Result<Vec<u8>, AllocError> {
+    let mut report = Report::new(alloc);
+    let state = with_f(alloc).map_err(|_refused| AllocError)?;
+    let (len, first) = plain_run(text, &state, most);
+    report.number(len as i128);
+    tell_call(&first, &mut report);
+    report.text()
+}
+
+#[test]
+fn tokens_that_stand_for_themselves(rt: HostRuntime) {
+    for &(name, text, most, want) in ROWS {
+        shows(&rt, name, want, run_of(rt.alloc(), text, most));
+    }
+}
+
+// A row's name, a text within a list, and its first token: the byte that it is, or its text and how
+// many bytes the token has, where it is text wherever it stands in the list.
+const TOKENS: &[(&str, &[u8], &[u8])] = &[
+    ("a string", b"`a b'c", b"text a b of 5"),
+    ("a string within a string", b"``a'' ", b"text `a' of 5"),
+    ("an empty string", b"`'", b"text  of 2"),
+    ("a string without an end", b"`a", b"none"),
+    ("a name", b"ab(c", b"text ab of 2"),
+    ("a digit", b"1f", b"byte 1, text 1 of 1"),
+    ("a name that is defined", b"f", b"none"),
+    ("an empty text", b"", b"none"),
+    ("a parenthesis that opens", b"(a", b"byte (, none"),
+    ("a parenthesis that closes", b")a", b"byte ), none"),
+    ("a comma", b",a", b"byte ,, none"),
+    ("a blank", b" a", b"byte  , none"),
+    ("a newline", b"\na", b"byte \n, none"),
+    ("a tab", b"\ta", b"byte \t, none"),
+    ("a comment", b"# b\n", b"none"),
+    ("a parenthesis before f", b"(f", b"byte (, none"),
+    ("a parenthesis that closes before f", b")f", b"byte ), none"),
+    ("a comma before f", b",f", b"byte ,, none"),
+    ("a blank before f", b" f", b"byte  , none"),
+    ("a newline before f", b"\nf", b"byte \n, none"),
+    ("a byte that means nothing", b"+f", b"byte +, text + of 1"),
+    ("the greatest byte", b"\xff", b"byte \xff, text \xff of 1"),
+];
+
+// The first token of a text within a list.
+fn first_of(alloc: Global, text: &[u8]) -> Result<Vec<u8>, AllocError> {
+    let mut report = Report::new(alloc);
+    let state = with_f(alloc).map_err(|_refused| AllocError)?;
+    let first = first_in_list(text, &state);
+    if let First::Byte(byte) = first {
+        report.add(b"byte ");
+        report.add(&[byte]);
+        report.add(b", ");
+    }
+    match inner_text(&first, text) {
+        Some((inner, len)) => {
+            report.add(b"text ");
+            report.add(inner);
+            report.counted(b" of ", len);
+        }
+        None => report.add(b"none"),
+    }
+    report.text()
+}
+
+#[test]
+fn tokens_that_are_text_in_a_list(rt: HostRuntime) {
+    for &(name, text, want) in TOKENS {
+        shows(&rt, name, want, first_of(rt.alloc(), text));
+    }
+}

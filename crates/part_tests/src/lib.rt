@@ -1,0 +1,23 @@
+//! Rows by hand on the parts below a run: the state of a macro processor and the devices, frozen
+//! files, the input with its tokens, and what a call does.
+//!
+//! Each row has a name, what is done, and what is then to be seen. The expected values were worked
+//! out by hand from the manual of GNU M4 and from the frozen file format.
+#![tactic(auto)]
+
+#[cfg(test)]
+mod builtins;
+#[cfg(test)]
+mod devices;
+#[cfg(test)]
+mod frozen;
+#[cfg(test)]
+mod given;
+#[cfg(test)]
+mod input;
+#[cfg(test)]
+mod report;
+#[cfg(test)]
+mod shows;
+#[cfg(test)]
+mod state;

@@ -1,0 +1,78 @@
+//! The table of builtins. Manual: "Builtins", and the chapters of each.
+
+use crate::report::{Report, joined, printed};
+use crate::shows::shows;
+use m4_state::builtin::Builtin;
+use m4_state::bytes::Bytes;
+use m4_state::fault::StateFault;
+use std::alloc::{AllocError, Global};
+
+// A name, and the builtin of that name: whether it is recognised only with parameters, whether it
+// takes definitions as such, and how many arguments it has at least and at most.
+const ROWS: &[(&str, &[u8])] = &[
+    ("define", b"define: parameters, definitions, 1 to 2"),
+    ("undefine", b"undefine: parameters, 1 or more"),
+    ("dnl", b"dnl: 0 to 0"),
+    ("changequote", b"changequote: 0 to 2"),
+    ("changecom", b"changecom: 0 to 2"),
+    ("format", b"none"),
+];
+
+// What is to be seen of the builtin of a name.
+fn report_of(alloc: Global, name: &[u8]) -> Result<Vec<u8>, AllocError> {
+    let mut report = Report::new(alloc);
+    match Builtin::by_name(name) {
+        Some(builtin) => tell(builtin, &mut report),
+        None => report.add(b"none"),
+    }
+    report.text()
+}
+
+// Adds the columns of a builtin.
+fn tell(builtin: Builtin, report: &mut Report) {
+    report.add(builtin.name());
+    report.add(b": ");
+    if builtin.needs_args() {
+        report.add(b"parameters, ");
+    }
+    if builtin.takes_tokens() {
+        report.add(b"definitions, ");
+    }
+    report.number(builtin.least_args() as i128);
+    match builtin.most_args() {
+        Some(most) => {
+            report.add(b" to ");
+            report.number(most as i128);
+        }
+        None => report.add(b" or more"),
+    }
+}
+
+#[test]
+fn columns_of_the_builtins(rt: HostRuntime) {
+    for &(name, want) in ROWS {
+        shows(&rt, name, want, report_of(rt.alloc(), name.as_bytes()));
+    }
+}
+
+#[test]
+fn a_fault_has_a_text(rt: HostRuntime) {
+    let got = printed(rt.alloc(), &StateFault::OutOfMemory);
+    shows(&rt, "out of memory", b"S1 OutOfMemory", got);
+}
+
+// A copy of a byte string.
+fn copy_of(alloc: Global, bytes: &[u8]) -> Result<Vec<u8>, AllocError> {
+    let copy = Bytes::from_slice(alloc, bytes)?.share()?;
+    joined(alloc, &[copy.as_slice()])
+}
+
+#[test]
+fn a_byte_string_is_copied(rt: HostRuntime) {
+    shows(
+        &rt,
+        "a byte 0 at its end",
+        b"a\x00",
+        copy_of(rt.alloc(), b"a\x00"),
+    );
+}

@@ -1,0 +1,92 @@
+//! Quotes and comment delimiters by the two strings that are given for them: an empty begin disables
+//! them, and an empty end is the usual one. Manual: "Changing the quote characters", "Changing the
+//! comment delimiters".
+
+use crate::report::Report;
+use crate::shows::shows;
+use m4_state::bytes::Bytes;
+use m4_state::fault::StateFault;
+use m4_state::state::State;
+use std::alloc::{AllocError, Global};
+
+// A row's name, the two strings that are given for both pairs one after the other, and both pairs.
+type Row = (
+    &'static str,
+    &'static [(&'static [u8], &'static [u8])],
+    &'static [u8],
+);
+
+const ROWS: &[Row] = &[
+    ("an empty state", &[], b"quotes ` '\ncomments # \n"),
+    (
+        "both strings",
+        &[(b"[[", b"]]")],
+        b"quotes [[ ]]\ncomments [[ ]]",
+    ),
+    (
+        "no end for the quotes",
+        &[(b"[[", b"]]"), (b"<", b"")],
+        b"quotes < '\ncomments < \n",
+    ),
+    (
+        "no end for the comments",
+        &[(b"//", b"")],
+        b"quotes // '\ncomments // \n",
+    ),
+    (
+        "no begin",
+        &[(b"<", b""), (b"", b"x")],
+        b"quotes  \ncomments  ",
+    ),
+    (
+        "a begin again",
+        &[(b"", b""), (b"[", b"]")],
+        b"quotes [ ]\ncomments [ ]",
+    ),
+];
+
+// A pair of strings.
+fn pair(alloc: Global, begin: &[u8], end: &[u8]) -> Result<(Bytes, Bytes), AllocError> {
+    Ok((
+        Bytes::from_slice(alloc, begin)?,
+        Bytes::from_slice(alloc, end)?,
+    ))
+}
+
+// Sets the quotes and the comments alike.
+fn set(alloc: Global, state: &mut State, begin: &[u8], end: &[u8]) -> Result<(), StateFault> {
+    let (quote, unquote) = pair(alloc, begin, end)?;
+    state.set_quotes(quote, unquote)?;
+    let (comment, newline) = pair(alloc, begin, end)?;
+    state.set_comments(comment, newline)
+}
+
+// Adds a pair with its name.
+fn tell(name: &[u8], pair: (&[u8], &[u8]), report: &mut Report) {
+    report.add(name);
+    report.add(b" ");
+    report.add(pair.0);
+    report.add(b" ");
+    report.add(pair.1);
+}
+
+// What is to be seen of a row.
+fn report_of(alloc: Global, pairs: &[(&[u8], &[u8])]) -> Result<Vec<u8>, AllocError> {
+    let mut report = Report::new(alloc);
+    let mut state = State::empty(alloc).map_err(|_refused| AllocError)?;
+    for (begin, end) in pairs {
+        if set(alloc, &mut state, begin, end).is_err() {
+            report.refuse();
+        }
+    }
+    tell(b"quotes", state.quotes(), &mut report);
+    tell(b"\ncomments", state.comments(), &mut report);
+    report.text()
+}
+
+#[test]
+fn delimiters_are_chosen(rt: HostRuntime) {
+    for &(name, pairs, want) in ROWS {
+        shows(&rt, name, want, report_of(rt.alloc(), pairs));
+    }
+}

@@ -1,0 +1,206 @@
+//! Names and their definitions: what is done to a state, and what it then has under each name.
+//! Manual: "Defining a macro", "Deleting a macro", "Temporarily redefining macros".
+
+use crate::given::{Given, made, told};
+use crate::report::Report;
+use crate::shows::shows;
+use m4_state::bytes::Bytes;
+use m4_state::definition::Def;
+use m4_state::fault::StateFault;
+use m4_state::state::State;
+use std::alloc::{AllocError, Global};
+
+// What is done to a state.
+#[derive(Clone, Copy)]
+enum Step {
+    Push(&'static [u8], Given),
+    Define(&'static [u8], Given),
+    Undefine(&'static [u8]),
+    // Reports what is under a name.
+    Look(&'static [u8]),
+}
+
+// A row's name, whether the state is a fresh one or empty, what is done to it, and a report: for
+// each name its definitions from the oldest on, and the length of the newest.
+type Row = (&'static str, bool, &'static [Step], &'static [u8]);
+
+const ROWS: &[Row] = &[
+    ("an empty state", false, &[Step::Look(b"a")], b"a\n"),
+    (
+        "a fresh state has its builtins, and two names without text",
+        true,
+        &[],
+        b"__gnu__, text ; 0\n\
+          __unix__, text ; 0\n\
+          changecom, builtin changecom; 9\n\
+          changequote, builtin changequote; 11\n\
+          define, builtin define; 6\n\
+          dnl, builtin dnl; 3\n\
+          undefine, builtin undefine; 8\n",
+    ),
+    (
+        "names are in byte order, with both definitions",
+        false,
+        &[
+            Step::Push(b"b", Given::Text(b"1")),
+            Step::Push(b"b", Given::Text(b"2")),
+            Step::Push(b"\xff", Given::Text(b"1")),
+            Step::Push(b"\xff", Given::Text(b"2")),
+            Step::Push(b"", Given::Text(b"1")),
+            Step::Push(b"", Given::Text(b"2")),
+            Step::Push(b"ab", Given::Text(b"1")),
+            Step::Push(b"ab", Given::Text(b"2")),
+            Step::Push(b"a", Given::Text(b"1")),
+            Step::Push(b"a", Given::Text(b"2")),
+            Step::Push(b"\x00", Given::Text(b"1")),
+            Step::Push(b"\x00", Given::Text(b"2")),
+        ],
+        b", text 1, text 2; 1\n\
+          \x00, text 1, text 2; 1\n\
+          a, text 1, text 2; 1\n\
+          ab, text 1, text 2; 1\n\
+          b, text 1, text 2; 1\n\
+          \xff, text 1, text 2; 1\n",
+    ),
+    (
+        "a name that is defined again has its place in the order again",
+        false,
+        &[
+            Step::Define(b"b", Given::Text(b"1")),
+            Step::Define(b"a", Given::Text(b"2")),
+            Step::Define(b"c", Given::Text(b"3")),
+            Step::Undefine(b"b"),
+            Step::Define(b"b", Given::Text(b"4")),
+        ],
+        b"a, text 2; 1\nb, text 4; 1\nc, text 3; 1\n",
+    ),
+    (
+        "the newest definition is on top",
+        false,
+        &[
+            Step::Push(b"x", Given::Text(b"old")),
+            Step::Push(b"x", Given::Named(b"format")),
+        ],
+        b"x, text old, placeholder format; 6\n",
+    ),
+    (
+        "a definition replaces the newest one, an undefinition takes all away",
+        false,
+        &[
+            Step::Push(b"x", Given::Text(b"old")),
+            Step::Push(b"x", Given::Text(b"new")),
+            Step::Define(b"x", Given::Text(b"newest")),
+            Step::Define(b"a", Given::Named(b"dnl")),
+            Step::Look(b"x"),
+            Step::Undefine(b"x"),
+            Step::Undefine(b"y"),
+            Step::Look(b"x"),
+        ],
+        b"x, text old, text newest; 6\nx\na, builtin dnl; 3\n",
+    ),
+];
+
+// Adds a definition.
+fn tell(definition: Result<Def, AllocError>, report: &mut Report) {
+    match definition {
+        Ok(definition) => {
+            let (kind, text) = told(&definition);
+            report.add(kind);
+            report.add(text);
+        }
+        Err(AllocError) => report.refuse(),
+    }
+}
+
+// Adds what is under a name: a copy of each definition, and the newest one's length.
+fn look(state: &State, name: &[u8], report: &mut Report) {
+    report.add(name);
+    for definition in state.stack(name) {
+        report.add(b", ");
+        tell(definition.share(), report);
+    }
+    if let Some(top) = state.top(name) {
+        report.add(b"; ");
+        report.number(top.len() as i128);
+    }
+    report.add(b"\n");
+}
+
+// Pushes or defines a name.
+fn define(
+    alloc: Global,
+    state: &mut State,
+    pushes: bool,
+    name: &[u8],
+    given: Given,
+) -> Result<(), StateFault> {
+    let name = Bytes::from_slice(alloc, name)?;
+    let definition = made(alloc, given)?;
+    if pushes {
+        state.push(name, definition)
+    } else {
+        state.define(name, definition)
+    }
+}
+
+// Does a step.
+fn do_step(alloc: Global, state: &mut State, step: Step, report: &mut Report) {
+    let done = match step {
+        Step::Push(name, given) => define(alloc, state, true, name, given),
+        Step::Define(name, given) => define(alloc, state, false, name, given),
+        Step::Undefine(name) => {
+            state.undefine(name);
+            Ok(())
+        }
+        Step::Look(name) => {
+            look(state, name, report);
+            Ok(())
+        }
+    };
+    if done.is_err() {
+        report.refuse();
+    }
+}
+
+// Adds what is under each name.
+fn look_at_all(state: &State, report: &mut Report) {
+    match state.names() {
+        Ok(names) => {
+            for name in &names {
+                look(state, name.as_slice(), report);
+            }
+        }
+        Err(StateFault::OutOfMemory) => report.refuse(),
+    }
+}
+
+// A state to begin with.
+fn start(alloc: Global, fresh: bool) -> Result<State, StateFault> {
+    if fresh {
+        State::fresh(alloc, false)
+    } else {
+        State::empty(alloc)
+    }
+}
+
+// What is to be seen of a row.
+fn report_of(alloc: Global, fresh: bool, steps: &[Step]) -> Result<Vec<u8>, AllocError> {
+    let mut report = Report::new(alloc);
+    match start(alloc, fresh) {
+        Ok(mut state) => {
+            for step in steps {
+                do_step(alloc, &mut state, *step, &mut report);
+            }
+            look_at_all(&state, &mut report);
+        }
+        Err(StateFault::OutOfMemory) => report.refuse(),
+    }
+    report.text()
+}
+
+#[test]
+fn names_and_their_definitions(rt: HostRuntime) {
+    for &(name, fresh, steps, want) in ROWS {
+        shows(&rt, name, want, report_of(rt.alloc(), fresh, steps));
+    }
+}

@@ -1,0 +1,12 @@
+//! Whole runs over sources in memory, and sessions call by call.
+//! Manual: "Invoking m4", "Command line files", and the chapters on macros and builtins.
+
+mod endings;
+mod files;
+mod given;
+mod limits;
+mod report;
+mod scale;
+mod sessions;
+mod shows;
+mod sources;
