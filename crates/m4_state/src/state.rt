@@ -75,6 +75,7 @@ impl State {
     /// asked for yet.
     pub fn fresh(alloc: Global, prefix: bool) -> Result<State, StateFault>
         requires { prefix ≡ false }
+        // exact steps: the fresh record
         ensures { IfOk result (λ s. s ≡ fresh prefix) }
     {
         let _ = prefix;
