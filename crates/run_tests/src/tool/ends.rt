@@ -5,7 +5,7 @@ use m4_engine::ending::Cause;
 use m4_tool::endings::last_fault;
 use std::test::Fail;
 
-// A row's name, why a run ended, whether its output was flushed then, and the line behind `m4: `.
+// A row's name, why a run ended, whether its output was flushed then, and the line after `m4: `.
 static ENDS: [(&str, Cause, bool, &str); 7] = [
     ("done", Cause::Done, true, "no line"),
     ("done, not flushed", Cause::Done, false, "write fault"),

@@ -47,7 +47,7 @@ static CANONICAL: [(&[u8], &str); 12] = [
     (b"V1\nD-2147483648,0\n\n", canonical!("D-2147483648,0\n\n")),
 ];
 
-// A file, whether its reader fails behind it, the status and the line that `--canon` gives.
+// A file, whether its reader fails after it, and the status and the line of `--canon`.
 static REFUSED: [(&[u8], bool, u8, &str); 9] = [
     (b"", false, 1, "m4: F: F1 NoVersion at byte 0\n"),
     (b"# c\n\nV2\n", false, 63, "m4: F: F2 Newer at byte 6\n"),
