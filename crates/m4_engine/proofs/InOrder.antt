@@ -42,6 +42,7 @@ use Rattle.m4_engine.specs.Args.{argument_of}
 use Rattle.m4_engine.specs.Expand.{mode_behind_call, expansion_of, ended_of, expand_input}
 use Rattle.m4_engine.specs.File.{Source, Opened, Unopened, Progress, file_pending, unless_over, read_source, after_source, after_sources}
 use Rattle.m4_engine.specs.Wraps.{read_saved, next_round, rounds, after_wraps, wrapped_pending, joined_back}
+use Rattle.m4_state.specs.Device.{Script}
 use Rattle.m4_engine.specs.Start.{Start, IsStart, begun}
 use Rattle.m4_engine.proofs.ByRules.{Rules, holds}
 use Rattle.m4_engine.proofs.CallsFall.{falls}
@@ -359,7 +360,7 @@ directives_valid : (ds : List Directive) (may_lack : Bool) (bytes : List ℕ) (s
 directives_valid [] may_lack bytes s g h = h
 directives_valid (d ∷ ds) may_lack bytes s g h = directives_valid ds may_lack g.2 (with_directive s d) g.5 (directive_valid s d h (one_fits d g.1 g.4))
 
-pub start_valid : (prefix : Bool) (frozen : Option (List ℕ)) (start : Start) → IsStart prefix frozen start → IsState ((begun start).so_far).state
+pub start_valid : (prefix : Bool) (frozen : Option Script) (start : Start) → IsStart prefix frozen start → IsState ((begun start).so_far).state
 start_valid prefix None start e = subst (λ (x : Start). IsState ((begun x).so_far).state) (sym e) (IsState-fresh prefix)
-start_valid prefix (Some bytes) start (inl h) = subst (λ (x : Start). IsState ((begun x).so_far).state) (sym h.2) (directives_valid h.0 true (h.1).rest empty (h.1).others IsState-empty)
-start_valid prefix (Some bytes) start (inr h) = subst (λ (x : Start). IsState ((begun x).so_far).state) (sym h.2) IsState-empty
+start_valid prefix (Some file) start (inl h) = subst (λ (x : Start). IsState ((begun x).so_far).state) (sym h.3) (directives_valid h.0 true (h.2).rest empty (h.2).others IsState-empty)
+start_valid prefix (Some file) start (inr h) = subst (λ (x : Start). IsState ((begun x).so_far).state) (sym h.2) IsState-empty

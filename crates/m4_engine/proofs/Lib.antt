@@ -39,3 +39,4 @@ pub mod Sources
 pub mod Reading
 pub mod Readers
 pub mod Whole
+pub mod Starts

@@ -11,9 +11,10 @@ use Rattle.m4_engine.specs.declared.source.Source.TheVariants as sources
 use Rattle.m4_engine.specs.declared.stop.Stop.{Stop}
 use Rattle.m4_engine.specs.declared.stop.Stop.TheVariants as stops
 use Rattle.m4_engine.specs.Told.{AllPairs, is_unopened, any_unopened, has_failed, is_sound, any_failed, ReadersFailBy, is_taken, are_taken}
-use Rattle.m4_engine.specs.Session.{Standing, ReadFails, SourceFails, SourcesFail, FinishGives}
+use Rattle.m4_engine.specs.Session.{Standing, ReadFails, SourceFails, SourcesFail, EndGives, CloseGives}
 use Rattle.m4_engine.specs.WholeRun.{ending_by}
-use Rattle.m4_engine.specs.Writers.{Contents}
+use Rattle.m4_engine.specs.Writers.{Contents, Three}
+use Rattle.m4_engine.proofs.Sessions.{close_ends}
 use Rattle.m4_engine.proofs.Sources.{same_taken}
 
 -- a source that no call was made on is sound
@@ -81,14 +82,14 @@ sources_fail failures i xs ys x v e q r f g a d l h =
     (failed_by failures i xs ys x v e a d l (subst (λ (z : Result Unit Stop). SourceFails failures z (slice_index_or xs i x) v) f h))
 
 -- the end of a run asks no reader
-ends_sound : {R : Type 0} (failures : R → ℕ) (xs ys : List (RunSource R)) (old new : Standing) (w : Contents) (e : Stop) → FinishGives old new w (Err e) → AllPairs (is_sound failures) xs ys → SourcesFail {A = Bool} failures (Err e) xs ys
-ends_sound failures xs ys old new w (stops.Ended causes.Read) h a = absurd h
-ends_sound failures xs ys old new w e h a = a
+ends_sound : {R : Type 0} (failures : R → ℕ) (xs ys : List (RunSource R)) (freezes : Bool) (old new : Standing) (w : Contents) (e : Stop) → EndGives freezes old new w (Err e) → AllPairs (is_sound failures) xs ys → SourcesFail {A = Bool} failures (Err e) xs ys
+ends_sound failures xs ys freezes old new w (stops.Ended causes.Read) h a = absurd h
+ends_sound failures xs ys freezes old new w e h a = a
 
-pub finish_sound : {R : Type 0} (failures : R → ℕ) (xs ys : List (RunSource R)) (old new : Standing) (w : Contents) (e : Stop) (q : Result Unit Stop) (r : Result Bool Stop) → q ≡ Err e → r ≡ Err e → FinishGives old new w q → AllPairs (is_sound failures) xs ys → SourcesFail failures r xs ys
-finish_sound failures xs ys old new w e q r f g h a =
+pub close_sound : {R : Type 0} (failures : R → ℕ) (xs ys : List (RunSource R)) (freezes : Bool) (old new : Standing) (w : Three (Option (List ℕ))) (e : Stop) (q : Result Unit Stop) (r : Result Bool Stop) → q ≡ Err e → r ≡ Err e → CloseGives freezes old new w q → AllPairs (is_sound failures) xs ys → SourcesFail failures r xs ys
+close_sound failures xs ys freezes old new w e q r f g h a =
     subst (λ (z : Result Bool Stop). SourcesFail failures z xs ys) (sym g)
-    (ends_sound failures xs ys old new w e (subst (FinishGives old new w) f h) a)
+    (ends_sound failures xs ys freezes old new w.two e (subst (EndGives freezes old new w.two) f (close_ends freezes old new w q h)) a)
 
 pub same_fails : {R : Type 0} (failures : R → ℕ) (xs ys : List (RunSource R)) (e : Stop) (q : Result Unit Stop) (r : Result Bool Stop) → q ≡ Err e → r ≡ Err e → SourcesFail failures q xs ys → SourcesFail failures r xs ys
 same_fails failures xs ys e q r f g h =

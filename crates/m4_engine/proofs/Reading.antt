@@ -157,7 +157,7 @@ stopped ss i j s0 s s' t out0 out out' told0 told told' (stops.Ended causes.EndI
 stopped ss i j s0 s s' t out0 out out' told0 told told' (stops.Ended causes.EndInArguments) l b d h = (stops_there ss i j s0 s s' t causes.EndInArguments out0 out out' told0 told told' l b d h.0 h.1, h.1)
 stopped ss i j s0 s s' t out0 out out' told0 told told' (stops.Ended causes.ExpansionLimit) l b d h = (stops_there ss i j s0 s s' t causes.ExpansionLimit out0 out out' told0 told told' l b d h.0 h.1, h.1)
 stopped ss i j s0 s s' t out0 out out' told0 told told' (stops.Ended causes.NestingLimit) l b d h = (stops_there ss i j s0 s s' t causes.NestingLimit out0 out out' told0 told told' l b d h.0 h.1, h.1)
-stopped ss i j s0 s s' t out0 out out' told0 told told' (stops.Ended (causes.Frozen x)) l b d h = (stops_there ss i j s0 s s' t (causes.Frozen x) out0 out out' told0 told told' l b d h.0 h.1, h.1)
+stopped ss i j s0 s s' t out0 out out' told0 told told' (stops.Ended (causes.Frozen x)) l b d h = h
 
 -- which source stands at a place
 told_at : {R : Type 0} (f : R → Option Source) (xs : List R) (ss : List Source) (i : ℕ) (x : R) (rest : List R) → map f xs ≡ map Some ss → drop i xs ≡ x ∷ rest → (t : Source) × (f x ≡ Some t) × (drop i ss ≡ t ∷ drop (suc i) ss)

@@ -1,16 +1,21 @@
 -- RowsFrozen: worked runs that freeze and reload, and what beginnings settle, computed.
-use Rattle.std.proofs.Common.{Some, None, ◌≡◌, ℕ, List, [], ◌∷◌, false, refl}
+use Rattle.std.proofs.Common.{Option, Some, None, ◌≡◌, ℕ, List, [], ◌∷◌, false, refl}
 use Rattle.std.specs.Prelude.{codes}
 use Rattle.std.specs.Fmt.{digits}
+use Rattle.m4_state.specs.Device.{Script}
 use Rattle.m4_frozen.specs.ReaderSteps as steps
 use Rattle.m4_frozen.specs.declared.fault.FrozenKind.TheVariants as kinds
 use Rattle.m4_engine.specs.declared.ending.Cause.TheVariants as causes
 use Rattle.m4_engine.specs.Expansion.{Ends, WantsMore}
 use Rattle.m4_engine.specs.File.{Opened}
-use Rattle.m4_engine.specs.Start.{start_of}
+use Rattle.m4_engine.specs.Start.{frozen_file, start_of}
 use Rattle.m4_engine.specs.Run.{run}
 use Rattle.m4_engine.specs.Settled.{SettledSoFar, settled}
 use Rattle.m4_engine.proofs.Rows.{usual, freezing, over_a, done}
+
+-- a frozen file of these bytes
+abbrev from : List ℕ → Option Script
+from bytes = Some (frozen_file bytes)
 
 -- what the beginning of a file settles in a run from the fresh state
 abbrev settled_by_a : List ℕ → SettledSoFar
@@ -61,42 +66,42 @@ unfolding digits delimiters_text
 delimiters_frozen = refl
 
 -- the run that goes on from it
-delimiters_reloaded : run usual (Some delimiters_text) (Opened (codes "b.m4") (codes "# [define]\n") ∷ []) ≡ done (codes "# define\n") [] 0
+delimiters_reloaded : run usual (from delimiters_text) (Opened (codes "b.m4") (codes "# [define]\n") ∷ []) ≡ done (codes "# define\n") [] 0
 unfolding digits delimiters_text steps.file_at steps.version_at steps.directives_at steps.directive_at steps.pair_at steps.diversion_at steps.length_at steps.string_at
 delimiters_reloaded = refl
 
 -- a frozen file without builtins: `define` is a plain word
-only_what_is_frozen : run usual (Some (codes "V1\n")) (Opened (codes "a.m4") (codes "define(`a',`b')a\n") ∷ []) ≡ done (codes "define(a,b)a\n") [] 0
+only_what_is_frozen : run usual (from (codes "V1\n")) (Opened (codes "a.m4") (codes "define(`a',`b')a\n") ∷ []) ≡ done (codes "define(a,b)a\n") [] 0
 unfolding steps.file_at steps.version_at steps.directives_at steps.directive_at steps.pair_at steps.diversion_at steps.length_at steps.string_at
 only_what_is_frozen = refl
 
 -- text that a frozen file issues
-issued_text : run usual (Some (codes "V1\nD0,3\nhi\n\n")) (Opened (codes "a.m4") [] ∷ []) ≡ done (codes "hi\n") [] 0
+issued_text : run usual (from (codes "V1\nD0,3\nhi\n\n")) (Opened (codes "a.m4") [] ∷ []) ≡ done (codes "hi\n") [] 0
 unfolding steps.file_at steps.version_at steps.directives_at steps.directive_at steps.pair_at steps.diversion_at steps.length_at steps.string_at
 issued_text = refl
 
 -- a frozen file of a newer version: nothing is read
-newer_file : run usual (Some (codes "# c\n\nV2\n")) (Opened (codes "a.m4") (codes "x") ∷ []) ≡ record (done [] [] 0) { how = Ends (causes.Frozen (record { kind = kinds.Newer; offset = 6 })); status = 63 }
+newer_file : run usual (from (codes "# c\n\nV2\n")) (Opened (codes "a.m4") (codes "x") ∷ []) ≡ record (done [] [] 0) { how = Ends (causes.Frozen (record { kind = kinds.Newer; offset = 6 })); status = 63 }
 unfolding steps.file_at steps.version_at steps.directives_at steps.directive_at steps.pair_at steps.diversion_at steps.length_at steps.string_at
 newer_file = refl
 
 -- a builtin of another m4
-placeholder : run freezing (Some (codes "V1\nF6,6\nregexpregexp\n")) (Opened (codes "b.m4") (codes "regexp(`a',`b')!\n") ∷ []) ≡ record (done (codes "!\n") (codes "m4:b.m4:1: Warning: builtin `regexp' requested by frozen file is not supported\n") 1) { frozen = Some (codes "# m4 frozen state\nV1\nF6,6\nregexpregexp\n# End of frozen state file\n") }
+placeholder : run freezing (from (codes "V1\nF6,6\nregexpregexp\n")) (Opened (codes "b.m4") (codes "regexp(`a',`b')!\n") ∷ []) ≡ record (done (codes "!\n") (codes "m4:b.m4:1: Warning: builtin `regexp' requested by frozen file is not supported\n") 1) { frozen = Some (codes "# m4 frozen state\nV1\nF6,6\nregexpregexp\n# End of frozen state file\n") }
 unfolding digits steps.file_at steps.version_at steps.directives_at steps.directive_at steps.pair_at steps.diversion_at steps.length_at steps.string_at
 placeholder = refl
 
 -- what was reloaded is frozen again, with what was defined since
-frozen_again : run freezing (Some (codes "V1\nF6,6\ndefinedefine\nT1,1\nab\n")) (Opened (codes "b.m4") (codes "a define(`c',`d$1')a\n") ∷ []) ≡ record (done (codes "b b\n") [] 3) { frozen = Some (codes "# m4 frozen state\nV1\nT1,1\nab\nT1,3\ncd$1\nF6,6\ndefinedefine\n# End of frozen state file\n") }
+frozen_again : run freezing (from (codes "V1\nF6,6\ndefinedefine\nT1,1\nab\n")) (Opened (codes "b.m4") (codes "a define(`c',`d$1')a\n") ∷ []) ≡ record (done (codes "b b\n") [] 3) { frozen = Some (codes "# m4 frozen state\nV1\nT1,1\nab\nT1,3\ncd$1\nF6,6\ndefinedefine\n# End of frozen state file\n") }
 unfolding digits steps.file_at steps.version_at steps.directives_at steps.directive_at steps.pair_at steps.diversion_at steps.length_at steps.string_at
 frozen_again = refl
 
 -- text goes to the diversion that a frozen file left current, and is issued at the end
-into_a_diversion : run usual (Some (codes "V1\nD2,4\ntwo\n\n")) (Opened (codes "b.m4") (codes "more\n") ∷ []) ≡ done (codes "two\nmore\n") [] 0
+into_a_diversion : run usual (from (codes "V1\nD2,4\ntwo\n\n")) (Opened (codes "b.m4") (codes "more\n") ∷ []) ≡ done (codes "two\nmore\n") [] 0
 unfolding steps.file_at steps.version_at steps.directives_at steps.directive_at steps.pair_at steps.diversion_at steps.length_at steps.string_at
 into_a_diversion = refl
 
 -- a negative number discards it
-discarded : run usual (Some (codes "V1\nD-1,0\n\n")) (Opened (codes "b.m4") (codes "x\n") ∷ []) ≡ done [] [] 0
+discarded : run usual (from (codes "V1\nD-1,0\n\n")) (Opened (codes "b.m4") (codes "x\n") ∷ []) ≡ done [] [] 0
 unfolding steps.file_at steps.version_at steps.directives_at steps.directive_at steps.pair_at steps.diversion_at steps.length_at steps.string_at
 discarded = refl
 
@@ -109,11 +114,11 @@ unfolding digits greeting_text
 greeting_frozen = refl
 
 -- the run that goes on from it makes the greeting
-greeting_reloaded : run usual (Some greeting_text) (Opened (codes "b.m4") (codes "hi(`you')\n") ∷ []) ≡ done (codes "Hello you.\n") [] 1
+greeting_reloaded : run usual (from greeting_text) (Opened (codes "b.m4") (codes "hi(`you')\n") ∷ []) ≡ done (codes "Hello you.\n") [] 1
 unfolding digits greeting_text steps.file_at steps.version_at steps.directives_at steps.directive_at steps.pair_at steps.diversion_at steps.length_at steps.string_at
 greeting_reloaded = refl
 
 -- a run that freezes keeps its diversions
-diversions_are_frozen : run freezing (Some (codes "V1\nD2,4\ntwo\n\n")) (Opened (codes "b.m4") (codes "more\n") ∷ []) ≡ record (done [] [] 0) { frozen = Some (codes "# m4 frozen state\nV1\nD2,9\ntwo\nmore\n\n# End of frozen state file\n") }
+diversions_are_frozen : run freezing (from (codes "V1\nD2,4\ntwo\n\n")) (Opened (codes "b.m4") (codes "more\n") ∷ []) ≡ record (done [] [] 0) { frozen = Some (codes "# m4 frozen state\nV1\nD2,9\ntwo\nmore\n\n# End of frozen state file\n") }
 unfolding digits steps.file_at steps.version_at steps.directives_at steps.directive_at steps.pair_at steps.diversion_at steps.length_at steps.string_at
 diversions_are_frozen = refl

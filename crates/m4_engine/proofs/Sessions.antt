@@ -1,23 +1,25 @@
 -- Sessions: what a session's calls make of what the machine leaves.
-use Rattle.std.proofs.Common.{◌≡◌, inr, ℕ, Bool, false, List, [], Option, Some, None, refl, sym, ap, ◌∙◌, subst}
+use Rattle.std.proofs.Common.{◌≡◌, inr, ℕ, Bool, true, false, List, [], Option, Some, None, refl, sym, ap, ◌∙◌, subst}
 use Rattle.std.specs.Prelude.{Result, Ok, Err}
-use Rattle.m4_state.specs.State.{State}
-use Rattle.m4_state.specs.Device.{Script, after_bytes, IsAtEnd, HasBegun}
+use Rattle.m4_state.proofs.CallerLaws.{with_bytes-nil}
+use Rattle.m4_state.specs.State.{State, IsSized}
+use Rattle.m4_state.specs.Device.{Script, after_bytes, IsAtEnd, with_bytes, HasBegun}
 use Rattle.m4_input.specs.Pending.{Pending}
 use Rattle.m4_input.specs.Input.{Held, unread_file, longer, Reads, WholeGives}
+use Rattle.m4_frozen.specs.Freeze.{freeze}
 use Rattle.m4_engine.specs.declared.ending.Cause.{Cause}
 use Rattle.m4_engine.specs.declared.ending.Cause.TheVariants as causes
 use Rattle.m4_engine.specs.declared.stop.Stop.{Stop}
 use Rattle.m4_engine.specs.declared.stop.Stop.TheVariants as stops
 use Rattle.m4_engine.specs.Expansion.{How, Ends, Ended}
 use Rattle.m4_engine.specs.File.{Progress, file_pending, over_of, over_by, after_input}
-use Rattle.m4_engine.specs.Run.{result_of}
+use Rattle.m4_engine.specs.Run.{closed_output, result_of}
 use Rattle.m4_engine.specs.Wraps.{after_wraps, close}
 use Rattle.m4_engine.proofs.Begins.{nothing_begun}
 use Rattle.m4_engine.specs.Engine.{Engine}
-use Rattle.m4_engine.specs.Expands.{comes_to, Expanded, Expands, at_rest}
-use Rattle.m4_engine.specs.Session.{Standing, progress_of, written, how_over, IsOpen, FileDone, FileBroke, FileGives, answer_by, over_behind, behind_wraps, FinishGives}
-use Rattle.m4_engine.specs.Writers.{Contents, Broken}
+use Rattle.m4_engine.specs.Expands.{comes_to, Expanded, Expands, EndsInput, at_rest}
+use Rattle.m4_engine.specs.Session.{Standing, progress_of, written, how_over, IsOpen, FileDone, FileBroke, FileGives, answer_by, over_behind, behind_wraps, last_state, Unfinished, EndGives, FinishGives, FreezeGives, CloseGives}
+use Rattle.m4_engine.specs.Writers.{Contents, Three, Broken, writers}
 
 -- what a file's input has in hand when it was read
 pub whole_file : (name x : List ℕ) (before behind : Option Script) (p : Pending) → Reads before behind (unread_file name).pending x p → p.may_follow ≡ false → p ≡ file_pending name x false
@@ -77,7 +79,7 @@ file_broke e0 e1 missed name x cause before behind p w g a e d = (
   inr (a, subst (λ (p : Pending). Broken (comes_to e0 p) w) e d),
 )
 
-by_cause : (e0 e1 : Engine) (missed : Bool) (name x : List ℕ) (cause : Cause) (before behind : Option Script) (p : Pending) (w : Contents) → before ≡ after_bytes x behind → IsAtEnd behind → p ≡ file_pending name x false → Expands e0 e1 p w cause → (cause ≡ causes.Read → ⊥) → FileGives name before behind (standing_of e0 missed None false) (standing_of (at_rest e1) missed (over_behind cause None) false) w (answer_by cause)
+by_cause : (e0 e1 : Engine) (missed : Bool) (name x : List ℕ) (cause : Cause) (before behind : Option Script) (p : Pending) (w : Contents) → before ≡ after_bytes x behind → IsAtEnd behind → p ≡ file_pending name x false → Expands e0 e1 p w cause → EndsInput cause → FileGives name before behind (standing_of e0 missed None false) (standing_of (at_rest e1) missed (over_behind cause None) false) w (answer_by cause)
 by_cause e0 e1 missed name x causes.Done before behind p w g a e d u = file_done e0 e1 missed name x None causes.Done before behind p w g a e d refl
 by_cause e0 e1 missed name x (causes.Exited n) before behind p w g a e d u = file_done e0 e1 missed name x (Some (causes.Exited n)) (causes.Exited n) before behind p w g a e d refl
 by_cause e0 e1 missed name x causes.EndInString before behind p w g a e d u = file_done e0 e1 missed name x (Some causes.EndInString) causes.EndInString before behind p w g a e d refl
@@ -85,13 +87,13 @@ by_cause e0 e1 missed name x causes.EndInComment before behind p w g a e d u = f
 by_cause e0 e1 missed name x causes.EndInArguments before behind p w g a e d u = file_done e0 e1 missed name x (Some causes.EndInArguments) causes.EndInArguments before behind p w g a e d refl
 by_cause e0 e1 missed name x causes.ExpansionLimit before behind p w g a e d u = file_done e0 e1 missed name x (Some causes.ExpansionLimit) causes.ExpansionLimit before behind p w g a e d refl
 by_cause e0 e1 missed name x causes.NestingLimit before behind p w g a e d u = file_done e0 e1 missed name x (Some causes.NestingLimit) causes.NestingLimit before behind p w g a e d refl
-by_cause e0 e1 missed name x (causes.Frozen f) before behind p w g a e d u = file_done e0 e1 missed name x (Some (causes.Frozen f)) (causes.Frozen f) before behind p w g a e d refl
-by_cause e0 e1 missed name x causes.Read before behind p w g a e d u = absurd (u refl)
+by_cause e0 e1 missed name x (causes.Frozen f) before behind p w g a e d u = absurd u
+by_cause e0 e1 missed name x causes.Read before behind p w g a e d u = absurd u
 by_cause e0 e1 missed name x causes.Write before behind p w g a e d u = file_broke e0 e1 missed name x causes.Write before behind p w g a e d
 by_cause e0 e1 missed name x causes.OutOfMemory before behind p w g a e d u = file_broke e0 e1 missed name x causes.OutOfMemory before behind p w g a e d
 
 -- a file that was read whole
-pub file_gives : (old new : Standing) (e0 e1 e2 : Engine) (missed : Bool) (over : Option Cause) (finished : Bool) (name : List ℕ) (i0 i : Held) (before behind : Option Script) (w : Contents) (cause : Cause) (result : Result Unit Stop) → old ≡ standing_of e0 missed over finished → IsOpen old → i0 ≡ unread_file name → WholeGives before behind i0 i (Ok tt) → Expands e0 e1 i.pending w cause → (cause ≡ causes.Read → ⊥) → e2 ≡ at_rest e1 → new ≡ standing_of e2 missed (over_behind cause over) finished → result ≡ answer_by cause → FileGives name before behind old new w result
+pub file_gives : (old new : Standing) (e0 e1 e2 : Engine) (missed : Bool) (over : Option Cause) (finished : Bool) (name : List ℕ) (i0 i : Held) (before behind : Option Script) (w : Contents) (cause : Cause) (result : Result Unit Stop) → old ≡ standing_of e0 missed over finished → IsOpen old → i0 ≡ unread_file name → WholeGives before behind i0 i (Ok tt) → Expands e0 e1 i.pending w cause → EndsInput cause → e2 ≡ at_rest e1 → new ≡ standing_of e2 missed (over_behind cause over) finished → result ≡ answer_by cause → FileGives name before behind old new w result
 file_gives old new e0 e1 e2 missed over finished name i0 i before behind w cause result o l n h d u z v r =
     let b : over ≡ None = sym (ap (λ (s : Standing). s.over) o) ∙ l.over in
     let f : finished ≡ false = sym (ap (λ (s : Standing). s.finished) o) ∙ l.unfinished in
@@ -114,17 +116,68 @@ behind_is s l e =
     ∙ sym (ap (λ (o : Option Cause). progress_of (record s { over = o })) l.over)
 
 -- what a run puts out behind its saved texts, where none is saved
-ended_output : (s : Standing) → s.over ≡ None → (result_of false [] (progress_of s)).output ≡ close s.state
-ended_output s e = ap (λ (o : Option Cause). (result_of false [] (progress_of (record s { over = o }))).output) e
+ended_output : (freezes : Bool) (s : Standing) → s.over ≡ None → (result_of freezes [] (progress_of s)).output ≡ closed_output freezes (progress_of s).so_far
+ended_output freezes s e = ap (λ (o : Option Cause). (result_of freezes [] (progress_of (record s { over = o }))).output) e
+
+-- the end of a run broke off, with so much of what it still puts out written
+broke_off : (freezes : Bool) (old new : Standing) (w : Contents) (cause : Cause) → IsOpen old → old.saved ≡ [] → new.over ≡ Some cause → w.messages_new ≡ w.messages_old → HasBegun w.out_old w.out_new (closed_output freezes (progress_of old).so_far) → Unfinished freezes old new w cause
+broke_off freezes old new w cause l e o m h =
+    let p : progress_of old ≡ behind_wraps old = sym (behind_is old l e) in
+    record {
+      live = l;
+      over = o;
+      output = subst (HasBegun w.out_old w.out_new) (sym (ended_output freezes old l.over) ∙ ap (λ (x : Progress). (result_of freezes [] x).output) p) h;
+      messages = subst (λ (x : Progress). HasBegun w.messages_old w.messages_new (x.so_far).messages) p
+          (subst (λ x. HasBegun w.messages_old x []) (sym m) (nothing_begun w.messages_old []));
+    }
 
 -- the diversions could not be issued
 pub finish_broke : (old new : Standing) (w : Contents) (s : Stop) → IsOpen old → old.saved ≡ [] → s ≡ stops.Ended causes.Write → new.over ≡ Some causes.Write → w.messages_new ≡ w.messages_old → HasBegun w.out_old w.out_new (close old.state) → FinishGives old new w (Err s)
-finish_broke old new w s l e i o m h =
+finish_broke old new w s l e i o m h = subst (λ (x : Stop). FinishGives old new w (Err x)) (sym i) (broke_off false old new w causes.Write l e o m h)
+
+-- the state was frozen
+pub froze : (old new : Standing) (s : State) (out told frozen frozen' : Option (List ℕ)) → IsOpen old → old.saved ≡ [] → s ≡ old.state → new ≡ record old { finished = true } → frozen' ≡ with_bytes frozen (freeze s) → IsSized s → FreezeGives old new (record { two = writers out out told told; frozen_old = frozen; frozen_new = frozen' }) (Ok tt)
+froze old new s out told frozen frozen' l e i n f z =
     let p : progress_of old ≡ behind_wraps old = sym (behind_is old l e) in
-    subst (λ (x : Stop). FinishGives old new w (Err x)) (sym i) (record {
-      live = l;
-      over = o;
-      output = subst (HasBegun w.out_old w.out_new) (sym (ended_output old l.over) ∙ ap (λ (x : Progress). (result_of false [] x).output) p) h;
-      messages = subst (λ (x : Progress). HasBegun w.messages_old w.messages_new (x.so_far).messages) p
-          (subst (λ x. HasBegun w.messages_old x []) (sym m) (nothing_begun w.messages_old []));
-    })
+    let t : s ≡ last_state old = i ∙ ap (λ (x : Progress). (x.so_far).state) p in
+    (
+      record {
+        live = l;
+        finished = ap (λ (x : Standing). x.finished) n;
+        over = ap (λ (x : Standing). x.over) n ∙ l.over;
+        missed = ap (λ (x : Standing). x.missed) n;
+        saved = ap (λ (x : Standing). x.saved) n ∙ e;
+        calls = ap (λ (x : Standing). x.calls) n ∙ ap (λ (x : Progress). (x.so_far).calls) p;
+        ended = ap (λ (x : Progress). x.over) (sym p) ∙ ap how_over l.over;
+        output = with_bytes-nil out ∙ ap (λ (x : Progress). with_bytes out (closed_output true x.so_far)) p;
+        messages = with_bytes-nil told ∙ ap (λ (x : Progress). with_bytes told (x.so_far).messages) p;
+      },
+      (f ∙ ap (λ x. with_bytes frozen (freeze x)) t, subst IsSized t z),
+    )
+
+-- the frozen text broke off
+pub freeze_broke : (old new : Standing) (s : State) (e : Stop) (out told frozen frozen' : Option (List ℕ)) → IsOpen old → old.saved ≡ [] → s ≡ old.state → e ≡ stops.Ended causes.Write → new.over ≡ Some causes.Write → HasBegun frozen frozen' (freeze s) → FreezeGives old new (record { two = writers out out told told; frozen_old = frozen; frozen_new = frozen' }) (Err e)
+freeze_broke old new s e out told frozen frozen' l v i k o f =
+    let p : progress_of old ≡ behind_wraps old = sym (behind_is old l v) in
+    let t : s ≡ last_state old = i ∙ ap (λ (x : Progress). (x.so_far).state) p in
+    subst (λ (x : Stop). FreezeGives old new (record { two = writers out out told told; frozen_old = frozen; frozen_new = frozen' }) (Err x)) (sym k)
+    (
+      broke_off true old new (writers out out told told) causes.Write l v o refl (nothing_begun out _),
+      inr (record {
+        ended = ap (λ (x : Progress). x.over) (sym p) ∙ ap how_over l.over;
+        begun = subst (λ x. HasBegun frozen frozen' (freeze x)) t f;
+        output = with_bytes-nil out ∙ ap (λ (x : Progress). with_bytes out (x.so_far).output) p;
+        messages = with_bytes-nil told ∙ ap (λ (x : Progress). with_bytes told (x.so_far).messages) p;
+      }),
+    )
+
+-- memory ran out before the frozen text was begun
+pub freeze_lacked : (old new : Standing) (e : Stop) (out told frozen frozen' : Option (List ℕ)) → IsOpen old → old.saved ≡ [] → e ≡ stops.Ended causes.OutOfMemory → new.over ≡ Some causes.OutOfMemory → frozen' ≡ frozen → FreezeGives old new (record { two = writers out out told told; frozen_old = frozen; frozen_new = frozen' }) (Err e)
+freeze_lacked old new e out told frozen frozen' l v k o f =
+    subst (λ (x : Stop). FreezeGives old new (record { two = writers out out told told; frozen_old = frozen; frozen_new = frozen' }) (Err x)) (sym k)
+    (broke_off true old new (writers out out told told) causes.OutOfMemory l v o refl (nothing_begun out _), f)
+
+-- the end of a run, of the writers of output and messages
+pub close_ends : (freezes : Bool) (old new : Standing) (w : Three (Option (List ℕ))) (r : Result Unit Stop) → CloseGives freezes old new w r → EndGives freezes old new w.two r
+close_ends true old new w r h = h.0
+close_ends false old new w r h = h.0

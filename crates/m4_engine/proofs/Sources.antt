@@ -88,7 +88,7 @@ opened_goes old new name before behind w (Err (stops.Ended causes.EndInComment))
 opened_goes old new name before behind w (Err (stops.Ended causes.EndInArguments)) s l t h = done_goes old new name before behind w s (Some causes.EndInArguments) t h
 opened_goes old new name before behind w (Err (stops.Ended causes.ExpansionLimit)) s l t h = done_goes old new name before behind w s (Some causes.ExpansionLimit) t h
 opened_goes old new name before behind w (Err (stops.Ended causes.NestingLimit)) s l t h = done_goes old new name before behind w s (Some causes.NestingLimit) t h
-opened_goes old new name before behind w (Err (stops.Ended (causes.Frozen f))) s l t h = done_goes old new name before behind w s (Some (causes.Frozen f)) t h
+opened_goes old new name before behind w (Err (stops.Ended (causes.Frozen f))) s l t h = absurd h
 
 pub opened_stands : {R : Type 0} (script : R → Option Script) (old new : Standing) (name : List ℕ) (before after : R) (first behind : RunSource R) (w : Contents) (r : Result Unit Stop) (s : Source) → first ≡ sources.Opened name before → behind ≡ sources.Opened name after → IsOpen old → StandsFor script first behind s → FileGives name (script before) (script after) old new w r → GoesTo (after_source old.limits s (progress_of old)) old new w r
 opened_stands script old new name before after first behind w r s f b l t h =

@@ -1,29 +1,34 @@
 -- Whole: what a session's calls come to, one behind the other, is the run.
-use Rattle.std.proofs.Common.{◌≡◌, ℕ, zero, suc, Bool, true, false, List, [], ◌∷◌, ◌++◌, Option, Some, None, refl, sym, ap, ◌∙◌, subst, append-nil, append_assoc}
+use Rattle.std.proofs.Common.{◌≡◌, ◌⊎◌, inl, inr, ℕ, zero, suc, Bool, true, false, List, [], ◌∷◌, ◌++◌, Option, Some, None, refl, sym, ap, ◌∙◌, subst, append-nil, append_assoc}
 use Rattle.std.specs.Prelude.{OnOk, ◌||◌, Result, Ok, Err}
 use Rattle.m4_state.proofs.CallerLaws.{with_bytes-append}
 use Rattle.m4_state.specs.Device.{with_bytes, HasBegun}
+use Rattle.m4_state.specs.State.{IsSized}
+use Rattle.m4_frozen.specs.Freeze.{freeze}
 use Rattle.m4_engine.specs.declared.ending.Cause.{Cause}
 use Rattle.m4_engine.specs.declared.ending.Cause.TheVariants as causes
 use Rattle.m4_engine.specs.declared.ending.Ending.{Ending}
 use Rattle.m4_engine.specs.declared.stop.Stop.{Stop}
 use Rattle.m4_engine.specs.declared.stop.Stop.TheVariants as stops
-use Rattle.m4_engine.specs.declared.options.Options.{Options}
 use Rattle.m4_engine.specs.Expansion.{RunSoFar, Limits, How, Ends}
 use Rattle.m4_engine.specs.File.{Source, Progress, after_sources}
 use Rattle.m4_engine.specs.Wraps.{read_saved, next_round, rounds, after_wraps, close}
-use Rattle.m4_engine.specs.Run.{RunResult, limits_of, result_by, result_of, saved_behind, saved_unless_over, status_of, run}
-use Rattle.m4_engine.specs.Session.{Standing, progress_of, how_over, how_by, IsOpen, Filed, BrokeOff, GoesTo, behind_wraps, Closed, Unfinished, FinishGives, is_saved, status_at, fresh_standing, IsLeft}
-use Rattle.m4_engine.specs.WholeRun.{wrapped_by, WroteAll, FellShort, RunGives, result_behind, ending_by}
+use Rattle.m4_engine.specs.Run.{RunResult, closed_output, frozen_text, result_by, result_of, saved_behind, saved_unless_over, status_of}
+use Rattle.m4_engine.specs.Session.{Standing, progress_of, how_over, how_by, IsOpen, Filed, BrokeOff, GoesTo, behind_wraps, Closed, Unfinished, EndGives, FreezeBegan, FrozenGives, CloseGives, is_saved, status_at, IsLeft}
+use Rattle.m4_engine.specs.WholeRun.{wrapped_by, WroteAll, FellShort, GivesBy, HasFrozen, FrozenBegan, FrozenBy, RunGives, result_behind, ending_by}
 use Rattle.m4_engine.specs.Laws.{IsBeginning}
-use Rattle.m4_engine.specs.Writers.{Contents, writers}
+use Rattle.m4_engine.specs.Writers.{Contents, Three, writers, IsSpared}
 use Rattle.m4_engine.proofs.OnlyGrows.{extends_same}
 use Rattle.m4_engine.proofs.OnePass.{over_wraps, finish_begins}
 use Rattle.m4_engine.proofs.Begins.{nothing_begun, begun_behind}
 use Rattle.m4_engine.proofs.Reading.{behind, wraps_after, written_behind, over_behind_it}
 
+-- what a run's two writers have, by the cause that ended it
+abbrev GivesIn : RunResult → Ending → Contents → Type 0
+GivesIn r e w = GivesBy e.cause r e w
+
 -- a beginning of a beginning
-begun_longer : (o n : Option (List ℕ)) (x y : List ℕ) → HasBegun o n x → IsBeginning x y → HasBegun o n y
+pub begun_longer : (o n : Option (List ℕ)) (x y : List ℕ) → HasBegun o n x → IsBeginning x y → HasBegun o n y
 begun_longer o n x y h b = (
   h.0 ++ b.0,
   record {
@@ -34,9 +39,9 @@ begun_longer o n x y h b = (
 )
 
 -- a source broke off
-broke_short : (limits : Limits) (ss : List Source) (p : Progress) (new : Standing) (w : Contents) (cause : Cause) (e : Ending) → e.wrapped ≡ false → BrokeOff new p w cause → FellShort (result_behind limits ss p) e w
-broke_short limits ss p new w cause e f h =
-    let k = finish_begins false (saved_behind ss p) limits p.so_far p (extends_same p.so_far) in
+broke_short : (freezes : Bool) (limits : Limits) (ss : List Source) (p : Progress) (new : Standing) (w : Contents) (cause : Cause) (e : Ending) → e.wrapped ≡ false → BrokeOff new p w cause → FellShort (result_behind freezes limits ss p) e w
+broke_short freezes limits ss p new w cause e f h =
+    let k = finish_begins freezes (saved_behind ss p) limits p.so_far p (extends_same p.so_far) in
     record {
       wrapped = f;
       output = begun_longer w.out_old w.out_new _ _ h.output k.0;
@@ -44,7 +49,7 @@ broke_short limits ss p new w cause e f h =
     }
 
 -- a run that is over has no text saved
-none_saved : (ss : List Source) (p : Progress) (h : How) → p.over ≡ Some h → saved_behind ss p ≡ []
+pub none_saved : (ss : List Source) (p : Progress) (h : How) → p.over ≡ Some h → saved_behind ss p ≡ []
 none_saved [] p h e = refl
 none_saved (s ∷ ss) p h e = ap (λ (o : Option How). saved_unless_over o p.so_far) e
 
@@ -66,13 +71,13 @@ over_status : (new : Standing) (cause : Cause) (missed : Bool) → new.over ≡ 
 over_status new cause missed e f = ap (λ (o : Option Cause). status_of (how_by o) new.missed) e ∙ ap (status_of (Ends cause)) f
 
 -- a source ended the run
-over_there : (ss : List Source) (p : Progress) (old new : Standing) (w : Contents) (cause : Cause) → Filed old new p w → new.over ≡ Some cause → WroteAll (result_behind old.limits ss p) (record { status = status_at new; cause = cause; wrapped = false }) w
-over_there ss p old new w cause f o =
+over_there : (freezes : Bool) (ss : List Source) (p : Progress) (old new : Standing) (w : Contents) (cause : Cause) → Filed old new p w → new.over ≡ Some cause → WroteAll (result_behind freezes old.limits ss p) (record { status = status_at new; cause = cause; wrapped = false }) w
+over_there freezes ss p old new w cause f o =
     let v : p.over ≡ Some (Ends cause) = over_behind_it new p cause f.progress o in
-    let q : result_behind old.limits ss p ≡ result_by (Some (Ends cause)) false [] p.so_far p.missed =
-    ap (result_of false (saved_behind ss p)) (over_wraps old.limits p (Ends cause) v)
-    ∙ ap (λ (o : Option How). result_by o false (saved_behind ss p) p.so_far p.missed) v
-    ∙ ap (λ (s : List (List ℕ)). result_by (Some (Ends cause)) false s p.so_far p.missed) (none_saved ss p (Ends cause) v) in
+    let q : result_behind freezes old.limits ss p ≡ result_by (Some (Ends cause)) freezes [] p.so_far p.missed =
+    ap (result_of freezes (saved_behind ss p)) (over_wraps old.limits p (Ends cause) v)
+    ∙ ap (λ (o : Option How). result_by o freezes (saved_behind ss p) p.so_far p.missed) v
+    ∙ ap (λ (s : List (List ℕ)). result_by (Some (Ends cause)) freezes s p.so_far p.missed) (none_saved ss p (Ends cause) v) in
     subst (λ (r : RunResult). WroteAll r (record { status = status_at new; cause = cause; wrapped = false }) w) (sym q) (record {
       how = refl;
       status = over_status new cause p.missed o (ap (λ (x : Progress). x.missed) f.progress);
@@ -82,19 +87,19 @@ over_there ss p old new w cause f o =
     })
 
 -- the run ended before its last source did
-pub ended_early : (ss : List Source) (p : Progress) (old new : Standing) (w : Contents) (e : Stop) → GoesTo p old new w (Err e) → RunGives (result_behind old.limits ss p) (ending_by (status_at new) (Err e)) w
-ended_early ss p old new w stops.Finished h = absurd h
-ended_early ss p old new w (stops.Ended causes.Read) h = broke_short old.limits ss p new w causes.Read _ refl h
-ended_early ss p old new w (stops.Ended causes.Write) h = broke_short old.limits ss p new w causes.Write _ refl h
-ended_early ss p old new w (stops.Ended causes.OutOfMemory) h = broke_short old.limits ss p new w causes.OutOfMemory _ refl h
-ended_early ss p old new w (stops.Ended causes.Done) h = absurd h
-ended_early ss p old new w (stops.Ended (causes.Exited n)) h = over_there ss p old new w (causes.Exited n) h.0 h.1
-ended_early ss p old new w (stops.Ended causes.EndInString) h = over_there ss p old new w causes.EndInString h.0 h.1
-ended_early ss p old new w (stops.Ended causes.EndInComment) h = over_there ss p old new w causes.EndInComment h.0 h.1
-ended_early ss p old new w (stops.Ended causes.EndInArguments) h = over_there ss p old new w causes.EndInArguments h.0 h.1
-ended_early ss p old new w (stops.Ended causes.ExpansionLimit) h = over_there ss p old new w causes.ExpansionLimit h.0 h.1
-ended_early ss p old new w (stops.Ended causes.NestingLimit) h = over_there ss p old new w causes.NestingLimit h.0 h.1
-ended_early ss p old new w (stops.Ended (causes.Frozen f)) h = over_there ss p old new w (causes.Frozen f) h.0 h.1
+ended_early : (freezes : Bool) (ss : List Source) (p : Progress) (old new : Standing) (w : Contents) (e : Stop) → GoesTo p old new w (Err e) → GivesIn (result_behind freezes old.limits ss p) (ending_by (status_at new) (Err e)) w
+ended_early freezes ss p old new w stops.Finished h = absurd h
+ended_early freezes ss p old new w (stops.Ended causes.Read) h = broke_short freezes old.limits ss p new w causes.Read _ refl h
+ended_early freezes ss p old new w (stops.Ended causes.Write) h = broke_short freezes old.limits ss p new w causes.Write _ refl h
+ended_early freezes ss p old new w (stops.Ended causes.OutOfMemory) h = broke_short freezes old.limits ss p new w causes.OutOfMemory _ refl h
+ended_early freezes ss p old new w (stops.Ended causes.Done) h = absurd h
+ended_early freezes ss p old new w (stops.Ended (causes.Exited n)) h = over_there freezes ss p old new w (causes.Exited n) h.0 h.1
+ended_early freezes ss p old new w (stops.Ended causes.EndInString) h = over_there freezes ss p old new w causes.EndInString h.0 h.1
+ended_early freezes ss p old new w (stops.Ended causes.EndInComment) h = over_there freezes ss p old new w causes.EndInComment h.0 h.1
+ended_early freezes ss p old new w (stops.Ended causes.EndInArguments) h = over_there freezes ss p old new w causes.EndInArguments h.0 h.1
+ended_early freezes ss p old new w (stops.Ended causes.ExpansionLimit) h = over_there freezes ss p old new w causes.ExpansionLimit h.0 h.1
+ended_early freezes ss p old new w (stops.Ended causes.NestingLimit) h = over_there freezes ss p old new w causes.NestingLimit h.0 h.1
+ended_early freezes ss p old new w (stops.Ended (causes.Frozen f)) h = absurd h
 
 -- saved texts open no source
 round_missed : (go : Progress → Progress) (limits : Limits) → ((q : Progress) → (go q).missed ≡ q.missed) → (o : Option How) (saved : List (List ℕ)) (p : Progress) → (next_round go limits o saved p).missed ≡ p.missed
@@ -107,20 +112,28 @@ rounds_missed zero limits p = refl
 rounds_missed (suc n) limits p = round_missed (rounds n limits) limits (rounds_missed n limits) p.over (p.so_far).saved p
 
 -- what is written behind what was written before
-result_output : (o m : List ℕ) (over : Option How) (saved : List (List ℕ)) (r : RunSoFar) (missed : Bool) → (result_by over false saved (record r { output = o ++ r.output; messages = m ++ r.messages }) missed).output ≡ o ++ (result_by over false [] r missed).output
-result_output o m None saved r missed = append_assoc o r.output (close r.state)
-result_output o m (Some h) saved r missed = refl
+pub closed_behind : (freezes : Bool) (o m : List ℕ) (r : RunSoFar) → closed_output freezes (record r { output = o ++ r.output; messages = m ++ r.messages }) ≡ o ++ closed_output freezes r
+closed_behind true o m r = refl
+closed_behind false o m r = append_assoc o r.output (close r.state)
 
-result_messages : (o m : List ℕ) (over : Option How) (saved : List (List ℕ)) (r : RunSoFar) (missed : Bool) → (result_by over false saved (record r { output = o ++ r.output; messages = m ++ r.messages }) missed).messages ≡ m ++ r.messages
-result_messages o m None saved r missed = refl
-result_messages o m (Some h) saved r missed = refl
+result_output : (freezes : Bool) (o m : List ℕ) (over : Option How) (saved : List (List ℕ)) (r : RunSoFar) (missed : Bool) → (result_by over freezes saved (record r { output = o ++ r.output; messages = m ++ r.messages }) missed).output ≡ o ++ (result_by over freezes [] r missed).output
+result_output freezes o m None saved r missed = closed_behind freezes o m r
+result_output freezes o m (Some h) saved r missed = refl
+
+result_messages : (freezes : Bool) (o m : List ℕ) (over : Option How) (saved : List (List ℕ)) (r : RunSoFar) (missed : Bool) → (result_by over freezes saved (record r { output = o ++ r.output; messages = m ++ r.messages }) missed).messages ≡ m ++ r.messages
+result_messages freezes o m None saved r missed = refl
+result_messages freezes o m (Some h) saved r missed = refl
 
 -- the saved texts, where there is a source or none stood saved before
 saved_there : (limits : Limits) (ss : List Source) (p0 : Progress) → (p0.so_far).saved ≡ [] → (after_sources limits ss p0).over ≡ None → saved_behind ss (after_sources limits ss p0) ≡ ((after_sources limits ss p0).so_far).saved
 saved_there limits [] p0 e o = sym e
 saved_there limits (s ∷ ss) p0 e o = ap (λ (h : Option How). saved_unless_over h (after_sources limits (s ∷ ss) p0).so_far) o
 
-module _ (limits : Limits) (ss : List Source) (p : Progress) (old mid new : Standing) (out0 out1 out2 told0 told1 told2 : Option (List ℕ)) (l : old.limits ≡ limits) (f : Filed old mid p (writers out0 out1 told0 told1)) (live : mid.over ≡ None) where
+unfrozen : (over : Option How) (saved : List (List ℕ)) (r : RunSoFar) (missed : Bool) → (result_by over false saved r missed).frozen ≡ None
+unfrozen None saved r missed = refl
+unfrozen (Some h) saved r missed = refl
+
+module _ (freezes : Bool) (limits : Limits) (ss : List Source) (p : Progress) (old mid new : Standing) (out0 out1 out2 told0 told1 told2 : Option (List ℕ)) (l : old.limits ≡ limits) (f : Filed old mid p (writers out0 out1 told0 told1)) (live : mid.over ≡ None) where
   abbrev W : Contents
   W = writers out0 out2 told0 told2
 
@@ -136,42 +149,42 @@ module _ (limits : Limits) (ss : List Source) (p : Progress) (old mid new : Stan
       ∙ wraps_after (p.so_far).output (p.so_far).messages limits (progress_of mid)
       ∙ ap (λ (x : Limits). behind (p.so_far).output (p.so_far).messages (after_wraps x (progress_of mid))) (sym (f.limits ∙ l))
 
-  result_is : (o : Option How) → B.over ≡ o → result_behind limits ss p ≡ result_by o false (saved_behind ss p) (behind (p.so_far).output (p.so_far).messages B).so_far B.missed
+  result_is : (o : Option How) → B.over ≡ o → result_behind freezes limits ss p ≡ result_by o freezes (saved_behind ss p) (behind (p.so_far).output (p.so_far).messages B).so_far B.missed
   result_is o e =
-      ap (result_of false (saved_behind ss p)) behind_is
-      ∙ ap (λ (x : Option How). result_by x false (saved_behind ss p) (behind (p.so_far).output (p.so_far).messages B).so_far B.missed) e
+      ap (result_of freezes (saved_behind ss p)) behind_is
+      ∙ ap (λ (x : Option How). result_by x freezes (saved_behind ss p) (behind (p.so_far).output (p.so_far).messages B).so_far B.missed) e
 
   missed_is : B.missed ≡ mid.missed
   missed_is = rounds_missed (suc (mid.limits).calls) mid.limits (progress_of mid)
 
   -- everything was read
-  pub closed_well : (wrapped : Bool) → wrapped ≡ is_saved mid.saved → saved_behind ss p ≡ (p.so_far).saved → Closed mid new V → RunGives (result_behind limits ss p) (ending_by (status_at new) (Ok wrapped)) W
+  pub closed_well : (wrapped : Bool) → wrapped ≡ is_saved mid.saved → saved_behind ss p ≡ (p.so_far).saved → Closed freezes mid new V → GivesIn (result_behind freezes limits ss p) (ending_by (status_at new) (Ok wrapped)) W
   closed_well wrapped e s c =
       subst (λ (r : RunResult). WroteAll r (record { status = status_at new; cause = causes.Done; wrapped = wrapped }) W) (sym (result_is None c.ended)) (record {
         how = refl;
         status = ap (λ (o : Option Cause). status_of (how_by o) new.missed) c.over ∙ ap (status_of (Ends causes.Done)) (c.missed ∙ sym missed_is);
         wrapped = e ∙ ap is_saved (ap (λ (x : Progress). (x.so_far).saved) f.progress ∙ sym s);
         output = c.output
-            ∙ ap (λ (x : Option (List ℕ)). with_bytes x ((B.so_far).output ++ close (B.so_far).state)) f.output
+            ∙ ap (λ (x : Option (List ℕ)). with_bytes x (closed_output freezes B.so_far)) f.output
             ∙ with_bytes-append out0 (p.so_far).output _
-            ∙ ap (with_bytes out0) (sym (append_assoc (p.so_far).output (B.so_far).output (close (B.so_far).state)));
+            ∙ ap (with_bytes out0) (sym (closed_behind freezes (p.so_far).output (p.so_far).messages B.so_far));
         messages = c.messages ∙ ap (λ (x : Option (List ℕ)). with_bytes x (B.so_far).messages) f.messages ∙ with_bytes-append told0 (p.so_far).messages (B.so_far).messages;
       })
 
   -- the end broke off
-  broke_end : (cause : Cause) (e : Ending) → e.wrapped ≡ false → Unfinished mid new V cause → FellShort (result_behind limits ss p) e W
+  broke_end : (cause : Cause) (e : Ending) → e.wrapped ≡ false → Unfinished freezes mid new V cause → FellShort (result_behind freezes limits ss p) e W
   broke_end cause e v u =
       let q = result_is B.over refl in
       record {
         wrapped = v;
-        output = begun_behind out0 out1 out2 (p.so_far).output (result_of false [] B).output [] _ f.output u.output
-            (ap (λ (r : RunResult). r.output) q ∙ result_output (p.so_far).output (p.so_far).messages B.over (saved_behind ss p) B.so_far B.missed ∙ sym (append-nil _));
+        output = begun_behind out0 out1 out2 (p.so_far).output (result_of freezes [] B).output [] _ f.output u.output
+            (ap (λ (r : RunResult). r.output) q ∙ result_output freezes (p.so_far).output (p.so_far).messages B.over (saved_behind ss p) B.so_far B.missed ∙ sym (append-nil _));
         messages = begun_behind told0 told1 told2 (p.so_far).messages (B.so_far).messages [] _ f.messages u.messages
-            (ap (λ (r : RunResult). r.messages) q ∙ result_messages (p.so_far).output (p.so_far).messages B.over (saved_behind ss p) B.so_far B.missed ∙ sym (append-nil _));
+            (ap (λ (r : RunResult). r.messages) q ∙ result_messages freezes (p.so_far).output (p.so_far).messages B.over (saved_behind ss p) B.so_far B.missed ∙ sym (append-nil _));
       }
 
   -- a saved text ended the run
-  over_end : (cause : Cause) → false ≡ wrapped_by cause (saved_behind ss p) → Filed mid new B V → new.over ≡ Some cause → WroteAll (result_behind limits ss p) (record { status = status_at new; cause = cause; wrapped = false }) W
+  over_end : (cause : Cause) → false ≡ wrapped_by cause (saved_behind ss p) → Filed mid new B V → new.over ≡ Some cause → WroteAll (result_behind freezes limits ss p) (record { status = status_at new; cause = cause; wrapped = false }) W
   over_end cause n g o =
       let v : B.over ≡ Some (Ends cause) = over_behind_it new B cause g.progress o in
       subst (λ (r : RunResult). WroteAll r (record { status = status_at new; cause = cause; wrapped = false }) W) (sym (result_is (Some (Ends cause)) v)) (record {
@@ -182,7 +195,7 @@ module _ (limits : Limits) (ss : List Source) (p : Progress) (old mid new : Stan
         messages = g.messages ∙ ap (λ (x : Option (List ℕ)). with_bytes x (B.so_far).messages) f.messages ∙ with_bytes-append told0 (p.so_far).messages (B.so_far).messages;
       })
 
-  pub ended_late : (e : Stop) → IsOpen mid → FinishGives mid new V (Err e) → RunGives (result_behind limits ss p) (ending_by (status_at new) (Err e)) W
+  pub ended_late : (e : Stop) → IsOpen mid → EndGives freezes mid new V (Err e) → GivesIn (result_behind freezes limits ss p) (ending_by (status_at new) (Err e)) W
   ended_late stops.Finished o h = absurd (h.closed o)
   ended_late (stops.Ended causes.Done) o h = absurd h
   ended_late (stops.Ended causes.Read) o h = absurd h
@@ -194,41 +207,137 @@ module _ (limits : Limits) (ss : List Source) (p : Progress) (old mid new : Stan
   ended_late (stops.Ended causes.EndInArguments) o h = over_end causes.EndInArguments refl h.0 h.1
   ended_late (stops.Ended causes.ExpansionLimit) o h = over_end causes.ExpansionLimit refl h.0 h.1
   ended_late (stops.Ended causes.NestingLimit) o h = over_end causes.NestingLimit refl h.0 h.1
-  ended_late (stops.Ended (causes.Frozen x)) o h = over_end (causes.Frozen x) refl h.0 h.1
+  ended_late (stops.Ended (causes.Frozen x)) o h = absurd h
+
+  -- what the writer of the frozen text has
+  frozen_is : freezes ≡ true → B.over ≡ None → (result_behind freezes limits ss p).frozen ≡ Some (freeze (B.so_far).state)
+  frozen_is e o = ap (λ (r : RunResult). r.frozen) (result_is None o) ∙ ap (λ b. frozen_text b (B.so_far).state) e
+
+  none_frozen : freezes ≡ false → (r : RunResult) → r ≡ result_behind freezes limits ss p → r.frozen ≡ None
+  none_frozen e r i =
+      ap (λ (x : RunResult). x.frozen) i
+      ∙ ap (λ b. (result_of b (saved_behind ss p) (after_wraps limits p)).frozen) e
+      ∙ unfrozen (after_wraps limits p).over (saved_behind ss p) (after_wraps limits p).so_far (after_wraps limits p).missed
+
+  module _ (frozen frozen' : Option (List ℕ)) where
+    abbrev W3 : Three (Option (List ℕ))
+    W3 = record { two = W; frozen_old = frozen; frozen_new = frozen' }
+
+    abbrev V3 : Three (Option (List ℕ))
+    V3 = record { two = V; frozen_old = frozen; frozen_new = frozen' }
+
+    frozen_well : freezes ≡ true → B.over ≡ None → FrozenGives mid V3 (Ok tt) → HasFrozen (result_behind freezes limits ss p).frozen W3
+    frozen_well e o h = subst (λ (x : Option (List ℕ)). HasFrozen x W3) (sym (frozen_is e o)) h.0
+
+    frozen_began : freezes ≡ true → IsSpared V3 ⊎ FreezeBegan mid V3 → IsSpared W3 ⊎ FrozenBegan (result_behind freezes limits ss p) W3
+    frozen_began e (inl h) = inl h
+    frozen_began e (inr h) =
+        let q : (result_behind freezes limits ss p).output ≡ (p.so_far).output ++ (B.so_far).output =
+        ap (λ (r : RunResult). r.output) (result_is None h.ended)
+        ∙ ap (λ b. closed_output b (behind (p.so_far).output (p.so_far).messages B).so_far) e in
+        let k : (result_behind freezes limits ss p).messages ≡ (p.so_far).messages ++ (B.so_far).messages =
+        ap (λ (r : RunResult). r.messages) (result_is None h.ended) in
+        inr (record {
+          text = freeze (B.so_far).state;
+          is = frozen_is e h.ended;
+          begun = h.begun;
+          output = h.output ∙ ap (λ (x : Option (List ℕ)). with_bytes x (B.so_far).output) f.output
+              ∙ with_bytes-append out0 (p.so_far).output (B.so_far).output ∙ ap (with_bytes out0) (sym q);
+          messages = h.messages ∙ ap (λ (x : Option (List ℕ)). with_bytes x (B.so_far).messages) f.messages
+              ∙ with_bytes-append told0 (p.so_far).messages (B.so_far).messages ∙ ap (with_bytes told0) (sym k);
+        })
+
+    frozen_late : freezes ≡ true → (e : Stop) → FrozenGives mid V3 (Err e) → IsOpen mid → EndGives freezes mid new V (Err e) → FrozenBy (ending_by (status_at new) (Err e)).cause (result_behind freezes limits ss p) W3
+    frozen_late t stops.Finished h o k = absurd (k.closed o)
+    frozen_late t (stops.Ended causes.Done) h o k = absurd k
+    frozen_late t (stops.Ended causes.Read) h o k = h
+    frozen_late t (stops.Ended causes.Write) h o k = frozen_began t h
+    frozen_late t (stops.Ended causes.OutOfMemory) h o k = h
+    frozen_late t (stops.Ended (causes.Exited n)) h o k = h
+    frozen_late t (stops.Ended causes.EndInString) h o k = h
+    frozen_late t (stops.Ended causes.EndInComment) h o k = h
+    frozen_late t (stops.Ended causes.EndInArguments) h o k = h
+    frozen_late t (stops.Ended causes.ExpansionLimit) h o k = h
+    frozen_late t (stops.Ended causes.NestingLimit) h o k = h
+    frozen_late t (stops.Ended (causes.Frozen x)) h o k = h
+
+    spared_late : (e : Stop) → IsSpared W3 → IsOpen mid → EndGives freezes mid new V (Err e) → FrozenBy (ending_by (status_at new) (Err e)).cause (result_behind freezes limits ss p) W3
+    spared_late stops.Finished h o k = absurd (k.closed o)
+    spared_late (stops.Ended causes.Done) h o k = absurd k
+    spared_late (stops.Ended causes.Read) h o k = h
+    spared_late (stops.Ended causes.Write) h o k = inl h
+    spared_late (stops.Ended causes.OutOfMemory) h o k = h
+    spared_late (stops.Ended (causes.Exited n)) h o k = h
+    spared_late (stops.Ended causes.EndInString) h o k = h
+    spared_late (stops.Ended causes.EndInComment) h o k = h
+    spared_late (stops.Ended causes.EndInArguments) h o k = h
+    spared_late (stops.Ended causes.ExpansionLimit) h o k = h
+    spared_late (stops.Ended causes.NestingLimit) h o k = h
+    spared_late (stops.Ended (causes.Frozen x)) h o k = h
+
+    -- the end by its answer
+    late_by : (b : Bool) → b ≡ freezes → (e : Stop) → IsOpen mid → CloseGives b mid new V3 (Err e) → RunGives (result_behind freezes limits ss p) (ending_by (status_at new) (Err e)) W3
+    late_by true t e o h =
+        let k : EndGives freezes mid new V (Err e) = subst (λ b. EndGives b mid new V (Err e)) t h.0 in
+        record { gives = ended_late e o k; frozen = frozen_late (sym t) e h.1 o k }
+    late_by false t e o h =
+        let k : EndGives freezes mid new V (Err e) = subst (λ b. EndGives b mid new V (Err e)) t h.0 in
+        record { gives = ended_late e o k; frozen = spared_late e h.1 o k }
+
+    well_by : (b : Bool) → b ≡ freezes → (wrapped : Bool) → wrapped ≡ is_saved mid.saved → saved_behind ss p ≡ (p.so_far).saved → CloseGives b mid new V3 (Ok tt) → RunGives (result_behind freezes limits ss p) (ending_by (status_at new) (Ok wrapped)) W3
+    well_by true t wrapped e s h =
+        let k : Closed freezes mid new V = subst (λ b. Closed b mid new V) t h.0 in
+        record { gives = closed_well wrapped e s k; frozen = frozen_well (sym t) k.ended h.1 }
+    well_by false t wrapped e s h =
+        let k : Closed freezes mid new V = subst (λ b. Closed b mid new V) t h.0 in
+        record {
+          gives = closed_well wrapped e s k;
+          frozen = subst (λ (x : Option (List ℕ)). HasFrozen x W3) (sym (none_frozen (sym t) (result_behind freezes limits ss p) refl)) h.1;
+        }
+
+    -- the state that was frozen is sized
+    sized_by : (b : Bool) → CloseGives b mid new V3 (Ok tt) → b ≡ true → IsSized ((after_wraps limits p).so_far).state
+    sized_by true h t = subst (λ (q : Progress). IsSized (q.so_far).state) (sym behind_is) (h.1).1
+    sized_by false h t = cc
 
 -- the same with answers of their own
-pub early_so : (ss : List Source) (p : Progress) (old new : Standing) (w : Contents) (e : Stop) (q : Result Unit Stop) (r : Result Bool Stop) → q ≡ Err e → r ≡ Err e → GoesTo p old new w q → RunGives (result_behind old.limits ss p) (ending_by (status_at new) r) w
-early_so ss p old new w e q r f g h =
-    subst (λ (x : Result Bool Stop). RunGives (result_behind old.limits ss p) (ending_by (status_at new) x) w) (sym g)
-    (ended_early ss p old new w e (subst (GoesTo p old new w) f h))
+spared_early : (c : RunResult) (status : ℕ) (e : Stop) (w : Three (Option (List ℕ))) (new : Standing) → IsLeft {A = Unit} new (Err e) → IsSpared w → FrozenBy (ending_by status (Err e)).cause c w
+spared_early c status stops.Finished w new l h = absurd l
+spared_early c status (stops.Ended causes.Done) w new l h = absurd l
+spared_early c status (stops.Ended causes.Read) w new l h = h
+spared_early c status (stops.Ended causes.Write) w new l h = inl h
+spared_early c status (stops.Ended causes.OutOfMemory) w new l h = h
+spared_early c status (stops.Ended (causes.Exited n)) w new l h = h
+spared_early c status (stops.Ended causes.EndInString) w new l h = h
+spared_early c status (stops.Ended causes.EndInComment) w new l h = h
+spared_early c status (stops.Ended causes.EndInArguments) w new l h = h
+spared_early c status (stops.Ended causes.ExpansionLimit) w new l h = h
+spared_early c status (stops.Ended causes.NestingLimit) w new l h = h
+spared_early c status (stops.Ended (causes.Frozen x)) w new l h = h
 
-pub late_so : (limits : Limits) (ss : List Source) (p : Progress) (old mid new : Standing) (out0 out1 out2 told0 told1 told2 : Option (List ℕ)) → old.limits ≡ limits → GoesTo p old mid (writers out0 out1 told0 told1) (Ok tt) → (e : Stop) (q : Result Unit Stop) (r : Result Bool Stop) → q ≡ Err e → r ≡ Err e → IsOpen mid → FinishGives mid new (writers out1 out2 told1 told2) q → RunGives (result_behind limits ss p) (ending_by (status_at new) r) (writers out0 out2 told0 told2)
-late_so limits ss p old mid new out0 out1 out2 told0 told1 told2 l f e q r i j o h =
-    subst (λ (x : Result Bool Stop). RunGives (result_behind limits ss p) (ending_by (status_at new) x) (writers out0 out2 told0 told2)) (sym j)
-    (ended_late limits ss p old mid new out0 out1 out2 told0 told1 told2 l f.0 f.1 e o (subst (FinishGives mid new (writers out1 out2 told1 told2)) i h))
-
-pub well_so : (limits : Limits) (ss : List Source) (old mid new : Standing) (out0 out1 out2 told0 told1 told2 : Option (List ℕ)) → old.limits ≡ limits → GoesTo (after_sources limits ss (progress_of old)) old mid (writers out0 out1 told0 told1) (Ok tt) → old.saved ≡ [] → (wrapped : Bool) → wrapped ≡ is_saved mid.saved → Closed mid new (writers out1 out2 told1 told2) → RunGives (result_behind limits ss (after_sources limits ss (progress_of old))) (ending_by (status_at new) (Ok wrapped)) (writers out0 out2 told0 told2)
-well_so limits ss old mid new out0 out1 out2 told0 told1 told2 l f e wrapped v c =
-    let p : Progress = after_sources limits ss (progress_of old) in
-    let o : p.over ≡ None = ap (λ (x : Progress). x.over) (sym (f.0).progress) ∙ ap how_over f.1 in
-    closed_well limits ss p old mid new out0 out1 out2 told0 told1 told2 l f.0 f.1 wrapped v (saved_there limits ss (progress_of old) e o) c
-
--- a run that did not begin, for want of memory
-pub never_began : (r : RunResult) (e : Ending) (out told : Option (List ℕ)) → e ≡ ending_by 1 (Err (stops.Ended causes.OutOfMemory)) → RunGives r e (writers out out told told)
-never_began r e out told i =
-    subst (λ (x : Ending). RunGives r x (writers out out told told)) (sym i) (record {
-      wrapped = refl;
-      output = nothing_begun out r.output;
-      messages = nothing_begun told r.messages;
+pub early_so : (freezes : Bool) (ss : List Source) (p : Progress) (old new : Standing) (w : Three (Option (List ℕ))) (e : Stop) (q : Result Unit Stop) (r : Result Bool Stop) → q ≡ Err e → r ≡ Err e → IsLeft new q → IsSpared w → GoesTo p old new w.two q → RunGives (result_behind freezes old.limits ss p) (ending_by (status_at new) r) w
+early_so freezes ss p old new w e q r f g l k h =
+    subst (λ (x : Result Bool Stop). RunGives (result_behind freezes old.limits ss p) (ending_by (status_at new) x) w) (sym g)
+    (record {
+      gives = ended_early freezes ss p old new w.two e (subst (GoesTo p old new w.two) f h);
+      frozen = spared_early (result_behind freezes old.limits ss p) (status_at new) e w new (subst (IsLeft new) f l) k;
     })
 
--- from the fresh state, where nothing is frozen
-pub whole_run : (o : Options) (ss : List Source) (s : Standing) (x e : Ending) (w : Contents) → o.freeze ≡ false → s ≡ fresh_standing o → e ≡ x → RunGives (result_behind s.limits ss (after_sources s.limits ss (progress_of s))) x w → RunGives (run o None ss) e w
-whole_run o ss s x e w f i j h =
-    let p : Progress = after_sources (limits_of o) ss (progress_of (fresh_standing o)) in
-    subst (λ (y : Ending). RunGives (run o None ss) y w) (sym j)
-    (subst (λ (b : Bool). RunGives (result_of b (saved_behind ss p) (after_wraps (limits_of o) p)) x w) (sym f)
-    (subst (λ (y : Standing). RunGives (result_behind y.limits ss (after_sources y.limits ss (progress_of y))) x w) i h))
+pub late_so : (freezes : Bool) (limits : Limits) (ss : List Source) (p : Progress) (old mid new : Standing) (out0 out1 out2 told0 told1 told2 frozen frozen' : Option (List ℕ)) → old.limits ≡ limits → GoesTo p old mid (writers out0 out1 told0 told1) (Ok tt) → (e : Stop) (q : Result Unit Stop) (r : Result Bool Stop) → q ≡ Err e → r ≡ Err e → IsOpen mid → CloseGives freezes mid new (record { two = writers out1 out2 told1 told2; frozen_old = frozen; frozen_new = frozen' }) q → RunGives (result_behind freezes limits ss p) (ending_by (status_at new) r) (record { two = writers out0 out2 told0 told2; frozen_old = frozen; frozen_new = frozen' })
+late_so freezes limits ss p old mid new out0 out1 out2 told0 told1 told2 frozen frozen' l f e q r i j o h =
+    let v : Three (Option (List ℕ)) = record { two = writers out1 out2 told1 told2; frozen_old = frozen; frozen_new = frozen' } in
+    subst (λ (x : Result Bool Stop). RunGives (result_behind freezes limits ss p) (ending_by (status_at new) x) (record { two = writers out0 out2 told0 told2; frozen_old = frozen; frozen_new = frozen' })) (sym j)
+    (late_by freezes limits ss p old mid new out0 out1 out2 told0 told1 told2 l f.0 f.1 frozen frozen' freezes refl e o (subst (CloseGives freezes mid new v) i h))
+
+pub well_so : (freezes : Bool) (limits : Limits) (ss : List Source) (old mid new : Standing) (out0 out1 out2 told0 told1 told2 frozen frozen' : Option (List ℕ)) → old.limits ≡ limits → GoesTo (after_sources limits ss (progress_of old)) old mid (writers out0 out1 told0 told1) (Ok tt) → old.saved ≡ [] → (wrapped : Bool) → wrapped ≡ is_saved mid.saved → CloseGives freezes mid new (record { two = writers out1 out2 told1 told2; frozen_old = frozen; frozen_new = frozen' }) (Ok tt) → RunGives (result_behind freezes limits ss (after_sources limits ss (progress_of old))) (ending_by (status_at new) (Ok wrapped)) (record { two = writers out0 out2 told0 told2; frozen_old = frozen; frozen_new = frozen' })
+well_so freezes limits ss old mid new out0 out1 out2 told0 told1 told2 frozen frozen' l f e wrapped v c =
+    let p : Progress = after_sources limits ss (progress_of old) in
+    let o : p.over ≡ None = ap (λ (x : Progress). x.over) (sym (f.0).progress) ∙ ap how_over f.1 in
+    well_by freezes limits ss p old mid new out0 out1 out2 told0 told1 told2 l f.0 f.1 frozen frozen' freezes refl wrapped v (saved_there limits ss (progress_of old) e o) c
+
+pub sized_so : (freezes : Bool) (limits : Limits) (ss : List Source) (p : Progress) (old mid new : Standing) (out0 out1 out2 told0 told1 told2 frozen frozen' : Option (List ℕ)) → old.limits ≡ limits → GoesTo p old mid (writers out0 out1 told0 told1) (Ok tt) → CloseGives freezes mid new (record { two = writers out1 out2 told1 told2; frozen_old = frozen; frozen_new = frozen' }) (Ok tt) → freezes ≡ true → IsSized ((after_wraps limits p).so_far).state
+sized_so freezes limits ss p old mid new out0 out1 out2 told0 told1 told2 frozen frozen' l f c t =
+    sized_by freezes limits ss p old mid new out0 out1 out2 told0 told1 told2 l f.0 f.1 frozen frozen' freezes c t
 
 -- a session that is over isn't at its end
 not_done : (new : Standing) (cause : Cause) → IsLeft {A = Bool} new (Err (stops.Ended cause)) → cause ≡ causes.Done → ⊥
@@ -239,7 +348,7 @@ not_done new causes.EndInComment l h = cc
 not_done new causes.EndInArguments l h = cc
 not_done new causes.ExpansionLimit l h = cc
 not_done new causes.NestingLimit l h = cc
-not_done new (causes.Frozen f) l h = cc
+not_done new (causes.Frozen f) l h = l
 not_done new causes.Read l h = cc
 not_done new causes.Write l h = cc
 not_done new causes.OutOfMemory l h = cc
@@ -252,7 +361,7 @@ left_over new causes.EndInComment l = l
 left_over new causes.EndInArguments l = l
 left_over new causes.ExpansionLimit l = l
 left_over new causes.NestingLimit l = l
-left_over new (causes.Frozen f) l = l
+left_over new (causes.Frozen f) l = absurd l
 left_over new causes.Read l = l
 left_over new causes.Write l = l
 left_over new causes.OutOfMemory l = l
@@ -274,6 +383,3 @@ left_status new (Err (stops.Ended cause)) e unopened l m i =
     subst (StatusIs unopened) (sym i)
     (new.missed, over_status new cause new.missed (left_over new cause l) refl, λ h. absurd (not_done new cause l h))
 
--- a run that did not begin
-pub never_status : (e : Ending) (unopened : Bool) → e ≡ ending_by 1 (Err (stops.Ended causes.OutOfMemory)) → StatusIs unopened e
-never_status e unopened i = subst (StatusIs unopened) (sym i) (false, refl, λ h. cc)

@@ -160,8 +160,9 @@ pub record IsTaken (i : Held) : Type 0 where
   pub ready : IsReady i
   pub taken : (i.pending).definition ≡ None
 
--- a turn ends an expansion by no fault of a device or of memory
+-- a turn ends an expansion by no fault of a frozen file, of a device or of memory
 abbrev pub IsMade : Turned → Type 0
+IsMade (turns.Ends (causes.Frozen fault)) = ⊥
 IsMade (turns.Ends causes.Read) = ⊥
 IsMade (turns.Ends causes.Write) = ⊥
 IsMade (turns.Ends causes.OutOfMemory) = ⊥

@@ -1,6 +1,6 @@
 -- Expands: what the expansion of an input leaves, over writers.
 -- Not believed: it stands between the machine and `Session`, which says the same of a source.
--- Manual: "How m4 copies input to output". Words: made_before, comes_to, Expanded, Expands, HandsOn, IsIdle.
+-- Manual: "How m4 copies input to output". Words: made_before, comes_to, Expanded, Expands, EndsInput, HandsOn, IsIdle.
 use Rattle.std.specs.Prelude.{◌≡◌, ℕ, List, [], ◌++◌}
 use Rattle.m4_state.specs.Device.{with_bytes, HasBegun}
 use Rattle.m4_input.specs.Pending.{Pending}
@@ -41,6 +41,12 @@ Expands old new p w causes.Read = Broken (comes_to old p) w
 Expands old new p w causes.Write = Broken (comes_to old p) w
 Expands old new p w causes.OutOfMemory = Broken (comes_to old p) w
 Expands old new p w cause = Expanded old new (comes_to old p) cause w
+
+-- an expansion asks no reader, so no reader's fault and no frozen file's ends it
+abbrev pub EndsInput : Cause → Type 0
+EndsInput (causes.Frozen fault) = ⊥
+EndsInput causes.Read = ⊥
+EndsInput cause = Unit {0}
 
 -- a beginning of an engine's output and messages was written
 abbrev pub HandsOn : List ℕ → List ℕ → Contents → Type 0

@@ -3,6 +3,7 @@
 -- Words: ExpansionRules, ExpandRules, OneStart, SameDenotation, SettledBegins, SplitStates, Split,
 -- LargerNesting, LargerCalls, RunEnds.
 use Rattle.std.specs.Prelude.{◌≡◌, ◌≢◌, ◌↔◌, ◌⊎◌, ℕ, ◌+◌, ◌<◌, ◌≤◌, Bool, true, List, [], ◌∷◌, ◌++◌, Option, Some}
+use Rattle.m4_state.specs.Device.{Script}
 use Rattle.m4_frozen.specs.Directive.{Directive}
 use Rattle.m4_frozen.specs.Spells.{Spells}
 use Rattle.m4_frozen.specs.Denote.{denote}
@@ -13,7 +14,7 @@ use Rattle.m4_engine.specs.declared.ending.Cause.TheVariants as causes
 use Rattle.m4_engine.specs.Expansion.{Expansion, Kept, Ended, Ends, WantsMore}
 use Rattle.m4_engine.specs.Expand.{turn, join, expand}
 use Rattle.m4_engine.specs.File.{Source, Opened}
-use Rattle.m4_engine.specs.Start.{Start, From, IsStart, start_of}
+use Rattle.m4_engine.specs.Start.{Start, From, frozen_file, IsStart, start_of}
 use Rattle.m4_engine.specs.Run.{RunResult, run, run_from}
 use Rattle.m4_engine.specs.Settled.{SettledSoFar, settled}
 use Rattle.m4_engine.specs.Carries.{Carries, frozen_state}
@@ -38,7 +39,7 @@ ExpandRules = (s : Expansion) → expand s ≡ after Expansion Kept Ended join e
 -- the start of each run is one, and it is the one that the definition of a run takes
 abbrev pub OneStart : Type 0
 OneStart =
-    (prefix : Bool) (frozen : Option (List ℕ)) (start : Start)
+    (prefix : Bool) (frozen : Option Script) (start : Start)
     → IsStart prefix frozen start ↔ (start ≡ start_of prefix frozen)
 
 -- frozen files that spell directives of one state and one issued text give the same run
@@ -46,7 +47,7 @@ abbrev pub SameDenotation : Type 0
 SameDenotation =
     (o : Options) (a b : List ℕ) (ds es : List Directive) (sources : List Source)
     → Spells ds a → Spells es b → denote ds ≡ denote es
-    → run o (Some a) sources ≡ run o (Some b) sources
+    → run o (Some (frozen_file a)) sources ≡ run o (Some (frozen_file b)) sources
 
 -- what a beginning settled is a beginning of what the run writes, and a run whose end it decides ends
 -- so, with nothing more
@@ -97,11 +98,12 @@ SplitStates =
 -- have the same limits; the run that reloads may have any prefix, since a frozen file decides alone.
 abbrev pub Split : Type 0
 Split =
-    (o : Options) (freezes prefix : Bool) (frozen : Option (List ℕ)) (as' bs : List Source) (text : List ℕ)
+    (o : Options) (freezes prefix : Bool) (frozen : Option Script) (as' bs : List Source) (text : List ℕ)
     → Carries (freezing true o) (start_of o.prefix frozen) as'
     → (run (freezing true o) frozen as').frozen ≡ Some text
     → (run (freezing freezes o) frozen (as' ++ bs)).how ≢ Ends causes.ExpansionLimit
-    → Joins (run (freezing true o) frozen as') (run (prefixed prefix (freezing freezes o)) (Some text) bs)
+    → Joins (run (freezing true o) frozen as')
+    (run (prefixed prefix (freezing freezes o)) (Some (frozen_file text)) bs)
     (run (freezing freezes o) frozen (as' ++ bs))
 
 -- a limit of nesting that is as large, where 0 is the largest

@@ -1,12 +1,14 @@
 -- Session: a run between two of its calls, and what each call does to it.
 -- Believed. Manual: "Command line files", "Invoking m4".
--- Words: Standing, progress_of, written, fresh_standing, IsOpen, Filed, FileGives, MissingGives,
--- FinishGives, ReadFails, WriteFails, TellFails.
+-- Words: Standing, progress_of, written, standing_from, fresh_standing, IsOpen, ReloadGives, Filed, FileGives,
+-- MissingGives, EndGives, FinishGives, FreezeGives, BeginGives, IsBegun, ReadFails, ReloadFails, BeginFails, SparesBy, ByAnswer, WriteFails, TellFails.
 -- A session is a run's progress without what was written; what is written goes to the writers.
-use Rattle.std.specs.Prelude.{◌≡◌, ℕ, Bool, true, false, List, [], ◌∷◌, Option, Some, None, Result, Ok, Err, ◌⊎◌}
-use Rattle.m4_state.specs.State.{State}
+use Rattle.std.specs.Prelude.{◌≡◌, ◌≢◌, IfSome, ℕ, Bool, true, false, List, [], ◌∷◌, Option, Some, None, Result, Ok, Err, ◌⊎◌}
+use Rattle.m4_state.specs.State.{State, IsSized}
 use Rattle.m4_state.specs.Fresh.{fresh}
 use Rattle.m4_state.specs.Device.{Script, after_bytes, IsAtEnd, IsAtFault, with_bytes, HasBegun, one_more}
+use Rattle.m4_frozen.specs.declared.fault.FrozenKind.TheVariants as kinds
+use Rattle.m4_frozen.specs.Freeze.{freeze}
 use Rattle.m4_engine.specs.declared.ending.Cause.{Cause}
 use Rattle.m4_engine.specs.declared.ending.Cause.TheVariants as causes
 use Rattle.m4_engine.specs.declared.options.Options.{Options}
@@ -15,7 +17,8 @@ use Rattle.m4_engine.specs.declared.stop.Stop.{Stop}
 use Rattle.m4_engine.specs.declared.stop.Stop.TheVariants as stops
 use Rattle.m4_engine.specs.Expansion.{Limits, How, Ends}
 use Rattle.m4_engine.specs.Told.{AllPairs, has_failed, is_sound, any_failed}
-use Rattle.m4_engine.specs.Writers.{Contents, Failures, NoneFailed, OneFailed, Broken}
+use Rattle.m4_engine.specs.Start.{Start, From, Faulty, IsStart}
+use Rattle.m4_engine.specs.Writers.{Contents, Failures, Three, NoneFailed, OneFailed, ByCause, Broken, IsSpared, Spares}
 use Rattle.m4_engine.specs.File.{Opened, Unopened, Progress, file, after_source, cannot_open}
 use Rattle.m4_engine.specs.Wraps.{after_wraps}
 use Rattle.m4_engine.specs.Run.{limits_of, status_of, closed_output, result_of}
@@ -48,17 +51,21 @@ progress_of s = record {
 abbrev pub written : Progress → Progress
 written p = record p { so_far = record p.so_far { output = []; messages = [] } }
 
--- a run that starts from the fresh state
-abbrev pub fresh_standing : Options → Standing
-fresh_standing o = record {
+-- a run that starts from a state
+abbrev pub standing_from : Options → State → Standing
+standing_from o s = record {
   limits = limits_of o;
-  state = fresh o.prefix;
+  state = s;
   saved = [];
   calls = 0;
   missed = false;
   over = None;
   finished = false;
 }
+
+-- a run that starts from the fresh state
+abbrev pub fresh_standing : Options → Standing
+fresh_standing o = standing_from o (fresh o.prefix)
 
 -- the run goes on
 pub record IsOpen (s : Standing) : Type 0 where
@@ -108,6 +115,7 @@ abbrev pub FileGives : List ℕ → Option Script → Option Script → Standing
 FileGives name before behind old new w (Ok done) = FileDone name before behind old new w None
 FileGives name before behind old new w (Err stops.Finished) = Refused old new w × (behind ≡ before)
 FileGives name before behind old new w (Err (stops.Ended causes.Done)) = ⊥
+FileGives name before behind old new w (Err (stops.Ended (causes.Frozen fault))) = ⊥
 FileGives name before behind old new w (Err (stops.Ended causes.Read)) =
     (x : List ℕ) × (before ≡ after_bytes x behind) × IsAtFault behind × Fell old new causes.Read × Silent w
 FileGives name before behind old new w (Err (stops.Ended causes.Write)) =
@@ -117,12 +125,15 @@ FileGives name before behind old new w (Err (stops.Ended causes.OutOfMemory)) =
 FileGives name before behind old new w (Err (stops.Ended cause)) =
     FileDone name before behind old new w (Some cause)
 
+-- by an answer: one writer failed where the run ends by a write fault, and else none did
+abbrev pub ByAnswer : {A : Type 0} → Result A Stop → Type 0 → Type 0 → Type 0
+ByAnswer (Ok done) none one = none
+ByAnswer (Err stops.Finished) none one = none
+ByAnswer (Err (stops.Ended cause)) none one = ByCause cause none one
+
 -- a call ends the run by a write fault where a writer failed in it
 abbrev pub WriteFails : {A : Type 0} → Result A Stop → Failures → Type 0
-WriteFails (Ok done) f = NoneFailed f
-WriteFails (Err stops.Finished) f = NoneFailed f
-WriteFails (Err (stops.Ended causes.Write)) f = OneFailed f
-WriteFails (Err (stops.Ended cause)) f = NoneFailed f
+WriteFails answer f = ByAnswer answer (NoneFailed f) (OneFailed f)
 
 -- a call ends the run by a read fault where its reader failed in it, once; else it did not fail
 abbrev pub ReadFails : {A : Type 0} → Result A Stop → ℕ → ℕ → Type 0
@@ -139,11 +150,42 @@ SourcesFail failures (Err (stops.Ended causes.Read)) before behind = any_failed 
 SourcesFail failures result before behind = AllPairs (is_sound failures) before behind
 
 -- the same of a call with one writer, which has failed so often before and behind it
-abbrev pub TellFails : Result Unit Stop → ℕ → ℕ → Type 0
-TellFails (Ok done) old new = new ≡ old
-TellFails (Err stops.Finished) old new = new ≡ old
-TellFails (Err (stops.Ended causes.Write)) old new = new ≡ one_more old
-TellFails (Err (stops.Ended cause)) old new = new ≡ old
+abbrev pub TellFails : {A : Type 0} → Result A Stop → ℕ → ℕ → Type 0
+TellFails answer old new = ByAnswer answer (new ≡ old) (new ≡ one_more old)
+
+-- the reader of a frozen file failed where the run ends by that; it did not where the run begins
+abbrev pub ReloadFails : {A : Type 0} → Result A Stop → ℕ → ℕ → Type 0
+ReloadFails (Err (stops.Ended (causes.Frozen fault))) old new = fault.kind ≡ kinds.Read → new ≡ one_more old
+ReloadFails answer old new = new ≡ old
+
+-- the same of a run's frozen file, where there is one
+abbrev pub BeginFails : {A R : Type 0} → (R → ℕ) → Result A Stop → Option R → Option R → Type 0
+BeginFails failures answer None None = Unit {0}
+BeginFails failures answer (Some before) (Some behind) = ReloadFails answer (failures before) (failures behind)
+BeginFails failures answer before behind = ⊥
+
+-- by an answer: a call that ends the run by another cause than a write fault spares the frozen text
+abbrev pub SparesBy : {A : Type 0} → Result A Stop → Three (Option (List ℕ)) → Type 0
+SparesBy (Ok done) w = Unit {0}
+SparesBy (Err stops.Finished) w = IsSpared w
+SparesBy (Err (stops.Ended cause)) w = Spares cause w
+
+-- a state and the text that is issued with it are those that a frozen file gives
+abbrev pub AreReloaded : Options → Option Script → State → List ℕ → Type 0
+AreReloaded o file s issued = IfSome file (λ script. IsStart o.prefix (Some script) (From s issued))
+
+-- a run that starts from a frozen file: what is issued is written; a file that is refused leaves nothing
+abbrev pub ReloadGives : Options → Option Script → Option (List ℕ) → Option (List ℕ) → Result Standing Stop → Type 0
+ReloadGives o file out_old out_new (Ok new) =
+    (s : State) × (issued : List ℕ) × AreReloaded o file s issued
+    × (new ≡ standing_from o s) × (out_new ≡ with_bytes out_old issued)
+ReloadGives o file out_old out_new (Err stops.Finished) = ⊥
+ReloadGives o file out_old out_new (Err (stops.Ended (causes.Frozen fault))) =
+    (out_new ≡ out_old) × IfSome file (λ script.
+    fault.kind ≢ kinds.OutOfMemory → IsStart o.prefix (Some script) (Faulty fault))
+ReloadGives o file out_old out_new (Err (stops.Ended causes.Write)) =
+    (s : State) × (issued : List ℕ) × AreReloaded o file s issued × HasBegun out_old out_new issued
+ReloadGives o file out_old out_new (Err (stops.Ended cause)) = ⊥
 
 -- the status where a run stands so
 abbrev pub how_by : Option Cause → How
@@ -178,8 +220,8 @@ MissingGives name old new messages_old messages_new (Err (stops.Ended cause)) = 
 abbrev pub behind_wraps : Standing → Progress
 behind_wraps s = after_wraps s.limits (progress_of s)
 
--- the run came to its end: the saved texts were read, and the diversions were issued
-pub record Closed (old new : Standing) (w : Contents) : Type 0 where
+-- the run came to its end: the saved texts were read, and the diversions were issued, unless it freezes
+pub record Closed (freezes : Bool) (old new : Standing) (w : Contents) : Type 0 where
   pub live : IsOpen old
   pub finished : new.finished ≡ true
   pub over : new.over ≡ None
@@ -187,26 +229,85 @@ pub record Closed (old new : Standing) (w : Contents) : Type 0 where
   pub saved : new.saved ≡ []
   pub calls : new.calls ≡ ((behind_wraps old).so_far).calls
   pub ended : (behind_wraps old).over ≡ None
-  pub output : w.out_new ≡ with_bytes w.out_old (closed_output false (behind_wraps old).so_far)
+  pub output : w.out_new ≡ with_bytes w.out_old (closed_output freezes (behind_wraps old).so_far)
   pub messages : w.messages_new ≡ with_bytes w.messages_old ((behind_wraps old).so_far).messages
 
 -- the end broke off: a beginning of what the run still puts out was written
-pub record Unfinished (old new : Standing) (w : Contents) (cause : Cause) : Type 0 where
+pub record Unfinished (freezes : Bool) (old new : Standing) (w : Contents) (cause : Cause) : Type 0 where
   pub live : IsOpen old
   pub over : new.over ≡ Some cause
-  pub output : HasBegun w.out_old w.out_new (result_of false [] (behind_wraps old)).output
+  pub output : HasBegun w.out_old w.out_new (result_of freezes [] (behind_wraps old)).output
   pub messages : HasBegun w.messages_old w.messages_new ((behind_wraps old).so_far).messages
 
--- the end of a run
-abbrev pub FinishGives : Standing → Standing → Contents → Result Unit Stop → Type 0
-FinishGives old new w (Ok done) = Closed old new w
-FinishGives old new w (Err stops.Finished) = Refused old new w
-FinishGives old new w (Err (stops.Ended causes.Done)) = ⊥
-FinishGives old new w (Err (stops.Ended causes.Read)) = ⊥
-FinishGives old new w (Err (stops.Ended causes.Write)) = Unfinished old new w causes.Write
-FinishGives old new w (Err (stops.Ended causes.OutOfMemory)) = Unfinished old new w causes.OutOfMemory
-FinishGives old new w (Err (stops.Ended cause)) =
+-- the end of a run, which freezes or not
+abbrev pub EndGives : Bool → Standing → Standing → Contents → Result Unit Stop → Type 0
+EndGives freezes old new w (Ok done) = Closed freezes old new w
+EndGives freezes old new w (Err stops.Finished) = Refused old new w
+EndGives freezes old new w (Err (stops.Ended causes.Done)) = ⊥
+EndGives freezes old new w (Err (stops.Ended (causes.Frozen fault))) = ⊥
+EndGives freezes old new w (Err (stops.Ended causes.Read)) = ⊥
+EndGives freezes old new w (Err (stops.Ended causes.Write)) = Unfinished freezes old new w causes.Write
+EndGives freezes old new w (Err (stops.Ended causes.OutOfMemory)) =
+    Unfinished freezes old new w causes.OutOfMemory
+EndGives freezes old new w (Err (stops.Ended cause)) =
     Filed old new (behind_wraps old) w × (new.over ≡ Some cause)
+
+abbrev pub FinishGives : Standing → Standing → Contents → Result Unit Stop → Type 0
+FinishGives old new w answer = EndGives false old new w answer
+
+-- the state that a run leaves behind its saved texts, which is the one that it freezes
+abbrev pub last_state : Standing → State
+last_state s = ((behind_wraps s).so_far).state
+
+-- the frozen text was begun behind all else that the run puts out
+pub record FreezeBegan (old : Standing) (w : Three (Option (List ℕ))) : Type 0 where
+  pub ended : (behind_wraps old).over ≡ None
+  pub begun : HasBegun w.frozen_old w.frozen_new (freeze (last_state old))
+  pub output : (w.two).out_new ≡ with_bytes (w.two).out_old ((behind_wraps old).so_far).output
+  pub messages : (w.two).messages_new ≡ with_bytes (w.two).messages_old ((behind_wraps old).so_far).messages
+
+-- what the writer of the frozen text has: all of it, or a beginning where a writer failed, or nothing; a
+-- state that is frozen is sized
+abbrev pub FrozenGives : Standing → Three (Option (List ℕ)) → Result Unit Stop → Type 0
+FrozenGives old w (Ok done) =
+    (w.frozen_new ≡ with_bytes w.frozen_old (freeze (last_state old))) × IsSized (last_state old)
+FrozenGives old w (Err (stops.Ended causes.Write)) = IsSpared w ⊎ FreezeBegan old w
+FrozenGives old w (Err stop) = IsSpared w
+
+-- the end of a run that freezes
+abbrev pub FreezeGives : Standing → Standing → Three (Option (List ℕ)) → Result Unit Stop → Type 0
+FreezeGives old new w answer = EndGives true old new w.two answer × FrozenGives old w answer
+
+-- the end of a run, with what the writer of the frozen text has
+abbrev pub CloseGives : Bool → Standing → Standing → Three (Option (List ℕ)) → Result Unit Stop → Type 0
+CloseGives true old new w answer = FreezeGives old new w answer
+CloseGives false old new w answer = FinishGives old new w.two answer × IsSpared w
+
+-- a run begins: from a start, of which the issued text was written, or with its fault
+abbrev pub BeginGives : Start → Options → Option (List ℕ) → Option (List ℕ) → Result Standing Stop → Type 0
+BeginGives start o out_old out_new (Ok new) =
+    (s : State) × (issued : List ℕ) × (start ≡ From s issued)
+    × (new ≡ standing_from o s) × (out_new ≡ with_bytes out_old issued)
+BeginGives start o out_old out_new (Err stops.Finished) = ⊥
+BeginGives start o out_old out_new (Err (stops.Ended (causes.Frozen fault))) =
+    (out_new ≡ out_old) × (fault.kind ≢ kinds.OutOfMemory → start ≡ Faulty fault)
+BeginGives start o out_old out_new (Err (stops.Ended causes.Write)) =
+    (s : State) × (issued : List ℕ) × (start ≡ From s issued) × HasBegun out_old out_new issued
+BeginGives start o out_old out_new (Err (stops.Ended causes.OutOfMemory)) = out_new ≡ out_old
+BeginGives start o out_old out_new (Err (stops.Ended cause)) = ⊥
+
+-- a run begins from some state, or ends by a frozen file, a writer or memory
+abbrev pub IsBegun : Options → Result Standing Stop → Type 0
+IsBegun o (Ok new) = (s : State) × (new ≡ standing_from o s)
+IsBegun o (Err (stops.Ended (causes.Frozen fault))) = Unit {0}
+IsBegun o (Err (stops.Ended causes.Write)) = Unit {0}
+IsBegun o (Err (stops.Ended causes.OutOfMemory)) = Unit {0}
+IsBegun o (Err stop) = ⊥
+
+-- the status of a run that did not begin
+abbrev pub status_behind : Stop → ℕ
+status_behind stops.Finished = 0
+status_behind (stops.Ended cause) = status_of (Ends cause) false
 
 -- whether a text stands saved
 abbrev pub is_saved : List (List ℕ) → Bool
@@ -224,6 +325,7 @@ abbrev pub GoesTo : Progress → Standing → Standing → Contents → Result U
 GoesTo p old new w (Ok done) = Filed old new p w × (new.over ≡ None)
 GoesTo p old new w (Err stops.Finished) = ⊥
 GoesTo p old new w (Err (stops.Ended causes.Done)) = ⊥
+GoesTo p old new w (Err (stops.Ended (causes.Frozen fault))) = ⊥
 GoesTo p old new w (Err (stops.Ended causes.Read)) = BrokeOff new p w causes.Read
 GoesTo p old new w (Err (stops.Ended causes.Write)) = BrokeOff new p w causes.Write
 GoesTo p old new w (Err (stops.Ended causes.OutOfMemory)) = BrokeOff new p w causes.OutOfMemory
@@ -234,4 +336,5 @@ abbrev pub IsLeft : {A : Type 0} → Standing → Result A Stop → Type 0
 IsLeft new (Ok done) = new.over ≡ None
 IsLeft new (Err stops.Finished) = ⊥
 IsLeft new (Err (stops.Ended causes.Done)) = ⊥
+IsLeft new (Err (stops.Ended (causes.Frozen fault))) = ⊥
 IsLeft new (Err (stops.Ended cause)) = new.over ≡ Some cause

@@ -1,8 +1,9 @@
 -- Told: the sources of the definitions that stand for a run's, by what their readers tell or gave.
 -- Believed. Manual: "Command line files". Words: told, MayHave, may_be, StandFor, any_unopened,
--- AllPairs, any_failed, is_sound, ReadersFailBy, are_taken.
+-- AllPairs, any_failed, is_sound, ReadersFailBy, are_taken, TellsFrozen, FrozenFailsBy.
 use Rattle.std.specs.Prelude.{◌≡◌, ℕ, Bool, true, false, List, [], ◌∷◌, ◌++◌, map, Option, Some, None, ◌⊎◌, ◌||◌}
 use Rattle.m4_state.specs.Device.{Script, after_bytes, one_more}
+use Rattle.m4_frozen.specs.declared.fault.FrozenKind.TheVariants as kinds
 use Rattle.m4_engine.specs.declared.ending.Cause.{Cause}
 use Rattle.m4_engine.specs.declared.ending.Cause.TheVariants as causes
 use Rattle.m4_engine.specs.declared.source.Source.{Source as RunSource}
@@ -112,3 +113,19 @@ is_taken script before behind = ⊥
 
 abbrev pub are_taken : {R : Type 0} → (R → Option Script) → List (RunSource R) → List (RunSource R) → Type 0
 are_taken script before behind = AllPairs (is_taken script) before behind
+
+-- what the reader of a frozen file tells of it; none where a run has no frozen file
+abbrev pub TellsFrozen : {R : Type 0} → (R → Option Script) → Option R → Option Script → Type 0
+TellsFrozen script None file = file ≡ None
+TellsFrozen script (Some reader) file = (s : Script) × (script reader ≡ Some s) × (file ≡ Some s)
+
+-- a run that reads a frozen file ends by its read fault only where its reader failed, once; where the
+-- file was loaded, the reader didn't fail
+abbrev pub frozen_fails : Cause → ℕ → ℕ → Type 0
+frozen_fails (causes.Frozen fault) old new = fault.kind ≡ kinds.Read → new ≡ one_more old
+frozen_fails cause old new = new ≡ old
+
+abbrev pub FrozenFailsBy : {R : Type 0} → (R → ℕ) → Cause → Option R → Option R → Type 0
+FrozenFailsBy failures cause None None = Unit {0}
+FrozenFailsBy failures cause (Some before) (Some behind) = frozen_fails cause (failures before) (failures behind)
+FrozenFailsBy failures cause before behind = ⊥

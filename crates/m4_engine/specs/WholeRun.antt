@@ -1,7 +1,10 @@
 -- WholeRun: what a whole run writes and answers, by the definition of a run.
--- Believed. Manual: "Invoking m4". Words: wrapped_by, WroteAll, FellShort, RunGives.
-use Rattle.std.specs.Prelude.{◌≡◌, ℕ, Bool, false, List, Result, Ok, Err}
+-- Believed. Manual: "Invoking m4", "Fast loading of frozen state".
+-- Words: wrapped_by, WroteAll, FellShort, RunGives, HasFrozen, FrozenBegan, FrozenBy, NothingIsDone.
+use Rattle.std.specs.Prelude.{◌≡◌, ℕ, Bool, false, List, Option, Some, None, Result, Ok, Err, ◌⊎◌}
 use Rattle.m4_state.specs.Device.{with_bytes, HasBegun}
+use Rattle.m4_frozen.specs.declared.fault.FrozenKind.{FrozenKind}
+use Rattle.m4_frozen.specs.declared.fault.FrozenKind.TheVariants as kinds
 use Rattle.m4_engine.specs.declared.ending.Cause.{Cause}
 use Rattle.m4_engine.specs.declared.ending.Cause.TheVariants as causes
 use Rattle.m4_engine.specs.declared.ending.Ending.{Ending}
@@ -11,7 +14,7 @@ use Rattle.m4_engine.specs.Expansion.{Limits, Ends}
 use Rattle.m4_engine.specs.File.{Source, Progress}
 use Rattle.m4_engine.specs.Wraps.{after_wraps}
 use Rattle.m4_engine.specs.Run.{RunResult, result_of, saved_behind}
-use Rattle.m4_engine.specs.Writers.{Contents}
+use Rattle.m4_engine.specs.Writers.{Contents, Three, IsSpared}
 use Rattle.m4_engine.specs.Session.{is_saved}
 
 -- whether text stood saved for the end, where everything was read
@@ -33,19 +36,52 @@ pub record FellShort (r : RunResult) (e : Ending) (w : Contents) : Type 0 where
   pub output : HasBegun w.out_old w.out_new r.output
   pub messages : HasBegun w.messages_old w.messages_new r.messages
 
+-- a frozen file that was refused: it has the fault that the run's definition names, unless memory ran out
+abbrev pub RefusedBy : FrozenKind → RunResult → Ending → Contents → Type 0
+RefusedBy kinds.OutOfMemory r e w = FellShort r e w
+RefusedBy kind r e w = WroteAll r e w
+
 abbrev pub GivesBy : Cause → RunResult → Ending → Contents → Type 0
 GivesBy causes.Read r e w = FellShort r e w
 GivesBy causes.Write r e w = FellShort r e w
 GivesBy causes.OutOfMemory r e w = FellShort r e w
+GivesBy (causes.Frozen fault) r e w = RefusedBy fault.kind r e w
 GivesBy cause r e w = WroteAll r e w
 
+-- the writer of the frozen text has all of it, where the run has one
+abbrev pub HasFrozen : Option (List ℕ) → Three (Option (List ℕ)) → Type 0
+HasFrozen None w = IsSpared w
+HasFrozen (Some text) w = w.frozen_new ≡ with_bytes w.frozen_old text
+
+-- a writer failed within the frozen text, behind all else that the run puts out
+pub record FrozenBegan (r : RunResult) (w : Three (Option (List ℕ))) : Type 0 where
+  pub text : List ℕ
+  pub is : r.frozen ≡ Some text
+  pub begun : HasBegun w.frozen_old w.frozen_new text
+  pub output : (w.two).out_new ≡ with_bytes (w.two).out_old r.output
+  pub messages : (w.two).messages_new ≡ with_bytes (w.two).messages_old r.messages
+
+-- what the writer of the frozen text has, by the cause that ended the run
+abbrev pub FrozenBy : Cause → RunResult → Three (Option (List ℕ)) → Type 0
+FrozenBy causes.Done r w = HasFrozen r.frozen w
+FrozenBy causes.Write r w = IsSpared w ⊎ FrozenBegan r w
+FrozenBy cause r w = IsSpared w
+
 -- what a run is by its definition, how it ended, and what was written
-abbrev pub RunGives : RunResult → Ending → Contents → Type 0
-RunGives r e w = GivesBy e.cause r e w
+pub record RunGives (r : RunResult) (e : Ending) (w : Three (Option (List ℕ))) : Type 0 where
+  pub gives : GivesBy e.cause r e w.two
+  pub frozen : FrozenBy e.cause r w
+
+-- nothing was read of a run's sources, and nothing was written
+pub record NothingIsDone {S : Type 0} (before behind : S) (w : Three (Option (List ℕ))) : Type 0 where
+  pub sources : behind ≡ before
+  pub output : (w.two).out_new ≡ (w.two).out_old
+  pub messages : (w.two).messages_new ≡ (w.two).messages_old
+  pub frozen : IsSpared w
 
 -- the steps of the code: the result of a run behind its sources, and the ending by the last answer
-abbrev pub result_behind : Limits → List Source → Progress → RunResult
-result_behind limits ss p = result_of false (saved_behind ss p) (after_wraps limits p)
+abbrev pub result_behind : Bool → Limits → List Source → Progress → RunResult
+result_behind freezes limits ss p = result_of freezes (saved_behind ss p) (after_wraps limits p)
 
 abbrev pub ending_by : ℕ → Result Bool Stop → Ending
 ending_by status (Ok wrapped) = record { status = status; cause = causes.Done; wrapped = wrapped }

@@ -1,6 +1,7 @@
 -- Writers: a call's writers before and after it: the bytes that each has, and how often it failed.
 -- Believed: each clause on what is written cites it. Manual: "Invoking m4".
--- Words: Both, writers, both, Contents, Failures, NoneFailed, OneFailed, FailsOnce, FailsBy, Broken.
+-- Words: Both, writers, both, Three, three, Contents, Failures, NoneFailed, OneFailed, NoneOfThree,
+-- IsSpared, OneOfThree, Spares, FailsOnce, ByCause, FailsBy, Broken.
 use Rattle.std.specs.Prelude.{◌≡◌, ℕ, List, Option, ◌⊎◌, Result, Ok, Err}
 use Rattle.m4_state.specs.Device.{HasBegun, one_more}
 use Rattle.m4_engine.specs.declared.ending.Cause.{Cause}
@@ -50,10 +51,47 @@ abbrev pub FailsOnce : {A E : Type 0} → Result A E → Failures → Type 0
 FailsOnce (Ok x) f = NoneFailed f
 FailsOnce (Err e) f = OneFailed f
 
+-- by a cause: one writer failed where it is a write fault, and else none did
+abbrev pub ByCause : Cause → Type 0 → Type 0 → Type 0
+ByCause causes.Write none one = one
+ByCause cause none one = none
+
 -- an expansion ends by a write fault where a writer failed in it
 abbrev pub FailsBy : Cause → Failures → Type 0
-FailsBy causes.Write f = OneFailed f
-FailsBy cause f = NoneFailed f
+FailsBy cause f = ByCause cause (NoneFailed f) (OneFailed f)
+
+-- the same values, and those of the writer of the frozen text
+pub record Three (A : Type 0) : Type 0 where
+  pub two : Both A
+  pub frozen_old : A
+  pub frozen_new : A
+
+abbrev pub three : {Z A : Type 0} → (Z → A) → Both A → Z → Z → Three A
+three of_frozen two frozen_old frozen_new = record {
+  two = two;
+  frozen_old = of_frozen frozen_old;
+  frozen_new = of_frozen frozen_new;
+}
+
+-- of three writers none failed in the call
+abbrev pub NoneOfThree : Three ℕ → Type 0
+NoneOfThree f = NoneFailed f.two × (f.frozen_new ≡ f.frozen_old)
+
+-- the writer of the frozen text is as it was
+abbrev pub IsSpared : {A : Type 0} → Three A → Type 0
+IsSpared w = w.frozen_new ≡ w.frozen_old
+
+-- of three writers one failed in the call, once; where it is another, that of the frozen text got nothing
+abbrev pub OneOfThree : Three ℕ → Three (Option (List ℕ)) → Type 0
+OneOfThree f w =
+    (OneFailed f.two × IsSpared f × IsSpared w)
+    ⊎ (NoneFailed f.two × (f.frozen_new ≡ one_more f.frozen_old))
+
+-- only a run that comes to its end, or a write fault, gives the writer of the frozen text anything
+abbrev pub Spares : Cause → Three (Option (List ℕ)) → Type 0
+Spares causes.Done w = Unit {0}
+Spares causes.Write w = Unit {0}
+Spares cause w = IsSpared w
 
 -- the expansion broke off, and a beginning of what it puts out was written
 pub record Broken (d : Ended) (w : Contents) : Type 0 where

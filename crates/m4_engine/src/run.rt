@@ -1,14 +1,20 @@
-//! A whole run: its sources, one behind the other, and then its end.
-//! Manual: "Invoking m4", "Command line files".
+//! A whole run: what it starts from, its sources, one behind the other, and then its end.
+//! Manual: "Invoking m4", "Command line files", "Fast loading of frozen state".
 
-ghost use Rattle.std.specs.Prelude.{◌≡◌, ◌||◌, Bool, false, [], None, List, OnOk};
+ghost use Rattle.std.specs.Prelude.{◌≡◌, ◌||◌, Bool, true, false, [], List, Option, Err, OnOk};
+ghost use Rattle.m4_state.specs.Device.{Script};
+ghost use Rattle.m4_state.specs.State.{IsSized};
+ghost use Rattle.m4_frozen.specs.declared.fault.FrozenFault.{FrozenFault};
+ghost use Rattle.m4_engine.specs.Carries.{frozen_state};
 ghost use Rattle.m4_engine.specs.File.{Source as Said, after_source, after_sources};
+ghost use Rattle.m4_engine.specs.Start.{start_of};
+ghost use Rattle.m4_engine.specs.Wraps.{after_wraps};
 ghost use Rattle.m4_engine.specs.Run.{run as defined, status_of};
 ghost use Rattle.m4_engine.specs.Expansion.{Ends};
-ghost use Rattle.m4_engine.specs.Writers.{both, FailsBy};
-ghost use Rattle.m4_engine.specs.Told.{StandFor, StandsFor, ReadersFailBy, any_unopened, is_unopened, are_taken, is_taken};
-ghost use Rattle.m4_engine.specs.Session.{IsOpen, IsLeft, GoesTo, WriteFails, SourceFails, SourcesFail, progress_of, status_at};
-ghost use Rattle.m4_engine.specs.WholeRun.{RunGives, result_behind, ending_by};
+ghost use Rattle.m4_engine.specs.Writers.{both, three, ByCause, NoneOfThree, OneOfThree, Spares};
+ghost use Rattle.m4_engine.specs.Told.{StandFor, StandsFor, ReadersFailBy, TellsFrozen, FrozenFailsBy, any_unopened, is_unopened, are_taken, is_taken};
+ghost use Rattle.m4_engine.specs.Session.{IsOpen, IsLeft, GoesTo, BeginGives, BeginFails, IsBegun, CloseGives, ByAnswer, WriteFails, TellFails, SourceFails, SourcesFail, SparesBy, progress_of, status_at};
+ghost use Rattle.m4_engine.specs.WholeRun.{RunGives, NothingIsDone, result_behind, ending_by};
 
 use crate::ending::{Cause, Ending};
 use crate::options::Options;
@@ -18,12 +24,14 @@ use crate::stop::Stop;
 use m4_state::device::{ByteSink, ByteSource};
 use std::alloc::Global;
 
-/// Runs over the sources, one behind the other, and then issues the diversions: what is written, and
-/// how the run ends, is what the definition of a run says.
+/// Runs over the sources, one behind the other, from the frozen file, where there is one, or else from
+/// the fresh state. At the end it issues the diversions, or, where the options ask for it, freezes its
+/// state: what is written, and how the run ends, is what the definition of a run says.
 ///
 /// The ending's cause tells why the run ended. Behind a reader, a writer or memory that failed a
-/// beginning of what the run puts out was written, and the status is 1. No run is frozen and none
-/// starts from a frozen file yet: `frozen` is none, and nothing is written to `freeze_to`.
+/// beginning of what the run puts out was written, and the status is 1. Where a frozen file is refused
+/// nothing is read or written. `freeze_to` is asked only where the options freeze and all sources were
+/// read.
 pub fn run<R: ByteSource, O: ByteSink, M: ByteSink, Z: ByteSink>(
     alloc: Global,
     options: Options,
@@ -34,31 +42,64 @@ pub fn run<R: ByteSource, O: ByteSink, M: ByteSink, Z: ByteSink>(
     freeze_to: &mut Z,
 ) -> Ending
     requires prefix { options.prefix ≡ false }
-    requires freeze { options.freeze ≡ false }
-    requires fresh { frozen.old ≡ None }
     // whole run: what is written and answered is what the definition of a run says
-    ensures gives { (ss : List Said) → StandFor R.script sources.old sources.new ss →
-        RunGives (defined options None ss) result
-        (both O.contents M.contents out.old out.new messages.old messages.new) }
+    ensures gives { (file : Option Script) → TellsFrozen R.script frozen.old file
+        → (ss : List Said) → StandFor R.script sources.old sources.new ss →
+        RunGives (defined options file ss) result
+        (three Z.contents (both O.contents M.contents out.old out.new messages.old messages.new) freeze_to.old freeze_to.new) }
     // whole run: the status of its cause, which is 1 after a source that wasn't opened
     ensures status { (missed : Bool) × (result.status ≡ status_of (Ends result.cause) missed)
         × (result.cause ≡ Cause.Done → missed ≡ any_unopened sources.old) }
+    // whole run: a state that is frozen is sized
+    ensures sized { (file : Option Script) → TellsFrozen R.script frozen.old file
+        → (ss : List Said) → StandFor R.script sources.old sources.new ss →
+        result.cause ≡ Cause.Done → options.freeze ≡ true → IsSized (frozen_state options (start_of options.prefix file) ss) }
     // safe and total: a read fault comes where a reader failed in this call, and only there
     ensures read { ReadersFailBy R.failures result.cause sources.old sources.new }
+    // safe and total: that of a frozen file comes only where its reader failed in this call
+    ensures frozen_read { FrozenFailsBy R.failures result.cause frozen.old frozen.new }
     // safe and total: a write fault comes only where a writer failed in this call
-    ensures write { FailsBy result.cause (both O.failures M.failures out.old out.new messages.old messages.new) }
+    ensures write { ByCause result.cause
+        (NoneOfThree (three Z.failures (both O.failures M.failures out.old out.new messages.old messages.new) freeze_to.old freeze_to.new))
+        (OneOfThree (three Z.failures (both O.failures M.failures out.old out.new messages.old messages.new) freeze_to.old freeze_to.new)
+        (three Z.contents (both O.contents M.contents out.old out.new messages.old messages.new) freeze_to.old freeze_to.new)) }
     // whole run: each reader gave a beginning of what it tells
     ensures taken { are_taken R.script sources.old sources.new }
-    ensures unfrozen { Z.contents freeze_to.new ≡ Z.contents freeze_to.old }
-    ensures unread { frozen.new ≡ frozen.old }
+    // faults leave beginnings: where a frozen file is refused, nothing is read or written
+    ensures refused { (fault : FrozenFault) → result.cause ≡ Cause.Frozen fault → NothingIsDone sources.old sources.new
+        (three Z.contents (both O.contents M.contents out.old out.new messages.old messages.new) freeze_to.old freeze_to.new) }
+    // whole run: only a run that freezes, and came to its end, asks the writer of the frozen text
+    ensures spared { options.freeze ≡ false → freeze_to.new ≡ freeze_to.old }
+    ensures spared_by { Spares result.cause
+        (three Z.contents (both O.contents M.contents out.old out.new messages.old messages.new) freeze_to.old freeze_to.new) }
 {
-    let _ = frozen;
-    let _ = freeze_to;
-    let Ok(mut session) = Session::fresh(alloc, options) else {
-        return ending(1, Err(Stop::Ended(Cause::OutOfMemory)));
+    let mut session = match begin(alloc, options, frozen, out) {
+        Ok(session) => session,
+        Err(stop) => return ending(stop.status(), Err(stop)),
     };
-    let answer = read_to_end(&mut session, sources, out, messages);
+    let answer = read_to_end(&mut session, options.freeze, sources, out, messages, freeze_to);
     ending(session.status(), answer)
+}
+
+/// Begins a run: from the frozen file, where there is one, or else from the fresh state.
+fn begin<R: ByteSource, O: ByteSink>(
+    alloc: Global,
+    options: Options,
+    frozen: &mut Option<R>,
+    out: &mut O,
+) -> Result<Session, Stop>
+    requires prefix { options.prefix ≡ false }
+    ensures begins { (file : Option Script) → TellsFrozen R.script frozen.old file
+        → BeginGives (start_of options.prefix file) options (O.contents out.old) (O.contents out.new) result }
+    ensures begun { IsBegun options result }
+    ensures refused { (fault : FrozenFault) → result ≡ Err (Stop.Ended (Cause.Frozen fault)) → O.contents out.new ≡ O.contents out.old }
+    ensures write { TellFails result (O.failures out.old) (O.failures out.new) }
+    ensures read { BeginFails R.failures result frozen.old frozen.new }
+{
+    match frozen {
+        Some(reader) => Session::reload(alloc, options, reader, out),
+        None => Session::fresh(alloc, options),
+    }
 }
 
 /// The ending of a run, by its status and the last answer.
@@ -79,28 +120,61 @@ fn ending(status: u8, answer: Result<bool, Stop>) -> Ending
 
 /// Reads the sources and brings the run to its end. Answers whether text stood saved behind the last
 /// source.
-fn read_to_end<R: ByteSource, O: ByteSink, M: ByteSink>(
+fn read_to_end<R: ByteSource, O: ByteSink, M: ByteSink, Z: ByteSink>(
     session: &mut Session,
+    freezes: bool,
     sources: &mut [Source<R>],
     out: &mut O,
     messages: &mut M,
+    freeze_to: &mut Z,
 ) -> Result<bool, Stop>
     requires live { IsOpen session.old }
     requires unsaved { session.old.saved ≡ [] }
     ensures gives { (ss : List Said) → StandFor R.script sources.old sources.new ss →
-        RunGives (result_behind session.old.limits ss (after_sources session.old.limits ss (progress_of session.old)))
+        RunGives (result_behind freezes session.old.limits ss (after_sources session.old.limits ss (progress_of session.old)))
         (ending_by (status_at session.new) result)
-        (both O.contents M.contents out.old out.new messages.old messages.new) }
+        (three Z.contents (both O.contents M.contents out.old out.new messages.old messages.new) freeze_to.old freeze_to.new) }
     ensures left { IsLeft session.new result }
     ensures missed { OnOk result (session.new.missed ≡ (any_unopened sources.old || session.old.missed)) }
+    ensures sized { (ss : List Said) → StandFor R.script sources.old sources.new ss → OnOk result (freezes ≡ true
+        → IsSized ((after_wraps session.old.limits (after_sources session.old.limits ss (progress_of session.old))).so_far).state) }
     ensures read { SourcesFail R.failures result sources.old sources.new }
     ensures taken { are_taken R.script sources.old sources.new }
-    ensures write { WriteFails result (both O.failures M.failures out.old out.new messages.old messages.new) }
+    ensures write { ByAnswer result
+        (NoneOfThree (three Z.failures (both O.failures M.failures out.old out.new messages.old messages.new) freeze_to.old freeze_to.new))
+        (OneOfThree (three Z.failures (both O.failures M.failures out.old out.new messages.old messages.new) freeze_to.old freeze_to.new)
+        (three Z.contents (both O.contents M.contents out.old out.new messages.old messages.new) freeze_to.old freeze_to.new)) }
+    ensures spared { freezes ≡ false → freeze_to.new ≡ freeze_to.old }
+    ensures spared_by { SparesBy result (three Z.contents (both O.contents M.contents out.old out.new messages.old messages.new) freeze_to.old freeze_to.new) }
 {
     read_sources(session, sources, out, messages)?;
     let wrapped = session.wrapped();
-    session.finish(out, messages)?;
+    close(session, freezes, out, messages, freeze_to)?;
     Ok(wrapped)
+}
+
+/// Brings the run to its end: freezes its state, or issues the diversions.
+fn close<O: ByteSink, M: ByteSink, Z: ByteSink>(
+    session: &mut Session,
+    freezes: bool,
+    out: &mut O,
+    messages: &mut M,
+    freeze_to: &mut Z,
+) -> Result<(), Stop>
+    ensures gives { CloseGives freezes session.old session.new
+        (three Z.contents (both O.contents M.contents out.old out.new messages.old messages.new) freeze_to.old freeze_to.new)
+        result }
+    ensures write { ByAnswer result
+        (NoneOfThree (three Z.failures (both O.failures M.failures out.old out.new messages.old messages.new) freeze_to.old freeze_to.new))
+        (OneOfThree (three Z.failures (both O.failures M.failures out.old out.new messages.old messages.new) freeze_to.old freeze_to.new)
+        (three Z.contents (both O.contents M.contents out.old out.new messages.old messages.new) freeze_to.old freeze_to.new)) }
+    ensures spared { freezes ≡ false → freeze_to.new ≡ freeze_to.old }
+{
+    if freezes {
+        session.freeze(out, messages, freeze_to)
+    } else {
+        session.finish(out, messages)
+    }
 }
 
 /// Reads a source in its turn.

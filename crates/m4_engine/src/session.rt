@@ -2,21 +2,23 @@
 //! Manual: "Command line files", "Invoking m4".
 
 ghost use Rattle.std.specs.Prelude.{◌≡◌, true, false, Some, IfOk, IfErr, OnOk};
-ghost use Rattle.m4_engine.specs.Writers.{both};
-ghost use Rattle.m4_engine.specs.Session.{Standing, IsOpen, answer_by, over_behind, fresh_standing, FileGives, MissingGives, FinishGives, ReadFails, WriteFails, TellFails, is_saved, status_at};
+ghost use Rattle.m4_engine.specs.Writers.{both, three, NoneOfThree, OneOfThree};
+ghost use Rattle.m4_engine.specs.Session.{Standing, IsOpen, answer_by, over_behind, standing_from, fresh_standing, ReloadGives, FileGives, MissingGives, FinishGives, FreezeGives, ReadFails, ReloadFails, ByAnswer, WriteFails, TellFails, is_saved, status_at};
 
 use crate::ending::Cause;
 use crate::machine::Machine;
 use crate::options::Options;
 use crate::stop::Stop;
-use m4_frozen::fault::FrozenKind;
+use m4_frozen::fault::WriteFault;
+use m4_frozen::reading::read_frozen;
+use m4_frozen::writer::write_frozen;
 use m4_input::fault::InputFault;
 use m4_input::input::Input;
 use m4_state::bytes::Bytes;
 use m4_state::device::{ByteSink, ByteSource, DeviceFault};
 use m4_state::memory::MemSource;
 use m4_state::state::State;
-use m4_state::transfer::put_pieces;
+use m4_state::transfer::{put_all, put_pieces};
 use std::alloc::Global;
 use std::marker::Model;
 
@@ -63,12 +65,47 @@ impl Session {
         let Ok(state) = State::fresh(alloc, options.prefix) else {
             return Err(Stop::Ended(Cause::OutOfMemory));
         };
-        Ok(Session {
+        Ok(Session::starting(alloc, options, state))
+    }
+
+    /// A run that starts from a frozen file: its state, with the text that it issues written. It is read to
+    /// its end before anything is written. `Ended(Frozen)` where the file is refused, its reader fails or
+    /// memory runs out, and then nothing was written; `Ended(Write)` behind a beginning of the issued text.
+    /// The options' prefix has no effect. Manual: "Fast loading of frozen state".
+    pub fn reload<R: ByteSource, O: ByteSink>(
+        alloc: Global,
+        options: Options,
+        frozen: &mut R,
+        out: &mut O,
+    ) -> Result<Session, Stop>
+        // session steps: the start that the frozen file gives, with its issued text written
+        ensures gives { ReloadGives options (R.script frozen.old) (O.contents out.old) (O.contents out.new) result }
+        // safe and total: a read fault comes only where the reader failed in this call
+        ensures read { ReloadFails result (R.failures frozen.old) (R.failures frozen.new) }
+        // safe and total: a write fault comes only where the writer failed in this call
+        ensures write { TellFails result (O.failures out.old) (O.failures out.new) }
+    {
+        let loaded = match read_frozen(alloc, frozen) {
+            Ok(loaded) => loaded,
+            Err(fault) => return Err(Stop::Ended(Cause::Frozen(fault))),
+        };
+        let (state, issued) = loaded.into_parts();
+        if let Err(DeviceFault) = put_all(out, issued.as_slice()) {
+            return Err(Stop::Ended(Cause::Write));
+        }
+        Ok(Session::starting(alloc, options, state))
+    }
+
+    /// A run that starts from this state.
+    fn starting(alloc: Global, options: Options, state: State) -> Session
+        ensures { result ≡ standing_from options state }
+    {
+        Session {
             machine: Machine::new(alloc, state, options.calls, options.nesting),
             missed: false,
             over: None,
             finished: false,
-        })
+        }
     }
 
     /// Whether a call still does something.
@@ -140,13 +177,7 @@ impl Session {
         // session steps: the status so far
         ensures { result ≡ status_at self.now }
     {
-        let missed = u8::from(self.missed);
-        match self.over {
-            None | Some(Cause::Done | Cause::Exited(0)) => missed,
-            Some(Cause::Exited(code)) => code,
-            Some(Cause::Frozen(fault)) if fault.kind == FrozenKind::Newer => 63,
-            Some(_) => 1,
-        }
+        self.over.unwrap_or(Cause::Done).status(self.missed)
     }
 
     /// Tells of a source that could not be opened; the status will not be 0. `Ended(Write)` behind a
@@ -188,6 +219,40 @@ impl Session {
         }
         if let Err(DeviceFault) = self.machine.issue(out) {
             return Err(self.end(Cause::Write));
+        }
+        self.finished = true;
+        Ok(())
+    }
+
+    /// Brings the run to its end and freezes it: the canonical text of its state is written to
+    /// `freeze_to`, in place of issuing the diversions. No call saves text to be read at the end yet.
+    /// `Ended(Write)` behind a beginning of the frozen text; `Ended(OutOfMemory)` before its first byte.
+    /// Manual: "Fast loading of frozen state".
+    pub fn freeze<O: ByteSink, M: ByteSink, Z: ByteSink>(
+        &mut self,
+        out: &mut O,
+        messages: &mut M,
+        freeze_to: &mut Z,
+    ) -> Result<(), Stop>
+        // session steps: the saved texts, then the frozen text
+        ensures gives { FreezeGives self.old self.new
+            (three Z.contents (both O.contents M.contents out.old out.new messages.old messages.new) freeze_to.old freeze_to.new)
+            result }
+        // safe and total: a write fault comes only where a writer failed in this call
+        ensures write { ByAnswer result
+            (NoneOfThree (three Z.failures (both O.failures M.failures out.old out.new messages.old messages.new) freeze_to.old freeze_to.new))
+            (OneOfThree (three Z.failures (both O.failures M.failures out.old out.new messages.old messages.new) freeze_to.old freeze_to.new)
+            (three Z.contents (both O.contents M.contents out.old out.new messages.old messages.new) freeze_to.old freeze_to.new)) }
+    {
+        let _ = out;
+        let _ = messages;
+        if !self.is_open() {
+            return Err(Stop::Finished);
+        }
+        match write_frozen(self.machine.state(), freeze_to) {
+            Ok(()) => {}
+            Err(WriteFault::Write) => return Err(self.end(Cause::Write)),
+            Err(WriteFault::OutOfMemory) => return Err(self.end(Cause::OutOfMemory)),
         }
         self.finished = true;
         Ok(())

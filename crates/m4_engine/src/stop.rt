@@ -1,5 +1,8 @@
 //! Why a call of a session stops.
 
+ghost use Rattle.std.specs.Prelude.{◌≡◌};
+ghost use Rattle.m4_engine.specs.Session.{status_behind};
+
 use crate::ending::Cause;
 
 /// The answer of a session's call that does not let the run go on.
@@ -9,4 +12,16 @@ pub enum Stop {
     Ended(Cause),
     /// The run had ended before, or was brought to its end: nothing is done.
     Finished,
+}
+
+impl Stop {
+    /// The status of a run that did not begin.
+    pub(crate) fn status(self) -> u8
+        ensures { result ≡ status_behind self }
+    {
+        match self {
+            Stop::Ended(cause) => cause.status(false),
+            Stop::Finished => 0,
+        }
+    }
 }

@@ -40,6 +40,16 @@ impl Drop for Loaded {
     }
 }
 
+impl Loaded {
+    /// The state and the issued text, each of its own.
+    pub fn into_parts(self) -> (State, Bytes)
+        ensures { result ≡ (self.state, self.issued) }
+    {
+        let Loaded { state, issued } = self;
+        (state, issued)
+    }
+}
+
 /// What the directives that came leave, and what may come next.
 pub(crate) struct Loading {
     state: State,

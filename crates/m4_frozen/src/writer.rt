@@ -5,7 +5,7 @@
 
 ghost use Rattle.std.specs.Prelude.{◌≡◌, ℤ, pos, IfOk, OnOk, OnErr, [], Err};
 ghost use Rattle.m4_state.specs.Device.{with_bytes, one_more, count_after, HasBegun, Puts};
-ghost use Rattle.m4_state.specs.State.{AreDiversions};
+ghost use Rattle.m4_state.specs.State.{AreDiversions, IsSized};
 ghost use Rattle.m4_frozen.specs.Directive as directives;
 ghost use Rattle.m4_frozen.specs.Freeze as texts;
 ghost use Rattle.m4_frozen.specs.WriterSteps as steps;
@@ -35,14 +35,18 @@ pub fn write_frozen<W: ByteSink>(state: &State, writer: &mut W) -> Result<(), Wr
     // exact writer: want of memory comes before the first byte
     ensures no_memory { result ≡ Err WriteFault.OutOfMemory
         → W.contents writer.new ≡ W.contents writer.old }
+    // exact writer: the state is sized, so that its text loads as that state
+    ensures sized { IsSized state.now }
 
     // safe and total: a write fault comes only where the writer failed in this call
     ensures write_fault { result ≡ Err WriteFault.Write
         → W.failures writer.new ≡ one_more (W.failures writer.old) }
     ensures unfailed { OnOk result (W.failures writer.new ≡ W.failures writer.old) }
+    ensures unasked { result ≡ Err WriteFault.OutOfMemory
+        → W.failures writer.new ≡ W.failures writer.old }
 {
-    let names = state.names()?;
     let _current = state.current();
+    let names = state.names()?;
     put_frozen(state, &names, writer)?;
     Ok(())
 }

@@ -5,7 +5,7 @@ ghost use Rattle.std.specs.Prelude.{◌≡◌, ◌<◌, [], length, OnOk, OnErr}
 ghost use Rattle.m4_state.specs.Device.{with_bytes};
 ghost use Rattle.m4_engine.specs.Engine.{IsReady, handed_on};
 ghost use Rattle.m4_engine.specs.Writers.{both, FailsBy, FailsOnce};
-ghost use Rattle.m4_engine.specs.Expands.{Expands, HandsOn, HandsOnSome, IsIdle, at_rest};
+ghost use Rattle.m4_engine.specs.Expands.{Expands, EndsInput, HandsOn, HandsOnSome, IsIdle, at_rest};
 
 use crate::ending::Cause;
 use crate::machine::Machine;
@@ -73,7 +73,7 @@ impl Machine {
         requires ready { IsReady input.old }
         requires idle { IsIdle self.old }
         ensures expands { Expands self.old self.new input.old.pending (both O.contents M.contents out.old out.new messages.old messages.new) result }
-        ensures unread { result ≡ Cause.Read → ⊥ }
+        ensures input { EndsInput result }
         ensures counted { FailsBy result (both O.failures M.failures out.old out.new messages.old messages.new) }
     {
         'turns: loop {

@@ -1,4 +1,5 @@
-//! The diversions that are left at the end of a run. Manual: "Undiverting output".
+//! What is left at the end of a run: the diversions, or the state that is frozen. Manual: "Undiverting
+//! output", "Fast loading of frozen state".
 
 ghost use Rattle.std.specs.Prelude.{◌≡◌, []};
 ghost use Rattle.m4_state.specs.Device.{Puts, count_after};
@@ -19,6 +20,15 @@ impl Machine {
         ensures none_saved { self.old.saved ≡ [] }
     {
         issue(&mut self.state, out)
+    }
+
+    /// The state.
+    pub fn state(&self) -> &State
+        ensures state { result.now ≡ self.now.state }
+        // no call saves a text yet
+        ensures none_saved { self.now.saved ≡ [] }
+    {
+        &self.state
     }
 }
 

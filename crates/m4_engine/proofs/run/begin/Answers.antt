@@ -1,0 +1,6 @@
+use Rattle.std.proofs.Common.{rules}
+use Rattle.m4_engine.proofs.Starts.{reload_begins}
+use Rattle.m4_engine.proofs.run.begin.Goals as goal
+
+pub returns-in-Some-clause-begins : goal.returns-in-Some-clause-begins
+returns-in-Some-clause-begins g c = λ file t. reload_begins g.R.ByteSource.script c.in-Some.reader c.args.frozen.now c.args.options file _ _ c.reload.result (search rules) t c.reload.ensures.gives

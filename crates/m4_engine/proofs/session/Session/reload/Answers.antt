@@ -1,0 +1,6 @@
+use Rattle.std.proofs.Common.{rules}
+use Rattle.m4_engine.proofs.Starts.{reloaded_is}
+use Rattle.m4_engine.proofs.session.Session.reload.Goals as goal
+
+pub returns-in-Err-put_all-clause-gives : goal.returns-in-Err-put_all-clause-gives
+returns-in-Err-put_all-clause-gives g c = (c.in-Ok.loaded.state, c.in-Ok.loaded.issued, reloaded_is c.args.options _ c.in-Ok.loaded (search rules), search rules)
