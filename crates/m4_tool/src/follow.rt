@@ -3,7 +3,7 @@
 //! Everything that is printed for a line that cannot be followed is printed here. Manual: "Invoking
 //! m4".
 
-ghost use Rattle.std.specs.Prelude.{◌≡◌, IfErr, IfOk, false, is_some, map, string_bytes};
+ghost use Rattle.std.specs.Prelude.{◌≡◌, IfErr, IfOk, false, map, string_bytes};
 ghost use Rattle.clap.specs.Walk.{texts};
 ghost use Rattle.m4_tool.specs.CommandLine.{AreInRange, IsModeInCompany, IsRefusal, Says, StandAlone};
 
@@ -80,16 +80,12 @@ fn run_line<E: Write + Drop>(
     line: &Line,
 ) -> u8
     requires prefix { line.now.options.prefix ≡ false }
-    requires freezes { line.now.options.freeze ≡ is_some line.now.freeze }
 {
     if let Some(file) = &line.canon {
         return run_mode(rt, errors, Mode::Canon, file.as_str());
     }
     if let Some(file) = &line.inspect {
         return run_mode(rt, errors, Mode::Inspect, file.as_str());
-    }
-    if line.freeze.is_some() || line.reload.is_some() {
-        return report(rt, "no run is frozen or reloaded yet");
     }
     run_files(rt, errors, line).unwrap_or_else(|_refused| report(rt, "out of memory"))
 }
