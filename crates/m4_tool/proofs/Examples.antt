@@ -17,6 +17,46 @@ canon_alone : file_of (codes "canon") (line (codes "--canon=a" ∷ [])) ≡ Some
 unfolding clap_on_literals
 canon_alone = refl
 
+freeze_short : file_of (codes "freeze-state") (line (codes "-F" ∷ codes "s" ∷ codes "a" ∷ [])) ≡ Some (codes "s")
+unfolding clap_on_literals
+freeze_short = refl
+
+freeze_in_one_word : file_of (codes "freeze-state") (line (codes "-Fs" ∷ [])) ≡ Some (codes "s")
+unfolding clap_on_literals
+freeze_in_one_word = refl
+
+freeze_long : file_of (codes "freeze-state") (line (codes "--freeze-state=s" ∷ [])) ≡ Some (codes "s")
+unfolding clap_on_literals
+freeze_long = refl
+
+reload_short : file_of (codes "reload-state") (line (codes "-R" ∷ codes "-" ∷ [])) ≡ Some (codes "-")
+unfolding clap_on_literals
+reload_short = refl
+
+reload_long : file_of (codes "reload-state") (line (codes "--reload-state" ∷ codes "s" ∷ [])) ≡ Some (codes "s")
+unfolding clap_on_literals
+reload_long = refl
+
+both_frozen : refusals_of (line (codes "-R" ∷ codes "s" ∷ codes "-F" ∷ codes "s" ∷ [])) ≡ []
+unfolding clap_on_literals
+both_frozen = refl
+
+freeze_twice : refusals_of (line (codes "-F" ∷ codes "s" ∷ codes "--freeze-state=s" ∷ [])) ≡ kind.ArgumentConflict ∷ []
+unfolding clap_on_literals
+freeze_twice = refl
+
+reload_no_value : refusals_of (line (codes "-R" ∷ [])) ≡ kind.InvalidValue ∷ []
+unfolding clap_on_literals
+reload_no_value = refl
+
+mode_with_frozen : has_company (rows_by (line (codes "-R" ∷ codes "s" ∷ codes "--inspect=a" ∷ []))) ≡ true
+unfolding clap_on_literals
+mode_with_frozen = refl
+
+frozen_alone : has_company (rows_by (line (codes "-R" ∷ codes "s" ∷ codes "-F" ∷ codes "t" ∷ codes "a" ∷ []))) ≡ false
+unfolding clap_on_literals
+frozen_alone = refl
+
 no_inspect : file_of (codes "inspect") (line (codes "--canon=a" ∷ [])) ≡ None
 unfolding clap_on_literals
 no_inspect = refl

@@ -7,7 +7,7 @@ use Rattle.clap.proofs.WalkLemmas.{raw_values-rows}
 use Rattle.clap.specs.Matches.{ReadsOne}
 use Rattle.clap.specs.Words.{Row, Text, all_of, first_of, matched_of, raw_values, rows_of}
 use Rattle.clap.specs.declared.parser.matches.Found.{Found}
-use Rattle.m4_tool.specs.CommandLine.{HoldsFound, IsLimit, StandAlone, files_in, has_company, stands}
+use Rattle.m4_tool.specs.CommandLine.{HasNoFiles, HoldsFound, IsLimit, StandAlone, files_in, has_company, stand_files, stand_limits, stands}
 use Rattle.m4_tool.specs.declared.line.Line.{Line}
 use Rattle.m4_tool.specs.declared.line.LineFault.{LineFault}
 
@@ -46,24 +46,29 @@ nil_of_map f [] h = refl
 nil_of_map f (x ∷ xs) h = cc
 
 -- the first of two modes stands with nothing else
-first_alone : (a b c d e : Bool) → ((a && b) || ((a || b) && (c || (d || e)))) ≡ false → a ≡ true
-    → (b ≡ false) × (e ≡ false)
-first_alone false b c d e h t = cc
-first_alone true true c d e h t = cc
-first_alone true false true d e h t = cc
-first_alone true false false true e h t = cc
-first_alone true false false false true h t = cc
-first_alone true false false false false h t = (refl, refl)
+first_alone : (a b limits files : Bool) → ((a && b) || ((a || b) && (limits || files))) ≡ false → a ≡ true
+    → (b ≡ false) × (files ≡ false)
+first_alone false b limits files h t = cc
+first_alone true true limits files h t = cc
+first_alone true false true files h t = cc
+first_alone true false false true h t = cc
+first_alone true false false false h t = (refl, refl)
 
 -- and so does the second
-second_alone : (a b c d e : Bool) → ((a && b) || ((a || b) && (c || (d || e)))) ≡ false → b ≡ true
-    → (a ≡ false) × (e ≡ false)
-second_alone a false c d e h t = cc
-second_alone true true c d e h t = cc
-second_alone false true true d e h t = cc
-second_alone false true false true e h t = cc
-second_alone false true false false true h t = cc
-second_alone false true false false false h t = (refl, refl)
+second_alone : (a b limits files : Bool) → ((a && b) || ((a || b) && (limits || files))) ≡ false → b ≡ true
+    → (a ≡ false) × (files ≡ false)
+second_alone a false limits files h t = cc
+second_alone true true limits files h t = cc
+second_alone false true true files h t = cc
+second_alone false true false true h t = cc
+second_alone false true false false h t = (refl, refl)
+
+-- none of three stands
+none_stand : (a b c : Bool) → (a || (b || c)) ≡ false → (a ≡ false) × ((b ≡ false) × (c ≡ false))
+none_stand true b c h = cc
+none_stand false true c h = cc
+none_stand false false true h = cc
+none_stand false false false h = (refl, (refl, refl))
 
 -- a mode of the line stands among the rows
 mode_stands : {X : Type 0} (f : X → Text) (file : Option X) (name : Text) (rows : List Row)
@@ -78,23 +83,34 @@ mode_stands {X = X} f file name rows is some = go (stands name rows) refl
     go true e = refl
     go false e = absurd (gone file some (none_of_map f file (is ∙ first_unless name rows e)))
 
+-- a line of rows with no files has none
+no_files : (rows : List Row) (line : Line) → HoldsFound rows line → stand_files rows ≡ false
+    → HasNoFiles line
+no_files rows line holds absent =
+    let each = none_stand (stands (codes "freeze-state") rows) (stands (codes "reload-state") rows)
+    (stands (codes "files") rows) absent in record {
+      freeze = none_of_map string_bytes line.freeze (holds.freeze ∙ first_unless (codes "freeze-state") rows each.0);
+      reload = none_of_map string_bytes line.reload (holds.reload ∙ first_unless (codes "reload-state") rows each.1.0);
+      files = nil_of_map string_bytes line.files.items (holds.files ∙ files_unless rows each.1.1);
+    }
+
 -- a mode of a line with no company has none in the line
 pub stand_alone : (rows : List Row) (line : Line) → HoldsFound rows line → has_company rows ≡ false
     → StandAlone line
 stand_alone rows line holds alone = record {
   canon = λ some.
       let others = first_alone (stands (codes "canon") rows) (stands (codes "inspect") rows)
-      (stands (codes "nesting-limit") rows) (stands (codes "expansions") rows) (stands (codes "files") rows)
+      (stand_limits rows) (stand_files rows)
       alone (mode_stands string_bytes line.canon (codes "canon") rows holds.canon some) in (
         none_of_map string_bytes line.inspect (holds.inspect ∙ first_unless (codes "inspect") rows others.0),
-        nil_of_map string_bytes line.files.items (holds.files ∙ files_unless rows others.1),
+        no_files rows line holds others.1,
       );
   inspect = λ some.
       let others = second_alone (stands (codes "canon") rows) (stands (codes "inspect") rows)
-      (stands (codes "nesting-limit") rows) (stands (codes "expansions") rows) (stands (codes "files") rows)
+      (stand_limits rows) (stand_files rows)
       alone (mode_stands string_bytes line.inspect (codes "inspect") rows holds.inspect some) in (
         none_of_map string_bytes line.canon (holds.canon ∙ first_unless (codes "canon") rows others.0),
-        nil_of_map string_bytes line.files.items (holds.files ∙ files_unless rows others.1),
+        no_files rows line holds others.1,
       );
 }
 

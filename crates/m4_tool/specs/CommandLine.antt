@@ -1,8 +1,9 @@
 -- CommandLine: the words that m4r knows, and what a list of words asks for, as clap reads them.
 -- Believed: `known_words` is what the program hands to clap; how clap reads words is clap's own
 -- `matches_of` and `fault_of`, which proofs/Examples.antt computes for lines that are written out.
--- Manual: "Invoking m4", "Limits control". Words: known_words, rows_by, refusals_of, files_in,
--- IsLimit, HoldsFound, Says, AreInRange, StandAlone, stands, has_company, IsModeInCompany, IsRefusal.
+-- Manual: "Invoking m4", "Limits control", "Frozen state". Words: known_words, rows_by,
+-- refusals_of, files_in, IsLimit, HoldsFound, Says, AreInRange, HasNoFiles, StandAlone, stands, stand_limits,
+-- stand_files, has_company, IsModeInCompany, IsRefusal.
 -- own: a mode stands alone; `--help` has no short form; `--expansions`; each option stands once.
 use Rattle.std.specs.Prelude.{◌≡◌, ◌≤◌, ◌&&◌, ◌||◌, ℕ, Bool, List, [], Option, Some, None, IsSome, true, false, codes}
 use Rattle.std.specs.Prelude.{is_some, map, option_map, string_bytes, unwrap_or}
@@ -17,13 +18,21 @@ use Rattle.m4_tool.specs.declared.line.Line.{Line}
 use Rattle.m4_tool.specs.declared.line.LineFault.{LineFault}
 use Rattle.m4_tool.specs.declared.line.LineFault.TheVariants.{ModeNotAlone, Parse, OutOfMemory}
 
--- the option of a mode: a long name, and one value called FILE in the help
-abbrev pub mode_word : Text → Rule
-mode_word name = record (new_rule name) {
+-- an option with a file: a long name, and one value called FILE in the help
+abbrev pub path_word : Text → Rule
+path_word name = record (new_rule name) {
   long = Some name;
   action = Some Set;
   value_names = 1;
 }
+
+-- the file that is frozen to, which `-F` (70) names too
+abbrev pub freeze_word : Rule
+freeze_word = record (path_word (codes "freeze-state")) { short = Some 70 }
+
+-- the file that is reloaded, which `-R` (82) names too
+abbrev pub reload_word : Rule
+reload_word = record (path_word (codes "reload-state")) { short = Some 82 }
 
 -- the option of a limit: a long name, and one number from `least` to 4294967295
 abbrev pub limit_word : Text → ℕ → Rule
@@ -55,7 +64,11 @@ without_short_help = on_top (λ s. record s { disable_help_flag = true })
 
 -- the modes
 abbrev pub with_modes : App → App
-with_modes a = with_rule (with_rule a (mode_word (codes "canon"))) (mode_word (codes "inspect"))
+with_modes a = with_rule (with_rule a (path_word (codes "canon"))) (path_word (codes "inspect"))
+
+-- the frozen files
+abbrev pub with_frozen : App → App
+with_frozen a = with_rule (with_rule a freeze_word) reload_word
 
 -- the limits
 abbrev pub with_limits : App → App
@@ -63,8 +76,8 @@ with_limits a = with_rule (with_rule a nesting_word) (limit_word (codes "expansi
 
 -- the words that the program knows; the first word of a line is the program's name
 abbrev pub known_words : App
-known_words = with_rule (with_rule (with_limits (with_modes
-    (without_short_help (new_app (codes "m4r"))))) file_word) help_word
+known_words = with_rule (with_rule (with_limits (with_frozen (with_modes
+    (without_short_help (new_app (codes "m4r")))))) file_word) help_word
 
 -- what clap finds in the words, by the names of the rules
 abbrev pub rows_by : List Text → List Row
@@ -85,14 +98,17 @@ IsLimit least usual None n = n ≡ usual
 IsLimit least usual (Some text) n =
     IsUnsignedIn least 4294967295 text → n ≡ digits_value 10 (without_leading_plus text)
 
--- the line holds what clap found: the files of the modes, the limits, and the files to be read
+-- the line holds what clap found: the files of the modes, the frozen files, the limits, and the files
+-- to be read; it asks for a freezing run exactly where it has a file to freeze to
 pub record HoldsFound (rows : List Row) (line : Line) : Type 0 where
   pub canon : option_map string_bytes line.canon ≡ first_of (codes "canon") rows
   pub inspect : option_map string_bytes line.inspect ≡ first_of (codes "inspect") rows
+  pub freeze : option_map string_bytes line.freeze ≡ first_of (codes "freeze-state") rows
+  pub reload : option_map string_bytes line.reload ≡ first_of (codes "reload-state") rows
   pub nesting : IsLimit 0 1024 (one_of (codes "nesting-limit") rows) line.options.nesting
   pub calls : IsLimit 1 4294967295 (one_of (codes "expansions") rows) line.options.calls
   pub files : map string_bytes line.files.items ≡ files_in rows
-  pub freeze : line.options.freeze ≡ false
+  pub freezes : line.options.freeze ≡ is_some line.freeze
   pub prefix : line.options.prefix ≡ false
 
 -- clap takes the words, and the line holds what it finds in them
@@ -106,21 +122,35 @@ pub record AreInRange (line : Line) : Type 0 where
   pub some_calls : 1 ≤ line.options.calls
   pub calls : line.options.calls ≤ 4294967295
 
+-- no file is to be read, none is frozen to, and none is reloaded
+pub record HasNoFiles (line : Line) : Type 0 where
+  pub freeze : line.freeze ≡ None
+  pub reload : line.reload ≡ None
+  pub files : line.files.items ≡ []
+
 -- beside a mode there is no other one and no file
 pub record StandAlone (line : Line) : Type 0 where
-  pub canon : IsSome line.canon → (line.inspect ≡ None) × (line.files.items ≡ [])
-  pub inspect : IsSome line.inspect → (line.canon ≡ None) × (line.files.items ≡ [])
+  pub canon : IsSome line.canon → (line.inspect ≡ None) × HasNoFiles line
+  pub inspect : IsSome line.inspect → (line.canon ≡ None) × HasNoFiles line
 
 -- a word of this name stands on the line
 abbrev pub stands : Text → List Row → Bool
 stands name rows = is_some (all_of name rows)
 
+-- a limit stands on the line
+abbrev pub stand_limits : List Row → Bool
+stand_limits rows = stands (codes "nesting-limit") rows || stands (codes "expansions") rows
+
+-- a frozen file or a file to be read stands on the line
+abbrev pub stand_files : List Row → Bool
+stand_files rows = stands (codes "freeze-state") rows || (stands (codes "reload-state") rows
+    || stands (codes "files") rows)
+
 -- a mode stands beside another one, a limit or a file
 abbrev pub has_company : List Row → Bool
 has_company rows = (stands (codes "canon") rows && stands (codes "inspect") rows)
     || ((stands (codes "canon") rows || stands (codes "inspect") rows)
-    && (stands (codes "nesting-limit") rows || (stands (codes "expansions") rows
-    || stands (codes "files") rows)))
+    && (stand_limits rows || stand_files rows))
 
 -- clap takes the words, and a mode stands in company
 pub record IsModeInCompany (words : List Text) : Type 0 where

@@ -11,8 +11,8 @@ use Rattle.m4_engine.specs.declared.ending.Ending.{Ending}
 abbrev pub source_name : List ℕ → List ℕ
 source_name file = if bytes_eq file (codes "-") then codes "stdin" else file
 
--- the line behind `m4: ` that the program adds; of the other causes the run has told itself. A last
--- flush that fails is a write fault
+-- the line behind `m4: ` that the program adds; of the other causes the run has told itself, or, of a
+-- frozen file that is refused, the line of its fault does. A last flush that fails is a write fault
 abbrev pub last_fault : Cause → Bool → Option (List ℕ)
 last_fault causes.Read flushed = Some (codes "read fault")
 last_fault causes.Write flushed = Some (codes "write fault")

@@ -5,8 +5,9 @@ ghost use Rattle.m4_tool.specs.RunEnd.{last_fault};
 
 use m4_engine::ending::Cause;
 
-/// What is still told of a run that ended by this cause, whose output was flushed then or could not
-/// be. Of all other causes the run has told itself.
+/// What is still told of a run that ended by this cause, whose output and frozen text were flushed
+/// then or could not be. Of all other causes the run has told itself, or, of a frozen file that is
+/// refused, the line of its fault does.
 pub fn last_fault(cause: Cause, flushed: bool) -> Option<&'static str>
     ensures { option_map (λ text. text.now) result ≡ last_fault cause flushed }
 {

@@ -80,7 +80,6 @@ fn run_line<E: Write + Drop>(
     line: &Line,
 ) -> u8
     requires prefix { line.now.options.prefix ≡ false }
-    requires freeze { line.now.options.freeze ≡ false }
 {
     if let Some(file) = &line.canon {
         return run_mode(rt, errors, Mode::Canon, file.as_str());

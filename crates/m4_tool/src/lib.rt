@@ -8,6 +8,7 @@
 pub mod endings;
 pub mod fault;
 pub mod follow;
+pub mod late;
 pub mod line;
 pub mod modes;
 mod shared;

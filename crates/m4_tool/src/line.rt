@@ -1,14 +1,15 @@
-//! The command line: which mode it asks for, or which files are read and under which limits.
+//! The command line: which mode it asks for, or which files are read, from which frozen file on, to
+//! which one, and under which limits.
 //!
 //! The words are read by `clap`, which also writes the help and the text for a word that it does
 //! not know, or for a limit out of its range. What it cannot say of two words, that a mode stands
 //! alone, is decided here. Contracts see the words by `known_words` (specs/CommandLine.antt).
 //! Manual: "Invoking m4".
-ghost use Rattle.std.specs.Prelude.{◌≡◌, ◌≢◌, ◌≤◌, ◌<◌, ◌^◌, IfErr, IfOk, codes, false, true, map, option_map, string_bytes};
+ghost use Rattle.std.specs.Prelude.{◌≡◌, ◌≢◌, ◌≤◌, ◌<◌, ◌^◌, IfErr, IfOk, codes, false, true, is_some, map, option_map, string_bytes};
 ghost use Rattle.clap.specs.Walk.{texts};
 ghost use Rattle.clap.specs.Words.{app_of, first_of, found_of, new_app, one_of, rows_of, rule_of};
 ghost use Rattle.m4_tool.specs.CommandLine.{AreInRange, HoldsFound, IsLimit, IsModeInCompany, IsRefusal, Says, StandAlone};
-ghost use Rattle.m4_tool.specs.CommandLine.{file_word, files_in, has_company, known_words, limit_word, mode_word, stands, without_short_help};
+ghost use Rattle.m4_tool.specs.CommandLine.{file_word, files_in, has_company, known_words, limit_word, path_word, stand_files, stand_limits, stands, with_frozen, with_limits, with_modes, without_short_help};
 ghost use Rattle.m4_tool.specs.LineSteps.{HasRowsOf, IsNoRefusal, TellsApart};
 
 use clap::builder::ValueParser;
@@ -22,24 +23,29 @@ const ABOUT: &str =
     and undefine. Also shows what a frozen state file of GNU M4 holds, and writes it in its one \
     canonical spelling.";
 
-const USAGE: &str = "m4r [-L N] [--expansions=N] [FILE...]
+const USAGE: &str = "m4r [-F FILE] [-R FILE] [-L N] [--expansions=N] [FILE...]
        m4r --canon=FILE
        m4r --inspect=FILE";
 
 const AFTER_HELP: &str =
     "The files are read in their order; `-`, or no FILE, is standard input. A mode, --canon or
---inspect, stands alone; its FILE is a frozen state file, as `m4 -F FILE` writes it, and `-`
-there names a file called `-`. Output goes to standard output, messages to standard error.
+--inspect, stands alone. The FILE of an option is a frozen state file, as `m4r -F FILE` and
+`m4 -F FILE` write it, and `-` there names a file called `-`. The FILE of -F is made when there
+is something to write to it, so that -R and -F may name one file. Output goes to standard
+output, messages to standard error.
 
 Exit status:
    0  the files were expanded, the mode did its work, or this help was asked for
    1  the line cannot be followed, a file cannot be opened, a limit was passed, or a file,
-      the input or the output is at fault; a mode writes nothing for a file at fault
-  63  the file of a mode is of a newer format than 1
+      the input or the output is at fault; nothing is read or written behind a frozen file
+      at fault
+  63  the frozen file is of a newer format than 1
 
 Examples:
   m4r macros.m4 page.m4 > page.html
-  m4r --canon=state.m4f > canonical.m4f";
+  m4r -F macros.m4f macros.m4
+  m4r -R macros.m4f page.m4 > page.html
+  m4r --canon=macros.m4f > canonical.m4f";
 
 // How many calls may be open where the line says nothing of it.
 const USUAL_NESTING: u32 = 1024;
@@ -47,11 +53,15 @@ const USUAL_NESTING: u32 = 1024;
 // How many calls a run may make where the line says nothing of it.
 const USUAL_CALLS: u32 = u32::MAX;
 
-/// What a command line asks for: one mode with its file, or files to be read under limits.
+/// What a command line asks for: one mode with its file, or a run over files.
 #[derive(Debug, Drop)]
 pub struct Line {
-    /// How the run is limited.
+    /// How the run is limited, and whether it freezes.
     pub options: Options,
+    /// The file that the run freezes its state to.
+    pub freeze: Option<String>,
+    /// The file that the run starts from.
+    pub reload: Option<String>,
     /// The file whose lines `--inspect` prints.
     pub inspect: Option<String>,
     /// The file whose canonical text `--canon` prints.
@@ -127,12 +137,16 @@ fn line_of_matches(alloc: Global, matches: &ArgMatches<'_>) -> Result<Line, Line
     if has_company(matches) {
         return Err(LineFault::ModeNotAlone);
     }
+    let freeze = file_of(alloc, matches, "freeze-state")?;
+    let reload = file_of(alloc, matches, "reload-state")?;
     let inspect = file_of(alloc, matches, "inspect")?;
     let canon = file_of(alloc, matches, "canon")?;
     let files = files_of(alloc, matches)?;
-    let options = options_of(matches);
+    let options = options_of(matches, freeze.is_some());
     Ok(Line {
         options,
+        freeze,
+        reload,
         inspect,
         canon,
         files,
@@ -145,10 +159,21 @@ fn has_company(matches: &ArgMatches<'_>) -> bool
 {
     let canon = stands(matches, "canon");
     let inspect = stands(matches, "inspect");
-    let nesting = stands(matches, "nesting-limit");
-    let calls = stands(matches, "expansions");
-    let files = stands(matches, "files");
-    (canon && inspect) || ((canon || inspect) && (nesting || (calls || files)))
+    (canon && inspect) || ((canon || inspect) && (stand_limits(matches) || stand_files(matches)))
+}
+
+// Whether a limit stands on the line.
+fn stand_limits(matches: &ArgMatches<'_>) -> bool
+    ensures { result ≡ stand_limits (rows_of (found_of matches.now)) }
+{
+    stands(matches, "nesting-limit") || stands(matches, "expansions")
+}
+
+// Whether a frozen file or a file to be read stands on the line.
+fn stand_files(matches: &ArgMatches<'_>) -> bool
+    ensures { result ≡ stand_files (rows_of (found_of matches.now)) }
+{
+    stands(matches, "freeze-state") || stands(matches, "reload-state") || stands(matches, "files")
 }
 
 // Whether a word of this name stands on the line.
@@ -158,18 +183,19 @@ fn stands(matches: &ArgMatches<'_>, name: &str) -> bool
     matches.contains_id(name)
 }
 
-// The limits of the line.
-fn options_of(matches: &ArgMatches<'_>) -> Options
+// The limits of the line, for a run that freezes or does not.
+fn options_of(matches: &ArgMatches<'_>, freeze: bool) -> Options
     ensures nesting { IsLimit 0 1024 (one_of (codes "nesting-limit") (rows_of (found_of matches.now))) result.nesting }
     ensures calls { IsLimit 1 4294967295 (one_of (codes "expansions") (rows_of (found_of matches.now))) result.calls }
-    ensures plain { (result.freeze ≡ false) × (result.prefix ≡ false) }
+    ensures same { result.freeze ≡ freeze }
+    ensures plain { result.prefix ≡ false }
     ensures most { result.nesting < 2 ^ 32 }
     ensures in_range { (1 ≤ result.calls) × (result.calls < 2 ^ 32) }
 {
     Options {
         calls: limit(matches, "expansions", 1, USUAL_CALLS),
         nesting: limit(matches, "nesting-limit", 0, USUAL_NESTING),
-        freeze: false,
+        freeze,
         prefix: false,
     }
 }
@@ -187,16 +213,16 @@ fn limit(matches: &ArgMatches<'_>, name: &str, least: u32, usual: u32) -> u64
     }
 }
 
-// The file of a mode, if the line has it.
+// The file of an option, if the line has it.
 fn file_of(
     alloc: Global,
     matches: &ArgMatches<'_>,
-    mode: &str,
+    name: &str,
 ) -> Result<Option<String>, AllocError>
     ensures { IfOk result (λ file. option_map string_bytes file
-        ≡ first_of mode.now (rows_of (found_of matches.now))) }
+        ≡ first_of name.now (rows_of (found_of matches.now))) }
 {
-    match matches.get_str(mode) {
+    match matches.get_str(name) {
         Some(file) => Ok(Some(String::from_str(alloc, file)?)),
         None => Ok(None),
     }
@@ -228,16 +254,56 @@ fn copies(alloc: Global, files: &[&str]) -> Result<Vec<String>, AllocError>
 fn known_command<'a>(alloc: Global) -> Result<Command<'a>, AllocError>
     ensures { IfOk result (λ command. app_of command ≡ known_words) }
 {
-    let canon = mode(
+    let help = Arg::new(alloc, "help")
+        .long("help")
+        .action(ArgAction::Help)
+        .help("Prints this help");
+    let command = with_modes(alloc, start(alloc))?;
+    let command = with_frozen(alloc, command)?;
+    let command = with_limits(alloc, command)?;
+    command.arg(files(alloc))?.arg(help)
+}
+
+// The command with the modes.
+fn with_modes<'a>(alloc: Global, command: Command<'a>) -> Result<Command<'a>, AllocError>
+    ensures { IfOk result (λ more. app_of more ≡ with_modes (app_of command.entry)) }
+{
+    let canon = path_option(
         alloc,
         "canon",
         "Prints the canonical text of the state in FILE",
     );
-    let inspect = mode(
+    let inspect = path_option(
         alloc,
         "inspect",
         "Lists what FILE holds, one line for each thing",
     );
+    command.arg(canon)?.arg(inspect)
+}
+
+// The command with the frozen files of a run.
+fn with_frozen<'a>(alloc: Global, command: Command<'a>) -> Result<Command<'a>, AllocError>
+    ensures { IfOk result (λ more. app_of more ≡ with_frozen (app_of command.entry)) }
+{
+    let freeze = path_option(
+        alloc,
+        "freeze-state",
+        "Freezes the state at the end of the run to FILE, in place of issuing the diversions",
+    )
+    .short('F');
+    let reload = path_option(
+        alloc,
+        "reload-state",
+        "Starts the run from the state in FILE, before the files are read",
+    )
+    .short('R');
+    command.arg(freeze)?.arg(reload)
+}
+
+// The command with the limits.
+fn with_limits<'a>(alloc: Global, command: Command<'a>) -> Result<Command<'a>, AllocError>
+    ensures { IfOk result (λ more. app_of more ≡ with_limits (app_of command.entry)) }
+{
     let nesting = limit_option(
         alloc,
         "nesting-limit",
@@ -251,17 +317,7 @@ fn known_command<'a>(alloc: Global) -> Result<Command<'a>, AllocError>
         1,
         "Ends a run that makes more than N calls [default: 4294967295]",
     );
-    let help = Arg::new(alloc, "help")
-        .long("help")
-        .action(ArgAction::Help)
-        .help("Prints this help");
-    start(alloc)
-        .arg(canon)?
-        .arg(inspect)?
-        .arg(nesting)?
-        .arg(calls)?
-        .arg(files(alloc))?
-        .arg(help)
+    command.arg(nesting)?.arg(calls)
 }
 
 // The program with its texts, before its words.
@@ -275,9 +331,9 @@ fn start<'a>(alloc: Global) -> Command<'a>
         .disable_help_flag(true)
 }
 
-// The option of a mode, which takes a file.
-fn mode<'a>(alloc: Global, name: &'a str, help: &'a str) -> Arg<'a>
-    ensures rule { rule_of result ≡ mode_word name.now }
+// An option that takes a file.
+fn path_option<'a>(alloc: Global, name: &'a str, help: &'a str) -> Arg<'a>
+    ensures rule { rule_of result ≡ path_word name.now }
     ensures local { result.global ≡ false }
 {
     Arg::new(alloc, name)

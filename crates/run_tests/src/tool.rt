@@ -2,6 +2,7 @@
 
 mod ends;
 mod faults;
+mod late;
 mod lines;
 mod modes;
 mod names;

@@ -1,64 +1,90 @@
-//! A run over the files of a line, or over standard input.
+//! A run over the files of a line, or over standard input, with its frozen files.
 
 ghost use Rattle.std.specs.Prelude.{◌≡◌, false};
 ghost use Rattle.m4_tool.specs.RunEnd.{last_status};
 
-use super::reports::report;
+use super::reports::{report, report_unopened};
 use crate::endings::last_fault;
+use crate::fault::ModeFault;
+use crate::late::LateFile;
 use crate::line::Line;
 use crate::shared::{BLOCK, Prompting, Shown};
 use crate::sources::{FileOrInput, INPUT, source_name};
-use m4_engine::ending::Ending;
+use m4_engine::ending::{Cause, Ending};
 use m4_engine::run::run;
 use m4_engine::source::Source;
-use m4_state::memory::MemSink;
 use m4_state::standard::{StdSink, StdSource};
 use std::alloc::{AllocError, Global};
 use std::io::{BufWriter, Input, Write};
 use std::rt::Files;
 use std::{fs, io};
 
-/// Runs over the files of the line, or over standard input. What the run wrote is flushed before
-/// anything more is reported.
+/// Runs over the files of the line, or over standard input, from its frozen file on where it has one.
+/// What the run wrote is flushed before anything more is reported.
 pub fn run_files<E: Write + Drop>(
     rt: &(impl Files + Input + Alloc<A = Global> + Print + Eprint),
     errors: E,
     line: &Line,
 ) -> io::Result<u8>
     requires prefix { line.now.options.prefix ≡ false }
-    requires freeze { line.now.options.freeze ≡ false }
 {
     let output = BufWriter::with_capacity(rt.alloc(), BLOCK, io::writer(rt))?;
     let messages = BufWriter::with_capacity(rt.alloc(), BLOCK, errors)?;
     let shown = Shown::new(output, messages);
-    Ok(run_shown(rt, line, &shown)?)
+    run_shown(rt, line, &shown)
 }
 
-// The same, with what is written shown by these writers.
+// The same, with what is written shown by these writers. Where the frozen file can't be opened, that is
+// reported, and nothing else is done.
 fn run_shown<R: Files + Input + Alloc<A = Global> + Eprint, W: Write, E: Write>(
     rt: &R,
     line: &Line,
     shown: &Shown<W, E>,
-) -> Result<u8, AllocError>
+) -> io::Result<u8>
     requires prefix { line.now.options.prefix ≡ false }
-    requires freeze { line.now.options.freeze ≡ false }
 {
+    let reloaded = name_of(&line.reload);
+    let Ok(mut frozen) = frozen_of(rt, &line.reload) else {
+        return Ok(report_unopened(rt, reloaded));
+    };
     let mut sources = sources_of(rt, line.files.as_slice(), shown)?;
     let mut out = StdSink::new(shown.output());
     let mut messages = StdSink::new(shown.messages());
-    // no run is frozen yet, and none starts from a frozen file
-    let mut freeze_to = MemSink::new(rt.alloc(), 0, 1)?;
+    let mut freeze_to = LateFile::new(rt, name_of(&line.freeze))?;
     let ending = run(
         rt.alloc(),
         line.options,
-        &mut None,
+        &mut frozen,
         &mut sources,
         &mut out,
         &mut messages,
         &mut freeze_to,
     );
-    let flushed = shown.flush();
-    Ok(tell_end(rt, ending, flushed))
+    let is_shown = shown.flush();
+    let is_frozen = freeze_to.finish().is_ok();
+    Ok(tell_end(rt, ending, is_shown && is_frozen, reloaded, shown))
+}
+
+// The frozen file that the run starts from, opened; none where it starts afresh.
+fn frozen_of<'a, R: Files + Input, W: Write, E: Write>(
+    rt: &R,
+    file: &Option<String>,
+) -> io::Result<Option<Opened<'a, R, W, E>>> {
+    match file {
+        Some(name) => {
+            let opened = fs::open(rt, name.as_str())?;
+            Ok(Some(StdSource::new(FileOrInput::File(opened))))
+        }
+        None => Ok(None),
+    }
+}
+
+// The name of a frozen file. Where the line has none the name is empty, and no file of it is made or read.
+fn name_of(file: &Option<String>) -> &str {
+    match file {
+        Some(name) => name.as_str(),
+        None => "",
+    }
 }
 
 // The files of the line, opened in their order; standard input where there is none.
@@ -103,10 +129,22 @@ fn opened<'a, R: Files + Input + Alloc<A = Global>, W: Write, E: Write>(
     }
 }
 
-// Reports what the run has not reported itself, and returns the last status.
-fn tell_end(rt: &impl Eprint, ending: Ending, flushed: bool) -> u8
+// Reports what the run has not reported itself, and returns the last status. Only the status reports
+// it where it can't be shown.
+fn tell_end<W: Write, E: Write>(
+    rt: &impl Eprint,
+    ending: Ending,
+    flushed: bool,
+    reloaded: &str,
+    shown: &Shown<W, E>,
+) -> u8
     ensures { result ≡ last_status ending flushed }
 {
+    if let Cause::Frozen(fault) = ending.cause {
+        let mut messages = StdSink::new(shown.messages());
+        let _put = ModeFault::from(fault).report(reloaded.as_bytes(), &mut messages);
+        let _flushed = shown.flush();
+    }
     match last_fault(ending.cause, flushed) {
         Some(text) => report(rt, text),
         None => ending.status,

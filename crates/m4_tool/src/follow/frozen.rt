@@ -1,6 +1,6 @@
 //! A mode on a file of the disk: its file is opened, and its output goes to standard output.
 
-use super::reports::{FAILED, report};
+use super::reports::{report, report_unopened};
 use crate::modes;
 use crate::shared::BLOCK;
 use m4_state::standard::{StdSink, StdSource};
@@ -30,10 +30,7 @@ pub fn run_mode<E: Write + Drop>(
             rt,
             "out of memory",
         )),
-        Err(_fault) => {
-            let _printed = eprintln!(rt; "m4: cannot open `{file}'");
-            FAILED
-        }
+        Err(_fault) => report_unopened(rt, file),
     }
 }
 

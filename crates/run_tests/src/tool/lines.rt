@@ -29,7 +29,7 @@ static MODES: [(&[&str], &str); 22] = [
     ),
     (&["m4r", "--nope"], "refused: UnknownArgument"),
     (
-        &["m4r", "--canon=a", "--inspect=b", "-F"],
+        &["m4r", "--canon=a", "--inspect=b", "-X"],
         "refused: UnknownArgument",
     ),
     (
@@ -40,6 +40,36 @@ static MODES: [(&[&str], &str); 22] = [
     (&["m4r", "--help"], "refused: DisplayHelp"),
     (&["m4r", "--canon=a", "--help"], "refused: DisplayHelp"),
     (&["m4r", "-h"], "refused: UnknownArgument"),
+];
+
+// The same for lines with a frozen file: what it is frozen to, what it starts from, and its files.
+static FROZEN: [(&[&str], &str); 20] = [
+    (&["m4r", "-F", "s", "a.m4"], "freeze s, run [\"a.m4\"]"),
+    (&["m4r", "-Fs", "a.m4"], "freeze s, run [\"a.m4\"]"),
+    (&["m4r", "a.m4", "-F", "s"], "freeze s, run [\"a.m4\"]"),
+    (&["m4r", "--freeze-state=s"], "freeze s, run []"),
+    (&["m4r", "--freeze-state", "s"], "freeze s, run []"),
+    (&["m4r", "-F", "-"], "freeze -, run []"),
+    (&["m4r", "-F-"], "freeze -, run []"),
+    (&["m4r", "--freeze-state="], "freeze , run []"),
+    (&["m4r", "-R", "s", "b.m4"], "reload s, run [\"b.m4\"]"),
+    (&["m4r", "--reload-state=s"], "reload s, run []"),
+    (&["m4r", "-R", "-", "-"], "reload -, run [\"-\"]"),
+    (&["m4r", "-R", "s", "-F", "s"], "reload s, freeze s, run []"),
+    (
+        &["m4r", "-F", "t", "a", "-R", "s"],
+        "reload s, freeze t, run [\"a\"]",
+    ),
+    (&["m4r", "-F", "s", "--canon=a"], "a mode in company"),
+    (&["m4r", "--inspect=a", "-R", "s"], "a mode in company"),
+    (&["m4r", "-F", "s", "-F", "s"], "refused: ArgumentConflict"),
+    (
+        &["m4r", "-R", "s", "--reload-state=t"],
+        "refused: ArgumentConflict",
+    ),
+    (&["m4r", "-F"], "refused: InvalidValue"),
+    (&["m4r", "a.m4", "-R"], "refused: InvalidValue"),
+    (&["m4r", "-f", "s"], "refused: UnknownArgument"),
 ];
 
 // The same for lines with no mode: a run with its limits, of open calls and of all calls, and its files.
@@ -107,7 +137,7 @@ fn answer_of(alloc: Global, line: &Result<Line, LineFault>) -> Result<String, Fa
     }
 }
 
-// What a line asks for: a mode with its file, or a run.
+// What a line asks for: a mode with its file, a run with frozen files, or a run.
 fn asked_of(alloc: Global, line: &Line) -> Result<String, Fail> {
     let Options {
         calls,
@@ -115,14 +145,33 @@ fn asked_of(alloc: Global, line: &Line) -> Result<String, Fail> {
         freeze,
         prefix,
     } = line.options;
-    let is_usual = nesting == 1024 && calls == 4294967295 && line.files.is_empty();
+    let is_usual = nesting == 1024 && calls == 4294967295;
+    let is_plain = is_usual && line.files.is_empty() && !freeze;
     let files = &line.files;
-    match (&line.canon, &line.inspect) {
-        _ if freeze || prefix => Ok(format!(in alloc; "{line:?}")?),
-        (Some(file), None) if is_usual => Ok(format!(in alloc; "canon {file}")?),
-        (None, Some(file)) if is_usual => Ok(format!(in alloc; "inspect {file}")?),
-        (None, None) => Ok(format!(in alloc; "run {nesting} {calls} {files:?}")?),
+    match (&line.canon, &line.inspect, &line.reload, &line.freeze) {
+        _ if prefix || freeze != line.freeze.is_some() => Ok(format!(in alloc; "{line:?}")?),
+        (Some(file), None, None, None) if is_plain => Ok(format!(in alloc; "canon {file}")?),
+        (None, Some(file), None, None) if is_plain => Ok(format!(in alloc; "inspect {file}")?),
+        (None, None, None, None) => Ok(format!(in alloc; "run {nesting} {calls} {files:?}")?),
+        (None, None, reload, freeze) if is_usual => frozen_of(alloc, reload, freeze, files),
         _ => Ok(format!(in alloc; "{line:?}")?),
+    }
+}
+
+// The frozen files of a run, and the files that it reads.
+fn frozen_of(
+    alloc: Global,
+    reload: &Option<String>,
+    freeze: &Option<String>,
+    files: &Vec<String>,
+) -> Result<String, Fail> {
+    match (reload, freeze) {
+        (Some(from), Some(to)) => Ok(format!(in alloc;
+            "reload {from}, freeze {to}, run {files:?}"
+        )?),
+        (Some(from), None) => Ok(format!(in alloc; "reload {from}, run {files:?}")?),
+        (None, Some(to)) => Ok(format!(in alloc; "freeze {to}, run {files:?}")?),
+        (None, None) => Ok(format!(in alloc; "run {files:?}")?),
     }
 }
 
@@ -142,6 +191,14 @@ fn check_row(
 #[test]
 fn each_line_with_a_mode_is_read(rt: HostRuntime) -> Result<(), Fail> {
     for (words, want) in &MODES {
+        check_row(&rt, words, want)?;
+    }
+    Ok(())
+}
+
+#[test]
+fn each_line_with_a_frozen_file_is_read(rt: HostRuntime) -> Result<(), Fail> {
+    for (words, want) in &FROZEN {
         check_row(&rt, words, want)?;
     }
     Ok(())

@@ -6,13 +6,15 @@ use std::process::Abort;
 use std::test::Fail;
 
 // The words of a line, whether they are a mistake, and parts of the text.
-static TEXTS: [(&[&str], bool, &[&str]); 6] = [
+static TEXTS: [(&[&str], bool, &[&str]); 7] = [
     (
         &["m4r", "--help"],
         false,
         &[
             "--canon <FILE>",
             "--inspect <FILE>",
+            "-F, --freeze-state <FILE>",
+            "-R, --reload-state <FILE>",
             "-L, --nesting-limit <N>",
             "--expansions <N>",
             "Exit status:",
@@ -33,6 +35,11 @@ static TEXTS: [(&[&str], bool, &[&str]); 6] = [
         &["m4r", "--canon"],
         true,
         &["a value is required for '--canon <FILE>'"],
+    ),
+    (
+        &["m4r", "-R"],
+        true,
+        &["a value is required for '--reload-state <FILE>'"],
     ),
     (
         &["m4r", "--expansions=0"],

@@ -1,9 +1,18 @@
 -- clap answers a fault of the list for these words, or want of memory, which is told apart.
-use Rattle.std.proofs.Common.{ap, subst}
-use Rattle.clap.specs.Words.{App, HasKind, fault_of, is_simple_and_free}
+use Rattle.std.proofs.Common.{◌∙◌, ap, subst, sym}
+use Rattle.clap.specs.Words.{App, HasKind, fault_of, is_simple, is_simple_and_free, matches_of}
 use Rattle.clap.specs.Walk.{texts}
 use Rattle.m4_tool.proofs.RefusalLemmas.{told_apart_refusal, told_apart_mode}
 use Rattle.m4_tool.proofs.line.matches_of_words.Goals as goal
+
+pub returns-in-Ok-clause-found : goal.returns-in-Ok-clause-found
+returns-in-Ok-clause-found c =
+    let words = texts c.args.words.now in
+    let taken = c.in-Ok.ensures.kinds (ap is_simple_and_free c.in_ok-command.ensures) in
+    let found = c.in-Ok.ensures.matches (ap is_simple c.in_ok-command.ensures) in record {
+      is_taken = sym (ap (λ (a : App). fault_of a words) c.in_ok-command.ensures) ∙ taken;
+      rows = found.0 ∙ ap (λ (a : App). matches_of a words) c.in_ok-command.ensures;
+    }
 
 pub returns-in-Err-clause-refused : goal.returns-in-Err-clause-refused
 returns-in-Err-clause-refused c =

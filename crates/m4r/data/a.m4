@@ -1,0 +1,1 @@
+define(`hi',`Hello $1.')dnl
