@@ -14,7 +14,7 @@ type Row = (
     (u8, Cause),
 );
 
-const ROWS: &[Row] = &[
+static ROWS: [Row; 6] = [
     (
         "excess arguments",
         b"define(`a',`b',`c')a\n",
@@ -61,7 +61,7 @@ const ROWS: &[Row] = &[
 
 #[test]
 fn files_that_warn_or_break_off(rt: HostRuntime) {
-    for &(name, file, output, messages, (status, cause)) in ROWS {
+    for &(name, file, output, messages, (status, cause)) in &ROWS {
         for block in BLOCKS {
             let want = printed_run(rt.alloc(), output, messages, ended(status, cause));
             agrees(

@@ -13,7 +13,7 @@ use std::process::Abort;
 type Row = (&'static str, &'static [u8], &'static [u8], u64);
 
 // Tokens: names, strings, comments and bytes.
-const TOKENS: &[Row] = &[
+static TOKENS: [Row; 7] = [
     ("an empty file", b"", b"", 0),
     (
         "no call",
@@ -54,7 +54,7 @@ const TOKENS: &[Row] = &[
 ];
 
 // Calls: their arguments, and what they put in their place.
-const CALLS: &[Row] = &[
+static CALLS: [Row; 10] = [
     (
         "blanks in front of an argument are dropped",
         b"define(`f',`$1$1')f( a , b)\n",
@@ -118,7 +118,7 @@ const CALLS: &[Row] = &[
 ];
 
 // The builtins, with and without their lists.
-const BUILTINS: &[Row] = &[
+static BUILTINS: [Row; 10] = [
     ("dnl", b"a dnl b\nc\n", b"a c\n", 1),
     ("dnl in the last line", b"a dnl b", b"a ", 1),
     (
@@ -188,17 +188,17 @@ fn compare(alloc: Global, rt: &impl Abort, rows: &[Row]) {
 
 #[test]
 fn tokens_are_taken_as_they_stand(rt: HostRuntime) {
-    compare(rt.alloc(), &rt, TOKENS);
+    compare(rt.alloc(), &rt, &TOKENS);
 }
 
 #[test]
 fn calls_are_read_again(rt: HostRuntime) {
-    compare(rt.alloc(), &rt, CALLS);
+    compare(rt.alloc(), &rt, &CALLS);
 }
 
 #[test]
 fn builtins_change_what_follows(rt: HostRuntime) {
-    compare(rt.alloc(), &rt, BUILTINS);
+    compare(rt.alloc(), &rt, &BUILTINS);
 }
 
 // How a file ends within so many calls.
@@ -221,7 +221,7 @@ fn compare_with_one_less(alloc: Global, rt: &impl Abort, rows: &[Row]) {
 
 #[test]
 fn one_call_less_is_too_few(rt: HostRuntime) {
-    compare_with_one_less(rt.alloc(), &rt, TOKENS);
-    compare_with_one_less(rt.alloc(), &rt, CALLS);
-    compare_with_one_less(rt.alloc(), &rt, BUILTINS);
+    compare_with_one_less(rt.alloc(), &rt, &TOKENS);
+    compare_with_one_less(rt.alloc(), &rt, &CALLS);
+    compare_with_one_less(rt.alloc(), &rt, &BUILTINS);
 }

@@ -21,7 +21,7 @@ const THREE: &[u8] = b"define(`f',`$1')f(f(f(`x')))\n";
 // A name that stands for itself.
 const LOOP: &[u8] = b"define(`l',`l')l\n";
 
-const ROWS: &[Row] = &[
+static ROWS: [Row; 11] = [
     (
         "four calls, three open",
         THREE,
@@ -114,7 +114,7 @@ const ROWS: &[Row] = &[
 
 #[test]
 fn limits_end_a_run(rt: HostRuntime) {
-    for &(name, file, limits, output, messages, (status, cause)) in ROWS {
+    for &(name, file, limits, output, messages, (status, cause)) in &ROWS {
         for block in BLOCKS {
             let want = printed_run(rt.alloc(), output, messages, ended(status, cause));
             agrees(

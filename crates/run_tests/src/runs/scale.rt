@@ -13,7 +13,7 @@ const ROOM: usize = 1_100_000;
 type Made = (&'static [u8], &'static [u8], usize, &'static [u8]);
 
 // A row's name, its file and its output.
-const ROWS: &[(&str, Made, Made)] = &[
+static ROWS: [(&str, Made, Made); 6] = [
     (
         "text of 260,000 bytes",
         (b"", b"a long text, ", 20_000, b""),
@@ -73,7 +73,7 @@ fn expected_of(alloc: Global, output: Made) -> Result<Vec<u8>, AllocError> {
 
 #[test]
 fn large_inputs(rt: HostRuntime) {
-    for &(name, file, output) in ROWS {
+    for &(name, file, output) in &ROWS {
         let want = expected_of(rt.alloc(), output);
         agrees(&rt, name, want, seen_of(rt.alloc(), file));
     }

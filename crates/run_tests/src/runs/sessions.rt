@@ -27,7 +27,7 @@ enum Call {
 // output and messages.
 type Row = (&'static str, usize, &'static [Call], &'static [u8]);
 
-const ROWS: &[Row] = &[
+static ROWS: [Row; 6] = [
     (
         "two files and the end",
         1024,
@@ -150,7 +150,7 @@ fn seen(alloc: Global, room: usize, calls: &[Call], block: usize) -> Result<Vec<
 
 #[test]
 fn calls_and_their_answers(rt: HostRuntime) {
-    for &(name, room, calls, want) in ROWS {
+    for &(name, room, calls, want) in &ROWS {
         for block in BLOCKS {
             shows(&rt, name, want, seen(rt.alloc(), room, calls, block));
         }

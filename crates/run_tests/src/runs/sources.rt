@@ -31,7 +31,7 @@ type Row = (
     (u8, Cause),
 );
 
-const ROWS: &[Row] = &[
+static ROWS: [Row; 11] = [
     ("no source", &[], ROOM, b"", b"", (0, Cause::Done)),
     (
         "a definition of one file is called in the next",
@@ -167,7 +167,7 @@ fn seen_of(
 
 #[test]
 fn sources_and_writers(rt: HostRuntime) {
-    for &(name, sources, room, output, messages, (status, cause)) in ROWS {
+    for &(name, sources, room, output, messages, (status, cause)) in &ROWS {
         for block in BLOCKS {
             let want = printed_run(rt.alloc(), output, messages, ended(status, cause));
             agrees(&rt, name, want, seen_of(rt.alloc(), sources, block, room));
