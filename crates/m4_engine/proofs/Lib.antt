@@ -40,3 +40,4 @@ pub mod Reading
 pub mod Readers
 pub mod Whole
 pub mod Starts
+pub mod TwoRuns

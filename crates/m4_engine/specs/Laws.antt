@@ -1,9 +1,10 @@
 -- What holds of the definitions alone: the laws of expansions and runs.
 -- Believed as statements; the functions of the module `laws` carry their proofs.
--- Words: ExpansionRules, ExpandRules, OneStart, SameDenotation, SettledBegins, SplitStates, Split,
--- LargerNesting, LargerCalls, RunEnds.
-use Rattle.std.specs.Prelude.{◌≡◌, ◌≢◌, ◌↔◌, ◌⊎◌, ℕ, ◌+◌, ◌<◌, ◌≤◌, Bool, true, List, [], ◌∷◌, ◌++◌, Option, Some}
-use Rattle.m4_state.specs.Device.{Script}
+-- Words: ExpansionRules, ExpandRules, OneStart, SameDenotation, SettledBegins, SplitStates, Split, IsDecided,
+-- IsOneRun, TwoRuns, LargerNesting, LargerCalls, RunEnds.
+use Rattle.std.specs.Prelude.{◌≡◌, ◌≢◌, ◌↔◌, ◌⊎◌, ℕ, ◌+◌, ◌<◌, ◌≤◌, Bool, true, false, List, [], ◌∷◌, ◌++◌, Option, Some}
+use Rattle.m4_state.specs.Device.{Script, with_bytes}
+use Rattle.m4_state.specs.State.{IsSized}
 use Rattle.m4_frozen.specs.Directive.{Directive}
 use Rattle.m4_frozen.specs.Spells.{Spells}
 use Rattle.m4_frozen.specs.Denote.{denote}
@@ -18,6 +19,9 @@ use Rattle.m4_engine.specs.Start.{Start, From, frozen_file, IsStart, start_of}
 use Rattle.m4_engine.specs.Run.{RunResult, run, run_from}
 use Rattle.m4_engine.specs.Settled.{SettledSoFar, settled}
 use Rattle.m4_engine.specs.Carries.{Carries, frozen_state}
+use Rattle.m4_engine.specs.declared.ending.Ending.{Ending}
+use Rattle.m4_engine.specs.Writers.{Three, writers}
+use Rattle.m4_engine.specs.WholeRun.{HasFrozen, RunGives}
 
 -- where the bounds are enough, an expansion is what follows its first turn, with no bound in sight
 abbrev pub ExpansionRules : Type 0 → Type 0 → Type 0 → Type 0
@@ -105,6 +109,45 @@ Split =
     → Joins (run (freezing true o) frozen as')
     (run (prefixed prefix (freezing freezes o)) (Some (frozen_file text)) bs)
     (run (freezing freezes o) frozen (as' ++ bs))
+
+-- a run whose end the definitions decide: no device failed, and memory was there
+abbrev pub IsDecided : Cause → Type 0
+IsDecided (causes.Frozen fault) = ⊥
+IsDecided causes.Read = ⊥
+IsDecided causes.Write = ⊥
+IsDecided causes.OutOfMemory = ⊥
+IsDecided cause = Unit {0}
+
+-- what was written is what a run puts out, and the ending is that run's
+pub record IsOneRun (r : RunResult) (e : Ending) (w : Three (Option (List ℕ))) : Type 0 where
+  pub how : r.how ≡ Ends e.cause
+  pub status : e.status ≡ r.status
+  pub output : (w.two).out_new ≡ with_bytes (w.two).out_old r.output
+  pub messages : (w.two).messages_new ≡ with_bytes (w.two).messages_old r.messages
+  pub frozen : e.cause ≡ causes.Done → HasFrozen r.frozen w
+
+-- The law `split` of two runs as they are made, by what `run` promises of each. The first freezes, reads
+-- everything with status 0 and saves no text; its frozen text goes to an empty writer. The second reloads
+-- what that writer then has, with the same limits, and its output and messages go after the first one's.
+-- Then the writers have what one run over the sources of both puts out, which ends as the second did, if
+-- that run doesn't end by the limit of calls.
+abbrev pub TwoRuns : Type 0
+TwoRuns =
+    (o : Options) (freezes prefix : Bool) (file : Option Script) (as' bs : List Source) (text : List ℕ)
+    (e f : Ending) (v w : Three (Option (List ℕ)))
+    → RunGives (run (freezing true o) file as') e v
+    → e.cause ≡ causes.Done → e.status ≡ 0 → e.wrapped ≡ false
+    → IsSized (frozen_state (freezing true o) (start_of o.prefix file) as')
+    → v.frozen_old ≡ Some [] → v.frozen_new ≡ Some text
+    → RunGives (run (prefixed prefix (freezing freezes o)) (Some (frozen_file text)) bs) f w
+    → IsDecided f.cause
+    → (w.two).out_old ≡ (v.two).out_new → (w.two).messages_old ≡ (v.two).messages_new
+    → (run (freezing freezes o) file (as' ++ bs)).how ≢ Ends causes.ExpansionLimit
+    → IsOneRun (run (freezing freezes o) file (as' ++ bs)) f (record {
+      two = writers (v.two).out_old (w.two).out_new (v.two).messages_old (w.two).messages_new;
+      frozen_old = w.frozen_old;
+      frozen_new = w.frozen_new;
+    })
 
 -- a limit of nesting that is as large, where 0 is the largest
 abbrev pub IsAsDeep : ℕ → ℕ → Type 0

@@ -2,7 +2,7 @@
 //!
 //! Each function's contract is a law of `specs/Laws.antt`.
 
-ghost use Rattle.m4_engine.specs.Laws.{ExpansionRules, ExpandRules, LargerCalls, LargerNesting, OneStart, RunEnds, SameDenotation, SettledBegins, Split, SplitStates};
+ghost use Rattle.m4_engine.specs.Laws.{ExpansionRules, ExpandRules, LargerCalls, LargerNesting, OneStart, RunEnds, SameDenotation, SettledBegins, Split, SplitStates, TwoRuns};
 
 /// An expansion whose calls nest is what its turns say, and no bound on them is ever reached.
 pub fn expansion_rules<S, F, D>()
@@ -54,6 +54,14 @@ pub fn larger_limits()
 pub fn split()
     // split: through the frozen text
     ensures { Split }
+{}
+
+/// Where one call of [`run`](crate::run::run) freezes and carries, and another starts from what it froze,
+/// both together write what one call over the sources of both would write, and end as it would: by what
+/// `run` promises of each. Manual: "Fast loading of frozen state".
+pub fn two_runs()
+    // split: of two runs as they are made
+    ensures { TwoRuns }
 {}
 
 /// Each run ends by a cause: it never wants more, and no bound on its turns or rounds is reached.

@@ -125,6 +125,13 @@ impl Session {
         Stop::Ended(cause)
     }
 
+    /// The run came to its end.
+    fn finish_here(&mut self)
+        ensures { self.new ≡ record self.old { finished = true } }
+    {
+        self.finished = true;
+    }
+
     /// Reads a file to its end. `Ended(Read)` where the reader fails, and then nothing of the file was
     /// processed; `Ended(Write)` and `Ended(OutOfMemory)` behind a beginning of what it puts out.
     pub fn file<R: ByteSource, O: ByteSink, M: ByteSink>(
@@ -220,7 +227,7 @@ impl Session {
         if let Err(DeviceFault) = self.machine.issue(out) {
             return Err(self.end(Cause::Write));
         }
-        self.finished = true;
+        self.finish_here();
         Ok(())
     }
 
@@ -254,7 +261,7 @@ impl Session {
             Err(WriteFault::Write) => return Err(self.end(Cause::Write)),
             Err(WriteFault::OutOfMemory) => return Err(self.end(Cause::OutOfMemory)),
         }
-        self.finished = true;
+        self.finish_here();
         Ok(())
     }
 

@@ -3,6 +3,7 @@
 
 mod endings;
 mod files;
+mod freezing;
 mod given;
 mod limits;
 mod report;

@@ -21,7 +21,7 @@ pub const USUAL: (u64, u64) = (4294967295, 1024);
 pub const ROOM: (usize, usize) = (1024, 1024);
 
 /// How many bytes a writer takes at a time.
-const AT_MOST: usize = 7;
+pub const AT_MOST: usize = 7;
 
 /// The end of a run by a cause, with nothing saved.
 pub fn ended(status: u8, cause: Cause) -> Ending {
@@ -32,10 +32,21 @@ pub fn ended(status: u8, cause: Cause) -> Ending {
     }
 }
 
+/// The options with these limits, of a run that freezes its state.
+pub fn freezing(limits: (u64, u64)) -> Options
+    ensures { result.prefix ≡ false }
+{
+    Options {
+        calls: limits.0,
+        nesting: limits.1,
+        freeze: true,
+        prefix: false,
+    }
+}
+
 /// The options with these limits: no freezing, no prefix.
 pub fn options(limits: (u64, u64)) -> Options
-    ensures prefix { result.prefix ≡ false }
-    ensures freeze { result.freeze ≡ false }
+    ensures { result.prefix ≡ false }
 {
     Options {
         calls: limits.0,
