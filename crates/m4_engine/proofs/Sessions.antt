@@ -139,8 +139,7 @@ finish_broke old new w s l e i o m h = subst (λ (x : Stop). FinishGives old new
 pub froze : (old new : Standing) (s : State) (out told frozen frozen' : Option (List ℕ)) → IsOpen old → old.saved ≡ [] → s ≡ old.state → new ≡ record old { finished = true } → frozen' ≡ with_bytes frozen (freeze s) → IsSized s → FreezeGives old new (record { two = writers out out told told; frozen_old = frozen; frozen_new = frozen' }) (Ok tt)
 froze old new s out told frozen frozen' l e i n f z =
     let p : progress_of old ≡ behind_wraps old = sym (behind_is old l e) in
-    let t : s ≡ last_state old = i ∙ ap (λ (x : Progress). (x.so_far).state) p in
-    (
+    let t : s ≡ last_state old = i ∙ ap (λ (x : Progress). (x.so_far).state) p in (
       record {
         live = l;
         finished = ap (λ (x : Standing). x.finished) n;
@@ -160,8 +159,7 @@ pub freeze_broke : (old new : Standing) (s : State) (e : Stop) (out told frozen 
 freeze_broke old new s e out told frozen frozen' l v i k o f =
     let p : progress_of old ≡ behind_wraps old = sym (behind_is old l v) in
     let t : s ≡ last_state old = i ∙ ap (λ (x : Progress). (x.so_far).state) p in
-    subst (λ (x : Stop). FreezeGives old new (record { two = writers out out told told; frozen_old = frozen; frozen_new = frozen' }) (Err x)) (sym k)
-    (
+    subst (λ (x : Stop). FreezeGives old new (record { two = writers out out told told; frozen_old = frozen; frozen_new = frozen' }) (Err x)) (sym k) (
       broke_off true old new (writers out out told told) causes.Write l v o refl (nothing_begun out _),
       inr (record {
         ended = ap (λ (x : Progress). x.over) (sym p) ∙ ap how_over l.over;

@@ -267,8 +267,7 @@ begun_cause o (stops.Ended causes.OutOfMemory) h = (causes.OutOfMemory, refl, λ
 
 never_is : (o : Options) (st : Result Standing Stop) (e : Stop) (n : ℕ) (d : Ending) → st ≡ Err e → n ≡ status_behind e → d ≡ ending_by n (Err e) → IsBegun o st → (cause : Cause) × (st ≡ Err (stops.Ended cause)) × (d ≡ record { status = status_of (Ends cause) false; cause = cause; wrapped = false }) × (cause ≢ causes.Done) × (cause ≢ causes.Read)
 never_is o st e n d i m j h =
-    let k = begun_cause o e (subst (IsBegun o) i h) in
-    (
+    let k = begun_cause o e (subst (IsBegun o) i h) in (
       k.0,
       i ∙ ap (λ (y : Stop). Err y) k.1,
       j ∙ ap (λ (y : ℕ). ending_by y (Err e)) m ∙ ap (λ (y : Stop). ending_by (status_behind y) (Err y)) k.1,

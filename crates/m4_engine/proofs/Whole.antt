@@ -382,4 +382,3 @@ left_status new (Err stops.Finished) e unopened l m i = absurd l
 left_status new (Err (stops.Ended cause)) e unopened l m i =
     subst (StatusIs unopened) (sym i)
     (new.missed, over_status new cause new.missed (left_over new cause l) refl, λ h. absurd (not_done new cause l h))
-

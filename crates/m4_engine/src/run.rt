@@ -77,7 +77,14 @@ pub fn run<R: ByteSource, O: ByteSink, M: ByteSink, Z: ByteSink>(
         Ok(session) => session,
         Err(stop) => return ending(stop.status(), Err(stop)),
     };
-    let answer = read_to_end(&mut session, options.freeze, sources, out, messages, freeze_to);
+    let answer = read_to_end(
+        &mut session,
+        options.freeze,
+        sources,
+        out,
+        messages,
+        freeze_to,
+    );
     ending(session.status(), answer)
 }
 

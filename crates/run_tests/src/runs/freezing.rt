@@ -225,7 +225,12 @@ fn frozen_files_are_loaded(rt: HostRuntime) {
         for block in BLOCKS {
             let end = ended(0, Cause::Done);
             let expected = printed(alloc, row.output, row.messages, end, row.frozen_text);
-            agrees(&rt, row.name, expected, seen_from(alloc, row.frozen, false, row.file, block));
+            agrees(
+                &rt,
+                row.name,
+                expected,
+                seen_from(alloc, row.frozen, false, row.file, block),
+            );
         }
     }
 }
@@ -241,7 +246,12 @@ fn refused_frozen_files_leave_nothing(rt: HostRuntime) {
             };
             let end = ended(row.status, Cause::Frozen(fault));
             let expected = printed(alloc, b"", b"", end, b"");
-            agrees(&rt, row.name, expected, seen_from(alloc, row.frozen, row.fails, b"x", block));
+            agrees(
+                &rt,
+                row.name,
+                expected,
+                seen_from(alloc, row.frozen, row.fails, b"x", block),
+            );
         }
     }
 }
@@ -305,7 +315,13 @@ static SPLITS: [Split; 5] = [
 
 /// The outputs of two runs and of the one run over both files, and whether the later run and the one run
 /// freeze the same.
-fn reported(first: &[u8], second: &[u8], joint: &[u8], same: bool, alloc: Global) -> Result<Vec<u8>, AllocError> {
+fn reported(
+    first: &[u8],
+    second: &[u8],
+    joint: &[u8],
+    same: bool,
+    alloc: Global,
+) -> Result<Vec<u8>, AllocError> {
     let mut report = Report::new(alloc);
     report.add(first);
     report.add(b"|");
@@ -318,9 +334,17 @@ fn reported(first: &[u8], second: &[u8], joint: &[u8], same: bool, alloc: Global
 
 /// What is to be seen of two runs and of one.
 fn seen_split(alloc: Global, row: &Split, block: usize) -> Result<Vec<u8>, AllocError> {
-    let first = seen_run(alloc, &mut None, &mut [opened(alloc, b"a.m4", row.first, block)?])?;
+    let first = seen_run(
+        alloc,
+        &mut None,
+        &mut [opened(alloc, b"a.m4", row.first, block)?],
+    )?;
     let mut frozen = Some(MemSource::new(first.frozen_text.written(), block.max(1), false));
-    let second = seen_run(alloc, &mut frozen, &mut [opened(alloc, b"b.m4", row.second, block)?])?;
+    let second = seen_run(
+        alloc,
+        &mut frozen,
+        &mut [opened(alloc, b"b.m4", row.second, block)?],
+    )?;
     let mut both = [
         opened(alloc, b"a.m4", row.first, block)?,
         opened(alloc, b"b.m4", row.second, block)?,
