@@ -1,3 +1,4 @@
+mod EndLemmas
 mod Examples
 mod FoundLemmas
 mod RefusalLemmas

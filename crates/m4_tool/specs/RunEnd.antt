@@ -1,18 +1,25 @@
 -- RunEnd: how a source is named, and what is told at the end of a run over files.
--- Believed: public contracts cite it. Words: source_name, last_fault, last_status.
+-- Believed: public contracts cite it. Words: source_name, refused_line, last_fault, last_status.
 -- Manual: "Invoking m4". own: the texts, and that a last flush that fails is a write fault.
-use Rattle.std.specs.Prelude.{ℕ, Bool, true, false, List, Option, Some, None, codes, if◌then◌else◌}
+use Rattle.std.specs.Prelude.{ℕ, Bool, true, false, List, [], Option, Some, None, codes, if◌then◌else◌}
 use Rattle.std.specs.Str.{bytes_eq}
 use Rattle.m4_engine.specs.declared.ending.Cause.{Cause}
 use Rattle.m4_engine.specs.declared.ending.Cause.TheVariants as causes
 use Rattle.m4_engine.specs.declared.ending.Ending.{Ending}
+use Rattle.m4_tool.specs.declared.fault.ModeFault.TheVariants as faults
+use Rattle.m4_tool.specs.ModeFault.{line_of}
 
 -- `-` is standard input
 abbrev pub source_name : List ℕ → List ℕ
 source_name file = if bytes_eq file (codes "-") then codes "stdin" else file
 
--- the line behind `m4: ` that the program adds; of the other causes the run has told itself, or, of a
--- frozen file that is refused, the line of its fault does. A last flush that fails is a write fault
+-- the line of the frozen file, where a run ended because it was refused
+abbrev pub refused_line : List ℕ → Cause → List ℕ
+refused_line file (causes.Frozen fault) = line_of file (faults.Frozen fault)
+refused_line file cause = []
+
+-- the line behind `m4: ` that the program adds; of the other causes the run has told itself, or
+-- `refused_line` does. A last flush that fails is a write fault
 abbrev pub last_fault : Cause → Bool → Option (List ℕ)
 last_fault causes.Read flushed = Some (codes "read fault")
 last_fault causes.Write flushed = Some (codes "write fault")

@@ -1,13 +1,30 @@
 //! What is told at the end of a run.
 
 ghost use Rattle.std.specs.Prelude.{◌≡◌, option_map};
-ghost use Rattle.m4_tool.specs.RunEnd.{last_fault};
+ghost use Rattle.m4_state.specs.Device.{Puts, count_after};
+ghost use Rattle.m4_tool.specs.RunEnd.{last_fault, refused_line};
 
+use crate::fault::ModeFault;
 use m4_engine::ending::Cause;
+use m4_state::device::{ByteSink, DeviceFault};
+
+/// Puts the line of this frozen file, where a run ended because the file was refused. Else nothing.
+pub fn put_refused<M: ByteSink>(
+    cause: Cause,
+    file: &[u8],
+    messages: &mut M,
+) -> Result<(), DeviceFault>
+    ensures puts { Puts result (M.contents messages.old) (M.contents messages.new) (refused_line file.now cause) }
+    ensures counted { M.failures messages.new ≡ count_after result (M.failures messages.old) }
+{
+    match cause {
+        Cause::Frozen(fault) => ModeFault::from(fault).report(file, messages),
+        _ => Ok(()),
+    }
+}
 
 /// What is still told of a run that ended by this cause, whose output and frozen text were flushed
-/// then or could not be. Of all other causes the run has told itself, or, of a frozen file that is
-/// refused, the line of its fault does.
+/// then or could not be. Of all other causes the run has told itself, or [`put_refused`] does.
 pub fn last_fault(cause: Cause, flushed: bool) -> Option<&'static str>
     ensures { option_map (λ text. text.now) result ≡ last_fault cause flushed }
 {

@@ -4,13 +4,12 @@ ghost use Rattle.std.specs.Prelude.{◌≡◌, false};
 ghost use Rattle.m4_tool.specs.RunEnd.{last_status};
 
 use super::reports::{report, report_unopened};
-use crate::endings::last_fault;
-use crate::fault::ModeFault;
+use crate::endings::{last_fault, put_refused};
 use crate::late::LateFile;
 use crate::line::Line;
 use crate::shared::{BLOCK, Prompting, Shown};
 use crate::sources::{FileOrInput, INPUT, source_name};
-use m4_engine::ending::{Cause, Ending};
+use m4_engine::ending::Ending;
 use m4_engine::run::run;
 use m4_engine::source::Source;
 use m4_state::standard::{StdSink, StdSource};
@@ -140,11 +139,9 @@ fn tell_end<W: Write, E: Write>(
 ) -> u8
     ensures { result ≡ last_status ending flushed }
 {
-    if let Cause::Frozen(fault) = ending.cause {
-        let mut messages = StdSink::new(shown.messages());
-        let _put = ModeFault::from(fault).report(reloaded.as_bytes(), &mut messages);
-        let _flushed = shown.flush();
-    }
+    let mut messages = StdSink::new(shown.messages());
+    let _put = put_refused(ending.cause, reloaded.as_bytes(), &mut messages);
+    let _flushed = shown.flush();
     match last_fault(ending.cause, flushed) {
         Some(text) => report(rt, text),
         None => ending.status,

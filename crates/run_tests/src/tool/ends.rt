@@ -1,8 +1,10 @@
 //! The lines that the program adds at the end of a run.
 
-use super::shows::shows;
+use super::shows::{shows, text_of};
 use m4_engine::ending::Cause;
-use m4_tool::endings::last_fault;
+use m4_frozen::fault::{FrozenFault, FrozenKind};
+use m4_state::memory::MemSink;
+use m4_tool::endings::{last_fault, put_refused};
 use std::test::Fail;
 
 // A row's name, why a run ended, whether its output was flushed then, and the line after `m4: `.
@@ -20,6 +22,39 @@ static ENDS: [(&str, Cause, bool, &str); 7] = [
     ("a writer, not flushed", Cause::Write, false, "write fault"),
     ("memory", Cause::OutOfMemory, true, "out of memory"),
 ];
+
+// Why a run ended that started from the file F, and the line of that file.
+static REFUSED: [(&str, Cause, &str); 4] = [
+    (
+        "a directive",
+        Cause::Frozen(FrozenFault {
+            kind: FrozenKind::UnknownDirective,
+            offset: 12,
+        }),
+        "m4: F: F5 UnknownDirective at byte 12\n",
+    ),
+    (
+        "its reader",
+        Cause::Frozen(FrozenFault {
+            kind: FrozenKind::Read,
+            offset: 12,
+        }),
+        "m4: F: F10 Read\n",
+    ),
+    ("a reader of the input", Cause::Read, ""),
+    ("done", Cause::Done, ""),
+];
+
+#[test]
+fn refused_files_are_told(rt: HostRuntime) -> Result<(), Fail> {
+    for (row, cause, want) in &REFUSED {
+        let mut messages = MemSink::new(rt.alloc(), 100, 7)?;
+        let put = put_refused(*cause, b"F", &mut messages);
+        assert!(&rt; put.is_ok());
+        shows(&rt, row, want, text_of(messages.written()));
+    }
+    Ok(())
+}
 
 #[test]
 fn ends_are_reported(rt: HostRuntime) -> Result<(), Fail> {
