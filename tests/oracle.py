@@ -18,7 +18,8 @@ DEFAULT_QUOTES = (b"`", b"'")
 DEFAULT_COMMENTS = (b"#", b"\n")
 
 # The builtins that m4r has. A name that is not among them is listed as a placeholder.
-BUILTINS = frozenset((b"define", b"undefine", b"dnl", b"changequote", b"changecom"))
+BUILTINS = frozenset((b"define", b"undefine", b"dnl", b"changequote", b"changecom",
+                      b"divert", b"undivert", b"divnum"))
 
 
 class Fault(Exception):

@@ -1,60 +1,32 @@
 -- Act: what a call does to the state, and what it leaves to be done.
 -- Believed. Its lemmas: `ActKeeps` (a state in order stays so).
 -- Manual: "Defining a macro", "Deleting a macro", "Deleting whitespace in input", "Changing the
--- quote characters", "Changing the comment delimiters", "Arguments to macros", "Macro invocation".
--- Words: row, act, IsPushed, needs_list. One line a builtin, one a kind of definition.
+-- quote characters", "Changing the comment delimiters", "Arguments to macros", "Macro invocation";
+-- those of the builtins on diversions stand at `Diverting`.
+-- Words: row, act, needs_list, and those of `Acted`. One line a builtin, one a kind of definition.
 -- own: a placeholder, which stands for a builtin of another m4, expands to nothing with a warning.
-use Rattle.std.specs.Prelude.{ℕ, Bool, true, false, nat_lt, List, [], ◌∷◌, ◌++◌, Option, Some, None, length, map, fold}
+use Rattle.std.specs.Prelude.{ℕ, Bool, true, false, nat_lt, List, [], ◌∷◌, Option, Some, None, length, map, fold}
 use Rattle.m4_state.specs.declared.builtin.Builtin.{Builtin}
-use Rattle.m4_state.specs.declared.builtin.Builtin.TheVariants.{Define, Undefine, Dnl, Changequote, Changecom}
+use Rattle.m4_state.specs.declared.builtin.Builtin.TheVariants.{Define, Undefine, Dnl, Changequote, Changecom, Divert, Undivert, Divnum}
 use Rattle.m4_state.specs.declared.definition.Def.{Def}
 use Rattle.m4_state.specs.declared.definition.Def.TheVariants as defs
 use Rattle.m4_state.specs.Builtin.{needs_args, takes_tokens, least_of, most_of}
-use Rattle.m4_state.specs.Definition.{IsDefinition}
 use Rattle.m4_state.specs.Delimiters.{default_quotes}
 use Rattle.m4_state.specs.State.{State, defined, undefined, with_quotes, with_comments}
-use Rattle.m4_input.specs.declared.pushed.Pushed.{Pushed}
-use Rattle.m4_input.specs.declared.pushed.Pushed.TheVariants as pushes
 use Rattle.m4_builtins.specs.declared.args.Arg.{Arg}
 use Rattle.m4_builtins.specs.declared.args.Arg.TheVariants as args
-use Rattle.m4_builtins.specs.declared.effect.Effect.{Effect}
 use Rattle.m4_builtins.specs.declared.place.Place.{Place}
+pub use Rattle.m4_builtins.specs.Acted.{Acted, IsPushed, nothing, changes, tells, expands, telling_first}
 use Rattle.m4_builtins.specs.Args.{text_of_arg, only_text, definition_of_arg, text_at}
-use Rattle.m4_builtins.specs.Subst.{subst}
+use Rattle.m4_builtins.specs.Diverting.{divert, undivert, divnum}
 use Rattle.m4_builtins.specs.Messages.{too_few, excess, unsupported, bad_name}
-
--- the state and the effect of a call
-pub record Acted : Type 0 where
-  pub state : State
-  pub effect : Effect
-
--- a definition that is pushed is one that is in order
-abbrev pub IsPushed : Option Pushed → Type 0
-IsPushed None = Unit {0}
-IsPushed (Some (pushes.Text x)) = Unit {0}
-IsPushed (Some (pushes.Definition d)) = IsDefinition d
+use Rattle.m4_builtins.specs.Subst.{subst}
 
 -- whether a definition is recognised only with parameters: without a list its name is text
 abbrev pub needs_list : Def → Bool
 needs_list (defs.Text x) = false
 needs_list (defs.Builtin b) = needs_args b
 needs_list (defs.Placeholder x) = false
-
--- nothing is left to be done
-abbrev pub nothing : Effect
-nothing = record { push = None; messages = []; output = []; wrap = None; skip = false; exit = None }
-
--- the state changes and the call expands to nothing
-abbrev pub changes : State → Acted
-changes s = record { state = s; effect = nothing }
-
--- the call expands to nothing, with a message
-abbrev pub tells : State → List ℕ → Acted
-tells s message = record { state = s; effect = record nothing { messages = message } }
-
--- the call expands to a text
-abbrev pub expands : State → List ℕ → Acted
-expands s x = record { state = s; effect = record nothing { push = Some (pushes.Text x) } }
 
 -- the second of two arguments as a definition, or the empty text where there is none
 abbrev pub definition_in : List Arg → Def
@@ -79,16 +51,14 @@ row Undefine list p s = changes (fold (λ t a. undefined t (text_of_arg a)) s li
 row Dnl list p s = record { state = s; effect = record nothing { skip = true } }
 row Changequote list p s = changes (changequote list s)
 row Changecom list p s = changes (with_comments s (text_at list 0) (text_at list 1))
+row Divert list p s = divert list p s
+row Undivert list p s = undivert list p s
+row Divnum list p s = divnum s
 
 -- whether a count is above the most
 abbrev pub is_above : Option ℕ → ℕ → Bool
 is_above None n = false
 is_above (Some most) n = nat_lt most n
-
--- with a message in front of the others
-abbrev pub telling_first : List ℕ → Acted → Acted
-telling_first x r =
-    record { state = r.state; effect = record r.effect { messages = x ++ (r.effect).messages } }
 
 -- the warning on arguments above the most; they are ignored
 abbrev pub excess_if : Bool → Place → Builtin → List ℕ

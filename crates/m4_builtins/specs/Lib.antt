@@ -1,6 +1,9 @@
 pub mod Args
 pub mod Subst
 pub mod Messages
+pub mod Acted
+pub mod Numeric
+pub mod Diverting
 pub mod Act
 pub mod Numbers
 pub mod CallHead

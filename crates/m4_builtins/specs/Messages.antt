@@ -1,6 +1,7 @@
 -- Messages: every warning that a call gives, each a function of its parts.
 -- Believed. Manual: "Location within input" (where a message says that it comes from).
--- Words: warning, error, too_few, excess, unsupported, dropped, bad_name.
+-- Words: warning, error, too_few, excess, empty_number, not_numeric, unsupported, dropped,
+-- bad_name.
 -- own: the texts, and that wrapped text, whose line is 0, tells no place.
 use Rattle.std.specs.Prelude.{ℕ, ◌==◌, List, [], ◌++◌, codes, if◌then◌else◌}
 use Rattle.std.specs.Fmt.{decimal}
@@ -27,6 +28,15 @@ too_few p b = warning p (codes "too few arguments to builtin `" ++ name_of b ++ 
 -- M2
 abbrev pub excess : Place → Builtin → List ℕ
 excess p b = warning p (codes "excess arguments to builtin `" ++ name_of b ++ codes "' ignored")
+
+-- M3
+abbrev pub empty_number : Place → Builtin → List ℕ
+empty_number p b =
+    warning p (codes "empty string treated as 0 in builtin `" ++ name_of b ++ codes "'")
+
+-- M4
+abbrev pub not_numeric : Place → Builtin → List ℕ
+not_numeric p b = warning p (codes "non-numeric argument to builtin `" ++ name_of b ++ codes "'")
 
 -- M7
 abbrev pub unsupported : Place → List ℕ → List ℕ

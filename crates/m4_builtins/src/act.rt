@@ -23,7 +23,7 @@ use std::alloc::{AllocError, Global};
 /// What a call of a definition does to the state, and what it leaves to be done. A refused growth is
 /// `OutOfMemory`; it can come behind the state's change. Manual: "Defining a macro", "Deleting a
 /// macro", "Deleting whitespace in input", "Changing the quote characters", "Changing the comment
-/// delimiters", "Arguments to macros".
+/// delimiters", "Diverting output", "Undiverting output", "Diversion numbers", "Arguments to macros".
 pub fn act(
     alloc: Global,
     def: &Def,

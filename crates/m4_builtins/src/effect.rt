@@ -25,7 +25,7 @@ pub struct Effect {
 
 impl Effect {
     ghost use Rattle.m4_input.specs.declared.pushed.Pushed.TheVariants as pushes;
-    ghost use Rattle.m4_builtins.specs.Act.{nothing};
+    ghost use Rattle.m4_builtins.specs.Acted.{nothing};
 
     /// Nothing is left to be done.
     pub(crate) fn nothing(alloc: Global) -> Effect

@@ -7,12 +7,16 @@
 
 pub mod act;
 pub mod args;
+mod diverting;
 pub mod effect;
 pub mod fault;
 // For the engine alone: what it keeps of a call while the list is read.
 #[doc(hidden)]
 pub mod head;
 pub mod messages;
+// For the tests: the one reading of numeric arguments.
+#[doc(hidden)]
+pub mod number;
 pub mod place;
 mod rows;
 pub mod substitute;

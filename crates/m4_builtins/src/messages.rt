@@ -1,7 +1,7 @@
 //! What is told of a call, a line each. The texts are those of `specs/Messages.antt`.
 
 ghost use Rattle.std.specs.Prelude.{◌≡◌, ◌++◌, IfOk, OnOk, codes};
-ghost use Rattle.m4_builtins.specs.Messages.{place_text, warning, error, too_few, excess, unsupported, dropped, bad_name};
+ghost use Rattle.m4_builtins.specs.Messages.{place_text, warning, error, too_few, excess, empty_number, not_numeric, unsupported, dropped, bad_name};
 
 use crate::fault::BuiltinFault;
 use crate::place::Place;
@@ -67,6 +67,42 @@ pub(crate) fn excess_message(
         b"excess arguments to builtin `",
         builtin.name(),
         b"' ignored",
+    )
+}
+
+/// The warning that an empty argument counts as 0.
+pub(crate) fn empty_number_message(
+    alloc: Global,
+    place: &Place,
+    builtin: Builtin,
+) -> Result<Bytes, AllocError>
+    // exact steps: the whole line
+    ensures { IfOk result (λ b. b ≡ empty_number place.now builtin) }
+{
+    warning_on(
+        alloc,
+        place,
+        b"empty string treated as 0 in builtin `",
+        builtin.name(),
+        b"'",
+    )
+}
+
+/// The warning that an argument is no number.
+pub(crate) fn not_numeric_message(
+    alloc: Global,
+    place: &Place,
+    builtin: Builtin,
+) -> Result<Bytes, AllocError>
+    // exact steps: the whole line
+    ensures { IfOk result (λ b. b ≡ not_numeric place.now builtin) }
+{
+    warning_on(
+        alloc,
+        place,
+        b"non-numeric argument to builtin `",
+        builtin.name(),
+        b"'",
     )
 }
 

@@ -7,6 +7,7 @@ ghost use Rattle.m4_builtins.specs.Args.{IsArg, text_of_arg, text_at};
 ghost use Rattle.m4_builtins.specs.Act.{row, define, definition_in, changequote};
 
 use crate::args::Arg;
+use crate::diverting::{divert, divnum, undivert};
 use crate::effect::Effect;
 use crate::fault::BuiltinFault;
 use crate::messages::bad_name_message;
@@ -45,6 +46,9 @@ pub(crate) fn row(
             changecom(alloc, list, state)?;
             Ok(Effect::nothing(alloc))
         }
+        Builtin::Divert => divert(alloc, list, place, state),
+        Builtin::Undivert => undivert(alloc, list, place, state),
+        Builtin::Divnum => Ok(divnum(alloc, state)?),
     }
 }
 

@@ -117,7 +117,7 @@ pub(crate) fn text_of(arg: &Arg) -> &[u8]
 }
 
 /// How many digits stand in front.
-fn digits_len(bytes: &[u8]) -> usize
+pub(crate) fn digits_len(bytes: &[u8]) -> usize
     ensures value { result ≡ run_length is_digit bytes.now }
     ensures within { result ≤ length bytes.now }
 {
@@ -129,7 +129,7 @@ fn digits_len(bytes: &[u8]) -> usize
 }
 
 /// The number that digits stand for; none where it is above every count.
-fn number_of(digits: &[u8]) -> Option<usize>
+pub(crate) fn number_of(digits: &[u8]) -> Option<usize>
     ensures { IsNumber result (number_of digits.now) }
 {
     let mut value = 0usize;

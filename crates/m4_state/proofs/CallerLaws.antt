@@ -5,7 +5,7 @@ use Rattle.std.specs.List.{flat_map}
 use Rattle.std.specs.Prelude.{IsErr}
 use Rattle.std.proofs.lemmas.List.{take-append-drop, append-nil}
 use Rattle.m4_state.specs.declared.builtin.Builtin.{Builtin}
-use Rattle.m4_state.specs.declared.builtin.Builtin.TheVariants.{Define, Undefine, Dnl, Changequote, Changecom}
+use Rattle.m4_state.specs.declared.builtin.Builtin.TheVariants.{Define, Undefine, Dnl, Changequote, Changecom, Divert, Undivert, Divnum}
 use Rattle.m4_state.specs.Builtin.{builtin_named, name_of}
 use Rattle.m4_state.specs.Device.{Script, after_bytes, with_bytes, HasPut, HasBegun, Puts}
 
@@ -16,6 +16,9 @@ builtin_named-name_of Undefine = refl
 builtin_named-name_of Dnl = refl
 builtin_named-name_of Changequote = refl
 builtin_named-name_of Changecom = refl
+builtin_named-name_of Divert = refl
+builtin_named-name_of Undivert = refl
+builtin_named-name_of Divnum = refl
 
 pub with_bytes-append : (old : Option (List ℕ)) (a b : List ℕ) → with_bytes (with_bytes old a) b ≡ with_bytes old (a ++ b)
 with_bytes-append None a b = refl

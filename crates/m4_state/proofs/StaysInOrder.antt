@@ -1,10 +1,12 @@
 -- StaysInOrder: each change of a state leaves one that is in order.
-use Rattle.std.proofs.Common.{◌≡◌, ◌≢◌, ℕ, zero, suc, ◌-◌, Bool, true, false, cond, List, [], ◌∷◌, length, Some, refl, subst, fold, rules}
-use Rattle.std.specs.Prelude.{codes, IsTrue, FitsSigned, ℤ, pos}
+use Rattle.std.proofs.Common.{◌≡◌, ◌≢◌, ℕ, zero, suc, ◌-◌, Bool, true, false, cond, not, T, List, [], ◌∷◌, length, Some, refl, sym, subst, fold, rules}
+use Rattle.std.specs.Prelude.{codes, IsTrue, FitsSigned, ℤ, pos, if◌then◌else◌}
 use Rattle.std.specs.Int.{w32}
 use Rattle.std.specs.List.{AllByRecursion}
 use Rattle.std.specs.Str.{bytes_eq}
 use Rattle.std.specs.FinMap.{find, put, is_sorted}
+use Rattle.std.specs.FinMap.Entries.{is_sorted-where_key}
+use Rattle.std.specs.Ordering.{int_cmp, int_eq}
 use Rattle.m4_state.specs.declared.builtin.Builtin.{Builtin}
 use Rattle.m4_state.specs.declared.definition.Def.{Def}
 use Rattle.m4_state.specs.declared.definition.Def.TheVariants as defs
@@ -12,7 +14,7 @@ use Rattle.m4_state.specs.declared.delimiters.Delimiters.{Delimiters}
 use Rattle.m4_state.specs.Definition.{IsDefinition}
 use Rattle.m4_state.specs.Delimiters.{chosen, default_quotes, default_comments, IsPaired}
 use Rattle.m4_state.specs.Table.{Pairs, with_push, with_top, without, IsStack, IsTable}
-use Rattle.m4_state.specs.State.{State, empty, pushed, defined, undefined, with_quotes, with_comments, diverted, appended, with_text, holds_text, stack_of, top_of, IsState, AreDiversions, text_at, Diversion}
+use Rattle.m4_state.specs.State.{State, empty, pushed, defined, undefined, with_quotes, with_comments, diverted, appended, undiverted, without_text, with_text, holds_text, stack_of, top_of, IsState, AreDiversions, IsDiversion, diversion_of, text_at, Diversion}
 use Rattle.m4_state.specs.Builtin.{table}
 use Rattle.m4_state.specs.Fresh.{fresh, fresh_name, with_builtin, platform}
 use Rattle.m4_state.proofs.Tables.{stack_holds, IsTable-push, IsTable-top, IsTable-without}
@@ -79,6 +81,34 @@ append_keeps false n text ds positive fits h = h
 
 pub IsState-appended : (s : State) (text : List ℕ) → IsState s → IsState (appended s text)
 IsState-appended s text h = record { table = h.table; quotes = h.quotes; comments = h.comments; diversions = append_keeps (holds_text s.current) s.current text s.diversions (λ e. e) h.current h.diversions; current = h.current }
+
+-- diversions stay in order where one of them leaves
+pub AreDiversions-without : (n : ℤ) (ds : List Diversion) → AreDiversions ds → AreDiversions (without_text ds n)
+AreDiversions-without n ds h = record {
+  sorted = from_T _ (is_sorted-where_key int_cmp (λ other. not (int_eq n other)) ds (subst T (sym h.sorted) tt));
+  each = without_holds ds h.each;
+}
+  where
+    from_T : (b : Bool) → T b → b ≡ true
+    from_T true t = refl
+    from_T false t = absurd t
+
+    without_holds : (es : List Diversion) → AllByRecursion IsDiversion es → AllByRecursion IsDiversion (without_text es n)
+    without_holds [] all = tt
+    without_holds (e ∷ es) all = elim (not (int_eq n e.0)) as (λ b. AllByRecursion IsDiversion (cond b (e ∷ without_text es n) (without_text es n))) [ true ↦ (all.0, without_holds es all.1) | false ↦ without_holds es all.1 ]
+
+pub IsState-undiverted : (s : State) (n : ℤ) → IsState s → IsState (undiverted s n)
+IsState-undiverted s n h = by (int_eq n s.current)
+  where
+    left : State
+    left = record s { diversions = without_text s.diversions n }
+
+    left_in_order : IsState left
+    left_in_order = record { table = h.table; quotes = h.quotes; comments = h.comments; diversions = AreDiversions-without n s.diversions h.diversions; current = h.current }
+
+    by : (b : Bool) → IsState (if b then s else appended left (diversion_of s n))
+    by true = h
+    by false = IsState-appended left (diversion_of s n) left_in_order
 
 comments_paired : IsPaired default_comments
 comments_paired = (λ e. absurd cc, λ e. absurd cc)

@@ -2,12 +2,12 @@
 -- Believed. Manual: "Defining a macro", "Temporarily redefining macros", "Changing the quote
 -- characters", "Changing the comment delimiters", "Diverting and undiverting output".
 -- Words: State, stack_of, pushed, defined, undefined, with_quotes, with_comments, diverted, appended,
--- IsState, IsSized.
+-- undiverted, issued_from, IsState, IsSized.
 -- A list with rising keys is the one list of its finite map: equal states are equal records.
-use Rattle.std.specs.Prelude.{◌≢◌, ◌<◌, ◌^◌, ◌-◌, ℕ, ℤ, pos, Bool, List, [], ◌∷◌, ◌++◌, length, map, Option, Some, None, IsTrue, unwrap_or, slice_get, if◌then◌else◌, FitsSigned, int_lt}
+use Rattle.std.specs.Prelude.{◌≢◌, ◌<◌, ◌^◌, ◌-◌, ℕ, ℤ, pos, Bool, not, List, [], ◌∷◌, ◌++◌, length, map, Option, Some, None, IsTrue, unwrap_or, slice_get, if◌then◌else◌, FitsSigned, int_lt}
 use Rattle.std.specs.Int.{w32}
-use Rattle.std.specs.List.{AllByRecursion}
-use Rattle.std.specs.Ordering.{int_cmp}
+use Rattle.std.specs.List.{AllByRecursion, filter}
+use Rattle.std.specs.Ordering.{int_cmp, int_eq}
 use Rattle.std.specs.FinMap.{find, put, is_sorted}
 use Rattle.m4_state.specs.declared.definition.Def.{Def}
 use Rattle.m4_state.specs.declared.delimiters.Delimiters.{Delimiters}
@@ -98,6 +98,27 @@ abbrev pub appended : State → List ℕ → State
 appended s text = record s {
   diversions = if holds_text s.current then with_text s.diversions s.current text else s.diversions;
 }
+
+-- without the diversion of that number
+abbrev pub without_text : List Diversion → ℤ → List Diversion
+without_text diversions number = filter (λ d. not (int_eq number d.0)) diversions
+
+-- with a diversion brought back: its text leaves it and goes to the current diversion, which drops it
+-- where its number isn't positive; the current diversion itself is not brought back
+abbrev pub undiverted : State → ℤ → State
+undiverted s number =
+    if int_eq number s.current then s
+    else appended (record s { diversions = without_text s.diversions number }) (diversion_of s number)
+
+-- the text that goes to the output as a diversion is brought back: it does where the current number
+-- is 0
+abbrev pub issued_from : State → ℤ → List ℕ
+issued_from s number = if int_eq s.current (pos 0) then diversion_of s number else []
+
+-- a text, or none where it is empty
+abbrev pub unless_empty : List ℕ → Option (List ℕ)
+unless_empty [] = None
+unless_empty (b ∷ text) = Some (b ∷ text)
 
 -- the first diversion behind a number
 abbrev pub next_after : List Diversion → ℤ → Option ℤ

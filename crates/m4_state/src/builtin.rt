@@ -18,18 +18,27 @@ pub enum Builtin {
     Changequote,
     /// Chooses the comment delimiters. Manual: "Changing the comment delimiters".
     Changecom,
+    /// Chooses the diversion that text goes to. Manual: "Diverting output".
+    Divert,
+    /// Brings diversions back. Manual: "Undiverting output".
+    Undivert,
+    /// Gives the number of the current diversion. Manual: "Diversion numbers".
+    Divnum,
 }
 
 impl Builtin {
     ghost use Rattle.m4_state.specs.Builtin.{table, builtin_named, name_of, needs_args, takes_tokens, least_of, most_of};
 
     /// All of them.
-    pub const TABLE: [Builtin; 5] = [
+    pub const TABLE: [Builtin; 8] = [
         Builtin::Define,
         Builtin::Undefine,
         Builtin::Dnl,
         Builtin::Changequote,
         Builtin::Changecom,
+        Builtin::Divert,
+        Builtin::Undivert,
+        Builtin::Divnum,
     ];
 
     /// The builtin of that name, if the table has it.
@@ -42,6 +51,9 @@ impl Builtin {
             b"dnl" => Some(Builtin::Dnl),
             b"changequote" => Some(Builtin::Changequote),
             b"changecom" => Some(Builtin::Changecom),
+            b"divert" => Some(Builtin::Divert),
+            b"undivert" => Some(Builtin::Undivert),
+            b"divnum" => Some(Builtin::Divnum),
             _ => None,
         }
     }
@@ -56,6 +68,9 @@ impl Builtin {
             Builtin::Dnl => b"dnl",
             Builtin::Changequote => b"changequote",
             Builtin::Changecom => b"changecom",
+            Builtin::Divert => b"divert",
+            Builtin::Undivert => b"undivert",
+            Builtin::Divnum => b"divnum",
         }
     }
 
@@ -65,7 +80,12 @@ impl Builtin {
     {
         match self {
             Builtin::Define | Builtin::Undefine => true,
-            Builtin::Dnl | Builtin::Changequote | Builtin::Changecom => false,
+            Builtin::Dnl
+            | Builtin::Changequote
+            | Builtin::Changecom
+            | Builtin::Divert
+            | Builtin::Undivert
+            | Builtin::Divnum => false,
         }
     }
 
@@ -75,7 +95,13 @@ impl Builtin {
     {
         match self {
             Builtin::Define => true,
-            Builtin::Undefine | Builtin::Dnl | Builtin::Changequote | Builtin::Changecom => false,
+            Builtin::Undefine
+            | Builtin::Dnl
+            | Builtin::Changequote
+            | Builtin::Changecom
+            | Builtin::Divert
+            | Builtin::Undivert
+            | Builtin::Divnum => false,
         }
     }
 
@@ -85,7 +111,12 @@ impl Builtin {
     {
         match self {
             Builtin::Define | Builtin::Undefine => 1,
-            Builtin::Dnl | Builtin::Changequote | Builtin::Changecom => 0,
+            Builtin::Dnl
+            | Builtin::Changequote
+            | Builtin::Changecom
+            | Builtin::Divert
+            | Builtin::Undivert
+            | Builtin::Divnum => 0,
         }
     }
 
@@ -95,8 +126,9 @@ impl Builtin {
     {
         match self {
             Builtin::Define | Builtin::Changequote | Builtin::Changecom => Some(2),
-            Builtin::Undefine => None,
-            Builtin::Dnl => Some(0),
+            Builtin::Divert => Some(1),
+            Builtin::Undefine | Builtin::Undivert => None,
+            Builtin::Dnl | Builtin::Divnum => Some(0),
         }
     }
 }

@@ -1,9 +1,9 @@
 //! Texts by their numbers, as diversions keep them.
 
-ghost use Rattle.std.specs.Prelude.{◌≡◌, ◌<◌, ◌++◌, ◌^◌, length, IsTrue, OnOk, OnErr};
+ghost use Rattle.std.specs.Prelude.{◌≡◌, ◌<◌, ◌++◌, ◌^◌, length, IsTrue, OnOk, OnErr, option_map};
 ghost use Rattle.std.specs.Ordering.{int_cmp};
-ghost use Rattle.std.specs.FinMap.{put, is_sorted};
-ghost use Rattle.m4_state.specs.State.{text_at};
+ghost use Rattle.std.specs.FinMap.{find, put, is_sorted};
+ghost use Rattle.m4_state.specs.State.{text_at, without_text};
 ghost use Rattle.m4_state.specs.DiversionEntries.{texts_of};
 
 use std::alloc::{AllocError, Global};
@@ -34,4 +34,13 @@ pub fn append_in(
         }
     }
     Ok(())
+}
+
+/// Takes the text of a number out, if there is one. Takes no memory.
+pub fn take_in(texts: &mut BTreeMap<i32, Vec<u8>>, number: i32) -> Option<Vec<u8>>
+    requires { IsTrue (is_sorted int_cmp (texts_of texts.old.entries)) }
+    ensures text { option_map (λ text. text.items) result ≡ find int_cmp number (texts_of texts.old.entries) }
+    ensures rest { texts_of texts.new.entries ≡ without_text (texts_of texts.old.entries) number }
+{
+    texts.remove(&number)
 }

@@ -4,7 +4,7 @@
 //! Contracts see one record of lists (specs/State.antt), which doesn't change with what keeps it.
 //! Each call says the whole new record; a refusal leaves it unchanged.
 
-ghost use Rattle.std.specs.Prelude.{◌≡◌, ◌∷◌, [], false, IfOk, IfSome, IfNone, OnOk, OnErr, option_copied};
+ghost use Rattle.std.specs.Prelude.{◌≡◌, ◌∷◌, [], false, IfOk, IfSome, IfNone, OnOk, OnErr, option_copied, option_map};
 
 use crate::builtin::Builtin;
 use crate::bytes::Bytes;
@@ -54,7 +54,7 @@ impl Drop for State {
 impl State {
     ghost use Rattle.m4_state.specs.Definition.{IsDefinition};
     ghost use Rattle.m4_state.specs.Fresh.{fresh, with_builtin};
-    ghost use Rattle.m4_state.specs.State.{IsState, IsSized, empty, names_of, stack_of, top_of, pushed, defined, undefined, with_quotes, with_comments, diverted, appended, diversion_of, next_after};
+    ghost use Rattle.m4_state.specs.State.{IsState, IsSized, empty, names_of, stack_of, top_of, pushed, defined, undefined, with_quotes, with_comments, diverted, appended, undiverted, issued_from, unless_empty, diversion_of, next_after};
 
     /// No names, no diversions, the default delimiters.
     pub fn empty(alloc: Global) -> Result<State, StateFault>
@@ -222,6 +222,32 @@ impl State {
             self.diversions.append(self.current, text)?;
         }
         Ok(())
+    }
+
+    /// Brings a diversion back, unless it is the current one or holds no text: its text leaves it, and
+    /// is added to the current diversion where that number is positive, handed out where it is 0, and
+    /// dropped where it is negative. Manual: "Undiverting output".
+    pub fn undivert(&mut self, number: i32) -> Result<Option<Vec<u8>>, StateFault>
+        // exact steps: the whole new record and what is handed out; a refusal leaves it unchanged
+        ensures ok { OnOk result (self.new ≡ undiverted self.old number) }
+        ensures issued { IfOk result (λ text. option_map (λ t. t.items) text ≡ unless_empty (issued_from self.old number)) }
+        ensures err { OnErr result (self.new ≡ self.old) }
+    {
+        if number == self.current {
+            return Ok(None);
+        }
+        if self.current > 0 {
+            // What can fail comes first.
+            let text = Vec::from_slice(self.alloc, self.diversion(number))?;
+            self.diversions.append(self.current, text.as_slice())?;
+            let _taken = self.diversions.take(number);
+            return Ok(None);
+        }
+        let taken = self.diversions.take(number);
+        if self.current < 0 {
+            return Ok(None);
+        }
+        Ok(taken)
     }
 
     /// The text that a diversion holds; empty where it holds none.

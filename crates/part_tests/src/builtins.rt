@@ -7,8 +7,10 @@ ghost use Rattle.std.specs.List.{AllByRecursion};
 ghost use Rattle.m4_builtins.specs.Args.{IsArg};
 
 mod calls;
+mod diverting;
 mod heads;
 mod messages;
+mod numbers;
 mod substitutions;
 
 use crate::given::{Given, made};

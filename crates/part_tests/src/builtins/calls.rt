@@ -116,7 +116,7 @@ const DEFINITIONS: &[Row] = &[
             Step::Look(b"changecom"),
             Step::Count,
         ],
-        b"dnl: 0\nchangecom: 0\n5 names\n",
+        b"dnl: 0\nchangecom: 0\n8 names\n",
     ),
 ];
 

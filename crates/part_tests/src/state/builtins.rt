@@ -15,6 +15,9 @@ const ROWS: &[(&str, &[u8])] = &[
     ("dnl", b"dnl: 0 to 0"),
     ("changequote", b"changequote: 0 to 2"),
     ("changecom", b"changecom: 0 to 2"),
+    ("divert", b"divert: 0 to 1"),
+    ("undivert", b"undivert: 0 or more"),
+    ("divnum", b"divnum: 0 to 0"),
     ("format", b"none"),
 ];
 

@@ -19,6 +19,8 @@ enum Step {
     Above(i32),
     // Takes the diversion of the least number out, and reports it.
     TakeLeast,
+    // Brings a diversion back, and reports what is handed out.
+    Undivert(i32),
 }
 
 // A row's name, what is done to an empty state, and the answers, a line for each.
@@ -78,6 +80,72 @@ const ROWS: &[(&str, &[Step], &[u8])] = &[
     ),
 ];
 
+static BROUGHT_BACK: [(&str, &[Step], &[u8]); 6] = [
+    (
+        "to the output",
+        &[
+            Step::Divert(7, b"b"),
+            Step::Divert(0, b""),
+            Step::Undivert(7),
+            Step::Text(7),
+            Step::Above(0),
+            Step::Undivert(7),
+        ],
+        b"b\n\nnone\nnone\n",
+    ),
+    (
+        "to another diversion",
+        &[
+            Step::Divert(7, b"b"),
+            Step::Divert(5, b"a"),
+            Step::Undivert(7),
+            Step::Text(5),
+            Step::Text(7),
+            Step::Above(5),
+        ],
+        b"none\nab\n\nnone\n",
+    ),
+    (
+        "to another diversion that holds nothing yet",
+        &[
+            Step::Divert(7, b"b"),
+            Step::Divert(9, b""),
+            Step::Undivert(7),
+            Step::Text(9),
+            Step::Above(0),
+        ],
+        b"none\nb\n9\n",
+    ),
+    (
+        "to nowhere",
+        &[
+            Step::Divert(7, b"b"),
+            Step::Divert(-1, b""),
+            Step::Undivert(7),
+            Step::Text(7),
+            Step::Above(0),
+        ],
+        b"none\n\nnone\n",
+    ),
+    (
+        "not the current one",
+        &[Step::Divert(7, b"b"), Step::Undivert(7), Step::Text(7)],
+        b"none\nb\n",
+    ),
+    (
+        "none that holds no text",
+        &[
+            Step::Divert(7, b"b"),
+            Step::Divert(0, b""),
+            Step::Undivert(0),
+            Step::Undivert(-7),
+            Step::Undivert(6),
+            Step::Text(7),
+        ],
+        b"none\nnone\nnone\nb\n",
+    ),
+];
+
 // Adds a number, or that there is none.
 fn tell(number: Option<i32>, report: &mut Report) {
     match number {
@@ -98,6 +166,15 @@ fn take_least(state: &mut State, report: &mut Report) {
     }
 }
 
+// Brings a diversion back, and adds what is handed out.
+fn undivert(state: &mut State, number: i32, report: &mut Report) {
+    match state.undivert(number) {
+        Ok(Some(text)) => report.add(&text),
+        Ok(None) => report.add(b"none"),
+        Err(_refused) => report.refuse(),
+    }
+}
+
 // Diverts to a number, and adds a text there.
 fn divert(state: &mut State, number: i32, text: &[u8], report: &mut Report) {
     state.divert(number);
@@ -114,6 +191,7 @@ fn do_step(state: &mut State, step: Step, report: &mut Report) {
         Step::Text(number) => report.add(state.diversion(number)),
         Step::Above(number) => tell(state.next_diversion(number), report),
         Step::TakeLeast => take_least(state, report),
+        Step::Undivert(number) => undivert(state, number, report),
     }
     report.add(b"\n");
 }
@@ -132,5 +210,12 @@ fn report_of(alloc: Global, steps: &[Step]) -> Result<Vec<u8>, AllocError> {
 fn texts_are_diverted(rt: HostRuntime) {
     for &(name, steps, want) in ROWS {
         shows(&rt, name, want, report_of(rt.alloc(), steps));
+    }
+}
+
+#[test]
+fn texts_are_brought_back(rt: HostRuntime) {
+    for row in &BROUGHT_BACK {
+        shows(&rt, row.0, row.2, report_of(rt.alloc(), row.1));
     }
 }

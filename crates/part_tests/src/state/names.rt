@@ -35,8 +35,11 @@ const ROWS: &[Row] = &[
           changecom, builtin changecom; 9\n\
           changequote, builtin changequote; 11\n\
           define, builtin define; 6\n\
+          divert, builtin divert; 6\n\
+          divnum, builtin divnum; 6\n\
           dnl, builtin dnl; 3\n\
-          undefine, builtin undefine; 8\n",
+          undefine, builtin undefine; 8\n\
+          undivert, builtin undivert; 8\n",
     ),
     (
         "names are in byte order, with both definitions",

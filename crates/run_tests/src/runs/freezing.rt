@@ -1,9 +1,12 @@
 //! Runs that start from a frozen file, and runs that freeze their state.
 
-use super::given::{AT_MOST, BLOCKS, ROOM, USUAL, ended, freezing, opened};
+ghost use Rattle.std.specs.Prelude.{◌≡◌, false};
+
+use super::given::{AT_MOST, BLOCKS, ROOM, USUAL, ended, freezing, opened, options};
 use super::report::Report;
 use super::shows::agrees;
 use m4_engine::ending::{Cause, Ending};
+use m4_engine::options::Options;
 use m4_engine::run::run;
 use m4_engine::source::Source;
 use m4_frozen::fault::{FrozenFault, FrozenKind};
@@ -157,18 +160,21 @@ struct Seen {
     ending: Ending,
 }
 
-/// A run that freezes, over these sources.
+/// A run over these sources.
 fn seen_run<'a>(
     alloc: Global,
+    options: Options,
     frozen: &mut Option<MemSource<'a>>,
     sources: &mut [Source<MemSource<'a>>],
-) -> Result<Seen, AllocError> {
+) -> Result<Seen, AllocError>
+    requires { options.prefix ≡ false }
+{
     let mut output = MemSink::new(alloc, ROOM.0, AT_MOST)?;
     let mut messages = MemSink::new(alloc, ROOM.1, AT_MOST)?;
     let mut frozen_text = MemSink::new(alloc, ROOM.0, AT_MOST)?;
     let ending = run(
         alloc,
-        freezing(USUAL),
+        options,
         frozen,
         sources,
         &mut output,
@@ -198,7 +204,23 @@ fn printed(
     report.text()
 }
 
-/// What is to be seen of a run over a file from a frozen file, where readers give so many bytes at a time.
+/// A run from a frozen file over a file, where readers give so many bytes at a time.
+fn run_from(
+    alloc: Global,
+    options: Options,
+    frozen: (&[u8], bool),
+    file: &[u8],
+    block: usize,
+) -> Result<Seen, AllocError>
+    requires { options.prefix ≡ false }
+{
+    let (frozen, fails) = frozen;
+    let mut frozen = Some(MemSource::new(frozen, block.max(1), fails));
+    let mut sources = [opened(alloc, b"b.m4", file, block)?];
+    seen_run(alloc, options, &mut frozen, &mut sources)
+}
+
+/// What is to be seen of such a run that freezes.
 fn seen_from(
     alloc: Global,
     frozen: &[u8],
@@ -206,9 +228,7 @@ fn seen_from(
     file: &[u8],
     block: usize,
 ) -> Result<Vec<u8>, AllocError> {
-    let mut frozen = Some(MemSource::new(frozen, block.max(1), fails));
-    let mut sources = [opened(alloc, b"b.m4", file, block)?];
-    let seen = seen_run(alloc, &mut frozen, &mut sources)?;
+    let seen = run_from(alloc, freezing(USUAL), (frozen, fails), file, block)?;
     printed(
         alloc,
         seen.output.written(),
@@ -272,7 +292,8 @@ fn a_run_that_breaks_off_freezes_nothing(rt: HostRuntime) {
     }
 }
 
-/// Two files, and the output of a run that freezes over the first and of one that goes on over the second.
+/// Two files, and the output of a run that freezes over the first and of one that goes on over the second, and
+/// issues what is diverted.
 struct Split {
     name: &'static str,
     first: &'static [u8],
@@ -280,7 +301,31 @@ struct Split {
     outputs: (&'static [u8], &'static [u8]),
 }
 
-static SPLITS: [Split; 5] = [
+static SPLITS: [Split; 9] = [
+    Split {
+        name: "diversions",
+        first: b"divert(2)two\ndivert(1)one\ndivert(2)dnl\n",
+        second: b"more\n",
+        outputs: (b"", b"one\ntwo\nmore\n"),
+    },
+    Split {
+        name: "a negative number",
+        first: b"divert(-1)junk\n",
+        second: b"x divert(0)y\n",
+        outputs: (b"", b"y\n"),
+    },
+    Split {
+        name: "a number without text",
+        first: b"divert(3)dnl\n",
+        second: b"x\n",
+        outputs: (b"", b"x\n"),
+    },
+    Split {
+        name: "text that is brought back",
+        first: b"divert(1)a\ndivert(2)b\nundivert(1)divert(0)undivert(2)divnum\n",
+        second: b"divnum undivert(2)\n",
+        outputs: (b"b\na\n0\n", b"0 \n"),
+    },
     Split {
         name: "a greeting",
         first: b"define(`hi',`Hello $1.')dnl\n",
@@ -332,30 +377,32 @@ fn reported(
     report.text()
 }
 
-/// What is to be seen of two runs and of one.
-fn seen_split(alloc: Global, row: &Split, block: usize) -> Result<Vec<u8>, AllocError> {
-    let first = seen_run(
-        alloc,
-        &mut None,
-        &mut [opened(alloc, b"a.m4", row.first, block)?],
-    )?;
-    let mut frozen = Some(MemSource::new(first.frozen_text.written(), block.max(1), false));
-    let second = seen_run(
-        alloc,
-        &mut frozen,
-        &mut [opened(alloc, b"b.m4", row.second, block)?],
-    )?;
+/// A run over both files of a row.
+fn joint_run(alloc: Global, options: Options, row: &Split, block: usize) -> Result<Seen, AllocError>
+    requires { options.prefix ≡ false }
+{
     let mut both = [
         opened(alloc, b"a.m4", row.first, block)?,
         opened(alloc, b"b.m4", row.second, block)?,
     ];
-    let joint = seen_run(alloc, &mut None, &mut both)?;
-    let same = second.frozen_text.written() == joint.frozen_text.written();
+    seen_run(alloc, options, &mut None, &mut both)
+}
+
+/// What is to be seen of two runs and of one, where the later ones issue what is diverted; and whether they
+/// freeze the same where they freeze.
+fn seen_split(alloc: Global, row: &Split, block: usize) -> Result<Vec<u8>, AllocError> {
+    let mut sources = [opened(alloc, b"a.m4", row.first, block)?];
+    let first = seen_run(alloc, freezing(USUAL), &mut None, &mut sources)?;
+    let frozen = (first.frozen_text.written(), false);
+    let second = run_from(alloc, options(USUAL), frozen, row.second, block)?;
+    let joint = joint_run(alloc, options(USUAL), row, block)?;
+    let later = run_from(alloc, freezing(USUAL), frozen, row.second, block)?;
+    let whole = joint_run(alloc, freezing(USUAL), row, block)?;
     reported(
         first.output.written(),
         second.output.written(),
         joint.output.written(),
-        same,
+        later.frozen_text.written() == whole.frozen_text.written(),
         alloc,
     )
 }

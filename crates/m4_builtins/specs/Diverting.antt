@@ -1,0 +1,65 @@
+-- Diverting: the builtins that divert text and bring it back.
+-- Believed. Manual: "Diverting output", "Undiverting output", "Diversion numbers".
+-- Words: divert, undivert, brought_back, issued_by, divnum.
+-- own: of several numbers of `undivert` each that is none is passed over with a warning.
+use Rattle.std.specs.Prelude.{ℕ, ℤ, pos, List, [], ◌∷◌, ◌++◌, Option, Some, None, map, fold, flat_map, filter_map}
+use Rattle.std.specs.Fmt.{signed_decimal}
+use Rattle.m4_state.specs.declared.builtin.Builtin.TheVariants.{Divert, Undivert}
+use Rattle.m4_state.specs.State.{State, diverted, undiverted, issued_from}
+use Rattle.m4_builtins.specs.declared.args.Arg.{Arg}
+use Rattle.m4_builtins.specs.declared.number.Reading.{Reading}
+use Rattle.m4_builtins.specs.declared.place.Place.{Place}
+use Rattle.m4_builtins.specs.Args.{text_of_arg}
+use Rattle.m4_builtins.specs.Acted.{Acted, nothing, changes, expands}
+use Rattle.m4_builtins.specs.Numeric.{reading_of, number_of_reading, reading_warning}
+
+-- with another current diversion, if there is a number
+abbrev pub diverted_if : State → Option ℤ → State
+diverted_if s None = s
+diverted_if s (Some number) = diverted s number
+
+-- `divert`: the number is 0 where there is no argument
+abbrev pub divert : List Arg → Place → State → Acted
+divert [] p s = changes (diverted s (pos 0))
+divert (a ∷ rest) p s =
+    let r = reading_of (text_of_arg a) in
+    record {
+      state = diverted_if s (number_of_reading r);
+      effect = record nothing { messages = reading_warning p Divert r };
+    }
+
+-- behind the bringing back of diversions, one after the other
+abbrev pub brought_back : List ℤ → State → State
+brought_back numbers s = fold undiverted s numbers
+
+-- the text that they give to the output
+abbrev pub issued_by : List ℤ → State → List ℕ
+issued_by [] s = []
+issued_by (number ∷ numbers) s = issued_from s number ++ issued_by numbers (undiverted s number)
+
+-- diversions are brought back, with warnings
+abbrev pub brings_back : List ℤ → List ℕ → State → Acted
+brings_back numbers warnings s = record {
+  state = brought_back numbers s;
+  effect = record nothing { messages = warnings; output = issued_by numbers s };
+}
+
+-- the numbers of the diversions that hold text, as they rise; the current one among them stays as it
+-- is where it is brought back
+abbrev pub held_numbers : State → List ℤ
+held_numbers s = map (λ d. d.0) s.diversions
+
+-- the arguments as numbers
+abbrev pub readings_of : List Arg → List Reading
+readings_of list = map (λ a. reading_of (text_of_arg a)) list
+
+-- `undivert`: all diversions where there is no argument
+abbrev pub undivert : List Arg → Place → State → Acted
+undivert [] p s = brings_back (held_numbers s) [] s
+undivert (a ∷ rest) p s =
+    brings_back (filter_map number_of_reading (readings_of (a ∷ rest)))
+    (flat_map (reading_warning p Undivert) (readings_of (a ∷ rest))) s
+
+-- `divnum`
+abbrev pub divnum : State → Acted
+divnum s = expands s (signed_decimal s.current)

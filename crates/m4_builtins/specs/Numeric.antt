@@ -1,0 +1,72 @@
+-- Numeric: the number that an argument stands for.
+-- Believed. Manual: "Macro arguments". Its lemma: `NumbersFit` (the number has 32
+-- bits with its sign). Words: reading_of, number_of_reading, reading_warning.
+-- own: white space before a number is skipped, behind it none is; white space alone is no number; a
+-- number that has no 32 bits with its sign is none.
+use Rattle.std.specs.Prelude.{ℕ, ◌-◌, ◌^◌, ◌==◌, ◌&&◌, nat_le, ℤ, pos, neg_ℤ, Bool, true, false, not, List, [], ◌∷◌, Option, Some, None, drop, length, if◌then◌else◌}
+use Rattle.m4_state.specs.declared.builtin.Builtin.{Builtin}
+use Rattle.m4_input.specs.Ascii.{is_space, is_digit}
+use Rattle.m4_input.specs.Token.{run_length}
+use Rattle.m4_builtins.specs.declared.number.Reading.{Reading}
+use Rattle.m4_builtins.specs.declared.number.Reading.TheVariants.{Number, Empty, NotNumeric}
+use Rattle.m4_builtins.specs.declared.place.Place.{Place}
+use Rattle.m4_builtins.specs.Messages.{empty_number, not_numeric}
+use Rattle.m4_builtins.specs.Subst.{number_of}
+
+-- b'+'
+abbrev pub plus : ℕ
+plus = 43
+
+-- b'-'
+abbrev pub minus : ℕ
+minus = 45
+
+-- a number with its sign
+abbrev pub signed : Bool → ℕ → ℤ
+signed false n = pos n
+signed true n = neg_ℤ (pos n)
+
+-- the greatest number of 32 bits behind a sign
+abbrev pub greatest : Bool → ℕ
+greatest false = 2 ^ 31 - 1
+greatest true = 2 ^ 31
+
+-- a number behind a sign, if it has 32 bits
+abbrev pub if_it_fits : Bool → ℕ → Reading
+if_it_fits negative n =
+    if nat_le n (greatest negative) then Number (signed negative n) else NotNumeric
+
+-- whether these are digits alone, and one at least
+abbrev pub are_digits : List ℕ → Bool
+are_digits x = not (length x == 0) && (run_length is_digit x == length x)
+
+-- the number of digits behind a sign
+abbrev pub read_digits : Bool → List ℕ → Reading
+read_digits negative x =
+    if are_digits x then if_it_fits negative (number_of x) else NotNumeric
+
+-- the number of a text that begins with a sign or with digits
+abbrev pub read_signed : List ℕ → Reading
+read_signed [] = NotNumeric
+read_signed (b ∷ x) =
+    if b == minus then read_digits true x
+    else (
+    if b == plus then read_digits false x else read_digits false (b ∷ x)
+    )
+
+-- what a numeric argument is
+abbrev pub reading_of : List ℕ → Reading
+reading_of [] = Empty
+reading_of (b ∷ x) = read_signed (drop (run_length is_space (b ∷ x)) (b ∷ x))
+
+-- its number, if it has one
+abbrev pub number_of_reading : Reading → Option ℤ
+number_of_reading (Number n) = Some n
+number_of_reading Empty = Some (pos 0)
+number_of_reading NotNumeric = None
+
+-- the warning on it
+abbrev pub reading_warning : Place → Builtin → Reading → List ℕ
+reading_warning p b (Number n) = []
+reading_warning p b Empty = empty_number p b
+reading_warning p b NotNumeric = not_numeric p b

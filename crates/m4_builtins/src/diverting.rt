@@ -1,0 +1,119 @@
+//! The builtins that divert text and bring it back. Manual: "Diverting output", "Undiverting output",
+//! "Diversion numbers".
+
+ghost use Rattle.std.specs.Prelude.{◌≡◌, ◌++◌, OnOk, IfOk, flat_map, filter_map};
+ghost use Rattle.m4_state.specs.declared.builtin.Builtin.TheVariants as builtins;
+ghost use Rattle.m4_builtins.specs.Diverting as spec;
+ghost use Rattle.m4_builtins.specs.Numeric.{number_of_reading, reading_warning};
+
+use crate::args::Arg;
+use crate::effect::Effect;
+use crate::fault::BuiltinFault;
+use crate::number::number_in;
+use crate::place::Place;
+use crate::substitute::text_of;
+use itoa::Buffer;
+use m4_state::builtin::Builtin;
+use m4_state::bytes::Bytes;
+use m4_state::state::State;
+use std::alloc::{AllocError, Global};
+
+/// Chooses the diversion of a number; 0 where there is no argument. A number that is none changes
+/// nothing. Manual: "Diverting output".
+pub(crate) fn divert(
+    alloc: Global,
+    list: &[Arg],
+    place: &Place,
+    state: &mut State,
+) -> Result<Effect, BuiltinFault>
+    ensures { IfOk result (λ e. spec.divert list.now place.now state.old ≡ record { state = state.new; effect = e }) }
+{
+    let Some(first) = list.first() else {
+        state.divert(0);
+        return Ok(Effect::nothing(alloc));
+    };
+    let mut messages = Vec::new(alloc);
+    if let Some(number) = number_in(alloc, text_of(first), place, Builtin::Divert, &mut messages)? {
+        state.divert(number);
+    }
+    Ok(Effect::telling(alloc, Bytes::from(messages)))
+}
+
+/// Brings back the diversions of these numbers, or all where there is no argument. Each number that
+/// is none is passed over. Manual: "Undiverting output".
+pub(crate) fn undivert(
+    alloc: Global,
+    list: &[Arg],
+    place: &Place,
+    state: &mut State,
+) -> Result<Effect, BuiltinFault>
+    ensures { IfOk result (λ e. spec.undivert list.now place.now state.old ≡ record { state = state.new; effect = e }) }
+{
+    let mut messages = Vec::new(alloc);
+    let numbers = match list {
+        [] => held_numbers(alloc, state)?,
+        [..] => numbers_in(alloc, list, place, &mut messages)?,
+    };
+    let mut output = Vec::new(alloc);
+    bring_back(numbers.as_slice(), state, &mut output)?;
+    let mut effect = Effect::telling(alloc, Bytes::from(messages));
+    effect.output = Bytes::from(output);
+    Ok(effect)
+}
+
+/// Gives the number of the current diversion. Manual: "Diversion numbers".
+pub(crate) fn divnum(alloc: Global, state: &State) -> Result<Effect, AllocError>
+    ensures { IfOk result (λ e. spec.divnum state.now ≡ record { state = state.now; effect = e }) }
+{
+    let mut buffer = Buffer::new();
+    let text = Bytes::from_slice(alloc, buffer.format(state.current()).as_bytes())?;
+    Ok(Effect::pushing(alloc, text))
+}
+
+/// The numbers of the diversions that hold text, as they rise.
+fn held_numbers(alloc: Global, state: &State) -> Result<Vec<i32>, AllocError>
+    ensures { IfOk result (λ v. v.items ≡ spec.held_numbers state.now) }
+{
+    // Its clauses say that the state is in order.
+    let _current = state.current();
+    let mut numbers = Vec::new(alloc);
+    let mut last = 0;
+    while let Some(number) = state.next_diversion(last) {
+        numbers.push(number)?;
+        last = number;
+    }
+    Ok(numbers)
+}
+
+/// The numbers of the arguments that have one. Adds the warnings on the others.
+fn numbers_in(
+    alloc: Global,
+    list: &[Arg],
+    place: &Place,
+    messages: &mut Vec<u8>,
+) -> Result<Vec<i32>, AllocError>
+    ensures numbers { IfOk result (λ v. v.items ≡ filter_map number_of_reading (spec.readings_of list.now)) }
+    ensures told { OnOk result (messages.new.items
+        ≡ messages.old.items ++ flat_map (reading_warning place.now builtins.Undivert) (spec.readings_of list.now)) }
+{
+    let mut numbers = Vec::new(alloc);
+    for arg in list {
+        if let Some(number) = number_in(alloc, text_of(arg), place, Builtin::Undivert, messages)? {
+            numbers.push(number)?;
+        }
+    }
+    Ok(numbers)
+}
+
+/// Brings diversions back, one after the other, and adds what they give to the output.
+fn bring_back(numbers: &[i32], state: &mut State, output: &mut Vec<u8>) -> Result<(), BuiltinFault>
+    ensures state { OnOk result (state.new ≡ spec.brought_back numbers.now state.old) }
+    ensures output { OnOk result (output.new.items ≡ output.old.items ++ spec.issued_by numbers.now state.old) }
+{
+    for number in numbers {
+        if let Some(text) = state.undivert(*number)? {
+            output.extend_from_slice(text.as_slice())?;
+        }
+    }
+    Ok(())
+}
