@@ -4,7 +4,7 @@ use Rattle.m4_builtins.specs.Act.{Acted}
 use Rattle.m4_engine.specs.Engine.{Engine}
 use Rattle.m4_engine.proofs.Acts.{called_goes, called_exits, made_plain}
 use Rattle.m4_engine.proofs.Bare.{substituted_by, called_as}
-use Rattle.m4_engine.proofs.SavesNothing.{acted_saves}
+use Rattle.m4_engine.proofs.SavesNothing.{acted_saves, acted_pushes}
 use Rattle.m4_engine.proofs.machine.Machine.call.Goals as goal
 
 pub returns-in-Some-exit : goal.returns-in-Some-exit
@@ -39,3 +39,9 @@ returns-in-Some g c = record {
   limits = search rules;
   made = search rules;
 }
+
+-- what was pushed is in order
+pub read_on-requires-clause-valid : goal.read_on-requires-clause-valid
+read_on-requires-clause-valid g c =
+    let a : Acted = record { state = c.act.new.state; effect = c.in_ok-push.field-0 } in
+    acted_pushes c.args.call.definition c.args.call.name c.args.call.done c.args.call.place c.args.self.now.state a (search rules)
