@@ -193,3 +193,18 @@ comments_disabled = refl
 -- the newest definition counts, and a name without one is text
 undefined_name : over_a usual (codes "define(`f',`x')define(`f',`y')f undefine(`f')f\n") ≡ done (codes "y f\n") [] 4
 undefined_name = refl
+
+-- text is kept by the number of its diversion, and brought back where it is asked for
+brought_back : over_a usual (codes "divert(1)a\ndivert(2)b\nundivert(1)divert(0)undivert(2)divnum\n") ≡ done (codes "b\na\n0\n") [] 6
+unfolding digits
+brought_back = refl
+
+-- what is no number selects no diversion
+not_a_number : over_a usual (codes "divert(`x')y\n") ≡ done (codes "y\n") (codes "m4:a.m4:1: Warning: non-numeric argument to builtin `divert'\n") 1
+unfolding digits
+not_a_number = refl
+
+-- a run that ends issues what is left, by rising number
+issued_at_the_end : over_a usual (codes "divert(2)two\ndivert(1)one\ndivert(2)dnl\n") ≡ done (codes "one\ntwo\n") [] 4
+unfolding digits
+issued_at_the_end = refl
