@@ -52,7 +52,7 @@ quotes_keep : (list : List Arg) (s : State) → IsState s → IsState (changequo
 quotes_keep [] s h = IsState-default_quotes s h
 quotes_keep (a ∷ rest) s h = IsState-with_quotes s (text_of_arg a) (text_at rest 0) h
 
--- the state behind `divert`, by what its argument is read as
+-- the state after `divert`, by what its argument is read as
 divert_keeps : (r : Reading) (s : State) → IsState s → IsReading r → IsState (diverted_if s (number_of_reading r))
 divert_keeps (Number n) s h fits = IsState-diverted s n h fits
 divert_keeps Empty s h fits = IsState-diverted s (pos 0) h (search rules)

@@ -43,7 +43,7 @@ int_lt-irrefl x = by (int_lt x x) refl
     by true e = let less : int_cmp x x ≡ Less = less-int_lt x x e in let tie : int_cmp x x ≡ Equal = tied_itself int_cmp_total x in absurd cc
     by false e = refl
 
--- ---- the diversions one behind the other
+-- ---- the diversions one after the other
 
 -- where the numbers rise from above a number on, all of them lie above it
 above-below : (n m : ℤ) (ds : List Diversion) → int_lt n m ≡ true → IsTrue (below_all int_cmp m ds) → above n ds ≡ ds

@@ -28,7 +28,7 @@ divert (a ∷ rest) p s =
       effect = record nothing { messages = reading_warning p Divert r };
     }
 
--- behind the bringing back of diversions, one after the other
+-- after the bringing back of diversions, one after the other
 abbrev pub brought_back : List ℤ → State → State
 brought_back numbers s = fold undiverted s numbers
 

@@ -1,7 +1,7 @@
 -- Numeric: the number that an argument stands for.
 -- Believed. Manual: "Macro arguments". Its lemma: `NumbersFit` (the number has 32
 -- bits with its sign). Words: reading_of, number_of_reading, reading_warning.
--- own: white space before a number is skipped, behind it none is; white space alone is no number; a
+-- own: white space before a number is skipped, after it none is; white space alone is no number; a
 -- number that has no 32 bits with its sign is none.
 use Rattle.std.specs.Prelude.{ℕ, ◌-◌, ◌^◌, ◌==◌, ◌&&◌, nat_le, ℤ, pos, neg_ℤ, Bool, true, false, not, List, [], ◌∷◌, Option, Some, None, drop, length, if◌then◌else◌}
 use Rattle.m4_state.specs.declared.builtin.Builtin.{Builtin}
@@ -26,12 +26,12 @@ abbrev pub signed : Bool → ℕ → ℤ
 signed false n = pos n
 signed true n = neg_ℤ (pos n)
 
--- the greatest number of 32 bits behind a sign
+-- the greatest number of 32 bits after a sign
 abbrev pub greatest : Bool → ℕ
 greatest false = 2 ^ 31 - 1
 greatest true = 2 ^ 31
 
--- a number behind a sign, if it has 32 bits
+-- a number after a sign, if it has 32 bits
 abbrev pub if_it_fits : Bool → ℕ → Reading
 if_it_fits negative n =
     if nat_le n (greatest negative) then Number (signed negative n) else NotNumeric
@@ -40,7 +40,7 @@ if_it_fits negative n =
 abbrev pub are_digits : List ℕ → Bool
 are_digits x = not (length x == 0) && (run_length is_digit x == length x)
 
--- the number of digits behind a sign
+-- the number of digits after a sign
 abbrev pub read_digits : Bool → List ℕ → Reading
 read_digits negative x =
     if are_digits x then if_it_fits negative (number_of x) else NotNumeric

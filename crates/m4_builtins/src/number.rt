@@ -23,10 +23,10 @@ pub enum Reading {
     NotNumeric,
 }
 
-/// The greatest number behind a `-`; the greatest without it is below.
+/// The greatest number after a `-`; the greatest without it is below.
 const MAGNITUDE_LIMIT: usize = 0x8000_0000;
 
-/// What a numeric argument is. White space may stand in front of a number, and a sign; behind it
+/// What a numeric argument is. White space may stand in front of a number, and a sign; after it
 /// nothing may.
 pub fn reading_of(text: &[u8]) -> Reading
     // exact steps: what the text is read as
@@ -96,7 +96,7 @@ fn read_signed(text: &[u8]) -> Reading
     }
 }
 
-/// The number of digits behind a sign.
+/// The number of digits after a sign.
 fn read_digits(negative: bool, digits: &[u8]) -> Reading
     ensures { result ≡ spec.read_digits negative digits.now }
 {
@@ -116,7 +116,7 @@ fn are_digits(bytes: &[u8]) -> bool
     !bytes.is_empty() && digits_len(bytes) == bytes.len()
 }
 
-/// A number behind a sign, if it has 32 bits.
+/// A number after a sign, if it has 32 bits.
 fn if_it_fits(negative: bool, n: usize) -> Reading
     ensures { result ≡ spec.if_it_fits negative n }
 {

@@ -119,7 +119,7 @@ behind_is s l e =
 ended_output : (freezes : Bool) (s : Standing) → s.over ≡ None → (result_of freezes [] (progress_of s)).output ≡ closed_output freezes (progress_of s).so_far
 ended_output freezes s e = ap (λ (o : Option Cause). (result_of freezes [] (progress_of (record s { over = o }))).output) e
 
--- the end of a run broke off, with so much of what it still puts out written
+-- the end of a run broke off, with so much of the rest written
 broke_off : (freezes : Bool) (old new : Standing) (w : Contents) (cause : Cause) → IsOpen old → old.saved ≡ [] → new.over ≡ Some cause → w.messages_new ≡ w.messages_old → HasBegun w.out_old w.out_new (closed_output freezes (progress_of old).so_far) → Unfinished freezes old new w cause
 broke_off freezes old new w cause l e o m h =
     let p : progress_of old ≡ behind_wraps old = sym (behind_is old l e) in

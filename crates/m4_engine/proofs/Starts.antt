@@ -1,4 +1,4 @@
--- Starts: a run behind its start: what the start issues is written first.
+-- Starts: a run after its start: what the start issues is written first.
 use Rattle.std.proofs.Common.{◌≡◌, ◌⊎◌, inl, inr, ℕ, Bool, true, false, List, [], ◌∷◌, ◌++◌, Option, Some, None, refl, sym, ap, ◌∙◌, subst, append-nil}
 use Rattle.std.specs.Prelude.{◌≢◌, IfSome, IfOk, IfErr, OnOk, Result, Ok, Err}
 use Rattle.m4_state.proofs.CallerLaws.{with_bytes-append, with_bytes-nil}
@@ -38,7 +38,7 @@ use Rattle.m4_engine.proofs.Whole.{begun_longer, closed_behind, none_saved, Stat
 abbrev issuing : List ℕ → RunResult → RunResult
 issuing x r = record r { output = x ++ r.output }
 
--- a run's progress behind what its start issues
+-- a run's progress after what its start issues
 begun_is : (o : Options) (s : State) (x : List ℕ) → begun (From s x) ≡ behind x [] (progress_of (standing_from o s))
 begun_is o s x = ap (λ y. begun (From s y)) (sym (append-nil x))
 
@@ -55,7 +55,7 @@ result_by_behind None freezes saved x r missed =
     ap (λ (y : List ℕ). let k : RunResult = record (result_by None freezes saved r missed) { output = y } in k) (closed_behind freezes x [] r)
 result_by_behind (Some h) freezes saved x r missed = refl
 
--- a run from a start is the run from its state, behind what is issued
+-- a run from a start is the run from its state, after what is issued
 pub run_behind : (o : Options) (s : State) (x : List ℕ) (ss : List Source) → run_from o (From s x) ss ≡ issuing x (result_behind o.freeze (limits_of o) ss (after_sources (limits_of o) ss (progress_of (standing_from o s))))
 run_behind o s x ss =
     let limits : Limits = limits_of o in
@@ -146,7 +146,7 @@ module _ (x : List ℕ) (r : RunResult) (out0 out1 out2 told told' frozen frozen
   froze causes.Write h = began_or h
   froze causes.OutOfMemory h = h
 
-  -- what a run gives behind what its start issues
+  -- what a run gives after what its start issues
   issued_gives : (d : Ending) → RunGives r d V → RunGives (issuing x r) d W
   issued_gives d h = record { gives = gives d.cause d h.gives; frozen = froze d.cause h.frozen }
 

@@ -220,16 +220,16 @@ module _ (freezes : Bool) (limits : Limits) (ss : List Source) (p : Progress) (o
       ∙ unfrozen (after_wraps limits p).over (saved_behind ss p) (after_wraps limits p).so_far (after_wraps limits p).missed
 
   module _ (frozen frozen' : Option (List ℕ)) where
-    abbrev W3 : Three (Option (List ℕ))
-    W3 = record { two = W; frozen_old = frozen; frozen_new = frozen' }
+    abbrev WholeThree : Three (Option (List ℕ))
+    WholeThree = record { two = W; frozen_old = frozen; frozen_new = frozen' }
 
-    abbrev V3 : Three (Option (List ℕ))
-    V3 = record { two = V; frozen_old = frozen; frozen_new = frozen' }
+    abbrev LaterThree : Three (Option (List ℕ))
+    LaterThree = record { two = V; frozen_old = frozen; frozen_new = frozen' }
 
-    frozen_well : freezes ≡ true → B.over ≡ None → FrozenGives mid V3 (Ok tt) → HasFrozen (result_behind freezes limits ss p).frozen W3
-    frozen_well e o h = subst (λ (x : Option (List ℕ)). HasFrozen x W3) (sym (frozen_is e o)) h.0
+    frozen_well : freezes ≡ true → B.over ≡ None → FrozenGives mid LaterThree (Ok tt) → HasFrozen (result_behind freezes limits ss p).frozen WholeThree
+    frozen_well e o h = subst (λ (x : Option (List ℕ)). HasFrozen x WholeThree) (sym (frozen_is e o)) h.0
 
-    frozen_began : freezes ≡ true → IsSpared V3 ⊎ FreezeBegan mid V3 → IsSpared W3 ⊎ FrozenBegan (result_behind freezes limits ss p) W3
+    frozen_began : freezes ≡ true → IsSpared LaterThree ⊎ FreezeBegan mid LaterThree → IsSpared WholeThree ⊎ FrozenBegan (result_behind freezes limits ss p) WholeThree
     frozen_began e (inl h) = inl h
     frozen_began e (inr h) =
         let q : (result_behind freezes limits ss p).output ≡ (p.so_far).output ++ (B.so_far).output =
@@ -247,7 +247,7 @@ module _ (freezes : Bool) (limits : Limits) (ss : List Source) (p : Progress) (o
               ∙ with_bytes-append told0 (p.so_far).messages (B.so_far).messages ∙ ap (with_bytes told0) (sym k);
         })
 
-    frozen_late : freezes ≡ true → (e : Stop) → FrozenGives mid V3 (Err e) → IsOpen mid → EndGives freezes mid new V (Err e) → FrozenBy (ending_by (status_at new) (Err e)).cause (result_behind freezes limits ss p) W3
+    frozen_late : freezes ≡ true → (e : Stop) → FrozenGives mid LaterThree (Err e) → IsOpen mid → EndGives freezes mid new V (Err e) → FrozenBy (ending_by (status_at new) (Err e)).cause (result_behind freezes limits ss p) WholeThree
     frozen_late t stops.Finished h o k = absurd (k.closed o)
     frozen_late t (stops.Ended causes.Done) h o k = absurd k
     frozen_late t (stops.Ended causes.Read) h o k = h
@@ -261,7 +261,7 @@ module _ (freezes : Bool) (limits : Limits) (ss : List Source) (p : Progress) (o
     frozen_late t (stops.Ended causes.NestingLimit) h o k = h
     frozen_late t (stops.Ended (causes.Frozen x)) h o k = h
 
-    spared_late : (e : Stop) → IsSpared W3 → IsOpen mid → EndGives freezes mid new V (Err e) → FrozenBy (ending_by (status_at new) (Err e)).cause (result_behind freezes limits ss p) W3
+    spared_late : (e : Stop) → IsSpared WholeThree → IsOpen mid → EndGives freezes mid new V (Err e) → FrozenBy (ending_by (status_at new) (Err e)).cause (result_behind freezes limits ss p) WholeThree
     spared_late stops.Finished h o k = absurd (k.closed o)
     spared_late (stops.Ended causes.Done) h o k = absurd k
     spared_late (stops.Ended causes.Read) h o k = h
@@ -276,7 +276,7 @@ module _ (freezes : Bool) (limits : Limits) (ss : List Source) (p : Progress) (o
     spared_late (stops.Ended (causes.Frozen x)) h o k = h
 
     -- the end by its answer
-    late_by : (b : Bool) → b ≡ freezes → (e : Stop) → IsOpen mid → CloseGives b mid new V3 (Err e) → RunGives (result_behind freezes limits ss p) (ending_by (status_at new) (Err e)) W3
+    late_by : (b : Bool) → b ≡ freezes → (e : Stop) → IsOpen mid → CloseGives b mid new LaterThree (Err e) → RunGives (result_behind freezes limits ss p) (ending_by (status_at new) (Err e)) WholeThree
     late_by true t e o h =
         let k : EndGives freezes mid new V (Err e) = subst (λ b. EndGives b mid new V (Err e)) t h.0 in
         record { gives = ended_late e o k; frozen = frozen_late (sym t) e h.1 o k }
@@ -284,7 +284,7 @@ module _ (freezes : Bool) (limits : Limits) (ss : List Source) (p : Progress) (o
         let k : EndGives freezes mid new V (Err e) = subst (λ b. EndGives b mid new V (Err e)) t h.0 in
         record { gives = ended_late e o k; frozen = spared_late e h.1 o k }
 
-    well_by : (b : Bool) → b ≡ freezes → (wrapped : Bool) → wrapped ≡ is_saved mid.saved → saved_behind ss p ≡ (p.so_far).saved → CloseGives b mid new V3 (Ok tt) → RunGives (result_behind freezes limits ss p) (ending_by (status_at new) (Ok wrapped)) W3
+    well_by : (b : Bool) → b ≡ freezes → (wrapped : Bool) → wrapped ≡ is_saved mid.saved → saved_behind ss p ≡ (p.so_far).saved → CloseGives b mid new LaterThree (Ok tt) → RunGives (result_behind freezes limits ss p) (ending_by (status_at new) (Ok wrapped)) WholeThree
     well_by true t wrapped e s h =
         let k : Closed freezes mid new V = subst (λ b. Closed b mid new V) t h.0 in
         record { gives = closed_well wrapped e s k; frozen = frozen_well (sym t) k.ended h.1 }
@@ -292,11 +292,11 @@ module _ (freezes : Bool) (limits : Limits) (ss : List Source) (p : Progress) (o
         let k : Closed freezes mid new V = subst (λ b. Closed b mid new V) t h.0 in
         record {
           gives = closed_well wrapped e s k;
-          frozen = subst (λ (x : Option (List ℕ)). HasFrozen x W3) (sym (none_frozen (sym t) (result_behind freezes limits ss p) refl)) h.1;
+          frozen = subst (λ (x : Option (List ℕ)). HasFrozen x WholeThree) (sym (none_frozen (sym t) (result_behind freezes limits ss p) refl)) h.1;
         }
 
     -- the state that was frozen is sized
-    sized_by : (b : Bool) → CloseGives b mid new V3 (Ok tt) → b ≡ true → IsSized ((after_wraps limits p).so_far).state
+    sized_by : (b : Bool) → CloseGives b mid new LaterThree (Ok tt) → b ≡ true → IsSized ((after_wraps limits p).so_far).state
     sized_by true h t = subst (λ (q : Progress). IsSized (q.so_far).state) (sym behind_is) (h.1).1
     sized_by false h t = cc
 

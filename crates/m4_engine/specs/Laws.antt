@@ -118,7 +118,7 @@ IsDecided causes.Write = ⊥
 IsDecided causes.OutOfMemory = ⊥
 IsDecided cause = Unit {0}
 
--- what was written is what a run puts out, and the ending is that run's
+-- what was written is what a run writes, and the ending is that run's
 pub record IsOneRun (r : RunResult) (e : Ending) (w : Three (Option (List ℕ))) : Type 0 where
   pub how : r.how ≡ Ends e.cause
   pub status : e.status ≡ r.status
@@ -129,7 +129,7 @@ pub record IsOneRun (r : RunResult) (e : Ending) (w : Three (Option (List ℕ)))
 -- The law `split` of two runs as they are made, by what `run` promises of each. The first freezes, reads
 -- everything with status 0 and saves no text; its frozen text goes to an empty writer. The second reloads
 -- what that writer then has, with the same limits, and its output and messages go after the first one's.
--- Then the writers have what one run over the sources of both puts out, which ends as the second did, if
+-- Then the writers have what one run over the sources of both writes, which ends as the second did, if
 -- that run doesn't end by the limit of calls.
 abbrev pub TwoRuns : Type 0
 TwoRuns =

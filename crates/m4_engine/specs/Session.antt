@@ -255,11 +255,11 @@ EndGives freezes old new w (Err (stops.Ended cause)) =
 abbrev pub FinishGives : Standing → Standing → Contents → Result Unit Stop → Type 0
 FinishGives old new w answer = EndGives false old new w answer
 
--- the state that a run leaves behind its saved texts, which is the one that it freezes
+-- the state that a run leaves after its saved texts, which is the one that it freezes
 abbrev pub last_state : Standing → State
 last_state s = ((behind_wraps s).so_far).state
 
--- the frozen text was begun behind all else that the run puts out
+-- the frozen text was begun after all else that the run writes
 pub record FreezeBegan (old : Standing) (w : Three (Option (List ℕ))) : Type 0 where
   pub ended : (behind_wraps old).over ≡ None
   pub begun : HasBegun w.frozen_old w.frozen_new (freeze (last_state old))

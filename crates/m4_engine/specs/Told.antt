@@ -114,7 +114,7 @@ is_taken script before behind = ⊥
 abbrev pub are_taken : {R : Type 0} → (R → Option Script) → List (RunSource R) → List (RunSource R) → Type 0
 are_taken script before behind = AllPairs (is_taken script) before behind
 
--- what the reader of a frozen file tells of it; none where a run has no frozen file
+-- what the reader of a frozen file says of it; none where a run has no frozen file
 abbrev pub TellsFrozen : {R : Type 0} → (R → Option Script) → Option R → Option Script → Type 0
 TellsFrozen script None file = file ≡ None
 TellsFrozen script (Some reader) file = (s : Script) × (script reader ≡ Some s) × (file ≡ Some s)

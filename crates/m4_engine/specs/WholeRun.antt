@@ -53,7 +53,7 @@ abbrev pub HasFrozen : Option (List ℕ) → Three (Option (List ℕ)) → Type 
 HasFrozen None w = IsSpared w
 HasFrozen (Some text) w = w.frozen_new ≡ with_bytes w.frozen_old text
 
--- a writer failed within the frozen text, behind all else that the run puts out
+-- a writer failed within the frozen text, after all else that the run writes
 pub record FrozenBegan (r : RunResult) (w : Three (Option (List ℕ))) : Type 0 where
   pub text : List ℕ
   pub is : r.frozen ≡ Some text

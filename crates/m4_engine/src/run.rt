@@ -1,4 +1,4 @@
-//! A whole run: what it starts from, its sources, one behind the other, and then its end.
+//! A whole run: what it starts from, its sources, one after the other, and then its end.
 //! Manual: "Invoking m4", "Command line files", "Fast loading of frozen state".
 
 ghost use Rattle.std.specs.Prelude.{◌≡◌, ◌||◌, Bool, true, false, [], List, Option, Err, OnOk};
@@ -24,12 +24,12 @@ use crate::stop::Stop;
 use m4_state::device::{ByteSink, ByteSource};
 use std::alloc::Global;
 
-/// Runs over the sources, one behind the other, from the frozen file, where there is one, or else from
+/// Runs over the sources, one after the other, from the frozen file, where there is one, or else from
 /// the fresh state. At the end it issues the diversions, or, where the options ask for it, freezes its
 /// state: what is written, and how the run ends, is what the definition of a run says.
 ///
 /// The ending's cause tells why the run ended. Behind a reader, a writer or memory that failed a
-/// beginning of what the run puts out was written, and the status is 1. Where a frozen file is refused
+/// beginning of what the run writes was written, and the status is 1. Where a frozen file is refused
 /// nothing is read or written. `freeze_to` is asked only where the options freeze and all sources were
 /// read.
 pub fn run<R: ByteSource, O: ByteSink, M: ByteSink, Z: ByteSink>(

@@ -70,7 +70,7 @@ impl Session {
 
     /// A run that starts from a frozen file: its state, with the text that it issues written. It is read to
     /// its end before anything is written. `Ended(Frozen)` where the file is refused, its reader fails or
-    /// memory runs out, and then nothing was written; `Ended(Write)` behind a beginning of the issued text.
+    /// memory runs out, and then nothing was written; `Ended(Write)` after a beginning of the issued text.
     /// The options' prefix has no effect. Manual: "Fast loading of frozen state".
     pub fn reload<R: ByteSource, O: ByteSink>(
         alloc: Global,
@@ -233,7 +233,7 @@ impl Session {
 
     /// Brings the run to its end and freezes it: the canonical text of its state is written to
     /// `freeze_to`, in place of issuing the diversions. No call saves text to be read at the end yet.
-    /// `Ended(Write)` behind a beginning of the frozen text; `Ended(OutOfMemory)` before its first byte.
+    /// `Ended(Write)` after a beginning of the frozen text; `Ended(OutOfMemory)` before its first byte.
     /// Manual: "Fast loading of frozen state".
     pub fn freeze<O: ByteSink, M: ByteSink, Z: ByteSink>(
         &mut self,

@@ -1,4 +1,4 @@
--- What is told of a run that was not ended by its frozen file.
+-- What is reported of a run that was not ended by its frozen file.
 use Rattle.std.proofs.Common.{◌≡◌, ℕ, List, [], refl}
 use Rattle.m4_engine.specs.declared.ending.Cause.{Cause}
 use Rattle.m4_engine.specs.declared.ending.Cause.TheVariants as causes

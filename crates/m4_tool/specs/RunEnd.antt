@@ -18,7 +18,7 @@ abbrev pub refused_line : List ℕ → Cause → List ℕ
 refused_line file (causes.Frozen fault) = line_of file (faults.Frozen fault)
 refused_line file cause = []
 
--- the line behind `m4: ` that the program adds; of the other causes the run has told itself, or
+-- the line after `m4: ` that the program adds; of the other causes the run has reported itself, or
 -- `refused_line` does. A last flush that fails is a write fault
 abbrev pub last_fault : Cause → Bool → Option (List ℕ)
 last_fault causes.Read flushed = Some (codes "read fault")

@@ -23,8 +23,8 @@ pub fn put_refused<M: ByteSink>(
     }
 }
 
-/// What is still told of a run that ended by this cause, whose output and frozen text were flushed
-/// then or could not be. Of all other causes the run has told itself, or [`put_refused`] does.
+/// What is still reported of a run that ended by this cause, whose output and frozen text were flushed
+/// then or could not be. Of all other causes the run has reported itself, or [`put_refused`] does.
 pub fn last_fault(cause: Cause, flushed: bool) -> Option<&'static str>
     ensures { option_map (λ text. text.now) result ≡ last_fault cause flushed }
 {

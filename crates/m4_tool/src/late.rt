@@ -43,7 +43,7 @@ impl<R: Files> Write for Unmade<'_, R> {
 /// name stays as it is, so a run that writes nothing to it leaves an old file alone, and may read it.
 ///
 /// Bytes are written in blocks. [`LateFile::finish`] writes the last one; where the sink is let go
-/// without it, that is tried too, and no one is told how it went.
+/// without it, that is tried too, and nothing reports how it went.
 #[derive(Drop)]
 pub struct LateFile<'a, R: Files> {
     sink: StdSink<BufWriter<Unmade<'a, R>>>,

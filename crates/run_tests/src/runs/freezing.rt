@@ -90,7 +90,7 @@ static LOADED: [Loaded; 8] = [
     },
 ];
 
-/// A frozen file, whether its reader fails behind it, and the status and the fault by which the run ends.
+/// A frozen file, whether its reader fails after it, and the status and the fault by which the run ends.
 struct Refused {
     name: &'static str,
     frozen: &'static [u8],
@@ -407,7 +407,7 @@ fn seen_split(alloc: Global, row: &Split, block: usize) -> Result<Vec<u8>, Alloc
     )
 }
 
-/// What is expected of a row: the one run puts out what the two put out, and freezes what the later freezes.
+/// What is expected of a row: the one run writes what the two write, and freezes what the later freezes.
 fn expected_split(alloc: Global, row: &Split) -> Result<Vec<u8>, AllocError> {
     let (first, second) = row.outputs;
     let mut joint = Vec::from_slice(alloc, first)?;
