@@ -5,7 +5,7 @@ use Rattle.std.specs.List.{flat_map}
 use Rattle.std.specs.Prelude.{IsErr}
 use Rattle.std.proofs.lemmas.List.{take-append-drop, append-nil}
 use Rattle.m4_state.specs.declared.builtin.Builtin.{Builtin}
-use Rattle.m4_state.specs.declared.builtin.Builtin.TheVariants.{Define, Undefine, Dnl, Changequote, Changecom, Divert, Undivert, Divnum}
+use Rattle.m4_state.specs.declared.builtin.Builtin.TheVariants.{Define, Undefine, Pushdef, Popdef, Defn, Indir, IndirBuiltin, Ifdef, Ifelse, Shift, Dumpdef, Dnl, Changequote, Changecom, Divert, Undivert, Divnum}
 use Rattle.m4_state.specs.Builtin.{builtin_named, name_of}
 use Rattle.m4_state.specs.Device.{Script, after_bytes, with_bytes, HasPut, HasBegun, Puts}
 
@@ -13,6 +13,15 @@ use Rattle.m4_state.specs.Device.{Script, after_bytes, with_bytes, HasPut, HasBe
 pub builtin_named-name_of : (b : Builtin) → builtin_named (name_of b) ≡ Some b
 builtin_named-name_of Define = refl
 builtin_named-name_of Undefine = refl
+builtin_named-name_of Pushdef = refl
+builtin_named-name_of Popdef = refl
+builtin_named-name_of Defn = refl
+builtin_named-name_of Indir = refl
+builtin_named-name_of IndirBuiltin = refl
+builtin_named-name_of Ifdef = refl
+builtin_named-name_of Ifelse = refl
+builtin_named-name_of Shift = refl
+builtin_named-name_of Dumpdef = refl
 builtin_named-name_of Dnl = refl
 builtin_named-name_of Changequote = refl
 builtin_named-name_of Changecom = refl

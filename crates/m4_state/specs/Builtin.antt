@@ -1,71 +1,77 @@
 -- The table of builtins: what each is called, and how it may be called.
 -- Believed. Its lemma `builtin_named-name_of`: each builtin is found by its own name.
--- Manual: "Builtins", "Macro invocation". Words: table, name_of, needs_args, takes_tokens, least_of,
--- most_of, builtin_named. A line a builtin in each column; the code has columns of its own, and its clauses say that they are these.
+-- Manual: "Builtins", "Macro invocation". Words: row_of, table, builtin_named; and the columns by their
+-- own: name_of, needs_args, takes_tokens, least_of, most_of. One row a builtin.
+-- own: `ifelse` warns of arguments by its own rules, so that this table lets it have any number.
 use Rattle.std.specs.Prelude.{ℕ, Bool, true, false, List, [], ◌∷◌, Option, Some, None, find, codes}
 use Rattle.std.specs.Str.{bytes_eq}
 use Rattle.m4_state.specs.declared.builtin.Builtin.{Builtin}
-use Rattle.m4_state.specs.declared.builtin.Builtin.TheVariants.{Define, Undefine, Dnl, Changequote, Changecom, Divert, Undivert, Divnum}
+use Rattle.m4_state.specs.declared.builtin.Builtin.TheVariants.{Define, Undefine, Pushdef, Popdef, Defn, Indir, IndirBuiltin, Ifdef, Ifelse, Shift, Dumpdef, Dnl, Changequote, Changecom, Divert, Undivert, Divnum}
+
+-- how a builtin is called
+pub record Row : Type 0 where
+  -- its own name
+  pub name : List ℕ
+  -- whether it is recognised only with parameters
+  pub needs_args : Bool
+  -- whether a definition that is an argument is taken as such, and not as an empty text
+  pub takes_tokens : Bool
+  -- how many arguments it has at least
+  pub least : ℕ
+  -- how many arguments it has at most; none where any number is right
+  pub most : Option ℕ
+
+-- a row of the table, its columns in the order above
+abbrev pub called : List ℕ → Bool → Bool → ℕ → Option ℕ → Row
+called name needs_args takes_tokens least most = record {
+  name = name;
+  needs_args = needs_args;
+  takes_tokens = takes_tokens;
+  least = least;
+  most = most;
+}
+
+-- the table
+abbrev pub row_of : Builtin → Row
+row_of Define = called (codes "define") true true 1 (Some 2)
+row_of Undefine = called (codes "undefine") true false 1 None
+row_of Pushdef = called (codes "pushdef") true true 1 (Some 2)
+row_of Popdef = called (codes "popdef") true false 1 None
+row_of Defn = called (codes "defn") true false 1 None
+row_of Indir = called (codes "indir") true true 1 None
+row_of IndirBuiltin = called (codes "builtin") true true 1 None
+row_of Ifdef = called (codes "ifdef") true false 2 (Some 3)
+row_of Ifelse = called (codes "ifelse") true false 0 None
+row_of Shift = called (codes "shift") true false 0 None
+row_of Dumpdef = called (codes "dumpdef") false false 0 None
+row_of Dnl = called (codes "dnl") false false 0 (Some 0)
+row_of Changequote = called (codes "changequote") false false 0 (Some 2)
+row_of Changecom = called (codes "changecom") false false 0 (Some 2)
+row_of Divert = called (codes "divert") false false 0 (Some 1)
+row_of Undivert = called (codes "undivert") false false 0 None
+row_of Divnum = called (codes "divnum") false false 0 (Some 0)
 
 -- the builtins of the table
 abbrev pub table : List Builtin
 table =
-    Define ∷ Undefine ∷ Dnl ∷ Changequote ∷ Changecom ∷ Divert ∷ Undivert ∷ Divnum ∷ []
+    Define ∷ Undefine ∷ Pushdef ∷ Popdef ∷ Defn ∷ Indir ∷ IndirBuiltin ∷ Ifdef ∷ Ifelse ∷ Shift ∷
+    Dumpdef ∷ Dnl ∷ Changequote ∷ Changecom ∷ Divert ∷ Undivert ∷ Divnum ∷ []
 
--- a builtin's own name
+-- its columns
 abbrev pub name_of : Builtin → List ℕ
-name_of Define = codes "define"
-name_of Undefine = codes "undefine"
-name_of Dnl = codes "dnl"
-name_of Changequote = codes "changequote"
-name_of Changecom = codes "changecom"
-name_of Divert = codes "divert"
-name_of Undivert = codes "undivert"
-name_of Divnum = codes "divnum"
+name_of b = (row_of b).name
 
--- whether it is recognised only with parameters
 abbrev pub needs_args : Builtin → Bool
-needs_args Define = true
-needs_args Undefine = true
-needs_args Dnl = false
-needs_args Changequote = false
-needs_args Changecom = false
-needs_args Divert = false
-needs_args Undivert = false
-needs_args Divnum = false
+needs_args b = (row_of b).needs_args
 
--- whether a definition that is an argument is taken as such, and not as an empty text
 abbrev pub takes_tokens : Builtin → Bool
-takes_tokens Define = true
-takes_tokens Undefine = false
-takes_tokens Dnl = false
-takes_tokens Changequote = false
-takes_tokens Changecom = false
-takes_tokens Divert = false
-takes_tokens Undivert = false
-takes_tokens Divnum = false
+takes_tokens b = (row_of b).takes_tokens
 
--- how many arguments it has at least
 abbrev pub least_of : Builtin → ℕ
-least_of Define = 1
-least_of Undefine = 1
-least_of Dnl = 0
-least_of Changequote = 0
-least_of Changecom = 0
-least_of Divert = 0
-least_of Undivert = 0
-least_of Divnum = 0
+least_of b = (row_of b).least
 
--- how many arguments it has at most; none where any number is right
 abbrev pub most_of : Builtin → Option ℕ
-most_of Define = Some 2
-most_of Undefine = None
-most_of Dnl = Some 0
-most_of Changequote = Some 2
-most_of Changecom = Some 2
-most_of Divert = Some 1
-most_of Undivert = None
-most_of Divnum = Some 0
+most_of b = (row_of b).most
 
 -- the builtin that bears the name
 abbrev pub builtin_named : List ℕ → Option Builtin

@@ -1,8 +1,8 @@
 -- State: what is known between two steps of a run, as one record of lists.
 -- Believed. Manual: "Defining a macro", "Temporarily redefining macros", "Changing the quote
 -- characters", "Changing the comment delimiters", "Diverting and undiverting output".
--- Words: State, stack_of, pushed, defined, undefined, with_quotes, with_comments, diverted, appended,
--- undiverted, issued_from, IsState, IsSized.
+-- Words: State, stack_of, pushed, popped, defined, undefined, with_quotes, with_comments, diverted,
+-- appended, undiverted, issued_from, IsState, IsSized.
 -- A list with rising keys is the one list of its finite map: equal states are equal records.
 use Rattle.std.specs.Prelude.{◌≢◌, ◌<◌, ◌^◌, ◌-◌, ℕ, ℤ, pos, Bool, not, List, [], ◌∷◌, ◌++◌, length, map, Option, Some, None, IsTrue, unwrap_or, slice_get, if◌then◌else◌, FitsSigned, int_lt}
 use Rattle.std.specs.Int.{w32}
@@ -12,7 +12,7 @@ use Rattle.std.specs.FinMap.{find, put, is_sorted}
 use Rattle.m4_state.specs.declared.definition.Def.{Def}
 use Rattle.m4_state.specs.declared.delimiters.Delimiters.{Delimiters}
 use Rattle.m4_state.specs.Delimiters.{default_quotes, default_comments, chosen, IsPaired, IsSizedPair}
-use Rattle.m4_state.specs.Table.{Pairs, stack_at, with_push, with_top, without, IsTable, IsSizedTable}
+use Rattle.m4_state.specs.Table.{Pairs, stack_at, with_push, with_top, without, without_top, IsTable, IsSizedTable}
 
 -- a diversion's number and its text
 abbrev pub Diversion : Type 0
@@ -59,6 +59,10 @@ pushed s name d = record s { table = with_push s.table name d }
 -- with another definition in place of the one on top of a name's, or the first one
 abbrev pub defined : State → List ℕ → Def → State
 defined s name d = record s { table = with_top s.table name d }
+
+-- without the definition on top of a name's; nothing changes where it has none
+abbrev pub popped : State → List ℕ → State
+popped s name = record s { table = without_top s.table name }
 
 -- without a name's definitions
 abbrev pub undefined : State → List ℕ → State

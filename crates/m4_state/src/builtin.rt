@@ -1,9 +1,12 @@
 //! The builtins that this processor has. One that a frozen file names and that isn't among them is
 //! kept as a placeholder. Manual: "Builtins".
 //!
-//! The columns are those of `specs/Builtin.antt`, which the definitions read too.
+//! The table has one row a builtin, here and in `specs/Builtin.antt`.
 
 ghost use Rattle.std.specs.Prelude.{◌≡◌};
+ghost use Rattle.m4_state.specs.Builtin.{called};
+
+use std::marker::Model;
 
 /// A builtin of the table.
 #[derive(Clone, Copy, Debug, PartialEq, Eq)]
@@ -12,6 +15,24 @@ pub enum Builtin {
     Define,
     /// Takes all definitions of names away. Manual: "Deleting a macro".
     Undefine,
+    /// Puts a definition on top of those of a name. Manual: "Temporarily redefining macros".
+    Pushdef,
+    /// Takes the definition on top of each name away. Manual: "Temporarily redefining macros".
+    Popdef,
+    /// Gives the definitions of names. Manual: "Renaming macros".
+    Defn,
+    /// Calls the macro of any name. Manual: "Indirect call of macros".
+    Indir,
+    /// Calls a builtin by its own name. Manual: "Indirect call of builtins".
+    IndirBuiltin,
+    /// Chooses by whether a name has a definition. Manual: "Testing if a macro is defined".
+    Ifdef,
+    /// Chooses by comparing texts. Manual: "If-else construct, or multibranch".
+    Ifelse,
+    /// Gives all arguments but the first. Manual: "Recursion in m4".
+    Shift,
+    /// Shows definitions on the messages. Manual: "Displaying macro definitions".
+    Dumpdef,
     /// Drops the rest of the line. Manual: "Deleting whitespace in input".
     Dnl,
     /// Chooses the quotes. Manual: "Changing the quote characters".
@@ -26,13 +47,59 @@ pub enum Builtin {
     Divnum,
 }
 
+/// How a builtin is called: its row of the table.
+#[derive(Drop)]
+struct Row {
+    name: &'static [u8],
+    needs_args: bool,
+    takes_tokens: bool,
+    least: usize,
+    most: Option<usize>,
+}
+
+impl Model for Row {
+    ghost use Rattle.m4_state.specs.Builtin.{Row as Record, called};
+
+    ghost Value = { Record };
+
+    ghost view = { λ r. called r.name.now r.needs_args r.takes_tokens r.least r.most };
+}
+
+/// A row of the table, its columns in the order of its fields.
+fn called(
+    name: &'static [u8],
+    needs_args: bool,
+    takes_tokens: bool,
+    least: usize,
+    most: Option<usize>,
+) -> Row
+    ensures { result ≡ called name.now needs_args takes_tokens least most }
+{
+    Row {
+        name,
+        needs_args,
+        takes_tokens,
+        least,
+        most,
+    }
+}
+
 impl Builtin {
-    ghost use Rattle.m4_state.specs.Builtin.{table, builtin_named, name_of, needs_args, takes_tokens, least_of, most_of};
+    ghost use Rattle.m4_state.specs.Builtin.{row_of, builtin_named, name_of, needs_args, takes_tokens, least_of, most_of};
 
     /// All of them.
-    pub const TABLE: [Builtin; 8] = [
+    pub const TABLE: [Builtin; 17] = [
         Builtin::Define,
         Builtin::Undefine,
+        Builtin::Pushdef,
+        Builtin::Popdef,
+        Builtin::Defn,
+        Builtin::Indir,
+        Builtin::IndirBuiltin,
+        Builtin::Ifdef,
+        Builtin::Ifelse,
+        Builtin::Shift,
+        Builtin::Dumpdef,
         Builtin::Dnl,
         Builtin::Changequote,
         Builtin::Changecom,
@@ -45,16 +112,36 @@ impl Builtin {
     pub fn by_name(name: &[u8]) -> Option<Builtin>
         ensures { result ≡ builtin_named name.now }
     {
-        match name {
-            b"define" => Some(Builtin::Define),
-            b"undefine" => Some(Builtin::Undefine),
-            b"dnl" => Some(Builtin::Dnl),
-            b"changequote" => Some(Builtin::Changequote),
-            b"changecom" => Some(Builtin::Changecom),
-            b"divert" => Some(Builtin::Divert),
-            b"undivert" => Some(Builtin::Undivert),
-            b"divnum" => Some(Builtin::Divnum),
-            _ => None,
+        for builtin in Builtin::TABLE {
+            if builtin.name() == name {
+                return Some(builtin);
+            }
+        }
+        None
+    }
+
+    /// The builtin's row.
+    fn row(self) -> Row
+        ensures { result ≡ row_of self }
+    {
+        match self {
+            Builtin::Define => called(b"define", true, true, 1, Some(2)),
+            Builtin::Undefine => called(b"undefine", true, false, 1, None),
+            Builtin::Pushdef => called(b"pushdef", true, true, 1, Some(2)),
+            Builtin::Popdef => called(b"popdef", true, false, 1, None),
+            Builtin::Defn => called(b"defn", true, false, 1, None),
+            Builtin::Indir => called(b"indir", true, true, 1, None),
+            Builtin::IndirBuiltin => called(b"builtin", true, true, 1, None),
+            Builtin::Ifdef => called(b"ifdef", true, false, 2, Some(3)),
+            Builtin::Ifelse => called(b"ifelse", true, false, 0, None),
+            Builtin::Shift => called(b"shift", true, false, 0, None),
+            Builtin::Dumpdef => called(b"dumpdef", false, false, 0, None),
+            Builtin::Dnl => called(b"dnl", false, false, 0, Some(0)),
+            Builtin::Changequote => called(b"changequote", false, false, 0, Some(2)),
+            Builtin::Changecom => called(b"changecom", false, false, 0, Some(2)),
+            Builtin::Divert => called(b"divert", false, false, 0, Some(1)),
+            Builtin::Undivert => called(b"undivert", false, false, 0, None),
+            Builtin::Divnum => called(b"divnum", false, false, 0, Some(0)),
         }
     }
 
@@ -62,73 +149,34 @@ impl Builtin {
     pub fn name(self) -> &'static [u8]
         ensures { result.now ≡ name_of self }
     {
-        match self {
-            Builtin::Define => b"define",
-            Builtin::Undefine => b"undefine",
-            Builtin::Dnl => b"dnl",
-            Builtin::Changequote => b"changequote",
-            Builtin::Changecom => b"changecom",
-            Builtin::Divert => b"divert",
-            Builtin::Undivert => b"undivert",
-            Builtin::Divnum => b"divnum",
-        }
+        self.row().name
     }
 
     /// Whether it is recognised only with parameters.
     pub fn needs_args(self) -> bool
         ensures { result ≡ needs_args self }
     {
-        match self {
-            Builtin::Define | Builtin::Undefine => true,
-            Builtin::Dnl
-            | Builtin::Changequote
-            | Builtin::Changecom
-            | Builtin::Divert
-            | Builtin::Undivert
-            | Builtin::Divnum => false,
-        }
+        self.row().needs_args
     }
 
     /// Whether a definition that is an argument is taken as such, and not as an empty text.
     pub fn takes_tokens(self) -> bool
         ensures { result ≡ takes_tokens self }
     {
-        match self {
-            Builtin::Define => true,
-            Builtin::Undefine
-            | Builtin::Dnl
-            | Builtin::Changequote
-            | Builtin::Changecom
-            | Builtin::Divert
-            | Builtin::Undivert
-            | Builtin::Divnum => false,
-        }
+        self.row().takes_tokens
     }
 
     /// How many arguments it has at least.
     pub fn least_args(self) -> usize
         ensures { result ≡ least_of self }
     {
-        match self {
-            Builtin::Define | Builtin::Undefine => 1,
-            Builtin::Dnl
-            | Builtin::Changequote
-            | Builtin::Changecom
-            | Builtin::Divert
-            | Builtin::Undivert
-            | Builtin::Divnum => 0,
-        }
+        self.row().least
     }
 
     /// How many arguments it has at most; none where any number is right.
     pub fn most_args(self) -> Option<usize>
         ensures { result ≡ most_of self }
     {
-        match self {
-            Builtin::Define | Builtin::Changequote | Builtin::Changecom => Some(2),
-            Builtin::Divert => Some(1),
-            Builtin::Undefine | Builtin::Undivert => None,
-            Builtin::Dnl | Builtin::Divnum => Some(0),
-        }
+        self.row().most
     }
 }

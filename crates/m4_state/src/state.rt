@@ -54,7 +54,7 @@ impl Drop for State {
 impl State {
     ghost use Rattle.m4_state.specs.Definition.{IsDefinition};
     ghost use Rattle.m4_state.specs.Fresh.{fresh, with_builtin};
-    ghost use Rattle.m4_state.specs.State.{IsState, IsSized, empty, names_of, stack_of, top_of, pushed, defined, undefined, with_quotes, with_comments, diverted, appended, undiverted, issued_from, unless_empty, diversion_of, next_after};
+    ghost use Rattle.m4_state.specs.State.{IsState, IsSized, empty, names_of, stack_of, top_of, pushed, popped, defined, undefined, with_quotes, with_comments, diverted, appended, undiverted, issued_from, unless_empty, diversion_of, next_after};
 
     /// No names, no diversions, the default delimiters.
     pub fn empty(alloc: Global) -> Result<State, StateFault>
@@ -152,6 +152,15 @@ impl State {
         ensures { self.new ≡ undefined self.old name.now }
     {
         self.table.undefine(name);
+    }
+
+    /// Takes the definition on top of a name's away, if it has any. Takes no memory. Manual:
+    /// "Temporarily redefining macros".
+    pub fn pop(&mut self, name: &[u8])
+        // exact steps: the whole new record
+        ensures { self.new ≡ popped self.old name.now }
+    {
+        self.table.pop(name);
     }
 
     /// The begin and the end of quotes; both are empty where they are disabled.
