@@ -1,25 +1,41 @@
 -- ActKeeps: a call leaves a state in order in order, and pushes definitions in order.
-use Rattle.std.proofs.Common.{ℕ, ℤ, pos, Bool, true, false, List, [], ◌∷◌, length, fold, rules}
-use Rattle.std.specs.Prelude.{nat_lt, filter_map}
+use Rattle.std.proofs.Common.{◌≡◌, ℕ, Bool, true, false, List, [], ◌∷◌, Option, Some, None, length, refl, rules}
+use Rattle.std.specs.Prelude.{nat_lt, nat_le, ℤ, pos, negsuc, FitsSigned, filter_map, if◌then◌else◌}
+use Rattle.std.specs.Int.{w32}
 use Rattle.std.specs.List.{AllByRecursion}
 use Rattle.m4_state.specs.declared.builtin.Builtin.{Builtin}
-use Rattle.m4_state.specs.declared.builtin.Builtin.TheVariants.{Define, Undefine, Dnl, Changequote, Changecom, Divert, Undivert, Divnum}
+use Rattle.m4_state.specs.declared.builtin.Builtin.TheVariants.{Define, Undefine, Pushdef, Popdef, Defn, Indir, IndirBuiltin, Ifdef, Ifelse, Shift, Dumpdef, Dnl, Changequote, Changecom, Divert, Undivert, Divnum}
 use Rattle.m4_state.specs.declared.definition.Def.{Def}
 use Rattle.m4_state.specs.declared.definition.Def.TheVariants as defs
+use Rattle.m4_state.specs.declared.delimiters.Delimiters.{Delimiters}
 use Rattle.m4_state.specs.Definition.{IsDefinition}
-use Rattle.m4_state.specs.Builtin.{takes_tokens, least_of}
-use Rattle.m4_state.specs.State.{State, undefined, undiverted, IsState}
-use Rattle.m4_state.proofs.StaysInOrder.{IsState-defined, IsState-undefined, IsState-with_quotes, IsState-with_comments, IsState-default_quotes, IsState-diverted, IsState-undiverted}
+use Rattle.m4_state.specs.Builtin.{takes_tokens, least_of, builtin_named}
+use Rattle.m4_state.specs.State.{State, top_of, popped, undefined, diverted, undiverted, IsState}
+use Rattle.m4_state.proofs.StaysInOrder.{IsState-defined, IsState-pushed, IsState-popped, IsState-undefined, IsState-with_quotes, IsState-with_comments, IsState-default_quotes, IsState-diverted, IsState-undiverted, top_definition}
 use Rattle.m4_builtins.specs.declared.args.Arg.{Arg}
 use Rattle.m4_builtins.specs.declared.args.Arg.TheVariants as args
-use Rattle.m4_builtins.specs.declared.place.Place.{Place}
-use Rattle.m4_builtins.specs.Args.{IsArg, text_of_arg, definition_of_arg, text_at}
 use Rattle.m4_builtins.specs.declared.number.Reading.{Reading}
 use Rattle.m4_builtins.specs.declared.number.Reading.TheVariants.{Number, Empty, NotNumeric}
-use Rattle.m4_builtins.specs.Diverting.{divert, diverted_if, undivert, brought_back, held_numbers, readings_of}
+use Rattle.m4_builtins.specs.declared.place.Place.{Place}
+use Rattle.m4_builtins.specs.Args.{IsArg, text_of_arg, definition_of_arg, text_at}
+use Rattle.m4_builtins.specs.Acted.{Acted, IsPushed}
 use Rattle.m4_builtins.specs.Numeric.{reading_of, number_of_reading}
+use Rattle.m4_builtins.specs.Naming.{define, pushdef, for_each, definition_in, definition_given, defn}
+use Rattle.m4_builtins.specs.Branching.{ifelse}
+use Rattle.m4_builtins.specs.Delimiting.{changequote}
+use Rattle.m4_builtins.specs.Diverting.{divert, diverted_if, undivert, brought_back, held_numbers, readings_of}
+use Rattle.m4_builtins.specs.Indirect.{Inner, called_by_name, indir, done_by_name, builtin}
+use Rattle.m4_builtins.specs.Act.{row, taken, act_unless, act_with, goes_on, act}
 use Rattle.m4_builtins.proofs.NumbersFit.{IsReading, reading_fits}
-use Rattle.m4_builtins.specs.Act.{IsPushed, act, act_unless, row, define, definition_in, changequote, taken}
+
+-- what a call makes is in order
+pub record IsActed (r : Acted) : Type 0 where
+  pub state : IsState r.state
+  pub push : IsPushed (r.effect).push
+
+-- what an indirect call goes on as leaves everything in order
+abbrev IsInner : Inner → Type 0
+IsInner inner = (d : Def) (name : List ℕ) → IsActed (inner d name)
 
 definition_valid : (a : Arg) → IsArg a → IsDefinition (definition_of_arg a)
 definition_valid (args.Text x) h = tt
@@ -34,84 +50,117 @@ taken_valid true list h = h
 taken_valid false [] h = tt
 taken_valid false (a ∷ list) h = (tt, taken_valid false list h.1)
 
-define_keeps : (list : List Arg) (p : Place) (s : State) → IsState s → AllByRecursion IsArg list → IsState (define list p s).state
-define_keeps [] p s h v = h
-define_keeps (args.Text x ∷ rest) p s h v = IsState-defined s x (definition_in rest) h (second_valid rest v.1)
-define_keeps (args.Definition d ∷ rest) p s h v = h
+module _ (p : Place) where
+  define_is : (list : List Arg) (s : State) → IsState s → AllByRecursion IsArg list → IsActed (define list p s)
+  define_is [] s h v = record { state = h; push = tt }
+  define_is (args.Text x ∷ rest) s h v = record { state = IsState-defined s x (definition_in rest) h (second_valid rest v.1); push = tt }
+  define_is (args.Definition d ∷ rest) s h v = record { state = h; push = tt }
 
-define_pushes : (list : List Arg) (p : Place) (s : State) → IsPushed ((define list p s).effect).push
-define_pushes [] p s = tt
-define_pushes (args.Text x ∷ rest) p s = tt
-define_pushes (args.Definition d ∷ rest) p s = tt
+  pushdef_is : (list : List Arg) (s : State) → IsState s → AllByRecursion IsArg list → IsActed (pushdef list p s)
+  pushdef_is [] s h v = record { state = h; push = tt }
+  pushdef_is (args.Text x ∷ rest) s h v = record { state = IsState-pushed s x (definition_in rest) h (second_valid rest v.1); push = tt }
+  pushdef_is (args.Definition d ∷ rest) s h v = record { state = h; push = tt }
 
-undefine_keeps : (list : List Arg) (s : State) → IsState s → IsState (fold (λ t a. undefined t (text_of_arg a)) s list)
-undefine_keeps [] s h = h
-undefine_keeps (a ∷ list) s h = undefine_keeps list (undefined s (text_of_arg a)) (IsState-undefined s (text_of_arg a) h)
+  given_is : (q : Delimiters) (o : Option Def) → ((d : Def) → o ≡ Some d → IsDefinition d) → IsPushed (Some (definition_given q o))
+  given_is q None h = tt
+  given_is q (Some (defs.Text x)) h = tt
+  given_is q (Some (defs.Builtin b)) h = h (defs.Builtin b) refl
+  given_is q (Some (defs.Placeholder x)) h = h (defs.Placeholder x) refl
 
-quotes_keep : (list : List Arg) (s : State) → IsState s → IsState (changequote list s)
-quotes_keep [] s h = IsState-default_quotes s h
-quotes_keep (a ∷ rest) s h = IsState-with_quotes s (text_of_arg a) (text_at rest 0) h
+  defn_is : (list : List Arg) (s : State) → IsState s → IsActed (defn list p s)
+  defn_is [] s h = record { state = h; push = tt }
+  defn_is (a ∷ []) s h = record { state = h; push = given_is s.quotes (top_of s (text_of_arg a)) (λ d e. top_definition s (text_of_arg a) d h e) }
+  defn_is (a ∷ b ∷ rest) s h = record { state = h; push = tt }
 
--- the state after `divert`, by what its argument is read as
-divert_keeps : (r : Reading) (s : State) → IsState s → IsReading r → IsState (diverted_if s (number_of_reading r))
-divert_keeps (Number n) s h fits = IsState-diverted s n h fits
-divert_keeps Empty s h fits = IsState-diverted s (pos 0) h (search rules)
-divert_keeps NotNumeric s h fits = h
+  ifelse_is : (list : List Arg) (s : State) → IsState s → IsActed (ifelse list p s)
+  ifelse_is [] s h = record { state = h; push = tt }
+  ifelse_is (a ∷ []) s h = record { state = h; push = tt }
+  ifelse_is (a ∷ b ∷ []) s h = record { state = h; push = tt }
+  ifelse_is (a ∷ b ∷ c ∷ rest) s h = record { state = h; push = tt }
 
-diverts_keep : (list : List Arg) (p : Place) (s : State) → IsState s → IsState (divert list p s).state
-diverts_keep [] p s h = IsState-diverted s (pos 0) h (search rules)
-diverts_keep (a ∷ rest) p s h = divert_keeps (reading_of (text_of_arg a)) s h (reading_fits (text_of_arg a))
+  divert_by : (r : Reading) (s : State) → IsState s → IsReading r → IsState (diverted_if s (number_of_reading r))
+  divert_by (Number n) s h fits = IsState-diverted s n h fits
+  divert_by Empty s h fits = IsState-diverted s (pos 0) h (search rules)
+  divert_by NotNumeric s h fits = h
 
-brought_back_keeps : (numbers : List ℤ) (s : State) → IsState s → IsState (brought_back numbers s)
-brought_back_keeps [] s h = h
-brought_back_keeps (n ∷ numbers) s h = brought_back_keeps numbers (undiverted s n) (IsState-undiverted s n h)
+  divert_is : (list : List Arg) (s : State) → IsState s → IsActed (divert list p s)
+  divert_is [] s h = record { state = IsState-diverted s (pos 0) h (search rules); push = tt }
+  divert_is (a ∷ rest) s h = record { state = divert_by (reading_of (text_of_arg a)) s h (reading_fits (text_of_arg a)); push = tt }
 
-undivert_keeps : (list : List Arg) (p : Place) (s : State) → IsState s → IsState (undivert list p s).state
-undivert_keeps [] p s h = brought_back_keeps (held_numbers s) s h
-undivert_keeps (a ∷ rest) p s h = brought_back_keeps (filter_map number_of_reading (readings_of (a ∷ rest))) s h
+  brought_back_is : (numbers : List ℤ) (s : State) → IsState s → IsState (brought_back numbers s)
+  brought_back_is [] s h = h
+  brought_back_is (n ∷ numbers) s h = brought_back_is numbers (undiverted s n) (IsState-undiverted s n h)
 
-row_keeps : (b : Builtin) (list : List Arg) (p : Place) (s : State) → IsState s → AllByRecursion IsArg list → IsState (row b list p s).state
-row_keeps Define list p s h v = define_keeps list p s h v
-row_keeps Undefine list p s h v = undefine_keeps list s h
-row_keeps Dnl list p s h v = h
-row_keeps Changequote list p s h v = quotes_keep list s h
-row_keeps Changecom list p s h v = IsState-with_comments s (text_at list 0) (text_at list 1) h
-row_keeps Divert list p s h v = diverts_keep list p s h
-row_keeps Undivert list p s h v = undivert_keeps list p s h
-row_keeps Divnum list p s h v = h
+  undivert_is : (list : List Arg) (s : State) → IsState s → IsActed (undivert list p s)
+  undivert_is [] s h = record { state = brought_back_is (held_numbers s) s h; push = tt }
+  undivert_is (a ∷ rest) s h = record { state = brought_back_is (filter_map number_of_reading (readings_of (a ∷ rest))) s h; push = tt }
 
-divert_pushes : (list : List Arg) (p : Place) (s : State) → IsPushed ((divert list p s).effect).push
-divert_pushes [] p s = tt
-divert_pushes (a ∷ rest) p s = tt
+  each_is : (change : State → List ℕ → State) → ((s : State) (name : List ℕ) → IsState s → IsState (change s name)) → (list : List Arg) (s : State) → IsState s → IsState (for_each change list s)
+  each_is change keeps [] s h = h
+  each_is change keeps (a ∷ list) s h = each_is change keeps list (change s (text_of_arg a)) (keeps s (text_of_arg a) h)
 
-undivert_pushes : (list : List Arg) (p : Place) (s : State) → IsPushed ((undivert list p s).effect).push
-undivert_pushes [] p s = tt
-undivert_pushes (a ∷ rest) p s = tt
+  quotes_keep : (list : List Arg) (s : State) → IsState s → IsState (changequote list s)
+  quotes_keep [] s h = IsState-default_quotes s h
+  quotes_keep (a ∷ rest) s h = IsState-with_quotes s (text_of_arg a) (text_at rest 0) h
 
-row_pushes : (b : Builtin) (list : List Arg) (p : Place) (s : State) → IsPushed ((row b list p s).effect).push
-row_pushes Define list p s = define_pushes list p s
-row_pushes Undefine list p s = tt
-row_pushes Dnl list p s = tt
-row_pushes Changequote list p s = tt
-row_pushes Changecom list p s = tt
-row_pushes Divert list p s = divert_pushes list p s
-row_pushes Undivert list p s = undivert_pushes list p s
-row_pushes Divnum list p s = tt
+  module _ (inner : Inner) (goes_on : IsInner inner) where
+    called_is : (o : Option Def) (name : List ℕ) (s : State) → IsState s → IsActed (called_by_name inner o name p s)
+    called_is None name s h = record { state = h; push = tt }
+    called_is (Some d) name s h = goes_on d name
 
-unless_keeps : (few : Bool) (b : Builtin) (list : List Arg) (p : Place) (s : State) → IsState s → AllByRecursion IsArg list → IsState (act_unless few b list p s).state
-unless_keeps true b list p s h v = h
-unless_keeps false b list p s h v = row_keeps b (taken (takes_tokens b) list) p s h (taken_valid (takes_tokens b) list v)
+    indir_is : (list : List Arg) (s : State) → IsState s → IsActed (indir inner list p s)
+    indir_is [] s h = record { state = h; push = tt }
+    indir_is (args.Text x ∷ rest) s h = called_is (top_of s x) x s h
+    indir_is (args.Definition d ∷ rest) s h = record { state = h; push = tt }
 
-unless_pushes : (few : Bool) (b : Builtin) (list : List Arg) (p : Place) (s : State) → IsPushed ((act_unless few b list p s).effect).push
-unless_pushes true b list p s = tt
-unless_pushes false b list p s = row_pushes b (taken (takes_tokens b) list) p s
+    done_is : (o : Option Builtin) (name : List ℕ) (s : State) → IsState s → IsActed (done_by_name inner o name p s)
+    done_is None name s h = record { state = h; push = tt }
+    done_is (Some b) name s h = goes_on (defs.Builtin b) name
+
+    builtin_is : (list : List Arg) (s : State) → IsState s → IsActed (builtin inner list p s)
+    builtin_is [] s h = record { state = h; push = tt }
+    builtin_is (args.Text x ∷ rest) s h = done_is (builtin_named x) x s h
+    builtin_is (args.Definition d ∷ rest) s h = record { state = h; push = tt }
+
+    row_is : (b : Builtin) (list : List Arg) (s : State) → IsState s → AllByRecursion IsArg list → IsActed (row inner b list p s)
+    row_is Define list s h v = define_is list s h v
+    row_is Undefine list s h v = record { state = each_is undefined (λ t name is. IsState-undefined t name is) list s h; push = tt }
+    row_is Dnl list s h v = record { state = h; push = tt }
+    row_is Changequote list s h v = record { state = quotes_keep list s h; push = tt }
+    row_is Changecom list s h v = record { state = IsState-with_comments s (text_at list 0) (text_at list 1) h; push = tt }
+    row_is Pushdef list s h v = pushdef_is list s h v
+    row_is Popdef list s h v = record { state = each_is popped (λ t name is. IsState-popped t name is) list s h; push = tt }
+    row_is Defn list s h v = defn_is list s h
+    row_is Indir list s h v = indir_is list s h
+    row_is IndirBuiltin list s h v = builtin_is list s h
+    row_is Ifdef list s h v = record { state = h; push = tt }
+    row_is Ifelse list s h v = ifelse_is list s h
+    row_is Shift list s h v = record { state = h; push = tt }
+    row_is Dumpdef list s h v = record { state = h; push = tt }
+    row_is Divert list s h v = divert_is list s h
+    row_is Undivert list s h v = undivert_is list s h
+    row_is Divnum list s h v = record { state = h; push = tt }
+
+    unless_is : (few : Bool) (b : Builtin) (list : List Arg) (s : State) → IsState s → AllByRecursion IsArg list → IsActed (act_unless inner few b list p s)
+    unless_is true b list s h v = record { state = h; push = tt }
+    unless_is false b list s h v =
+        let done : IsActed (row inner b (taken (takes_tokens b) list) p s) = row_is b (taken (takes_tokens b) list) s h (taken_valid (takes_tokens b) list v) in
+        record { state = done.state; push = done.push }
+
+    with_is : (d : Def) (name : List ℕ) (list : List Arg) (s : State) → IsState s → AllByRecursion IsArg list → IsActed (act_with inner d name list p s)
+    with_is (defs.Text x) name list s h v = record { state = h; push = tt }
+    with_is (defs.Builtin b) name list s h v = unless_is (nat_lt (length list) (least_of b)) b list s h v
+    with_is (defs.Placeholder x) name list s h v = record { state = h; push = tt }
+
+  goes_is : (list : List Arg) (s : State) → IsState s → AllByRecursion IsArg list → IsInner (goes_on list p s)
+  goes_is [] s h v d name = record { state = h; push = tt }
+  goes_is (a ∷ rest) s h v d name = with_is (goes_on rest p s) (goes_is rest s h v.1) d name rest s h v.1
+
+  acts : (list : List Arg) (d : Def) (name : List ℕ) (s : State) → IsState s → AllByRecursion IsArg list → IsActed (act d name list p s)
+  acts list d name s h v = with_is (goes_on list p s) (goes_is list s h v) d name list s h v
 
 pub act_keeps : (d : Def) (name : List ℕ) (list : List Arg) (p : Place) (s : State) → IsState s → AllByRecursion IsArg list → IsState (act d name list p s).state
-act_keeps (defs.Text x) name list p s h v = h
-act_keeps (defs.Builtin b) name list p s h v = unless_keeps (nat_lt (length list) (least_of b)) b list p s h v
-act_keeps (defs.Placeholder x) name list p s h v = h
+act_keeps d name list p s h v = (acts p list d name s h v).state
 
-pub act_pushes : (d : Def) (name : List ℕ) (list : List Arg) (p : Place) (s : State) → IsPushed ((act d name list p s).effect).push
-act_pushes (defs.Text x) name list p s = tt
-act_pushes (defs.Builtin b) name list p s = unless_pushes (nat_lt (length list) (least_of b)) b list p s
-act_pushes (defs.Placeholder x) name list p s = tt
+pub act_pushes : (d : Def) (name : List ℕ) (list : List Arg) (p : Place) (s : State) → IsState s → AllByRecursion IsArg list → IsPushed ((act d name list p s).effect).push
+act_pushes d name list p s h v = (acts p list d name s h v).push

@@ -1,35 +1,83 @@
 -- RowsTaken: a builtin reads its arguments alike, whether their definitions were emptied before or
 -- count as empty as they are read. So a call does what the row does with the arguments as they are.
-use Rattle.std.proofs.Common.{◌≡◌, ℕ, Bool, true, false, List, [], ◌∷◌, ◌++◌, map, fold, length, refl, sym, ap, ◌∙◌}
-use Rattle.std.specs.Prelude.{slice_get, nat_lt, filter_map, flat_map}
+use Rattle.std.proofs.Common.{◌≡◌, ℕ, suc, Bool, true, false, List, [], ◌∷◌, ◌++◌, Option, Some, None, map, length, refl, sym, ap, ◌∙◌}
+use Rattle.std.specs.Prelude.{slice_get, nat_lt, flat_map, filter_map}
 use Rattle.m4_state.specs.declared.builtin.Builtin.{Builtin}
-use Rattle.m4_state.specs.declared.builtin.Builtin.TheVariants.{Define, Undefine, Dnl, Changequote, Changecom, Divert, Undivert, Divnum}
+use Rattle.m4_state.specs.declared.builtin.Builtin.TheVariants.{Define, Undefine, Pushdef, Popdef, Defn, Indir, IndirBuiltin, Ifdef, Ifelse, Shift, Dumpdef, Dnl, Changequote, Changecom, Divert, Undivert, Divnum}
+use Rattle.m4_state.specs.declared.definition.Def.{Def}
 use Rattle.m4_state.specs.Builtin.{takes_tokens, least_of, most_of}
-use Rattle.m4_state.specs.State.{State, undefined, with_quotes, with_comments}
+use Rattle.m4_state.specs.State.{State, popped, undefined, with_quotes, with_comments, top_of}
 use Rattle.m4_builtins.specs.declared.args.Arg.{Arg}
 use Rattle.m4_builtins.specs.declared.effect.Effect.{Effect}
-use Rattle.m4_builtins.specs.declared.place.Place.{Place}
-use Rattle.m4_builtins.specs.Args.{text_of_arg, only_text, text_at, or_empty}
-use Rattle.m4_builtins.specs.Messages.{excess}
 use Rattle.m4_builtins.specs.declared.number.Reading.{Reading}
-use Rattle.m4_builtins.specs.Diverting.{divert, undivert, readings_of, brings_back}
+use Rattle.m4_builtins.specs.declared.place.Place.{Place}
+use Rattle.m4_builtins.specs.Args.{text_of_arg, texts_of, only_text, text_at, or_empty}
+use Rattle.m4_builtins.specs.Acted.{Acted, changes, tells, expands, telling_first}
+use Rattle.m4_builtins.specs.Messages.{excess}
 use Rattle.m4_builtins.specs.Numeric.{reading_of, number_of_reading, reading_warning}
-use Rattle.m4_builtins.specs.Act.{Acted, changes, row, changequote, taken, act_unless, is_above, telling_first, excess_if}
+use Rattle.m4_builtins.specs.Subst.{all_quoted}
+use Rattle.m4_builtins.specs.Naming.{for_each, defn, text_given, left_out}
+use Rattle.m4_builtins.specs.Branching.{ifdef, ifdef_by, ifelse, chosen, has_extra, extra_warning, shift}
+use Rattle.m4_builtins.specs.Delimiting.{changequote}
+use Rattle.m4_builtins.specs.Diverting.{divert, undivert, readings_of, brings_back}
+use Rattle.m4_builtins.specs.Printing.{dumpdef, dumped}
+use Rattle.m4_builtins.specs.Indirect.{Inner}
+use Rattle.m4_builtins.specs.Act.{row, taken, act_unless, is_above, excess_if}
 
-texts_taken : (list : List Arg) → map text_of_arg (map only_text list) ≡ map text_of_arg list
+texts_taken : (list : List Arg) → texts_of (map only_text list) ≡ texts_of list
 texts_taken [] = refl
 texts_taken (a ∷ list) = ap (λ (texts : List (List ℕ)). text_of_arg a ∷ texts) (texts_taken list)
 
 text_taken : (list : List Arg) (n : ℕ) → text_at (map only_text list) n ≡ text_at list n
 text_taken list n = ap (λ (texts : List (List ℕ)). or_empty (slice_get texts n)) (texts_taken list)
 
-undefine_taken : (list : List Arg) (s : State) → fold (λ t a. undefined t (text_of_arg a)) s (map only_text list) ≡ fold (λ t a. undefined t (text_of_arg a)) s list
-undefine_taken [] s = refl
-undefine_taken (a ∷ list) s = undefine_taken list (undefined s (text_of_arg a))
+length_taken : (list : List Arg) → length (map only_text list) ≡ length list
+length_taken [] = refl
+length_taken (a ∷ list) = ap (λ (n : ℕ). suc n) (length_taken list)
+
+each_taken : (change : State → List ℕ → State) (list : List Arg) (s : State) → for_each change (map only_text list) s ≡ for_each change list s
+each_taken change [] s = refl
+each_taken change (a ∷ list) s = each_taken change list (change s (text_of_arg a))
 
 changequote_taken : (list : List Arg) (s : State) → changequote (map only_text list) s ≡ changequote list s
 changequote_taken [] s = refl
 changequote_taken (a ∷ rest) s = ap (λ (end : List ℕ). with_quotes s (text_of_arg a) end) (text_taken rest 0)
+
+-- several names of `defn`
+abbrev several : Place → State → List (List ℕ) → Acted
+several p s names =
+    telling_first (flat_map (left_out p) (map (top_of s) names))
+    (expands s (flat_map (text_given s.quotes) (map (top_of s) names)))
+
+defn_taken : (list : List Arg) (p : Place) (s : State) → defn (map only_text list) p s ≡ defn list p s
+defn_taken [] p s = refl
+defn_taken (a ∷ []) p s = refl
+defn_taken (a ∷ b ∷ rest) p s = ap (λ (texts : List (List ℕ)). several p s (text_of_arg a ∷ text_of_arg b ∷ texts)) (texts_taken rest)
+
+dumpdef_taken : (list : List Arg) (p : Place) (s : State) → dumpdef (map only_text list) p s ≡ dumpdef list p s
+dumpdef_taken [] p s = refl
+dumpdef_taken (a ∷ rest) p s = ap (λ (texts : List (List ℕ)). tells s (dumped (text_of_arg a ∷ texts) p s)) (texts_taken rest)
+
+ifdef_by_taken : (o : Option Def) (list : List Arg) → ifdef_by o (map only_text list) ≡ ifdef_by o list
+ifdef_by_taken None list = text_taken list 2
+ifdef_by_taken (Some d) list = text_taken list 1
+
+ifdef_taken : (list : List Arg) (s : State) → ifdef (map only_text list) s ≡ ifdef list s
+ifdef_taken list s =
+    ap (λ (name : List ℕ). expands s (ifdef_by (top_of s name) (map only_text list))) (text_taken list 0)
+    ∙ ap (λ (x : List ℕ). expands s x) (ifdef_by_taken (top_of s (text_at list 0)) list)
+
+ifelse_taken : (list : List Arg) (p : Place) (s : State) → ifelse (map only_text list) p s ≡ ifelse list p s
+ifelse_taken [] p s = refl
+ifelse_taken (a ∷ []) p s = refl
+ifelse_taken (a ∷ b ∷ []) p s = refl
+ifelse_taken (a ∷ b ∷ c ∷ rest) p s = λ i.
+    telling_first (extra_warning p (has_extra (suc (suc (suc (length_taken rest i))))))
+    (expands s (chosen (text_of_arg a ∷ text_of_arg b ∷ text_of_arg c ∷ texts_taken rest i)))
+
+shift_taken : (list : List Arg) (s : State) → shift (map only_text list) s ≡ shift list s
+shift_taken [] s = refl
+shift_taken (a ∷ rest) s = ap (λ (texts : List (List ℕ)). expands s (all_quoted s.quotes texts)) (texts_taken rest)
 
 divert_taken : (list : List Arg) (p : Place) (s : State) → divert (map only_text list) p s ≡ divert list p s
 divert_taken [] p s = refl
@@ -44,30 +92,43 @@ undivert_taken [] p s = refl
 undivert_taken (a ∷ rest) p s =
     ap (λ (rs : List Reading). brings_back (filter_map number_of_reading rs) (flat_map (reading_warning p Undivert) rs) s) (readings_taken (a ∷ rest))
 
-pub row_taken : (b : Builtin) (list : List Arg) (p : Place) (s : State) → row b (taken (takes_tokens b) list) p s ≡ row b list p s
-row_taken Define list p s = refl
-row_taken Undefine list p s = ap changes (undefine_taken list s)
-row_taken Dnl list p s = refl
-row_taken Changequote list p s = ap changes (changequote_taken list s)
-row_taken Divert list p s = divert_taken list p s
-row_taken Undivert list p s = undivert_taken list p s
-row_taken Divnum list p s = refl
-row_taken Changecom list p s = λ i. changes (with_comments s (text_taken list 0 i) (text_taken list 1 i))
+pub row_taken : (inner : Inner) (b : Builtin) (list : List Arg) (p : Place) (s : State) → row inner b (taken (takes_tokens b) list) p s ≡ row inner b list p s
+row_taken inner Define list p s = refl
+row_taken inner Undefine list p s = ap changes (each_taken undefined list s)
+row_taken inner Pushdef list p s = refl
+row_taken inner Popdef list p s = ap changes (each_taken popped list s)
+row_taken inner Defn list p s = defn_taken list p s
+row_taken inner Indir list p s = refl
+row_taken inner IndirBuiltin list p s = refl
+row_taken inner Ifdef list p s = ifdef_taken list s
+row_taken inner Ifelse list p s = ifelse_taken list p s
+row_taken inner Shift list p s = shift_taken list s
+row_taken inner Dumpdef list p s = dumpdef_taken list p s
+row_taken inner Dnl list p s = refl
+row_taken inner Changequote list p s = ap changes (changequote_taken list s)
+row_taken inner Changecom list p s = λ i. changes (with_comments s (text_taken list 0 i) (text_taken list 1 i))
+row_taken inner Divert list p s = divert_taken list p s
+row_taken inner Undivert list p s = undivert_taken list p s
+row_taken inner Divnum list p s = refl
 
-module _ (b : Builtin) (list : List Arg) (p : Place) (s t : State) (e : Effect) (enough : nat_lt (length list) (least_of b) ≡ false) (does : row b list p s ≡ record { state = t; effect = e }) where
-  acts : (above : Bool) → is_above (most_of b) (length list) ≡ above → act_unless (nat_lt (length list) (least_of b)) b list p s ≡ telling_first (excess_if above p b) (record { state = t; effect = e })
+-- with arguments that are enough, and not too many
+pub acts_plainly : (inner : Inner) (b : Builtin) (list : List Arg) (p : Place) (s : State) → nat_lt (length list) (least_of b) ≡ false → is_above (most_of b) (length list) ≡ false
+    → act_unless inner (nat_lt (length list) (least_of b)) b list p s ≡ row inner b list p s
+acts_plainly inner b list p s enough is =
+    ap (λ (few : Bool). act_unless inner few b list p s) enough
+    ∙ ap (λ (r : Acted). telling_first (excess_if (is_above (most_of b) (length list)) p b) r) (row_taken inner b list p s)
+    ∙ ap (λ (more : Bool). telling_first (excess_if more p b) (row inner b list p s)) is
+
+module _ (inner : Inner) (b : Builtin) (list : List Arg) (p : Place) (s t : State) (e : Effect) (enough : nat_lt (length list) (least_of b) ≡ false) (does : row inner b list p s ≡ record { state = t; effect = e }) where
+  acts : (above : Bool) → is_above (most_of b) (length list) ≡ above → act_unless inner (nat_lt (length list) (least_of b)) b list p s ≡ telling_first (excess_if above p b) (record { state = t; effect = e })
   acts above is =
-      ap (λ (few : Bool). act_unless few b list p s) enough
-      ∙ ap (λ (r : Acted). telling_first (excess_if (is_above (most_of b) (length list)) p b) r) (row_taken b list p s ∙ does)
+      ap (λ (few : Bool). act_unless inner few b list p s) enough
+      ∙ ap (λ (r : Acted). telling_first (excess_if (is_above (most_of b) (length list)) p b) r) (row_taken inner b list p s ∙ does)
       ∙ ap (λ (more : Bool). telling_first (excess_if more p b) (record { state = t; effect = e })) is
-
-  -- arguments that are enough, and not too many
-  pub acts_plainly : is_above (most_of b) (length list) ≡ false → act_unless (nat_lt (length list) (least_of b)) b list p s ≡ record { state = t; effect = e }
-  acts_plainly is = acts false is
 
   -- arguments above the most
   pub acts_warning : (message : List ℕ) (f : Effect) → is_above (most_of b) (length list) ≡ true → message ≡ excess p b → f ≡ record e { messages = message ++ e.messages }
-      → act_unless (nat_lt (length list) (least_of b)) b list p s ≡ record { state = t; effect = f }
+      → act_unless inner (nat_lt (length list) (least_of b)) b list p s ≡ record { state = t; effect = f }
   acts_warning message f is told made =
       acts true is ∙ ap (λ (x : List ℕ). telling_first x (record { state = t; effect = e })) (sym told)
       ∙ ap (λ (g : Effect). let r : Acted = record { state = t; effect = g } in r) (sym made)

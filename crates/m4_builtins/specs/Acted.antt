@@ -1,5 +1,5 @@
 -- Acted: the state and the effect of a call, and the forms in which the builtins' rows say them.
--- Believed. Words: Acted, IsPushed, nothing, changes, tells, expands, telling_first.
+-- Believed. Words: Acted, IsPushed, nothing, changes, tells, gives, expands, telling_first.
 use Rattle.std.specs.Prelude.{ℕ, false, List, [], ◌++◌, Option, Some, None}
 use Rattle.m4_state.specs.Definition.{IsDefinition}
 use Rattle.m4_state.specs.State.{State}
@@ -30,9 +30,13 @@ changes s = record { state = s; effect = nothing }
 abbrev pub tells : State → List ℕ → Acted
 tells s message = record { state = s; effect = record nothing { messages = message } }
 
+-- the call expands to a value
+abbrev pub gives : State → Pushed → Acted
+gives s v = record { state = s; effect = record nothing { push = Some v } }
+
 -- the call expands to a text
 abbrev pub expands : State → List ℕ → Acted
-expands s x = record { state = s; effect = record nothing { push = Some (pushes.Text x) } }
+expands s x = gives s (pushes.Text x)
 
 -- with a message in front of the others
 abbrev pub telling_first : List ℕ → Acted → Acted

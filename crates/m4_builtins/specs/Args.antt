@@ -1,6 +1,6 @@
 -- Args: what the arguments of a call give, by their numbers.
 -- Believed. Manual: "Macro arguments". Words: IsArg, text_of_arg, text_at,
--- definition_of_arg, joined, quoted.
+-- texts_of, after_first, definition_of_arg, joined, quoted.
 use Rattle.std.specs.Prelude.{ℕ, List, [], ◌∷◌, ◌++◌, Option, Some, None, slice_get, map}
 use Rattle.m4_state.specs.declared.definition.Def.{Def}
 use Rattle.m4_state.specs.declared.definition.Def.TheVariants as defs
@@ -18,6 +18,15 @@ IsArg (args.Definition d) = IsDefinition d
 abbrev pub text_of_arg : Arg → List ℕ
 text_of_arg (args.Text x) = x
 text_of_arg (args.Definition d) = []
+
+-- arguments as texts
+abbrev pub texts_of : List Arg → List (List ℕ)
+texts_of list = map text_of_arg list
+
+-- the arguments after the first
+abbrev pub after_first : List Arg → List Arg
+after_first [] = []
+after_first (a ∷ rest) = rest
 
 -- an argument of a builtin that takes no definitions
 abbrev pub only_text : Arg → Arg

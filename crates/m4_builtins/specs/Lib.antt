@@ -3,8 +3,14 @@ pub mod Subst
 pub mod Messages
 pub mod Acted
 pub mod Numeric
+pub mod Naming
+pub mod Branching
+pub mod Delimiting
 pub mod Diverting
+pub mod Printing
+pub mod Indirect
 pub mod Act
+pub mod Steps
 pub mod Numbers
 pub mod CallHead
 pub mod HeadView

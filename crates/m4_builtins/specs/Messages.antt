@@ -1,7 +1,7 @@
 -- Messages: every warning that a call gives, each a function of its parts.
 -- Believed. Manual: "Location within input" (where a message says that it comes from).
--- Words: warning, error, too_few, excess, empty_number, not_numeric, unsupported, dropped,
--- bad_name.
+-- Words: warning, error, too_few, excess, empty_number, not_numeric, unknown_macro,
+-- unknown_builtin, unsupported, dropped, bad_name.
 -- own: the texts, and that wrapped text, whose line is 0, tells no place.
 use Rattle.std.specs.Prelude.{ℕ, ◌==◌, List, [], ◌++◌, codes, if◌then◌else◌}
 use Rattle.std.specs.Fmt.{decimal}
@@ -37,6 +37,14 @@ empty_number p b =
 -- M4
 abbrev pub not_numeric : Place → Builtin → List ℕ
 not_numeric p b = warning p (codes "non-numeric argument to builtin `" ++ name_of b ++ codes "'")
+
+-- M5
+abbrev pub unknown_macro : Place → List ℕ → List ℕ
+unknown_macro p name = warning p (codes "undefined macro `" ++ name ++ codes "'")
+
+-- M6
+abbrev pub unknown_builtin : Place → List ℕ → List ℕ
+unknown_builtin p name = warning p (codes "undefined builtin `" ++ name ++ codes "'")
 
 -- M7
 abbrev pub unsupported : Place → List ℕ → List ℕ

@@ -1,5 +1,5 @@
 -- Subst: a text definition with the arguments of a call put in.
--- Believed. Manual: "Arguments to macros", "Special arguments to macros". Words: piece, subst.
+-- Believed. Manual: "Arguments to macros", "Special arguments to macros". Words: piece, all_quoted, subst.
 -- own: `$` and the longest run of digits is one number.
 use Rattle.std.specs.Prelude.{ℕ, zero, suc, ◌+◌, ◌-◌, ◌*◌, ◌==◌, List, [], ◌∷◌, ◌++◌, length, take, fold, map, if◌then◌else◌, slice_get}
 use Rattle.std.specs.Fmt.{decimal}
@@ -22,6 +22,10 @@ nth_text name texts (suc n) = or_empty (slice_get texts n)
 abbrev pub with_commas : List (List ℕ) → List ℕ
 with_commas texts = joined (comma ∷ []) texts
 
+-- the arguments joined by commas, each between quotes: `$@`, and what `shift` gives of the others
+abbrev pub all_quoted : Delimiters → List (List ℕ) → List ℕ
+all_quoted q texts = with_commas (map (quoted q) texts)
+
 -- what a `$` stands for before these bytes, and how many of them belong to it
 abbrev pub behind_dollar : List ℕ → List (List ℕ) → Delimiters → List ℕ → List ℕ × ℕ
 behind_dollar name texts q [] = (dollar ∷ [], 0)
@@ -33,7 +37,7 @@ behind_dollar name texts q (b ∷ x) =
     else (
     if b == star then (with_commas texts, 1)
     else (
-    if b == at_sign then (with_commas (map (quoted q) texts), 1) else (dollar ∷ [], 0)
+    if b == at_sign then (all_quoted q texts, 1) else (dollar ∷ [], 0)
     )
     )
     )

@@ -1,19 +1,26 @@
-//! What a call does: a text expands, a builtin acts with its arguments, a placeholder only warns.
+//! What a call does: a text expands, a builtin acts with its arguments, a placeholder only warns. Each
+//! builtin has one line in [`row`], and its function in the module of its chapter.
 
-ghost use Rattle.std.specs.Prelude.{◌≡◌, ◌++◌, IfOk, length, nat_lt};
+ghost use Rattle.std.specs.Prelude.{◌≡◌, ◌++◌, IfOk, [], length, nat_lt};
 ghost use Rattle.std.specs.List.{AllByRecursion};
 ghost use Rattle.m4_state.specs.Definition.{IsDefinition};
-ghost use Rattle.m4_state.specs.Builtin.{least_of};
+ghost use Rattle.m4_state.specs.Builtin.{most_of};
+ghost use Rattle.m4_state.specs.declared.definition.Def.TheVariants as defs;
 ghost use Rattle.m4_builtins.specs.Args.{IsArg};
-ghost use Rattle.m4_builtins.specs.Act.{act, act_unless, is_above};
+ghost use Rattle.m4_builtins.specs.Act as spec;
+ghost use Rattle.m4_builtins.specs.Steps.{LeadsTo, IsShorter, IsUnbounded};
 
 use crate::args::{Arg, Args};
+use crate::branching::{ifdef, ifelse, shift};
+use crate::delimiting::{changecom, changequote};
+use crate::diverting::{divert, divnum, undivert};
 use crate::effect::Effect;
 use crate::fault::BuiltinFault;
-use crate::messages::{excess_message, too_few_message, unsupported_message};
+use crate::indirect::{Step, begin, builtin, indir};
+use crate::messages::{excess_message, too_few_message};
+use crate::naming::{define, defn, popdef, pushdef, undefine};
 use crate::place::Place;
-use crate::rows::row;
-use crate::substitute::substitute;
+use crate::printing::dumpdef;
 use m4_state::builtin::Builtin;
 use m4_state::bytes::Bytes;
 use m4_state::definition::Def;
@@ -21,9 +28,8 @@ use m4_state::state::State;
 use std::alloc::{AllocError, Global};
 
 /// What a call of a definition does to the state, and what it leaves to be done. A refused growth is
-/// `OutOfMemory`; it can come behind the state's change. Manual: "Defining a macro", "Deleting a
-/// macro", "Deleting whitespace in input", "Changing the quote characters", "Changing the comment
-/// delimiters", "Diverting output", "Undiverting output", "Diversion numbers", "Arguments to macros".
+/// `OutOfMemory`; it can come after the state's change. Manual: "Arguments to macros", "Deleting
+/// whitespace in input", and the sections of the other builtins, which their functions name.
 pub fn act(
     alloc: Global,
     def: &Def,
@@ -34,51 +40,105 @@ pub fn act(
     requires definition { IsDefinition def.now }
     requires args { AllByRecursion IsArg args.now.list }
     // exact steps: the new state and the effect
-    ensures { IfOk result (λ e. act def.now args.now.name args.now.list place.now state.old ≡ record { state = state.new; effect = e }) }
+    ensures { IfOk result (λ e. spec.act def.now args.now.name args.now.list place.now state.old ≡ record { state = state.new; effect = e }) }
 {
-    match def {
-        Def::Text(text) => {
-            let text = substitute(alloc, text.as_slice(), args, state.quotes())?;
-            Ok(Effect::pushing(alloc, text))
-        }
-        Def::Builtin(builtin) => {
-            act_builtin(alloc, *builtin, args.list.as_slice(), place, state)
-        }
-        Def::Placeholder(name) => {
-            let warning = unsupported_message(alloc, place, name.as_slice())?;
-            Ok(Effect::telling(alloc, warning))
+    let mut step = begin(
+        alloc,
+        def,
+        args.name.as_slice(),
+        args.list.as_slice(),
+        place,
+        state,
+    )?;
+    loop {
+        match step {
+            Step::Done(effect) => return Ok(effect),
+            Step::On(builtin, list) => step = act_builtin(alloc, builtin, list, place, state)?,
         }
     }
 }
 
 /// What a builtin does. With too few arguments it only warns; those above its most are ignored, with
 /// a warning in front of its own.
-fn act_builtin(
+fn act_builtin<'a>(
     alloc: Global,
     builtin: Builtin,
-    list: &[Arg],
+    list: &'a [Arg],
     place: &Place,
     state: &mut State,
-) -> Result<Effect, BuiltinFault>
+) -> Result<Step<'a>, BuiltinFault>
     requires { AllByRecursion IsArg list.now }
-    ensures { IfOk result (λ e. act_unless (nat_lt (length list.now) (least_of builtin)) builtin list.now place.now state.old
-        ≡ record { state = state.new; effect = e }) }
+    ensures leads { IfOk result (λ step. LeadsTo (spec.act (defs.Builtin builtin) [] list.now place.now state.old) place.now state.new step) }
+    ensures shorter { IfOk result (λ step. IsShorter (length list.now) step) }
 {
     if list.len() < builtin.least_args() {
         let warning = too_few_message(alloc, place, builtin)?;
-        return Ok(Effect::telling(alloc, warning));
+        return Ok(Step::Done(Effect::telling(alloc, warning)));
     }
-    let effect = row(alloc, builtin, list, place, state)?;
+    let step = row(alloc, builtin, list, place, state)?;
     if !is_above(builtin.most_args(), list.len()) {
-        return Ok(effect);
+        return Ok(step);
     }
-    let warning = excess_message(alloc, place, builtin)?;
-    Ok(telling_first(alloc, warning, effect)?)
+    match step {
+        Step::Done(effect) => {
+            let warning = excess_message(alloc, place, builtin)?;
+            Ok(Step::Done(telling_first(alloc, warning, effect)?))
+        }
+        Step::On(..) => Ok(step),
+    }
+}
+
+/// What a builtin does with these arguments. Where an argument is a definition and the builtin reads
+/// a text, it counts as empty.
+fn row<'a>(
+    alloc: Global,
+    name: Builtin,
+    list: &'a [Arg],
+    place: &Place,
+    state: &mut State,
+) -> Result<Step<'a>, BuiltinFault>
+    requires { AllByRecursion IsArg list.now }
+    ensures leads { IfOk result (λ step. LeadsTo (spec.row (spec.goes_on list.now place.now state.old) name list.now place.now state.old) place.now state.new step) }
+    ensures shorter { IfOk result (λ step. IsShorter (length list.now) step) }
+    ensures unbounded { IfOk result (λ step. IsUnbounded (most_of name) step) }
+{
+    let effect = match name {
+        Builtin::Indir => return indir(alloc, list, place, state),
+        Builtin::IndirBuiltin => return builtin(alloc, list, place, state),
+        Builtin::Define => define(alloc, list, place, state)?,
+        Builtin::Undefine => {
+            undefine(list, state);
+            Effect::nothing(alloc)
+        }
+        Builtin::Pushdef => pushdef(alloc, list, place, state)?,
+        Builtin::Popdef => {
+            popdef(list, state);
+            Effect::nothing(alloc)
+        }
+        Builtin::Defn => defn(alloc, list, place, state)?,
+        Builtin::Ifdef => ifdef(alloc, list, state)?,
+        Builtin::Ifelse => ifelse(alloc, list, place, state)?,
+        Builtin::Shift => shift(alloc, list, state)?,
+        Builtin::Dumpdef => dumpdef(alloc, list, place, state)?,
+        Builtin::Dnl => Effect::skipping(alloc),
+        Builtin::Changequote => {
+            changequote(alloc, list, state)?;
+            Effect::nothing(alloc)
+        }
+        Builtin::Changecom => {
+            changecom(alloc, list, state)?;
+            Effect::nothing(alloc)
+        }
+        Builtin::Divert => divert(alloc, list, place, state)?,
+        Builtin::Undivert => undivert(alloc, list, place, state)?,
+        Builtin::Divnum => divnum(alloc, state)?,
+    };
+    Ok(Step::Done(effect))
 }
 
 /// Whether a count is above the most.
 fn is_above(most: Option<usize>, count: usize) -> bool
-    ensures { result ≡ is_above most count }
+    ensures { result ≡ spec.is_above most count }
 {
     match most {
         Some(most) => most < count,

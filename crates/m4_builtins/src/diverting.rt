@@ -6,12 +6,11 @@ ghost use Rattle.m4_state.specs.declared.builtin.Builtin.TheVariants as builtins
 ghost use Rattle.m4_builtins.specs.Diverting as spec;
 ghost use Rattle.m4_builtins.specs.Numeric.{number_of_reading, reading_warning};
 
-use crate::args::Arg;
+use crate::args::{Arg, text_of};
 use crate::effect::Effect;
 use crate::fault::BuiltinFault;
 use crate::number::number_in;
 use crate::place::Place;
-use crate::substitute::text_of;
 use itoa::Buffer;
 use m4_state::builtin::Builtin;
 use m4_state::bytes::Bytes;

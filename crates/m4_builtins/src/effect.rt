@@ -50,13 +50,20 @@ impl Effect {
         effect
     }
 
+    /// A value is put in front of the input.
+    pub(crate) fn giving(alloc: Global, value: Pushed) -> Effect
+        ensures { result ≡ record nothing { push = Some value } }
+    {
+        let mut effect = Effect::nothing(alloc);
+        effect.push = Some(value);
+        effect
+    }
+
     /// A text is put in front of the input.
     pub(crate) fn pushing(alloc: Global, text: Bytes) -> Effect
         ensures { result ≡ record nothing { push = Some (pushes.Text text) } }
     {
-        let mut effect = Effect::nothing(alloc);
-        effect.push = Some(Pushed::Text(text));
-        effect
+        Effect::giving(alloc, Pushed::Text(text))
     }
 
     /// The rest of the line is dropped.

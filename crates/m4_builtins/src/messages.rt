@@ -1,7 +1,7 @@
 //! What is told of a call, a line each. The texts are those of `specs/Messages.antt`.
 
 ghost use Rattle.std.specs.Prelude.{◌≡◌, ◌++◌, IfOk, OnOk, codes};
-ghost use Rattle.m4_builtins.specs.Messages.{place_text, warning, error, too_few, excess, empty_number, not_numeric, unsupported, dropped, bad_name};
+ghost use Rattle.m4_builtins.specs.Messages.{place_text, warning, error, too_few, excess, empty_number, not_numeric, unknown_macro, unknown_builtin, unsupported, dropped, bad_name};
 
 use crate::fault::BuiltinFault;
 use crate::place::Place;
@@ -104,6 +104,30 @@ pub(crate) fn not_numeric_message(
         builtin.name(),
         b"'",
     )
+}
+
+/// The warning that no macro has a name.
+pub(crate) fn unknown_macro_message(
+    alloc: Global,
+    place: &Place,
+    name: &[u8],
+) -> Result<Bytes, AllocError>
+    // exact steps: the whole line
+    ensures { IfOk result (λ b. b ≡ unknown_macro place.now name.now) }
+{
+    warning_on(alloc, place, b"undefined macro `", name, b"'")
+}
+
+/// The warning that no builtin has a name.
+pub(crate) fn unknown_builtin_message(
+    alloc: Global,
+    place: &Place,
+    name: &[u8],
+) -> Result<Bytes, AllocError>
+    // exact steps: the whole line
+    ensures { IfOk result (λ b. b ≡ unknown_builtin place.now name.now) }
+{
+    warning_on(alloc, place, b"undefined builtin `", name, b"'")
 }
 
 /// The warning that a frozen file asked for a builtin that this processor lacks.

@@ -5,10 +5,10 @@ ghost use Rattle.m4_input.specs.Ascii.{dollar, is_digit};
 ghost use Rattle.m4_input.specs.Token.{run_length};
 ghost use Rattle.m4_input.specs.DelimsView.{pair_of};
 ghost use Rattle.m4_builtins.specs.Args.{text_of_arg, quoted};
-ghost use Rattle.m4_builtins.specs.Subst.{subst, behind_dollar, number_of, nth_text, with_commas};
+ghost use Rattle.m4_builtins.specs.Subst.{subst, behind_dollar, number_of, nth_text, with_commas, all_quoted};
 ghost use Rattle.m4_builtins.specs.Numbers.{IsNumber};
 
-use crate::args::{Arg, Args};
+use crate::args::{Arg, text_of};
 use crate::fault::BuiltinFault;
 use itoa::Buffer;
 use m4_state::bytes::Bytes;
@@ -20,16 +20,17 @@ use std::alloc::{AllocError, Global};
 pub fn substitute(
     alloc: Global,
     text: &[u8],
-    args: &Args,
+    name: &[u8],
+    list: &[Arg],
     quotes: (&[u8], &[u8]),
 ) -> Result<Bytes, BuiltinFault>
     // exact steps: the text with the arguments put in
-    ensures { IfOk result (λ b. b ≡ subst text.now args.now.name args.now.list (pair_of quotes.entry)) }
+    ensures { IfOk result (λ b. b ≡ subst text.now name.now list.now (pair_of quotes.entry)) }
 {
     let mut out = Vec::new(alloc);
     let mut rest = text;
     while !rest.is_empty() {
-        rest = push_front(&mut out, rest, args, quotes)?;
+        rest = push_front(&mut out, rest, name, list, quotes)?;
     }
     Ok(Bytes::from(out))
 }
@@ -39,18 +40,19 @@ pub fn substitute(
 fn push_front<'a>(
     out: &mut Vec<u8>,
     text: &'a [u8],
-    args: &Args,
+    name: &[u8],
+    list: &[Arg],
     quotes: (&[u8], &[u8]),
 ) -> Result<&'a [u8], AllocError>
-    ensures pushed { IfOk result (λ rest. out.new.items ++ subst rest.now args.now.name args.now.list (pair_of quotes.entry)
-        ≡ out.old.items ++ subst text.now args.now.name args.now.list (pair_of quotes.entry)) }
+    ensures pushed { IfOk result (λ rest. out.new.items ++ subst rest.now name.now list.now (pair_of quotes.entry)
+        ≡ out.old.items ++ subst text.now name.now list.now (pair_of quotes.entry)) }
     ensures shorter { IfOk result (λ rest. 0 < length text.now → length rest.now < length text.now) }
 {
     let (plain, from_dollar) = text.split_at(plain_len(text));
     out.extend_from_slice(plain)?;
     match from_dollar.split_first() {
         Some((_, behind)) => {
-            let used = push_dollar(out, behind, args, quotes)?;
+            let used = push_dollar(out, behind, name, list, quotes)?;
             Ok(behind.split_at(used).1)
         }
         None => Ok(from_dollar),
@@ -73,46 +75,37 @@ fn plain_len(bytes: &[u8]) -> usize
 fn push_dollar(
     out: &mut Vec<u8>,
     behind: &[u8],
-    args: &Args,
+    name: &[u8],
+    list: &[Arg],
     quotes: (&[u8], &[u8]),
 ) -> Result<usize, AllocError>
-    ensures used { IfOk result (λ n. n ≡ (behind_dollar args.now.name (map text_of_arg args.now.list) (pair_of quotes.entry) behind.now).1) }
+    ensures used { IfOk result (λ n. n ≡ (behind_dollar name.now (map text_of_arg list.now) (pair_of quotes.entry) behind.now).1) }
     ensures text { OnOk result (out.new.items ≡ out.old.items
-        ++ (behind_dollar args.now.name (map text_of_arg args.now.list) (pair_of quotes.entry) behind.now).0) }
+        ++ (behind_dollar name.now (map text_of_arg list.now) (pair_of quotes.entry) behind.now).0) }
     ensures within { IfOk result (λ n. n ≤ length behind.now) }
 {
     match behind.first() {
         Some(b'0'..=b'9') => {
             let len = digits_len(behind);
-            push_numbered(out, number_of(behind.split_at(len).0), args)?;
+            push_numbered(out, number_of(behind.split_at(len).0), name, list)?;
             Ok(len)
         }
         Some(b'#') => {
-            push_count(out, args.list.as_slice().len())?;
+            push_count(out, list.len())?;
             Ok(1)
         }
         Some(b'*') => {
-            push_joined(out, args.list.as_slice())?;
+            push_joined(out, list)?;
             Ok(1)
         }
         Some(b'@') => {
-            push_quoted(out, args.list.as_slice(), quotes)?;
+            push_quoted(out, list, quotes)?;
             Ok(1)
         }
         _ => {
             out.push(b'$')?;
             Ok(0)
         }
-    }
-}
-
-/// An argument as text: a definition counts as empty.
-pub(crate) fn text_of(arg: &Arg) -> &[u8]
-    ensures { result.now ≡ text_of_arg arg.now }
-{
-    match arg {
-        Arg::Text(text) => text.as_slice(),
-        Arg::Definition(_) => &[],
     }
 }
 
@@ -141,17 +134,21 @@ pub(crate) fn number_of(digits: &[u8]) -> Option<usize>
 }
 
 /// Adds the argument of a number, or the name for 0. There is nothing above the count.
-fn push_numbered(out: &mut Vec<u8>, number: Option<usize>, args: &Args) -> Result<(), AllocError>
+fn push_numbered(
+    out: &mut Vec<u8>,
+    number: Option<usize>,
+    name: &[u8],
+    list: &[Arg],
+) -> Result<(), AllocError>
     ensures { (m : ℕ) → IsNumber number m
-        → OnOk result (out.new.items ≡ out.old.items ++ nth_text args.now.name (map text_of_arg args.now.list) m) }
+        → OnOk result (out.new.items ≡ out.old.items ++ nth_text name.now (map text_of_arg list.now) m) }
 {
-    let list = args.list.as_slice();
     let count = list.len();
     let Some(n) = number else {
         return Ok(());
     };
     if n == 0 {
-        out.extend_from_slice(args.name.as_slice())?;
+        out.extend_from_slice(name)?;
     } else if n <= count {
         out.extend_from_slice(text_of(&list[n - 1]))?;
     }
@@ -184,8 +181,12 @@ fn push_joined(out: &mut Vec<u8>, args: &[Arg]) -> Result<(), AllocError>
 
 /// Adds the arguments, each between quotes, with a comma between any two of them.
 #[tactic(auto, using(crate::proofs::Joins::joined_step))]
-fn push_quoted(out: &mut Vec<u8>, args: &[Arg], quotes: (&[u8], &[u8])) -> Result<(), AllocError>
-    ensures { OnOk result (out.new.items ≡ out.old.items ++ with_commas (map (quoted (pair_of quotes.entry)) (map text_of_arg args.now))) }
+pub(crate) fn push_quoted(
+    out: &mut Vec<u8>,
+    args: &[Arg],
+    quotes: (&[u8], &[u8]),
+) -> Result<(), AllocError>
+    ensures { OnOk result (out.new.items ≡ out.old.items ++ all_quoted (pair_of quotes.entry) (map text_of_arg args.now)) }
 {
     let mut first = true;
     for arg in args {
@@ -199,7 +200,11 @@ fn push_quoted(out: &mut Vec<u8>, args: &[Arg], quotes: (&[u8], &[u8])) -> Resul
 }
 
 /// Adds a text between quotes.
-fn push_one_quoted(out: &mut Vec<u8>, text: &[u8], quotes: (&[u8], &[u8])) -> Result<(), AllocError>
+pub(crate) fn push_one_quoted(
+    out: &mut Vec<u8>,
+    text: &[u8],
+    quotes: (&[u8], &[u8]),
+) -> Result<(), AllocError>
     ensures { OnOk result (out.new.items ≡ out.old.items ++ quoted (pair_of quotes.entry) text.now) }
 {
     out.extend_from_slice(quotes.0)?;

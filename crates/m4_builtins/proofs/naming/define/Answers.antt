@@ -3,7 +3,7 @@ use Rattle.std.specs.List.{AllByRecursion}
 use Rattle.m4_state.specs.Definition.{IsDefinition}
 use Rattle.m4_builtins.specs.Args.{IsArg}
 use Rattle.m4_builtins.proofs.ActKeeps.{second_valid}
-use Rattle.m4_builtins.proofs.rows.define.Goals as goal
+use Rattle.m4_builtins.proofs.naming.define.Goals as goal
 
 -- the second argument is in order as a definition
 pub define-requires : goal.define-requires

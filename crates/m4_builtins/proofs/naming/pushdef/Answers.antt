@@ -1,0 +1,12 @@
+use Rattle.std.proofs.Common.{sym, subst}
+use Rattle.std.specs.List.{AllByRecursion}
+use Rattle.m4_state.specs.Definition.{IsDefinition}
+use Rattle.m4_builtins.specs.Args.{IsArg}
+use Rattle.m4_builtins.proofs.ActKeeps.{second_valid}
+use Rattle.m4_builtins.proofs.naming.pushdef.Goals as goal
+
+-- the second argument is in order as a definition
+pub push-requires : goal.push-requires
+push-requires c =
+    let valid = subst (AllByRecursion IsArg) c.in-Some.ensures.cases.0 c.requires in
+    subst IsDefinition (sym c.in_ok-def-in-Text.ensures) (second_valid c.in-Some.rest.now valid.1)

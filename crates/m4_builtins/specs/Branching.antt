@@ -1,0 +1,56 @@
+-- Branching: the builtins that choose among their arguments.
+-- Believed. Manual: "Testing if a macro is defined", "If-else construct, or multibranch", "Recursion
+-- in m4". Words: ifdef, chosen, ifelse, shift.
+-- own: `ifelse` warns of one argument too many wherever two texts with no result would be left.
+use Rattle.std.specs.Prelude.{ℕ, ◌%◌, ◌==◌, ◌&&◌, nat_le, Bool, true, false, List, [], ◌∷◌, Option, Some, None, length, if◌then◌else◌}
+use Rattle.std.specs.Str.{bytes_eq}
+use Rattle.m4_state.specs.declared.builtin.Builtin.TheVariants.{Ifelse}
+use Rattle.m4_state.specs.declared.definition.Def.{Def}
+use Rattle.m4_state.specs.State.{State, top_of}
+use Rattle.m4_builtins.specs.declared.args.Arg.{Arg}
+use Rattle.m4_builtins.specs.declared.place.Place.{Place}
+use Rattle.m4_builtins.specs.Args.{texts_of, after_first, text_at}
+use Rattle.m4_builtins.specs.Acted.{Acted, changes, tells, expands, telling_first}
+use Rattle.m4_builtins.specs.Messages.{too_few, excess}
+use Rattle.m4_builtins.specs.Subst.{all_quoted}
+
+-- `ifdef`: the second argument where the name has a definition, else the third
+abbrev pub ifdef_by : Option Def → List Arg → List ℕ
+ifdef_by None list = text_at list 2
+ifdef_by (Some d) list = text_at list 1
+
+abbrev pub ifdef : List Arg → State → Acted
+ifdef list s = expands s (ifdef_by (top_of s (text_at list 0)) list)
+
+-- what `ifelse` chooses among texts: the third where the first two are equal; else the fourth where
+-- at most one more comes after it, or what it chooses after the first three
+abbrev pub chosen : List (List ℕ) → List ℕ
+chosen [] = []
+chosen (x ∷ []) = []
+chosen (x ∷ y ∷ []) = []
+chosen (x ∷ y ∷ same ∷ []) = if bytes_eq x y then same else []
+chosen (x ∷ y ∷ same ∷ other ∷ []) = if bytes_eq x y then same else other
+chosen (x ∷ y ∷ same ∷ other ∷ extra ∷ []) = if bytes_eq x y then same else other
+chosen (x ∷ y ∷ same ∷ u ∷ v ∷ next ∷ rest) =
+    if bytes_eq x y then same else chosen (u ∷ v ∷ next ∷ rest)
+
+-- whether an argument is left over after the last two texts and their results: at 5, 8, 11 and so on
+abbrev pub has_extra : ℕ → Bool
+has_extra n = nat_le 5 n && (n % 3 == 2)
+
+abbrev pub extra_warning : Place → Bool → List ℕ
+extra_warning p true = excess p Ifelse
+extra_warning p false = []
+
+-- `ifelse`
+abbrev pub ifelse : List Arg → Place → State → Acted
+ifelse [] p s = changes s
+ifelse (a ∷ []) p s = changes s
+ifelse (a ∷ b ∷ []) p s = tells s (too_few p Ifelse)
+ifelse (a ∷ b ∷ c ∷ rest) p s =
+    telling_first (extra_warning p (has_extra (length (a ∷ b ∷ c ∷ rest))))
+    (expands s (chosen (texts_of (a ∷ b ∷ c ∷ rest))))
+
+-- `shift`: all arguments but the first, each between quotes
+abbrev pub shift : List Arg → State → Acted
+shift list s = expands s (all_quoted s.quotes (texts_of (after_first list)))

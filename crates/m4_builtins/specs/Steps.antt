@@ -1,0 +1,34 @@
+-- Steps: how the code goes from one indirect call to the next in a loop.
+-- Not believed: it only bridges the code and `act`.
+use Rattle.std.specs.Prelude.{◌≡◌, ◌<◌, ℕ, suc, List, [], Option, None, length}
+use Rattle.std.specs.List.{AllByRecursion}
+use Rattle.m4_state.specs.declared.definition.Def.TheVariants as defs
+use Rattle.m4_state.specs.State.{State}
+use Rattle.m4_builtins.specs.declared.args.Arg.{Arg}
+use Rattle.m4_builtins.specs.declared.indirect.Step.{Step}
+use Rattle.m4_builtins.specs.declared.indirect.Step.TheVariants as steps
+use Rattle.m4_builtins.specs.declared.place.Place.{Place}
+use Rattle.m4_builtins.specs.Args.{IsArg}
+use Rattle.m4_builtins.specs.Acted.{Acted}
+use Rattle.m4_builtins.specs.Act.{act}
+
+-- what a call does is done, or is what a builtin does with these arguments
+abbrev pub LeadsTo : Acted → Place → State → Step → Type 0
+LeadsTo acted p s (steps.Done effect) = acted ≡ record { state = s; effect = effect }
+LeadsTo acted p s (steps.On b list) =
+    (acted ≡ act (defs.Builtin b) [] list.now p s) × AllByRecursion IsArg list.now
+
+-- the call goes on, if it does, with fewer arguments than so many
+abbrev pub IsShorter : ℕ → Step → Type 0
+IsShorter n (steps.Done effect) = Unit {0}
+IsShorter n (steps.On b list) = length list.now < n
+
+-- the call goes on, if it does, where any number of arguments is right
+abbrev pub IsUnbounded : Option ℕ → Step → Type 0
+IsUnbounded most (steps.Done effect) = Unit {0}
+IsUnbounded most (steps.On b list) = most ≡ None
+
+-- how many arguments a step has left, the builtin counted too
+abbrev pub left_of : Step → ℕ
+left_of (steps.Done effect) = 0
+left_of (steps.On b list) = suc (length list.now)

@@ -1,0 +1,115 @@
+//! The builtins that call by a name given as an argument. Manual: "Indirect call of macros", "Indirect
+//! call of builtins".
+//!
+//! Of an indirect call the first argument may again be the name of one, and so on through a list of any
+//! length. So neither calls what it leads to: it answers a [`Step`], and [`crate::act::act`] goes on in a
+//! loop.
+
+ghost use Rattle.std.specs.Prelude.{◌≡◌, ◌<◌, ℕ, IfOk, length};
+ghost use Rattle.std.specs.List.{AllByRecursion};
+ghost use Rattle.m4_builtins.specs.Act.{act, goes_on};
+ghost use Rattle.m4_builtins.specs.Args.{IsArg};
+ghost use Rattle.m4_builtins.specs.Indirect as spec;
+ghost use Rattle.m4_builtins.specs.Steps.{LeadsTo, IsShorter};
+
+use crate::args::Arg;
+use crate::effect::Effect;
+use crate::fault::BuiltinFault;
+use crate::messages::{
+    bad_name_message, unknown_builtin_message, unknown_macro_message, unsupported_message,
+};
+use crate::place::Place;
+use crate::substitute::substitute;
+use m4_state::builtin::Builtin;
+use m4_state::definition::Def;
+use m4_state::state::State;
+use std::alloc::Global;
+
+/// A call that is done, or what it goes on as.
+#[derive(Drop)]
+pub(crate) enum Step<'a> {
+    /// The call is done.
+    Done(Effect),
+    /// The call is that of a builtin with these arguments.
+    On(Builtin, &'a [Arg]),
+}
+
+/// A call of a definition under a name: a text and a placeholder are done, a builtin is to be done.
+pub(crate) fn begin<'a>(
+    alloc: Global,
+    def: &Def,
+    name: &[u8],
+    list: &'a [Arg],
+    place: &Place,
+    state: &State,
+) -> Result<Step<'a>, BuiltinFault>
+    requires { AllByRecursion IsArg list.now }
+    ensures leads { IfOk result (λ step. LeadsTo (act def.now name.now list.now place.now state.now) place.now state.now step) }
+    ensures shorter { (n : ℕ) → length list.now < n → IfOk result (λ step. IsShorter n step) }
+{
+    match def {
+        Def::Text(text) => {
+            let text = substitute(alloc, text.as_slice(), name, list, state.quotes())?;
+            Ok(Step::Done(Effect::pushing(alloc, text)))
+        }
+        Def::Builtin(builtin) => Ok(Step::On(*builtin, list)),
+        Def::Placeholder(other) => {
+            let warning = unsupported_message(alloc, place, other.as_slice())?;
+            Ok(Step::Done(Effect::telling(alloc, warning)))
+        }
+    }
+}
+
+/// Calls the macro of the name that the first argument is. Manual: "Indirect call of macros".
+pub(crate) fn indir<'a>(
+    alloc: Global,
+    list: &'a [Arg],
+    place: &Place,
+    state: &State,
+) -> Result<Step<'a>, BuiltinFault>
+    requires { AllByRecursion IsArg list.now }
+    ensures leads { IfOk result (λ step. LeadsTo (spec.indir (goes_on list.now place.now state.now) list.now place.now state.now) place.now state.now step) }
+    ensures shorter { IfOk result (λ step. IsShorter (length list.now) step) }
+{
+    let Some((first, rest)) = list.split_first() else {
+        return Ok(Step::Done(Effect::nothing(alloc)));
+    };
+    let Arg::Text(name) = first else {
+        let warning = bad_name_message(alloc, place, Builtin::Indir)?;
+        return Ok(Step::Done(Effect::telling(alloc, warning)));
+    };
+    match state.top(name.as_slice()) {
+        Some(def) => begin(alloc, def, name.as_slice(), rest, place, state),
+        None => {
+            let warning = unknown_macro_message(alloc, place, name.as_slice())?;
+            Ok(Step::Done(Effect::telling(alloc, warning)))
+        }
+    }
+}
+
+/// Calls the builtin whose own name the first argument is. Manual: "Indirect call of builtins".
+pub(crate) fn builtin<'a>(
+    alloc: Global,
+    list: &'a [Arg],
+    place: &Place,
+    state: &State,
+) -> Result<Step<'a>, BuiltinFault>
+    requires { AllByRecursion IsArg list.now }
+    ensures leads { IfOk result (λ step. LeadsTo (spec.builtin (goes_on list.now place.now state.now) list.now place.now state.now) place.now state.now step) }
+    ensures shorter { IfOk result (λ step. IsShorter (length list.now) step) }
+{
+    let Some((first, rest)) = list.split_first() else {
+        return Ok(Step::Done(Effect::nothing(alloc)));
+    };
+    let Arg::Text(name) = first else {
+        let warning = bad_name_message(alloc, place, Builtin::IndirBuiltin)?;
+        return Ok(Step::Done(Effect::telling(alloc, warning)));
+    };
+    match Builtin::by_name(name.as_slice()) {
+        Some(builtin) => Ok(Step::On(builtin, rest)),
+        None => {
+            let warning = unknown_builtin_message(alloc, place, name.as_slice())?;
+            Ok(Step::Done(Effect::telling(alloc, warning)))
+        }
+    }
+}

@@ -1,0 +1,200 @@
+//! The builtins that give names definitions, take them away and give them back. Manual: "Defining a
+//! macro", "Deleting a macro", "Temporarily redefining macros", "Renaming macros".
+
+ghost use Rattle.std.specs.Prelude.{◌≡◌, ◌++◌, fold, flat_map, IfOk, OnOk, option_copied};
+ghost use Rattle.std.specs.List.{AllByRecursion};
+ghost use Rattle.m4_state.specs.State.{popped, undefined};
+ghost use Rattle.m4_input.specs.DelimsView.{pair_of};
+ghost use Rattle.m4_builtins.specs.Args.{IsArg, text_of_arg, quoted};
+ghost use Rattle.m4_builtins.specs.Naming as spec;
+
+use crate::args::{Arg, text_of};
+use crate::effect::Effect;
+use crate::fault::BuiltinFault;
+use crate::messages::{bad_name_message, dropped_message};
+use crate::place::Place;
+use crate::substitute::push_one_quoted;
+use m4_input::pushed::Pushed;
+use m4_state::builtin::Builtin;
+use m4_state::bytes::Bytes;
+use m4_state::definition::Def;
+use m4_state::state::State;
+use std::alloc::{AllocError, Global};
+
+/// Gives the first argument the second as its definition. Manual: "Defining a macro".
+pub(crate) fn define(
+    alloc: Global,
+    list: &[Arg],
+    place: &Place,
+    state: &mut State,
+) -> Result<Effect, BuiltinFault>
+    requires { AllByRecursion IsArg list.now }
+    ensures { IfOk result (λ e. spec.define list.now place.now state.old ≡ record { state = state.new; effect = e }) }
+{
+    let Some((first, rest)) = list.split_first() else {
+        return Ok(Effect::nothing(alloc));
+    };
+    match first {
+        Arg::Text(name) => {
+            let def = definition_in(alloc, rest)?;
+            state.define(name.share()?, def)?;
+            Ok(Effect::nothing(alloc))
+        }
+        Arg::Definition(_) => {
+            let warning = bad_name_message(alloc, place, Builtin::Define)?;
+            Ok(Effect::telling(alloc, warning))
+        }
+    }
+}
+
+/// Puts the second argument on top of the first one's definitions. Manual: "Temporarily redefining
+/// macros".
+pub(crate) fn pushdef(
+    alloc: Global,
+    list: &[Arg],
+    place: &Place,
+    state: &mut State,
+) -> Result<Effect, BuiltinFault>
+    requires { AllByRecursion IsArg list.now }
+    ensures { IfOk result (λ e. spec.pushdef list.now place.now state.old ≡ record { state = state.new; effect = e }) }
+{
+    let Some((first, rest)) = list.split_first() else {
+        return Ok(Effect::nothing(alloc));
+    };
+    match first {
+        Arg::Text(name) => {
+            let def = definition_in(alloc, rest)?;
+            state.push(name.share()?, def)?;
+            Ok(Effect::nothing(alloc))
+        }
+        Arg::Definition(_) => {
+            let warning = bad_name_message(alloc, place, Builtin::Pushdef)?;
+            Ok(Effect::telling(alloc, warning))
+        }
+    }
+}
+
+/// The first of these arguments as a definition, or the empty text where there is none.
+fn definition_in(alloc: Global, list: &[Arg]) -> Result<Def, AllocError>
+    ensures { IfOk result (λ d. d ≡ spec.definition_in list.now) }
+{
+    match list.first() {
+        Some(Arg::Text(text)) => Ok(Def::Text(text.share()?)),
+        Some(Arg::Definition(def)) => def.share(),
+        None => Ok(Def::Text(Bytes::from(Vec::new(alloc)))),
+    }
+}
+
+/// Takes all definitions of each argument away. Manual: "Deleting a macro".
+pub(crate) fn undefine(list: &[Arg], state: &mut State)
+    ensures { state.new ≡ spec.for_each undefined list.now state.old }
+{
+    for arg in list {
+        state.undefine(text_of(arg));
+    }
+}
+
+/// Takes the definition on top of each argument's away. Manual: "Temporarily redefining macros".
+pub(crate) fn popdef(list: &[Arg], state: &mut State)
+    ensures { state.new ≡ spec.for_each popped list.now state.old }
+{
+    for arg in list {
+        state.pop(text_of(arg));
+    }
+}
+
+/// Gives the definition of a name, or the texts of several. Manual: "Renaming macros".
+pub(crate) fn defn(
+    alloc: Global,
+    list: &[Arg],
+    place: &Place,
+    state: &State,
+) -> Result<Effect, BuiltinFault>
+    ensures { IfOk result (λ e. spec.defn list.now place.now state.now ≡ record { state = state.now; effect = e }) }
+{
+    match list {
+        [] => Ok(Effect::nothing(alloc)),
+        [name] => {
+            let given = definition_given(alloc, state.top(text_of(name)), state.quotes())?;
+            Ok(Effect::giving(alloc, given))
+        }
+        [..] => {
+            let mut texts = Vec::new(alloc);
+            let mut warnings = Vec::new(alloc);
+            push_texts(alloc, list, place, state, &mut texts, &mut warnings)?;
+            let mut effect = Effect::pushing(alloc, Bytes::from(texts));
+            effect.messages = Bytes::from(warnings);
+            Ok(effect)
+        }
+    }
+}
+
+/// A text between quotes, or the builtin or placeholder itself; an empty text where there is none.
+fn definition_given(
+    alloc: Global,
+    def: Option<&Def>,
+    quotes: (&[u8], &[u8]),
+) -> Result<Pushed, AllocError>
+    ensures { IfOk result (λ v. v ≡ spec.definition_given (pair_of quotes.entry) (option_copied def.entry)) }
+{
+    let mut text = Vec::new(alloc);
+    match def {
+        None => Ok(Pushed::Text(Bytes::from(text))),
+        Some(Def::Text(defined)) => {
+            push_one_quoted(&mut text, defined.as_slice(), quotes)?;
+            Ok(Pushed::Text(Bytes::from(text)))
+        }
+        Some(Def::Builtin(builtin)) => Ok(Pushed::Definition(Def::Builtin(*builtin))),
+        Some(Def::Placeholder(name)) => Ok(Pushed::Definition(Def::Placeholder(name.share()?))),
+    }
+}
+
+/// Adds the texts of names, each between quotes, and a warning on each builtin or placeholder.
+fn push_texts(
+    alloc: Global,
+    list: &[Arg],
+    place: &Place,
+    state: &State,
+    texts: &mut Vec<u8>,
+    warnings: &mut Vec<u8>,
+) -> Result<(), BuiltinFault>
+    ensures texts { OnOk result (texts.new.items
+        ≡ texts.old.items ++ flat_map (spec.text_given state.now.quotes) (spec.tops_of state.now list.now)) }
+    ensures warnings { OnOk result (warnings.new.items
+        ≡ warnings.old.items ++ flat_map (spec.left_out place.now) (spec.tops_of state.now list.now)) }
+{
+    for arg in list {
+        push_text(
+            alloc,
+            state.top(text_of(arg)),
+            place,
+            state.quotes(),
+            texts,
+            warnings,
+        )?;
+    }
+    Ok(())
+}
+
+/// Adds the text of a definition, or the warning that it is left out.
+fn push_text(
+    alloc: Global,
+    def: Option<&Def>,
+    place: &Place,
+    quotes: (&[u8], &[u8]),
+    texts: &mut Vec<u8>,
+    warnings: &mut Vec<u8>,
+) -> Result<(), BuiltinFault>
+    ensures texts { OnOk result (texts.new.items ≡ texts.old.items ++ spec.text_given (pair_of quotes.entry) (option_copied def.entry)) }
+    ensures warnings { OnOk result (warnings.new.items ≡ warnings.old.items ++ spec.left_out place.now (option_copied def.entry)) }
+{
+    match def {
+        None => {}
+        Some(Def::Text(defined)) => push_one_quoted(texts, defined.as_slice(), quotes)?,
+        Some(Def::Builtin(_)) | Some(Def::Placeholder(_)) => {
+            let warning = dropped_message(alloc, place)?;
+            warnings.extend_from_slice(warning.as_slice())?;
+        }
+    }
+    Ok(())
+}

@@ -1,0 +1,145 @@
+//! The builtins that write to the messages. Manual: "Displaying macro definitions".
+
+ghost use Rattle.std.specs.Prelude.{◌≡◌, ◌++◌, IfOk, OnOk, option_copied};
+ghost use Rattle.m4_input.specs.DelimsView.{pair_of};
+ghost use Rattle.m4_builtins.specs.Printing as spec;
+ghost use Rattle.m4_builtins.specs.Args.{texts_of};
+
+use crate::args::{Arg, text_of};
+use crate::effect::Effect;
+use crate::fault::BuiltinFault;
+use crate::messages::unknown_macro_message;
+use crate::place::Place;
+use crate::substitute::push_one_quoted;
+use m4_state::bytes::Bytes;
+use m4_state::definition::Def;
+use m4_state::state::State;
+use std::alloc::{AllocError, Global};
+
+/// Shows the definitions of its arguments, or of all names where it has none, a line each in byte order
+/// of the names. Names without a definition are warned of before. Manual: "Displaying macro
+/// definitions".
+pub(crate) fn dumpdef(
+    alloc: Global,
+    list: &[Arg],
+    place: &Place,
+    state: &State,
+) -> Result<Effect, BuiltinFault>
+    ensures { IfOk result (λ e. spec.dumpdef list.now place.now state.now ≡ record { state = state.now; effect = e }) }
+{
+    // All memory for names is there before the first message is made.
+    let mut names = names_shown(alloc, list, state)?;
+    let mut messages = Vec::new(alloc);
+    push_warnings(alloc, names.as_slice(), place, state, &mut messages)?;
+    names.sort_unstable_by(|a, b| a.as_slice().cmp(b.as_slice()));
+    push_lines(names.as_slice(), state, &mut messages)?;
+    Ok(Effect::telling(alloc, Bytes::from(messages)))
+}
+
+/// The names that are asked for, or all.
+fn names_shown(alloc: Global, list: &[Arg], state: &State) -> Result<Vec<Bytes>, BuiltinFault>
+    ensures { IfOk result (λ names. names.items ≡ spec.names_shown list.now state.now) }
+{
+    match list {
+        [] => Ok(state.names()?),
+        [..] => Ok(copied_texts(alloc, list)?),
+    }
+}
+
+/// Copies of the arguments' texts.
+fn copied_texts(alloc: Global, list: &[Arg]) -> Result<Vec<Bytes>, AllocError>
+    ensures { IfOk result (λ names. names.items ≡ texts_of list.now) }
+{
+    let mut names = Vec::with_capacity(alloc, list.len())?;
+    for arg in list {
+        names.push(Bytes::from_slice(alloc, text_of(arg))?)?;
+    }
+    Ok(names)
+}
+
+/// Adds the warnings on names without a definition.
+fn push_warnings(
+    alloc: Global,
+    names: &[Bytes],
+    place: &Place,
+    state: &State,
+    messages: &mut Vec<u8>,
+) -> Result<(), AllocError>
+    ensures { OnOk result (messages.new.items ≡ messages.old.items ++ spec.warnings_on names.now place.now state.now) }
+{
+    for name in names {
+        let name = name.as_slice();
+        push_warning(alloc, name, state.top(name), place, messages)?;
+    }
+    Ok(())
+}
+
+/// Adds the warning on a name, if it has no definition.
+fn push_warning(
+    alloc: Global,
+    name: &[u8],
+    def: Option<&Def>,
+    place: &Place,
+    messages: &mut Vec<u8>,
+) -> Result<(), AllocError>
+    ensures { OnOk result (messages.new.items
+        ≡ messages.old.items ++ spec.unknown_if place.now name.now (option_copied def.entry)) }
+{
+    if def.is_some() {
+        return Ok(());
+    }
+    let warning = unknown_macro_message(alloc, place, name)?;
+    messages.extend_from_slice(warning.as_slice())
+}
+
+/// Adds the lines of names that have a definition.
+fn push_lines(names: &[Bytes], state: &State, messages: &mut Vec<u8>) -> Result<(), AllocError>
+    ensures { OnOk result (messages.new.items ≡ messages.old.items ++ spec.lines_of names.now state.now) }
+{
+    for name in names {
+        let name = name.as_slice();
+        push_line(name, state.top(name), state.quotes(), messages)?;
+    }
+    Ok(())
+}
+
+/// Adds the line of a name, if it has a definition.
+fn push_line(
+    name: &[u8],
+    def: Option<&Def>,
+    quotes: (&[u8], &[u8]),
+    messages: &mut Vec<u8>,
+) -> Result<(), AllocError>
+    ensures { OnOk result (messages.new.items
+        ≡ messages.old.items ++ spec.line_shown (pair_of quotes.entry) name.now (option_copied def.entry)) }
+{
+    let Some(def) = def else {
+        return Ok(());
+    };
+    messages.extend_from_slice(name)?;
+    messages.extend_from_slice(b":\t")?;
+    push_shown(def, quotes, messages)?;
+    messages.push(b'\n')?;
+    Ok(())
+}
+
+/// Adds a definition as it is shown.
+fn push_shown(def: &Def, quotes: (&[u8], &[u8]), messages: &mut Vec<u8>) -> Result<(), AllocError>
+    ensures { OnOk result (messages.new.items ≡ messages.old.items ++ spec.shown (pair_of quotes.entry) def.now) }
+{
+    match def {
+        Def::Text(text) => push_one_quoted(messages, text.as_slice(), quotes),
+        Def::Builtin(builtin) => push_bracketed(builtin.name(), messages),
+        Def::Placeholder(name) => push_bracketed(name.as_slice(), messages),
+    }
+}
+
+/// Adds a name between angle brackets.
+fn push_bracketed(name: &[u8], messages: &mut Vec<u8>) -> Result<(), AllocError>
+    ensures { OnOk result (messages.new.items ≡ messages.old.items ++ spec.bracketed name.now) }
+{
+    messages.push(b'<')?;
+    messages.extend_from_slice(name)?;
+    messages.push(b'>')?;
+    Ok(())
+}
