@@ -18,8 +18,9 @@ DEFAULT_QUOTES = (b"`", b"'")
 DEFAULT_COMMENTS = (b"#", b"\n")
 
 # The builtins that m4r has. A name that is not among them is listed as a placeholder.
-BUILTINS = frozenset((b"define", b"undefine", b"dnl", b"changequote", b"changecom",
-                      b"divert", b"undivert", b"divnum"))
+BUILTINS = frozenset((b"define", b"undefine", b"pushdef", b"popdef", b"defn", b"indir", b"builtin", b"ifdef",
+                      b"ifelse", b"shift", b"dumpdef", b"dnl", b"changequote", b"changecom", b"divert",
+                      b"undivert", b"divnum"))
 
 
 class Fault(Exception):

@@ -1,5 +1,6 @@
 pub mod ActKeeps
 pub mod Brought
+pub mod CallRows
 pub mod Chosen
 pub mod HeldNumbers
 pub mod Joins

@@ -168,7 +168,7 @@ begun_valid (Collecting c) h = h
 called_valid : (c : Call) (t : Expansion) (k : Kept) → ValidCall c → IsState (t.so_far).state → ValidToken (t.pending).definition → ValidMode k.mode → ValidOut (called c t k)
 called_valid c t k v h g m =
     effected_valid ((acted_at c t).effect).exit ((acted_at c t).effect).skip ((acted_at c t).effect).push (behind_call c t k)
-    (act_pushes c.definition c.name c.done c.place (t.so_far).state)
+    (act_pushes c.definition c.name c.done c.place (t.so_far).state h v.1)
     (act_keeps c.definition c.name c.done c.place (t.so_far).state h v.1, g, begun_valid k.mode m)
 
 bare_valid : (o : Outcome Expansion Ended) → ValidOut o → ValidTurn (bare o)

@@ -208,3 +208,47 @@ not_a_number = refl
 issued_at_the_end : over_a usual (codes "divert(2)two\ndivert(1)one\ndivert(2)dnl\n") ≡ done (codes "one\ntwo\n") [] 4
 unfolding digits
 issued_at_the_end = refl
+
+-- a definition on top of another, that is taken away again
+a_stack_is_unwound : over_a usual (codes "define(`t',`1')pushdef(`t',`2')ifdef(`t',`y',`n') t popdef(`t')t\n") ≡ done (codes "y 2 1\n") [] 6
+unfolding digits
+a_stack_is_unwound = refl
+
+-- comparisons with more than one pair, and with one argument too many
+pairs_are_compared : over_a usual (codes "ifelse(a,b,`1',c,c,`2',`3') ifelse(a,b,`1',`2') ifelse(a,b,c,d,e)\n") ≡ done (codes "2 2 d\n") (codes "m4:a.m4:1: Warning: excess arguments to builtin `ifelse' ignored\n") 3
+unfolding digits
+pairs_are_compared = refl
+
+-- calls by names that are arguments
+calls_by_name : over_a usual (codes "indir(`define',`a b',`<$0:$1>')indir(`a b',`x') builtin(`shift',`p',`q') indir(`no')\n") ≡ done (codes "<a b:x> q \n") (codes "m4:a.m4:1: Warning: undefined macro `no'\n") 4
+unfolding digits
+calls_by_name = refl
+
+-- the definitions of several names
+definitions_are_joined : over_a usual (codes "define(`x',`1')define(`y',defn(`x',`dnl',`x'))y\n") ≡ done (codes "11\n") (codes "m4:a.m4:1: Warning: builtin dropped from text\n") 4
+unfolding digits
+definitions_are_joined = refl
+
+-- a recursion that turns a list round
+a_list_is_reversed : over_a usual (codes "define(`rev',`ifelse($#,1,``$1'',`rev(shift($@)),`$1'')')rev(a,b,c)\n") ≡ done (codes "c,b,a\n") [] 9
+unfolding digits
+a_list_is_reversed = refl
+
+-- definitions are shown by the order of their names
+definitions_are_shown : over_a usual (codes "define(`b',`2')define(`a',`1')dumpdef(`b',`a',`dnl',`z')\n") ≡ done (codes "\n") (codes "m4:a.m4:1: Warning: undefined macro `z'\na:\t`1'\nb:\t`2'\ndnl:\t<dnl>\n") 3
+unfolding digits
+definitions_are_shown = refl
+
+-- a definition outside of an argument
+a_definition_alone_is_nothing : over_a usual (codes "[defn(`dnl')]\n") ≡ done (codes "[]\n") [] 1
+a_definition_alone_is_nothing = refl
+
+-- a definition that is an argument by itself
+a_definition_is_an_argument : over_a usual (codes "define(`d',defn(`dnl'))a d b\nc\n") ≡ done (codes "a c\n") [] 3
+unfolding digits
+a_definition_is_an_argument = refl
+
+-- a builtin with too few arguments only warns
+too_few_arguments : over_a usual (codes "ifdef(`define')|\n") ≡ done (codes "|\n") (codes "m4:a.m4:1: Warning: too few arguments to builtin `ifdef'\n") 1
+unfolding digits
+too_few_arguments = refl

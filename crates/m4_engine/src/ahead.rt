@@ -7,7 +7,6 @@ ghost use Rattle.m4_input.specs.Plain.{IsFirst, FirstLies};
 ghost use Rattle.m4_engine.specs.Ahead.{IsMeaning, IsAheadOf};
 
 use crate::turned::TurnFault;
-use m4_builtins::args::{ArgList, Args};
 use m4_builtins::head::Head;
 use m4_builtins::substitute::substitute;
 use m4_input::input::Input;
@@ -66,10 +65,7 @@ impl Meaning {
         let _in_order = state.current();
         match definition {
             Def::Text(text) if bare => {
-                let name = Bytes::from_slice(alloc, name)?;
-                let list = ArgList::from(Vec::new(alloc));
-                let args = Args { name, list };
-                let text = substitute(alloc, text.as_slice(), &args, state.quotes())?;
+                let text = substitute(alloc, text.as_slice(), name, &[], state.quotes())?;
                 Ok(Meaning::Expansion(text))
             }
             _ => {

@@ -111,9 +111,8 @@ impl Machine {
         let (head, list) = call.into_parts();
         // A text is read where it lies, with no copy.
         if let Some(text) = head.text() {
-            let name = Bytes::from_slice(self.alloc, head.name())?;
-            let args = Args { name, list };
-            let text = substitute(self.alloc, text, &args, self.state.quotes())?;
+            let quotes = self.state.quotes();
+            let text = substitute(self.alloc, text, head.name(), list.as_slice(), quotes)?;
             return self.take_text(text, input, reader);
         }
         let definition = head.definition()?;
@@ -122,6 +121,8 @@ impl Machine {
             name: head.into_name(),
             list,
         };
+        // Its clauses say that the state is in order, so that what is pushed is.
+        let _in_order = self.state.current();
         let Effect {
             push,
             messages,

@@ -1,4 +1,5 @@
-use Rattle.std.proofs.Common.{rules}
+use Rattle.std.proofs.Common.{◌≡◌, subst, rules}
+use Rattle.m4_state.specs.State.{IsState}
 use Rattle.m4_input.specs.DelimsView.{pair_of}
 use Rattle.m4_builtins.specs.Act.{Acted}
 use Rattle.m4_engine.specs.Engine.{Engine}
@@ -34,7 +35,7 @@ returns-in-Some g c = record {
   moves =
       let text = c.in-Some.text.now in
       called_as c.args.self.now c.take_text.new.self c.in_ok-text.text text c.args.call c.args.input.now.pending c.take_text.new.input.pending c.take_text.result c.take_text.ensures.moves (search rules)
-      (substituted_by text c.in_ok-text.text _ c.args.call.name _ c.args.call.done (pair_of c.quotes.result) _ c.in_ok-text.ensures (search rules) (search rules) (search rules) (search rules));
+      (substituted_by text c.in_ok-text.text _ c.args.call.name _ c.args.call.done (pair_of c.quotes-quotes.result) _ c.in_ok-text.ensures (search rules) (search rules) (search rules) (search rules));
   ready = search rules;
   limits = search rules;
   made = search rules;
@@ -44,4 +45,5 @@ returns-in-Some g c = record {
 pub read_on-requires-clause-valid : goal.read_on-requires-clause-valid
 read_on-requires-clause-valid g c =
     let a : Acted = record { state = c.act.new.state; effect = c.in_ok-push.field-0 } in
-    acted_pushes c.args.call.definition c.args.call.name c.args.call.done c.args.call.place c.args.self.now.state a (search rules)
+    let same : c.self-2.inside.state ≡ c.args.self.now.state = search rules in
+    acted_pushes c.args.call.definition c.args.call.name c.args.call.done c.args.call.place c.args.self.now.state a (subst IsState same c.current-in_order.ensures.valid) (search rules) (search rules)
