@@ -1,9 +1,10 @@
 -- Begins: writers that hold a beginning of what is to be written.
-use Rattle.std.proofs.Common.{◌≡◌, ℕ, List, [], ◌++◌, Option, refl, sym, ap, ◌∙◌, append-nil, append_assoc}
+use Rattle.std.proofs.Common.{◌≡◌, ℕ, ◌+◌, ◌≤◌, List, [], ◌++◌, ◌⊎◌, inl, inr, length, take, drop, Option, refl, sym, ap, ◌∙◌, append-nil, append_assoc, arith}
+use Rattle.std.proofs.lemmas.List.{length-append, nil_from_length, take-append-drop, take-take}
 use Rattle.m4_state.proofs.CallerLaws.{with_bytes-append, with_bytes-nil}
 use Rattle.m4_state.specs.Device.{with_bytes, HasBegun}
 use Rattle.m4_engine.specs.Engine.{Engine, handed_on}
-use Rattle.m4_engine.specs.Expands.{HandsOnSome}
+use Rattle.m4_engine.specs.Expands.{HandsOnSome, HasTaken, IsInOrder}
 use Rattle.m4_engine.specs.Writers.{writers}
 
 -- a writer that was not asked has taken a beginning
@@ -42,4 +43,55 @@ some_all e e' out out' told told' h f g = record {
       ∙ ap (λ (d : Engine). let k : Engine = record d { output = e.output ++ d.output; messages = e.messages ++ d.messages } in k) (sym h);
   output = f;
   messages = g;
+}
+
+-- a beginning of the first part was written
+pub begun_front : (o a : Option (List ℕ)) (k : ℕ) (all : List ℕ) → HasBegun o a (take k all) → HasBegun o a all
+begun_front o a k all h = (
+  h.0 ++ drop k all,
+  record {
+    front = (h.1).front;
+    parts = sym (take-append-drop k all) ∙ ap (λ x. x ++ drop k all) (h.1).parts ∙ append_assoc (h.1).front h.0 (drop k all);
+    holds = (h.1).holds;
+  },
+)
+
+-- all of the first part was, and a beginning of the second
+pub begun_parts : (o a b : Option (List ℕ)) (k : ℕ) (all : List ℕ) → a ≡ with_bytes o (take k all) → HasBegun a b (drop k all) → HasBegun o b all
+begun_parts o a b k all e h =
+    begun_behind o a b (take k all) (drop k all) [] all e h
+    (sym (take-append-drop k all) ∙ sym (append-nil (take k all ++ drop k all)))
+
+-- the beginning of no text is all of it
+none_begun : (o a : Option (List ℕ)) (x : List ℕ) → x ≡ [] → HasBegun o a x → a ≡ with_bytes o x
+none_begun o a x e h =
+    let sum : length (h.1).front + length h.0 ≡ 0 = sym (length-append (h.1).front h.0) ∙ ap length (sym (h.1).parts ∙ e) in
+    let none : length (h.1).front ≡ 0 = omega arith in
+    (h.1).holds ∙ ap (λ y. with_bytes o y) (nil_from_length (h.1).front none ∙ sym e)
+
+-- the first n bytes and maybe more were written, where the first k were, and k is no less
+taken : (o a m b : Option (List ℕ)) (n k : ℕ) (all more : List ℕ) → n ≤ k → a ≡ with_bytes o (take k all ++ more) → HasTaken (take n all) (writers o a m b)
+taken o a m b n k all more l e = (
+  drop n (take k all) ++ more,
+  e ∙ ap (λ x. with_bytes o (x ++ more)) (sym (take-append-drop n (take k all)))
+      ∙ ap (λ x. with_bytes o ((x ++ drop n (take k all)) ++ more)) (take-take n k all l)
+      ∙ ap (λ x. with_bytes o x) (append_assoc (take n all) (drop n (take k all)) more),
+)
+
+-- the messages could not be written
+pub messages_break : (o a m b : Option (List ℕ)) (n k : ℕ) (all told : List ℕ) → n ≤ k → (told ≡ []) ⊎ (n ≡ k) → a ≡ with_bytes o (take k all) → HasBegun m b told → IsInOrder (take n all) told (writers o a m b)
+messages_break o a m b n k all told l c e h = record {
+  output_first = inr (taken o a m b n k all [] l (e ∙ ap (λ x. with_bytes o x) (sym (append-nil (take k all)))));
+  then_messages = go c;
+}
+  where
+    go : (told ≡ []) ⊎ (n ≡ k) → HasBegun o a (take n all) ⊎ (b ≡ with_bytes m told)
+    go (inl z) = inr (none_begun m b told z h)
+    go (inr s) = inl (all_begun o a (take n all) (e ∙ ap (λ j. with_bytes o (take j all)) (sym s)))
+
+-- the output behind them could not
+pub own_breaks : (o a c m b : Option (List ℕ)) (n k : ℕ) (all y told : List ℕ) → n ≤ k → a ≡ with_bytes o (take k all) → HasBegun a c y → b ≡ with_bytes m told → IsInOrder (take n all) told (writers o c m b)
+own_breaks o a c m b n k all y told l e h f = record {
+  output_first = inr (taken o c m b n k all (h.1).front l ((h.1).holds ∙ ap (λ z. with_bytes z (h.1).front) e ∙ with_bytes-append o (take k all) (h.1).front));
+  then_messages = inr f;
 }

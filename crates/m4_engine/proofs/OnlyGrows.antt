@@ -1,5 +1,6 @@
 -- OnlyGrows: what an expansion has written stays.
-use Rattle.std.proofs.Common.{◌≡◌, Option, ℕ, zero, suc, Bool, true, false, List, [], ◌++◌, Some, None, refl, sym, ap, ◌∙◌, subst, append_assoc, append-nil}
+use Rattle.std.proofs.Common.{◌≡◌, Option, ℕ, ◌+◌, ◌≤◌, zero, suc, Bool, true, false, List, [], ◌∷◌, ◌++◌, length, Some, None, refl, sym, ap, ◌∙◌, subst, append_assoc, append-nil, arith}
+use Rattle.std.proofs.lemmas.List.{length-append}
 use Rattle.std.specs.Prelude.{nat_lt}
 use Rattle.m4_state.specs.declared.definition.Def.{Def}
 use Rattle.m4_input.specs.declared.token.Token.{Token}
@@ -13,6 +14,10 @@ use Rattle.m4_state.specs.State.{top_of}
 use Rattle.m4_input.specs.declared.pushed.Pushed.{Pushed}
 use Rattle.m4_builtins.specs.Act.{needs_list}
 use Rattle.m4_engine.specs.Nesting.{Turn, Halt, Close, GoOn, Bare, Opens, Outcome, Halted, Closed, then_on, after}
+use Rattle.m4_engine.specs.OpenCalls.{Stacked, Move, Stops, Goes, pop, close, take_turn}
+use Rattle.m4_engine.specs.Engine.{Engine, so_far_of, configuration, moved, Moves}
+use Rattle.m4_engine.specs.declared.turned.Turned.{Turned}
+use Rattle.m4_engine.specs.declared.turned.Turned.TheVariants as turns
 use Rattle.m4_engine.specs.Expansion.{RunSoFar, Limits, Call, Mode, Outside, Collecting, Expansion, Kept, Ended, place_at, with_call, reading}
 use Rattle.m4_engine.specs.declared.role.Role.{Role}
 use Rattle.m4_engine.specs.declared.role.Role.TheVariants.{Opening, Closing, Separator, Blank, Other}
@@ -180,6 +185,39 @@ turn_goes (Close u) = extends_same u.so_far
 turn_goes (GoOn u) = whole_keeps u
 turn_goes (Bare u) = whole_keeps u
 turn_goes (Opens f u) = extends_more _ _ _ (whole_keeps u) (list_keeps f (expand u))
+
+-- what a move has made
+abbrev made_by : Move Expansion Kept Ended → RunSoFar
+made_by (Stops o) = made_out o
+made_by (Goes c) = (c.here).so_far
+
+popped_keeps : (fs : List Kept) (o : Outcome Expansion Ended) → Extends (made_out o) (made_by (pop Expansion Kept Ended turn join fs o))
+popped_keeps fs (Halted d) = extends_same d.so_far
+popped_keeps fs (Closed u) = extends_same u.so_far
+
+closed_keeps : (fs : List Kept) (u : Expansion) → Extends u.so_far (made_by (close Expansion Kept Ended turn join fs u))
+closed_keeps [] u = extends_same u.so_far
+closed_keeps (f ∷ fs) u = extends_more _ _ _ (join_keeps u.mode f u) (popped_keeps fs (join f u))
+
+taken_keeps : (fs : List Kept) (v : Turn Expansion Kept Ended) → Extends (made v) (made_by (take_turn Expansion Kept Ended turn join fs v))
+taken_keeps fs (Halt d) = extends_same d.so_far
+taken_keeps fs (Close u) = closed_keeps fs u
+taken_keeps fs (GoOn u) = extends_same u.so_far
+taken_keeps fs (Bare u) = extends_same u.so_far
+taken_keeps fs (Opens f u) = extends_same u.so_far
+
+move_keeps : (c : Stacked Expansion Kept) → Extends (c.here).so_far (made_by (moved c))
+move_keeps c = extends_more _ _ _ (turn_keeps c.here) (taken_keeps c.outer (turn c.here))
+
+longer_by : (e e' : Engine) → Extends (so_far_of [] [] e) (so_far_of [] [] e') → length e.output ≤ length e'.output
+longer_by e e' x =
+    let sum : length e'.output ≡ length e.output + length x.more = ap length x.output ∙ length-append e.output x.more in
+    omega arith
+
+-- what a turn leaves holds the output of before it
+pub output_stays : (e e' : Engine) (p p' : Pending) (t : Turned) → Moves e' p' t (λ o m. moved (configuration o m e p)) → length e.output ≤ length e'.output
+output_stays e e' p p' turns.GoesOn h = longer_by e e' (subst (λ v. Extends (so_far_of [] [] e) (made_by v)) (h [] []) (move_keeps (configuration [] [] e p)))
+output_stays e e' p p' (turns.Ends cause) h = longer_by e e' (subst (λ v. Extends (so_far_of [] [] e) (made_by v)) (h [] []) (move_keeps (configuration [] [] e p)))
 
 -- the expansion of an input
 pub input_keeps : (limits : Limits) (r : RunSoFar) (p : Pending) → Extends r (expand_input limits r p).so_far

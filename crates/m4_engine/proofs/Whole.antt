@@ -20,7 +20,7 @@ use Rattle.m4_engine.specs.Laws.{IsBeginning}
 use Rattle.m4_engine.specs.Writers.{Contents, Three, writers, IsSpared}
 use Rattle.m4_engine.proofs.OnlyGrows.{extends_same}
 use Rattle.m4_engine.proofs.OnePass.{over_wraps, finish_begins}
-use Rattle.m4_engine.proofs.Begins.{nothing_begun, begun_behind}
+use Rattle.m4_engine.proofs.Begins.{begun_behind}
 use Rattle.m4_engine.proofs.Reading.{behind, wraps_after, written_behind, over_behind_it}
 
 -- what a run's two writers have, by the cause that ended it

@@ -1,7 +1,7 @@
 -- Expands: what the expansion of an input leaves, over writers.
 -- Not believed: it stands between the machine and `Session`, which says the same of a source.
--- Manual: "How m4 copies input to output". Words: made_before, comes_to, Expanded, Expands, EndsInput, HandsOn, IsIdle.
-use Rattle.std.specs.Prelude.{◌≡◌, ℕ, List, [], ◌++◌}
+-- Manual: "How m4 copies input to output". Words: made_before, comes_to, Expanded, Expands, EndsInput, HandsOn, IsInOrder, IsIdle.
+use Rattle.std.specs.Prelude.{◌≡◌, ℕ, List, [], ◌++◌, ◌⊎◌}
 use Rattle.m4_state.specs.Device.{with_bytes, HasBegun}
 use Rattle.m4_input.specs.Pending.{Pending}
 use Rattle.m4_engine.specs.declared.ending.Cause.{Cause}
@@ -52,6 +52,15 @@ EndsInput cause = Unit {0}
 abbrev pub HandsOn : List ℕ → List ℕ → Contents → Type 0
 HandsOn output messages w =
     HasBegun w.out_old w.out_new output × HasBegun w.messages_old w.messages_new messages
+
+-- this output was written, and maybe more
+abbrev pub HasTaken : List ℕ → Contents → Type 0
+HasTaken before w = (more : List ℕ) × (w.out_new ≡ with_bytes w.out_old (before ++ more))
+
+-- a message was written only after all of the output before it, and more output only after all messages
+pub record IsInOrder (before messages : List ℕ) (w : Contents) : Type 0 where
+  pub output_first : (w.messages_new ≡ w.messages_old) ⊎ HasTaken before w
+  pub then_messages : HasBegun w.out_old w.out_new before ⊎ (w.messages_new ≡ with_bytes w.messages_old messages)
 
 -- a beginning of an engine's output and messages was written, and the rest is still held
 pub record HandsOnSome (old new : Engine) (w : Contents) : Type 0 where

@@ -1,6 +1,6 @@
 //! Standard output and standard error, each of which two parts of a run write to: the run itself, and
 //! the reader of standard input, which flushes them, so that who types the input has read what came
-//! before.
+//! before. Where both go to one place they stand there in the order in which the run wrote them.
 
 use std::cell::RefCell;
 use std::io::{self, ErrorKind, Read, Write};
@@ -8,14 +8,18 @@ use std::io::{self, ErrorKind, Read, Write};
 /// How many bytes of an output are kept, at most, before they are written.
 pub const BLOCK: usize = 65536;
 
-/// A writer that is shared. A call while another one goes on is refused; none does.
+/// A writer that is shared, beside another one. A call while another one goes on is refused; none does.
 #[derive(Drop)]
-pub struct Shared<'a, W> {
+pub struct Shared<'a, W, V> {
     cell: &'a RefCell<W>,
+    other: &'a RefCell<V>,
 }
 
-impl<W: Write> Write for Shared<'_, W> {
+impl<W: Write, V: Write> Write for Shared<'_, W, V> {
     fn write(&mut self, buf: &[u8]) -> io::Result<usize> {
+        // The other one was written before. What could not be flushed stays in it, and the fault comes
+        // again at its last flush.
+        let _flushed = flush(self.other);
         match self.cell.try_borrow_mut() {
             Ok(mut writer) => writer.write(buf),
             Err(_) => Err(io::Error::from(ErrorKind::Other)),
@@ -23,10 +27,14 @@ impl<W: Write> Write for Shared<'_, W> {
     }
 
     fn flush(&mut self) -> io::Result<()> {
-        match self.cell.try_borrow_mut() {
-            Ok(mut writer) => writer.flush(),
-            Err(_) => Err(io::Error::from(ErrorKind::Other)),
-        }
+        flush(self.cell)
+    }
+}
+
+fn flush<W: Write>(cell: &RefCell<W>) -> io::Result<()> {
+    match cell.try_borrow_mut() {
+        Ok(mut writer) => writer.flush(),
+        Err(_) => Err(io::Error::from(ErrorKind::Other)),
     }
 }
 
@@ -47,14 +55,18 @@ impl<W, E> Shown<W, E> {
     }
 
     /// The writer of the output.
-    pub fn output(&self) -> Shared<'_, W> {
-        Shared { cell: &self.output }
+    pub fn output(&self) -> Shared<'_, W, E> {
+        Shared {
+            cell: &self.output,
+            other: &self.messages,
+        }
     }
 
     /// The writer of the messages.
-    pub fn messages(&self) -> Shared<'_, E> {
+    pub fn messages(&self) -> Shared<'_, E, W> {
         Shared {
             cell: &self.messages,
+            other: &self.output,
         }
     }
 }
@@ -62,8 +74,8 @@ impl<W, E> Shown<W, E> {
 impl<W: Write, E: Write> Shown<W, E> {
     /// Flushes both, the output first, and answers whether both could be flushed.
     pub fn flush(&self) -> bool {
-        let output = self.output().flush().is_ok();
-        let messages = self.messages().flush().is_ok();
+        let output = flush(&self.output).is_ok();
+        let messages = flush(&self.messages).is_ok();
         output && messages
     }
 }

@@ -1,11 +1,11 @@
 //! The expansion of an input, turn by turn. Messages are handed on as they arise, and output once a
 //! block of it is held. Manual: "How m4 copies input to output".
 
-ghost use Rattle.std.specs.Prelude.{◌≡◌, ◌<◌, [], length, OnOk, OnErr};
+ghost use Rattle.std.specs.Prelude.{◌≡◌, ◌<◌, ◌≤◌, [], length, take, OnOk, OnErr};
 ghost use Rattle.m4_state.specs.Device.{with_bytes};
 ghost use Rattle.m4_engine.specs.Engine.{IsReady, handed_on};
 ghost use Rattle.m4_engine.specs.Writers.{both, FailsBy, FailsOnce};
-ghost use Rattle.m4_engine.specs.Expands.{Expands, EndsInput, HandsOn, HandsOnSome, IsIdle, at_rest};
+ghost use Rattle.m4_engine.specs.Expands.{Expands, EndsInput, HandsOn, HandsOnSome, IsInOrder, IsIdle, at_rest};
 
 use crate::ending::Cause;
 use crate::machine::Machine;
@@ -19,23 +19,36 @@ use std::alloc::AllocError;
 pub(crate) const BLOCK: usize = 65536;
 
 impl Machine {
-    /// Hands on what was put out: the output first, since more of it is held than of messages.
+    /// Hands on what was put out, in the order in which it arose: the output of earlier turns, which is
+    /// this long, then the messages, which are those of the last turn, and then its own output.
     #[tactic(auto, using(crate::proofs::Begins::nothing_begun))]
     fn hand_on<O: ByteSink, M: ByteSink>(
         &mut self,
+        earlier: usize,
         out: &mut O,
         messages: &mut M,
     ) -> Result<(), DeviceFault>
+        requires { earlier ≤ length self.old.output }
         ensures engine { OnOk result (self.new ≡ handed_on self.old) }
         ensures output { OnOk result (O.contents out.new ≡ with_bytes (O.contents out.old) self.old.output) }
         ensures messages { OnOk result (M.contents messages.new ≡ with_bytes (M.contents messages.old) self.old.messages) }
+        ensures order { OnErr result (IsInOrder (take earlier self.old.output) self.old.messages
+            (both O.contents M.contents out.old out.new messages.old messages.new)) }
         ensures begun { OnErr result (HandsOn self.old.output self.old.messages
             (both O.contents M.contents out.old out.new messages.old messages.new)) }
         ensures counted { FailsOnce result (both O.failures M.failures out.old out.new messages.old messages.new) }
     {
-        put_all(out, &self.output)?;
-        self.output.clear();
+        // With no message between them the two parts of the output are one write.
+        let first = if self.messages.is_empty() {
+            self.output.len()
+        } else {
+            earlier
+        };
+        let (before, own) = self.output.split_at(first);
+        put_all(out, before)?;
         put_all(messages, &self.messages)?;
+        put_all(out, own)?;
+        self.output.clear();
         self.messages.clear();
         Ok(())
     }
@@ -44,10 +57,14 @@ impl Machine {
     #[tactic(auto, using(crate::proofs::Begins::some_none, crate::proofs::Begins::some_all))]
     fn hand_on_due<O: ByteSink, M: ByteSink>(
         &mut self,
+        earlier: usize,
         out: &mut O,
         messages: &mut M,
     ) -> Result<(), DeviceFault>
+        requires { earlier ≤ length self.old.output }
         ensures some { OnOk result (HandsOnSome self.old self.new
+            (both O.contents M.contents out.old out.new messages.old messages.new)) }
+        ensures order { OnErr result (IsInOrder (take earlier self.old.output) self.old.messages
             (both O.contents M.contents out.old out.new messages.old messages.new)) }
         ensures begun { OnErr result (HandsOn self.old.output self.old.messages
             (both O.contents M.contents out.old out.new messages.old messages.new)) }
@@ -56,7 +73,7 @@ impl Machine {
         ensures counted { FailsOnce result (both O.failures M.failures out.old out.new messages.old messages.new) }
     {
         if !self.messages.is_empty() || self.output.len() >= BLOCK {
-            self.hand_on(out, messages)?;
+            self.hand_on(earlier, out, messages)?;
         }
         Ok(())
     }
@@ -80,18 +97,19 @@ impl Machine {
             let Ok(ahead) = self.pass_plain(input) else {
                 return Cause::OutOfMemory;
             };
+            let earlier = self.output.len();
             let turned = match self.turn(ahead, input, reader) {
                 Ok(turned) => turned,
                 Err(TurnFault::OutOfMemory) => return Cause::OutOfMemory,
             };
             match turned {
                 Turned::GoesOn => {
-                    if let Err(DeviceFault) = self.hand_on_due(out, messages) {
+                    if let Err(DeviceFault) = self.hand_on_due(earlier, out, messages) {
                         return Cause::Write;
                     }
                 }
                 Turned::Ends(cause) => {
-                    return match self.hand_on(out, messages) {
+                    return match self.hand_on(earlier, out, messages) {
                         Ok(()) => cause,
                         Err(DeviceFault) => Cause::Write,
                     };

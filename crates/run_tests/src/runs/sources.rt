@@ -9,6 +9,7 @@ use m4_engine::source::Source;
 use m4_state::bytes::Bytes;
 use m4_state::memory::MemSource;
 use std::alloc::{AllocError, Global};
+use std::process::Abort;
 
 // A source of a row. The files are a.m4, b.m4 and so on, by their place.
 #[derive(Clone, Copy)]
@@ -129,6 +130,96 @@ static ROWS: [Row; 11] = [
     ),
 ];
 
+// A file with a call that has output and a message, behind a string.
+const AFTER_A_STRING: &[u8] = b"divert(1)text\ndivert`a'undivert(1,x)b\n";
+
+// One with such a call behind plain text.
+const AFTER_TEXT: &[u8] = b"divert(1)text\ndivert`'one undivert(1,x)b\n";
+
+// The message of these calls.
+const WARNS: &[u8] = b"m4:a.m4:2: Warning: non-numeric argument to builtin `undivert'\n";
+
+// Where the writing breaks off, everything that comes before has to be there, and nothing behind it: the
+// output before a call, then its messages, then its own output.
+static ORDER: [Row; 9] = [
+    (
+        "room for all",
+        &[Given::File(AFTER_A_STRING)],
+        ROOM,
+        b"atext\nb\n",
+        WARNS,
+        (0, Cause::Done),
+    ),
+    (
+        "no room for what comes before a call",
+        &[Given::File(AFTER_A_STRING)],
+        (0, 1024),
+        b"",
+        b"",
+        (1, Cause::Write),
+    ),
+    (
+        "room for no text before a call but its beginning",
+        &[Given::File(AFTER_TEXT)],
+        (2, 1024),
+        b"on",
+        b"",
+        (1, Cause::Write),
+    ),
+    (
+        "no room for the message of a call",
+        &[Given::File(AFTER_A_STRING)],
+        (1024, 0),
+        b"a",
+        b"",
+        (1, Cause::Write),
+    ),
+    (
+        "room for two bytes of the message of a call",
+        &[Given::File(AFTER_TEXT)],
+        (1024, 2),
+        b"one ",
+        b"m4",
+        (1, Cause::Write),
+    ),
+    (
+        "no room for the output of a call",
+        &[Given::File(AFTER_TEXT)],
+        (4, 1024),
+        b"one ",
+        WARNS,
+        (1, Cause::Write),
+    ),
+    (
+        "room for two bytes of the output of a call",
+        &[Given::File(AFTER_A_STRING)],
+        (3, 1024),
+        b"ate",
+        WARNS,
+        (1, Cause::Write),
+    ),
+    (
+        "no room for what comes behind a file that isn't opened",
+        &[
+            Given::File(b"one\n"),
+            Given::Missing(b"nofile"),
+            Given::File(b"two\n"),
+        ],
+        (4, 1024),
+        b"one\n",
+        b"m4: cannot open `nofile'\n",
+        (1, Cause::Write),
+    ),
+    (
+        "no room for the diversions at the end",
+        &[Given::File(b"divert(1)text\ndivert(`x')")],
+        (0, 1024),
+        b"",
+        b"m4:a.m4:2: Warning: non-numeric argument to builtin `divert'\n",
+        (1, Cause::Write),
+    ),
+];
+
 // The source at a place of a row.
 fn source(
     alloc: Global,
@@ -165,12 +256,22 @@ fn seen_of(
     seen(alloc, &mut sources, USUAL, room)
 }
 
-#[test]
-fn sources_and_writers(rt: HostRuntime) {
-    for &(name, sources, room, output, messages, (status, cause)) in &ROWS {
+// Compares what is to be seen of each row, at each size of a block.
+fn compare(alloc: Global, rt: &impl Abort, rows: &[Row]) {
+    for &(name, sources, room, output, messages, (status, cause)) in rows {
         for block in BLOCKS {
-            let want = printed_run(rt.alloc(), output, messages, ended(status, cause));
-            agrees(&rt, name, want, seen_of(rt.alloc(), sources, block, room));
+            let want = printed_run(alloc, output, messages, ended(status, cause));
+            agrees(rt, name, want, seen_of(alloc, sources, block, room));
         }
     }
+}
+
+#[test]
+fn sources_and_writers(rt: HostRuntime) {
+    compare(rt.alloc(), &rt, &ROWS);
+}
+
+#[test]
+fn output_and_messages_in_order(rt: HostRuntime) {
+    compare(rt.alloc(), &rt, &ORDER);
 }

@@ -1,4 +1,5 @@
-use Rattle.std.proofs.Common.{rules, refl, ◌∙◌}
+use Rattle.std.proofs.Common.{◌≡◌, ◌≤◌, length, rules, arith, refl, ◌∙◌}
+use Rattle.m4_engine.proofs.OnlyGrows.{output_stays}
 use Rattle.m4_engine.proofs.Running.{begins, passed, went_on, fell, ended, breaks, write_breaks}
 use Rattle.m4_engine.proofs.Passing.{passes_ready}
 use Rattle.m4_engine.proofs.machine.Machine.expand.Goals as goal
@@ -20,6 +21,18 @@ turn-requires g c = record {
 
 pub returns-in-Err-OutOfMemory-clause-expands : goal.returns-in-Err-OutOfMemory-clause-expands
 returns-in-Err-OutOfMemory-clause-expands g c = breaks c.args.self.now c.turns.self c.args.input.now.pending c.turns.input _ _ _ _ c.requires.idle c.turns.invariant.runs
+
+pub hand_on_due-requires : goal.hand_on_due-requires
+hand_on_due-requires g c =
+    let held : c.len-earlier.result ≡ length c.pass_plain.new.self.output = search rules in
+    let grows : length c.pass_plain.new.self.output ≤ length c.turn.new.self.output = output_stays c.pass_plain.new.self c.turn.new.self c.pass_plain.new.input.pending c.turn.new.input.pending c.in-Ok-turn.turned c.in-Ok-turn.ensures.moves in
+    omega arith
+
+pub hand_on-requires : goal.hand_on-requires
+hand_on-requires g c =
+    let held : c.len-earlier.result ≡ length c.pass_plain.new.self.output = search rules in
+    let grows : length c.pass_plain.new.self.output ≤ length c.turn.new.self.output = output_stays c.pass_plain.new.self c.turn.new.self c.pass_plain.new.input.pending c.turn.new.input.pending c.in-Ok-turn.turned c.in-Ok-turn.ensures.moves in
+    omega arith
 
 pub returns-in-Err-clause-expands : goal.returns-in-Err-clause-expands
 returns-in-Err-clause-expands g c =
