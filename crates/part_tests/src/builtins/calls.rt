@@ -1,6 +1,7 @@
 //! Calls of each builtin, of a text and of a placeholder: what they leave to be done, and the state
-//! behind them. Manual: "Defining a macro", "Deleting a macro", "Deleting whitespace in input",
-//! "Changing the quote characters", "Changing the comment delimiters".
+//! after them. Manual: "Defining a macro", "Deleting a macro", "Temporarily redefining macros", "Renaming
+//! macros", "Indirect call of builtins", "If-else construct, or multibranch", "Recursion in m4", "Deleting
+//! whitespace in input", "Changing the quote characters", "Changing the comment delimiters".
 
 use super::{Argument, call_of, place_of, text_call_of};
 use crate::given::{Given, made, told};
@@ -116,7 +117,7 @@ const DEFINITIONS: &[Row] = &[
             Step::Look(b"changecom"),
             Step::Count,
         ],
-        b"dnl: 0\nchangecom: 0\n8 names\n",
+        b"dnl: 0\nchangecom: 0\n17 names\n",
     ),
 ];
 

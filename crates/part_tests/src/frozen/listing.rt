@@ -13,7 +13,7 @@ const ROWS: &[(&str, &[u8], &[u8])] = &[
     (
         "a text, a placeholder and a diversion",
         b"V1\nT1,1\nab\nF3,5\ncutshift\nD2,4\ntwo\n\n",
-        b"quotes ` '\ncomments # \\0a\ntext a 1\nplaceholder cut shift\ndiversion 2 4\ncurrent 2\n",
+        b"quotes ` '\ncomments # \\0a\ntext a 1\nbuiltin cut shift\ndiversion 2 4\ncurrent 2\n",
     ),
     (
         "diversions, and text that is issued",

@@ -15,6 +15,7 @@ use std::alloc::{AllocError, Global};
 enum Step {
     Push(&'static [u8], Given),
     Define(&'static [u8], Given),
+    Pop(&'static [u8]),
     Undefine(&'static [u8]),
     // Reports what is under a name.
     Look(&'static [u8]),
@@ -32,12 +33,21 @@ const ROWS: &[Row] = &[
         &[],
         b"__gnu__, text ; 0\n\
           __unix__, text ; 0\n\
+          builtin, builtin builtin; 7\n\
           changecom, builtin changecom; 9\n\
           changequote, builtin changequote; 11\n\
           define, builtin define; 6\n\
+          defn, builtin defn; 4\n\
           divert, builtin divert; 6\n\
           divnum, builtin divnum; 6\n\
           dnl, builtin dnl; 3\n\
+          dumpdef, builtin dumpdef; 7\n\
+          ifdef, builtin ifdef; 5\n\
+          ifelse, builtin ifelse; 6\n\
+          indir, builtin indir; 5\n\
+          popdef, builtin popdef; 6\n\
+          pushdef, builtin pushdef; 7\n\
+          shift, builtin shift; 5\n\
           undefine, builtin undefine; 8\n\
           undivert, builtin undivert; 8\n",
     ),
@@ -85,6 +95,22 @@ const ROWS: &[Row] = &[
             Step::Push(b"x", Given::Named(b"format")),
         ],
         b"x, text old, placeholder format; 6\n",
+    ),
+    (
+        "the newest definition is taken away, and the name with the last one",
+        false,
+        &[
+            Step::Push(b"x", Given::Text(b"old")),
+            Step::Push(b"x", Given::Text(b"new")),
+            Step::Push(b"y", Given::Text(b"1")),
+            Step::Pop(b"x"),
+            Step::Look(b"x"),
+            Step::Pop(b"x"),
+            Step::Pop(b"x"),
+            Step::Pop(b"missing"),
+            Step::Look(b"x"),
+        ],
+        b"x, text old; 3\nx\ny, text 1; 1\n",
     ),
     (
         "a definition replaces the newest one, an undefinition takes all away",
@@ -151,6 +177,10 @@ fn do_step(alloc: Global, state: &mut State, step: Step, report: &mut Report) {
     let done = match step {
         Step::Push(name, given) => define(alloc, state, true, name, given),
         Step::Define(name, given) => define(alloc, state, false, name, given),
+        Step::Pop(name) => {
+            state.pop(name);
+            Ok(())
+        }
         Step::Undefine(name) => {
             state.undefine(name);
             Ok(())

@@ -79,7 +79,7 @@ static REFUSED: [(&[u8], bool, u8, &str); 9] = [
 static LISTED: [(&[u8], &str); 4] = [
     (
         b"V1\nT1,1\nab\nF3,5\ncutshift\nD2,4\ntwo\n\n",
-        "quotes ` '\ncomments # \\0a\ntext a 1\nplaceholder cut shift\ndiversion 2 4\ncurrent 2\n",
+        "quotes ` '\ncomments # \\0a\ntext a 1\nbuiltin cut shift\ndiversion 2 4\ncurrent 2\n",
     ),
     (
         b"V1\nD0,2\nab\nD0,1\nc\nD2,1\nx\nD2,1\ny\nD-1,2\nzz\n",

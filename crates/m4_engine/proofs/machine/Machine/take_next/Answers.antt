@@ -1,9 +1,22 @@
 use Rattle.std.proofs.Common.{rules}
 use Rattle.m4_input.specs.declared.front.Unended.TheVariants.{InString, InComment}
 use Rattle.m4_input.specs.DelimsView.{pair_of}
+use Rattle.m4_engine.proofs.InOrder.{token_in_order}
 use Rattle.m4_engine.proofs.Taken.{next_taken}
 use Rattle.m4_engine.proofs.Turning.{turn_taken, turn_unended, string_unended, comment_unended}
 use Rattle.m4_engine.proofs.machine.Machine.take_next.Goals as goal
+
+-- the token was taken
+pub take_token-requires-clause-input : goal.take_token-requires-clause-input
+take_token-requires-clause-input g c =
+    let h = next_taken (pair_of c.of.result.quotes) (pair_of c.of.result.comments) _ _ c.args.input.now c.next-front.new.self c.in-Ok.token c.requires.ready c.in-Ok.ensures.gives in
+    record { ready = h.1.ready; taken = h.2 }
+
+-- and it is in order
+pub take_token-requires-clause-front : goal.take_token-requires-clause-front
+take_token-requires-clause-front g c =
+    let h = next_taken (pair_of c.of.result.quotes) (pair_of c.of.result.comments) _ _ c.args.input.now c.next-front.new.self c.in-Ok.token c.requires.ready c.in-Ok.ensures.gives in
+    token_in_order (pair_of c.of.result.quotes) (pair_of c.of.result.comments) c.args.input.now.pending c.next-front.new.self.pending c.in-Ok.token c.requires.ready.front h.0
 
 pub returns-in-Ok : goal.returns-in-Ok
 returns-in-Ok g c = record {
