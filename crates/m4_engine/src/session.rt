@@ -16,7 +16,6 @@ use m4_input::fault::InputFault;
 use m4_input::input::Input;
 use m4_state::bytes::Bytes;
 use m4_state::device::{ByteSink, ByteSource, DeviceFault};
-use m4_state::memory::MemSource;
 use m4_state::state::State;
 use m4_state::transfer::{put_all, put_pieces};
 use std::alloc::Global;
@@ -160,9 +159,7 @@ impl Session {
             Err(InputFault::Read) => return Err(self.end(Cause::Read)),
             Err(_) => return Err(self.end(Cause::OutOfMemory)),
         }
-        // the file is read, so that no reader is asked any more
-        let mut nothing = MemSource::new(&[], 1, false);
-        let cause = self.machine.expand(&mut input, &mut nothing, out, messages);
+        let cause = self.machine.expand(&mut input, out, messages);
         self.machine.rest();
         self.settle(cause)
     }

@@ -11,7 +11,7 @@ use crate::ending::Cause;
 use crate::machine::Machine;
 use crate::turned::{TurnFault, Turned};
 use m4_input::input::Input;
-use m4_state::device::{ByteSink, ByteSource, DeviceFault};
+use m4_state::device::{ByteSink, DeviceFault};
 use m4_state::transfer::put_all;
 use std::alloc::AllocError;
 
@@ -80,10 +80,9 @@ impl Machine {
 
     /// The expansion of an input of which nothing more is read, to its end. What it puts out is
     /// written: messages as they arise, output in blocks and at the end.
-    pub fn expand<R: ByteSource, O: ByteSink, M: ByteSink>(
+    pub fn expand<O: ByteSink, M: ByteSink>(
         &mut self,
         input: &mut Input,
-        reader: &mut R,
         out: &mut O,
         messages: &mut M,
     ) -> Cause
@@ -98,7 +97,7 @@ impl Machine {
                 return Cause::OutOfMemory;
             };
             let earlier = self.output.len();
-            let turned = match self.turn(ahead, input, reader) {
+            let turned = match self.turn(ahead, input) {
                 Ok(turned) => turned,
                 Err(TurnFault::OutOfMemory) => return Cause::OutOfMemory,
             };

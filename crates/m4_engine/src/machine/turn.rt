@@ -39,16 +39,16 @@ use m4_input::pushed::Pushed;
 use m4_input::token::Token;
 use m4_state::bytes::Bytes;
 use m4_state::definition::Def;
-use m4_state::device::ByteSource;
+use m4_state::memory::MemSource;
+
+/// The reader of an input of which nothing more is read: no call asks it.
+fn no_reader() -> MemSource<'static> {
+    MemSource::new(&[], 1, false)
+}
 
 /// What is read behind a call: what follows the line, or first the value that the call pushes.
 #[tactic(auto, using(crate::proofs::Inputs::skipped, crate::proofs::Inputs::pushed))]
-fn read_on<R: ByteSource>(
-    input: &mut Input,
-    reader: &mut R,
-    skip: bool,
-    push: Option<Pushed>,
-) -> Result<(), TurnFault>
+fn read_on(input: &mut Input, skip: bool, push: Option<Pushed>) -> Result<(), TurnFault>
     requires input { IsTaken input.old }
     requires valid { IsPushed push }
     ensures reads { OnOk result ((s : Expansion) → s.pending ≡ input.old.pending
@@ -56,7 +56,7 @@ fn read_on<R: ByteSource>(
     ensures stays { OnOk result (Stays input.old input.new) }
 {
     let read = if skip {
-        input.skip_line(reader)
+        input.skip_line(&mut no_reader())
     } else if let Some(value) = push {
         input.push_front(value)
     } else {
@@ -98,12 +98,7 @@ impl Machine {
     }
 
     /// Does what a definition does whose arguments are complete.
-    fn call<R: ByteSource>(
-        &mut self,
-        call: OpenCall,
-        input: &mut Input,
-        reader: &mut R,
-    ) -> Result<Turned, TurnFault>
+    fn call(&mut self, call: OpenCall, input: &mut Input) -> Result<Turned, TurnFault>
         requires { IsTaken input.old }
         ensures { Steps result self.old self.new input.old input.new (λ t. Moves self.new input.new.pending t
             (λ o m. called_within self.old.open_calls call (here_of o m self.old input.old.pending))) }
@@ -113,7 +108,7 @@ impl Machine {
         if let Some(text) = head.text() {
             let quotes = self.state.quotes();
             let text = substitute(self.alloc, text, head.name(), list.as_slice(), quotes)?;
-            return self.take_text(text, input, reader);
+            return self.take_text(text, input);
         }
         let definition = head.definition()?;
         let place = head.place()?;
@@ -135,7 +130,7 @@ impl Machine {
         if let Some(code) = exit {
             return Ok(Turned::Ends(Cause::Exited(code)));
         }
-        read_on(input, reader, skip, push)?;
+        read_on(input, skip, push)?;
         Ok(Turned::GoesOn)
     }
 
@@ -156,12 +151,7 @@ impl Machine {
     }
 
     /// A byte that belongs to no other token.
-    fn take_byte<R: ByteSource>(
-        &mut self,
-        byte: u8,
-        input: &mut Input,
-        reader: &mut R,
-    ) -> Result<Turned, TurnFault>
+    fn take_byte(&mut self, byte: u8, input: &mut Input) -> Result<Turned, TurnFault>
         requires { IsTaken input.old }
         ensures { Steps result self.old self.new input.old input.new (λ t. Moves self.new input.new.pending t
             (λ o m. step (outer_of self.old.open_calls)
@@ -175,7 +165,7 @@ impl Machine {
             Role::Blank => {}
             Role::Opening => call.put_opening()?,
             Role::Closing if call.is_nested() => call.put_closing()?,
-            Role::Closing => return self.take_closing(input, reader),
+            Role::Closing => return self.take_closing(input),
             Role::Separator => self.end_argument()?,
             Role::Other => self.put_text(&[byte])?,
         }
@@ -184,11 +174,7 @@ impl Machine {
 
     /// The parenthesis that closes the innermost list: its call is made.
     #[tactic(auto, using(crate::proofs::Acts::closing_result))]
-    fn take_closing<R: ByteSource>(
-        &mut self,
-        input: &mut Input,
-        reader: &mut R,
-    ) -> Result<Turned, TurnFault>
+    fn take_closing(&mut self, input: &mut Input) -> Result<Turned, TurnFault>
         requires list { IfHead self.old.open_calls (λ c. c.parentheses ≡ 0) }
         requires input { IsTaken input.old }
         ensures { Steps result self.old self.new input.old input.new (λ t. Moves self.new input.new.pending t
@@ -199,7 +185,7 @@ impl Machine {
         let Some(call) = self.close() else {
             return Ok(Turned::GoesOn);
         };
-        self.call(call, input, reader)
+        self.call(call, input)
     }
 
     /// Tells that a call is one more than a limit allows.
@@ -267,12 +253,11 @@ impl Machine {
 
     /// A name that is called, whose list follows or not.
     #[inline(always)]
-    fn take_call<R: ByteSource>(
+    fn take_call(
         &mut self,
         call: OpenCall,
         listed: bool,
         input: &mut Input,
-        reader: &mut R,
     ) -> Result<Turned, TurnFault>
         requires input { IsTaken input.old }
         requires list { listed ≡ true → paren_at self.old.state.quotes self.old.state.comments input.old.pending ≡ Answer.Yes }
@@ -290,7 +275,7 @@ impl Machine {
             return Ok(Turned::Ends(Cause::NestingLimit));
         }
         if !listed {
-            return self.call(call, input, reader);
+            return self.call(call, input);
         }
         self.take_parenthesis(input);
         self.begin(call)?;
@@ -298,20 +283,14 @@ impl Machine {
     }
 
     /// A name: a call, where it has a definition that is recognised here, else text.
-    fn take_name<R: ByteSource>(
-        &mut self,
-        name: Bytes,
-        line: u64,
-        input: &mut Input,
-        reader: &mut R,
-    ) -> Result<Turned, TurnFault>
+    fn take_name(&mut self, name: Bytes, line: u64, input: &mut Input) -> Result<Turned, TurnFault>
         requires { IsTaken input.old }
         ensures { Steps result self.old self.new input.old input.new (λ t. (before : Pending) → line ≡ line_of before
             → before.file ≡ input.old.pending.file → Moves self.new input.new.pending t
             (λ o m. step (outer_of self.old.open_calls)
             (take_name (top_of self.old.state name) name input.old.pending (here_of o m self.old before)))) }
     {
-        let listed = self.sees_list(input, reader)?;
+        let listed = self.sees_list(input)?;
         let bare = !listed && self.leaves_call();
         let Some(definition) = self.state.top(name.as_slice()) else {
             self.put_text(name.as_slice())?;
@@ -334,18 +313,12 @@ impl Machine {
                 meaning,
             },
             input,
-            reader,
         )
     }
 
     /// A name that has a definition, behind which stands what is pending.
     #[inline(always)]
-    fn take_named<R: ByteSource>(
-        &mut self,
-        named: Named,
-        input: &mut Input,
-        reader: &mut R,
-    ) -> Result<Turned, TurnFault>
+    fn take_named(&mut self, named: Named, input: &mut Input) -> Result<Turned, TurnFault>
         requires input { IsTaken input.old }
         requires list { paren_at self.old.state.quotes self.old.state.comments input.old.pending ≡ answer_of named.listed }
         requires fits { Fits named.meaning (is_bare named.listed self.old) }
@@ -360,7 +333,7 @@ impl Machine {
             meaning,
         } = named;
         let head = match meaning {
-            Meaning::Expansion(text) => return self.take_expansion(text, input, reader),
+            Meaning::Expansion(text) => return self.take_expansion(text, input),
             Meaning::Call(head) => head,
         };
         if !listed && head.needs_list() {
@@ -368,7 +341,7 @@ impl Machine {
             return Ok(Turned::GoesOn);
         }
         let call = OpenCall::new(self.alloc, head);
-        self.take_call(call, listed, input, reader)
+        self.take_call(call, listed, input)
     }
 
     /// Whether the limits leave a call.
@@ -380,12 +353,7 @@ impl Machine {
 
     /// What a call with no list gives, for a definition that is a text.
     #[inline(always)]
-    fn take_expansion<R: ByteSource>(
-        &mut self,
-        text: Bytes,
-        input: &mut Input,
-        reader: &mut R,
-    ) -> Result<Turned, TurnFault>
+    fn take_expansion(&mut self, text: Bytes, input: &mut Input) -> Result<Turned, TurnFault>
         requires input { IsTaken input.old }
         requires room { nat_lt self.old.calls self.old.limits.calls ≡ true }
         requires shallow { is_deep_in self.old ≡ false }
@@ -394,47 +362,41 @@ impl Machine {
             (λ o m. step (outer_of self.old.open_calls) (call_turn false c input.old.pending (here_of o m self.old before)))) }
     {
         self.count();
-        self.take_text(text, input, reader)
+        self.take_text(text, input)
     }
 
     /// What a text with its arguments put in leaves: it is read before everything else.
     #[inline(always)]
-    fn take_text<R: ByteSource>(
-        &mut self,
-        text: Bytes,
-        input: &mut Input,
-        reader: &mut R,
-    ) -> Result<Turned, TurnFault>
+    fn take_text(&mut self, text: Bytes, input: &mut Input) -> Result<Turned, TurnFault>
         requires { IsTaken input.old }
         ensures { Steps result self.old self.new input.old input.new (λ t. (c : Call) (x : List ℕ) → c.definition ≡ Text x → text ≡ subst x c.name c.done self.old.state.quotes
             → Moves self.new input.new.pending t
             (λ o m. called_within self.old.open_calls c (here_of o m self.old input.old.pending))) }
     {
         self.put_effect(b"", b"")?;
-        read_on(input, reader, false, Some(Pushed::Text(text)))?;
+        read_on(input, false, Some(Pushed::Text(text)))?;
         Ok(Turned::GoesOn)
     }
 
     /// Whether an argument list follows.
-    fn sees_list<R: ByteSource>(&self, input: &mut Input, reader: &mut R) -> Result<bool, TurnFault>
+    fn sees_list(&self, input: &mut Input) -> Result<bool, TurnFault>
         requires ready { IsReady input.old }
         ensures answer { IfOk result (λ b.
             paren_at self.now.state.quotes self.now.state.comments input.old.pending ≡ answer_of b) }
         ensures unchanged { OnOk result (input.new ≡ input.old) }
     {
-        match input.sees_paren(reader, &Delims::of(&self.state)) {
+        match input.sees_paren(&mut no_reader(), &Delims::of(&self.state)) {
             Ok(listed) => Ok(listed),
             Err(fault) => Err(TurnFault::of(fault)),
         }
     }
 
     /// A token, which is taken already.
-    fn take_token<R: ByteSource>(
+    fn take_token(
         &mut self,
         token: Token,
         line: u64,
         input: &mut Input,
-        reader: &mut R,
     ) -> Result<Turned, TurnFault>
         requires input { IsTaken input.old }
         requires front { IsToken token }
@@ -444,8 +406,8 @@ impl Machine {
             (take_token token input.old.pending (here_of o m self.old before)))) }
     {
         match token {
-            Token::Name(name) => return self.take_name(name, line, input, reader),
-            Token::Byte(byte) => return self.take_byte(byte, input, reader),
+            Token::Name(name) => return self.take_name(name, line, input),
+            Token::Byte(byte) => return self.take_byte(byte, input),
             Token::End => return self.take_end(),
             Token::Str(text) | Token::Comment(text) => self.put_text(text.as_slice())?,
             Token::Definition(definition) => self.put_token(definition)?,
@@ -475,12 +437,7 @@ impl Machine {
 
     /// One turn: the first token of what is pending, and what it does.
     #[inline(always)]
-    pub fn turn<R: ByteSource>(
-        &mut self,
-        ahead: Ahead,
-        input: &mut Input,
-        reader: &mut R,
-    ) -> Result<Turned, TurnFault>
+    pub fn turn(&mut self, ahead: Ahead, input: &mut Input) -> Result<Turned, TurnFault>
         requires ready { IsReady input.old }
         requires ahead { IsAhead ahead self.old input.old.pending }
         ensures { Steps result self.old self.new input.old input.new (λ t. Moves self.new input.new.pending t
@@ -488,34 +445,29 @@ impl Machine {
     {
         let line = input.line();
         match ahead {
-            Ahead::Unknown => self.take_next(line, input, reader),
+            Ahead::Unknown => self.take_next(line, input),
             Ahead::Byte(byte) => {
                 input.consume(1);
-                self.take_token(Token::Byte(byte), line, input, reader)
+                self.take_token(Token::Byte(byte), line, input)
             }
             Ahead::Named(named) => {
                 input.consume(named.len);
-                self.take_named(named, input, reader)
+                self.take_named(named, input)
             }
         }
     }
 
     /// The first token of what is pending, of which nothing is known, and what it does.
     #[inline(never)]
-    fn take_next<R: ByteSource>(
-        &mut self,
-        line: u64,
-        input: &mut Input,
-        reader: &mut R,
-    ) -> Result<Turned, TurnFault>
+    fn take_next(&mut self, line: u64, input: &mut Input) -> Result<Turned, TurnFault>
         requires ready { IsReady input.old }
         requires line { line ≡ line_of input.old.pending }
         ensures { Steps result self.old self.new input.old input.new (λ t. Moves self.new input.new.pending t
             (λ o m. moved (configuration o m self.old input.old.pending))) }
     {
-        let front = input.next(reader, &Delims::of(&self.state));
+        let front = input.next(&mut no_reader(), &Delims::of(&self.state));
         match front {
-            Ok(token) => self.take_token(token, line, input, reader),
+            Ok(token) => self.take_token(token, line, input),
             Err(InputFault::EndInString { line }) => self.take_unended(
                 Unended::InString,
                 line,

@@ -9,7 +9,7 @@ use Rattle.m4_engine.proofs.SavesNothing.{acted_saves, acted_pushes}
 use Rattle.m4_engine.proofs.machine.Machine.call.Goals as goal
 
 pub returns-in-Some-exit : goal.returns-in-Some-exit
-returns-in-Some-exit g c = record {
+returns-in-Some-exit c = record {
   moves = λ o m.
       let a : Acted = record { state = c.act.new.state; effect = c.in_ok-push.field-0 } in
       let e : Engine = record c.args.self.now { state = c.act.new.state } in
@@ -20,7 +20,7 @@ returns-in-Some-exit g c = record {
 }
 
 pub returns : goal.returns
-returns g c = record {
+returns c = record {
   moves = λ o m.
       let a : Acted = record { state = c.act.new.state; effect = c.in_ok-push.field-0 } in
       let e : Engine = record c.args.self.now { state = c.act.new.state } in
@@ -31,7 +31,7 @@ returns g c = record {
 }
 
 pub returns-in-Some : goal.returns-in-Some
-returns-in-Some g c = record {
+returns-in-Some c = record {
   moves =
       let text = c.in-Some.text.now in
       called_as c.args.self.now c.take_text.new.self c.in_ok-text.text text c.args.call c.args.input.now.pending c.take_text.new.input.pending c.take_text.result c.take_text.ensures.moves (search rules)
@@ -43,7 +43,7 @@ returns-in-Some g c = record {
 
 -- what was pushed is in order
 pub read_on-requires-clause-valid : goal.read_on-requires-clause-valid
-read_on-requires-clause-valid g c =
+read_on-requires-clause-valid c =
     let a : Acted = record { state = c.act.new.state; effect = c.in_ok-push.field-0 } in
     let same : c.self-2.inside.state ≡ c.args.self.now.state = search rules in
     acted_pushes c.args.call.definition c.args.call.name c.args.call.done c.args.call.place c.args.self.now.state a (subst IsState same c.current-in_order.ensures.valid) (search rules) (search rules)

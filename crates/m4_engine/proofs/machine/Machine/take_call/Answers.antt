@@ -3,7 +3,7 @@ use Rattle.m4_engine.proofs.Calling.{refused_calls, depth_refused, bare_made, li
 use Rattle.m4_engine.proofs.machine.Machine.take_call.Goals as goal
 
 pub returns-then-not-has_room : goal.returns-then-not-has_room
-returns-then-not-has_room g c = record {
+returns-then-not-has_room c = record {
   moves = λ before o m. refused_calls c.args.self.now c.refuse_calls.new.self c.args.call c.args.listed c.args.input.now.pending before o m (search rules) c.in_ok-refuse_calls.ensures;
   ready = search rules;
   limits = search rules;
@@ -11,7 +11,7 @@ returns-then-not-has_room g c = record {
 }
 
 pub returns-then-is_deep : goal.returns-then-is_deep
-returns-then-is_deep g c = record {
+returns-then-is_deep c = record {
   moves = λ before o m. depth_refused c.args.self.now c.count.new.self c.refuse_depth.new.self c.args.call c.args.listed c.args.input.now.pending before o m (search rules) c.count.ensures (search rules) c.in_ok-refuse_depth.ensures;
   ready = search rules;
   limits = search rules;
@@ -19,7 +19,7 @@ returns-then-is_deep g c = record {
 }
 
 pub returns-then-not-listed : goal.returns-then-not-listed
-returns-then-not-listed g c = record {
+returns-then-not-listed c = record {
   moves = bare_made c.args.self.now c.count.new.self c.call.new.self c.args.call c.args.listed c.args.input.now.pending c.call.new.input.pending c.call.result (search rules) (search rules) c.count.ensures (search rules) c.call.ensures.moves;
   ready = search rules;
   limits = search rules;
@@ -27,7 +27,7 @@ returns-then-not-listed g c = record {
 }
 
 pub returns : goal.returns
-returns g c = record {
+returns c = record {
   moves = λ before o m. list_begins c.args.self.now c.count.new.self c.begin.new.self c.args.call c.args.listed c.args.input.now.pending c.take_parenthesis.new.input.pending before o m (search rules) (search rules) c.count.ensures (search rules) c.take_parenthesis.ensures.taken c.in_ok-begin.ensures;
   ready = search rules;
   limits = search rules;

@@ -6,7 +6,7 @@ use Rattle.m4_engine.proofs.Seen.{named_moves}
 use Rattle.m4_engine.proofs.machine.Machine.take_name.Goals as goal
 
 pub returns : goal.returns
-returns g c = record {
+returns c = record {
   moves = let e = c.args.self.now in
       let p = c.args.input.now.pending in
       let at : Place = record { file = name_of p; line = c.args.line } in

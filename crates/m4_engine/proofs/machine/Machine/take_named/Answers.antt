@@ -5,7 +5,7 @@ use Rattle.m4_engine.proofs.Seen.{expansion_moves, made_moves, bare_moves}
 use Rattle.m4_engine.proofs.machine.Machine.take_named.Goals as goal
 
 pub returns-in-Expansion : goal.returns-in-Expansion
-returns-in-Expansion g c = record {
+returns-in-Expansion c = record {
   moves = let e = c.args.self.now in
       let n = c.args.named in
       let p = c.args.input.now.pending in
@@ -17,7 +17,7 @@ returns-in-Expansion g c = record {
 }
 
 pub returns-then-needs_list : goal.returns-then-needs_list
-returns-then-needs_list g c = record {
+returns-then-needs_list c = record {
   moves = let n = c.args.named in
       bare_moves c.args.self.now c.put_text.new.self n.meaning c.in-Call.head (is_bare n.listed c.args.self.now) n.listed c.args.input.now.pending c.in-Call.is c.requires.list (search rules) (search rules) (search rules);
   ready = search rules;
@@ -26,7 +26,7 @@ returns-then-needs_list g c = record {
 }
 
 pub returns : goal.returns
-returns g c = record {
+returns c = record {
   moves = let e = c.args.self.now in
       let n = c.args.named in
       let p = c.args.input.now.pending in

@@ -3,7 +3,7 @@ use Rattle.m4_engine.proofs.Bare.{text_goes}
 use Rattle.m4_engine.proofs.machine.Machine.take_text.Goals as goal
 
 pub returns : goal.returns
-returns g c = record {
+returns c = record {
   moves = λ k x d h. text_goes c.args.self.now c.put_effect.new.self k x c.args.text c.args.input.now.pending c.read_on.new.input.pending d h (search rules) (search rules);
   ready = search rules;
   limits = search rules;

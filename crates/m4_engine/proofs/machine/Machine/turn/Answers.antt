@@ -9,7 +9,7 @@ use Rattle.m4_engine.proofs.Turning.{turn_taken}
 use Rattle.m4_engine.proofs.machine.Machine.turn.Goals as goal
 
 pub returns-in-Byte : goal.returns-in-Byte
-returns-in-Byte g c = record {
+returns-in-Byte c = record {
   moves = let e = c.args.self.now in
       turn_taken e c.take_token.new.self e.state.quotes e.state.comments (Byte c.in-Byte.byte) c.line-line.result c.args.input.now.pending c.consume.new.self.pending c.take_token.new.input.pending c.take_token.result refl refl
       (byte_front c.args.ahead e c.args.input.now.pending c.consume.new.self.pending c.in-Byte.byte c.in-Byte.is c.requires.ready.closed (search rules) c.requires.ahead) c.line-line.ensures (search rules) c.take_token.ensures.moves;
@@ -19,10 +19,10 @@ returns-in-Byte g c = record {
 }
 
 pub take_named-requires-clause-list : goal.take_named-requires-clause-list
-take_named-requires-clause-list g c = name_list c.args.ahead c.args.self.now c.args.input.now.pending c.consume-in-Named.new.self.pending c.in-Named.named c.in-Named.is c.requires.ready.closed (search rules) c.requires.ahead
+take_named-requires-clause-list c = name_list c.args.ahead c.args.self.now c.args.input.now.pending c.consume-in-Named.new.self.pending c.in-Named.named c.in-Named.is c.requires.ready.closed (search rules) c.requires.ahead
 
 pub returns-in-Named : goal.returns-in-Named
-returns-in-Named g c = record {
+returns-in-Named c = record {
   moves = let e = c.args.self.now in
       let n = c.in-Named.named in
       let p = c.args.input.now.pending in
