@@ -5,7 +5,7 @@ DESTDIR =
 
 SOURCES := crates.txt $(shell find crates -name out -prune -o -type f -print)
 
-.PHONY: check demo program install uninstall bench real-files mutants refused-memory wrong-bodies
+.PHONY: check demo program cases install uninstall bench real-files mutants refused-memory wrong-bodies
 
 # The program: proved, then built. A crate that is not proved is not built.
 m4r: $(SOURCES)
@@ -24,6 +24,10 @@ demo: m4r
 # Runs over files, standard input and full devices, beside GNU m4 where it is installed.
 program: m4r
 	tests/program
+
+# Small macro programs with what is expected of each, beside GNU m4 where it is installed.
+cases: m4r
+	tests/cases/run
 
 # m4r and GNU m4 side by side, in time and memory. Give BENCH=--save to keep the numbers.
 bench: m4r
