@@ -11,3 +11,4 @@ mod scale;
 mod sessions;
 mod shows;
 mod sources;
+mod stacks;

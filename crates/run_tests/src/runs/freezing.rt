@@ -2,98 +2,99 @@
 
 ghost use Rattle.std.specs.Prelude.{◌≡◌, false};
 
-use super::given::{AT_MOST, BLOCKS, ROOM, USUAL, ended, freezing, opened, options};
+use super::given::{
+    AT_MOST, BLOCKS, ROOM, Seen, USUAL, ended, freezing, opened, options, run_over,
+};
 use super::report::Report;
 use super::shows::agrees;
 use m4_engine::ending::{Cause, Ending};
 use m4_engine::options::Options;
-use m4_engine::run::run;
-use m4_engine::source::Source;
 use m4_frozen::fault::{FrozenFault, FrozenKind};
-use m4_state::memory::{MemSink, MemSource};
+use m4_state::memory::MemSource;
 use std::alloc::{AllocError, Global};
+use std::process::Abort;
 
 /// A frozen file and a file, and what a run that freezes makes of them.
 struct Loaded {
     name: &'static str,
-    frozen: &'static [u8],
-    file: &'static [u8],
-    output: &'static [u8],
-    messages: &'static [u8],
-    frozen_text: &'static [u8],
+    frozen: &'static str,
+    file: &'static str,
+    output: &'static str,
+    messages: &'static str,
+    frozen_text: &'static str,
 }
 
 static LOADED: [Loaded; 8] = [
     Loaded {
         name: "a frozen file without names",
-        frozen: b"V1\n",
-        file: b"define(`a',`b')a\n",
-        output: b"define(a,b)a\n",
-        messages: b"",
-        frozen_text: b"# m4 frozen state\nV1\n# End of frozen state file\n",
+        frozen: "V1\n",
+        file: "define(`a',`b')a\n",
+        output: "define(a,b)a\n",
+        messages: "",
+        frozen_text: "# m4 frozen state\nV1\n# End of frozen state file\n",
     },
     Loaded {
         name: "text that is issued",
-        frozen: b"V1\nD0,3\nhi\n\n",
-        file: b"",
-        output: b"hi\n",
-        messages: b"",
-        frozen_text: b"# m4 frozen state\nV1\n# End of frozen state file\n",
+        frozen: "V1\nD0,3\nhi\n\n",
+        file: "",
+        output: "hi\n",
+        messages: "",
+        frozen_text: "# m4 frozen state\nV1\n# End of frozen state file\n",
     },
     Loaded {
         name: "blanks and zeros before numbers",
-        frozen: b"V1\nT1 , 01\nab\n",
-        file: b"a\n",
-        output: b"b\n",
-        messages: b"",
-        frozen_text: b"# m4 frozen state\nV1\nT1,1\nab\n# End of frozen state file\n",
+        frozen: "V1\nT1 , 01\nab\n",
+        file: "a\n",
+        output: "b\n",
+        messages: "",
+        frozen_text: "# m4 frozen state\nV1\nT1,1\nab\n# End of frozen state file\n",
     },
     Loaded {
         name: "a name that is defined since",
-        frozen: b"V1\nF6,6\ndefinedefine\nT1,1\nab\n",
-        file: b"a define(`c',`d$1')a\n",
-        output: b"b b\n",
-        messages: b"",
-        frozen_text: b"# m4 frozen state\nV1\nT1,1\nab\nT1,3\ncd$1\nF6,6\ndefinedefine\n# End of frozen state file\n",
+        frozen: "V1\nF6,6\ndefinedefine\nT1,1\nab\n",
+        file: "a define(`c',`d$1')a\n",
+        output: "b b\n",
+        messages: "",
+        frozen_text: "# m4 frozen state\nV1\nT1,1\nab\nT1,3\ncd$1\nF6,6\ndefinedefine\n# End of frozen state file\n",
     },
     Loaded {
         name: "text joins a diversion that is frozen again",
-        frozen: b"V1\nD2,4\ntwo\n\n",
-        file: b"more\n",
-        output: b"",
-        messages: b"",
-        frozen_text: b"# m4 frozen state\nV1\nD2,9\ntwo\nmore\n\n# End of frozen state file\n",
+        frozen: "V1\nD2,4\ntwo\n\n",
+        file: "more\n",
+        output: "",
+        messages: "",
+        frozen_text: "# m4 frozen state\nV1\nD2,9\ntwo\nmore\n\n# End of frozen state file\n",
     },
     Loaded {
         name: "a negative number stays current",
-        frozen: b"V1\nD-1,0\n\n",
-        file: b"x\n",
-        output: b"",
-        messages: b"",
-        frozen_text: b"# m4 frozen state\nV1\nD-1,0\n\n# End of frozen state file\n",
+        frozen: "V1\nD-1,0\n\n",
+        file: "x\n",
+        output: "",
+        messages: "",
+        frozen_text: "# m4 frozen state\nV1\nD-1,0\n\n# End of frozen state file\n",
     },
     Loaded {
         name: "a number without text stays current",
-        frozen: b"V1\nD3,0\n\n",
-        file: b"",
-        output: b"",
-        messages: b"",
-        frozen_text: b"# m4 frozen state\nV1\nD3,0\n\n# End of frozen state file\n",
+        frozen: "V1\nD3,0\n\n",
+        file: "",
+        output: "",
+        messages: "",
+        frozen_text: "# m4 frozen state\nV1\nD3,0\n\n# End of frozen state file\n",
     },
     Loaded {
         name: "a builtin of another m4",
-        frozen: b"V1\nF6,6\nregexpregexp\n",
-        file: b"regexp(`a',`b')!\n",
-        output: b"!\n",
-        messages: b"m4:b.m4:1: Warning: builtin `regexp' requested by frozen file is not supported\n",
-        frozen_text: b"# m4 frozen state\nV1\nF6,6\nregexpregexp\n# End of frozen state file\n",
+        frozen: "V1\nF6,6\nregexpregexp\n",
+        file: "regexp(`a',`b')!\n",
+        output: "!\n",
+        messages: "m4:b.m4:1: Warning: builtin `regexp' requested by frozen file is not supported\n",
+        frozen_text: "# m4 frozen state\nV1\nF6,6\nregexpregexp\n# End of frozen state file\n",
     },
 ];
 
 /// A frozen file, whether its reader fails after it, and the status and the fault by which the run ends.
 struct Refused {
     name: &'static str,
-    frozen: &'static [u8],
+    frozen: &'static str,
     fails: bool,
     status: u8,
     kind: FrozenKind,
@@ -103,7 +104,7 @@ struct Refused {
 static REFUSED: [Refused; 6] = [
     Refused {
         name: "an empty frozen file",
-        frozen: b"",
+        frozen: "",
         fails: false,
         status: 1,
         kind: FrozenKind::NoVersion,
@@ -111,7 +112,7 @@ static REFUSED: [Refused; 6] = [
     },
     Refused {
         name: "a newer version",
-        frozen: b"# c\n\nV2\n",
+        frozen: "# c\n\nV2\n",
         fails: false,
         status: 63,
         kind: FrozenKind::Newer,
@@ -119,7 +120,7 @@ static REFUSED: [Refused; 6] = [
     },
     Refused {
         name: "a fault after text that would be issued",
-        frozen: b"V1\nD0,3\nhi\n\nX\n",
+        frozen: "V1\nD0,3\nhi\n\nX\n",
         fails: false,
         status: 1,
         kind: FrozenKind::UnknownDirective,
@@ -127,7 +128,7 @@ static REFUSED: [Refused; 6] = [
     },
     Refused {
         name: "a directive that is cut",
-        frozen: b"V1\nT1,18446744073709551615\na",
+        frozen: "V1\nT1,18446744073709551615\na",
         fails: false,
         status: 1,
         kind: FrozenKind::PrematureEnd,
@@ -135,7 +136,7 @@ static REFUSED: [Refused; 6] = [
     },
     Refused {
         name: "a reader that fails",
-        frozen: b"V1\nT1,1\na",
+        frozen: "V1\nT1,1\na",
         fails: true,
         status: 1,
         kind: FrozenKind::Read,
@@ -143,51 +144,13 @@ static REFUSED: [Refused; 6] = [
     },
     Refused {
         name: "a fault before a reader fails",
-        frozen: b"V1\nX",
+        frozen: "V1\nX",
         fails: true,
         status: 1,
         kind: FrozenKind::UnknownDirective,
         offset: 3,
     },
 ];
-
-/// What a run wrote, and how it ended.
-#[derive(Drop)]
-struct Seen {
-    output: MemSink,
-    messages: MemSink,
-    frozen_text: MemSink,
-    ending: Ending,
-}
-
-/// A run over these sources.
-fn seen_run<'a>(
-    alloc: Global,
-    options: Options,
-    frozen: &mut Option<MemSource<'a>>,
-    sources: &mut [Source<MemSource<'a>>],
-) -> Result<Seen, AllocError>
-    requires { options.prefix ≡ false }
-{
-    let mut output = MemSink::new(alloc, ROOM.0, AT_MOST)?;
-    let mut messages = MemSink::new(alloc, ROOM.1, AT_MOST)?;
-    let mut frozen_text = MemSink::new(alloc, ROOM.0, AT_MOST)?;
-    let ending = run(
-        alloc,
-        options,
-        frozen,
-        sources,
-        &mut output,
-        &mut messages,
-        &mut frozen_text,
-    );
-    Ok(Seen {
-        output,
-        messages,
-        frozen_text,
-        ending,
-    })
-}
 
 /// What is to be seen of a run, and the frozen text.
 fn printed(
@@ -206,31 +169,31 @@ fn printed(
 
 /// A run from a frozen file over a file, where readers give so many bytes at a time.
 fn run_from(
-    alloc: Global,
+    rt: &(impl Abort + Alloc<A = Global>),
     options: Options,
     frozen: (&[u8], bool),
-    file: &[u8],
+    file: &str,
     block: usize,
-) -> Result<Seen, AllocError>
+) -> Seen
     requires { options.prefix ≡ false }
 {
-    let (frozen, fails) = frozen;
-    let mut frozen = Some(MemSource::new(frozen, block.max(1), fails));
-    let mut sources = [opened(alloc, b"b.m4", file, block)?];
-    seen_run(alloc, options, &mut frozen, &mut sources)
+    let mut frozen = Some(MemSource::new(frozen.0, block.max(1), frozen.1));
+    let mut sources = [opened(rt, b"b.m4", file.as_bytes(), block)];
+    run_over(rt, options, &mut frozen, &mut sources, ROOM, AT_MOST)
 }
 
 /// What is to be seen of such a run that freezes.
 fn seen_from(
-    alloc: Global,
-    frozen: &[u8],
+    rt: &(impl Abort + Alloc<A = Global>),
+    frozen: &str,
     fails: bool,
-    file: &[u8],
+    file: &str,
     block: usize,
 ) -> Result<Vec<u8>, AllocError> {
-    let seen = run_from(alloc, freezing(USUAL), (frozen, fails), file, block)?;
+    let frozen = (frozen.as_bytes(), fails);
+    let seen = run_from(rt, freezing(USUAL), frozen, file, block);
     printed(
-        alloc,
+        rt.alloc(),
         seen.output.written(),
         seen.messages.written(),
         seen.ending,
@@ -238,56 +201,58 @@ fn seen_from(
     )
 }
 
+/// What is expected of a run from a frozen file that is loaded.
+fn expected_of(alloc: Global, row: &Loaded) -> Result<Vec<u8>, AllocError> {
+    printed(
+        alloc,
+        row.output.as_bytes(),
+        row.messages.as_bytes(),
+        ended(0, Cause::Done),
+        row.frozen_text.as_bytes(),
+    )
+}
+
 #[test]
 fn frozen_files_are_loaded(rt: HostRuntime) {
-    let alloc = rt.alloc();
     for row in &LOADED {
         for block in BLOCKS {
-            let end = ended(0, Cause::Done);
-            let expected = printed(alloc, row.output, row.messages, end, row.frozen_text);
-            agrees(
-                &rt,
-                row.name,
-                expected,
-                seen_from(alloc, row.frozen, false, row.file, block),
-            );
+            let got = seen_from(&rt, row.frozen, false, row.file, block);
+            agrees(&rt, row.name, expected_of(rt.alloc(), row), got);
         }
     }
 }
 
+/// What is expected of a run from a frozen file that is refused.
+fn expected_of_refused(alloc: Global, row: &Refused) -> Result<Vec<u8>, AllocError> {
+    let fault = FrozenFault {
+        kind: row.kind,
+        offset: row.offset,
+    };
+    let end = ended(row.status, Cause::Frozen(fault));
+    printed(alloc, b"", b"", end, b"")
+}
+
 #[test]
 fn refused_frozen_files_leave_nothing(rt: HostRuntime) {
-    let alloc = rt.alloc();
     for row in &REFUSED {
         for block in BLOCKS {
-            let fault = FrozenFault {
-                kind: row.kind,
-                offset: row.offset,
-            };
-            let end = ended(row.status, Cause::Frozen(fault));
-            let expected = printed(alloc, b"", b"", end, b"");
-            agrees(
-                &rt,
-                row.name,
-                expected,
-                seen_from(alloc, row.frozen, row.fails, b"x", block),
-            );
+            let got = seen_from(&rt, row.frozen, row.fails, "x", block);
+            agrees(&rt, row.name, expected_of_refused(rt.alloc(), row), got);
         }
     }
 }
 
 #[test]
 fn a_run_that_breaks_off_freezes_nothing(rt: HostRuntime) {
-    let alloc = rt.alloc();
     for block in BLOCKS {
         let expected = printed(
-            alloc,
+            rt.alloc(),
             b"hi\nx\n",
             b"m4:b.m4:2: ERROR: end of input in string\n",
             ended(1, Cause::EndInString),
             b"",
         );
-        let got = seen_from(alloc, b"V1\nD0,3\nhi\n\n", false, b"x\n`abc", block);
+        let got = seen_from(&rt, "V1\nD0,3\nhi\n\n", false, "x\n`abc", block);
         agrees(&rt, "a string without an end", expected, got);
     }
 }
@@ -296,65 +261,77 @@ fn a_run_that_breaks_off_freezes_nothing(rt: HostRuntime) {
 /// issues what is diverted.
 struct Split {
     name: &'static str,
-    first: &'static [u8],
-    second: &'static [u8],
-    outputs: (&'static [u8], &'static [u8]),
+    first: &'static str,
+    second: &'static str,
+    outputs: (&'static str, &'static str),
 }
 
-static SPLITS: [Split; 9] = [
+static SPLITS: [Split; 11] = [
     Split {
         name: "diversions",
-        first: b"divert(2)two\ndivert(1)one\ndivert(2)dnl\n",
-        second: b"more\n",
-        outputs: (b"", b"one\ntwo\nmore\n"),
+        first: "divert(2)two\ndivert(1)one\ndivert(2)dnl\n",
+        second: "more\n",
+        outputs: ("", "one\ntwo\nmore\n"),
     },
     Split {
         name: "a negative number",
-        first: b"divert(-1)junk\n",
-        second: b"x divert(0)y\n",
-        outputs: (b"", b"y\n"),
+        first: "divert(-1)junk\n",
+        second: "x divert(0)y\n",
+        outputs: ("", "y\n"),
     },
     Split {
         name: "a number without text",
-        first: b"divert(3)dnl\n",
-        second: b"x\n",
-        outputs: (b"", b"x\n"),
+        first: "divert(3)dnl\n",
+        second: "x\n",
+        outputs: ("", "x\n"),
     },
     Split {
         name: "text that is brought back",
-        first: b"divert(1)a\ndivert(2)b\nundivert(1)divert(0)undivert(2)divnum\n",
-        second: b"divnum undivert(2)\n",
-        outputs: (b"b\na\n0\n", b"0 \n"),
+        first: "divert(1)a\ndivert(2)b\nundivert(1)divert(0)undivert(2)divnum\n",
+        second: "divnum undivert(2)\n",
+        outputs: ("b\na\n0\n", "0 \n"),
     },
     Split {
         name: "a greeting",
-        first: b"define(`hi',`Hello $1.')dnl\n",
-        second: b"hi(`you')\n",
-        outputs: (b"", b"Hello you.\n"),
+        first: "define(`hi',`Hello $1.')dnl\n",
+        second: "hi(`you')\n",
+        outputs: ("", "Hello you.\n"),
     },
     Split {
         name: "delimiters",
-        first: b"changequote([,])changecom(,)dnl\n",
-        second: b"# [define]\n",
-        outputs: (b"", b"# define\n"),
+        first: "changequote([,])changecom(,)dnl\n",
+        second: "# [define]\n",
+        outputs: ("", "# define\n"),
     },
     Split {
         name: "a name that two files do not join",
-        first: b"define(`f',`<$#>')dnl\nf",
-        second: b"(1)\n",
-        outputs: (b"<0>", b"(1)\n"),
+        first: "define(`f',`<$#>')dnl\nf",
+        second: "(1)\n",
+        outputs: ("<0>", "(1)\n"),
     },
     Split {
         name: "a name that is defined again",
-        first: b"define(`b',`1')define(`a',`2')define(`c',`3')undefine(`a')define(`a',`4')dnl\n",
-        second: b"a b c\n",
-        outputs: (b"", b"4 1 3\n"),
+        first: "define(`b',`1')define(`a',`2')define(`c',`3')undefine(`a')define(`a',`4')dnl\n",
+        second: "a b c\n",
+        outputs: ("", "4 1 3\n"),
+    },
+    Split {
+        name: "a stack that is unwound after the reload",
+        first: "define(`t',`1')pushdef(`t',`2')pushdef(`t',`3')dnl\n",
+        second: "t popdef(`t')t popdef(`t')t popdef(`t')t\n",
+        outputs: ("", "3 2 1 t\n"),
+    },
+    Split {
+        name: "a builtin under another name",
+        first: "define(`cut',defn(`shift'))undefine(`shift')dnl\n",
+        second: "cut(a,b,c) shift(d,e)\n",
+        outputs: ("", "b,c shift(d,e)\n"),
     },
     Split {
         name: "a builtin that is undefined",
-        first: b"undefine(`dnl')dnl\n",
-        second: b"dnl x\n",
-        outputs: (b"dnl\n", b"dnl x\n"),
+        first: "undefine(`dnl')dnl\n",
+        second: "dnl x\n",
+        outputs: ("dnl\n", "dnl x\n"),
     },
 ];
 
@@ -377,54 +354,76 @@ fn reported(
     report.text()
 }
 
+/// A run over the first file of a row, which freezes.
+fn first_run(rt: &(impl Abort + Alloc<A = Global>), row: &Split, block: usize) -> Seen {
+    let mut sources = [opened(rt, b"a.m4", row.first.as_bytes(), block)];
+    run_over(rt, freezing(USUAL), &mut None, &mut sources, ROOM, AT_MOST)
+}
+
 /// A run over both files of a row.
-fn joint_run(alloc: Global, options: Options, row: &Split, block: usize) -> Result<Seen, AllocError>
+fn joint_run(
+    rt: &(impl Abort + Alloc<A = Global>),
+    options: Options,
+    row: &Split,
+    block: usize,
+) -> Seen
     requires { options.prefix ≡ false }
 {
     let mut both = [
-        opened(alloc, b"a.m4", row.first, block)?,
-        opened(alloc, b"b.m4", row.second, block)?,
+        opened(rt, b"a.m4", row.first.as_bytes(), block),
+        opened(rt, b"b.m4", row.second.as_bytes(), block),
     ];
-    seen_run(alloc, options, &mut None, &mut both)
+    run_over(rt, options, &mut None, &mut both, ROOM, AT_MOST)
+}
+
+/// Whether the run over both files freezes the same as the one that goes on from the frozen text.
+fn freeze_alike(
+    rt: &(impl Abort + Alloc<A = Global>),
+    frozen: &[u8],
+    row: &Split,
+    block: usize,
+) -> bool {
+    let later = run_from(rt, freezing(USUAL), (frozen, false), row.second, block);
+    let whole = joint_run(rt, freezing(USUAL), row, block);
+    later.frozen_text.written() == whole.frozen_text.written()
 }
 
 /// What is to be seen of two runs and of one, where the later ones issue what is diverted; and whether they
 /// freeze the same where they freeze.
-fn seen_split(alloc: Global, row: &Split, block: usize) -> Result<Vec<u8>, AllocError> {
-    let mut sources = [opened(alloc, b"a.m4", row.first, block)?];
-    let first = seen_run(alloc, freezing(USUAL), &mut None, &mut sources)?;
-    let frozen = (first.frozen_text.written(), false);
-    let second = run_from(alloc, options(USUAL), frozen, row.second, block)?;
-    let joint = joint_run(alloc, options(USUAL), row, block)?;
-    let later = run_from(alloc, freezing(USUAL), frozen, row.second, block)?;
-    let whole = joint_run(alloc, freezing(USUAL), row, block)?;
+fn seen_split(
+    rt: &(impl Abort + Alloc<A = Global>),
+    row: &Split,
+    block: usize,
+) -> Result<Vec<u8>, AllocError> {
+    let first = first_run(rt, row, block);
+    let frozen = first.frozen_text.written();
+    let second = run_from(rt, options(USUAL), (frozen, false), row.second, block);
+    let joint = joint_run(rt, options(USUAL), row, block);
     reported(
         first.output.written(),
         second.output.written(),
         joint.output.written(),
-        later.frozen_text.written() == whole.frozen_text.written(),
-        alloc,
+        freeze_alike(rt, frozen, row, block),
+        rt.alloc(),
     )
 }
 
 /// What is expected of a row: the one run writes what the two write, and freezes what the later freezes.
 fn expected_split(alloc: Global, row: &Split) -> Result<Vec<u8>, AllocError> {
     let (first, second) = row.outputs;
-    let mut joint = Vec::from_slice(alloc, first)?;
-    joint.extend_from_slice(second)?;
-    reported(first, second, &joint, true, alloc)
+    let mut report = Report::new(alloc);
+    for piece in [first, "|", second, "|", first, second, "|same"] {
+        report.add(piece.as_bytes());
+    }
+    report.text()
 }
 
 #[test]
 fn two_runs_are_one(rt: HostRuntime) {
     for row in &SPLITS {
         for block in BLOCKS {
-            agrees(
-                &rt,
-                row.name,
-                expected_split(rt.alloc(), row),
-                seen_split(rt.alloc(), row, block),
-            );
+            let got = seen_split(&rt, row, block);
+            agrees(&rt, row.name, expected_split(rt.alloc(), row), got);
         }
     }
 }

@@ -10,6 +10,7 @@ use m4_engine::source::Source;
 use m4_state::bytes::Bytes;
 use m4_state::memory::{MemSink, MemSource};
 use std::alloc::{AllocError, Global};
+use std::process::Abort;
 
 /// How many bytes a reader gives at a time.
 pub const BLOCKS: [usize; 4] = [1, 2, 3, 4096];
@@ -56,79 +57,107 @@ pub fn options(limits: (u64, u64)) -> Options
     }
 }
 
+/// A byte string. No memory for it ends the test.
+pub fn bytes(rt: &(impl Abort + Alloc<A = Global>), text: &[u8]) -> Bytes {
+    match Bytes::from_slice(rt.alloc(), text) {
+        Ok(bytes) => bytes,
+        Err(AllocError) => panic!(rt; "out of memory"),
+    }
+}
+
+/// A writer with so much room, which takes so many bytes at a time. No memory for it ends the test.
+pub fn sink(rt: &(impl Abort + Alloc<A = Global>), room: usize, at_most: usize) -> MemSink {
+    match MemSink::new(rt.alloc(), room, at_most.max(1)) {
+        Ok(sink) => sink,
+        Err(AllocError) => panic!(rt; "out of memory"),
+    }
+}
+
 /// A file, whose reader gives so many bytes at a time.
 pub fn opened<'a>(
-    alloc: Global,
+    rt: &(impl Abort + Alloc<A = Global>),
     name: &[u8],
     text: &'a [u8],
     block: usize,
-) -> Result<Source<MemSource<'a>>, AllocError> {
-    Ok(Source::Opened {
-        name: Bytes::from_slice(alloc, name)?,
+) -> Source<MemSource<'a>> {
+    Source::Opened {
+        name: bytes(rt, name),
         reader: MemSource::new(text, block.max(1), false),
-    })
+    }
 }
 
-/// Runs over these sources, with no frozen file to read and none to write.
-pub fn run_over(
-    alloc: Global,
-    sources: &mut [Source<MemSource<'_>>],
-    limits: (u64, u64),
-    out: &mut MemSink,
-    messages: &mut MemSink,
-) -> Result<Ending, AllocError> {
-    let mut freeze_to = MemSink::new(alloc, 1, 1)?;
-    let options = options(limits);
-    let none = &mut None;
-    Ok(run(alloc, options, none, sources, out, messages, &mut freeze_to))
+/// What a run wrote, and how it ended.
+#[derive(Drop)]
+pub struct Seen {
+    pub output: MemSink,
+    pub messages: MemSink,
+    pub frozen_text: MemSink,
+    pub ending: Ending,
 }
 
-/// What is to be seen of a run over these sources, with so much room for output and for messages.
-pub fn seen(
-    alloc: Global,
-    sources: &mut [Source<MemSource<'_>>],
-    limits: (u64, u64),
+/// A run over these sources, with so much room for output and for messages, where writers take so
+/// many bytes at a time.
+pub fn run_over<'a>(
+    rt: &(impl Abort + Alloc<A = Global>),
+    options: Options,
+    frozen: &mut Option<MemSource<'a>>,
+    sources: &mut [Source<MemSource<'a>>],
     room: (usize, usize),
-) -> Result<Vec<u8>, AllocError> {
-    let mut out = MemSink::new(alloc, room.0, AT_MOST)?;
-    let mut messages = MemSink::new(alloc, room.1, AT_MOST)?;
-    let ending = run_over(alloc, sources, limits, &mut out, &mut messages)?;
-    printed_run(alloc, out.written(), messages.written(), ending)
+    at_most: usize,
+) -> Seen
+    requires { options.prefix ≡ false }
+{
+    let mut output = sink(rt, room.0, at_most);
+    let mut messages = sink(rt, room.1, at_most);
+    let mut frozen_text = sink(rt, ROOM.0, at_most);
+    let ending = run(
+        rt.alloc(),
+        options,
+        frozen,
+        sources,
+        &mut output,
+        &mut messages,
+        &mut frozen_text,
+    );
+    Seen {
+        output,
+        messages,
+        frozen_text,
+        ending,
+    }
 }
 
-/// Runs over one file, a.m4, whose reader gives so many bytes at a time.
+/// What is to be seen of a run: what it wrote and told, and how it ended.
+pub fn printed_seen(alloc: Global, seen: &Seen) -> Result<Vec<u8>, AllocError> {
+    printed_run(
+        alloc,
+        seen.output.written(),
+        seen.messages.written(),
+        seen.ending,
+    )
+}
+
+/// A run over one file, a.m4, whose reader gives and whose writers take so many bytes at a time, with
+/// so much room for output.
 pub fn run_file(
-    alloc: Global,
-    text: &[u8],
-    block: usize,
-    limits: (u64, u64),
-    out: &mut MemSink,
-    messages: &mut MemSink,
-) -> Result<Ending, AllocError> {
-    let mut sources = [opened(alloc, b"a.m4", text, block)?];
-    run_over(alloc, &mut sources, limits, out, messages)
-}
-
-/// What is to be seen of a run over one file, with so much room for output.
-pub fn seen_within(
-    alloc: Global,
+    rt: &(impl Abort + Alloc<A = Global>),
     text: &[u8],
     block: usize,
     limits: (u64, u64),
     room: usize,
-) -> Result<Vec<u8>, AllocError> {
-    let mut out = MemSink::new(alloc, room, block.max(1))?;
-    let mut messages = MemSink::new(alloc, ROOM.1, block.max(1))?;
-    let ending = run_file(alloc, text, block, limits, &mut out, &mut messages)?;
-    printed_run(alloc, out.written(), messages.written(), ending)
+) -> Seen {
+    let mut sources = [opened(rt, b"a.m4", text, block)];
+    let room = (room, ROOM.1);
+    run_over(rt, options(limits), &mut None, &mut sources, room, block)
 }
 
 /// What is to be seen of a run over one file.
 pub fn seen_of_file(
-    alloc: Global,
-    text: &[u8],
+    rt: &(impl Abort + Alloc<A = Global>),
+    text: &str,
     block: usize,
     limits: (u64, u64),
 ) -> Result<Vec<u8>, AllocError> {
-    seen_within(alloc, text, block, limits, ROOM.0)
+    let seen = run_file(rt, text.as_bytes(), block, limits, ROOM.0);
+    printed_seen(rt.alloc(), &seen)
 }

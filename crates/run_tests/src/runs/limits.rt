@@ -8,106 +8,106 @@ use m4_engine::ending::Cause;
 // A row's name, a file, the limits of calls and of open ones, output, messages, and the end.
 type Row = (
     &'static str,
-    &'static [u8],
+    &'static str,
     (u64, u64),
-    &'static [u8],
-    &'static [u8],
+    &'static str,
+    &'static str,
     (u8, Cause),
 );
 
 // Three calls one within another, behind one that defines their name.
-const THREE: &[u8] = b"define(`f',`$1')f(f(f(`x')))\n";
+const THREE: &str = "define(`f',`$1')f(f(f(`x')))\n";
 
 // A name that stands for itself.
-const LOOP: &[u8] = b"define(`l',`l')l\n";
+const LOOP: &str = "define(`l',`l')l\n";
 
 static ROWS: [Row; 11] = [
     (
         "four calls, three open",
         THREE,
         (4, 3),
-        b"x\n",
-        b"",
+        "x\n",
+        "",
         (0, Cause::Done),
     ),
     (
         "four calls, 0 is no limit of open ones",
         THREE,
         (4, 0),
-        b"x\n",
-        b"",
+        "x\n",
+        "",
         (0, Cause::Done),
     ),
     (
         "one call too few",
         THREE,
         (3, 3),
-        b"",
-        b"m4:a.m4:1: ERROR: more than 3 calls\n",
+        "",
+        "m4:a.m4:1: ERROR: more than 3 calls\n",
         (1, Cause::ExpansionLimit),
     ),
     (
         "no call at all",
         THREE,
         (0, 3),
-        b"",
-        b"m4:a.m4:1: ERROR: more than 0 calls\n",
+        "",
+        "m4:a.m4:1: ERROR: more than 0 calls\n",
         (1, Cause::ExpansionLimit),
     ),
     (
         "one open call too few",
         THREE,
         (4, 2),
-        b"",
-        b"m4:a.m4:1: ERROR: more than 2 nested calls\n",
+        "",
+        "m4:a.m4:1: ERROR: more than 2 nested calls\n",
         (1, Cause::NestingLimit),
     ),
     (
         "both too few: calls are counted first",
         THREE,
         (3, 2),
-        b"",
-        b"m4:a.m4:1: ERROR: more than 3 calls\n",
+        "",
+        "m4:a.m4:1: ERROR: more than 3 calls\n",
         (1, Cause::ExpansionLimit),
     ),
     (
         "one open call too few, with 1000 calls",
         THREE,
         (1000, 2),
-        b"",
-        b"m4:a.m4:1: ERROR: more than 2 nested calls\n",
+        "",
+        "m4:a.m4:1: ERROR: more than 2 nested calls\n",
         (1, Cause::NestingLimit),
     ),
     (
         "one open call too few, with the usual limit of calls",
         THREE,
         (4294967295, 2),
-        b"",
-        b"m4:a.m4:1: ERROR: more than 2 nested calls\n",
+        "",
+        "m4:a.m4:1: ERROR: more than 2 nested calls\n",
         (1, Cause::NestingLimit),
     ),
     (
         "three open calls, with the usual limit of calls",
         THREE,
         (4294967295, 3),
-        b"x\n",
-        b"",
+        "x\n",
+        "",
         (0, Cause::Done),
     ),
     (
         "no limit of open calls, with the usual limit of calls",
         THREE,
         (4294967295, 0),
-        b"x\n",
-        b"",
+        "x\n",
+        "",
         (0, Cause::Done),
     ),
     (
         "a call that never ends",
         LOOP,
         (100, 1024),
-        b"",
-        b"m4:a.m4:1: ERROR: more than 100 calls\n",
+        "",
+        "m4:a.m4:1: ERROR: more than 100 calls\n",
         (1, Cause::ExpansionLimit),
     ),
 ];
@@ -116,13 +116,13 @@ static ROWS: [Row; 11] = [
 fn limits_end_a_run(rt: HostRuntime) {
     for &(name, file, limits, output, messages, (status, cause)) in &ROWS {
         for block in BLOCKS {
-            let want = printed_run(rt.alloc(), output, messages, ended(status, cause));
-            agrees(
-                &rt,
-                name,
-                want,
-                seen_of_file(rt.alloc(), file, block, limits),
+            let want = printed_run(
+                rt.alloc(),
+                output.as_bytes(),
+                messages.as_bytes(),
+                ended(status, cause),
             );
+            agrees(&rt, name, want, seen_of_file(&rt, file, block, limits));
         }
     }
 }

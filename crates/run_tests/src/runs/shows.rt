@@ -1,39 +1,18 @@
 //! How a row that failed is shown: its name, and beneath it what was expected and what came.
 
 use std::alloc::AllocError;
-use std::fmt;
 use std::process::Abort;
 
-/// Bytes as a line of text: printable ones as they are, the others by their numbers.
-struct Shown<'a>(&'a [u8]);
-
-impl fmt::Display for Shown<'_> {
-    fn fmt<W: fmt::Write>(&self, f: &mut fmt::Formatter<W>) -> fmt::Result {
-        for byte in self.0 {
-            match *byte {
-                b' '..=b'~' => write!(f, "{}", char::from(*byte))?,
-                b'\n' => write!(f, "\\n")?,
-                other => write!(f, "\\x{other:02x}")?,
-            }
-        }
-        Ok(())
-    }
-}
-
-/// Ends the test unless the row came out as expected.
-pub fn shows(
-    rt: &impl Abort,
-    row: impl fmt::Display + Drop,
-    expected: &[u8],
-    got: Result<Vec<u8>, AllocError>,
-) {
+/// Ends the test unless the row came out as expected. Bytes that are no printable text are shown by
+/// their escapes.
+pub fn shows(rt: &impl Abort, row: &str, expected: &[u8], got: Result<Vec<u8>, AllocError>) {
     match got {
         Ok(got) => {
             assert!(rt;
                 got.as_slice() == expected,
                 "{row}\nexpected: {}\n     got: {}",
-                Shown(expected),
-                Shown(&got)
+                expected.escape_ascii(),
+                got.escape_ascii()
             );
         }
         Err(AllocError) => panic!(rt; "{row}: out of memory"),
@@ -43,7 +22,7 @@ pub fn shows(
 /// The same where what is expected was made for the row.
 pub fn agrees(
     rt: &impl Abort,
-    row: impl fmt::Display + Drop,
+    row: &str,
     expected: Result<Vec<u8>, AllocError>,
     got: Result<Vec<u8>, AllocError>,
 ) {

@@ -1,12 +1,11 @@
 //! Runs over several sources: files, one whose reader fails and one that isn't opened; and writers
 //! that are full.
 
-use super::given::{BLOCKS, ROOM, USUAL, ended, opened, seen};
+use super::given::{AT_MOST, BLOCKS, ROOM, USUAL, bytes, ended, options, printed_seen, run_over};
 use super::report::printed_run;
 use super::shows::agrees;
 use m4_engine::ending::Cause;
 use m4_engine::source::Source;
-use m4_state::bytes::Bytes;
 use m4_state::memory::MemSource;
 use std::alloc::{AllocError, Global};
 use std::process::Abort;
@@ -15,11 +14,11 @@ use std::process::Abort;
 #[derive(Clone, Copy)]
 enum Given {
     // A file with this text.
-    File(&'static [u8]),
+    File(&'static str),
     // One whose reader fails behind this text.
-    Failing(&'static [u8]),
+    Failing(&'static str),
     // One of this name that isn't opened.
-    Missing(&'static [u8]),
+    Missing(&'static str),
 }
 
 // A row's name, its sources, the room for output and for messages, output, messages, and the end.
@@ -27,117 +26,117 @@ type Row = (
     &'static str,
     &'static [Given],
     (usize, usize),
-    &'static [u8],
-    &'static [u8],
+    &'static str,
+    &'static str,
     (u8, Cause),
 );
 
 static ROWS: [Row; 11] = [
-    ("no source", &[], ROOM, b"", b"", (0, Cause::Done)),
+    ("no source", &[], ROOM, "", "", (0, Cause::Done)),
     (
         "a definition of one file is called in the next",
         &[
-            Given::File(b"define(`hi',`Hello $1.')dnl\n"),
-            Given::File(b"hi(`you')\n"),
+            Given::File("define(`hi',`Hello $1.')dnl\n"),
+            Given::File("hi(`you')\n"),
         ],
         ROOM,
-        b"Hello you.\n",
-        b"",
+        "Hello you.\n",
+        "",
         (0, Cause::Done),
     ),
     (
         "no name and no call spans two files",
         &[
-            Given::File(b"define(`f',`<$#>')dnl\nf"),
-            Given::File(b"(1)\n"),
+            Given::File("define(`f',`<$#>')dnl\nf"),
+            Given::File("(1)\n"),
         ],
         ROOM,
-        b"<0>(1)\n",
-        b"",
+        "<0>(1)\n",
+        "",
         (0, Cause::Done),
     ),
     (
         "a string without an end ends the run",
         &[
-            Given::File(b"one\n"),
-            Given::File(b"two `"),
-            Given::File(b"three\n"),
+            Given::File("one\n"),
+            Given::File("two `"),
+            Given::File("three\n"),
         ],
         ROOM,
-        b"one\ntwo ",
-        b"m4:b.m4:1: ERROR: end of input in string\n",
+        "one\ntwo ",
+        "m4:b.m4:1: ERROR: end of input in string\n",
         (1, Cause::EndInString),
     ),
     (
         "a file that isn't opened",
-        &[Given::Missing(b"nofile"), Given::File(b"z\n")],
+        &[Given::Missing("nofile"), Given::File("z\n")],
         ROOM,
-        b"z\n",
-        b"m4: cannot open `nofile'\n",
+        "z\n",
+        "m4: cannot open `nofile'\n",
         (1, Cause::Done),
     ),
     (
         "a reader that fails",
         &[
-            Given::File(b"one\n"),
-            Given::Failing(b"two\n"),
-            Given::File(b"three\n"),
+            Given::File("one\n"),
+            Given::Failing("two\n"),
+            Given::File("three\n"),
         ],
         ROOM,
-        b"one\n",
-        b"",
+        "one\n",
+        "",
         (1, Cause::Read),
     ),
     (
         "a first reader that fails",
-        &[Given::Failing(b"ab ")],
+        &[Given::Failing("ab ")],
         ROOM,
-        b"",
-        b"",
+        "",
+        "",
         (1, Cause::Read),
     ),
     (
         "room for three bytes of output",
-        &[Given::File(b"one two\n"), Given::File(b"three\n")],
+        &[Given::File("one two\n"), Given::File("three\n")],
         (3, 1024),
-        b"one",
-        b"",
+        "one",
+        "",
         (1, Cause::Write),
     ),
     (
         "room for five bytes of output",
-        &[Given::File(b"one two\n")],
+        &[Given::File("one two\n")],
         (5, 1024),
-        b"one t",
-        b"",
+        "one t",
+        "",
         (1, Cause::Write),
     ),
     (
         "room for five bytes, of which the last comes of a string",
-        &[Given::File(b"abc `def' ghi\n")],
+        &[Given::File("abc `def' ghi\n")],
         (5, 0),
-        b"abc d",
-        b"",
+        "abc d",
+        "",
         (1, Cause::Write),
     ),
     (
         "room for two bytes of messages",
-        &[Given::File(b"x dnl(y)\nz\n")],
+        &[Given::File("x dnl(y)\nz\n")],
         (1024, 2),
-        b"x ",
-        b"m4",
+        "x ",
+        "m4",
         (1, Cause::Write),
     ),
 ];
 
 // A file with a call that has output and a message, behind a string.
-const AFTER_A_STRING: &[u8] = b"divert(1)text\ndivert`a'undivert(1,x)b\n";
+const AFTER_A_STRING: &str = "divert(1)text\ndivert`a'undivert(1,x)b\n";
 
 // One with such a call behind plain text.
-const AFTER_TEXT: &[u8] = b"divert(1)text\ndivert`'one undivert(1,x)b\n";
+const AFTER_TEXT: &str = "divert(1)text\ndivert`'one undivert(1,x)b\n";
 
 // The message of these calls.
-const WARNS: &[u8] = b"m4:a.m4:2: Warning: non-numeric argument to builtin `undivert'\n";
+const WARNS: &str = "m4:a.m4:2: Warning: non-numeric argument to builtin `undivert'\n";
 
 // Where the writing breaks off, everything that comes before has to be there, and nothing behind it: the
 // output before a call, then its messages, then its own output.
@@ -146,7 +145,7 @@ static ORDER: [Row; 9] = [
         "room for all",
         &[Given::File(AFTER_A_STRING)],
         ROOM,
-        b"atext\nb\n",
+        "atext\nb\n",
         WARNS,
         (0, Cause::Done),
     ),
@@ -154,39 +153,39 @@ static ORDER: [Row; 9] = [
         "no room for what comes before a call",
         &[Given::File(AFTER_A_STRING)],
         (0, 1024),
-        b"",
-        b"",
+        "",
+        "",
         (1, Cause::Write),
     ),
     (
         "room for no text before a call but its beginning",
         &[Given::File(AFTER_TEXT)],
         (2, 1024),
-        b"on",
-        b"",
+        "on",
+        "",
         (1, Cause::Write),
     ),
     (
         "no room for the message of a call",
         &[Given::File(AFTER_A_STRING)],
         (1024, 0),
-        b"a",
-        b"",
+        "a",
+        "",
         (1, Cause::Write),
     ),
     (
         "room for two bytes of the message of a call",
         &[Given::File(AFTER_TEXT)],
         (1024, 2),
-        b"one ",
-        b"m4",
+        "one ",
+        "m4",
         (1, Cause::Write),
     ),
     (
         "no room for the output of a call",
         &[Given::File(AFTER_TEXT)],
         (4, 1024),
-        b"one ",
+        "one ",
         WARNS,
         (1, Cause::Write),
     ),
@@ -194,84 +193,98 @@ static ORDER: [Row; 9] = [
         "room for two bytes of the output of a call",
         &[Given::File(AFTER_A_STRING)],
         (3, 1024),
-        b"ate",
+        "ate",
         WARNS,
         (1, Cause::Write),
     ),
     (
         "no room for what comes behind a file that isn't opened",
         &[
-            Given::File(b"one\n"),
-            Given::Missing(b"nofile"),
-            Given::File(b"two\n"),
+            Given::File("one\n"),
+            Given::Missing("nofile"),
+            Given::File("two\n"),
         ],
         (4, 1024),
-        b"one\n",
-        b"m4: cannot open `nofile'\n",
+        "one\n",
+        "m4: cannot open `nofile'\n",
         (1, Cause::Write),
     ),
     (
         "no room for the diversions at the end",
-        &[Given::File(b"divert(1)text\ndivert(`x')")],
+        &[Given::File("divert(1)text\ndivert(`x')")],
         (0, 1024),
-        b"",
-        b"m4:a.m4:2: Warning: non-numeric argument to builtin `divert'\n",
+        "",
+        "m4:a.m4:2: Warning: non-numeric argument to builtin `divert'\n",
         (1, Cause::Write),
     ),
 ];
 
 // The source at a place of a row.
 fn source(
-    alloc: Global,
+    rt: &(impl Abort + Alloc<A = Global>),
     letter: u8,
     given: Given,
     block: usize,
-) -> Result<Source<MemSource<'static>>, AllocError> {
-    let name = [letter, b'.', b'm', b'4'];
-    match given {
-        Given::File(text) => opened(alloc, &name, text, block),
-        Given::Failing(text) => Ok(Source::Opened {
-            name: Bytes::from_slice(alloc, &name)?,
-            reader: MemSource::new(text, block.max(1), true),
-        }),
-        Given::Missing(name) => Ok(Source::Unopened {
-            name: Bytes::from_slice(alloc, name)?,
-        }),
+) -> Source<MemSource<'static>> {
+    let (text, fails) = match given {
+        Given::File(text) => (text, false),
+        Given::Failing(text) => (text, true),
+        Given::Missing(name) => {
+            return Source::Unopened {
+                name: bytes(rt, name.as_bytes()),
+            };
+        }
+    };
+    Source::Opened {
+        name: bytes(rt, &[letter, b'.', b'm', b'4']),
+        reader: MemSource::new(text.as_bytes(), block.max(1), fails),
     }
+}
+
+// The sources of a row.
+fn sources_of(
+    rt: &(impl Abort + Alloc<A = Global>),
+    given: &[Given],
+    block: usize,
+) -> Result<Vec<Source<MemSource<'static>>>, AllocError> {
+    let mut sources = Vec::new(rt.alloc());
+    let mut letter = b'a';
+    for one in given {
+        sources.push(source(rt, letter, *one, block))?;
+        letter = letter.saturating_add(1);
+    }
+    Ok(sources)
 }
 
 // What is to be seen of a row.
 fn seen_of(
-    alloc: Global,
+    rt: &(impl Abort + Alloc<A = Global>),
     given: &[Given],
     block: usize,
     room: (usize, usize),
 ) -> Result<Vec<u8>, AllocError> {
-    let mut sources = Vec::new(alloc);
-    let mut letter = b'a';
-    for one in given {
-        sources.push(source(alloc, letter, *one, block)?)?;
-        letter = letter.saturating_add(1);
-    }
-    seen(alloc, &mut sources, USUAL, room)
+    let mut sources = sources_of(rt, given, block)?;
+    let seen = run_over(rt, options(USUAL), &mut None, &mut sources, room, AT_MOST);
+    printed_seen(rt.alloc(), &seen)
 }
 
 // Compares what is to be seen of each row, at each size of a block.
-fn compare(alloc: Global, rt: &impl Abort, rows: &[Row]) {
+fn compare(rt: &(impl Abort + Alloc<A = Global>), rows: &[Row]) {
     for &(name, sources, room, output, messages, (status, cause)) in rows {
         for block in BLOCKS {
-            let want = printed_run(alloc, output, messages, ended(status, cause));
-            agrees(rt, name, want, seen_of(alloc, sources, block, room));
+            let end = ended(status, cause);
+            let want = printed_run(rt.alloc(), output.as_bytes(), messages.as_bytes(), end);
+            agrees(rt, name, want, seen_of(rt, sources, block, room));
         }
     }
 }
 
 #[test]
 fn sources_and_writers(rt: HostRuntime) {
-    compare(rt.alloc(), &rt, &ROWS);
+    compare(&rt, &ROWS);
 }
 
 #[test]
 fn output_and_messages_in_order(rt: HostRuntime) {
-    compare(rt.alloc(), &rt, &ORDER);
+    compare(&rt, &ORDER);
 }
