@@ -53,7 +53,13 @@ fn given(
     args: &Args,
     quotes: (&[u8], &[u8]),
 ) -> Result<Vec<u8>, AllocError> {
-    match substitute(alloc, text, args.name.as_slice(), args.list.as_slice(), quotes) {
+    match substitute(
+        alloc,
+        text,
+        args.name.as_slice(),
+        args.list.as_slice(),
+        quotes,
+    ) {
         Ok(got) => joined(alloc, &[got.as_slice()]),
         Err(_refused) => Err(AllocError),
     }
