@@ -49,8 +49,8 @@ static ROWS: [Row; 9] = [
     ),
     (
         "an indirect call of an indirect call",
-        "define(`f',`<$0|$1>')indir(`indir',`builtin',`indir',`f',`x')\n",
-        "<f|x>\n",
+        "define(`a b',`<$0|$1>')indir(`indir',`builtin',`indir',`a b',`x')\n",
+        "<a b|x>\n",
         "",
     ),
     (
