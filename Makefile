@@ -5,7 +5,7 @@ DESTDIR =
 
 SOURCES := crates.txt $(shell find crates -name out -prune -o -type f -print)
 
-.PHONY: check demo program cases install uninstall bench real-files mutants refused-memory wrong-bodies
+.PHONY: check demo program cases programs differences install uninstall bench real-files mutants refused-memory wrong-bodies
 
 # The program: proved, then built. A crate that is not proved is not built.
 m4r: $(SOURCES)
@@ -28,6 +28,14 @@ program: m4r
 # Small macro programs with what is expected of each, beside GNU m4 where it is installed.
 cases: m4r
 	tests/cases/run
+
+# Whole macro programs, a library and a page each, in one run and from the frozen library.
+programs: m4r
+	tests/programs/run
+
+# The cases of docs/DIFFERENCES.md, on m4r, and on GNU m4 where it is installed.
+differences: m4r
+	tests/differences
 
 # m4r and GNU m4 side by side, in time and memory. Give BENCH=--save to keep the numbers.
 bench: m4r

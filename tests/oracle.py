@@ -20,7 +20,8 @@ DEFAULT_COMMENTS = (b"#", b"\n")
 # The builtins that m4r has. A name that is not among them is listed as a placeholder.
 BUILTINS = frozenset((b"define", b"undefine", b"pushdef", b"popdef", b"defn", b"indir", b"builtin", b"ifdef",
                       b"ifelse", b"shift", b"dumpdef", b"dnl", b"changequote", b"changecom", b"divert",
-                      b"undivert", b"divnum"))
+                      b"undivert", b"divnum", b"len", b"index", b"substr", b"translit", b"incr", b"decr",
+                      b"errprint", b"m4wrap", b"m4exit", b"__file__", b"__line__"))
 
 
 class Fault(Exception):

@@ -1,16 +1,15 @@
 -- ActKeeps: a call leaves a state in order in order, and pushes definitions in order.
 use Rattle.std.proofs.Common.{◌≡◌, ℕ, Bool, true, false, List, [], ◌∷◌, Option, Some, None, length, refl, rules}
-use Rattle.std.specs.Prelude.{nat_lt, nat_le, ℤ, pos, negsuc, FitsSigned, filter_map, if◌then◌else◌}
-use Rattle.std.specs.Int.{w32}
+use Rattle.std.specs.Prelude.{nat_lt, nat_le, ℤ, pos, negsuc, filter_map, if◌then◌else◌}
 use Rattle.std.specs.List.{AllByRecursion}
 use Rattle.m4_state.specs.declared.builtin.Builtin.{Builtin}
-use Rattle.m4_state.specs.declared.builtin.Builtin.TheVariants.{Define, Undefine, Pushdef, Popdef, Defn, Indir, IndirBuiltin, Ifdef, Ifelse, Shift, Dumpdef, Dnl, Changequote, Changecom, Divert, Undivert, Divnum}
+use Rattle.m4_state.specs.declared.builtin.Builtin.TheVariants.{Define, Undefine, Pushdef, Popdef, Defn, Indir, IndirBuiltin, Ifdef, Ifelse, Shift, Dumpdef, Dnl, Changequote, Changecom, Divert, Undivert, Divnum, Len, Index, Substr, Translit, Incr, Decr, Errprint, M4wrap, M4exit, File, Line}
 use Rattle.m4_state.specs.declared.definition.Def.{Def}
 use Rattle.m4_state.specs.declared.definition.Def.TheVariants as defs
 use Rattle.m4_state.specs.declared.delimiters.Delimiters.{Delimiters}
 use Rattle.m4_state.specs.Definition.{IsDefinition}
 use Rattle.m4_state.specs.Builtin.{takes_tokens, least_of, builtin_named}
-use Rattle.m4_state.specs.State.{State, top_of, popped, undefined, diverted, undiverted, IsState}
+use Rattle.m4_state.specs.State.{State, top_of, popped, undefined, undiverted, IsState}
 use Rattle.m4_state.proofs.StaysInOrder.{IsState-defined, IsState-pushed, IsState-popped, IsState-undefined, IsState-with_quotes, IsState-with_comments, IsState-default_quotes, IsState-diverted, IsState-undiverted, top_definition}
 use Rattle.m4_builtins.specs.declared.args.Arg.{Arg}
 use Rattle.m4_builtins.specs.declared.args.Arg.TheVariants as args
@@ -18,14 +17,18 @@ use Rattle.m4_builtins.specs.declared.number.Reading.{Reading}
 use Rattle.m4_builtins.specs.declared.number.Reading.TheVariants.{Number, Empty, NotNumeric}
 use Rattle.m4_builtins.specs.declared.place.Place.{Place}
 use Rattle.m4_builtins.specs.Args.{IsArg, text_of_arg, definition_of_arg, text_at}
-use Rattle.m4_builtins.specs.Acted.{Acted, IsPushed}
-use Rattle.m4_builtins.specs.Numeric.{reading_of, number_of_reading}
+use Rattle.m4_builtins.specs.Acted.{Acted, IsPushed, telling_first}
+use Rattle.m4_builtins.specs.Numeric.{reading_of, number_of_reading, with_number}
 use Rattle.m4_builtins.specs.Naming.{define, pushdef, for_each, definition_in, definition_given, defn}
 use Rattle.m4_builtins.specs.Branching.{ifelse}
 use Rattle.m4_builtins.specs.Delimiting.{changequote}
 use Rattle.m4_builtins.specs.Diverting.{divert, diverted_if, undivert, brought_back, held_numbers, readings_of}
+use Rattle.m4_builtins.specs.Arithmetic.{incr, decr}
+use Rattle.m4_builtins.specs.Texts.{substr}
+use Rattle.m4_builtins.specs.Messages.{bad_status}
+use Rattle.m4_builtins.specs.Ending.{exits, exits_by, exits_reading, m4exit}
 use Rattle.m4_builtins.specs.Indirect.{Inner, called_by_name, indir, done_by_name, builtin}
-use Rattle.m4_builtins.specs.Act.{row, taken, act_unless, act_with, goes_on, act}
+use Rattle.m4_builtins.specs.Act.{row, taken, given_though_few, act_unless, act_with, goes_on, act}
 use Rattle.m4_builtins.proofs.NumbersFit.{IsReading, reading_fits}
 
 -- what a call makes is in order
@@ -95,6 +98,48 @@ module _ (p : Place) where
   undivert_is [] s h = record { state = brought_back_is (held_numbers s) s h; push = tt }
   undivert_is (a ∷ rest) s h = record { state = brought_back_is (filter_map number_of_reading (readings_of (a ∷ rest))) s h; push = tt }
 
+  number_is : (b : Builtin) (s : State) (r : Reading) (does : ℤ → Acted) → IsState s → ((n : ℤ) → IsActed (does n)) → IsActed (with_number p b s r does)
+  number_is b s (Number n) does h each = each n
+  number_is b s Empty does h each = record { state = (each (pos 0)).state; push = (each (pos 0)).push }
+  number_is b s NotNumeric does h each = record { state = h; push = tt }
+
+  substr_is : (list : List Arg) (s : State) → IsState s → IsActed (substr list p s)
+  substr_is [] s h = record { state = h; push = tt }
+  substr_is (a ∷ []) s h = record { state = h; push = tt }
+  substr_is (a ∷ b ∷ []) s h = number_is Substr s (reading_of (text_of_arg b)) _ h (λ n. record { state = h; push = tt })
+  substr_is (a ∷ b ∷ c ∷ rest) s h =
+      number_is Substr s (reading_of (text_of_arg b)) _ h
+      (λ n. number_is Substr s (reading_of (text_of_arg c)) _ h (λ m. record { state = h; push = tt }))
+
+  incr_is : (list : List Arg) (s : State) → IsState s → IsActed (incr list p s)
+  incr_is list s h = number_is Incr s (reading_of (text_at list 0)) _ h (λ n. record { state = h; push = tt })
+
+  decr_is : (list : List Arg) (s : State) → IsState s → IsActed (decr list p s)
+  decr_is list s h = number_is Decr s (reading_of (text_at list 0)) _ h (λ n. record { state = h; push = tt })
+
+  exits_by_is : (n : ℤ) (s : State) → IsState s → IsActed (exits_by n p s)
+  exits_by_is (pos n) s h = by (nat_le n 255)
+    where
+      by : (b : Bool) → IsActed (if b then exits s n else telling_first (bad_status p) (exits s 1))
+      by true = record { state = h; push = tt }
+      by false = record { state = h; push = tt }
+  exits_by_is (negsuc n) s h = record { state = h; push = tt }
+
+  exits_reading_is : (r : Reading) (s : State) → IsState s → IsActed (exits_reading r p s)
+  exits_reading_is (Number n) s h = exits_by_is n s h
+  exits_reading_is Empty s h = record { state = h; push = tt }
+  exits_reading_is NotNumeric s h = record { state = h; push = tt }
+
+  m4exit_is : (list : List Arg) (s : State) → IsState s → IsActed (m4exit list p s)
+  m4exit_is [] s h = record { state = h; push = tt }
+  m4exit_is (a ∷ rest) s h = exits_reading_is (reading_of (text_of_arg a)) s h
+
+  few_is : (b : Builtin) (list : List Arg) → IsPushed (given_though_few b list)
+  few_is Index (a ∷ []) = tt
+  few_is Substr (a ∷ []) = tt
+  few_is Translit (a ∷ []) = tt
+  few_is b list = tt
+
   each_is : (change : State → List ℕ → State) → ((s : State) (name : List ℕ) → IsState s → IsState (change s name)) → (list : List Arg) (s : State) → IsState s → IsState (for_each change list s)
   each_is change keeps [] s h = h
   each_is change keeps (a ∷ list) s h = each_is change keeps list (change s (text_of_arg a)) (keeps s (text_of_arg a) h)
@@ -140,9 +185,20 @@ module _ (p : Place) where
     row_is Divert list s h v = divert_is list s h
     row_is Undivert list s h v = undivert_is list s h
     row_is Divnum list s h v = record { state = h; push = tt }
+    row_is Len list s h v = record { state = h; push = tt }
+    row_is Index list s h v = record { state = h; push = tt }
+    row_is Substr list s h v = substr_is list s h
+    row_is Translit list s h v = record { state = h; push = tt }
+    row_is Incr list s h v = incr_is list s h
+    row_is Decr list s h v = decr_is list s h
+    row_is Errprint list s h v = record { state = h; push = tt }
+    row_is M4wrap list s h v = record { state = h; push = tt }
+    row_is M4exit list s h v = m4exit_is list s h
+    row_is File list s h v = record { state = h; push = tt }
+    row_is Line list s h v = record { state = h; push = tt }
 
     unless_is : (few : Bool) (b : Builtin) (list : List Arg) (s : State) → IsState s → AllByRecursion IsArg list → IsActed (act_unless inner few b list p s)
-    unless_is true b list s h v = record { state = h; push = tt }
+    unless_is true b list s h v = record { state = h; push = few_is b list }
     unless_is false b list s h v =
         let done : IsActed (row inner b (taken (takes_tokens b) list) p s) = row_is b (taken (takes_tokens b) list) s h (taken_valid (takes_tokens b) list v) in
         record { state = done.state; push = done.push }

@@ -1,16 +1,15 @@
 -- CallRows: worked calls, computed from the definitions. Each says the whole state and effect; a text
 -- that is pushed counts as none where it is empty.
-use Rattle.std.proofs.Common.{Some, None, ◌≡◌, ℕ, List, [], ◌∷◌, Option, Bool, false, true, refl}
-use Rattle.std.specs.Prelude.{codes, ℤ, pos, negsuc}
+use Rattle.std.proofs.Common.{Some, None, ◌≡◌, ℕ, List, [], ◌∷◌, Option, Bool, false, refl}
+use Rattle.std.specs.Prelude.{codes, pos, negsuc}
 use Rattle.std.specs.Fmt.{digits}
-use Rattle.m4_state.specs.declared.builtin.Builtin.TheVariants.{Changecom, Changequote, Define, Defn, Dnl, Dumpdef, Ifdef, Ifelse, Indir, IndirBuiltin, Popdef, Pushdef, Shift, Undefine}
+use Rattle.m4_state.specs.declared.builtin.Builtin.TheVariants.{Define, Defn, Dumpdef, Ifdef, Ifelse, Indir, IndirBuiltin, Len, Popdef, Pushdef, Shift, Undefine}
 use Rattle.m4_state.specs.declared.definition.Def.{Def}
 use Rattle.m4_state.specs.declared.definition.Def.TheVariants as defs
 use Rattle.m4_state.specs.Delimiters.{default_quotes, default_comments}
 use Rattle.m4_state.specs.State.{State}
 use Rattle.m4_input.specs.declared.pushed.Pushed.{Pushed}
 use Rattle.m4_input.specs.declared.pushed.Pushed.TheVariants as pushes
-use Rattle.m4_builtins.specs.declared.args.Arg.{Arg}
 use Rattle.m4_builtins.specs.declared.args.Arg.TheVariants as args
 use Rattle.m4_builtins.specs.declared.place.Place.{Place}
 use Rattle.m4_builtins.specs.Act.{Acted, act}
@@ -61,16 +60,16 @@ still s = record {
   exit = None;
 }
 
-abbrev here : Place
+abbrev pub here : Place
 here = record { file = codes "a.m4"; line = 1 }
 
-abbrev below : Place
+abbrev pub below : Place
 below = record { file = codes "b.m4"; line = 12 }
 
-abbrev wrapped : Place
+abbrev pub wrapped : Place
 wrapped = record { file = []; line = 0 }
 
-abbrev bare : State
+abbrev pub bare : State
 bare = record {
   table = [];
   quotes = default_quotes;
@@ -79,7 +78,7 @@ bare = record {
   current = pos 0;
 }
 
-abbrev named : State
+abbrev pub named : State
 named = record {
   table = (codes "a", defs.Text (codes "1") ∷ []) ∷ (codes "b", defs.Text (codes "1") ∷ defs.Text (codes "2") ∷ []) ∷ (codes "cut", defs.Builtin Shift ∷ []) ∷ (codes "old", defs.Placeholder (codes "regexp") ∷ []) ∷ [];
   quotes = default_quotes;
@@ -88,7 +87,7 @@ named = record {
   current = pos 0;
 }
 
-abbrev bracketed : State
+abbrev pub bracketed : State
 bracketed = record {
   table = (codes "a", defs.Text (codes "1") ∷ []) ∷ [];
   quotes = record { begin = codes "["; end = codes "]" };
@@ -97,7 +96,7 @@ bracketed = record {
   current = pos 0;
 }
 
-abbrev unquoted : State
+abbrev pub unquoted : State
 unquoted = record {
   table = (codes "a", defs.Text (codes "1") ∷ []) ∷ [];
   quotes = record { begin = []; end = [] };
@@ -106,7 +105,7 @@ unquoted = record {
   current = pos 0;
 }
 
-abbrev split : State
+abbrev pub split : State
 split = record {
   table = [];
   quotes = default_quotes;
@@ -115,7 +114,7 @@ split = record {
   current = pos 0;
 }
 
-abbrev diverting : State
+abbrev pub diverting : State
 diverting = record {
   table = [];
   quotes = default_quotes;
@@ -124,7 +123,7 @@ diverting = record {
   current = pos 2;
 }
 
-abbrev discarding : State
+abbrev pub discarding : State
 discarding = record {
   table = [];
   quotes = default_quotes;
@@ -133,7 +132,7 @@ discarding = record {
   current = negsuc 0;
 }
 
-abbrev indirect : State
+abbrev pub indirect : State
 indirect = record {
   table = (codes "a b", defs.Text (codes "<$0:$1>") ∷ []) ∷ (codes "define", defs.Builtin Define ∷ []) ∷ (codes "i", defs.Builtin Indir ∷ []) ∷ (codes "j", defs.Builtin IndirBuiltin ∷ []) ∷ [];
   quotes = default_quotes;
@@ -585,3 +584,39 @@ a_warning_at_a_place : seen (act (defs.Builtin Indir) [] (args.Text (codes "q") 
     ≡ record (still bare) { messages = codes "m4:b.m4:12: Warning: undefined macro `q'\n" }
 unfolding digits
 a_warning_at_a_place = refl
+
+-- indir hands definitions through
+indir_hands_definitions_through : seen (act (defs.Builtin Indir) [] (args.Text (codes "define") ∷ args.Text (codes "q") ∷ (args.Definition (defs.Builtin Len)) ∷ []) here indirect)
+    ≡ still (record {
+      table = (codes "a b", defs.Text (codes "<$0:$1>") ∷ []) ∷ (codes "define", defs.Builtin Define ∷ []) ∷ (codes "i", defs.Builtin Indir ∷ []) ∷ (codes "j", defs.Builtin IndirBuiltin ∷ []) ∷ (codes "q", defs.Builtin Len ∷ []) ∷ [];
+      quotes = default_quotes;
+      comments = default_comments;
+      diversions = [];
+      current = pos 0;
+    })
+unfolding digits
+indir_hands_definitions_through = refl
+
+-- indir of a definition
+indir_of_a_definition : seen (act (defs.Builtin Indir) [] ((args.Definition (defs.Builtin Len)) ∷ args.Text (codes "x") ∷ []) here indirect)
+    ≡ record (still indirect) { messages = codes "m4:a.m4:1: Warning: invalid macro name ignored in builtin `indir'\n" }
+unfolding digits
+indir_of_a_definition = refl
+
+-- ifelse takes a definition as an empty text
+ifelse_takes_a_definition_as_an_empty_text : seen (act (defs.Builtin Ifelse) [] ((args.Definition (defs.Builtin Len)) ∷ args.Text [] ∷ args.Text (codes "y") ∷ args.Text (codes "n") ∷ []) here bare)
+    ≡ record (still bare) { text = codes "y" }
+unfolding digits
+ifelse_takes_a_definition_as_an_empty_text = refl
+
+-- shift with other quotes, of a definition
+shift_with_other_quotes_of_a_definition : seen (act (defs.Builtin Shift) [] (args.Text (codes "a") ∷ (args.Definition (defs.Builtin Len)) ∷ args.Text (codes "b") ∷ []) here bracketed)
+    ≡ record (still bracketed) { text = codes "[],[b]" }
+unfolding digits
+shift_with_other_quotes_of_a_definition = refl
+
+-- a text with all arguments quoted
+a_text_with_all_arguments_quoted : seen (act (defs.Text (codes "$@;$*;$#;$0")) (codes "f") (args.Text (codes "a") ∷ (args.Definition (defs.Builtin Len)) ∷ args.Text (codes "b") ∷ []) here bracketed)
+    ≡ record (still bracketed) { text = codes "[a],[],[b];a,,b;3;f" }
+unfolding digits
+a_text_with_all_arguments_quoted = refl

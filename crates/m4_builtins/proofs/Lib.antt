@@ -1,9 +1,17 @@
 pub mod ActKeeps
+pub mod ArithmeticRows
 pub mod Brought
 pub mod CallRows
 pub mod Chosen
+pub mod Cut
+pub mod DivertingRows
+pub mod EndingRows
+pub mod FirstPlace
 pub mod HeldNumbers
 pub mod Joins
 pub mod NumbersFit
+pub mod Replaced
 pub mod RowsTaken
 pub mod SortedTexts
+pub mod TextRows
+pub mod WithNumber

@@ -1,9 +1,11 @@
 -- RowsTaken: a builtin reads its arguments alike, whether their definitions were emptied before or
 -- count as empty as they are read. So a call does what the row does with the arguments as they are.
 use Rattle.std.proofs.Common.{◌≡◌, ℕ, suc, Bool, true, false, List, [], ◌∷◌, ◌++◌, Option, Some, None, map, length, refl, sym, ap, ◌∙◌}
-use Rattle.std.specs.Prelude.{slice_get, nat_lt, flat_map, filter_map}
+use Rattle.std.specs.Prelude.{slice_get, nat_lt, flat_map, filter_map, pos}
+use Rattle.std.specs.Fmt.{decimal, signed_decimal}
+use Rattle.std.specs.Int.{w32, int_wrapping_add, int_wrapping_sub}
 use Rattle.m4_state.specs.declared.builtin.Builtin.{Builtin}
-use Rattle.m4_state.specs.declared.builtin.Builtin.TheVariants.{Define, Undefine, Pushdef, Popdef, Defn, Indir, IndirBuiltin, Ifdef, Ifelse, Shift, Dumpdef, Dnl, Changequote, Changecom, Divert, Undivert, Divnum}
+use Rattle.m4_state.specs.declared.builtin.Builtin.TheVariants.{Define, Undefine, Pushdef, Popdef, Defn, Indir, IndirBuiltin, Ifdef, Ifelse, Shift, Dumpdef, Dnl, Changequote, Changecom, Divert, Undivert, Divnum, Len, Index, Substr, Translit, Incr, Decr, Errprint, M4wrap, M4exit, File, Line}
 use Rattle.m4_state.specs.declared.definition.Def.{Def}
 use Rattle.m4_state.specs.Builtin.{takes_tokens, least_of, most_of}
 use Rattle.m4_state.specs.State.{State, popped, undefined, with_quotes, with_comments, top_of}
@@ -11,16 +13,19 @@ use Rattle.m4_builtins.specs.declared.args.Arg.{Arg}
 use Rattle.m4_builtins.specs.declared.effect.Effect.{Effect}
 use Rattle.m4_builtins.specs.declared.number.Reading.{Reading}
 use Rattle.m4_builtins.specs.declared.place.Place.{Place}
-use Rattle.m4_builtins.specs.Args.{text_of_arg, texts_of, only_text, text_at, or_empty}
-use Rattle.m4_builtins.specs.Acted.{Acted, changes, tells, expands, telling_first}
+use Rattle.m4_builtins.specs.Args.{text_of_arg, texts_of, only_text, text_at, or_empty, with_spaces}
+use Rattle.m4_builtins.specs.Acted.{Acted, nothing, changes, tells, expands, telling_first}
 use Rattle.m4_builtins.specs.Messages.{excess}
-use Rattle.m4_builtins.specs.Numeric.{reading_of, number_of_reading, reading_warning}
+use Rattle.m4_builtins.specs.Numeric.{reading_of, number_of_reading, reading_warning, with_number}
 use Rattle.m4_builtins.specs.Subst.{all_quoted}
 use Rattle.m4_builtins.specs.Naming.{for_each, defn, text_given, left_out}
 use Rattle.m4_builtins.specs.Branching.{ifdef, ifdef_by, ifelse, chosen, has_extra, extra_warning, shift}
 use Rattle.m4_builtins.specs.Delimiting.{changequote}
 use Rattle.m4_builtins.specs.Diverting.{divert, undivert, readings_of, brings_back}
 use Rattle.m4_builtins.specs.Printing.{dumpdef, dumped}
+use Rattle.m4_builtins.specs.Texts.{place_in, place_shown, substr}
+use Rattle.m4_builtins.specs.Translit.{ranges, translated}
+use Rattle.m4_builtins.specs.Ending.{m4exit}
 use Rattle.m4_builtins.specs.Indirect.{Inner}
 use Rattle.m4_builtins.specs.Act.{row, taken, act_unless, is_above, excess_if}
 
@@ -92,6 +97,16 @@ undivert_taken [] p s = refl
 undivert_taken (a ∷ rest) p s =
     ap (λ (rs : List Reading). brings_back (filter_map number_of_reading rs) (flat_map (reading_warning p Undivert) rs) s) (readings_taken (a ∷ rest))
 
+substr_taken : (list : List Arg) (p : Place) (s : State) → substr (map only_text list) p s ≡ substr list p s
+substr_taken [] p s = refl
+substr_taken (a ∷ []) p s = refl
+substr_taken (a ∷ b ∷ []) p s = refl
+substr_taken (a ∷ b ∷ c ∷ rest) p s = refl
+
+m4exit_taken : (list : List Arg) (p : Place) (s : State) → m4exit (map only_text list) p s ≡ m4exit list p s
+m4exit_taken [] p s = refl
+m4exit_taken (a ∷ rest) p s = refl
+
 pub row_taken : (inner : Inner) (b : Builtin) (list : List Arg) (p : Place) (s : State) → row inner b (taken (takes_tokens b) list) p s ≡ row inner b list p s
 row_taken inner Define list p s = refl
 row_taken inner Undefine list p s = ap changes (each_taken undefined list s)
@@ -110,6 +125,17 @@ row_taken inner Changecom list p s = λ i. changes (with_comments s (text_taken 
 row_taken inner Divert list p s = divert_taken list p s
 row_taken inner Undivert list p s = undivert_taken list p s
 row_taken inner Divnum list p s = refl
+row_taken inner Len list p s = ap (λ (x : List ℕ). expands s (decimal (length x))) (text_taken list 0)
+row_taken inner Index list p s = λ i. expands s (place_shown (place_in (text_taken list 0 i) (text_taken list 1 i)))
+row_taken inner Substr list p s = substr_taken list p s
+row_taken inner Translit list p s = λ i. expands s (translated (text_taken list 0 i) (ranges (text_taken list 1 i)) (ranges (text_taken list 2 i)))
+row_taken inner Incr list p s = ap (λ (x : List ℕ). with_number p Incr s (reading_of x) (λ n. expands s (signed_decimal (int_wrapping_add w32 n (pos 1))))) (text_taken list 0)
+row_taken inner Decr list p s = ap (λ (x : List ℕ). with_number p Decr s (reading_of x) (λ n. expands s (signed_decimal (int_wrapping_sub w32 n (pos 1))))) (text_taken list 0)
+row_taken inner Errprint list p s = ap (λ (texts : List (List ℕ)). tells s (with_spaces texts)) (texts_taken list)
+row_taken inner M4wrap list p s = ap (λ (texts : List (List ℕ)). let r : Acted = record { state = s; effect = record nothing { wrap = Some (with_spaces texts) } } in r) (texts_taken list)
+row_taken inner M4exit list p s = m4exit_taken list p s
+row_taken inner File list p s = refl
+row_taken inner Line list p s = refl
 
 -- with arguments that are enough, and not too many
 pub acts_plainly : (inner : Inner) (b : Builtin) (list : List Arg) (p : Place) (s : State) → nat_lt (length list) (least_of b) ≡ false → is_above (most_of b) (length list) ≡ false

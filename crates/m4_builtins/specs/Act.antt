@@ -2,28 +2,35 @@
 -- Believed. Its lemmas: `ActKeeps` (a state in order stays so, and pushes definitions in order).
 -- Manual: "Deleting whitespace in input", "Arguments to macros", "Macro invocation"; the sections of
 -- the other builtins are named at their own definitions, a file for each chapter.
--- Words: row, act_with, goes_on, act, needs_list. One line a builtin, one a kind of definition.
+-- Words: row, act_with, goes_on, act, needs_list, given_though_few. One line a builtin, one a kind of
+-- definition.
 -- own: a placeholder, which stands for a builtin of another m4, expands to nothing with a warning.
-use Rattle.std.specs.Prelude.{ℕ, Bool, true, false, nat_lt, List, [], ◌∷◌, Option, Some, None, length, map}
+-- own: with one argument `index` expands to 0, `substr` and `translit` to it, after the warning.
+use Rattle.std.specs.Prelude.{ℕ, Bool, true, false, nat_lt, List, [], ◌∷◌, Option, Some, None, length, map, codes}
 use Rattle.m4_state.specs.declared.builtin.Builtin.{Builtin}
-use Rattle.m4_state.specs.declared.builtin.Builtin.TheVariants.{Define, Undefine, Pushdef, Popdef, Defn, Indir, IndirBuiltin, Ifdef, Ifelse, Shift, Dumpdef, Dnl, Changequote, Changecom, Divert, Undivert, Divnum}
+use Rattle.m4_state.specs.declared.builtin.Builtin.TheVariants.{Define, Undefine, Pushdef, Popdef, Defn, Indir, IndirBuiltin, Ifdef, Ifelse, Shift, Dumpdef, Dnl, Changequote, Changecom, Divert, Undivert, Divnum, Len, Index, Substr, Translit, Incr, Decr, Errprint, M4wrap, M4exit, File, Line}
 use Rattle.m4_state.specs.declared.definition.Def.{Def}
 use Rattle.m4_state.specs.declared.definition.Def.TheVariants as defs
 use Rattle.m4_state.specs.Builtin.{needs_args, takes_tokens, least_of, most_of}
 use Rattle.m4_state.specs.State.{State}
+use Rattle.m4_input.specs.declared.pushed.Pushed.{Pushed}
+use Rattle.m4_input.specs.declared.pushed.Pushed.TheVariants as pushes
 use Rattle.m4_builtins.specs.declared.args.Arg.{Arg}
-use Rattle.m4_builtins.specs.declared.args.Arg.TheVariants as args
 use Rattle.m4_builtins.specs.declared.place.Place.{Place}
 pub use Rattle.m4_builtins.specs.Acted.{Acted, IsPushed, nothing, changes, tells, gives, expands, telling_first}
-use Rattle.m4_builtins.specs.Args.{only_text}
+use Rattle.m4_builtins.specs.Args.{text_of_arg, only_text}
+use Rattle.m4_builtins.specs.Arithmetic.{incr, decr}
 use Rattle.m4_builtins.specs.Branching.{ifdef, ifelse, shift}
 use Rattle.m4_builtins.specs.Delimiting.{changequote, changecom}
 use Rattle.m4_builtins.specs.Diverting.{divert, undivert, divnum}
+use Rattle.m4_builtins.specs.Ending.{m4wrap, m4exit}
 use Rattle.m4_builtins.specs.Indirect.{Inner, indir, builtin}
 use Rattle.m4_builtins.specs.Messages.{too_few, excess, unsupported}
 use Rattle.m4_builtins.specs.Naming.{define, undefine, pushdef, popdef, defn}
-use Rattle.m4_builtins.specs.Printing.{dumpdef}
+use Rattle.m4_builtins.specs.Printing.{dumpdef, errprint, file, line}
 use Rattle.m4_builtins.specs.Subst.{subst}
+use Rattle.m4_builtins.specs.Texts.{len, index, substr}
+use Rattle.m4_builtins.specs.Translit.{translit}
 
 -- whether a definition is recognised only with parameters: without a list its name is text
 abbrev pub needs_list : Def → Bool
@@ -50,6 +57,17 @@ row inner Changecom list p s = changes (changecom list s)
 row inner Divert list p s = divert list p s
 row inner Undivert list p s = undivert list p s
 row inner Divnum list p s = divnum s
+row inner Len list p s = len list s
+row inner Index list p s = index list s
+row inner Substr list p s = substr list p s
+row inner Translit list p s = translit list s
+row inner Incr list p s = incr list p s
+row inner Decr list p s = decr list p s
+row inner Errprint list p s = errprint list s
+row inner M4wrap list p s = m4wrap list s
+row inner M4exit list p s = m4exit list p s
+row inner File list p s = file p s
+row inner Line list p s = line p s
 
 -- whether a count is above the most
 abbrev pub is_above : Option ℕ → ℕ → Bool
@@ -66,9 +84,23 @@ abbrev pub taken : Bool → List Arg → List Arg
 taken true list = list
 taken false list = map only_text list
 
--- a builtin's row, where `few` says that arguments are missing: then a warning and nothing else
+-- what a call still expands to where arguments are missing
+abbrev pub given_though_few : Builtin → List Arg → Option Pushed
+given_though_few Index (a ∷ []) = Some (pushes.Text (codes "0"))
+given_though_few Substr (a ∷ []) = Some (pushes.Text (text_of_arg a))
+given_though_few Translit (a ∷ []) = Some (pushes.Text (text_of_arg a))
+given_though_few b list = None
+
+-- a call where arguments are missing: a warning, and nothing changes
+abbrev pub lacks : Builtin → List Arg → Place → State → Acted
+lacks b list p s = record {
+  state = s;
+  effect = record nothing { push = given_though_few b list; messages = too_few p b };
+}
+
+-- a builtin's row, where `few` says that arguments are missing
 abbrev pub act_unless : Inner → Bool → Builtin → List Arg → Place → State → Acted
-act_unless inner true b list p s = tells s (too_few p b)
+act_unless inner true b list p s = lacks b list p s
 act_unless inner false b list p s =
     telling_first (excess_if (is_above (most_of b) (length list)) p b)
     (row inner b (taken (takes_tokens b) list) p s)

@@ -1,11 +1,12 @@
 -- Args: what the arguments of a call give, by their numbers.
 -- Believed. Manual: "Macro arguments". Words: IsArg, text_of_arg, text_at,
--- texts_of, after_first, definition_of_arg, joined, quoted.
+-- texts_of, after_first, definition_of_arg, joined, with_spaces, quoted.
 use Rattle.std.specs.Prelude.{ℕ, List, [], ◌∷◌, ◌++◌, Option, Some, None, slice_get, map}
 use Rattle.m4_state.specs.declared.definition.Def.{Def}
 use Rattle.m4_state.specs.declared.definition.Def.TheVariants as defs
 use Rattle.m4_state.specs.Definition.{IsDefinition}
 use Rattle.m4_state.specs.declared.delimiters.Delimiters.{Delimiters}
+use Rattle.m4_input.specs.Ascii.{space}
 use Rattle.m4_builtins.specs.declared.args.Arg.{Arg}
 use Rattle.m4_builtins.specs.declared.args.Arg.TheVariants as args
 
@@ -51,6 +52,10 @@ abbrev pub joined : List ℕ → List (List ℕ) → List ℕ
 joined separator [] = []
 joined separator (x ∷ []) = x
 joined separator (x ∷ y ∷ ys) = x ++ separator ++ joined separator (y ∷ ys)
+
+-- texts joined by spaces
+abbrev pub with_spaces : List (List ℕ) → List ℕ
+with_spaces texts = joined (space ∷ []) texts
 
 -- a text between quotes
 abbrev pub quoted : Delimiters → List ℕ → List ℕ

@@ -8,6 +8,11 @@ pub mod Branching
 pub mod Delimiting
 pub mod Diverting
 pub mod Printing
+pub mod Arithmetic
+pub mod Texts
+pub mod Translit
+pub mod ByteTable
+pub mod Ending
 pub mod Indirect
 pub mod Act
 pub mod Steps

@@ -1,15 +1,17 @@
 -- Numeric: the number that an argument stands for.
--- Believed. Manual: "Macro arguments". Its lemma: `NumbersFit` (the number has 32
--- bits with its sign). Words: reading_of, number_of_reading, reading_warning.
+-- Believed. Manual: "Macro arguments". Its lemma: `NumbersFit` (the number has 32 bits with its sign).
+-- Words: reading_of, number_of_reading, reading_warning, with_number.
 -- own: white space before a number is skipped, after it none is; white space alone is no number; a
 -- number that has no 32 bits with its sign is none.
 use Rattle.std.specs.Prelude.{ℕ, ◌-◌, ◌^◌, ◌==◌, ◌&&◌, nat_le, ℤ, pos, neg_ℤ, Bool, true, false, not, List, [], ◌∷◌, Option, Some, None, drop, length, if◌then◌else◌}
 use Rattle.m4_state.specs.declared.builtin.Builtin.{Builtin}
+use Rattle.m4_state.specs.State.{State}
 use Rattle.m4_input.specs.Ascii.{is_space, is_digit}
 use Rattle.m4_input.specs.Token.{run_length}
 use Rattle.m4_builtins.specs.declared.number.Reading.{Reading}
 use Rattle.m4_builtins.specs.declared.number.Reading.TheVariants.{Number, Empty, NotNumeric}
 use Rattle.m4_builtins.specs.declared.place.Place.{Place}
+use Rattle.m4_builtins.specs.Acted.{Acted, tells, telling_first}
 use Rattle.m4_builtins.specs.Messages.{empty_number, not_numeric}
 use Rattle.m4_builtins.specs.Subst.{number_of}
 
@@ -70,3 +72,10 @@ abbrev pub reading_warning : Place → Builtin → Reading → List ℕ
 reading_warning p b (Number n) = []
 reading_warning p b Empty = empty_number p b
 reading_warning p b NotNumeric = not_numeric p b
+
+-- what is done with a number that was read, after the warning on an empty one; without a number there
+-- is only a warning
+abbrev pub with_number : Place → Builtin → State → Reading → (ℤ → Acted) → Acted
+with_number p b s (Number n) does = does n
+with_number p b s Empty does = telling_first (empty_number p b) (does (pos 0))
+with_number p b s NotNumeric does = tells s (not_numeric p b)

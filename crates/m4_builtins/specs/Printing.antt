@@ -1,7 +1,9 @@
--- Printing: the builtins that write to the messages.
--- Believed. Manual: "Displaying macro definitions". Words: in_byte_order, dumpdef.
+-- Printing: the builtins that write to the messages, and those that give the place of a call.
+-- Believed. Manual: "Displaying macro definitions", "Printing error messages", "Printing current
+-- location". Words: in_byte_order, dumpdef, errprint, file, line.
 -- own: a text is shown between the current quotes, also where no quotes are needed.
-use Rattle.std.specs.Prelude.{ℕ, List, [], ◌∷◌, ◌++◌, Option, Some, None, flat_map, codes, if◌then◌else◌}
+use Rattle.std.specs.Prelude.{ℕ, ◌==◌, List, [], ◌∷◌, ◌++◌, Option, Some, None, flat_map, codes, if◌then◌else◌}
+use Rattle.std.specs.Fmt.{decimal}
 use Rattle.std.specs.Ordering.{is_lt}
 use Rattle.m4_state.specs.declared.definition.Def.{Def}
 use Rattle.m4_state.specs.declared.definition.Def.TheVariants as defs
@@ -11,8 +13,8 @@ use Rattle.m4_state.specs.Table.{byte_order}
 use Rattle.m4_state.specs.State.{State, top_of, names_of}
 use Rattle.m4_builtins.specs.declared.args.Arg.{Arg}
 use Rattle.m4_builtins.specs.declared.place.Place.{Place}
-use Rattle.m4_builtins.specs.Args.{texts_of, quoted}
-use Rattle.m4_builtins.specs.Acted.{Acted, tells}
+use Rattle.m4_builtins.specs.Args.{texts_of, with_spaces, quoted}
+use Rattle.m4_builtins.specs.Acted.{Acted, tells, expands}
 use Rattle.m4_builtins.specs.Messages.{unknown_macro}
 
 -- a builtin's name as it is shown
@@ -65,3 +67,15 @@ dumped names p s = warnings_on names p s ++ lines_of (in_byte_order names) s
 
 abbrev pub dumpdef : List Arg → Place → State → Acted
 dumpdef list p s = tells s (dumped (names_shown list s) p s)
+
+-- `errprint`: the arguments joined by spaces; no newline is added
+abbrev pub errprint : List Arg → State → Acted
+errprint list s = tells s (with_spaces (texts_of list))
+
+-- `__file__`: between quotes; empty in wrapped text, whose line is 0
+abbrev pub file : Place → State → Acted
+file p s = expands s (quoted s.quotes (if p.line == 0 then [] else p.file))
+
+-- `__line__`: 0 in wrapped text
+abbrev pub line : Place → State → Acted
+line p s = expands s (decimal p.line)

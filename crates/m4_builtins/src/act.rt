@@ -6,21 +6,26 @@ ghost use Rattle.std.specs.List.{AllByRecursion};
 ghost use Rattle.m4_state.specs.Definition.{IsDefinition};
 ghost use Rattle.m4_state.specs.Builtin.{most_of};
 ghost use Rattle.m4_state.specs.declared.definition.Def.TheVariants as defs;
+ghost use Rattle.m4_builtins.specs.Acted.{nothing};
 ghost use Rattle.m4_builtins.specs.Args.{IsArg};
 ghost use Rattle.m4_builtins.specs.Act as spec;
 ghost use Rattle.m4_builtins.specs.Steps.{LeadsTo, IsShorter, IsUnbounded};
 
-use crate::args::{Arg, Args};
+use crate::args::{Arg, Args, text_of};
+use crate::arithmetic::{decr, incr};
 use crate::branching::{ifdef, ifelse, shift};
 use crate::delimiting::{changecom, changequote};
 use crate::diverting::{divert, divnum, undivert};
 use crate::effect::Effect;
+use crate::ending::{m4exit, m4wrap};
 use crate::fault::BuiltinFault;
 use crate::indirect::{Step, begin, builtin, indir};
 use crate::messages::{excess_message, too_few_message};
 use crate::naming::{define, defn, popdef, pushdef, undefine};
 use crate::place::Place;
-use crate::printing::dumpdef;
+use crate::printing::{dumpdef, errprint, file, line};
+use crate::texts::{index, len, substr};
+use crate::translit::translit;
 use m4_state::builtin::Builtin;
 use m4_state::bytes::Bytes;
 use m4_state::definition::Def;
@@ -58,8 +63,8 @@ pub fn act(
     }
 }
 
-/// What a builtin does. With too few arguments it only warns; those above its most are ignored, with
-/// a warning in front of its own.
+/// What a builtin does. With too few arguments it warns, and most do nothing else; those above its
+/// most are ignored, with a warning in front of its own.
 fn act_builtin<'a>(
     alloc: Global,
     builtin: Builtin,
@@ -72,8 +77,9 @@ fn act_builtin<'a>(
     ensures shorter { IfOk result (λ step. IsShorter (length list.now) step) }
 {
     if list.len() < builtin.least_args() {
-        let warning = too_few_message(alloc, place, builtin)?;
-        return Ok(Step::Done(Effect::telling(alloc, warning)));
+        let mut effect = given_though_few(alloc, builtin, list)?;
+        effect.messages = too_few_message(alloc, place, builtin)?;
+        return Ok(Step::Done(effect));
     }
     let step = row(alloc, builtin, list, place, state)?;
     if !is_above(builtin.most_args(), list.len()) {
@@ -132,8 +138,35 @@ fn row<'a>(
         Builtin::Divert => divert(alloc, list, place, state)?,
         Builtin::Undivert => undivert(alloc, list, place, state)?,
         Builtin::Divnum => divnum(alloc, state)?,
+        Builtin::Len => len(alloc, list, state)?,
+        Builtin::Index => index(alloc, list, state)?,
+        Builtin::Substr => substr(alloc, list, place, state)?,
+        Builtin::Translit => translit(alloc, list, state)?,
+        Builtin::Incr => incr(alloc, list, place, state)?,
+        Builtin::Decr => decr(alloc, list, place, state)?,
+        Builtin::Errprint => errprint(alloc, list, state)?,
+        Builtin::M4wrap => m4wrap(alloc, list, state)?,
+        Builtin::M4exit => m4exit(alloc, list, place, state)?,
+        Builtin::File => file(alloc, place, state)?,
+        Builtin::Line => line(alloc, place, state)?,
     };
     Ok(Step::Done(effect))
+}
+
+/// What a builtin still gives where arguments are missing: of one argument `index` finds nothing in
+/// front of it, `substr` takes all of it, and `translit` replaces no byte.
+fn given_though_few(alloc: Global, builtin: Builtin, list: &[Arg]) -> Result<Effect, AllocError>
+    ensures { IfOk result (λ e. e ≡ record nothing { push = spec.given_though_few builtin list.now }) }
+{
+    let [arg] = list else {
+        return Ok(Effect::nothing(alloc));
+    };
+    let text = match builtin {
+        Builtin::Index => b"0",
+        Builtin::Substr | Builtin::Translit => text_of(arg),
+        _ => return Ok(Effect::nothing(alloc)),
+    };
+    Ok(Effect::pushing(alloc, Bytes::from_slice(alloc, text)?))
 }
 
 /// Whether a count is above the most.

@@ -74,4 +74,22 @@ impl Effect {
         effect.skip = true;
         effect
     }
+
+    /// A text is saved until all input is read.
+    pub(crate) fn wrapping(alloc: Global, text: Bytes) -> Effect
+        ensures { result ≡ record nothing { wrap = Some text } }
+    {
+        let mut effect = Effect::nothing(alloc);
+        effect.wrap = Some(text);
+        effect
+    }
+
+    /// The run ends with a code.
+    pub(crate) fn exiting(alloc: Global, code: u8) -> Effect
+        ensures { result ≡ record nothing { exit = Some code } }
+    {
+        let mut effect = Effect::nothing(alloc);
+        effect.exit = Some(code);
+        effect
+    }
 }

@@ -1,7 +1,7 @@
 //! What is told of a call, a line each. The texts are those of `specs/Messages.antt`.
 
 ghost use Rattle.std.specs.Prelude.{◌≡◌, ◌++◌, IfOk, OnOk, codes};
-ghost use Rattle.m4_builtins.specs.Messages.{place_text, warning, error, too_few, excess, empty_number, not_numeric, unknown_macro, unknown_builtin, unsupported, dropped, bad_name};
+ghost use Rattle.m4_builtins.specs.Messages.{place_text, warning, error, too_few, excess, empty_number, not_numeric, unknown_macro, unknown_builtin, unsupported, dropped, bad_name, bad_status};
 
 use crate::fault::BuiltinFault;
 use crate::place::Place;
@@ -164,6 +164,14 @@ pub(crate) fn bad_name_message(
         builtin.name(),
         b"'",
     )
+}
+
+/// The warning that a code of the run's end is out of range.
+pub(crate) fn bad_status_message(alloc: Global, place: &Place) -> Result<Bytes, AllocError>
+    // exact steps: the whole line
+    ensures { IfOk result (λ b. b ≡ bad_status place.now) }
+{
+    warning_on(alloc, place, b"exit status out of range", b"", b"")
 }
 
 /// A warning on what bears a name, which stands between two texts.

@@ -1,4 +1,5 @@
-//! The builtins that write to the messages. Manual: "Displaying macro definitions".
+//! The builtins that write to the messages, and those that give the place of a call. Manual:
+//! "Displaying macro definitions", "Printing error messages", "Printing current location".
 
 ghost use Rattle.std.specs.Prelude.{◌≡◌, ◌++◌, IfOk, OnOk, option_copied};
 ghost use Rattle.m4_input.specs.DelimsView.{pair_of};
@@ -10,7 +11,8 @@ use crate::effect::Effect;
 use crate::fault::BuiltinFault;
 use crate::messages::unknown_macro_message;
 use crate::place::Place;
-use crate::substitute::push_one_quoted;
+use crate::substitute::{push_joined, push_one_quoted};
+use itoa::Buffer;
 use m4_state::bytes::Bytes;
 use m4_state::definition::Def;
 use m4_state::state::State;
@@ -142,4 +144,39 @@ fn push_bracketed(name: &[u8], messages: &mut Vec<u8>) -> Result<(), AllocError>
     messages.extend_from_slice(name)?;
     messages.push(b'>')?;
     Ok(())
+}
+
+/// Writes the arguments, joined by spaces, to the messages. Manual: "Printing error messages".
+pub(crate) fn errprint(alloc: Global, list: &[Arg], state: &State) -> Result<Effect, AllocError>
+    ensures { IfOk result (λ e. spec.errprint list.now state.now ≡ record { state = state.now; effect = e }) }
+{
+    let _ = state;
+    let mut text = Vec::new(alloc);
+    push_joined(&mut text, list, b' ')?;
+    Ok(Effect::telling(alloc, Bytes::from(text)))
+}
+
+/// Gives the name of the input between quotes; an empty one in wrapped text, whose line is 0. Manual:
+/// "Printing current location".
+pub(crate) fn file(alloc: Global, place: &Place, state: &State) -> Result<Effect, AllocError>
+    ensures { IfOk result (λ e. spec.file place.now state.now ≡ record { state = state.now; effect = e }) }
+{
+    let name = if place.line == 0 {
+        &[]
+    } else {
+        place.file.as_slice()
+    };
+    let mut text = Vec::new(alloc);
+    push_one_quoted(&mut text, name, state.quotes())?;
+    Ok(Effect::pushing(alloc, Bytes::from(text)))
+}
+
+/// Gives the line of the call; 0 in wrapped text. Manual: "Printing current location".
+pub(crate) fn line(alloc: Global, place: &Place, state: &State) -> Result<Effect, AllocError>
+    ensures { IfOk result (λ e. spec.line place.now state.now ≡ record { state = state.now; effect = e }) }
+{
+    let _ = state;
+    let mut buffer = Buffer::new();
+    let text = Bytes::from_slice(alloc, buffer.format(place.line).as_bytes())?;
+    Ok(Effect::pushing(alloc, text))
 }

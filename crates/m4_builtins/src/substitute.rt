@@ -1,11 +1,11 @@
 //! A text with the name and the arguments of a call put in: what stands behind each dollar decides.
 
-ghost use Rattle.std.specs.Prelude.{◌≡◌, ◌==◌, ◌≤◌, ◌^◌, ◌++◌, IfOk, OnOk, ℕ, ◌<◌, length, map, not, decimal};
+ghost use Rattle.std.specs.Prelude.{◌≡◌, ◌==◌, ◌≤◌, ◌^◌, [], ◌∷◌, ◌++◌, IfOk, OnOk, ℕ, ◌<◌, length, map, not, decimal};
 ghost use Rattle.m4_input.specs.Ascii.{dollar, is_digit};
 ghost use Rattle.m4_input.specs.Token.{run_length};
 ghost use Rattle.m4_input.specs.DelimsView.{pair_of};
-ghost use Rattle.m4_builtins.specs.Args.{text_of_arg, quoted};
-ghost use Rattle.m4_builtins.specs.Subst.{subst, behind_dollar, number_of, nth_text, with_commas, all_quoted};
+ghost use Rattle.m4_builtins.specs.Args.{text_of_arg, texts_of, joined, quoted};
+ghost use Rattle.m4_builtins.specs.Subst.{subst, behind_dollar, number_of, nth_text, all_quoted};
 ghost use Rattle.m4_builtins.specs.Numbers.{IsNumber};
 
 use crate::args::{Arg, text_of};
@@ -95,7 +95,7 @@ fn push_dollar(
             Ok(1)
         }
         Some(b'*') => {
-            push_joined(out, list)?;
+            push_joined(out, list, b',')?;
             Ok(1)
         }
         Some(b'@') => {
@@ -163,15 +163,15 @@ fn push_count(out: &mut Vec<u8>, count: usize) -> Result<(), AllocError>
     out.extend_from_slice(buffer.format(count).as_bytes())
 }
 
-/// Adds the arguments, with a comma between any two of them.
+/// Adds the arguments, with a separator between any two of them.
 #[tactic(auto, using(crate::proofs::Joins::joined_step))]
-fn push_joined(out: &mut Vec<u8>, args: &[Arg]) -> Result<(), AllocError>
-    ensures { OnOk result (out.new.items ≡ out.old.items ++ with_commas (map text_of_arg args.now)) }
+pub(crate) fn push_joined(out: &mut Vec<u8>, args: &[Arg], separator: u8) -> Result<(), AllocError>
+    ensures { OnOk result (out.new.items ≡ out.old.items ++ joined (separator ∷ []) (texts_of args.now)) }
 {
     let mut first = true;
     for arg in args {
         if !first {
-            out.push(b',')?;
+            out.push(separator)?;
         }
         out.extend_from_slice(text_of(arg))?;
         first = false;

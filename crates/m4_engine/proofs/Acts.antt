@@ -1,8 +1,14 @@
 -- Acts: what a call leaves is what the definitions' move leaves.
-use Rattle.std.proofs.Common.{◌≡◌, Option, Some, None, ◌++◌, length, ℕ, List, [], ◌∷◌, refl, sym, ap, ◌∙◌, append_assoc}
-use Rattle.m4_state.specs.State.{State}
+use Rattle.std.proofs.Common.{◌≡◌, Option, Some, None, ◌++◌, length, ℕ, List, [], ◌∷◌, refl, sym, ap, ◌∙◌, subst, append_assoc}
+use Rattle.std.specs.List.{AllByRecursion}
+use Rattle.m4_state.specs.declared.definition.Def.{Def}
+use Rattle.m4_state.specs.State.{State, IsState}
+use Rattle.m4_builtins.specs.declared.args.Arg.{Arg}
+use Rattle.m4_builtins.specs.declared.place.Place.{Place}
+use Rattle.m4_builtins.specs.Args.{IsArg}
+use Rattle.m4_builtins.proofs.ActKeeps.{act_pushes}
 use Rattle.m4_input.specs.Pending.{Pending}
-use Rattle.m4_builtins.specs.Act.{Acted, act}
+use Rattle.m4_builtins.specs.Act.{Acted, IsPushed, act}
 use Rattle.std.specs.Prelude.{Result, Ok, Err, IfOk}
 use Rattle.m4_engine.specs.declared.turned.Turned.{Turned}
 use Rattle.m4_engine.specs.declared.turned.TurnFault.{TurnFault}
@@ -56,10 +62,6 @@ called_exits e e1 c a p code h x i o m =
     ∙ ap (λ (r : RunSoFar). Stops (Halted (let d : Ended = record { so_far = r; how = Ends (causes.Exited code) } in d)))
     (ap (λ (k : Stacked Expansion Kept). (k.here).so_far) (around a o m e.limits e.state e.saved e.calls e.open_calls e.output e.messages p p) ∙ ap (λ (d : Engine). so_far_of o m d) (sym i))
 
--- what was made, where nothing is saved
-pub made_plain : (e1 e : Engine) (messages output : List ℕ) (wrap : Option (List ℕ)) → e1 ≡ with_made messages output None e → wrap ≡ None → e1 ≡ with_made messages output wrap e
-made_plain e1 e messages output wrap h k = h ∙ ap (λ w. with_made messages output w e) (sym k)
-
 abbrev head_or : Call → List Call → Call
 head_or c [] = c
 head_or c (d ∷ ds) = d
@@ -98,3 +100,7 @@ closing e e2 e3 c p p' t h k = moves_by e3 p' t _ _ (closing_in e.open_calls e e
 pub closing_result : (e e2 e3 : Engine) (c : Call) (p p' : Pending) (r : Result Turned TurnFault) → ending_argument e ≡ beginning c e2 → IfOk r (λ t. Moves e3 p' t (λ o m. called_within e2.open_calls c (here_of o m e2 p))) → IfOk r (λ t. Moves e3 p' t (λ o m. step (outer_of e.open_calls) (close_in e.open_calls (here_of o m e p))))
 closing_result e e2 e3 c p p' (Ok t) h k = closing e e2 e3 c p p' t h k
 closing_result e e2 e3 c p p' (Err x) h k = tt
+
+-- what a call pushes is in order
+pub acted_pushes : (d : Def) (name : List ℕ) (list : List Arg) (p : Place) (s : State) (a : Acted) → IsState s → AllByRecursion IsArg list → act d name list p s ≡ a → IsPushed (a.effect).push
+acted_pushes d name list p s a is v h = subst (λ (b : Acted). IsPushed (b.effect).push) h (act_pushes d name list p s is v)

@@ -6,65 +6,14 @@ use Rattle.m4_engine.specs.declared.options.Options.{Options}
 use Rattle.m4_engine.specs.declared.ending.Cause.TheVariants as causes
 use Rattle.m4_engine.specs.Expansion.{RunSoFar, Limits as TheLimits, How, Ends}
 use Rattle.m4_engine.specs.File.{Source, Progress, over_of, after_sources}
-use Rattle.m4_engine.specs.Wraps.{read_saved, next_round, rounds, after_wraps, joined_back, wrapped_pending}
+use Rattle.m4_engine.specs.Wraps.{rounds, after_wraps}
 use Rattle.m4_engine.specs.Start.{Start, begun}
 use Rattle.m4_engine.specs.Run.{result_by, result_of, saved_behind, run_from}
 use Rattle.m4_engine.specs.Laws.{IsAsDeep}
 use Rattle.m4_engine.proofs.OnePass.{over_wraps}
-use Rattle.m4_engine.proofs.SavesCount.{input_saves}
+use Rattle.m4_engine.proofs.Rounds.{Complete, wraps_complete, more_rounds}
 use Rattle.m4_engine.proofs.Shifts.{behind_record}
-use Rattle.m4_engine.proofs.RunsBehind.{Behind, sources_behind, rounds_behind, over_rounds}
-
--- ---- the rounds are enough
-
--- no round is left: the run is over, or no text is saved
-abbrev Complete : Progress → Type 0
-Complete p = ((h : How) × (p.over ≡ Some h)) ⊎ ((p.so_far).saved ≡ [])
-
-complete_by : (v : Option How) (go : Progress → Progress) (limits : TheLimits) (p : Progress) → p.over ≡ v → (p.so_far).saved ≡ [] → next_round go limits v (p.so_far).saved p ≡ p
-complete_by None go limits p e f = ap (λ saved. next_round go limits None saved p) f
-complete_by (Some h) go limits p e f = refl
-
--- then rounds change nothing
-complete_stays : (n : ℕ) (limits : TheLimits) (p : Progress) → Complete p → rounds n limits p ≡ p
-complete_stays n limits p (inl h) = over_rounds n limits p h.0 h.1
-complete_stays zero limits p (inr e) = refl
-complete_stays (suc n) limits p (inr e) = complete_by p.over (rounds n limits) limits p refl e
-
-complete_after : (n : ℕ) (limits : TheLimits) (p : Progress) → Complete p → Complete (rounds n limits p)
-complete_after n limits p h = subst Complete (sym (complete_stays n limits p h)) h
-
--- a round leaves no text, or fewer calls
-round_saves : (limits : TheLimits) (saved : List (List ℕ)) (p : Progress) → ((read_saved limits saved p).so_far.saved ≡ []) ⊎ (limits.calls - (read_saved limits saved p).so_far.calls < limits.calls - (p.so_far).calls)
-round_saves limits saved p = (input_saves limits (record p.so_far { saved = [] }) (wrapped_pending (joined_back saved))).1
-
-next_complete : (go : Progress → Progress) (limits : TheLimits) (l : ℕ) → ((q : Progress) → Complete q → Complete (go q)) → ((q : Progress) → limits.calls - (q.so_far).calls < l → Complete (go q)) → (v : Option How) (saved : List (List ℕ)) (p : Progress) → p.over ≡ v → (p.so_far).saved ≡ saved → limits.calls - (p.so_far).calls ≤ l → Complete (next_round go limits v saved p)
-next_complete go limits l h g (Some x) saved p e f k = inl (x, e)
-next_complete go limits l h g None [] p e f k = inr f
-next_complete go limits l h g None (x ∷ xs) p e f k =
-    ⊎_elim
-    (λ s. h (read_saved limits (x ∷ xs) p) (inr s))
-    (λ (s : limits.calls - (read_saved limits (x ∷ xs) p).so_far.calls < limits.calls - (p.so_far).calls). g (read_saved limits (x ∷ xs) p) (omega arith))
-    (round_saves limits (x ∷ xs) p)
-
-rounds_complete : (n : ℕ) (limits : TheLimits) (p : Progress) → limits.calls - (p.so_far).calls < n → Complete (rounds n limits p)
-rounds_complete zero limits p h = absurd (omega arith)
-rounds_complete (suc n) limits p h =
-    next_complete (rounds n limits) limits n (complete_after n limits) (λ q k. rounds_complete n limits q k) p.over (p.so_far).saved p refl refl (omega arith)
-
-wraps_complete : (limits : TheLimits) (p : Progress) → Complete (after_wraps limits p)
-wraps_complete limits p = rounds_complete (suc limits.calls) limits p (omega arith)
-
--- with more rounds than were enough the run is the same
-next_same : (go go' : Progress → Progress) (limits : TheLimits) → ((q : Progress) → Complete (go q) → go' q ≡ go q) → (v : Option How) (saved : List (List ℕ)) (p : Progress) → Complete (next_round go limits v saved p) → next_round go' limits v saved p ≡ next_round go limits v saved p
-next_same go go' limits h (Some x) saved p c = refl
-next_same go go' limits h None [] p c = refl
-next_same go go' limits h None (x ∷ xs) p c = h (read_saved limits (x ∷ xs) p) c
-
-more_rounds : (n m : ℕ) (limits : TheLimits) (p : Progress) → n ≤ m → Complete (rounds n limits p) → rounds m limits p ≡ rounds n limits p
-more_rounds zero m limits p h c = complete_stays m limits p c
-more_rounds (suc n) zero limits p h c = absurd (omega arith)
-more_rounds (suc n) (suc m) limits p h c = next_same (rounds n limits) (rounds m limits) limits (λ q k. more_rounds n m limits q (omega arith) k) p.over (p.so_far).saved p c
+use Rattle.m4_engine.proofs.RunsBehind.{Behind, sources_behind, rounds_behind}
 
 complete_moved : (p q : Progress) → p ≡ q → Complete p → Complete q
 complete_moved p q e c = subst (λ (x : Progress). Complete x) e c

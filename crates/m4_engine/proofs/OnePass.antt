@@ -43,7 +43,7 @@ next_keeps go limits h (Some how) saved p = extends_same p.so_far
 next_keeps go limits h None [] p = extends_same p.so_far
 next_keeps go limits h None (x ∷ xs) p = extends_more p.so_far (read_saved limits (x ∷ xs) p).so_far _ (round_keeps limits (x ∷ xs) p) (h (read_saved limits (x ∷ xs) p))
 
-rounds_keep : (n : ℕ) (limits : Limits) (p : Progress) → Extends p.so_far (rounds n limits p).so_far
+pub rounds_keep : (n : ℕ) (limits : Limits) (p : Progress) → Extends p.so_far (rounds n limits p).so_far
 rounds_keep zero limits p = extends_same p.so_far
 rounds_keep (suc n) limits p = next_keeps (rounds n limits) limits (rounds_keep n limits) p.over (p.so_far).saved p
 

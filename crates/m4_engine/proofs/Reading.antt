@@ -11,49 +11,12 @@ use Rattle.m4_engine.specs.declared.stop.Stop.{Stop}
 use Rattle.m4_engine.specs.declared.stop.Stop.TheVariants as stops
 use Rattle.m4_engine.specs.declared.ending.Cause.{Cause}
 use Rattle.m4_engine.specs.Expansion.{Limits, Ends}
-use Rattle.m4_engine.proofs.Begins.{begun_behind}
 use Rattle.m4_engine.proofs.OnePass.{sources_keep, over_sources}
 use Rattle.m4_engine.specs.File.{Source, Progress, after_source, after_sources}
-use Rattle.m4_engine.specs.Wraps.{after_wraps}
 use Rattle.m4_engine.specs.Session.{Standing, progress_of, how_over, written, IsOpen, Filed, BrokeOff, GoesTo}
 use Rattle.m4_engine.specs.Writers.{Contents, writers}
-use Rattle.m4_engine.proofs.RunsBehind.{Bp, Behind, sources_behind, rounds_behind}
-
--- a progress behind what was written before
-abbrev pub behind : List ℕ → List ℕ → Progress → Progress
-behind o m p = record p { so_far = record p.so_far { output = o ++ (p.so_far).output; messages = m ++ (p.so_far).messages } }
-
--- the law of runs behind others, where nothing but output and messages was made before
-module _ (o m : List ℕ) (limits : Limits) where
-  room : (k : ℕ) → 0 + k < limits.calls → k < limits.calls
-  room k h = omega arith
-
-  abbrev B : Progress → Progress
-  B = Bp o m 0 limits.calls limits.calls limits.nesting limits.nesting room (λ k h. h) (λ h. ⊥) (inr (refl, refl)) (inr refl) (λ h x. absurd x)
-
-  B_is : (q : Progress) → B q ≡ behind o m q
-  B_is q =
-      let n : 0 + (q.so_far).calls ≡ (q.so_far).calls = omega arith in
-      ap (λ (k : ℕ). record (behind o m q) { so_far = record (behind o m q).so_far { calls = k } }) n
-
-  abbrev Behind' : Progress → Progress → Type 0
-  Behind' = Behind o m 0 limits.calls limits.calls limits.nesting limits.nesting room (λ k h. h) (λ h. ⊥) (inr (refl, refl)) (inr refl) (λ h x. absurd x)
-
-  same : (p q : Progress) → Behind' p q → p ≡ behind o m q
-  same p q (inl h) = absurd h.2
-  same p q (inr e) = e ∙ B_is q
-
-  pub sources_after : (ss : List Source) (q : Progress) → after_sources limits ss (behind o m q) ≡ behind o m (after_sources limits ss q)
-  sources_after ss q =
-      ap (after_sources limits ss) (sym (B_is q))
-      ∙ same (after_sources limits ss (B q)) (after_sources limits ss q)
-      (sources_behind o m 0 limits.calls limits.calls limits.nesting limits.nesting room (λ k h. h) (λ h. ⊥) (inr (refl, refl)) (inr refl) (λ h x. absurd x) ss (B q) q (inr refl))
-
-  pub wraps_after : (q : Progress) → after_wraps limits (behind o m q) ≡ behind o m (after_wraps limits q)
-  wraps_after q =
-      ap (after_wraps limits) (sym (B_is q))
-      ∙ same (after_wraps limits (B q)) (after_wraps limits q)
-      (rounds_behind o m 0 limits.calls limits.calls limits.nesting limits.nesting room (λ k h. h) (λ h. ⊥) (inr (refl, refl)) (inr refl) (λ h x. absurd x) (suc limits.calls) (B q) q (inr refl))
+use Rattle.m4_engine.proofs.GoingOn.{behind, sources_after, written_behind, Within, step_stops, all_made}
+use Rattle.m4_engine.proofs.Growth.{Extends}
 
 -- some of the sources were read: so much was written, and the rest of the run is the rest of the sources
 pub record Between (ss : List Source) (i : ℕ) (s0 s : Standing) (w : Contents) : Type 0 where
@@ -66,12 +29,6 @@ pub record Between (ss : List Source) (i : ℕ) (s0 s : Standing) (w : Contents)
 
 pub none_read : (ss : List Source) (s : Standing) (out told : Option (List ℕ)) → Between ss 0 s s (writers out out told told)
 none_read ss s out told = record { o = []; m = []; output = with_bytes-nil out; messages = with_bytes-nil told; limits = refl; rest = refl }
-
--- what was written of a progress
-pub written_behind : (o m : List ℕ) (p q : Progress) → q ≡ written p → behind o m p ≡ behind (o ++ (p.so_far).output) (m ++ (p.so_far).messages) q
-written_behind o m p q e =
-    (rw (append-nil (o ++ (p.so_far).output), append-nil (m ++ (p.so_far).messages)) refl)
-    ∙ ap (behind (o ++ (p.so_far).output) (m ++ (p.so_far).messages)) (sym e)
 
 -- behind a source, the run goes on from what was written of it
 source_after : (s0 s : Standing) (o m : List ℕ) (t : Source) (ts : List Source) → s.limits ≡ s0.limits → after_sources s0.limits (t ∷ ts) (behind o m (progress_of s)) ≡ after_sources s0.limits ts (behind o m (after_source s.limits t (progress_of s)))
@@ -97,67 +54,24 @@ one_read ss i j s0 s s' t out0 out out' told0 told told' b d f =
 -- all were read
 pub all_read : (ss : List Source) (i : ℕ) (s0 s : Standing) (w : Contents) → IsOpen s0 → IsOpen s → Between ss i s0 s w → drop i ss ≡ [] → GoesTo (after_sources s0.limits ss (progress_of s0)) s0 s w (Ok tt)
 all_read ss i s0 s w l0 l b d =
-    let e : behind b.o b.m (progress_of s) ≡ after_sources s0.limits ss (progress_of s0) = sym (b.rest ∙ ap (λ (ts : List Source). after_sources s0.limits ts (behind b.o b.m (progress_of s))) d) in
-    let f : Filed s0 s (behind b.o b.m (progress_of s)) w = record {
-      live = l0;
-      limits = b.limits;
-      unfinished = l.unfinished;
-      progress = refl;
-      output = b.output ∙ ap (with_bytes w.out_old) (sym (append-nil b.o));
-      messages = b.messages ∙ ap (with_bytes w.messages_old) (sym (append-nil b.m));
-    } in
-    (subst (λ (p : Progress). Filed s0 s p w) e f, l.over)
+    all_made b.o b.m s0 s w _ l0 l b.limits b.output b.messages
+    (sym (b.rest ∙ ap (λ (ts : List Source). after_sources s0.limits ts (behind b.o b.m (progress_of s))) d))
 
--- a source broke off
-broke : (ss : List Source) (i j : ℕ) (s0 s s' : Standing) (t : Source) (cause : Cause) (out0 out out' told0 told told' : Option (List ℕ)) → Between ss i s0 s (writers out0 out told0 told) → drop i ss ≡ t ∷ drop j ss → BrokeOff s' (after_source s.limits t (progress_of s)) (writers out out' told told') cause → BrokeOff s' (after_sources s0.limits ss (progress_of s0)) (writers out0 out' told0 told') cause
-broke ss i j s0 s s' t cause out0 out out' told0 told told' b d f =
+-- a source that is read is within all of them
+within : (ss : List Source) (i j : ℕ) (s0 s : Standing) (t : Source) (w : Contents) (b : Between ss i s0 s w) → drop i ss ≡ t ∷ drop j ss → Within b.o b.m (after_source s.limits t (progress_of s)) (after_sources s0.limits ss (progress_of s0))
+within ss i j s0 s t w b d =
     let p : Progress = after_source s.limits t (progress_of s) in
     let e : after_sources s0.limits ss (progress_of s0) ≡ after_sources s0.limits (drop j ss) (behind b.o b.m p) =
     b.rest ∙ ap (λ (ts : List Source). after_sources s0.limits ts (behind b.o b.m (progress_of s))) d ∙ source_after s0 s b.o b.m t (drop j ss) b.limits in
-    let k = sources_keep s0.limits (drop j ss) (behind b.o b.m p) in
     record {
-      over = f.over;
-      output = begun_behind out0 out out' b.o (p.so_far).output k.more ((after_sources s0.limits ss (progress_of s0)).so_far).output b.output f.output (ap (λ (q : Progress). (q.so_far).output) e ∙ k.output);
-      messages = begun_behind told0 told told' b.m (p.so_far).messages k.told ((after_sources s0.limits ss (progress_of s0)).so_far).messages b.messages f.messages (ap (λ (q : Progress). (q.so_far).messages) e ∙ k.messages);
+      keeps = subst (λ (q : Progress). Extends (behind b.o b.m p).so_far q.so_far) (sym e) (sources_keep s0.limits (drop j ss) (behind b.o b.m p));
+      over = λ h v. e ∙ over_sources s0.limits (drop j ss) (behind b.o b.m p) h v;
     }
 
--- a source ended the run
-pub over_behind_it : (s' : Standing) (p : Progress) (cause : Cause) → progress_of s' ≡ written p → s'.over ≡ Some cause → p.over ≡ Some (Ends cause)
-over_behind_it s' p cause e f = ap (λ (q : Progress). q.over) (sym e) ∙ ap how_over f
-
-stops_there : (ss : List Source) (i j : ℕ) (s0 s s' : Standing) (t : Source) (cause : Cause) (out0 out out' told0 told told' : Option (List ℕ)) → IsOpen s0 → Between ss i s0 s (writers out0 out told0 told) → drop i ss ≡ t ∷ drop j ss → Filed s s' (after_source s.limits t (progress_of s)) (writers out out' told told') → s'.over ≡ Some cause → Filed s0 s' (after_sources s0.limits ss (progress_of s0)) (writers out0 out' told0 told')
-unfolding one_read
-stops_there ss i j s0 s s' t cause out0 out out' told0 told told' l0 b d f v =
-    let p : Progress = after_source s.limits t (progress_of s) in
-    let w : Contents = writers out0 out' told0 told' in
-    let c = one_read ss i j s0 s s' t out0 out out' told0 told told' b d f in
-    let h : (behind b.o b.m p).over ≡ Some (Ends cause) = over_behind_it s' p cause f.progress v in
-    let e : after_sources s0.limits ss (progress_of s0) ≡ behind b.o b.m p =
-    b.rest ∙ ap (λ (ts : List Source). after_sources s0.limits ts (behind b.o b.m (progress_of s))) d ∙ source_after s0 s b.o b.m t (drop j ss) b.limits
-    ∙ over_sources s0.limits (drop j ss) (behind b.o b.m p) (Ends cause) h in
-    subst (λ (q : Progress). Filed s0 s' q w) (sym e) (record {
-      live = l0;
-      limits = f.limits ∙ b.limits;
-      unfinished = f.unfinished;
-      progress = f.progress;
-      output = c.output;
-      messages = c.messages;
-    })
-
 -- by the answer
-pub stopped : (ss : List Source) (i j : ℕ) (s0 s s' : Standing) (t : Source) (out0 out out' told0 told told' : Option (List ℕ)) (e : Stop) → IsOpen s0 → Between ss i s0 s (writers out0 out told0 told) → drop i ss ≡ t ∷ drop j ss → GoesTo (after_source s.limits t (progress_of s)) s s' (writers out out' told told') (Err e) → GoesTo (after_sources s0.limits ss (progress_of s0)) s0 s' (writers out0 out' told0 told') (Err e)
-stopped ss i j s0 s s' t out0 out out' told0 told told' stops.Finished l b d h = h
-stopped ss i j s0 s s' t out0 out out' told0 told told' (stops.Ended causes.Read) l b d h = broke ss i j s0 s s' t causes.Read out0 out out' told0 told told' b d h
-stopped ss i j s0 s s' t out0 out out' told0 told told' (stops.Ended causes.Write) l b d h = broke ss i j s0 s s' t causes.Write out0 out out' told0 told told' b d h
-stopped ss i j s0 s s' t out0 out out' told0 told told' (stops.Ended causes.OutOfMemory) l b d h = broke ss i j s0 s s' t causes.OutOfMemory out0 out out' told0 told told' b d h
-stopped ss i j s0 s s' t out0 out out' told0 told told' (stops.Ended causes.Done) l b d h = h
-stopped ss i j s0 s s' t out0 out out' told0 told told' (stops.Ended (causes.Exited n)) l b d h = (stops_there ss i j s0 s s' t (causes.Exited n) out0 out out' told0 told told' l b d h.0 h.1, h.1)
-stopped ss i j s0 s s' t out0 out out' told0 told told' (stops.Ended causes.EndInString) l b d h = (stops_there ss i j s0 s s' t causes.EndInString out0 out out' told0 told told' l b d h.0 h.1, h.1)
-stopped ss i j s0 s s' t out0 out out' told0 told told' (stops.Ended causes.EndInComment) l b d h = (stops_there ss i j s0 s s' t causes.EndInComment out0 out out' told0 told told' l b d h.0 h.1, h.1)
-stopped ss i j s0 s s' t out0 out out' told0 told told' (stops.Ended causes.EndInArguments) l b d h = (stops_there ss i j s0 s s' t causes.EndInArguments out0 out out' told0 told told' l b d h.0 h.1, h.1)
-stopped ss i j s0 s s' t out0 out out' told0 told told' (stops.Ended causes.ExpansionLimit) l b d h = (stops_there ss i j s0 s s' t causes.ExpansionLimit out0 out out' told0 told told' l b d h.0 h.1, h.1)
-stopped ss i j s0 s s' t out0 out out' told0 told told' (stops.Ended causes.NestingLimit) l b d h = (stops_there ss i j s0 s s' t causes.NestingLimit out0 out out' told0 told told' l b d h.0 h.1, h.1)
-stopped ss i j s0 s s' t out0 out out' told0 told told' (stops.Ended (causes.Frozen x)) l b d h = h
+stopped : (ss : List Source) (i j : ℕ) (s0 s s' : Standing) (t : Source) (out0 out out' told0 told told' : Option (List ℕ)) (e : Stop) → IsOpen s0 → Between ss i s0 s (writers out0 out told0 told) → drop i ss ≡ t ∷ drop j ss → GoesTo (after_source s.limits t (progress_of s)) s s' (writers out out' told told') (Err e) → GoesTo (after_sources s0.limits ss (progress_of s0)) s0 s' (writers out0 out' told0 told') (Err e)
+stopped ss i j s0 s s' t out0 out out' told0 told told' e l b d h =
+    step_stops b.o b.m _ _ (within ss i j s0 s t _ b d) s0 s s' out0 out out' told0 told told' b.output b.messages l b.limits e h
 
 -- which source stands at a place
 told_at : {R : Type 0} (f : R → Option Source) (xs : List R) (ss : List Source) (i : ℕ) (x : R) (rest : List R) → map f xs ≡ map Some ss → drop i xs ≡ x ∷ rest → (t : Source) × (f x ≡ Some t) × (drop i ss ≡ t ∷ drop (suc i) ss)

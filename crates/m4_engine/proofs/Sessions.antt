@@ -5,7 +5,7 @@ use Rattle.m4_state.proofs.CallerLaws.{with_bytes-nil}
 use Rattle.m4_state.specs.State.{State, IsSized}
 use Rattle.m4_state.specs.Device.{Script, after_bytes, IsAtEnd, with_bytes, HasBegun}
 use Rattle.m4_input.specs.Pending.{Pending}
-use Rattle.m4_input.specs.Input.{Held, unread_file, longer, Reads, WholeGives}
+use Rattle.m4_input.specs.Input.{Held, unread_file, wrapped_pending, wrapped_text, longer, Reads, WholeGives}
 use Rattle.m4_frozen.specs.Freeze.{freeze}
 use Rattle.m4_engine.specs.declared.ending.Cause.{Cause}
 use Rattle.m4_engine.specs.declared.ending.Cause.TheVariants as causes
@@ -14,11 +14,11 @@ use Rattle.m4_engine.specs.declared.stop.Stop.TheVariants as stops
 use Rattle.m4_engine.specs.Expansion.{How, Ends, Ended}
 use Rattle.m4_engine.specs.File.{Progress, file_pending, over_of, over_by, after_input}
 use Rattle.m4_engine.specs.Run.{closed_output, result_of}
-use Rattle.m4_engine.specs.Wraps.{after_wraps, close}
+use Rattle.m4_engine.specs.Wraps.{joined_back, after_wraps, close}
 use Rattle.m4_engine.proofs.Begins.{nothing_begun}
 use Rattle.m4_engine.specs.Engine.{Engine}
 use Rattle.m4_engine.specs.Expands.{comes_to, Expanded, Expands, EndsInput, at_rest}
-use Rattle.m4_engine.specs.Session.{Standing, progress_of, written, how_over, IsOpen, FileDone, FileBroke, FileGives, answer_by, over_behind, behind_wraps, last_state, Unfinished, EndGives, FinishGives, FreezeGives, CloseGives}
+use Rattle.m4_engine.specs.Session.{Standing, progress_of, written, how_over, IsOpen, Filed, FileDone, FileBroke, FileGives, BrokeOff, WrapsGive, round_of, answer_by, over_behind, behind_wraps, last_state, Unfinished, EndGives, FinishGives, FreezeGives, CloseGives}
 use Rattle.m4_engine.specs.Writers.{Contents, Three, Broken, writers}
 
 -- what a file's input has in hand when it was read
@@ -52,23 +52,26 @@ progress_behind new missed over cause d h s v n o =
     ∙ ap (λ (x : ℕ). progress_with (d.so_far).state (d.so_far).saved x (how_over over) missed) n
     ∙ ap (λ (x : Option How). progress_with (d.so_far).state (d.so_far).saved (d.so_far).calls x missed) (o ∙ sym (ap over_of h))
 
+-- an input was read to an end
+input_done : (old : Standing) (e0 e1 : Engine) (missed : Bool) (over : Option Cause) (cause : Cause) (d : Ended) (w : Contents) → IsOpen old → e0.limits ≡ old.limits → Expanded e0 e1 d cause w → how_over over ≡ over_by cause → Filed old (standing_of (at_rest e1) missed over false) (after_input d missed) w
+input_done old e0 e1 missed over cause d w l e k o = record {
+  live = l;
+  limits = k.limits ∙ e;
+  unfinished = refl;
+  progress = progress_behind (at_rest e1) missed over cause d k.how k.state k.saved k.calls o;
+  output = k.output;
+  messages = k.messages;
+}
+
 -- a file was read to an end
 file_done : (e0 e1 : Engine) (missed : Bool) (name x : List ℕ) (over : Option Cause) (cause : Cause) (before behind : Option Script) (p : Pending) (w : Contents) → before ≡ after_bytes x behind → IsAtEnd behind → p ≡ file_pending name x false → Expanded e0 e1 (comes_to e0 p) cause w → how_over over ≡ over_by cause → FileDone name before behind (standing_of e0 missed None false) (standing_of (at_rest e1) missed over false) w over
-file_done e0 e1 missed name x over cause before behind p w g a e d o =
-    let k = subst (λ (p : Pending). Expanded e0 e1 (comes_to e0 p) cause w) e d in (
-      x,
-      g,
-      a,
-      record {
-        live = record { over = refl; unfinished = refl };
-        limits = k.limits;
-        unfinished = refl;
-        progress = progress_behind (at_rest e1) missed over cause (comes_to e0 (file_pending name x false)) k.how k.state k.saved k.calls o;
-        output = k.output;
-        messages = k.messages;
-      },
-      refl,
-    )
+file_done e0 e1 missed name x over cause before behind p w g a e d o = (
+  x,
+  g,
+  a,
+  input_done (standing_of e0 missed None false) e0 e1 missed over cause (comes_to e0 (file_pending name x false)) w (record { over = refl; unfinished = refl }) refl (subst (λ (p : Pending). Expanded e0 e1 (comes_to e0 p) cause w) e d) o,
+  refl,
+)
 
 -- a file broke off
 file_broke : (e0 e1 : Engine) (missed : Bool) (name x : List ℕ) (cause : Cause) (before behind : Option Script) (p : Pending) (w : Contents) → before ≡ after_bytes x behind → IsAtEnd behind → p ≡ file_pending name x false → Broken (comes_to e0 p) w → FileBroke name before behind (standing_of e0 missed None false) (standing_of (at_rest e1) missed (Some cause) false) w cause
@@ -92,20 +95,76 @@ by_cause e0 e1 missed name x causes.Read before behind p w g a e d u = absurd u
 by_cause e0 e1 missed name x causes.Write before behind p w g a e d u = file_broke e0 e1 missed name x causes.Write before behind p w g a e d
 by_cause e0 e1 missed name x causes.OutOfMemory before behind p w g a e d u = file_broke e0 e1 missed name x causes.OutOfMemory before behind p w g a e d
 
+-- a session that goes on
+open_is : (old : Standing) (e0 : Engine) (missed : Bool) (over : Option Cause) (finished : Bool) → old ≡ standing_of e0 missed over finished → IsOpen old → (over ≡ None) × (finished ≡ false)
+open_is old e0 missed over finished o l = (sym (ap (λ (s : Standing). s.over) o) ∙ l.over, sym (ap (λ (s : Standing). s.finished) o) ∙ l.unfinished)
+
+-- a session before an input and after it, and the answer, as the clause of the call has them
+module _ (To : Standing → Standing → Result Unit Stop → Type 0) (old new : Standing) (e0 e1 e2 : Engine) (missed : Bool) (over : Option Cause) (finished : Bool) (cause : Cause) (result : Result Unit Stop) where
+  as_it_stands : old ≡ standing_of e0 missed over finished → IsOpen old → e2 ≡ at_rest e1 → new ≡ standing_of e2 missed (over_behind cause over) finished → result ≡ answer_by cause → To (standing_of e0 missed None false) (standing_of (at_rest e1) missed (over_behind cause None) false) (answer_by cause) → To old new result
+  as_it_stands o l z v r g =
+      let k = open_is old e0 missed over finished o l in
+      let o' : old ≡ standing_of e0 missed None false = o ∙ ap (λ x. standing_of e0 missed x finished) k.0 ∙ ap (λ x. standing_of e0 missed None x) k.1 in
+      let v' : new ≡ standing_of (at_rest e1) missed (over_behind cause None) false =
+      v ∙ ap (λ (x : Engine). standing_of x missed (over_behind cause over) finished) z ∙ ap (λ x. standing_of (at_rest e1) missed (over_behind cause x) finished) k.0 ∙ ap (λ x. standing_of (at_rest e1) missed (over_behind cause None) x) k.1 in
+      subst (λ (x : Standing). To x new result) (sym o')
+      (subst (λ (x : Standing). To (standing_of e0 missed None false) x result) (sym v')
+      (subst (To (standing_of e0 missed None false) (standing_of (at_rest e1) missed (over_behind cause None) false)) (sym r) g))
+
 -- a file that was read whole
 pub file_gives : (old new : Standing) (e0 e1 e2 : Engine) (missed : Bool) (over : Option Cause) (finished : Bool) (name : List ℕ) (i0 i : Held) (before behind : Option Script) (w : Contents) (cause : Cause) (result : Result Unit Stop) → old ≡ standing_of e0 missed over finished → IsOpen old → i0 ≡ unread_file name → WholeGives before behind i0 i (Ok tt) → Expands e0 e1 i.pending w cause → EndsInput cause → e2 ≡ at_rest e1 → new ≡ standing_of e2 missed (over_behind cause over) finished → result ≡ answer_by cause → FileGives name before behind old new w result
 file_gives old new e0 e1 e2 missed over finished name i0 i before behind w cause result o l n h d u z v r =
-    let b : over ≡ None = sym (ap (λ (s : Standing). s.over) o) ∙ l.over in
-    let f : finished ≡ false = sym (ap (λ (s : Standing). s.finished) o) ∙ l.unfinished in
-    let o' : old ≡ standing_of e0 missed None false = o ∙ ap (λ x. standing_of e0 missed x finished) b ∙ ap (λ x. standing_of e0 missed None x) f in
-    let v' : new ≡ standing_of (at_rest e1) missed (over_behind cause None) false =
-    v ∙ ap (λ (x : Engine). standing_of x missed (over_behind cause over) finished) z ∙ ap (λ x. standing_of (at_rest e1) missed (over_behind cause x) finished) b ∙ ap (λ x. standing_of (at_rest e1) missed (over_behind cause None) x) f in
     let k = subst (λ (i0 : Held). WholeGives before behind i0 i (Ok tt)) n h in
     let p : i.pending ≡ file_pending name k.0 false = whole_file name k.0 before behind i.pending k.1 k.2 in
     let g = by_cause e0 e1 missed name k.0 cause before behind i.pending w (k.1).given ((k.1).at_end refl k.2) p d u in
-    subst (λ (x : Standing). FileGives name before behind x new w result) (sym o')
-    (subst (λ (x : Standing). FileGives name before behind (standing_of e0 missed None false) x w result) (sym v')
-    (subst (λ x. FileGives name before behind (standing_of e0 missed None false) (standing_of (at_rest e1) missed (over_behind cause None) false) w x) (sym r) g))
+    as_it_stands (λ a b x. FileGives name before behind a b w x) old new e0 e1 e2 missed over finished cause result o l z v r g
+
+-- a round over saved texts
+module _ (old : Standing) (e0 e1 : Engine) (missed : Bool) (p : Pending) (w : Contents) (l : IsOpen old) (e : e0.limits ≡ old.limits) where
+  abbrev d : Ended
+  d = comes_to e0 p
+
+  abbrev To : Cause → Type 0
+  To cause = WrapsGive (after_input d missed) old (standing_of (at_rest e1) missed (over_behind cause None) false) w (answer_by cause)
+
+  ends_by : (cause : Cause) → Expanded e0 e1 d cause w → how_over (Some cause) ≡ over_by cause → Filed old (standing_of (at_rest e1) missed (Some cause) false) (after_input d missed) w × (Some cause ≡ Some cause)
+  ends_by cause k o = (input_done old e0 e1 missed (Some cause) cause d w l e k o, refl)
+
+  breaks_by : (cause : Cause) → Broken d w → BrokeOff (standing_of (at_rest e1) missed (Some cause) false) (after_input d missed) w cause
+  breaks_by cause k = record { over = refl; output = k.output; messages = k.messages }
+
+  round_by : (cause : Cause) → Expands e0 e1 p w cause → EndsInput cause → To cause
+  round_by causes.Done k u = ((input_done old e0 e1 missed None causes.Done d w l e k refl, refl), tt)
+  round_by (causes.Exited n) k u = (ends_by (causes.Exited n) k refl, tt)
+  round_by causes.EndInString k u = (ends_by causes.EndInString k refl, tt)
+  round_by causes.EndInComment k u = (ends_by causes.EndInComment k refl, tt)
+  round_by causes.EndInArguments k u = (ends_by causes.EndInArguments k refl, tt)
+  round_by causes.ExpansionLimit k u = (ends_by causes.ExpansionLimit k refl, tt)
+  round_by causes.NestingLimit k u = (ends_by causes.NestingLimit k refl, tt)
+  round_by (causes.Frozen f) k u = absurd u
+  round_by causes.Read k u = absurd u
+  round_by causes.Write k u = (breaks_by causes.Write k, tt)
+  round_by causes.OutOfMemory k u = (breaks_by causes.OutOfMemory k, tt)
+
+pub round_gives : (old new : Standing) (e0 ea e1 e2 : Engine) (missed : Bool) (over : Option Cause) (finished : Bool) (x : List ℕ) (i : Held) (w : Contents) (cause : Cause) (result : Result Unit Stop) → old ≡ standing_of e0 missed over finished → IsOpen old → ea ≡ record e0 { saved = [] } → x ≡ joined_back e0.saved → i ≡ wrapped_text x → Expands ea e1 i.pending w cause → EndsInput cause → e2 ≡ at_rest e1 → new ≡ standing_of e2 missed (over_behind cause over) finished → result ≡ answer_by cause → WrapsGive (round_of old) old new w result
+round_gives old new e0 ea e1 e2 missed over finished x i w cause result o l a j n d u z v r =
+    let taken : Engine = record e0 { saved = [] } in
+    let p : Pending = wrapped_pending (joined_back e0.saved) in
+    let k : Expands taken e1 p w cause = subst (λ (y : Engine). Expands y e1 p w cause) a (subst (λ (y : Pending). Expands ea e1 y w cause) (ap (λ (h : Held). h.pending) n ∙ ap wrapped_pending j) d) in
+    as_it_stands (λ a b y. WrapsGive (round_of a) a b w y) old new e0 e1 e2 missed over finished cause result o l z v r
+    (round_by (standing_of e0 missed None false) taken e1 missed p w (record { over = refl; unfinished = refl }) refl cause k u)
+
+-- a round whose text could not be made
+lacked_by : (new : Standing) (p : Progress) (w : Contents) → new.over ≡ Some causes.OutOfMemory → w.out_new ≡ w.out_old → w.messages_new ≡ w.messages_old → BrokeOff new p w causes.OutOfMemory
+lacked_by new p w v o m = record {
+  over = v;
+  output = subst (λ x. HasBegun w.out_old x (p.so_far).output) (sym o) (nothing_begun w.out_old (p.so_far).output);
+  messages = subst (λ x. HasBegun w.messages_old x (p.so_far).messages) (sym m) (nothing_begun w.messages_old (p.so_far).messages);
+}
+
+pub round_lacked : (old new : Standing) (w : Contents) (e : Stop) → e ≡ stops.Ended causes.OutOfMemory → new.over ≡ Some causes.OutOfMemory → w.out_new ≡ w.out_old → w.messages_new ≡ w.messages_old → WrapsGive (round_of old) old new w (Err e)
+round_lacked old new w e i v o m =
+    subst (λ (x : Stop). WrapsGive (round_of old) old new w (Err x)) (sym i) (lacked_by new (round_of old) w v o m, tt)
 
 -- no text stands saved: there is no round
 pub behind_is : (s : Standing) → IsOpen s → s.saved ≡ [] → behind_wraps s ≡ progress_of s
@@ -134,6 +193,22 @@ broke_off freezes old new w cause l e o m h =
 -- the diversions could not be issued
 pub finish_broke : (old new : Standing) (w : Contents) (s : Stop) → IsOpen old → old.saved ≡ [] → s ≡ stops.Ended causes.Write → new.over ≡ Some causes.Write → w.messages_new ≡ w.messages_old → HasBegun w.out_old w.out_new (close old.state) → FinishGives old new w (Err s)
 finish_broke old new w s l e i o m h = subst (λ (x : Stop). FinishGives old new w (Err x)) (sym i) (broke_off false old new w causes.Write l e o m h)
+
+-- the diversions were issued
+pub issued_all : (old new : Standing) (out out' told : Option (List ℕ)) → IsOpen old → old.saved ≡ [] → new.finished ≡ true → new.over ≡ old.over → new.missed ≡ old.missed → new.saved ≡ old.saved → new.calls ≡ old.calls → out' ≡ with_bytes out (close old.state) → FinishGives old new (writers out out' told told) (Ok tt)
+issued_all old new out out' told l e f v m s n o =
+    let p : progress_of old ≡ behind_wraps old = sym (behind_is old l e) in
+    record {
+      live = l;
+      finished = f;
+      over = v ∙ l.over;
+      missed = m;
+      saved = s ∙ e;
+      calls = n ∙ ap (λ (x : Progress). (x.so_far).calls) p;
+      ended = ap (λ (x : Progress). x.over) (sym p) ∙ ap how_over l.over;
+      output = o ∙ ap (λ (x : Progress). with_bytes out (closed_output false x.so_far)) p;
+      messages = with_bytes-nil told ∙ ap (λ (x : Progress). with_bytes told (x.so_far).messages) p;
+    }
 
 -- the state was frozen
 pub froze : (old new : Standing) (s : State) (out told frozen frozen' : Option (List ℕ)) → IsOpen old → old.saved ≡ [] → s ≡ old.state → new ≡ record old { finished = true } → frozen' ≡ with_bytes frozen (freeze s) → IsSized s → FreezeGives old new (record { two = writers out out told told; frozen_old = frozen; frozen_new = frozen' }) (Ok tt)

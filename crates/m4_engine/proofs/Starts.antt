@@ -29,7 +29,7 @@ use Rattle.m4_engine.specs.WholeRun.{WroteAll, FellShort, GivesBy, RefusedBy, Ha
 use Rattle.m4_engine.specs.Writers.{Contents, Three, writers, ByCause, NoneOfThree, OneOfThree, IsSpared, Spares}
 use Rattle.m4_engine.proofs.Begins.{nothing_begun, begun_behind}
 use Rattle.m4_engine.proofs.OnePass.{over_sources, over_wraps}
-use Rattle.m4_engine.proofs.Reading.{behind, sources_after, wraps_after}
+use Rattle.m4_engine.proofs.GoingOn.{behind, sources_after, wraps_after}
 use Rattle.m4_engine.proofs.SameStart.{is_start}
 use Rattle.m4_engine.proofs.Sessions.{close_ends}
 use Rattle.m4_engine.proofs.Whole.{begun_longer, closed_behind, none_saved, StatusIs}

@@ -21,7 +21,7 @@ use Rattle.m4_engine.specs.Writers.{Contents, Three, writers, IsSpared}
 use Rattle.m4_engine.proofs.OnlyGrows.{extends_same}
 use Rattle.m4_engine.proofs.OnePass.{over_wraps, finish_begins}
 use Rattle.m4_engine.proofs.Begins.{begun_behind}
-use Rattle.m4_engine.proofs.Reading.{behind, wraps_after, written_behind, over_behind_it}
+use Rattle.m4_engine.proofs.GoingOn.{behind, wraps_after, written_behind, over_behind_it}
 
 -- what a run's two writers have, by the cause that ended it
 abbrev GivesIn : RunResult → Ending → Contents → Type 0

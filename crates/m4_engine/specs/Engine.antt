@@ -100,6 +100,10 @@ with_token d e = put_token_in e.open_calls d e
 abbrev pub telling : List ℕ → Engine → Engine
 telling x e = record e { messages = e.messages ++ x }
 
+-- with a text more that is saved for the end
+abbrev pub saving : List ℕ → Engine → Engine
+saving x e = record e { saved = e.saved ++ x ∷ [] }
+
 -- with a call more that was made
 abbrev pub counting : Engine → Engine
 counting e = record e { calls = suc e.calls }

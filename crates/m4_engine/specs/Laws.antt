@@ -1,6 +1,6 @@
 -- What holds of the definitions alone: the laws of expansions and runs.
 -- Believed as statements; the functions of the module `laws` carry their proofs.
--- Words: ExpansionRules, ExpandRules, OneStart, SameDenotation, SettledBegins, SplitStates, Split, IsDecided,
+-- Words: ExpansionRules, ExpandRules, WrapsRules, OneStart, SameDenotation, SettledBegins, SplitStates, Split, IsDecided,
 -- IsOneRun, TwoRuns, LargerNesting, LargerCalls, RunEnds.
 use Rattle.std.specs.Prelude.{◌≡◌, ◌≢◌, ◌↔◌, ◌⊎◌, ℕ, ◌+◌, ◌<◌, ◌≤◌, Bool, true, false, List, [], ◌∷◌, ◌++◌, Option, Some}
 use Rattle.m4_state.specs.Device.{Script, with_bytes}
@@ -12,9 +12,10 @@ use Rattle.m4_engine.specs.declared.options.Options.{Options}
 use Rattle.m4_engine.specs.Nesting.{Turn, Outcome, after, expansion, Falls}
 use Rattle.m4_engine.specs.declared.ending.Cause.{Cause}
 use Rattle.m4_engine.specs.declared.ending.Cause.TheVariants as causes
-use Rattle.m4_engine.specs.Expansion.{Expansion, Kept, Ended, Ends, WantsMore}
+use Rattle.m4_engine.specs.Expansion.{Limits, Expansion, Kept, Ended, Ends, WantsMore}
 use Rattle.m4_engine.specs.Expand.{turn, join, expand}
-use Rattle.m4_engine.specs.File.{Source, Opened}
+use Rattle.m4_engine.specs.File.{Source, Opened, Progress}
+use Rattle.m4_engine.specs.Wraps.{next_round, after_wraps}
 use Rattle.m4_engine.specs.Start.{Start, From, frozen_file, IsStart, start_of}
 use Rattle.m4_engine.specs.Run.{RunResult, run, run_from}
 use Rattle.m4_engine.specs.Settled.{SettledSoFar, settled}
@@ -39,6 +40,12 @@ IsBeginning x y = (rest : List ℕ) × (y ≡ x ++ rest)
 -- each expansion is what its turns say
 abbrev pub ExpandRules : Type 0
 ExpandRules = (s : Expansion) → expand s ≡ after Expansion Kept Ended join expand expand (turn s)
+
+-- a run after its saved texts is what its next round says, and the rounds after it, with no bound in sight
+abbrev pub WrapsRules : Type 0
+WrapsRules =
+    (limits : Limits) (p : Progress)
+    → after_wraps limits p ≡ next_round (after_wraps limits) limits p.over (p.so_far).saved p
 
 -- the start of each run is one, and it is the one that the definition of a run takes
 abbrev pub OneStart : Type 0

@@ -1,6 +1,6 @@
 -- MachineView: the code's machine as the engine that the clauses speak of.
 -- Not believed: it only says which fields are which.
-use Rattle.std.specs.Prelude.{List, [], ◌∷◌, Option, Some, None, reverse}
+use Rattle.std.specs.Prelude.{List, ◌∷◌, Option, Some, None, reverse}
 use Rattle.m4_engine.specs.declared.machine.Machine.TheInside.{Inside}
 use Rattle.m4_engine.specs.Expansion.{Call}
 use Rattle.m4_engine.specs.Engine.{Engine}
@@ -14,7 +14,7 @@ abbrev pub engine_view : Inside → Engine
 engine_view m = record {
   limits = record { calls = m.most_calls; nesting = m.most_nested };
   state = m.state;
-  saved = [];
+  saved = m.saved.items;
   calls = m.calls;
   open_calls = innermost_first m.innermost (reverse m.outer.items);
   output = m.output.items;

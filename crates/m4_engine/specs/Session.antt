@@ -20,7 +20,7 @@ use Rattle.m4_engine.specs.Told.{AllPairs, has_failed, is_sound, any_failed}
 use Rattle.m4_engine.specs.Start.{Start, From, Faulty, IsStart}
 use Rattle.m4_engine.specs.Writers.{Contents, Failures, Three, NoneFailed, OneFailed, ByCause, Broken, IsSpared, Spares}
 use Rattle.m4_engine.specs.File.{Opened, Unopened, Progress, file, after_source, cannot_open}
-use Rattle.m4_engine.specs.Wraps.{after_wraps}
+use Rattle.m4_engine.specs.Wraps.{read_saved, after_wraps}
 use Rattle.m4_engine.specs.Run.{limits_of, status_of, closed_output, result_of}
 
 -- a run between two calls: what it has made beside what was written; whether a source wasn't opened;
@@ -330,6 +330,19 @@ GoesTo p old new w (Err (stops.Ended causes.Read)) = BrokeOff new p w causes.Rea
 GoesTo p old new w (Err (stops.Ended causes.Write)) = BrokeOff new p w causes.Write
 GoesTo p old new w (Err (stops.Ended causes.OutOfMemory)) = BrokeOff new p w causes.OutOfMemory
 GoesTo p old new w (Err (stops.Ended cause)) = Filed old new p w × (new.over ≡ Some cause)
+
+-- no reader's fault ends the run
+abbrev pub AsksNoReader : Result Unit Stop → Type 0
+AsksNoReader (Err (stops.Ended causes.Read)) = ⊥
+AsksNoReader result = Unit {0}
+
+-- the same of saved texts, for which no reader is asked
+abbrev pub WrapsGive : Progress → Standing → Standing → Contents → Result Unit Stop → Type 0
+WrapsGive p old new w result = GoesTo p old new w result × AsksNoReader result
+
+-- what the saved texts of a run come to as one input
+abbrev pub round_of : Standing → Progress
+round_of s = read_saved s.limits s.saved (progress_of s)
 
 -- a session that stopped is over, by the cause that is answered; else it goes on
 abbrev pub IsLeft : {A : Type 0} → Standing → Result A Stop → Type 0

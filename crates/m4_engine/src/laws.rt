@@ -2,7 +2,7 @@
 //!
 //! Each function's contract is a law of `specs/Laws.antt`.
 
-ghost use Rattle.m4_engine.specs.Laws.{ExpansionRules, ExpandRules, LargerCalls, LargerNesting, OneStart, RunEnds, SameDenotation, SettledBegins, Split, SplitStates, TwoRuns};
+ghost use Rattle.m4_engine.specs.Laws.{ExpansionRules, ExpandRules, LargerCalls, LargerNesting, OneStart, RunEnds, SameDenotation, SettledBegins, Split, SplitStates, TwoRuns, WrapsRules};
 
 /// An expansion whose calls nest is what its turns say, and no bound on them is ever reached.
 pub fn expansion_rules<S, F, D>()
@@ -12,6 +12,12 @@ pub fn expansion_rules<S, F, D>()
 /// The expansion of an input is what its turns say.
 pub fn expand_rules()
     ensures { ExpandRules }
+{}
+
+/// A run after its saved texts is what its next round and the rounds after it say: no bound on them is
+/// ever reached. Manual: "Saving text until end of input".
+pub fn wraps_rules()
+    ensures { WrapsRules }
 {}
 
 /// What a beginning of an input settles is a beginning of what the run writes, whatever follows;

@@ -2,10 +2,12 @@
 //!
 //! What a turn puts out is held until it is handed on, so that a turn asks no writer.
 
-ghost use Rattle.std.specs.Prelude.{◌≡◌, suc, false, [], OnOk, IfSome, IfNone};
+ghost use Rattle.std.specs.Prelude.{◌≡◌, suc, [], OnOk, IfOk, IfSome, IfNone};
 ghost use Rattle.m4_state.specs.Definition.{IsDefinition};
 ghost use Rattle.m4_builtins.specs.Messages.{error};
-ghost use Rattle.m4_engine.specs.Engine.{with_text, with_token, telling, beginning, engine_at};
+ghost use Rattle.m4_engine.specs.Engine.{with_text, with_token, telling, saving, beginning, engine_at};
+ghost use Rattle.m4_engine.specs.Session.{is_saved};
+ghost use Rattle.m4_engine.specs.Wraps.{joined_back};
 
 mod driver;
 mod issuing;
@@ -16,6 +18,7 @@ use crate::call::OpenCall;
 use crate::turned::TurnFault;
 use m4_builtins::messages::error_message;
 use m4_builtins::place::Place;
+use m4_state::bytes::Bytes;
 use m4_state::definition::Def;
 use m4_state::fault::StateFault;
 use m4_state::state::State;
@@ -33,6 +36,7 @@ pub struct Machine {
     outer: Vec<OpenCall>,
     output: Vec<u8>,
     messages: Vec<u8>,
+    saved: Vec<Bytes>,
 }
 
 impl Model for Machine {
@@ -60,8 +64,21 @@ impl Drop for Machine {
             outer: _outer,
             output: _output,
             messages: _messages,
+            saved: _saved,
         } = self;
     }
+}
+
+/// Texts in one, the last first.
+fn join_back(alloc: Global, texts: Vec<Bytes>) -> Result<Bytes, AllocError>
+    ensures { IfOk result (λ x. x ≡ joined_back texts.items) }
+{
+    let mut left = texts;
+    let mut joined = Vec::new(alloc);
+    while let Some(text) = left.pop() {
+        joined.extend_from_slice(text.as_slice())?;
+    }
+    Ok(Bytes::from(joined))
 }
 
 impl Machine {
@@ -79,6 +96,7 @@ impl Machine {
             outer: Vec::new(alloc),
             output: Vec::new(alloc),
             messages: Vec::new(alloc),
+            saved: Vec::new(alloc),
         }
     }
 
@@ -148,12 +166,27 @@ impl Machine {
         std::mem::replace(&mut self.innermost, around)
     }
 
-    /// Whether a text stands saved to be read at the end. No call saves one yet.
-    pub fn has_saved(&self) -> bool
-        ensures answer { result ≡ false }
-        ensures none { self.now.saved ≡ [] }
+    /// Saves a text to be read at the end.
+    pub fn save(&mut self, text: Bytes) -> Result<(), AllocError>
+        ensures { OnOk result (self.new ≡ saving text self.old) }
     {
-        let _calls = self.calls;
-        false
+        self.saved.push(text)?;
+        Ok(())
+    }
+
+    /// Whether a text is saved to be read at the end.
+    pub fn has_saved(&self) -> bool
+        ensures { result ≡ is_saved self.now.saved }
+    {
+        !self.saved.is_empty()
+    }
+
+    /// Takes all saved texts, joined, the last first.
+    pub fn take_saved(&mut self) -> Result<Bytes, AllocError>
+        ensures text { IfOk result (λ x. x ≡ joined_back self.old.saved) }
+        ensures taken { self.new ≡ record self.old { saved = [] } }
+    {
+        let saved = std::mem::replace(&mut self.saved, Vec::new(self.alloc));
+        join_back(self.alloc, saved)
     }
 }

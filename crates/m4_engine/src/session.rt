@@ -1,9 +1,9 @@
 //! A run, call by call: sources one behind the other, and then its end.
 //! Manual: "Command line files", "Invoking m4".
 
-ghost use Rattle.std.specs.Prelude.{◌≡◌, true, false, Some, IfOk, IfErr, OnOk};
+ghost use Rattle.std.specs.Prelude.{◌≡◌, true, false, Some, [], IfOk, IfErr, OnOk};
 ghost use Rattle.m4_engine.specs.Writers.{both, three, NoneOfThree, OneOfThree};
-ghost use Rattle.m4_engine.specs.Session.{Standing, IsOpen, answer_by, over_behind, standing_from, fresh_standing, ReloadGives, FileGives, MissingGives, FinishGives, FreezeGives, ReadFails, ReloadFails, ByAnswer, WriteFails, TellFails, is_saved, status_at};
+ghost use Rattle.m4_engine.specs.Session.{Standing, IsOpen, answer_by, over_behind, standing_from, fresh_standing, ReloadGives, FileGives, MissingGives, FinishGives, FreezeGives, ReadFails, ReloadFails, ByAnswer, WriteFails, TellFails, WrapsGive, behind_wraps, round_of, is_saved, status_at};
 
 use crate::ending::Cause;
 use crate::machine::Machine;
@@ -203,8 +203,52 @@ impl Session {
         Ok(())
     }
 
-    /// Brings the run to its end: the diversions that are left are issued, by rising number. No call
-    /// saves text to be read at the end yet. `Ended(Write)` behind a beginning of what is issued.
+    /// One round over the saved texts: all are taken, and read as one input that belongs to no file.
+    fn read_round<O: ByteSink, M: ByteSink>(
+        &mut self,
+        out: &mut O,
+        messages: &mut M,
+    ) -> Result<(), Stop>
+        requires { IsOpen self.old }
+        ensures goes { WrapsGive (round_of self.old) self.old self.new
+            (both O.contents M.contents out.old out.new messages.old messages.new)
+            result }
+        ensures write { WriteFails result (both O.failures M.failures out.old out.new messages.old messages.new) }
+        ensures missed { self.new.missed ≡ self.old.missed }
+    {
+        let Ok(text) = self.machine.take_saved() else {
+            return Err(self.end(Cause::OutOfMemory));
+        };
+        let mut input = Input::wrapped(self.machine.alloc(), text);
+        let ended = self.machine.expand(&mut input, out, messages);
+        self.machine.rest();
+        self.settle(ended)
+    }
+
+    /// Reads the saved texts, round by round, until no text is saved or the run ends.
+    fn read_saved<O: ByteSink, M: ByteSink>(
+        &mut self,
+        out: &mut O,
+        messages: &mut M,
+    ) -> Result<(), Stop>
+        requires { IsOpen self.old }
+        ensures goes { WrapsGive (behind_wraps self.old) self.old self.new
+            (both O.contents M.contents out.old out.new messages.old messages.new)
+            result }
+        ensures none_saved { OnOk result (self.new.saved ≡ []) }
+        ensures write { WriteFails result (both O.failures M.failures out.old out.new messages.old messages.new) }
+        ensures missed { self.new.missed ≡ self.old.missed }
+    {
+        'rounds: while self.machine.has_saved() {
+            self.read_round(out, messages)?;
+        }
+        Ok(())
+    }
+
+    /// Brings the run to its end: the saved texts are read, and then the diversions that are left are
+    /// issued, by rising number. `Ended` by the cause that ends the run within the saved texts, after
+    /// which nothing is issued; `Ended(Write)` after a beginning of what is written. Manual: "Saving text
+    /// until end of input".
     pub fn finish<O: ByteSink, M: ByteSink>(
         &mut self,
         out: &mut O,
@@ -217,10 +261,10 @@ impl Session {
         // safe and total: a write fault comes only where a writer failed in this call
         ensures write { WriteFails result (both O.failures M.failures out.old out.new messages.old messages.new) }
     {
-        let _ = messages;
         if !self.is_open() {
             return Err(Stop::Finished);
         }
+        self.read_saved(out, messages)?;
         if let Err(DeviceFault) = self.machine.issue(out) {
             return Err(self.end(Cause::Write));
         }
@@ -228,9 +272,9 @@ impl Session {
         Ok(())
     }
 
-    /// Brings the run to its end and freezes it: the canonical text of its state is written to
-    /// `freeze_to`, in place of issuing the diversions. No call saves text to be read at the end yet.
-    /// `Ended(Write)` after a beginning of the frozen text; `Ended(OutOfMemory)` before its first byte.
+    /// Brings the run to its end and freezes it: the saved texts are read, and then the canonical text of
+    /// its state is written to `freeze_to`, in place of issuing the diversions. `Ended` by the cause that
+    /// ends the run within the saved texts, after which nothing is frozen; `Ended(Write)` after a beginning of the frozen text; `Ended(OutOfMemory)` before its first byte.
     /// Manual: "Fast loading of frozen state".
     pub fn freeze<O: ByteSink, M: ByteSink, Z: ByteSink>(
         &mut self,
@@ -248,11 +292,10 @@ impl Session {
             (OneOfThree (three Z.failures (both O.failures M.failures out.old out.new messages.old messages.new) freeze_to.old freeze_to.new)
             (three Z.contents (both O.contents M.contents out.old out.new messages.old messages.new) freeze_to.old freeze_to.new)) }
     {
-        let _ = out;
-        let _ = messages;
         if !self.is_open() {
             return Err(Stop::Finished);
         }
+        self.read_saved(out, messages)?;
         match write_frozen(self.machine.state(), freeze_to) {
             Ok(()) => {}
             Err(WriteFault::Write) => return Err(self.end(Cause::Write)),

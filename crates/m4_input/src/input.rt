@@ -60,7 +60,7 @@ impl Drop for Input {
 }
 
 impl Input {
-    ghost use Rattle.m4_input.specs.Input.{Held, IsLasting, unread_file, with_pushed, all_read, NextGives, ParenGives, SkipGives, WholeGives, failures_behind};
+    ghost use Rattle.m4_input.specs.Input.{Held, IsLasting, unread_file, wrapped_text, with_pushed, all_read, NextGives, ParenGives, SkipGives, WholeGives, failures_behind};
     ghost use Rattle.m4_input.specs.InputView.{unread_again, fault_of, Fills, Takes};
 
     /// A file that is read from its start.
@@ -73,6 +73,22 @@ impl Input {
             text: Text::new(alloc),
             name: Some(name),
             may_follow: true,
+            fault: None,
+        }
+    }
+
+    /// Text that was saved to be read at the end of a run. It belongs to no file, and all of it is
+    /// there: no reader is asked. Manual: "Saving text until end of input".
+    pub fn wrapped(alloc: Global, text: Bytes) -> Input
+        // exact steps: the text pending, without a file
+        ensures { result ≡ wrapped_text text }
+    {
+        Input {
+            alloc,
+            definition: None,
+            text: Text::of_file(alloc, text.into_vec()),
+            name: None,
+            may_follow: false,
             fault: None,
         }
     }

@@ -68,6 +68,18 @@ impl Piece {
         }
     }
 
+    /// The bytes of a file, of which none was read.
+    pub fn of_file(bytes: Vec<u8>) -> Piece
+        ensures { result ≡ record { pushed = []; unread = bytes.items; newlines = 0 } }
+    {
+        Piece {
+            bytes,
+            at: 0,
+            ahead: 0,
+            newlines: 0,
+        }
+    }
+
     /// Has these bytes of a file, where none of a file are left. A refusal leaves all as it was.
     pub fn set_file(&mut self, bytes: Vec<u8>) -> Result<(), AllocError>
         requires { self.old.unread ≡ [] }

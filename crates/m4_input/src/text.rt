@@ -40,6 +40,16 @@ impl Text {
         }
     }
 
+    /// The bytes of a file, of which none was read.
+    pub fn of_file(alloc: Global, bytes: Vec<u8>) -> Text
+        ensures { result ≡ record { pushed = []; unread = bytes.items; newlines = 0 } }
+    {
+        Text {
+            pushed: Vec::new(alloc),
+            piece: Piece::of_file(bytes),
+        }
+    }
+
     /// Has these bytes of a file, where none of a file are left. A refusal leaves all as it was.
     pub fn set_file(&mut self, bytes: Vec<u8>) -> Result<(), AllocError>
         requires { self.old.unread ≡ [] }

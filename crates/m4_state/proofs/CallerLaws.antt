@@ -5,7 +5,7 @@ use Rattle.std.specs.List.{flat_map}
 use Rattle.std.specs.Prelude.{IsErr}
 use Rattle.std.proofs.lemmas.List.{take-append-drop, append-nil}
 use Rattle.m4_state.specs.declared.builtin.Builtin.{Builtin}
-use Rattle.m4_state.specs.declared.builtin.Builtin.TheVariants.{Define, Undefine, Pushdef, Popdef, Defn, Indir, IndirBuiltin, Ifdef, Ifelse, Shift, Dumpdef, Dnl, Changequote, Changecom, Divert, Undivert, Divnum}
+use Rattle.m4_state.specs.declared.builtin.Builtin.TheVariants.{Define, Undefine, Pushdef, Popdef, Defn, Indir, IndirBuiltin, Ifdef, Ifelse, Shift, Dumpdef, Dnl, Changequote, Changecom, Divert, Undivert, Divnum, Len, Index, Substr, Translit, Incr, Decr, Errprint, M4wrap, M4exit, File, Line}
 use Rattle.m4_state.specs.Builtin.{builtin_named, name_of}
 use Rattle.m4_state.specs.Device.{Script, after_bytes, with_bytes, HasPut, HasBegun, Puts}
 
@@ -28,6 +28,17 @@ builtin_named-name_of Changecom = refl
 builtin_named-name_of Divert = refl
 builtin_named-name_of Undivert = refl
 builtin_named-name_of Divnum = refl
+builtin_named-name_of Len = refl
+builtin_named-name_of Index = refl
+builtin_named-name_of Substr = refl
+builtin_named-name_of Translit = refl
+builtin_named-name_of Incr = refl
+builtin_named-name_of Decr = refl
+builtin_named-name_of Errprint = refl
+builtin_named-name_of M4wrap = refl
+builtin_named-name_of M4exit = refl
+builtin_named-name_of File = refl
+builtin_named-name_of Line = refl
 
 pub with_bytes-append : (old : Option (List ℕ)) (a b : List ℕ) → with_bytes (with_bytes old a) b ≡ with_bytes old (a ++ b)
 with_bytes-append None a b = refl

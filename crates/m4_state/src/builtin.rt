@@ -45,6 +45,28 @@ pub enum Builtin {
     Undivert,
     /// Gives the number of the current diversion. Manual: "Diversion numbers".
     Divnum,
+    /// Gives the length of a text. Manual: "Calculating length of strings".
+    Len,
+    /// Gives the place of a text within another. Manual: "Searching for substrings".
+    Index,
+    /// Gives a part of a text. Manual: "Extracting substrings".
+    Substr,
+    /// Replaces bytes by others. Manual: "Translating characters".
+    Translit,
+    /// Adds 1 to a number. Manual: "Decrement and increment operators".
+    Incr,
+    /// Subtracts 1 from a number. Manual: "Decrement and increment operators".
+    Decr,
+    /// Writes to the messages. Manual: "Printing error messages".
+    Errprint,
+    /// Saves a text until all input is read. Manual: "Saving text until end of input".
+    M4wrap,
+    /// Ends the run. Manual: "Exiting from m4".
+    M4exit,
+    /// Gives the name of the input. Manual: "Printing current location".
+    File,
+    /// Gives the line of the call. Manual: "Printing current location".
+    Line,
 }
 
 /// How a builtin is called: its row of the table.
@@ -88,7 +110,7 @@ impl Builtin {
     ghost use Rattle.m4_state.specs.Builtin.{row_of, builtin_named, name_of, needs_args, takes_tokens, least_of, most_of};
 
     /// All of them.
-    pub const TABLE: [Builtin; 17] = [
+    pub const TABLE: [Builtin; 28] = [
         Builtin::Define,
         Builtin::Undefine,
         Builtin::Pushdef,
@@ -106,6 +128,17 @@ impl Builtin {
         Builtin::Divert,
         Builtin::Undivert,
         Builtin::Divnum,
+        Builtin::Len,
+        Builtin::Index,
+        Builtin::Substr,
+        Builtin::Translit,
+        Builtin::Incr,
+        Builtin::Decr,
+        Builtin::Errprint,
+        Builtin::M4wrap,
+        Builtin::M4exit,
+        Builtin::File,
+        Builtin::Line,
     ];
 
     /// The builtin of that name, if the table has it.
@@ -142,6 +175,17 @@ impl Builtin {
             Builtin::Divert => called(b"divert", false, false, 0, Some(1)),
             Builtin::Undivert => called(b"undivert", false, false, 0, None),
             Builtin::Divnum => called(b"divnum", false, false, 0, Some(0)),
+            Builtin::Len => called(b"len", true, false, 1, Some(1)),
+            Builtin::Index => called(b"index", true, false, 2, Some(2)),
+            Builtin::Substr => called(b"substr", true, false, 2, Some(3)),
+            Builtin::Translit => called(b"translit", true, false, 2, Some(3)),
+            Builtin::Incr => called(b"incr", true, false, 1, Some(1)),
+            Builtin::Decr => called(b"decr", true, false, 1, Some(1)),
+            Builtin::Errprint => called(b"errprint", true, false, 0, None),
+            Builtin::M4wrap => called(b"m4wrap", true, false, 0, None),
+            Builtin::M4exit => called(b"m4exit", false, false, 0, Some(1)),
+            Builtin::File => called(b"__file__", false, false, 0, Some(0)),
+            Builtin::Line => called(b"__line__", false, false, 0, Some(0)),
         }
     }
 

@@ -19,9 +19,8 @@ use m4_engine::options::Options;
 use std::alloc::{AllocError, Global};
 
 const ABOUT: &str =
-    "Expands the macros of GNU M4's language, with the builtins changecom, changequote, define, \
-    divert, divnum, dnl, undefine and undivert. Also shows what a frozen state file of GNU M4 holds, and writes it in its one \
-    canonical spelling.";
+    "Expands the macros of GNU M4's language, with the builtins that m4r(1) lists. Also shows what a frozen state \
+    file of GNU M4 holds, and writes it in its one canonical spelling.";
 
 const USAGE: &str = "m4r [-F FILE] [-R FILE] [-L N] [--expansions=N] [FILE...]
        m4r --canon=FILE

@@ -8,10 +8,12 @@ ghost use Rattle.m4_builtins.specs.Args.{IsArg};
 
 mod calls;
 mod diverting;
+mod effects;
 mod heads;
 mod messages;
 mod numbers;
 mod substitutions;
+mod texts;
 
 use crate::given::{Given, made};
 use crate::report::Report;

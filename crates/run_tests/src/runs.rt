@@ -12,3 +12,5 @@ mod sessions;
 mod shows;
 mod sources;
 mod stacks;
+mod texts;
+mod wrapped;

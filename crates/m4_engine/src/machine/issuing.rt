@@ -16,17 +16,13 @@ impl Machine {
         ensures puts { Puts result (O.contents out.old) (O.contents out.new) (close self.old.state) }
         ensures counted { O.failures out.new ≡ count_after result (O.failures out.old) }
         ensures rest { self.new ≡ record self.old { state = self.new.state } }
-        // no call saves a text yet
-        ensures none_saved { self.old.saved ≡ [] }
     {
         issue(&mut self.state, out)
     }
 
     /// The state.
     pub fn state(&self) -> &State
-        ensures state { result.now ≡ self.now.state }
-        // no call saves a text yet
-        ensures none_saved { self.now.saved ≡ [] }
+        ensures { result.now ≡ self.now.state }
     {
         &self.state
     }

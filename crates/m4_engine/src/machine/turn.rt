@@ -86,11 +86,19 @@ impl Machine {
 
     /// Puts what a call has made where it goes, beside what it pushes and skips.
     #[inline(always)]
-    fn put_effect(&mut self, messages: &[u8], output: &[u8]) -> Result<(), TurnFault>
-        ensures { OnOk result (self.new ≡ with_made messages.now output.now None self.old) }
+    fn put_effect(
+        &mut self,
+        messages: &[u8],
+        output: &[u8],
+        wrap: Option<Bytes>,
+    ) -> Result<(), TurnFault>
+        ensures { OnOk result (self.new ≡ with_made messages.now output.now wrap self.old) }
     {
         self.tell(messages)?;
         self.output.extend_from_slice(output)?;
+        if let Some(text) = wrap {
+            self.save(text)?;
+        }
         if let Some(around) = &mut self.innermost {
             around.begin();
         }
@@ -122,11 +130,11 @@ impl Machine {
             push,
             messages,
             output,
-            wrap: _,
+            wrap,
             skip,
             exit,
         } = act(self.alloc, &definition, &args, &place, &mut self.state)?;
-        self.put_effect(messages.as_slice(), output.as_slice())?;
+        self.put_effect(messages.as_slice(), output.as_slice(), wrap)?;
         if let Some(code) = exit {
             return Ok(Turned::Ends(Cause::Exited(code)));
         }
@@ -373,7 +381,7 @@ impl Machine {
             → Moves self.new input.new.pending t
             (λ o m. called_within self.old.open_calls c (here_of o m self.old input.old.pending))) }
     {
-        self.put_effect(b"", b"")?;
+        self.put_effect(b"", b"", None)?;
         read_on(input, false, Some(Pushed::Text(text)))?;
         Ok(Turned::GoesOn)
     }

@@ -27,6 +27,17 @@ const ROWS: &[(&str, &[u8])] = &[
     ("divert", b"divert: 0 to 1"),
     ("undivert", b"undivert: 0 or more"),
     ("divnum", b"divnum: 0 to 0"),
+    ("len", b"len: parameters, 1 to 1"),
+    ("index", b"index: parameters, 2 to 2"),
+    ("substr", b"substr: parameters, 2 to 3"),
+    ("translit", b"translit: parameters, 2 to 3"),
+    ("incr", b"incr: parameters, 1 to 1"),
+    ("decr", b"decr: parameters, 1 to 1"),
+    ("errprint", b"errprint: parameters, 0 or more"),
+    ("m4wrap", b"m4wrap: parameters, 0 or more"),
+    ("m4exit", b"m4exit: 0 to 1"),
+    ("__file__", b"__file__: 0 to 0"),
+    ("__line__", b"__line__: 0 to 0"),
     ("format", b"none"),
 ];
 

@@ -31,23 +31,34 @@ const ROWS: &[Row] = &[
         "a fresh state has its builtins, and two names without text",
         true,
         &[],
-        b"__gnu__, text ; 0\n\
+        b"__file__, builtin __file__; 8\n\
+          __gnu__, text ; 0\n\
+          __line__, builtin __line__; 8\n\
           __unix__, text ; 0\n\
           builtin, builtin builtin; 7\n\
           changecom, builtin changecom; 9\n\
           changequote, builtin changequote; 11\n\
+          decr, builtin decr; 4\n\
           define, builtin define; 6\n\
           defn, builtin defn; 4\n\
           divert, builtin divert; 6\n\
           divnum, builtin divnum; 6\n\
           dnl, builtin dnl; 3\n\
           dumpdef, builtin dumpdef; 7\n\
+          errprint, builtin errprint; 8\n\
           ifdef, builtin ifdef; 5\n\
           ifelse, builtin ifelse; 6\n\
+          incr, builtin incr; 4\n\
+          index, builtin index; 5\n\
           indir, builtin indir; 5\n\
+          len, builtin len; 3\n\
+          m4exit, builtin m4exit; 6\n\
+          m4wrap, builtin m4wrap; 6\n\
           popdef, builtin popdef; 6\n\
           pushdef, builtin pushdef; 7\n\
           shift, builtin shift; 5\n\
+          substr, builtin substr; 6\n\
+          translit, builtin translit; 8\n\
           undefine, builtin undefine; 8\n\
           undivert, builtin undivert; 8\n",
     ),

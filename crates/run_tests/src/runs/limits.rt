@@ -21,7 +21,7 @@ const THREE: &str = "define(`f',`$1')f(f(f(`x')))\n";
 // A name that stands for itself.
 const LOOP: &str = "define(`l',`l')l\n";
 
-static ROWS: [Row; 11] = [
+static ROWS: [Row; 13] = [
     (
         "four calls, three open",
         THREE,
@@ -109,6 +109,22 @@ static ROWS: [Row; 11] = [
         "",
         "m4:a.m4:1: ERROR: more than 100 calls\n",
         (1, Cause::ExpansionLimit),
+    ),
+    (
+        "one call too few for saved text",
+        "m4wrap(`len(`a')')x\n",
+        (1, 1024),
+        "x\n",
+        "m4: ERROR: more than 1 calls\n",
+        (1, Cause::ExpansionLimit),
+    ),
+    (
+        "one open call too few for saved text",
+        "m4wrap(`len(len(`a'))')x\n",
+        (3, 1),
+        "x\n",
+        "m4: ERROR: more than 1 nested calls\n",
+        (1, Cause::NestingLimit),
     ),
 ];
 

@@ -27,7 +27,7 @@ enum Call {
 // output and messages.
 type Row = (&'static str, usize, &'static [Call], &'static str);
 
-static ROWS: [Row; 6] = [
+static ROWS: [Row; 9] = [
     (
         "two files and the end",
         1024,
@@ -79,6 +79,42 @@ static ROWS: [Row; 6] = [
         1024,
         &[Call::File("`abc"), Call::Status, Call::File("x\n")],
         "Err(Ended(EndInString))\n(1, false)\nErr(Finished)\n|m4:a.m4:1: ERROR: end of input in string\n",
+    ),
+    (
+        "text is saved until the end, and then none is left",
+        1024,
+        &[
+            Call::File("m4wrap(`m4wrap(`c')b')a\n"),
+            Call::Status,
+            Call::File("d\n"),
+            Call::Finish,
+            Call::Status,
+            Call::Finish,
+        ],
+        "Ok(())\n(0, true)\nOk(())\nOk(())\n(0, false)\nErr(Finished)\na\nd\nbc|",
+    ),
+    (
+        "a macro ends the run",
+        1024,
+        &[
+            Call::File("x m4exit(`3')y\n"),
+            Call::Status,
+            Call::File("z\n"),
+            Call::Finish,
+        ],
+        "Err(Ended(Exited(3)))\n(3, false)\nErr(Finished)\nErr(Finished)\nx |",
+    ),
+    (
+        "a macro within saved text ends the run with code 0, after a file that isn't opened",
+        1024,
+        &[
+            Call::Missing("nofile"),
+            Call::File("divert(1)m4wrap(`divert(0)w m4exit v')d\n"),
+            Call::Finish,
+            Call::Status,
+            Call::Missing("c"),
+        ],
+        "Ok(())\nOk(())\nErr(Ended(Exited(0)))\n(1, false)\nErr(Finished)\nw |m4: cannot open `nofile'\n",
     ),
 ];
 

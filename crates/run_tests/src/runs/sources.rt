@@ -31,7 +31,7 @@ type Row = (
     (u8, Cause),
 );
 
-static ROWS: [Row; 11] = [
+static ROWS: [Row; 16] = [
     ("no source", &[], ROOM, "", "", (0, Cause::Done)),
     (
         "a definition of one file is called in the next",
@@ -74,6 +74,47 @@ static ROWS: [Row; 11] = [
         "z\n",
         "m4: cannot open `nofile'\n",
         (1, Cause::Done),
+    ),
+    (
+        "a macro ends the run: the next file is not read",
+        &[Given::File("x m4exit(`3')y\n"), Given::File("z\n")],
+        ROOM,
+        "x ",
+        "",
+        (3, Cause::Exited(3)),
+    ),
+    (
+        "a macro ends the run with code 0 after a file that isn't opened",
+        &[Given::Missing("nofile"), Given::File("x m4exit()y\n")],
+        ROOM,
+        "x ",
+        "m4: cannot open `nofile'\n\
+         m4:b.m4:1: Warning: empty string treated as 0 in builtin `m4exit'\n",
+        (1, Cause::Exited(0)),
+    ),
+    (
+        "a macro ends the run with code 3 after a file that isn't opened",
+        &[Given::Missing("nofile"), Given::File("m4exit(`3')")],
+        ROOM,
+        "",
+        "m4: cannot open `nofile'\n",
+        (3, Cause::Exited(3)),
+    ),
+    (
+        "a macro ends the run before a file that isn't opened",
+        &[Given::File("m4exit"), Given::Missing("nofile")],
+        ROOM,
+        "",
+        "",
+        (0, Cause::Exited(0)),
+    ),
+    (
+        "a reader that fails: what an earlier file saved is not read",
+        &[Given::File("m4wrap(`never')one\n"), Given::Failing("two\n")],
+        ROOM,
+        "one\n",
+        "",
+        (1, Cause::Read),
     ),
     (
         "a reader that fails",

@@ -1,9 +1,7 @@
-use Rattle.std.proofs.Common.{◌≡◌, ◌++◌, [], ◌∷◌, drop, map}
-use Rattle.m4_input.specs.Ascii.{comma}
-use Rattle.m4_builtins.specs.Args.{text_of_arg}
-use Rattle.m4_builtins.specs.Subst.{with_commas}
+use Rattle.std.proofs.Common.{◌≡◌, ◌++◌, [], ◌∷◌, drop}
+use Rattle.m4_builtins.specs.Args.{texts_of, joined}
 use Rattle.m4_builtins.proofs.Joins.{joined_rest}
 use Rattle.m4_builtins.proofs.substitute.push_joined.Given as goal
 
 abbrev pub invariant-loop-arg : goal.invariant-loop-arg
-invariant-loop-arg l = l.out.items ++ joined_rest l.first (comma ∷ []) (map text_of_arg (drop l.arg-index l.args)) ≡ l.fn.out.items ++ with_commas (map text_of_arg l.args)
+invariant-loop-arg l = l.out.items ++ joined_rest l.first (l.separator ∷ []) (texts_of (drop l.arg-index l.args)) ≡ l.fn.out.items ++ joined (l.separator ∷ []) (texts_of l.args)

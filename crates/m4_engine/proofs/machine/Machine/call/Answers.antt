@@ -2,18 +2,15 @@ use Rattle.std.proofs.Common.{◌≡◌, subst, rules}
 use Rattle.m4_state.specs.State.{IsState}
 use Rattle.m4_input.specs.DelimsView.{pair_of}
 use Rattle.m4_builtins.specs.Act.{Acted}
-use Rattle.m4_engine.specs.Engine.{Engine}
-use Rattle.m4_engine.proofs.Acts.{called_goes, called_exits, made_plain}
+use Rattle.m4_engine.proofs.Acts.{called_goes, called_exits, acted_pushes}
 use Rattle.m4_engine.proofs.Bare.{substituted_by, called_as}
-use Rattle.m4_engine.proofs.SavesNothing.{acted_saves, acted_pushes}
 use Rattle.m4_engine.proofs.machine.Machine.call.Goals as goal
 
 pub returns-in-Some-exit : goal.returns-in-Some-exit
 returns-in-Some-exit c = record {
   moves = λ o m.
       let a : Acted = record { state = c.act.new.state; effect = c.in_ok-push.field-0 } in
-      let e : Engine = record c.args.self.now { state = c.act.new.state } in
-      called_exits c.args.self.now c.put_effect.new.self c.args.call a c.args.input.now.pending c.in-Some-exit.code (search rules) (search rules) (made_plain c.put_effect.new.self e (a.effect).messages (a.effect).output (a.effect).wrap (search rules) (acted_saves c.args.call.definition c.args.call.name c.args.call.done c.args.call.place c.args.self.now.state a (search rules))) o m;
+      called_exits c.args.self.now c.put_effect.new.self c.args.call a c.args.input.now.pending c.in-Some-exit.code (search rules) (search rules) (search rules) o m;
   ready = search rules;
   limits = search rules;
   made = search rules;
@@ -23,8 +20,7 @@ pub returns : goal.returns
 returns c = record {
   moves = λ o m.
       let a : Acted = record { state = c.act.new.state; effect = c.in_ok-push.field-0 } in
-      let e : Engine = record c.args.self.now { state = c.act.new.state } in
-      called_goes c.args.self.now c.put_effect.new.self c.args.call a c.args.input.now.pending c.read_on.new.input.pending (search rules) (search rules) (made_plain c.put_effect.new.self e (a.effect).messages (a.effect).output (a.effect).wrap (search rules) (acted_saves c.args.call.definition c.args.call.name c.args.call.done c.args.call.place c.args.self.now.state a (search rules))) (search rules) o m;
+      called_goes c.args.self.now c.put_effect.new.self c.args.call a c.args.input.now.pending c.read_on.new.input.pending (search rules) (search rules) (search rules) (search rules) o m;
   ready = search rules;
   limits = search rules;
   made = search rules;

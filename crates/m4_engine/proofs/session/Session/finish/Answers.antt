@@ -1,6 +1,25 @@
 use Rattle.std.proofs.Common.{rules, refl}
-use Rattle.m4_engine.proofs.Sessions.{finish_broke}
+use Rattle.std.specs.Prelude.{Ok, Err}
+use Rattle.m4_engine.specs.Session.{IsOpen}
+use Rattle.m4_engine.proofs.Sessions.{finish_broke, issued_all}
+use Rattle.m4_engine.proofs.Wrapping.{finish_then, finish_stops, gone_on}
 use Rattle.m4_engine.proofs.session.Session.finish.Goals as goal
 
+-- the run ended in its saved texts
+pub returns-in_err-read_saved-clause-gives : goal.returns-in_err-read_saved-clause-gives
+returns-in_err-read_saved-clause-gives g c = finish_stops c.args.self.now c.read_saved.new.self _ c.in_err-read_saved.field-0.0 c.read_saved.result c.from_residual.result (search rules) (search rules) (search rules) c.read_saved.ensures.goes
+
+-- the diversions could not be issued
 pub returns-in-Err-clause-gives : goal.returns-in-Err-clause-gives
-returns-in-Err-clause-gives g c = finish_broke c.args.self.now c.end.new.self _ c.end.result (search rules) (search rules) c.end.ensures.answer (search rules) refl (search rules)
+returns-in-Err-clause-gives g c =
+    let mid = c.read_saved.new.self in
+    let l : IsOpen mid = gone_on _ c.args.self.now mid _ c.in_ok-read_saved.ensures.goes.0 in
+    finish_then c.args.self.now mid c.end.new.self _ _ _ _ _ _ c.in_ok-read_saved.ensures.goes.0 c.in_ok-read_saved.ensures.none_saved c.read_saved.ensures.missed (Err c.end.result)
+    (finish_broke mid c.end.new.self _ c.end.result l c.in_ok-read_saved.ensures.none_saved c.end.ensures.answer (search rules) refl (search rules))
+
+pub returns-clause-gives : goal.returns-clause-gives
+returns-clause-gives g c =
+    let mid = c.read_saved.new.self in
+    let l : IsOpen mid = gone_on _ c.args.self.now mid _ c.in_ok-read_saved.ensures.goes.0 in
+    finish_then c.args.self.now mid c.finish_here.new.self _ _ _ _ _ _ c.in_ok-read_saved.ensures.goes.0 c.in_ok-read_saved.ensures.none_saved c.read_saved.ensures.missed (Ok tt)
+    (issued_all mid c.finish_here.new.self _ _ _ l c.in_ok-read_saved.ensures.none_saved (search rules) (search rules) (search rules) (search rules) (search rules) (search rules))

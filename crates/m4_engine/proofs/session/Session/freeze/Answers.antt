@@ -1,9 +1,24 @@
 use Rattle.std.proofs.Common.{rules}
+use Rattle.std.specs.Prelude.{Ok, Err}
+use Rattle.m4_engine.specs.Session.{IsOpen}
 use Rattle.m4_engine.proofs.Sessions.{froze, freeze_broke}
+use Rattle.m4_engine.proofs.Wrapping.{freeze_then, freeze_stops, gone_on}
 use Rattle.m4_engine.proofs.session.Session.freeze.Goals as goal
 
+-- the run ended in its saved texts
+pub returns-in_err-read_saved-clause-gives : goal.returns-in_err-read_saved-clause-gives
+returns-in_err-read_saved-clause-gives g c = freeze_stops c.args.self.now c.read_saved.new.self _ _ c.in_err-read_saved.field-0.0 c.read_saved.result c.from_residual.result (search rules) (search rules) (search rules) c.read_saved.ensures.goes
+
 pub returns-in-Err-Write-clause-gives : goal.returns-in-Err-Write-clause-gives
-returns-in-Err-Write-clause-gives g c = freeze_broke c.args.self.now c.end.new.self c.state.result.now c.end.result _ _ _ _ (search rules) (search rules) (search rules) c.end.ensures.answer (search rules) (search rules)
+returns-in-Err-Write-clause-gives g c =
+    let mid = c.read_saved.new.self in
+    let l : IsOpen mid = gone_on _ c.args.self.now mid _ c.in_ok-read_saved.ensures.goes.0 in
+    freeze_then c.args.self.now mid c.end.new.self _ _ _ _ _ _ _ _ c.in_ok-read_saved.ensures.goes.0 c.in_ok-read_saved.ensures.none_saved c.read_saved.ensures.missed (Err c.end.result)
+    (freeze_broke mid c.end.new.self c.state.result.now c.end.result _ _ _ _ l c.in_ok-read_saved.ensures.none_saved (search rules) c.end.ensures.answer (search rules) (search rules))
 
 pub returns-clause-gives : goal.returns-clause-gives
-returns-clause-gives g c = froze c.args.self.now _ c.state.result.now _ _ _ _ (search rules) (search rules) (search rules) (search rules) (search rules) (search rules)
+returns-clause-gives g c =
+    let mid = c.read_saved.new.self in
+    let l : IsOpen mid = gone_on _ c.args.self.now mid _ c.in_ok-read_saved.ensures.goes.0 in
+    freeze_then c.args.self.now mid c.finish_here.new.self _ _ _ _ _ _ _ _ c.in_ok-read_saved.ensures.goes.0 c.in_ok-read_saved.ensures.none_saved c.read_saved.ensures.missed (Ok tt)
+    (froze mid c.finish_here.new.self c.state.result.now _ _ _ _ l c.in_ok-read_saved.ensures.none_saved (search rules) (search rules) (search rules) (search rules))

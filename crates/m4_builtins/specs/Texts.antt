@@ -1,0 +1,54 @@
+-- Texts: the builtins that measure texts, search them and cut them.
+-- Believed. Manual: "Calculating length of strings", "Searching for substrings",
+-- "Extracting substrings". Words: len, place_in, index, from_place, at_most, substr.
+use Rattle.std.specs.Prelude.{ℕ, ℤ, pos, negsuc, List, [], ◌∷◌, Option, Some, None, length, take, drop, codes}
+use Rattle.std.specs.Fmt.{decimal}
+use Rattle.m4_state.specs.declared.builtin.Builtin.TheVariants.{Substr}
+use Rattle.m4_state.specs.State.{State}
+use Rattle.m4_input.specs.Token.{before}
+use Rattle.m4_builtins.specs.declared.args.Arg.{Arg}
+use Rattle.m4_builtins.specs.declared.place.Place.{Place}
+use Rattle.m4_builtins.specs.Args.{text_of_arg, text_at}
+use Rattle.m4_builtins.specs.Acted.{Acted, changes, expands}
+use Rattle.m4_builtins.specs.Numeric.{reading_of, with_number}
+
+-- `len`: how many bytes
+abbrev pub len : List Arg → State → Acted
+len list s = expands s (decimal (length (text_at list 0)))
+
+-- the first place where a text begins with a part, from 0
+abbrev pub place_in : List ℕ → List ℕ → Option ℕ
+place_in text [] = Some 0
+place_in text (b ∷ part) = before (b ∷ part) text
+
+-- a place, or -1 where there is none
+abbrev pub place_shown : Option ℕ → List ℕ
+place_shown None = codes "-1"
+place_shown (Some n) = decimal n
+
+-- `index`
+abbrev pub index : List Arg → State → Acted
+index list s = expands s (place_shown (place_in (text_at list 0) (text_at list 1)))
+
+-- the bytes from a place on; none where the place is negative, or where the text has ended
+abbrev pub from_place : ℤ → List ℕ → List ℕ
+from_place (pos n) x = drop n x
+from_place (negsuc n) x = []
+
+-- at most so many bytes; none where the count isn't positive
+abbrev pub at_most : ℤ → List ℕ → List ℕ
+at_most (pos n) x = take n x
+at_most (negsuc n) x = []
+
+-- `substr`, whose numbers are read from left to right before anything is cut; without a count the
+-- whole rest
+abbrev pub substr : List Arg → Place → State → Acted
+substr [] p s = changes s
+substr (a ∷ []) p s = changes s
+substr (a ∷ b ∷ []) p s =
+    with_number p Substr s (reading_of (text_of_arg b))
+    (λ from. expands s (from_place from (text_of_arg a)))
+substr (a ∷ b ∷ c ∷ rest) p s =
+    with_number p Substr s (reading_of (text_of_arg b))
+    (λ from. with_number p Substr s (reading_of (text_of_arg c))
+    (λ count. expands s (at_most count (from_place from (text_of_arg a)))))

@@ -1,0 +1,128 @@
+//! The builtin that replaces bytes by others. Manual: "Translating characters".
+//!
+//! The ranges of both lists are written out, then a table says of each byte what it becomes, and then
+//! the text is gone through once.
+
+ghost use Rattle.std.specs.Prelude.{◌≡◌, ◌++◌, ◌<◌, ◌-◌, ◌+◌, ℕ, None, Some, IfOk, OnOk, get_or};
+ghost use Rattle.m4_builtins.specs.ByteTable.{Replaces};
+ghost use Rattle.m4_builtins.specs.Translit as spec;
+
+use crate::args::{Arg, text_at};
+use crate::effect::Effect;
+use m4_state::bytes::Bytes;
+use m4_state::state::State;
+use std::alloc::{AllocError, Global};
+
+/// What each byte becomes, by its number; none where it is taken out.
+type Changes = [Option<u8>; 256];
+
+/// Gives the first argument with the bytes of the second one replaced by those of the third. Takes time
+/// in proportion to the text and to the ranges as they are written out. Manual: "Translating
+/// characters".
+pub(crate) fn translit(alloc: Global, list: &[Arg], state: &State) -> Result<Effect, AllocError>
+    ensures { IfOk result (λ e. spec.translit list.now state.now ≡ record { state = state.now; effect = e }) }
+{
+    let _ = state;
+    let from = ranges(alloc, text_at(list, 1))?;
+    let to = ranges(alloc, text_at(list, 2))?;
+    let text = translated(alloc, text_at(list, 0), from.as_slice(), to.as_slice())?;
+    Ok(Effect::pushing(alloc, Bytes::from(text)))
+}
+
+/// A text with its ranges written out.
+fn ranges(alloc: Global, text: &[u8]) -> Result<Vec<u8>, AllocError>
+    ensures { IfOk result (λ v. v.items ≡ spec.ranges text.now) }
+{
+    let mut out = Vec::new(alloc);
+    let mut before = None;
+    let mut rest = text;
+    while let [byte, others @ ..] = rest {
+        match (before, others) {
+            (Some(from), [to, after @ ..]) if *byte == b'-' => {
+                push_run(&mut out, from, *to)?;
+                before = Some(*to);
+                rest = after;
+            }
+            _ => {
+                out.push(*byte)?;
+                before = Some(*byte);
+                rest = others;
+            }
+        }
+    }
+    Ok(out)
+}
+
+/// Adds the bytes from one to another, without the first.
+fn push_run(out: &mut Vec<u8>, from: u8, to: u8) -> Result<(), AllocError>
+    ensures { OnOk result (out.new.items ≡ out.old.items ++ spec.run from to) }
+{
+    if from < to {
+        push_rising(out, from, to)
+    } else {
+        push_falling(out, from, to)
+    }
+}
+
+/// Adds the bytes above one, up to another.
+fn push_rising(out: &mut Vec<u8>, from: u8, to: u8) -> Result<(), AllocError>
+    ensures { OnOk result (out.new.items ≡ out.old.items ++ spec.rising (to - from) (from + 1)) }
+{
+    let mut byte = from;
+    while byte < to {
+        byte += 1;
+        out.push(byte)?;
+    }
+    Ok(())
+}
+
+/// Adds the bytes below one, down to another.
+fn push_falling(out: &mut Vec<u8>, from: u8, to: u8) -> Result<(), AllocError>
+    ensures { OnOk result (out.new.items ≡ out.old.items ++ spec.falling (from - to) (from - 1)) }
+{
+    let mut byte = from;
+    while byte > to {
+        byte -= 1;
+        out.push(byte)?;
+    }
+    Ok(())
+}
+
+/// What each byte becomes where some are replaced by others. Takes the last ones first, so that of two
+/// places of one byte the first is what counts.
+fn changes_of(from: &[u8], to: &[u8]) -> Changes
+    ensures { Replaces result from.now to.now }
+{
+    let mut changes = no_changes();
+    let mut k = from.len();
+    while k > 0 {
+        k -= 1;
+        changes[usize::from(from[k])] = to.get(k).copied();
+    }
+    changes
+}
+
+/// Each byte stays as it is.
+fn no_changes() -> Changes
+    ensures { (b : ℕ) → b < 256 → get_or result b None ≡ Some b }
+{
+    let mut changes = [None; 256];
+    for byte in 0..256 {
+        changes[byte] = Some(byte as u8);
+    }
+    changes
+}
+
+/// A text with the bytes of one text replaced by those of another.
+fn translated(alloc: Global, text: &[u8], from: &[u8], to: &[u8]) -> Result<Vec<u8>, AllocError>
+    ensures { IfOk result (λ v. v.items ≡ spec.translated text.now from.now to.now) }
+{
+    let changes = changes_of(from, to);
+    let mut out = Vec::with_capacity(alloc, text.len())?;
+    for byte in text {
+        if let Some(new) = changes[usize::from(*byte)] {
+            out.push(new)?;
+        }
+    }
+    Ok(out)
+}

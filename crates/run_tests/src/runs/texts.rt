@@ -1,0 +1,158 @@
+//! Runs with the builtins on texts and numbers, and those that show where the input is. Manual: "Calculating
+//! length of strings", "Searching for substrings", "Extracting substrings", "Translating characters",
+//! "Decrement and increment operators", "Printing error messages", "Printing current location".
+
+use super::given::{BLOCKS, USUAL, ended, seen_of_file};
+use super::report::printed_run;
+use super::shows::agrees;
+use m4_engine::ending::Cause;
+use std::alloc::Global;
+use std::process::Abort;
+
+// A row's name, a file that is read to its end, output and messages.
+type Row = (&'static str, &'static str, &'static str, &'static str);
+
+static TEXTS: [Row; 13] = [
+    (
+        "lengths, places, parts and neighbours",
+        "len(`abc') index(`abcabc',`ca') index(`a',`z') substr(`abcdef',`2',`3') substr(`abc',`3') \
+         incr(2147483647) decr(`-7')\n",
+        "3 2 -1 cde  -2147483648 -8\n",
+        "",
+    ),
+    (
+        "bytes are translated along ranges, or deleted",
+        "translit(`abcba',`a-c',`C-A') translit(`hello',`l')\n",
+        "CBABC heo\n",
+        "",
+    ),
+    (
+        "ranges that rise and fall, and a minus that is first",
+        "translit(`+,-12345', `+--1-5', `<;>a-c-a')\n",
+        "<;>abcba\n",
+        "",
+    ),
+    (
+        "without a list they are text",
+        "len index substr translit incr decr errprint m4wrap\n",
+        "len index substr translit incr decr errprint m4wrap\n",
+        "",
+    ),
+    (
+        "an empty text has no bytes, and is found in front",
+        "len() index(`a',) index(,`a') index(,) <substr(,`0')> <translit(,`a',`b')>\n",
+        "0 0 -1 0 <> <>\n",
+        "",
+    ),
+    (
+        "too few arguments",
+        "index(`a') substr(`abc') translit(`abc')\n",
+        "0 abc abc\n",
+        "m4:a.m4:1: Warning: too few arguments to builtin `index'\n\
+         m4:a.m4:1: Warning: too few arguments to builtin `substr'\n\
+         m4:a.m4:1: Warning: too few arguments to builtin `translit'\n",
+    ),
+    (
+        "no argument at all",
+        "<builtin(`index')><builtin(`substr')><builtin(`translit')><builtin(`len')>\n",
+        "<><><><>\n",
+        "m4:a.m4:1: Warning: too few arguments to builtin `index'\n\
+         m4:a.m4:1: Warning: too few arguments to builtin `substr'\n\
+         m4:a.m4:1: Warning: too few arguments to builtin `translit'\n\
+         m4:a.m4:1: Warning: too few arguments to builtin `len'\n",
+    ),
+    (
+        "excess arguments",
+        "len(`a',`b') incr(`1',`2') translit(`a',`a',`b',`c')\n",
+        "1 2 b\n",
+        "m4:a.m4:1: Warning: excess arguments to builtin `len' ignored\n\
+         m4:a.m4:1: Warning: excess arguments to builtin `incr' ignored\n\
+         m4:a.m4:1: Warning: excess arguments to builtin `translit' ignored\n",
+    ),
+    (
+        "where a part begins and how long it is",
+        "<substr(`abc',`-1')><substr(`abc',`1',`0')><substr(`abc',`1',`-1')><substr(`abc',`1',`9')>\n",
+        "<><><><bc>\n",
+        "",
+    ),
+    (
+        "the count of a part is read even where it begins after the text",
+        "<substr(`abc',`9',`x')>\n",
+        "<>\n",
+        "m4:a.m4:1: Warning: non-numeric argument to builtin `substr'\n",
+    ),
+    (
+        "numbers with blanks, signs and zeros in front, and their ends",
+        "incr(` +007') decr(`-2147483648') incr(`2147483648')|decr(`1 ')|incr(` ')|\n",
+        "8 2147483647 |||\n",
+        "m4:a.m4:1: Warning: non-numeric argument to builtin `incr'\n\
+         m4:a.m4:1: Warning: non-numeric argument to builtin `decr'\n\
+         m4:a.m4:1: Warning: non-numeric argument to builtin `incr'\n",
+    ),
+    (
+        "an empty text is 0",
+        "incr(`')\n",
+        "1\n",
+        "m4:a.m4:1: Warning: empty string treated as 0 in builtin `incr'\n",
+    ),
+    (
+        "a builtin beside text is dropped",
+        "define(`x',a`'defn(`len'))x\n",
+        "a\n",
+        "m4:a.m4:1: Warning: builtin dropped from text\n",
+    ),
+];
+
+static PLACES: [Row; 5] = [
+    (
+        "arguments go to the messages, joined by spaces",
+        "errprint(`a',`b')\n__line__ __file__\n",
+        "\n2 a.m4\n",
+        "a b",
+    ),
+    (
+        "what goes to the messages is not read again, and ends no line",
+        "define(`f',`x')errprint(`f',,`f')errprint(`\n')errprint()errprint(`g')\n",
+        "\n",
+        "f  f\ng",
+    ),
+    (
+        "the line is that of the name",
+        "define(`f',`$1')f(\n__line__) __line__\n__line__()\n",
+        "2 2\n3\n",
+        "m4:a.m4:3: Warning: excess arguments to builtin `__line__' ignored\n",
+    ),
+    (
+        "the name of the input is quoted",
+        "define(`a',`z')__file__ len(__file__)\n",
+        "a.m4 4\n",
+        "",
+    ),
+    (
+        "the line within a definition is that of its call",
+        "define(`where',\n`__line__\n__line__')where\n\nwhere\n",
+        "3\n3\n\n5\n5\n",
+        "",
+    ),
+];
+
+// Compares what is to be seen of each row, at each size of a block.
+fn compare(rt: &(impl Abort + Alloc<A = Global>), rows: &[Row]) {
+    for &(name, file, output, messages) in rows {
+        for block in BLOCKS {
+            let end = ended(0, Cause::Done);
+            let want = printed_run(rt.alloc(), output.as_bytes(), messages.as_bytes(), end);
+            agrees(rt, name, want, seen_of_file(rt, file, block, USUAL));
+        }
+    }
+}
+
+#[test]
+fn builtins_on_texts_and_numbers(rt: HostRuntime) {
+    compare(&rt, &TEXTS);
+}
+
+#[test]
+fn messages_and_places(rt: HostRuntime) {
+    compare(&rt, &PLACES);
+}

@@ -1,0 +1,549 @@
+//! Runs that save text for the end of the input, and runs that a macro ends. Manual: "Saving text until end
+//! of input", "Exiting from m4".
+
+ghost use Rattle.std.specs.Prelude.{◌≡◌, false};
+
+use super::given::{
+    AT_MOST, BLOCKS, ROOM, Seen, USUAL, freezing, opened, options, printed_seen, run_over,
+};
+use super::report::{Report, printed_run};
+use super::shows::agrees;
+use m4_engine::ending::{Cause, Ending};
+use m4_engine::options::Options;
+use m4_state::memory::MemSource;
+use std::alloc::{AllocError, Global};
+use std::process::Abort;
+
+// The status of a run, its cause, and whether text was saved.
+type End = (u8, Cause, bool);
+
+// A row's name, a file, output and messages, and the end.
+type Row = (&'static str, &'static str, &'static str, &'static str, End);
+
+// A run that read everything and saved text.
+const SAVED: End = (0, Cause::Done, true);
+
+// One that read everything and saved none.
+const NOTHING_SAVED: End = (0, Cause::Done, false);
+
+// Where saved text is read, and in which order.
+static SAVES: [Row; 18] = [
+    (
+        "the text that was saved last is read first",
+        "m4wrap(`a ')m4wrap(`b ')x\n",
+        "x\nb a ",
+        "",
+        SAVED,
+    ),
+    (
+        "text that is saved while saved text is read comes after it",
+        "m4wrap(`m4wrap(`c')b')a\n",
+        "a\nbc",
+        "",
+        SAVED,
+    ),
+    (
+        "in each round the text that was saved last is read first",
+        "m4wrap(` m4wrap(`e')d')m4wrap(`m4wrap(`c')b')a\n",
+        "a\nb dec",
+        "",
+        SAVED,
+    ),
+    (
+        "one round after another",
+        "define(`f',`ifelse($1,`xxx',`.',`m4wrap(`f(x$1)')$1,')')m4wrap(`f(`')')\n",
+        "\n,x,xx,.",
+        "",
+        SAVED,
+    ),
+    (
+        "arguments are joined by spaces",
+        "m4wrap(`a',`b c',,`d')x\n",
+        "x\na b c  d",
+        "",
+        SAVED,
+    ),
+    (
+        "a name and a list span two saved texts",
+        "m4wrap(`n(`abc')')m4wrap(`le')x\n",
+        "x\n3",
+        "",
+        SAVED,
+    ),
+    (
+        "a name that is defined after its call was saved",
+        "m4wrap(`f(`a')')define(`f',`<$1>')x\n",
+        "x\n<a>",
+        "",
+        SAVED,
+    ),
+    ("an empty text is saved", "m4wrap()x\n", "x\n", "", SAVED),
+    (
+        "a definition alone is saved as an empty text",
+        "m4wrap(defn(`len'))x\n",
+        "x\n",
+        "",
+        SAVED,
+    ),
+    (
+        "without a list it is plain text",
+        "m4wrap x\n",
+        "m4wrap x\n",
+        "",
+        NOTHING_SAVED,
+    ),
+    (
+        "saved text has line 0 and no file",
+        "\nm4wrap(`[__line__] [__file__]\n[__line__]')x\n",
+        "\nx\n[0] []\n[0]",
+        "",
+        SAVED,
+    ),
+    (
+        "the rest of a line of saved text is discarded",
+        "m4wrap(`c dnl d')m4wrap(`a dnl b\n')x\n",
+        "x\na c ",
+        "",
+        SAVED,
+    ),
+    (
+        "a diversion is brought back, and text after it",
+        "divert(1)d\ndivert(0)m4wrap(`undivert(1)w')x\n",
+        "x\nd\nw",
+        "",
+        SAVED,
+    ),
+    (
+        "text goes to the diversion that is current",
+        "divert(1)m4wrap(`w')d\n",
+        "d\nw",
+        "",
+        SAVED,
+    ),
+    (
+        "diversions are issued after saved text",
+        "divert(2)d\ndivert(0)m4wrap(`w divert(1)e\n')x\n",
+        "x\nw e\nd\n",
+        "",
+        SAVED,
+    ),
+    (
+        "discarding ends within saved text",
+        "divert(-1)m4wrap(`divert(0)w')x\n",
+        "w",
+        "",
+        SAVED,
+    ),
+    (
+        "an argument that is no number, and a text that is empty",
+        "m4wrap(`incr(`x')decr(`')')x\n",
+        "x\n-1",
+        "m4: Warning: non-numeric argument to builtin `incr'\n\
+         m4: Warning: empty string treated as 0 in builtin `decr'\n",
+        SAVED,
+    ),
+    (
+        "a definition beside text",
+        "m4wrap(`define(`f',a`'defn(`len'))f')x\n",
+        "x\na",
+        "m4: Warning: builtin dropped from text\n",
+        SAVED,
+    ),
+];
+
+// Saved text that ends before what it began: nothing that was diverted is issued.
+static BROKEN_OFF: [Row; 5] = [
+    (
+        "a string without an end",
+        "divert(1)d\ndivert(0)changequote([,])m4wrap([w changequote`a])x\n",
+        "x\nw ",
+        "m4: ERROR: end of input in string\n",
+        (1, Cause::EndInString, false),
+    ),
+    (
+        "a comment without an end",
+        "divert(1)d\ndivert(0)m4wrap(`w # a')x\n",
+        "x\nw ",
+        "m4: ERROR: end of input in comment\n",
+        (1, Cause::EndInComment, false),
+    ),
+    (
+        "a list without an end",
+        "divert(1)d\ndivert(0)m4wrap(`w len(a')x\n",
+        "x\nw ",
+        "m4: ERROR: end of input in argument list\n",
+        (1, Cause::EndInArguments, false),
+    ),
+    (
+        "a list without an end, where more is saved",
+        "m4wrap(`m4wrap(`never')len(a')x\n",
+        "x\n",
+        "m4: ERROR: end of input in argument list\n",
+        (1, Cause::EndInArguments, false),
+    ),
+    (
+        "a file that breaks off: what it saved is not read",
+        "m4wrap(`never')x\nlen(a\n",
+        "x\n",
+        "m4:a.m4:2: ERROR: end of input in argument list\n",
+        (1, Cause::EndInArguments, false),
+    ),
+];
+
+// Runs that a macro ends: what is saved and what is diverted is discarded.
+static EXITS: [Row; 15] = [
+    (
+        "a code",
+        "x m4exit(`3')y\n",
+        "x ",
+        "",
+        (3, Cause::Exited(3), false),
+    ),
+    (
+        "without a list the code is 0",
+        "x m4exit y\n",
+        "x ",
+        "",
+        (0, Cause::Exited(0), false),
+    ),
+    (
+        "an empty argument is 0",
+        "m4exit()x",
+        "",
+        "m4:a.m4:1: Warning: empty string treated as 0 in builtin `m4exit'\n",
+        (0, Cause::Exited(0), false),
+    ),
+    (
+        "the greatest code",
+        "m4exit(`255')x",
+        "",
+        "",
+        (255, Cause::Exited(255), false),
+    ),
+    (
+        "a code above the greatest",
+        "m4exit(`256')x",
+        "",
+        "m4:a.m4:1: Warning: exit status out of range\n",
+        (1, Cause::Exited(1), false),
+    ),
+    (
+        "a code far above the greatest",
+        "m4exit(`300')x",
+        "",
+        "m4:a.m4:1: Warning: exit status out of range\n",
+        (1, Cause::Exited(1), false),
+    ),
+    (
+        "a code below 0",
+        "m4exit(`-1')x",
+        "",
+        "m4:a.m4:1: Warning: exit status out of range\n",
+        (1, Cause::Exited(1), false),
+    ),
+    (
+        "a code that is no number",
+        "x\nm4exit(`x')y\n",
+        "x\n",
+        "m4:a.m4:2: Warning: non-numeric argument to builtin `m4exit'\n",
+        (1, Cause::Exited(1), false),
+    ),
+    (
+        "a code above any number",
+        "m4exit(`2147483648')x",
+        "",
+        "m4:a.m4:1: Warning: non-numeric argument to builtin `m4exit'\n",
+        (1, Cause::Exited(1), false),
+    ),
+    (
+        "excess arguments come before the code",
+        "m4exit(`300',`2')x",
+        "",
+        "m4:a.m4:1: Warning: excess arguments to builtin `m4exit' ignored\n\
+         m4:a.m4:1: Warning: exit status out of range\n",
+        (1, Cause::Exited(1), false),
+    ),
+    (
+        "within a list that has no end",
+        "define(`f',`$1')f(a m4exit(`2') b",
+        "",
+        "",
+        (2, Cause::Exited(2), false),
+    ),
+    (
+        "what is saved and what is diverted is discarded",
+        "divert(1)d\ndivert(0)m4wrap(`w')x m4exit(`4')y\n",
+        "x ",
+        "",
+        (4, Cause::Exited(4), false),
+    ),
+    (
+        "while text is diverted",
+        "x divert(1)y m4exit z\n",
+        "x ",
+        "",
+        (0, Cause::Exited(0), false),
+    ),
+    (
+        "within saved text",
+        "divert(1)d\ndivert(0)m4wrap(`m4wrap(`v')w m4exit(`2')u')x\n",
+        "x\nw ",
+        "",
+        (2, Cause::Exited(2), false),
+    ),
+    (
+        "within saved text, with a code that is no number",
+        "m4wrap(`m4exit(`y')z')x\n",
+        "x\n",
+        "m4: Warning: non-numeric argument to builtin `m4exit'\n",
+        (1, Cause::Exited(1), false),
+    ),
+];
+
+// The end of a run.
+fn ending((status, cause, wrapped): End) -> Ending {
+    Ending {
+        status,
+        cause,
+        wrapped,
+    }
+}
+
+// A run over one file, a.m4.
+fn run_of(rt: &(impl Abort + Alloc<A = Global>), options: Options, file: &str, block: usize) -> Seen
+    requires { options.prefix ≡ false }
+{
+    let mut sources = [opened(rt, b"a.m4", file.as_bytes(), block)];
+    run_over(rt, options, &mut None, &mut sources, ROOM, AT_MOST)
+}
+
+// Compares what is to be seen of each row, at each size of a block.
+fn compare(rt: &(impl Abort + Alloc<A = Global>), rows: &[Row]) {
+    for &(name, file, output, messages, end) in rows {
+        for block in BLOCKS {
+            let want = printed_run(
+                rt.alloc(),
+                output.as_bytes(),
+                messages.as_bytes(),
+                ending(end),
+            );
+            let seen = run_of(rt, options(USUAL), file, block);
+            agrees(rt, name, want, printed_seen(rt.alloc(), &seen));
+        }
+    }
+}
+
+#[test]
+fn saved_text_is_read_at_the_end(rt: HostRuntime) {
+    compare(&rt, &SAVES);
+}
+
+#[test]
+fn saved_text_that_breaks_off(rt: HostRuntime) {
+    compare(&rt, &BROKEN_OFF);
+}
+
+#[test]
+fn a_macro_ends_the_run(rt: HostRuntime) {
+    compare(&rt, &EXITS);
+}
+
+// A row's name, a file, output, the end, and whether a run that freezes writes the frozen text of a run over
+// nothing; else it writes none.
+type Frozen = (&'static str, &'static str, &'static str, End, bool);
+
+static FREEZES: [Frozen; 7] = [
+    ("no text is saved", "x\n", "x\n", NOTHING_SAVED, true),
+    (
+        "text is saved, and read before the state is frozen",
+        "m4wrap(`bye')x\n",
+        "x\nbye",
+        SAVED,
+        true,
+    ),
+    (
+        "text is saved in two rounds",
+        "m4wrap(`m4wrap(`c')b')a\n",
+        "a\nbc",
+        SAVED,
+        true,
+    ),
+    ("an empty text is saved", "m4wrap()x\n", "x\n", SAVED, true),
+    (
+        "a macro ends the run",
+        "x m4exit(`3')y\n",
+        "x ",
+        (3, Cause::Exited(3), false),
+        false,
+    ),
+    (
+        "a macro ends the run with code 0",
+        "m4wrap(`w')x m4exit y\n",
+        "x ",
+        (0, Cause::Exited(0), false),
+        false,
+    ),
+    (
+        "a macro within saved text ends the run",
+        "m4wrap(`w m4exit(`2')v')x\n",
+        "x\nw ",
+        (2, Cause::Exited(2), false),
+        false,
+    ),
+];
+
+// What is to be seen of a run without messages, and its frozen text.
+fn printed_frozen(
+    alloc: Global,
+    output: &[u8],
+    ending: Ending,
+    frozen_text: &[u8],
+) -> Result<Vec<u8>, AllocError> {
+    let mut report = Report::new(alloc);
+    report.run(output, b"", ending);
+    report.add(b"|");
+    report.add(frozen_text);
+    report.text()
+}
+
+// What is expected of a run that freezes: the frozen text of a run over nothing, or none.
+fn expected_frozen(
+    rt: &(impl Abort + Alloc<A = Global>),
+    (output, end, freezes): (&str, End, bool),
+    block: usize,
+) -> Result<Vec<u8>, AllocError> {
+    let (output, end) = (output.as_bytes(), ending(end));
+    if !freezes {
+        return printed_frozen(rt.alloc(), output, end, b"");
+    }
+    let fresh = run_of(rt, freezing(USUAL), "", block);
+    printed_frozen(rt.alloc(), output, end, fresh.frozen_text.written())
+}
+
+// What is to be seen of a run that freezes.
+fn seen_frozen(
+    rt: &(impl Abort + Alloc<A = Global>),
+    file: &str,
+    block: usize,
+) -> Result<Vec<u8>, AllocError> {
+    let seen = run_of(rt, freezing(USUAL), file, block);
+    printed_frozen(
+        rt.alloc(),
+        seen.output.written(),
+        seen.ending,
+        seen.frozen_text.written(),
+    )
+}
+
+#[test]
+fn saved_text_is_never_frozen(rt: HostRuntime) {
+    for &(name, file, output, end, freezes) in &FREEZES {
+        for block in BLOCKS {
+            let want = expected_frozen(&rt, (output, end, freezes), block);
+            agrees(&rt, name, want, seen_frozen(&rt, file, block));
+        }
+    }
+}
+
+// A row's name, two files, the outputs of a run that freezes over the first and of one that goes on over the
+// second, and that of one run over both: the two don't fit together, since the first saved text.
+type Apart = (
+    &'static str,
+    (&'static str, &'static str),
+    (&'static str, &'static str),
+    &'static str,
+);
+
+static APART: [Apart; 3] = [
+    (
+        "plain text",
+        ("m4wrap(`bye')x\n", "z\n"),
+        ("x\nbye", "z\n"),
+        "x\nz\nbye",
+    ),
+    (
+        "a definition that saved text makes",
+        ("m4wrap(`define(`a',`b')')a\n", "a\n"),
+        ("a\n", "b\n"),
+        "a\na\n",
+    ),
+    (
+        "a diversion that saved text selects",
+        (
+            "divert(1)d\ndivert(0)m4wrap(`divert(2)w')x\n",
+            "undivert(1)divnum\n",
+        ),
+        ("x\n", "wd\n2\n"),
+        "x\nd\n0\nw",
+    ),
+];
+
+// A run that goes on from a frozen text over a second file.
+fn run_after(
+    rt: &(impl Abort + Alloc<A = Global>),
+    frozen_text: &[u8],
+    file: &str,
+    block: usize,
+) -> Seen {
+    let mut frozen = Some(MemSource::new(frozen_text, block.max(1), false));
+    let mut sources = [opened(rt, b"b.m4", file.as_bytes(), block)];
+    run_over(rt, options(USUAL), &mut frozen, &mut sources, ROOM, AT_MOST)
+}
+
+// A run over two files.
+fn run_of_both(
+    rt: &(impl Abort + Alloc<A = Global>),
+    (first, second): (&str, &str),
+    block: usize,
+) -> Seen {
+    let mut sources = [
+        opened(rt, b"a.m4", first.as_bytes(), block),
+        opened(rt, b"b.m4", second.as_bytes(), block),
+    ];
+    run_over(rt, options(USUAL), &mut None, &mut sources, ROOM, AT_MOST)
+}
+
+// What three runs write, and whether the first of them shows that it saved text.
+fn printed_apart(
+    alloc: Global,
+    outputs: (&[u8], &[u8]),
+    joint: &[u8],
+    wrapped: bool,
+) -> Result<Vec<u8>, AllocError> {
+    let mut report = Report::new(alloc);
+    report.add(outputs.0);
+    report.add(b"|");
+    report.add(outputs.1);
+    report.add(b"|");
+    report.add(joint);
+    report.add(if wrapped { b"|wrapped" } else { b"|carried" });
+    report.text()
+}
+
+// What is to be seen of the three runs of a row.
+fn seen_apart(
+    rt: &(impl Abort + Alloc<A = Global>),
+    files: (&str, &str),
+    block: usize,
+) -> Result<Vec<u8>, AllocError> {
+    let first = run_of(rt, freezing(USUAL), files.0, block);
+    let second = run_after(rt, first.frozen_text.written(), files.1, block);
+    let joint = run_of_both(rt, files, block);
+    printed_apart(
+        rt.alloc(),
+        (first.output.written(), second.output.written()),
+        joint.output.written(),
+        first.ending.wrapped,
+    )
+}
+
+#[test]
+fn saved_text_is_not_carried(rt: HostRuntime) {
+    for &(name, files, outputs, joint) in &APART {
+        for block in BLOCKS {
+            let (first, second) = (outputs.0.as_bytes(), outputs.1.as_bytes());
+            let want = printed_apart(rt.alloc(), (first, second), joint.as_bytes(), true);
+            agrees(&rt, name, want, seen_apart(&rt, files, block));
+        }
+    }
+}
