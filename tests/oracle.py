@@ -21,7 +21,7 @@ DEFAULT_COMMENTS = (b"#", b"\n")
 BUILTINS = frozenset((b"define", b"undefine", b"pushdef", b"popdef", b"defn", b"indir", b"builtin", b"ifdef",
                       b"ifelse", b"shift", b"dumpdef", b"dnl", b"changequote", b"changecom", b"divert",
                       b"undivert", b"divnum", b"len", b"index", b"substr", b"translit", b"incr", b"decr",
-                      b"errprint", b"m4wrap", b"m4exit", b"__file__", b"__line__"))
+                      b"eval", b"errprint", b"m4wrap", b"m4exit", b"__file__", b"__line__"))
 
 
 class Fault(Exception):

@@ -1,9 +1,9 @@
 -- ActKeeps: a call leaves a state in order in order, and pushes definitions in order.
 use Rattle.std.proofs.Common.{◌≡◌, ℕ, Bool, true, false, List, [], ◌∷◌, Option, Some, None, length, refl, rules}
-use Rattle.std.specs.Prelude.{nat_lt, nat_le, ℤ, pos, negsuc, filter_map, if◌then◌else◌}
-use Rattle.std.specs.List.{AllByRecursion}
+use Rattle.std.specs.Prelude.{nat_lt, nat_le, ◌&&◌, ℤ, pos, negsuc, filter_map, slice_get, if◌then◌else◌}
+use Rattle.std.specs.List.{AllByRecursion, list_all}
 use Rattle.m4_state.specs.declared.builtin.Builtin.{Builtin}
-use Rattle.m4_state.specs.declared.builtin.Builtin.TheVariants.{Define, Undefine, Pushdef, Popdef, Defn, Indir, IndirBuiltin, Ifdef, Ifelse, Shift, Dumpdef, Dnl, Changequote, Changecom, Divert, Undivert, Divnum, Len, Index, Substr, Translit, Incr, Decr, Errprint, M4wrap, M4exit, File, Line}
+use Rattle.m4_state.specs.declared.builtin.Builtin.TheVariants.{Define, Undefine, Pushdef, Popdef, Defn, Indir, IndirBuiltin, Ifdef, Ifelse, Shift, Dumpdef, Dnl, Changequote, Changecom, Divert, Undivert, Divnum, Len, Index, Substr, Translit, Incr, Decr, Eval, Errprint, M4wrap, M4exit, File, Line}
 use Rattle.m4_state.specs.declared.definition.Def.{Def}
 use Rattle.m4_state.specs.declared.definition.Def.TheVariants as defs
 use Rattle.m4_state.specs.declared.delimiters.Delimiters.{Delimiters}
@@ -11,13 +11,17 @@ use Rattle.m4_state.specs.Definition.{IsDefinition}
 use Rattle.m4_state.specs.Builtin.{takes_tokens, least_of, builtin_named}
 use Rattle.m4_state.specs.State.{State, top_of, popped, undefined, undiverted, IsState}
 use Rattle.m4_state.proofs.StaysInOrder.{IsState-defined, IsState-pushed, IsState-popped, IsState-undefined, IsState-with_quotes, IsState-with_comments, IsState-default_quotes, IsState-diverted, IsState-undiverted, top_definition}
+use Rattle.m4_input.specs.Ascii.{is_space}
+use Rattle.m4_eval.specs.declared.evaluate.Evaluated.{Evaluated}
+use Rattle.m4_eval.specs.declared.evaluate.Evaluated.TheVariants.{Value, DivideByZero, BadExpression}
+use Rattle.m4_eval.specs.Evaluated.{evaluated}
 use Rattle.m4_builtins.specs.declared.args.Arg.{Arg}
 use Rattle.m4_builtins.specs.declared.args.Arg.TheVariants as args
 use Rattle.m4_builtins.specs.declared.number.Reading.{Reading}
 use Rattle.m4_builtins.specs.declared.number.Reading.TheVariants.{Number, Empty, NotNumeric}
 use Rattle.m4_builtins.specs.declared.place.Place.{Place}
-use Rattle.m4_builtins.specs.Args.{IsArg, text_of_arg, definition_of_arg, text_at}
-use Rattle.m4_builtins.specs.Acted.{Acted, IsPushed, telling_first}
+use Rattle.m4_builtins.specs.Args.{IsArg, text_of_arg, texts_of, definition_of_arg, text_at}
+use Rattle.m4_builtins.specs.Acted.{Acted, IsPushed, tells, telling_first}
 use Rattle.m4_builtins.specs.Numeric.{reading_of, number_of_reading, with_number}
 use Rattle.m4_builtins.specs.Naming.{define, pushdef, for_each, definition_in, definition_given, defn}
 use Rattle.m4_builtins.specs.Branching.{ifelse}
@@ -25,8 +29,9 @@ use Rattle.m4_builtins.specs.Delimiting.{changequote}
 use Rattle.m4_builtins.specs.Diverting.{divert, diverted_if, undivert, brought_back, held_numbers, readings_of}
 use Rattle.m4_builtins.specs.Arithmetic.{incr, decr}
 use Rattle.m4_builtins.specs.Texts.{substr}
-use Rattle.m4_builtins.specs.Messages.{bad_status}
+use Rattle.m4_builtins.specs.Messages.{bad_status, empty_number, out_of_range}
 use Rattle.m4_builtins.specs.Ending.{exits, exits_by, exits_reading, m4exit}
+use Rattle.m4_builtins.specs.Eval.{if_radix, with_radix, if_width, with_width, if_value, with_value, eval}
 use Rattle.m4_builtins.specs.Indirect.{Inner, called_by_name, indir, done_by_name, builtin}
 use Rattle.m4_builtins.specs.Act.{row, taken, given_though_few, act_unless, act_with, goes_on, act}
 use Rattle.m4_builtins.proofs.NumbersFit.{IsReading, reading_fits}
@@ -117,6 +122,42 @@ module _ (p : Place) where
   decr_is : (list : List Arg) (s : State) → IsState s → IsActed (decr list p s)
   decr_is list s h = number_is Decr s (reading_of (text_at list 0)) _ h (λ n. record { state = h; push = tt })
 
+  radix_is : (does : ℕ → Acted) (s : State) (n : ℤ) → IsState s → ((radix : ℕ) → IsActed (does radix)) → IsActed (if_radix p s does n)
+  radix_is does s (pos n) h each = by (nat_le 2 n && nat_le n 36)
+    where
+      by : (b : Bool) → IsActed (if b then does n else tells s (out_of_range p))
+      by true = each n
+      by false = record { state = h; push = tt }
+  radix_is does s (negsuc n) h each = record { state = h; push = tt }
+
+  width_is : (does : ℕ → Acted) (s : State) (n : ℤ) → IsState s → ((width : ℕ) → IsActed (does width)) → IsActed (if_width p s does n)
+  width_is does s (pos n) h each = each n
+  width_is does s (negsuc n) h each = record { state = h; push = tt }
+
+  value_is : (does : ℤ → Acted) (s : State) (v : Evaluated) → IsState s → ((n : ℤ) → IsActed (does n)) → IsActed (if_value p s does v)
+  value_is does s (Value n) h each = each n
+  value_is does s DivideByZero h each = record { state = h; push = tt }
+  value_is does s BadExpression h each = record { state = h; push = tt }
+
+  with_radix_is : (x : List ℕ) (does : ℕ → Acted) (s : State) → IsState s → ((radix : ℕ) → IsActed (does radix)) → IsActed (with_radix p s x does)
+  with_radix_is [] does s h each = each 10
+  with_radix_is (b ∷ x) does s h each = number_is Eval s (reading_of (b ∷ x)) _ h (λ n. radix_is does s n h each)
+
+  with_width_is : (o : Option (List ℕ)) (does : ℕ → Acted) (s : State) → IsState s → ((width : ℕ) → IsActed (does width)) → IsActed (with_width p s o does)
+  with_width_is None does s h each = each 0
+  with_width_is (Some x) does s h each = number_is Eval s (reading_of x) _ h (λ n. width_is does s n h each)
+
+  with_value_is : (x : List ℕ) (does : ℤ → Acted) (s : State) → IsState s → ((n : ℤ) → IsActed (does n)) → IsActed (with_value p s x does)
+  with_value_is x does s h each = by (list_all is_space x)
+    where
+      by : (b : Bool) → IsActed (if b then telling_first (empty_number p Eval) (does (pos 0)) else if_value p s does (evaluated x))
+      by true = record { state = (each (pos 0)).state; push = (each (pos 0)).push }
+      by false = value_is does s (evaluated x) h each
+
+  eval_is : (list : List Arg) (s : State) → IsState s → IsActed (eval list p s)
+  eval_is list s h =
+      with_radix_is (text_at list 1) _ s h (λ radix. with_width_is (slice_get (texts_of list) 2) _ s h (λ width. with_value_is (text_at list 0) _ s h (λ n. record { state = h; push = tt })))
+
   exits_by_is : (n : ℤ) (s : State) → IsState s → IsActed (exits_by n p s)
   exits_by_is (pos n) s h = by (nat_le n 255)
     where
@@ -191,6 +232,7 @@ module _ (p : Place) where
     row_is Translit list s h v = record { state = h; push = tt }
     row_is Incr list s h v = incr_is list s h
     row_is Decr list s h v = decr_is list s h
+    row_is Eval list s h v = eval_is list s h
     row_is Errprint list s h v = record { state = h; push = tt }
     row_is M4wrap list s h v = record { state = h; push = tt }
     row_is M4exit list s h v = m4exit_is list s h

@@ -6,6 +6,8 @@ pub mod Chosen
 pub mod Cut
 pub mod DivertingRows
 pub mod EndingRows
+pub mod EvalRows
+pub mod ReadsOn
 pub mod FirstPlace
 pub mod HeldNumbers
 pub mod Joins

@@ -8,7 +8,7 @@
 -- own: with one argument `index` expands to 0, `substr` and `translit` to it, after the warning.
 use Rattle.std.specs.Prelude.{ℕ, Bool, true, false, nat_lt, List, [], ◌∷◌, Option, Some, None, length, map, codes}
 use Rattle.m4_state.specs.declared.builtin.Builtin.{Builtin}
-use Rattle.m4_state.specs.declared.builtin.Builtin.TheVariants.{Define, Undefine, Pushdef, Popdef, Defn, Indir, IndirBuiltin, Ifdef, Ifelse, Shift, Dumpdef, Dnl, Changequote, Changecom, Divert, Undivert, Divnum, Len, Index, Substr, Translit, Incr, Decr, Errprint, M4wrap, M4exit, File, Line}
+use Rattle.m4_state.specs.declared.builtin.Builtin.TheVariants.{Define, Undefine, Pushdef, Popdef, Defn, Indir, IndirBuiltin, Ifdef, Ifelse, Shift, Dumpdef, Dnl, Changequote, Changecom, Divert, Undivert, Divnum, Len, Index, Substr, Translit, Incr, Decr, Eval, Errprint, M4wrap, M4exit, File, Line}
 use Rattle.m4_state.specs.declared.definition.Def.{Def}
 use Rattle.m4_state.specs.declared.definition.Def.TheVariants as defs
 use Rattle.m4_state.specs.Builtin.{needs_args, takes_tokens, least_of, most_of}
@@ -24,6 +24,7 @@ use Rattle.m4_builtins.specs.Branching.{ifdef, ifelse, shift}
 use Rattle.m4_builtins.specs.Delimiting.{changequote, changecom}
 use Rattle.m4_builtins.specs.Diverting.{divert, undivert, divnum}
 use Rattle.m4_builtins.specs.Ending.{m4wrap, m4exit}
+use Rattle.m4_builtins.specs.Eval.{eval}
 use Rattle.m4_builtins.specs.Indirect.{Inner, indir, builtin}
 use Rattle.m4_builtins.specs.Messages.{too_few, excess, unsupported}
 use Rattle.m4_builtins.specs.Naming.{define, undefine, pushdef, popdef, defn}
@@ -63,6 +64,7 @@ row inner Substr list p s = substr list p s
 row inner Translit list p s = translit list s
 row inner Incr list p s = incr list p s
 row inner Decr list p s = decr list p s
+row inner Eval list p s = eval list p s
 row inner Errprint list p s = errprint list s
 row inner M4wrap list p s = m4wrap list s
 row inner M4exit list p s = m4exit list p s

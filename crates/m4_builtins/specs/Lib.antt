@@ -13,6 +13,8 @@ pub mod Texts
 pub mod Translit
 pub mod ByteTable
 pub mod Ending
+pub mod Eval
+pub mod ReadsAs
 pub mod Indirect
 pub mod Act
 pub mod Steps

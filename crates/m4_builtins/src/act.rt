@@ -18,6 +18,7 @@ use crate::delimiting::{changecom, changequote};
 use crate::diverting::{divert, divnum, undivert};
 use crate::effect::Effect;
 use crate::ending::{m4exit, m4wrap};
+use crate::eval::eval;
 use crate::fault::BuiltinFault;
 use crate::indirect::{Step, begin, builtin, indir};
 use crate::messages::{excess_message, too_few_message};
@@ -144,6 +145,7 @@ fn row<'a>(
         Builtin::Translit => translit(alloc, list, state)?,
         Builtin::Incr => incr(alloc, list, place, state)?,
         Builtin::Decr => decr(alloc, list, place, state)?,
+        Builtin::Eval => eval(alloc, list, place, state)?,
         Builtin::Errprint => errprint(alloc, list, state)?,
         Builtin::M4wrap => m4wrap(alloc, list, state)?,
         Builtin::M4exit => m4exit(alloc, list, place, state)?,

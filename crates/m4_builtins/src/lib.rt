@@ -2,7 +2,7 @@
 //!
 //! [`act::act`] does a call; each builtin has its function in the module of its chapter of the manual:
 //! `naming`, `branching`, `indirect`, `delimiting`, `diverting`, `printing`, `texts`, `translit`,
-//! `arithmetic`, `ending`. `specs/Act.antt` says what each call does, with a file for each chapter;
+//! `arithmetic`, `eval`, `ending`. `specs/Act.antt` says what each call does, with a file for each chapter;
 //! `specs/Subst.antt` what a text expands to; `specs/Messages.antt` what is reported of it.
 //! Manual: "Definitions", "Conditionals", "Input control", and the chapters of the builtins.
 #![tactic(auto)]
@@ -15,6 +15,7 @@ mod delimiting;
 mod diverting;
 pub mod effect;
 mod ending;
+mod eval;
 pub mod fault;
 // For the engine alone: what it keeps of a call while the list is read.
 #[doc(hidden)]

@@ -1,7 +1,7 @@
 //! What is told of a call, a line each. The texts are those of `specs/Messages.antt`.
 
 ghost use Rattle.std.specs.Prelude.{◌≡◌, ◌++◌, IfOk, OnOk, codes};
-ghost use Rattle.m4_builtins.specs.Messages.{place_text, warning, error, too_few, excess, empty_number, not_numeric, unknown_macro, unknown_builtin, unsupported, dropped, bad_name, bad_status};
+ghost use Rattle.m4_builtins.specs.Messages.{place_text, warning, error, too_few, excess, empty_number, not_numeric, unknown_macro, unknown_builtin, unsupported, dropped, bad_name, bad_status, divide_by_zero, bad_expression, out_of_range};
 
 use crate::fault::BuiltinFault;
 use crate::place::Place;
@@ -164,6 +164,30 @@ pub(crate) fn bad_name_message(
         builtin.name(),
         b"'",
     )
+}
+
+/// The warning that an expression divides by zero.
+pub(crate) fn divide_by_zero_message(alloc: Global, place: &Place) -> Result<Bytes, AllocError>
+    // exact steps: the whole line
+    ensures { IfOk result (λ b. b ≡ divide_by_zero place.now) }
+{
+    warning_on(alloc, place, b"divide by zero in eval", b"", b"")
+}
+
+/// The warning that a text is no expression.
+pub(crate) fn bad_expression_message(alloc: Global, place: &Place) -> Result<Bytes, AllocError>
+    // exact steps: the whole line
+    ensures { IfOk result (λ b. b ≡ bad_expression place.now) }
+{
+    warning_on(alloc, place, b"bad expression in eval", b"", b"")
+}
+
+/// The warning that a radix or a width is out of range.
+pub(crate) fn out_of_range_message(alloc: Global, place: &Place) -> Result<Bytes, AllocError>
+    // exact steps: the whole line
+    ensures { IfOk result (λ b. b ≡ out_of_range place.now) }
+{
+    warning_on(alloc, place, b"radix or width out of range in eval", b"", b"")
 }
 
 /// The warning that a code of the run's end is out of range.

@@ -1,14 +1,15 @@
--- RowsBuiltins: worked runs of the builtins that measure and change texts, count, give a place, save text
--- for the end or end the run, computed from the definitions.
+-- RowsBuiltins: worked runs of the builtins that measure and change texts, count, compute, give a place,
+-- save text for the end or end the run, computed from the definitions.
 use Rattle.std.proofs.Common.{Some, ◌≡◌, [], ◌∷◌, refl}
 use Rattle.std.specs.Prelude.{codes}
 use Rattle.std.specs.Fmt.{digits}
+use Rattle.std.specs.Int.{int_wrap}
 use Rattle.m4_engine.specs.declared.ending.Cause.TheVariants as causes
 use Rattle.m4_engine.specs.Expansion.{Ends}
 use Rattle.m4_engine.proofs.Rows.{usual, freezing, over_a, over_both, done}
 
 -- a freezing run reads what was saved, and freezes without it
-saved_and_frozen : over_a freezing (codes "m4wrap(`bye')x\n") ≡ record (done (codes "x\nbye") [] 1) { frozen = Some (codes "# m4 frozen state\nV1\nF8,8\n__file____file__\nT7,0\n__gnu__\nF8,8\n__line____line__\nT8,0\n__unix__\nF7,7\nbuiltinbuiltin\nF9,9\nchangecomchangecom\nF11,11\nchangequotechangequote\nF4,4\ndecrdecr\nF6,6\ndefinedefine\nF4,4\ndefndefn\nF6,6\ndivertdivert\nF6,6\ndivnumdivnum\nF3,3\ndnldnl\nF7,7\ndumpdefdumpdef\nF8,8\nerrprinterrprint\nF5,5\nifdefifdef\nF6,6\nifelseifelse\nF4,4\nincrincr\nF5,5\nindexindex\nF5,5\nindirindir\nF3,3\nlenlen\nF6,6\nm4exitm4exit\nF6,6\nm4wrapm4wrap\nF6,6\npopdefpopdef\nF7,7\npushdefpushdef\nF5,5\nshiftshift\nF6,6\nsubstrsubstr\nF8,8\ntranslittranslit\nF8,8\nundefineundefine\nF8,8\nundivertundivert\n# End of frozen state file\n"); saved = codes "bye" ∷ [] }
+saved_and_frozen : over_a freezing (codes "m4wrap(`bye')x\n") ≡ record (done (codes "x\nbye") [] 1) { frozen = Some (codes "# m4 frozen state\nV1\nF8,8\n__file____file__\nT7,0\n__gnu__\nF8,8\n__line____line__\nT8,0\n__unix__\nF7,7\nbuiltinbuiltin\nF9,9\nchangecomchangecom\nF11,11\nchangequotechangequote\nF4,4\ndecrdecr\nF6,6\ndefinedefine\nF4,4\ndefndefn\nF6,6\ndivertdivert\nF6,6\ndivnumdivnum\nF3,3\ndnldnl\nF7,7\ndumpdefdumpdef\nF8,8\nerrprinterrprint\nF4,4\nevaleval\nF5,5\nifdefifdef\nF6,6\nifelseifelse\nF4,4\nincrincr\nF5,5\nindexindex\nF5,5\nindirindir\nF3,3\nlenlen\nF6,6\nm4exitm4exit\nF6,6\nm4wrapm4wrap\nF6,6\npopdefpopdef\nF7,7\npushdefpushdef\nF5,5\nshiftshift\nF6,6\nsubstrsubstr\nF8,8\ntranslittranslit\nF8,8\nundefineundefine\nF8,8\nundivertundivert\n# End of frozen state file\n"); saved = codes "bye" ∷ [] }
 unfolding digits
 saved_and_frozen = refl
 
@@ -106,3 +107,23 @@ exit_without_diversions = refl
 lines_counted : over_a usual (codes "__line__\n__line__ indir(`nope'\n,x)\n`a\nb'__line__\n") ≡ done (codes "1\n2 \na\nb5\n") (codes "m4:a.m4:2: Warning: undefined macro `nope\n'\n") 4
 unfolding digits
 lines_counted = refl
+
+-- expressions, with their precedence, in a radix and a width
+expressions : over_a usual (codes "eval(`-666',`6',`10') eval(`2+3*4') eval(`1||1/0')\n") ≡ done (codes "-0000003030 14 1\n") [] 3
+unfolding digits int_wrap
+expressions = refl
+
+-- quotients, shifts, literals and a zero divisor
+computed : over_a usual (codes "eval(`7/-2') eval(`-2147483648/-1') eval(`1<<33') eval(`0x1F') eval(`255',16,4) eval(`1/0')x\n") ≡ done (codes "-3 -2147483648 2 31 00ff x\n") (codes "m4:a.m4:1: Warning: divide by zero in eval\n") 6
+unfolding digits int_wrap
+computed = refl
+
+-- a radix of 36, signs, and an empty expression
+signs_and_levels : over_a usual (codes "eval(`0r36:z') eval(`!0+~0') eval(`2==2&1') eval(`')\n") ≡ done (codes "35 0 1 0\n") (codes "m4:a.m4:1: Warning: empty string treated as 0 in builtin `eval'\n") 4
+unfolding digits int_wrap
+signs_and_levels = refl
+
+-- a radix out of range, and what is no expression
+wrong_expressions : over_a usual (codes "eval(`1',`1')eval(`2**3')eval(`1||2+')x\n") ≡ done (codes "x\n") (codes "m4:a.m4:1: Warning: radix or width out of range in eval\nm4:a.m4:1: Warning: bad expression in eval\nm4:a.m4:1: Warning: bad expression in eval\n") 3
+unfolding digits int_wrap
+wrong_expressions = refl

@@ -2,6 +2,7 @@
 use Rattle.std.proofs.Common.{Option, Some, None, ◌≡◌, ℕ, List, [], ◌∷◌, false, refl}
 use Rattle.std.specs.Prelude.{codes}
 use Rattle.std.specs.Fmt.{digits}
+use Rattle.std.specs.Int.{int_wrap}
 use Rattle.m4_state.specs.Device.{Script}
 use Rattle.m4_frozen.specs.ReaderSteps as steps
 use Rattle.m4_frozen.specs.declared.fault.FrozenKind.TheVariants as kinds
@@ -59,7 +60,7 @@ decided = refl
 
 -- the frozen text of a run that changes the delimiters
 delimiters_text : List ℕ
-delimiters_text = codes "# m4 frozen state\nV1\nQ1,1\n[]\nC0,0\n\nF8,8\n__file____file__\nT7,0\n__gnu__\nF8,8\n__line____line__\nT8,0\n__unix__\nF7,7\nbuiltinbuiltin\nF9,9\nchangecomchangecom\nF11,11\nchangequotechangequote\nF4,4\ndecrdecr\nF6,6\ndefinedefine\nF4,4\ndefndefn\nF6,6\ndivertdivert\nF6,6\ndivnumdivnum\nF3,3\ndnldnl\nF7,7\ndumpdefdumpdef\nF8,8\nerrprinterrprint\nF5,5\nifdefifdef\nF6,6\nifelseifelse\nF4,4\nincrincr\nF5,5\nindexindex\nF5,5\nindirindir\nF3,3\nlenlen\nF6,6\nm4exitm4exit\nF6,6\nm4wrapm4wrap\nF6,6\npopdefpopdef\nF7,7\npushdefpushdef\nF5,5\nshiftshift\nF6,6\nsubstrsubstr\nF8,8\ntranslittranslit\nF8,8\nundefineundefine\nF8,8\nundivertundivert\n# End of frozen state file\n"
+delimiters_text = codes "# m4 frozen state\nV1\nQ1,1\n[]\nC0,0\n\nF8,8\n__file____file__\nT7,0\n__gnu__\nF8,8\n__line____line__\nT8,0\n__unix__\nF7,7\nbuiltinbuiltin\nF9,9\nchangecomchangecom\nF11,11\nchangequotechangequote\nF4,4\ndecrdecr\nF6,6\ndefinedefine\nF4,4\ndefndefn\nF6,6\ndivertdivert\nF6,6\ndivnumdivnum\nF3,3\ndnldnl\nF7,7\ndumpdefdumpdef\nF8,8\nerrprinterrprint\nF4,4\nevaleval\nF5,5\nifdefifdef\nF6,6\nifelseifelse\nF4,4\nincrincr\nF5,5\nindexindex\nF5,5\nindirindir\nF3,3\nlenlen\nF6,6\nm4exitm4exit\nF6,6\nm4wrapm4wrap\nF6,6\npopdefpopdef\nF7,7\npushdefpushdef\nF5,5\nshiftshift\nF6,6\nsubstrsubstr\nF8,8\ntranslittranslit\nF8,8\nundefineundefine\nF8,8\nundivertundivert\n# End of frozen state file\n"
 
 delimiters_frozen : (over_a freezing (codes "changequote([,])changecom(,)dnl\n")).frozen ≡ Some delimiters_text
 unfolding digits delimiters_text
@@ -90,6 +91,16 @@ placeholder : run freezing (from (codes "V1\nF6,6\nregexpregexp\n")) (Opened (co
 unfolding digits steps.file_at steps.version_at steps.directives_at steps.directive_at steps.pair_at steps.diversion_at steps.length_at steps.string_at
 placeholder = refl
 
+-- an older file that names a builtin which m4r has gained
+older_file : run freezing (from (codes "V1\nF4,4\nevaleval\n")) (Opened (codes "b.m4") (codes "eval(`1+1')\n") ∷ []) ≡ record (done (codes "2\n") [] 1) { frozen = Some (codes "# m4 frozen state\nV1\nF4,4\nevaleval\n# End of frozen state file\n") }
+unfolding digits int_wrap steps.file_at steps.version_at steps.directives_at steps.directive_at steps.pair_at steps.diversion_at steps.length_at steps.string_at
+older_file = refl
+
+-- without parameters its name is text
+older_name : run freezing (from (codes "V1\nF4,4\nevaleval\n")) (Opened (codes "b.m4") (codes "eval\n") ∷ []) ≡ record (done (codes "eval\n") [] 0) { frozen = Some (codes "# m4 frozen state\nV1\nF4,4\nevaleval\n# End of frozen state file\n") }
+unfolding digits int_wrap steps.file_at steps.version_at steps.directives_at steps.directive_at steps.pair_at steps.diversion_at steps.length_at steps.string_at
+older_name = refl
+
 -- what was reloaded is frozen again, with what was defined since
 frozen_again : run freezing (from (codes "V1\nF6,6\ndefinedefine\nT1,1\nab\n")) (Opened (codes "b.m4") (codes "a define(`c',`d$1')a\n") ∷ []) ≡ record (done (codes "b b\n") [] 3) { frozen = Some (codes "# m4 frozen state\nV1\nT1,1\nab\nT1,3\ncd$1\nF6,6\ndefinedefine\n# End of frozen state file\n") }
 unfolding digits steps.file_at steps.version_at steps.directives_at steps.directive_at steps.pair_at steps.diversion_at steps.length_at steps.string_at
@@ -107,7 +118,7 @@ discarded = refl
 
 -- the frozen text of a run that defines a greeting and puts nothing out
 greeting_text : List ℕ
-greeting_text = codes "# m4 frozen state\nV1\nF8,8\n__file____file__\nT7,0\n__gnu__\nF8,8\n__line____line__\nT8,0\n__unix__\nF7,7\nbuiltinbuiltin\nF9,9\nchangecomchangecom\nF11,11\nchangequotechangequote\nF4,4\ndecrdecr\nF6,6\ndefinedefine\nF4,4\ndefndefn\nF6,6\ndivertdivert\nF6,6\ndivnumdivnum\nF3,3\ndnldnl\nF7,7\ndumpdefdumpdef\nF8,8\nerrprinterrprint\nT2,9\nhiHello $1.\nF5,5\nifdefifdef\nF6,6\nifelseifelse\nF4,4\nincrincr\nF5,5\nindexindex\nF5,5\nindirindir\nF3,3\nlenlen\nF6,6\nm4exitm4exit\nF6,6\nm4wrapm4wrap\nF6,6\npopdefpopdef\nF7,7\npushdefpushdef\nF5,5\nshiftshift\nF6,6\nsubstrsubstr\nF8,8\ntranslittranslit\nF8,8\nundefineundefine\nF8,8\nundivertundivert\n# End of frozen state file\n"
+greeting_text = codes "# m4 frozen state\nV1\nF8,8\n__file____file__\nT7,0\n__gnu__\nF8,8\n__line____line__\nT8,0\n__unix__\nF7,7\nbuiltinbuiltin\nF9,9\nchangecomchangecom\nF11,11\nchangequotechangequote\nF4,4\ndecrdecr\nF6,6\ndefinedefine\nF4,4\ndefndefn\nF6,6\ndivertdivert\nF6,6\ndivnumdivnum\nF3,3\ndnldnl\nF7,7\ndumpdefdumpdef\nF8,8\nerrprinterrprint\nF4,4\nevaleval\nT2,9\nhiHello $1.\nF5,5\nifdefifdef\nF6,6\nifelseifelse\nF4,4\nincrincr\nF5,5\nindexindex\nF5,5\nindirindir\nF3,3\nlenlen\nF6,6\nm4exitm4exit\nF6,6\nm4wrapm4wrap\nF6,6\npopdefpopdef\nF7,7\npushdefpushdef\nF5,5\nshiftshift\nF6,6\nsubstrsubstr\nF8,8\ntranslittranslit\nF8,8\nundefineundefine\nF8,8\nundivertundivert\n# End of frozen state file\n"
 
 greeting_frozen : over_a freezing (codes "define(`hi',`Hello $1.')dnl\n") ≡ record (done [] [] 2) { frozen = Some greeting_text }
 unfolding digits greeting_text

@@ -41,7 +41,6 @@ pub fn run<R: ByteSource, O: ByteSink, M: ByteSink, Z: ByteSink>(
     messages: &mut M,
     freeze_to: &mut Z,
 ) -> Ending
-    requires prefix { options.prefix ≡ false }
     // whole run: what is written and answered is what the definition of a run says
     ensures gives { (file : Option Script) → TellsFrozen R.script frozen.old file
         → (ss : List Said) → StandFor R.script sources.old sources.new ss →
@@ -95,7 +94,6 @@ fn begin<R: ByteSource, O: ByteSink>(
     frozen: &mut Option<R>,
     out: &mut O,
 ) -> Result<Session, Stop>
-    requires prefix { options.prefix ≡ false }
     ensures begins { (file : Option Script) → TellsFrozen R.script frozen.old file
         → BeginGives (start_of options.prefix file) options (O.contents out.old) (O.contents out.new) result }
     ensures begun { IsBegun options result }

@@ -54,9 +54,9 @@ impl Drop for Session {
 }
 
 impl Session {
-    /// A run that starts from the fresh state. No prefix can be asked for yet.
+    /// A run that starts from the fresh state, in which the builtins have the prefix that the options ask
+    /// for. `Ended(OutOfMemory)` where memory runs out.
     pub fn fresh(alloc: Global, options: Options) -> Result<Session, Stop>
-        requires { options.prefix ≡ false }
         // session steps: the fresh state, with nothing read
         ensures fresh { IfOk result (λ s. s ≡ fresh_standing options) }
         ensures refused { IfErr result (λ stop. stop ≡ Stop.Ended Cause.OutOfMemory) }

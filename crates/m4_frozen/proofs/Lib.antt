@@ -24,3 +24,4 @@ pub mod CanonicalSpelled
 pub mod CanonicalDenoted
 pub mod LastPlace
 pub mod RoundTrip
+pub mod Refrozen

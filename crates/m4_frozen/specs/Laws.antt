@@ -1,8 +1,13 @@
 -- Laws: what holds of the definitions alone: each file is decided, and canonical text loads as its state.
 -- Believed as statements; the functions of the module `laws` carry their proofs.
 -- The law `TiesReaderSteps` speaks of `ReaderSteps`, which no believed statement rests on.
--- Words: OneReading, OneAnswer, TiesReaderSteps, FreezeLoads, CanonAgain.
-use Rattle.std.specs.Prelude.{◌≡◌, ◌↔◌, ℕ, List, [], ◌⊎◌, Ok, Err}
+-- Words: OneReading, OneAnswer, TiesReaderSteps, FreezeLoads, CanonAgain, as_older, RefreezeOlder.
+use Rattle.std.specs.Prelude.{◌≡◌, ◌↔◌, ℕ, List, [], ◌⊎◌, Ok, Err, map, if◌then◌else◌}
+use Rattle.std.specs.Str.{bytes_eq}
+use Rattle.m4_state.specs.declared.builtin.Builtin.{Builtin}
+use Rattle.m4_state.specs.declared.definition.Def.{Def}
+use Rattle.m4_state.specs.declared.definition.Def.TheVariants as defs
+use Rattle.m4_state.specs.Builtin.{name_of}
 use Rattle.m4_state.specs.State.{State, IsState, IsSized}
 use Rattle.m4_frozen.specs.declared.fault.FrozenFault.{FrozenFault}
 use Rattle.m4_frozen.specs.declared.fault.Refusal.{Refusal}
@@ -73,3 +78,21 @@ abbrev pub CanonAgain : Type 0
 CanonAgain =
     (s : State) (ds : List Directive)
     → IsState s → IsSized s → Spells ds (freeze s) → freeze (denote ds).state ≡ freeze s
+
+-- a definition as an older processor keeps it, whose table lacks a builtin: as a placeholder
+abbrev pub kept_by_older : Builtin → Def → Def
+kept_by_older lacking (defs.Text x) = defs.Text x
+kept_by_older lacking (defs.Builtin b) =
+    if bytes_eq (name_of b) (name_of lacking) then defs.Placeholder (name_of b) else defs.Builtin b
+kept_by_older lacking (defs.Placeholder x) = defs.Placeholder x
+
+-- a state as an older processor keeps it
+abbrev pub as_older : Builtin → State → State
+as_older lacking s =
+    record s { table = map (λ e. (e.0, map (kept_by_older lacking) e.1)) s.table }
+
+-- states that differ only in that placeholders of a builtin's name are the builtin itself have the same
+-- canonical text: so a frozen file that an older processor wrote keeps its bytes
+abbrev pub RefreezeOlder : Type 0
+RefreezeOlder =
+    (lacking : Builtin) (s t : State) → as_older lacking s ≡ as_older lacking t → freeze s ≡ freeze t

@@ -2,7 +2,7 @@
 //!
 //! Each function's contract is a law of `specs/Laws.antt`. Manual: "Frozen file format".
 
-ghost use Rattle.m4_frozen.specs.Laws.{OneReading, OneAnswer, OneAnswerOfFailed, TiesReaderSteps, FreezeLoads, CanonAgain};
+ghost use Rattle.m4_frozen.specs.Laws.{OneReading, OneAnswer, OneAnswerOfFailed, TiesReaderSteps, FreezeLoads, CanonAgain, RefreezeOlder};
 
 /// The same bytes hold one list of directives.
 pub fn one_reading()
@@ -35,4 +35,12 @@ pub fn freeze_loads()
 pub fn canon_again()
     // canonical round trip: freezing what was loaded gives the same bytes
     ensures { CanonAgain }
+{}
+
+/// States that differ only in which placeholders of a builtin's name are the builtin itself have the same
+/// canonical text. A processor that gains a builtin refreezes older files byte for byte. Manual: "Frozen
+/// file format".
+pub fn refreeze_older()
+    // canonical round trip: a placeholder and the builtin of its name are written alike
+    ensures { RefreezeOlder }
 {}

@@ -6,7 +6,7 @@
 use Rattle.std.specs.Prelude.{ℕ, Bool, true, false, List, [], ◌∷◌, Option, Some, None, find, codes}
 use Rattle.std.specs.Str.{bytes_eq}
 use Rattle.m4_state.specs.declared.builtin.Builtin.{Builtin}
-use Rattle.m4_state.specs.declared.builtin.Builtin.TheVariants.{Define, Undefine, Pushdef, Popdef, Defn, Indir, IndirBuiltin, Ifdef, Ifelse, Shift, Dumpdef, Dnl, Changequote, Changecom, Divert, Undivert, Divnum, Len, Index, Substr, Translit, Incr, Decr, Errprint, M4wrap, M4exit, File, Line}
+use Rattle.m4_state.specs.declared.builtin.Builtin.TheVariants.{Define, Undefine, Pushdef, Popdef, Defn, Indir, IndirBuiltin, Ifdef, Ifelse, Shift, Dumpdef, Dnl, Changequote, Changecom, Divert, Undivert, Divnum, Len, Index, Substr, Translit, Incr, Decr, Eval, Errprint, M4wrap, M4exit, File, Line}
 
 -- how a builtin is called
 pub record Row : Type 0 where
@@ -56,6 +56,7 @@ row_of Substr = called (codes "substr") true false 2 (Some 3)
 row_of Translit = called (codes "translit") true false 2 (Some 3)
 row_of Incr = called (codes "incr") true false 1 (Some 1)
 row_of Decr = called (codes "decr") true false 1 (Some 1)
+row_of Eval = called (codes "eval") true false 1 (Some 3)
 row_of Errprint = called (codes "errprint") true false 0 None
 row_of M4wrap = called (codes "m4wrap") true false 0 None
 row_of M4exit = called (codes "m4exit") false false 0 (Some 1)
@@ -67,7 +68,7 @@ abbrev pub table : List Builtin
 table =
     Define ∷ Undefine ∷ Pushdef ∷ Popdef ∷ Defn ∷ Indir ∷ IndirBuiltin ∷ Ifdef ∷ Ifelse ∷ Shift ∷
     Dumpdef ∷ Dnl ∷ Changequote ∷ Changecom ∷ Divert ∷ Undivert ∷ Divnum ∷ Len ∷ Index ∷ Substr ∷
-    Translit ∷ Incr ∷ Decr ∷ Errprint ∷ M4wrap ∷ M4exit ∷ File ∷ Line ∷ []
+    Translit ∷ Incr ∷ Decr ∷ Eval ∷ Errprint ∷ M4wrap ∷ M4exit ∷ File ∷ Line ∷ []
 
 -- its columns
 abbrev pub name_of : Builtin → List ℕ

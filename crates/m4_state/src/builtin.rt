@@ -57,6 +57,8 @@ pub enum Builtin {
     Incr,
     /// Subtracts 1 from a number. Manual: "Decrement and increment operators".
     Decr,
+    /// Computes an expression. Manual: "Evaluating integer expressions".
+    Eval,
     /// Writes to the messages. Manual: "Printing error messages".
     Errprint,
     /// Saves a text until all input is read. Manual: "Saving text until end of input".
@@ -110,7 +112,7 @@ impl Builtin {
     ghost use Rattle.m4_state.specs.Builtin.{row_of, builtin_named, name_of, needs_args, takes_tokens, least_of, most_of};
 
     /// All of them.
-    pub const TABLE: [Builtin; 28] = [
+    pub const TABLE: [Builtin; 29] = [
         Builtin::Define,
         Builtin::Undefine,
         Builtin::Pushdef,
@@ -134,6 +136,7 @@ impl Builtin {
         Builtin::Translit,
         Builtin::Incr,
         Builtin::Decr,
+        Builtin::Eval,
         Builtin::Errprint,
         Builtin::M4wrap,
         Builtin::M4exit,
@@ -181,6 +184,7 @@ impl Builtin {
             Builtin::Translit => called(b"translit", true, false, 2, Some(3)),
             Builtin::Incr => called(b"incr", true, false, 1, Some(1)),
             Builtin::Decr => called(b"decr", true, false, 1, Some(1)),
+            Builtin::Eval => called(b"eval", true, false, 1, Some(3)),
             Builtin::Errprint => called(b"errprint", true, false, 0, None),
             Builtin::M4wrap => called(b"m4wrap", true, false, 0, None),
             Builtin::M4exit => called(b"m4exit", false, false, 0, Some(1)),

@@ -4,7 +4,8 @@
 //! Contracts see one record of lists (specs/State.antt), which doesn't change with what keeps it.
 //! Each call says the whole new record; a refusal leaves it unchanged.
 
-ghost use Rattle.std.specs.Prelude.{◌≡◌, ◌∷◌, [], false, IfOk, IfSome, IfNone, OnOk, OnErr, option_copied, option_map};
+ghost use Rattle.m4_state.specs.Fresh.{fresh_name};
+ghost use Rattle.std.specs.Prelude.{◌≡◌, ◌∷◌, [], IfOk, IfSome, IfNone, OnOk, OnErr, option_copied, option_map};
 
 use crate::builtin::Builtin;
 use crate::bytes::Bytes;
@@ -13,7 +14,7 @@ use crate::delimiters::Delimiters;
 use crate::diversions::Diversions;
 use crate::fault::StateFault;
 use crate::table::Table;
-use std::alloc::Global;
+use std::alloc::{AllocError, Global};
 use std::marker::Model;
 
 /// Names with their definitions, delimiters and diversions.
@@ -24,6 +25,18 @@ pub struct State {
     comments: Delimiters,
     diversions: Diversions,
     current: i32,
+}
+
+/// The name that a builtin has in a fresh state.
+fn fresh_name(alloc: Global, prefix: bool, builtin: Builtin) -> Result<Bytes, AllocError>
+    ensures { IfOk result (λ name. name ≡ fresh_name prefix builtin) }
+{
+    let mut name = Vec::new(alloc);
+    if prefix {
+        name.extend_from_slice(b"m4_")?;
+    }
+    name.extend_from_slice(builtin.name())?;
+    Ok(Bytes::from(name))
 }
 
 impl Model for State {
@@ -71,30 +84,33 @@ impl State {
         })
     }
 
-    /// Each builtin under its name, and `__gnu__` and `__unix__` as empty texts. No prefix can be
-    /// asked for yet.
+    /// Each builtin under its name, with `m4_` in front where prefixes are asked for, and `__gnu__` and
+    /// `__unix__` as empty texts. Manual: "Invoking m4" (`--prefix-builtins`).
     pub fn fresh(alloc: Global, prefix: bool) -> Result<State, StateFault>
-        requires { prefix ≡ false }
         // exact steps: the fresh record
         ensures { IfOk result (λ s. s ≡ fresh prefix) }
     {
-        let _ = prefix;
         let mut state = State::empty(alloc)?;
         let empty = Bytes::from(Vec::new(alloc));
         state.push(Bytes::from_slice(alloc, b"__gnu__")?, Def::Text(empty))?;
         let empty = Bytes::from(Vec::new(alloc));
         state.push(Bytes::from_slice(alloc, b"__unix__")?, Def::Text(empty))?;
         for builtin in Builtin::TABLE {
-            state.push_builtin(alloc, builtin)?;
+            state.push_builtin(alloc, prefix, builtin)?;
         }
         Ok(state)
     }
 
-    /// Puts a builtin on top of its own name's definitions.
-    fn push_builtin(&mut self, alloc: Global, builtin: Builtin) -> Result<(), StateFault>
-        ensures { OnOk result (self.new ≡ with_builtin false self.old builtin) }
+    /// Puts a builtin on top of the definitions of its name, or of its name with the prefix.
+    fn push_builtin(
+        &mut self,
+        alloc: Global,
+        prefix: bool,
+        builtin: Builtin,
+    ) -> Result<(), StateFault>
+        ensures { OnOk result (self.new ≡ with_builtin prefix self.old builtin) }
     {
-        let name = Bytes::from_slice(alloc, builtin.name())?;
+        let name = fresh_name(alloc, prefix, builtin)?;
         self.push(name, Def::Builtin(builtin))
     }
 

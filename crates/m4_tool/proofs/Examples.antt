@@ -3,7 +3,7 @@ use Rattle.std.proofs.Common.{◌≡◌, refl, codes, List, [], ◌∷◌, Optio
 use Rattle.clap.proofs.OnLiterals.{clap_on_literals}
 use Rattle.clap.specs.Words.{Text, first_of, one_of}
 use Rattle.clap.specs.declared.error.kind.ErrorKind.TheVariants as kind
-use Rattle.m4_tool.specs.CommandLine.{files_in, has_company, refusals_of, rows_by}
+use Rattle.m4_tool.specs.CommandLine.{asks, files_in, has_company, refusals_of, rows_by}
 
 -- a line of the program with these words behind its name
 abbrev line : List Text → List Text
@@ -36,6 +36,26 @@ reload_short = refl
 reload_long : file_of (codes "reload-state") (line (codes "--reload-state" ∷ codes "s" ∷ [])) ≡ Some (codes "s")
 unfolding clap_on_literals
 reload_long = refl
+
+prefix_short : asks (codes "prefix-builtins") (rows_by (line (codes "-P" ∷ codes "a" ∷ []))) ≡ true
+unfolding clap_on_literals
+prefix_short = refl
+
+prefix_long : asks (codes "prefix-builtins") (rows_by (line (codes "a" ∷ codes "--prefix-builtins" ∷ []))) ≡ true
+unfolding clap_on_literals
+prefix_long = refl
+
+no_prefix : asks (codes "prefix-builtins") (rows_by (line (codes "a" ∷ []))) ≡ false
+unfolding clap_on_literals
+no_prefix = refl
+
+prefix_twice : refusals_of (line (codes "-P" ∷ codes "-P" ∷ [])) ≡ kind.ArgumentConflict ∷ []
+unfolding clap_on_literals
+prefix_twice = refl
+
+mode_with_prefix : has_company (rows_by (line (codes "-P" ∷ codes "--canon=a" ∷ []))) ≡ true
+unfolding clap_on_literals
+mode_with_prefix = refl
 
 both_frozen : refusals_of (line (codes "-R" ∷ codes "s" ∷ codes "-F" ∷ codes "s" ∷ [])) ≡ []
 unfolding clap_on_literals

@@ -7,7 +7,7 @@ use Rattle.clap.proofs.WalkLemmas.{raw_values-rows}
 use Rattle.clap.specs.Matches.{ReadsOne}
 use Rattle.clap.specs.Words.{Row, Text, all_of, first_of, matched_of, raw_values, rows_of}
 use Rattle.clap.specs.declared.parser.matches.Found.{Found}
-use Rattle.m4_tool.specs.CommandLine.{HasNoFiles, HoldsFound, IsLimit, StandAlone, files_in, has_company, stand_files, stand_limits, stands}
+use Rattle.m4_tool.specs.CommandLine.{HasNoFiles, HoldsFound, IsLimit, StandAlone, files_in, has_company, stand_files, stand_options, stands}
 use Rattle.m4_tool.specs.declared.line.Line.{Line}
 use Rattle.m4_tool.specs.declared.line.LineFault.{LineFault}
 
@@ -100,14 +100,14 @@ pub stand_alone : (rows : List Row) (line : Line) → HoldsFound rows line → h
 stand_alone rows line holds alone = record {
   canon = λ some.
       let others = first_alone (stands (codes "canon") rows) (stands (codes "inspect") rows)
-      (stand_limits rows) (stand_files rows)
+      (stand_options rows) (stand_files rows)
       alone (mode_stands string_bytes line.canon (codes "canon") rows holds.canon some) in (
         none_of_map string_bytes line.inspect (holds.inspect ∙ first_unless (codes "inspect") rows others.0),
         no_files rows line holds others.1,
       );
   inspect = λ some.
       let others = second_alone (stands (codes "canon") rows) (stands (codes "inspect") rows)
-      (stand_limits rows) (stand_files rows)
+      (stand_options rows) (stand_files rows)
       alone (mode_stands string_bytes line.inspect (codes "inspect") rows holds.inspect some) in (
         none_of_map string_bytes line.canon (holds.canon ∙ first_unless (codes "canon") rows others.0),
         no_files rows line holds others.1,

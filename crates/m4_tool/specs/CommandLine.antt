@@ -2,17 +2,18 @@
 -- Believed: `known_words` is what the program hands to clap; how clap reads words is clap's own
 -- `matches_of` and `fault_of`, which proofs/Examples.antt computes for lines that are written out.
 -- Manual: "Invoking m4", "Limits control", "Frozen state". Words: known_words, rows_by,
--- refusals_of, files_in, IsLimit, HoldsFound, Says, AreInRange, HasNoFiles, StandAlone, stands, stand_limits,
--- stand_files, has_company, IsModeInCompany, IsRefusal.
+-- refusals_of, files_in, IsLimit, asks, HoldsFound, Says, AreInRange, HasNoFiles, StandAlone, stands,
+-- stand_options, stand_files, has_company, IsModeInCompany, IsRefusal.
 -- own: a mode stands alone; `--help` has no short form; `--expansions`; each option stands once.
 use Rattle.std.specs.Prelude.{◌≡◌, ◌≤◌, ◌&&◌, ◌||◌, ℕ, Bool, List, [], Option, Some, None, IsSome, true, false, codes}
 use Rattle.std.specs.Prelude.{is_some, map, option_map, string_bytes, unwrap_or}
+use Rattle.std.specs.Str.{bytes_eq}
 use Rattle.std.specs.Str.Parse.{digits_value, without_leading_plus}
 use Rattle.clap.specs.Words.{App, IsAmong, Kinds, Row, Rule, Text, all_of, fault_of, first_of, matches_of}
 use Rattle.clap.specs.Words.{IsUnsignedIn, new_app, new_rule, one_of, with_rule}
 use Rattle.clap.specs.Simple.{on_top}
 use Rattle.clap.specs.Values.{kind_of}
-use Rattle.clap.specs.declared.builder.action.ArgAction.TheVariants.{Append, Help, Set}
+use Rattle.clap.specs.declared.builder.action.ArgAction.TheVariants.{Append, Help, Set, SetTrue}
 use Rattle.clap.specs.declared.builder.value_parser.ValueParser.TheVariants.{Unsigned}
 use Rattle.m4_tool.specs.declared.line.Line.{Line}
 use Rattle.m4_tool.specs.declared.line.LineFault.{LineFault}
@@ -47,6 +48,14 @@ limit_word name least = record (new_rule name) {
 abbrev pub nesting_word : Rule
 nesting_word = record (limit_word (codes "nesting-limit") 0) { short = Some 76 }
 
+-- the option that asks for prefixes, which `-P` (80) names too
+abbrev pub prefix_word : Rule
+prefix_word = record (new_rule (codes "prefix-builtins")) {
+  short = Some 80;
+  long = Some (codes "prefix-builtins");
+  action = Some SetTrue;
+}
+
 -- the files, which are what is no option
 abbrev pub file_word : Rule
 file_word = record (new_rule (codes "files")) { action = Some Append; value_names = 1 }
@@ -74,10 +83,14 @@ with_frozen a = with_rule (with_rule a freeze_word) reload_word
 abbrev pub with_limits : App → App
 with_limits a = with_rule (with_rule a nesting_word) (limit_word (codes "expansions") 1)
 
+-- the prefixes
+abbrev pub with_prefix : App → App
+with_prefix a = with_rule a prefix_word
+
 -- the words that the program knows; the first word of a line is the program's name
 abbrev pub known_words : App
-known_words = with_rule (with_rule (with_limits (with_frozen (with_modes
-    (without_short_help (new_app (codes "m4r")))))) file_word) help_word
+known_words = with_rule (with_rule (with_prefix (with_limits (with_frozen (with_modes
+    (without_short_help (new_app (codes "m4r"))))))) file_word) help_word
 
 -- what clap finds in the words, by the names of the rules
 abbrev pub rows_by : List Text → List Row
@@ -98,8 +111,17 @@ IsLimit least usual None n = n ≡ usual
 IsLimit least usual (Some text) n =
     IsUnsignedIn least 4294967295 text → n ≡ digits_value 10 (without_leading_plus text)
 
--- the line holds what clap found: the files of the modes, the frozen files, the limits, and the files
--- to be read; it asks for a freezing run exactly where it has a file to freeze to
+-- whether what clap found of an option without a value says that it is on the line
+abbrev pub is_asked : Option Text → Bool
+is_asked None = false
+is_asked (Some text) = bytes_eq text (codes "true")
+
+-- whether an option without a value is on the line
+abbrev pub asks : Text → List Row → Bool
+asks name rows = is_asked (first_of name rows)
+
+-- the line holds what clap found: the files of the modes, the frozen files, the limits, the prefixes, and
+-- the files to be read; it asks for a freezing run exactly where it has a file to freeze to
 pub record HoldsFound (rows : List Row) (line : Line) : Type 0 where
   pub canon : option_map string_bytes line.canon ≡ first_of (codes "canon") rows
   pub inspect : option_map string_bytes line.inspect ≡ first_of (codes "inspect") rows
@@ -109,7 +131,7 @@ pub record HoldsFound (rows : List Row) (line : Line) : Type 0 where
   pub calls : IsLimit 1 4294967295 (one_of (codes "expansions") rows) line.options.calls
   pub files : map string_bytes line.files.items ≡ files_in rows
   pub freezes : line.options.freeze ≡ is_some line.freeze
-  pub prefix : line.options.prefix ≡ false
+  pub prefix : line.options.prefix ≡ asks (codes "prefix-builtins") rows
 
 -- clap takes the words, and the line holds what it finds in them
 pub record Says (words : List Text) (line : Line) : Type 0 where
@@ -137,20 +159,21 @@ pub record StandAlone (line : Line) : Type 0 where
 abbrev pub stands : Text → List Row → Bool
 stands name rows = is_some (all_of name rows)
 
--- a limit stands on the line
-abbrev pub stand_limits : List Row → Bool
-stand_limits rows = stands (codes "nesting-limit") rows || stands (codes "expansions") rows
+-- a limit is on the line, or prefixes are asked for
+abbrev pub stand_options : List Row → Bool
+stand_options rows = stands (codes "nesting-limit") rows || (stands (codes "expansions") rows
+    || asks (codes "prefix-builtins") rows)
 
 -- a frozen file or a file to be read stands on the line
 abbrev pub stand_files : List Row → Bool
 stand_files rows = stands (codes "freeze-state") rows || (stands (codes "reload-state") rows
     || stands (codes "files") rows)
 
--- a mode stands beside another one, a limit or a file
+-- a mode is beside another one, a limit, a prefix or a file
 abbrev pub has_company : List Row → Bool
 has_company rows = (stands (codes "canon") rows && stands (codes "inspect") rows)
     || ((stands (codes "canon") rows || stands (codes "inspect") rows)
-    && (stand_limits rows || stand_files rows))
+    && (stand_options rows || stand_files rows))
 
 -- clap takes the words, and a mode stands in company
 pub record IsModeInCompany (words : List Text) : Type 0 where

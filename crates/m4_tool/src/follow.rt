@@ -79,7 +79,6 @@ fn run_line<E: Write + Drop>(
     errors: E,
     line: &Line,
 ) -> u8
-    requires prefix { line.now.options.prefix ≡ false }
 {
     if let Some(file) = &line.canon {
         return run_mode(rt, errors, Mode::Canon, file.as_str());

@@ -9,7 +9,7 @@ ghost use Rattle.std.specs.Prelude.{◌≡◌, ◌≢◌, ◌≤◌, ◌<◌, �
 ghost use Rattle.clap.specs.Walk.{texts};
 ghost use Rattle.clap.specs.Words.{app_of, first_of, found_of, new_app, one_of, rows_of, rule_of};
 ghost use Rattle.m4_tool.specs.CommandLine.{AreInRange, HoldsFound, IsLimit, IsModeInCompany, IsRefusal, Says, StandAlone};
-ghost use Rattle.m4_tool.specs.CommandLine.{file_word, files_in, has_company, known_words, limit_word, path_word, stand_files, stand_limits, stands, with_frozen, with_limits, with_modes, without_short_help};
+ghost use Rattle.m4_tool.specs.CommandLine.{file_word, files_in, has_company, known_words, limit_word, path_word, stand_files, stand_options, asks, stands, with_frozen, with_limits, with_modes, with_prefix, without_short_help};
 ghost use Rattle.m4_tool.specs.LineSteps.{HasRowsOf, IsNoRefusal, TellsApart};
 
 use clap::builder::ValueParser;
@@ -22,7 +22,7 @@ const ABOUT: &str =
     "Expands the macros of GNU M4's language, with the builtins that m4r(1) lists. Also shows what a frozen state \
     file of GNU M4 holds, and writes it in its one canonical spelling.";
 
-const USAGE: &str = "m4r [-F FILE] [-R FILE] [-L N] [--expansions=N] [FILE...]
+const USAGE: &str = "m4r [-F FILE] [-R FILE] [-L N] [--expansions=N] [-P] [FILE...]
        m4r --canon=FILE
        m4r --inspect=FILE";
 
@@ -55,7 +55,7 @@ const USUAL_CALLS: u32 = u32::MAX;
 /// What a command line asks for: one mode with its file, or a run over files.
 #[derive(Debug, Drop)]
 pub struct Line {
-    /// How the run is limited, and whether it freezes.
+    /// How the run is limited, whether it freezes, and whether its builtins have prefixes.
     pub options: Options,
     /// The file that the run freezes its state to.
     pub freeze: Option<String>,
@@ -72,7 +72,7 @@ pub struct Line {
 /// Why a command line is not followed.
 #[derive(Debug, Drop)]
 pub enum LineFault {
-    /// A mode stands beside another one, a limit or a file.
+    /// A mode is beside another one, a limit, a prefix or a file.
     ModeNotAlone,
     /// `clap` refuses the line, or answers it with help; the error has the text to print.
     Parse(Error),
@@ -152,20 +152,22 @@ fn line_of_matches(alloc: Global, matches: &ArgMatches<'_>) -> Result<Line, Line
     })
 }
 
-// Whether a mode stands beside another one, a limit or a file.
+// Whether a mode is beside another one, a limit, a prefix or a file.
 fn has_company(matches: &ArgMatches<'_>) -> bool
     ensures { result ≡ has_company (rows_of (found_of matches.now)) }
 {
     let canon = stands(matches, "canon");
     let inspect = stands(matches, "inspect");
-    (canon && inspect) || ((canon || inspect) && (stand_limits(matches) || stand_files(matches)))
+    (canon && inspect) || ((canon || inspect) && (stand_options(matches) || stand_files(matches)))
 }
 
-// Whether a limit stands on the line.
-fn stand_limits(matches: &ArgMatches<'_>) -> bool
-    ensures { result ≡ stand_limits (rows_of (found_of matches.now)) }
+// Whether a limit is on the line, or prefixes are asked for.
+fn stand_options(matches: &ArgMatches<'_>) -> bool
+    ensures { result ≡ stand_options (rows_of (found_of matches.now)) }
 {
-    stands(matches, "nesting-limit") || stands(matches, "expansions")
+    stands(matches, "nesting-limit")
+        || stands(matches, "expansions")
+        || asks(matches, "prefix-builtins")
 }
 
 // Whether a frozen file or a file to be read stands on the line.
@@ -182,12 +184,22 @@ fn stands(matches: &ArgMatches<'_>, name: &str) -> bool
     matches.contains_id(name)
 }
 
-// The limits of the line, for a run that freezes or does not.
+// Whether an option without a value is on the line: the text of one that is not is `false`.
+fn asks(matches: &ArgMatches<'_>, name: &str) -> bool
+    ensures { result ≡ asks name.now (rows_of (found_of matches.now)) }
+{
+    match matches.get_str(name) {
+        Some(text) => text == "true",
+        None => false,
+    }
+}
+
+// The options of the line, for a run that freezes or does not.
 fn options_of(matches: &ArgMatches<'_>, freeze: bool) -> Options
     ensures nesting { IsLimit 0 1024 (one_of (codes "nesting-limit") (rows_of (found_of matches.now))) result.nesting }
     ensures calls { IsLimit 1 4294967295 (one_of (codes "expansions") (rows_of (found_of matches.now))) result.calls }
     ensures same { result.freeze ≡ freeze }
-    ensures plain { result.prefix ≡ false }
+    ensures prefix { result.prefix ≡ asks (codes "prefix-builtins") (rows_of (found_of matches.now)) }
     ensures most { result.nesting < 2 ^ 32 }
     ensures in_range { (1 ≤ result.calls) × (result.calls < 2 ^ 32) }
 {
@@ -195,7 +207,7 @@ fn options_of(matches: &ArgMatches<'_>, freeze: bool) -> Options
         calls: limit(matches, "expansions", 1, USUAL_CALLS),
         nesting: limit(matches, "nesting-limit", 0, USUAL_NESTING),
         freeze,
-        prefix: false,
+        prefix: asks(matches, "prefix-builtins"),
     }
 }
 
@@ -260,6 +272,7 @@ fn known_command<'a>(alloc: Global) -> Result<Command<'a>, AllocError>
     let command = with_modes(alloc, start(alloc))?;
     let command = with_frozen(alloc, command)?;
     let command = with_limits(alloc, command)?;
+    let command = with_prefix(alloc, command)?;
     command.arg(files(alloc))?.arg(help)
 }
 
@@ -317,6 +330,18 @@ fn with_limits<'a>(alloc: Global, command: Command<'a>) -> Result<Command<'a>, A
         "Ends a run that makes more than N calls [default: 4294967295]",
     );
     command.arg(nesting)?.arg(calls)
+}
+
+// The command with the prefixes.
+fn with_prefix<'a>(alloc: Global, command: Command<'a>) -> Result<Command<'a>, AllocError>
+    ensures { IfOk result (λ more. app_of more ≡ with_prefix (app_of command.entry)) }
+{
+    let prefix = Arg::new(alloc, "prefix-builtins")
+        .long("prefix-builtins")
+        .short('P')
+        .action(ArgAction::SetTrue)
+        .help("Puts `m4_` in front of the name of each builtin; no effect with -R");
+    command.arg(prefix)
 }
 
 // The program with its texts, before its words.

@@ -25,7 +25,6 @@ pub fn run_files<E: Write + Drop>(
     errors: E,
     line: &Line,
 ) -> io::Result<u8>
-    requires prefix { line.now.options.prefix ≡ false }
 {
     let output = BufWriter::with_capacity(rt.alloc(), BLOCK, io::writer(rt))?;
     let messages = BufWriter::with_capacity(rt.alloc(), BLOCK, errors)?;
@@ -40,7 +39,6 @@ fn run_shown<R: Files + Input + Alloc<A = Global> + Eprint, W: Write, E: Write>(
     line: &Line,
     shown: &Shown<W, E>,
 ) -> io::Result<u8>
-    requires prefix { line.now.options.prefix ≡ false }
 {
     let reloaded = name_of(&line.reload);
     let Ok(mut frozen) = frozen_of(rt, &line.reload) else {

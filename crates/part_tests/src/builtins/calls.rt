@@ -117,7 +117,7 @@ const DEFINITIONS: &[Row] = &[
             Step::Look(b"changecom"),
             Step::Count,
         ],
-        b"dnl: 0\nchangecom: 0\n28 names\n",
+        b"dnl: 0\nchangecom: 0\n29 names\n",
     ),
 ];
 

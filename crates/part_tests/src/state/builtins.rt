@@ -33,6 +33,7 @@ const ROWS: &[(&str, &[u8])] = &[
     ("translit", b"translit: parameters, 2 to 3"),
     ("incr", b"incr: parameters, 1 to 1"),
     ("decr", b"decr: parameters, 1 to 1"),
+    ("eval", b"eval: parameters, 1 to 3"),
     ("errprint", b"errprint: parameters, 0 or more"),
     ("m4wrap", b"m4wrap: parameters, 0 or more"),
     ("m4exit", b"m4exit: 0 to 1"),

@@ -46,6 +46,7 @@ const ROWS: &[Row] = &[
           dnl, builtin dnl; 3\n\
           dumpdef, builtin dumpdef; 7\n\
           errprint, builtin errprint; 8\n\
+          eval, builtin eval; 4\n\
           ifdef, builtin ifdef; 5\n\
           ifelse, builtin ifelse; 6\n\
           incr, builtin incr; 4\n\

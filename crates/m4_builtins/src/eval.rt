@@ -1,0 +1,142 @@
+//! The builtin that computes an expression, whose value is m4_eval's. Manual: "Evaluating integer
+//! expressions".
+
+ghost use Rattle.std.specs.Prelude.{◌≡◌, IfOk, option_map};
+ghost use Rattle.m4_builtins.specs.Eval as spec;
+ghost use Rattle.m4_builtins.specs.ReadsAs.{ReadsAs};
+
+use crate::args::{Arg, text_at, text_of};
+use crate::effect::Effect;
+use crate::messages::{
+    bad_expression_message, divide_by_zero_message, empty_number_message, out_of_range_message,
+};
+use crate::number::number_in;
+use crate::place::Place;
+use m4_eval::blank::is_blank;
+use m4_eval::digits::in_radix;
+use m4_eval::evaluate::{Evaluated, evaluate};
+use m4_eval::radix::Radix;
+use m4_state::builtin::Builtin;
+use m4_state::bytes::Bytes;
+use m4_state::state::State;
+use std::alloc::{AllocError, Global};
+
+/// Gives the value of the first argument, in the radix of the second one, with at least as many digits
+/// as the third one says. The first argument that is wrong ends the call with a warning. Manual:
+/// "Evaluating integer expressions".
+pub(crate) fn eval(
+    alloc: Global,
+    list: &[Arg],
+    place: &Place,
+    state: &State,
+) -> Result<Effect, AllocError>
+    ensures { IfOk result (λ e. spec.eval list.now place.now state.now ≡ record { state = state.now; effect = e }) }
+{
+    let _ = state;
+    let mut messages = Vec::new(alloc);
+    let mut effect = match digits_in(alloc, list, place, &mut messages)? {
+        Some(digits) => Effect::pushing(alloc, Bytes::from(digits)),
+        None => Effect::nothing(alloc),
+    };
+    effect.messages = Bytes::from(messages);
+    Ok(effect)
+}
+
+/// The value of the expression, written out; none where an argument is wrong. Adds the warnings to the
+/// messages.
+fn digits_in(
+    alloc: Global,
+    list: &[Arg],
+    place: &Place,
+    messages: &mut Vec<u8>,
+) -> Result<Option<Vec<u8>>, AllocError>
+    ensures { IfOk result (λ digits. ReadsAs (spec.with_digits list.now place.now) (option_map (λ v. v.items) digits) messages.old.items messages.new.items) }
+{
+    let Some(radix) = radix_in(alloc, text_at(list, 1), place, messages)? else {
+        return Ok(None);
+    };
+    let Some(width) = width_in(alloc, third(list), place, messages)? else {
+        return Ok(None);
+    };
+    let Some(value) = value_in(alloc, text_at(list, 0), place, messages)? else {
+        return Ok(None);
+    };
+    Ok(Some(in_radix(alloc, value, radix, width)?))
+}
+
+/// The third argument as text, if there is one.
+fn third(list: &[Arg]) -> Option<&[u8]>
+    ensures { option_map (λ x. x.now) result ≡ slice_get (texts_of list.now) 2 }
+{
+    list.get(2).map(text_of)
+}
+
+/// The radix, which is 10 where its argument is missing or empty; none where it is wrong.
+fn radix_in(
+    alloc: Global,
+    text: &[u8],
+    place: &Place,
+    messages: &mut Vec<u8>,
+) -> Result<Option<Radix>, AllocError>
+    ensures { IfOk result (λ radix. ReadsAs (λ s. spec.with_radix place.now s text.now) radix messages.old.items messages.new.items) }
+{
+    if text.is_empty() {
+        return Ok(Some(Radix::decimal()));
+    }
+    let Some(number) = number_in(alloc, text, place, Builtin::Eval, messages)? else {
+        return Ok(None);
+    };
+    let radix = Radix::new(number);
+    if radix.is_none() {
+        messages.extend_from_slice(out_of_range_message(alloc, place)?.as_slice())?;
+    }
+    Ok(radix)
+}
+
+/// The least count of digits, which is 0 where its argument is missing; none where it is wrong.
+fn width_in(
+    alloc: Global,
+    text: Option<&[u8]>,
+    place: &Place,
+    messages: &mut Vec<u8>,
+) -> Result<Option<usize>, AllocError>
+    ensures { IfOk result (λ width. ReadsAs (λ s. spec.with_width place.now s (option_map (λ x. x.now) text)) width messages.old.items messages.new.items) }
+{
+    let Some(text) = text else {
+        return Ok(Some(0));
+    };
+    let Some(number) = number_in(alloc, text, place, Builtin::Eval, messages)? else {
+        return Ok(None);
+    };
+    match usize::try_from(number) {
+        Ok(width) => Ok(Some(width)),
+        Err(_negative) => {
+            messages.extend_from_slice(out_of_range_message(alloc, place)?.as_slice())?;
+            Ok(None)
+        }
+    }
+}
+
+/// The value of an expression, which is 0 where it is empty or white space alone; none where it has no
+/// value.
+fn value_in(
+    alloc: Global,
+    text: &[u8],
+    place: &Place,
+    messages: &mut Vec<u8>,
+) -> Result<Option<i32>, AllocError>
+    ensures { IfOk result (λ value. ReadsAs (λ s. spec.with_value place.now s text.now) value messages.old.items messages.new.items) }
+{
+    if is_blank(text) {
+        let warning = empty_number_message(alloc, place, Builtin::Eval)?;
+        messages.extend_from_slice(warning.as_slice())?;
+        return Ok(Some(0));
+    }
+    let warning = match evaluate(alloc, text)? {
+        Evaluated::Value(value) => return Ok(Some(value)),
+        Evaluated::DivideByZero => divide_by_zero_message(alloc, place)?,
+        Evaluated::BadExpression => bad_expression_message(alloc, place)?,
+    };
+    messages.extend_from_slice(warning.as_slice())?;
+    Ok(None)
+}
