@@ -1,6 +1,6 @@
 -- ActKeeps: a call leaves a state in order in order, and pushes definitions in order.
 use Rattle.std.proofs.Common.{◌≡◌, ℕ, Bool, true, false, List, [], ◌∷◌, Option, Some, None, length, refl, rules}
-use Rattle.std.specs.Prelude.{nat_lt, nat_le, ◌&&◌, ℤ, pos, negsuc, filter_map, slice_get, if◌then◌else◌}
+use Rattle.std.specs.Prelude.{nat_lt, nat_le, ℤ, pos, negsuc, filter_map, slice_get, if◌then◌else◌}
 use Rattle.std.specs.List.{AllByRecursion, list_all}
 use Rattle.m4_state.specs.declared.builtin.Builtin.{Builtin}
 use Rattle.m4_state.specs.declared.builtin.Builtin.TheVariants.{Define, Undefine, Pushdef, Popdef, Defn, Indir, IndirBuiltin, Ifdef, Ifelse, Shift, Dumpdef, Dnl, Changequote, Changecom, Divert, Undivert, Divnum, Len, Index, Substr, Translit, Incr, Decr, Eval, Errprint, M4wrap, M4exit, File, Line}
@@ -15,6 +15,7 @@ use Rattle.m4_input.specs.Ascii.{is_space}
 use Rattle.m4_eval.specs.declared.evaluate.Evaluated.{Evaluated}
 use Rattle.m4_eval.specs.declared.evaluate.Evaluated.TheVariants.{Value, DivideByZero, BadExpression}
 use Rattle.m4_eval.specs.Evaluated.{evaluated}
+use Rattle.m4_eval.specs.InRadix.{radix_at}
 use Rattle.m4_builtins.specs.declared.args.Arg.{Arg}
 use Rattle.m4_builtins.specs.declared.args.Arg.TheVariants as args
 use Rattle.m4_builtins.specs.declared.number.Reading.{Reading}
@@ -122,13 +123,9 @@ module _ (p : Place) where
   decr_is : (list : List Arg) (s : State) → IsState s → IsActed (decr list p s)
   decr_is list s h = number_is Decr s (reading_of (text_at list 0)) _ h (λ n. record { state = h; push = tt })
 
-  radix_is : (does : ℕ → Acted) (s : State) (n : ℤ) → IsState s → ((radix : ℕ) → IsActed (does radix)) → IsActed (if_radix p s does n)
-  radix_is does s (pos n) h each = by (nat_le 2 n && nat_le n 36)
-    where
-      by : (b : Bool) → IsActed (if b then does n else tells s (out_of_range p))
-      by true = each n
-      by false = record { state = h; push = tt }
-  radix_is does s (negsuc n) h each = record { state = h; push = tt }
+  radix_is : (does : ℕ → Acted) (s : State) (o : Option ℕ) → IsState s → ((radix : ℕ) → IsActed (does radix)) → IsActed (if_radix p s does o)
+  radix_is does s (Some radix) h each = each radix
+  radix_is does s None h each = record { state = h; push = tt }
 
   width_is : (does : ℕ → Acted) (s : State) (n : ℤ) → IsState s → ((width : ℕ) → IsActed (does width)) → IsActed (if_width p s does n)
   width_is does s (pos n) h each = each n
@@ -141,7 +138,7 @@ module _ (p : Place) where
 
   with_radix_is : (x : List ℕ) (does : ℕ → Acted) (s : State) → IsState s → ((radix : ℕ) → IsActed (does radix)) → IsActed (with_radix p s x does)
   with_radix_is [] does s h each = each 10
-  with_radix_is (b ∷ x) does s h each = number_is Eval s (reading_of (b ∷ x)) _ h (λ n. radix_is does s n h each)
+  with_radix_is (b ∷ x) does s h each = number_is Eval s (reading_of (b ∷ x)) _ h (λ n. radix_is does s (radix_at n) h each)
 
   with_width_is : (o : Option (List ℕ)) (does : ℕ → Acted) (s : State) → IsState s → ((width : ℕ) → IsActed (does width)) → IsActed (with_width p s o does)
   with_width_is None does s h each = each 0

@@ -8,6 +8,7 @@ pub mod DivertingRows
 pub mod EndingRows
 pub mod EvalRows
 pub mod ReadsOn
+pub mod EvalReads
 pub mod FirstPlace
 pub mod HeldNumbers
 pub mod Joins

@@ -1,5 +1,5 @@
 -- ReadsOn: arguments that are read one after the other, and what their warnings come to together.
-use Rattle.std.proofs.Common.{◌≡◌, ℕ, List, [], ◌++◌, Option, Some, None, refl, sym, ap, ◌∙◌, append-nil, append-assoc}
+use Rattle.std.proofs.Common.{◌≡◌, ℕ, List, [], ◌++◌, Option, Some, None, refl, sym, ap, ◌∙◌, append-nil, append_assoc}
 use Rattle.std.specs.Prelude.{ℤ}
 use Rattle.m4_state.specs.declared.builtin.Builtin.{Builtin}
 use Rattle.m4_state.specs.State.{State}
@@ -17,14 +17,14 @@ first_and r messages = record { state = r.state; effect = record r.effect { mess
 -- warnings one after the other
 both : {A : Type 0} (v w : List ℕ) (s : State) (does : A → Acted) (o : Option A) → telling_first v (after w s does o) ≡ after (v ++ w) s does o
 both v w s does None = refl
-both v w s does (Some x) = ap (first_and (does x)) (sym (append-assoc v w ((does x).effect).messages))
+both v w s does (Some x) = ap (first_and (does x)) (sym (append_assoc v w ((does x).effect).messages))
 
 -- nothing is read, and there is no warning
 pub reads_at_once : {A : Type 0} (x : A) (before : List ℕ) → ReadsAs (λ s does. does x) (Some x) before before
 reads_at_once x before = ([], sym (append-nil before), (λ s does. refl))
 
 -- a fault, and its warning
-pub reads_wrong : {A : Type 0} (warning before now : List ℕ) → now ≡ before ++ warning → ReadsAs {A} (λ s does. tells s warning) None before now
+pub reads_wrong : {A : Type 0} (warning before now : List ℕ) → now ≡ before ++ warning → ReadsAs {A = A} (λ s does. tells s warning) None before now
 reads_wrong warning before now grown = (warning, grown, (λ s does. refl))
 
 -- a value, after a warning
@@ -40,7 +40,7 @@ reads_no_more first next before now (w, grown, same) = (w, grown, (λ s does. sa
 pub reads_on : {A B : Type 0} (first : State → (A → Acted) → Acted) (next : A → State → (B → Acted) → Acted) (x : A) (o : Option B) (before between now : List ℕ)
     → ReadsAs first (Some x) before between → ReadsAs (next x) o between now → ReadsAs (λ s does. first s (λ y. next y s does)) o before now
 reads_on first next x o before between now (v, grown, same) (w, grown_2, same_2) =
-    (v ++ w, grown_2 ∙ ap (λ (m : List ℕ). m ++ w) grown ∙ append-assoc before v w,
+    (v ++ w, grown_2 ∙ ap (λ (m : List ℕ). m ++ w) grown ∙ append_assoc before v w,
     (λ s does. same s (λ y. next y s does) ∙ ap (telling_first v) (same_2 s does) ∙ both v w s does o))
 
 -- a number, as it was read

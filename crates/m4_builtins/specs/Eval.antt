@@ -3,7 +3,7 @@
 -- Words: with_radix, with_width, with_value, with_digits, eval.
 -- own: the radix is read first, then the width, then the expression; the first that is wrong ends the
 -- call. An empty radix is 10 without a warning; an empty width is 0, an empty expression too, with one.
-use Rattle.std.specs.Prelude.{ℕ, nat_le, ◌&&◌, ℤ, pos, negsuc, List, [], ◌∷◌, Option, Some, None, slice_get, if◌then◌else◌}
+use Rattle.std.specs.Prelude.{ℕ, ℤ, pos, negsuc, List, [], ◌∷◌, Option, Some, None, slice_get, if◌then◌else◌}
 use Rattle.std.specs.List.{list_all}
 use Rattle.m4_state.specs.declared.builtin.Builtin.TheVariants.{Eval}
 use Rattle.m4_state.specs.State.{State}
@@ -11,7 +11,7 @@ use Rattle.m4_input.specs.Ascii.{is_space}
 use Rattle.m4_eval.specs.declared.evaluate.Evaluated.{Evaluated}
 use Rattle.m4_eval.specs.declared.evaluate.Evaluated.TheVariants.{Value, DivideByZero, BadExpression}
 use Rattle.m4_eval.specs.Evaluated.{evaluated}
-use Rattle.m4_eval.specs.InRadix.{in_radix}
+use Rattle.m4_eval.specs.InRadix.{radix_at, in_radix}
 use Rattle.m4_builtins.specs.declared.args.Arg.{Arg}
 use Rattle.m4_builtins.specs.declared.place.Place.{Place}
 use Rattle.m4_builtins.specs.Args.{texts_of, text_at}
@@ -19,15 +19,16 @@ use Rattle.m4_builtins.specs.Acted.{Acted, tells, expands, telling_first}
 use Rattle.m4_builtins.specs.Messages.{empty_number, divide_by_zero, bad_expression, out_of_range}
 use Rattle.m4_builtins.specs.Numeric.{reading_of, with_number}
 
--- what is done with a radix of 2 to 36; any other number is out of range
-abbrev pub if_radix : Place → State → (ℕ → Acted) → ℤ → Acted
-if_radix p s does (pos n) = if nat_le 2 n && nat_le n 36 then does n else tells s (out_of_range p)
-if_radix p s does (negsuc n) = tells s (out_of_range p)
+-- what is done with a radix, if a number is one
+abbrev pub if_radix : Place → State → (ℕ → Acted) → Option ℕ → Acted
+if_radix p s does (Some radix) = does radix
+if_radix p s does None = tells s (out_of_range p)
 
 -- what is done with the radix, which is 10 where its argument is missing or empty
 abbrev pub with_radix : Place → State → List ℕ → (ℕ → Acted) → Acted
 with_radix p s [] does = does 10
-with_radix p s (b ∷ x) does = with_number p Eval s (reading_of (b ∷ x)) (if_radix p s does)
+with_radix p s (b ∷ x) does =
+    with_number p Eval s (reading_of (b ∷ x)) (λ n. if_radix p s does (radix_at n))
 
 -- what is done with a width of 0 or more; a negative one is out of range
 abbrev pub if_width : Place → State → (ℕ → Acted) → ℤ → Acted

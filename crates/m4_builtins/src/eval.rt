@@ -1,7 +1,8 @@
 //! The builtin that computes an expression, whose value is m4_eval's. Manual: "Evaluating integer
 //! expressions".
 
-ghost use Rattle.std.specs.Prelude.{◌≡◌, IfOk, option_map};
+ghost use Rattle.std.specs.Prelude.{◌≡◌, IfOk, option_copied, option_map};
+ghost use Rattle.m4_builtins.specs.Args.{text_of_arg};
 ghost use Rattle.m4_builtins.specs.Eval as spec;
 ghost use Rattle.m4_builtins.specs.ReadsAs.{ReadsAs};
 
@@ -55,20 +56,13 @@ fn digits_in(
     let Some(radix) = radix_in(alloc, text_at(list, 1), place, messages)? else {
         return Ok(None);
     };
-    let Some(width) = width_in(alloc, third(list), place, messages)? else {
+    let Some(width) = width_in(alloc, list.get(2), place, messages)? else {
         return Ok(None);
     };
     let Some(value) = value_in(alloc, text_at(list, 0), place, messages)? else {
         return Ok(None);
     };
     Ok(Some(in_radix(alloc, value, radix, width)?))
-}
-
-/// The third argument as text, if there is one.
-fn third(list: &[Arg]) -> Option<&[u8]>
-    ensures { option_map (λ x. x.now) result ≡ slice_get (texts_of list.now) 2 }
-{
-    list.get(2).map(text_of)
 }
 
 /// The radix, which is 10 where its argument is missing or empty; none where it is wrong.
@@ -96,16 +90,16 @@ fn radix_in(
 /// The least count of digits, which is 0 where its argument is missing; none where it is wrong.
 fn width_in(
     alloc: Global,
-    text: Option<&[u8]>,
+    arg: Option<&Arg>,
     place: &Place,
     messages: &mut Vec<u8>,
 ) -> Result<Option<usize>, AllocError>
-    ensures { IfOk result (λ width. ReadsAs (λ s. spec.with_width place.now s (option_map (λ x. x.now) text)) width messages.old.items messages.new.items) }
+    ensures { IfOk result (λ width. ReadsAs (λ s. spec.with_width place.now s (option_map text_of_arg (option_copied arg.entry))) width messages.old.items messages.new.items) }
 {
-    let Some(text) = text else {
+    let Some(arg) = arg else {
         return Ok(Some(0));
     };
-    let Some(number) = number_in(alloc, text, place, Builtin::Eval, messages)? else {
+    let Some(number) = number_in(alloc, text_of(arg), place, Builtin::Eval, messages)? else {
         return Ok(None);
     };
     match usize::try_from(number) {

@@ -1,14 +1,13 @@
 //! The number that an argument of a builtin stands for. Definitions and code share [`Reading`].
 //! Manual: "Macro arguments", and the sections of the builtins that take numbers.
 
-ghost use Rattle.std.specs.Prelude.{◌≡◌, ◌≤◌, ◌++◌, OnOk, IfOk, length};
-ghost use Rattle.m4_input.specs.Ascii as ascii;
-ghost use Rattle.m4_input.specs.Token.{run_length};
+ghost use Rattle.std.specs.Prelude.{◌≡◌, ◌++◌, OnOk, IfOk};
 ghost use Rattle.m4_builtins.specs.Numeric as spec;
 
 use crate::messages::{empty_number_message, not_numeric_message};
 use crate::place::Place;
 use crate::substitute::{digits_len, number_of};
+use m4_eval::blank::spaces_len;
 use m4_state::builtin::Builtin;
 use std::alloc::{AllocError, Global};
 
@@ -63,25 +62,6 @@ pub(crate) fn number_in(
             Ok(None)
         }
     }
-}
-
-/// How many bytes of white space stand in front.
-fn spaces_len(bytes: &[u8]) -> usize
-    ensures value { result ≡ run_length ascii.is_space bytes.now }
-    ensures within { result ≤ length bytes.now }
-{
-    let mut k = 0;
-    while k < bytes.len() && is_space(bytes[k]) {
-        k += 1;
-    }
-    k
-}
-
-/// Whether a byte is white space.
-fn is_space(byte: u8) -> bool
-    ensures { result ≡ ascii.is_space byte }
-{
-    byte == b' ' || (9 <= byte && byte <= 13)
 }
 
 /// The number of a text that begins with a sign or with digits.

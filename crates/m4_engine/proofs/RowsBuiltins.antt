@@ -1,10 +1,11 @@
 -- RowsBuiltins: worked runs of the builtins that measure and change texts, count, compute, give a place,
 -- save text for the end or end the run, computed from the definitions.
-use Rattle.std.proofs.Common.{Some, ◌≡◌, [], ◌∷◌, refl}
+use Rattle.std.proofs.Common.{Some, true, ◌≡◌, [], ◌∷◌, refl}
 use Rattle.std.specs.Prelude.{codes}
 use Rattle.std.specs.Fmt.{digits}
 use Rattle.std.specs.Int.{int_wrap}
 use Rattle.m4_engine.specs.declared.ending.Cause.TheVariants as causes
+use Rattle.m4_engine.specs.declared.options.Options.{Options}
 use Rattle.m4_engine.specs.Expansion.{Ends}
 use Rattle.m4_engine.proofs.Rows.{usual, freezing, over_a, over_both, done}
 
@@ -127,3 +128,16 @@ signs_and_levels = refl
 wrong_expressions : over_a usual (codes "eval(`1',`1')eval(`2**3')eval(`1||2+')x\n") ≡ done (codes "x\n") (codes "m4:a.m4:1: Warning: radix or width out of range in eval\nm4:a.m4:1: Warning: bad expression in eval\nm4:a.m4:1: Warning: bad expression in eval\n") 3
 unfolding digits int_wrap
 wrong_expressions = refl
+
+-- the options of a run whose builtins have prefixes
+abbrev prefixed : Options
+prefixed = record usual { prefix = true }
+
+-- builtins with prefixes
+names_with_prefixes : over_a prefixed (codes "m4_define(`a',`b')a define(`a',`c')\n") ≡ done (codes "b define(a,c)\n") [] 2
+names_with_prefixes = refl
+
+-- a builtin is called and reported by its own name
+own_names_with_prefixes : over_a prefixed (codes "m4_builtin(`incr',`x')m4_builtin(`m4_incr',`4')\n") ≡ done (codes "\n") (codes "m4:a.m4:1: Warning: non-numeric argument to builtin `incr'\nm4:a.m4:1: Warning: undefined builtin `m4_incr'\n") 2
+unfolding digits
+own_names_with_prefixes = refl

@@ -6,6 +6,7 @@ mod files;
 mod freezing;
 mod given;
 mod limits;
+mod prefixed;
 mod report;
 mod scale;
 mod sessions;

@@ -15,7 +15,7 @@ use m4_state::state::State;
 use std::alloc::{AllocError, Global};
 
 // A row's name, a builtin, its arguments, and what the call leaves to be done in an empty state.
-const CALLS: &[(&str, &[u8], &[&[u8]], &[u8])] = &[
+static CALLS: [(&str, &[u8], &[&[u8]], &[u8]); 9] = [
     (
         "define with a name and a text",
         b"define",
@@ -72,7 +72,7 @@ fn call_seen(alloc: Global, name: &'static [u8], texts: &[&[u8]]) -> Result<Vec<
 
 #[test]
 fn calls_of_builtins(rt: HostRuntime) {
-    for &(row, name, texts, want) in CALLS {
+    for &(row, name, texts, want) in &CALLS {
         shows(&rt, row, want, call_seen(rt.alloc(), name, texts));
     }
 }
@@ -94,7 +94,7 @@ enum Step {
 // A row's name, whether the state is fresh or empty, and the reports.
 type Row = (&'static str, bool, &'static [Step], &'static [u8]);
 
-const DEFINITIONS: &[Row] = &[
+static DEFINITIONS: [Row; 2] = [
     (
         "define replaces the definition",
         false,
@@ -121,7 +121,7 @@ const DEFINITIONS: &[Row] = &[
     ),
 ];
 
-const DELIMITERS: &[Row] = &[
+static DELIMITERS: [Row; 2] = [
     (
         "changequote",
         false,
@@ -264,14 +264,14 @@ fn seen(alloc: Global, fresh: bool, steps: &[Step]) -> Result<Vec<u8>, AllocErro
 
 #[test]
 fn names_are_defined_and_undefined(rt: HostRuntime) {
-    for &(name, fresh, steps, want) in DEFINITIONS {
+    for &(name, fresh, steps, want) in &DEFINITIONS {
         shows(&rt, name, want, seen(rt.alloc(), fresh, steps));
     }
 }
 
 #[test]
 fn delimiters_are_chosen(rt: HostRuntime) {
-    for &(name, fresh, steps, want) in DELIMITERS {
+    for &(name, fresh, steps, want) in &DELIMITERS {
         shows(&rt, name, want, seen(rt.alloc(), fresh, steps));
     }
 }
@@ -286,7 +286,7 @@ type OtherRow = (
     &'static [u8],
 );
 
-const OTHERS: &[OtherRow] = &[
+static OTHERS: [OtherRow; 3] = [
     (
         "a definition is no name",
         (Given::Named(b"define"), b"define"),
@@ -349,7 +349,7 @@ fn other_seen(
 
 #[test]
 fn texts_placeholders_and_definitions(rt: HostRuntime) {
-    for &(name, called, list, place, want) in OTHERS {
+    for &(name, called, list, place, want) in &OTHERS {
         shows(&rt, name, want, other_seen(rt.alloc(), called, list, place));
     }
 }

@@ -19,7 +19,7 @@ type Row = (
     &'static [u8],
 );
 
-const ROWS: &[Row] = &[
+static ROWS: [Row; 7] = [
     (
         "a text",
         b"wrap",
@@ -126,7 +126,7 @@ fn kept(
 
 #[test]
 fn heads_keep_what_they_were_made_of(rt: HostRuntime) {
-    for &(row, name, given, place, want) in ROWS {
+    for &(row, name, given, place, want) in &ROWS {
         shows(&rt, row, want, kept(rt.alloc(), name, given, place));
     }
 }

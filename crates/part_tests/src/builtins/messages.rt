@@ -8,7 +8,7 @@ use m4_builtins::messages::{dropped_message, error_message};
 use std::alloc::{AllocError, Global};
 
 // A row's name, a file, a line, and how an error there and a dropped definition are told.
-const ROWS: &[(&str, &[u8], u64, &[u8])] = &[
+static ROWS: [(&str, &[u8], u64, &[u8]); 2] = [
     (
         "a line of a file",
         b"dir/a.m4",
@@ -35,7 +35,7 @@ fn told(alloc: Global, file: &[u8], line: u64) -> Result<Vec<u8>, BuiltinFault> 
 
 #[test]
 fn messages_tell_their_place(rt: HostRuntime) {
-    for &(name, file, line, want) in ROWS {
+    for &(name, file, line, want) in &ROWS {
         let got = told(rt.alloc(), file, line).map_err(|_refused| AllocError);
         shows(&rt, name, want, got);
     }

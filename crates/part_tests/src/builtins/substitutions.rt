@@ -9,7 +9,7 @@ use m4_builtins::substitute::substitute;
 use std::alloc::{AllocError, Global};
 
 // A row's name, a text, the arguments, and what the text gives under the name `f`.
-const ROWS: &[(&str, &[u8], &[&[u8]], &[u8])] = &[
+static ROWS: [(&str, &[u8], &[&[u8]], &[u8]); 14] = [
     ("an empty text", b"", &[b"a"], b""),
     (
         "text with no dollar",
@@ -77,21 +77,21 @@ fn given_texts(
 
 #[test]
 fn what_the_dollars_stand_for(rt: HostRuntime) {
-    for &(name, text, texts, want) in ROWS {
+    for &(name, text, texts, want) in &ROWS {
         let got = given_texts(rt.alloc(), text, texts, (b"`", b"'"));
         shows(&rt, name, want, got);
     }
 }
 
 // The quotes, and what `$@` gives with two arguments.
-const QUOTES: &[(&str, (&[u8], &[u8]), &[u8])] = &[
+static QUOTES: [(&str, (&[u8], &[u8]), &[u8]); 2] = [
     ("quotes of two bytes", (b"[[", b"]]"), b"[[a]],[[b]]"),
     ("no quotes", (b"", b""), b"a,b"),
 ];
 
 #[test]
 fn quotes_by_the_current_quotes(rt: HostRuntime) {
-    for &(name, quotes, want) in QUOTES {
+    for &(name, quotes, want) in &QUOTES {
         let got = given_texts(rt.alloc(), b"$@", &[b"a", b"b"], quotes);
         shows(&rt, name, want, got);
     }

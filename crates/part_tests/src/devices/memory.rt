@@ -14,7 +14,7 @@ const BYTES: &[u8] = b"some bytes, of which \x00 and \xff are two";
 const SIZES: [usize; 4] = [1, 2, 7, 4096];
 
 // A row's name, whether the reader fails behind its last byte, and what is taken of it.
-const READERS: &[(&str, bool, &[u8])] = &[
+static READERS: [(&str, bool, &[u8]); 2] = [
     (
         "a reader that ends",
         false,
@@ -44,7 +44,7 @@ fn taken_of(alloc: Global, at_most: usize, fails: bool) -> Result<Vec<u8>, Alloc
 
 #[test]
 fn all_that_is_given_is_taken(rt: HostRuntime) {
-    for &(name, fails, want) in READERS {
+    for &(name, fails, want) in &READERS {
         for at_most in SIZES {
             shows(&rt, name, want, taken_of(rt.alloc(), at_most, fails));
         }

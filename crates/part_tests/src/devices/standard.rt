@@ -79,7 +79,7 @@ impl Write for Scripted {
 }
 
 // A row's name, what a reader answers, and what is taken of it.
-const READERS: &[(&str, &[Answer], &[u8])] = &[
+static READERS: [(&str, &[Answer], &[u8]); 4] = [
     (
         "a reader that ends",
         &[
@@ -127,14 +127,14 @@ fn taken_of(alloc: Global, script: &'static [Answer]) -> Result<Vec<u8>, AllocEr
 
 #[test]
 fn all_is_taken_of_a_reader(rt: HostRuntime) {
-    for &(name, script, want) in READERS {
+    for &(name, script, want) in &READERS {
         shows(&rt, name, want, taken_of(rt.alloc(), script));
     }
 }
 
 // A row's name, what a writer answers, and what comes of putting `abcdefgh` whole into it, and then
 // `ij` once: what arrived, whether the first was put, and the answer to the second.
-const WRITERS: &[(&str, &[Answer], &[u8])] = &[
+static WRITERS: [(&str, &[Answer], &[u8]); 5] = [
     (
         "a writer that takes all",
         &[Answer::Takes(4096)],
@@ -185,7 +185,7 @@ fn put_into(alloc: Global, script: &'static [Answer]) -> Result<Vec<u8>, AllocEr
 
 #[test]
 fn what_a_writer_takes_is_put_once(rt: HostRuntime) {
-    for &(name, script, want) in WRITERS {
+    for &(name, script, want) in &WRITERS {
         shows(&rt, name, want, put_into(rt.alloc(), script));
     }
 }

@@ -14,7 +14,7 @@ use std::test::Fail;
 // one, and the text that is issued.
 type Row = (&'static str, &'static [u8], &'static [u8], &'static [u8]);
 
-const ROWS: &[Row] = &[
+static ROWS: [Row; 13] = [
     ("no directives", b"V1\n", b"", b""),
     (
         "names in byte order, the oldest definition first",
@@ -121,7 +121,7 @@ fn again(alloc: Global, bytes: &[u8], block: usize) -> Result<Vec<u8>, AllocErro
 
 #[test]
 fn files_are_frozen_again(rt: HostRuntime) {
-    for &(name, bytes, between, issued) in ROWS {
+    for &(name, bytes, between, issued) in &ROWS {
         for block in BLOCKS {
             let want = canonical(rt.alloc(), between, issued);
             agrees(&rt, name, want, again(rt.alloc(), bytes, block));

@@ -8,7 +8,7 @@ use m4_state::memory::MemSource;
 use std::alloc::{AllocError, Global};
 
 // A row's name, a file that states a length of 2^64 - 1, and its fault: the file's end.
-const LENGTHS: &[(&str, &[u8], &[u8])] = &[
+static LENGTHS: [(&str, &[u8], &[u8]); 9] = [
     (
         "a text's name",
         b"V1\nT18446744073709551615,1\nab",
@@ -68,7 +68,7 @@ fn refused(alloc: Global, bytes: &[u8], block: usize) -> Result<Vec<u8>, AllocEr
 
 #[test]
 fn lengths_that_no_memory_has(rt: HostRuntime) {
-    for &(name, bytes, want) in LENGTHS {
+    for &(name, bytes, want) in &LENGTHS {
         for block in BLOCKS {
             shows(&rt, name, want, refused(rt.alloc(), bytes, block));
         }
@@ -77,7 +77,7 @@ fn lengths_that_no_memory_has(rt: HostRuntime) {
 
 // A row's name, how long a comment stands in front of `V1` and a wrong letter, and how a file of three
 // blocks that begins so ends.
-const BLOCKED: &[(&str, usize, &[u8])] = &[
+static BLOCKED: [(&str, usize, &[u8]); 2] = [
     (
         "a fault at the front of the first block",
         1,
@@ -116,7 +116,7 @@ fn refused_early(alloc: Global, before: usize) -> Result<Vec<u8>, AllocError> {
 
 #[test]
 fn a_refused_file_is_not_read_to_its_end(rt: HostRuntime) {
-    for &(name, before, want) in BLOCKED {
+    for &(name, before, want) in &BLOCKED {
         shows(&rt, name, want, refused_early(rt.alloc(), before));
     }
 }

@@ -12,7 +12,7 @@ use std::process::Abort;
 // A row's name, what came, whether the reader failed behind it, and the fault with its offset.
 type Row = (&'static str, &'static [u8], bool, FrozenKind, usize);
 
-const ROWS: &[Row] = &[
+static ROWS: [Row; 29] = [
     ("an empty file", b"", false, FrozenKind::NoVersion, 0),
     ("no version", b"T0,0\n\n", false, FrozenKind::NoVersion, 0),
     (
@@ -208,7 +208,7 @@ fn refused(alloc: Global, bytes: &[u8], block: usize, fails: bool) -> Result<Vec
 
 #[test]
 fn faults_are_placed(rt: HostRuntime) {
-    for &(name, bytes, fails, kind, offset) in ROWS {
+    for &(name, bytes, fails, kind, offset) in &ROWS {
         for block in BLOCKS {
             let want = told(rt.alloc(), kind, offset);
             agrees(&rt, name, want, refused(rt.alloc(), bytes, block, fails));
@@ -245,7 +245,7 @@ fn compare_later(
 
 #[test]
 fn faults_are_placed_in_later_blocks(rt: HostRuntime) {
-    for &(name, bytes, fails, kind, offset) in ROWS {
+    for &(name, bytes, fails, kind, offset) in &ROWS {
         compare_later(rt.alloc(), &rt, name, bytes, fails, (kind, offset));
     }
 }
@@ -313,7 +313,7 @@ fn a_reader_fails_behind_each_byte(rt: HostRuntime) {
 }
 
 // Each kind and its text, as a message prints it.
-const TEXTS: &[(FrozenKind, &str)] = &[
+static TEXTS: [(FrozenKind, &str); 11] = [
     (FrozenKind::NoVersion, "F1 NoVersion"),
     (FrozenKind::Newer, "F2 Newer"),
     (FrozenKind::VersionZero, "F3 VersionZero"),
@@ -328,17 +328,17 @@ const TEXTS: &[(FrozenKind, &str)] = &[
 ];
 
 // The same of texts that are not written whole.
-const WRITE_TEXTS: &[(WriteFault, &str)] = &[
+static WRITE_TEXTS: [(WriteFault, &str); 2] = [
     (WriteFault::Write, "G1 Write"),
     (WriteFault::OutOfMemory, "G2 OutOfMemory"),
 ];
 
 #[test]
 fn faults_are_printed(rt: HostRuntime) {
-    for &(kind, text) in TEXTS {
+    for &(kind, text) in &TEXTS {
         shows(&rt, text, text.as_bytes(), printed(rt.alloc(), &kind));
     }
-    for &(fault, text) in WRITE_TEXTS {
+    for &(fault, text) in &WRITE_TEXTS {
         shows(&rt, text, text.as_bytes(), printed(rt.alloc(), &fault));
     }
 }

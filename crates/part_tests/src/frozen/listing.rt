@@ -9,7 +9,7 @@ use m4_state::memory::MemSink;
 use std::alloc::{AllocError, Global};
 
 // A row's name, a file, and the lines that are listed for it.
-const ROWS: &[(&str, &[u8], &[u8])] = &[
+static ROWS: [(&str, &[u8], &[u8]); 4] = [
     (
         "a text, a placeholder and a diversion",
         b"V1\nT1,1\nab\nF3,5\ncutshift\nD2,4\ntwo\n\n",
@@ -51,7 +51,7 @@ fn listed(alloc: Global, bytes: &[u8], room: usize, block: usize) -> Result<Vec<
 
 #[test]
 fn files_are_listed(rt: HostRuntime) {
-    for &(name, bytes, lines) in ROWS {
+    for &(name, bytes, lines) in &ROWS {
         for block in BLOCKS {
             let want = joined(rt.alloc(), &[lines, b"; written\n"]);
             agrees(
@@ -66,7 +66,7 @@ fn files_are_listed(rt: HostRuntime) {
 
 #[test]
 fn a_writer_fails_behind_each_byte(rt: HostRuntime) {
-    for &(name, bytes, lines) in ROWS {
+    for &(name, bytes, lines) in &ROWS {
         for room in 0..lines.len() {
             let want = joined(rt.alloc(), &[lines.split_at(room).0, b"; write fault\n"]);
             agrees(&rt, name, want, listed(rt.alloc(), bytes, room, 3));

@@ -25,7 +25,7 @@ enum Step {
 
 // A row's name, what is done to an empty state, and what of its canonical text stands between the
 // first two lines and the last one.
-const ROWS: &[(&str, &[Step], &[u8])] = &[
+static ROWS: [(&str, &[Step], &[u8]); 2] = [
     (
         "a text and a diversion that is not the current one",
         &[
@@ -84,7 +84,7 @@ fn frozen(alloc: Global, steps: &[Step]) -> Result<Vec<u8>, AllocError> {
 
 #[test]
 fn states_are_frozen(rt: HostRuntime) {
-    for &(name, steps, between) in ROWS {
+    for &(name, steps, between) in &ROWS {
         let want = joined(rt.alloc(), &[HEAD, between, LAST, b"; written\n"]);
         agrees(&rt, name, want, frozen(rt.alloc(), steps));
     }

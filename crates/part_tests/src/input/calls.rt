@@ -52,7 +52,7 @@ const PLAIN: Row = Row {
     want: b"",
 };
 
-const ROWS: &[Row] = &[
+static ROWS: [Row; 14] = [
     Row {
         name: "a list follows a name",
         file: b"f(",
@@ -262,7 +262,7 @@ fn answers(alloc: Global, row: &Row, block: usize) -> Result<Vec<u8>, AllocError
 
 #[test]
 fn calls_and_their_answers(rt: HostRuntime) {
-    for row in ROWS {
+    for row in &ROWS {
         for block in BLOCKS {
             shows(&rt, row.name, row.want, answers(rt.alloc(), row, block));
         }

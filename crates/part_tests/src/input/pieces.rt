@@ -22,7 +22,7 @@ type Row = (
     &'static [u8],
 );
 
-const ROWS: &[Row] = &[(
+static ROWS: [Row; 1] = [(
     "pushed text stands in one piece with the file where there is room",
     b"ab\nc",
     3,
@@ -106,7 +106,7 @@ fn pieces(alloc: Global, row: &Row) -> Result<Vec<u8>, AllocError> {
 
 #[test]
 fn bytes_in_one_piece(rt: HostRuntime) {
-    for row in ROWS {
+    for row in &ROWS {
         shows(&rt, row.0, row.4, pieces(rt.alloc(), row));
     }
 }

@@ -16,7 +16,7 @@ use std::alloc::{AllocError, Global};
 // behind them, where there is one: the name's length, whether a list follows, and the definition.
 type Row = (&'static str, &'static [u8], usize, &'static [u8]);
 
-const ROWS: &[Row] = &[
+static ROWS: [Row; 14] = [
     ("an empty text", b"", 100, b"0"),
     (
         "text with no name that is defined",
@@ -93,14 +93,14 @@ fn run_of(alloc: Global, text: &[u8], most: usize) -> Result<Vec<u8>, AllocError
 
 #[test]
 fn tokens_that_stand_for_themselves(rt: HostRuntime) {
-    for &(name, text, most, want) in ROWS {
+    for &(name, text, most, want) in &ROWS {
         shows(&rt, name, want, run_of(rt.alloc(), text, most));
     }
 }
 
 // A row's name, a text within a list, and its first token: the byte that it is, or its text and how
 // many bytes the token has, where it is text wherever it stands in the list.
-const TOKENS: &[(&str, &[u8], &[u8])] = &[
+static TOKENS: [(&str, &[u8], &[u8]); 22] = [
     ("a string", b"`a b'c", b"text a b of 5"),
     ("a string within a string", b"``a'' ", b"text `a' of 5"),
     ("an empty string", b"`'", b"text  of 2"),
@@ -148,7 +148,7 @@ fn first_of(alloc: Global, text: &[u8]) -> Result<Vec<u8>, AllocError> {
 
 #[test]
 fn tokens_that_are_text_in_a_list(rt: HostRuntime) {
-    for &(name, text, want) in TOKENS {
+    for &(name, text, want) in &TOKENS {
         shows(&rt, name, want, first_of(rt.alloc(), text));
     }
 }

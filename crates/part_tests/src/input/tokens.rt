@@ -13,7 +13,7 @@ use std::alloc::{AllocError, Global};
 // A row's name, the delimiters, a text, and its tokens.
 type Row = (&'static str, Delims<'static>, &'static [u8], &'static [u8]);
 
-const ROWS: &[Row] = &[
+static ROWS: [Row; 11] = [
     (
         "a name is the longest run of letters, digits and underscores",
         USUAL,
@@ -115,7 +115,7 @@ fn tokens_of(
 
 #[test]
 fn texts_and_their_tokens(rt: HostRuntime) {
-    for &(name, delims, text, want) in ROWS {
+    for &(name, delims, text, want) in &ROWS {
         for block in BLOCKS {
             shows(&rt, name, want, tokens_of(rt.alloc(), text, &delims, block));
         }

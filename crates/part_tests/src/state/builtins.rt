@@ -9,7 +9,7 @@ use std::alloc::{AllocError, Global};
 
 // A name, and the builtin of that name: whether it is recognised only with parameters, whether it
 // takes definitions as such, and how many arguments it has at least and at most.
-const ROWS: &[(&str, &[u8])] = &[
+static ROWS: [(&str, &[u8]); 30] = [
     ("define", b"define: parameters, definitions, 1 to 2"),
     ("undefine", b"undefine: parameters, 1 or more"),
     ("pushdef", b"pushdef: parameters, definitions, 1 to 2"),
@@ -74,7 +74,7 @@ fn tell(builtin: Builtin, report: &mut Report) {
 
 #[test]
 fn columns_of_the_builtins(rt: HostRuntime) {
-    for &(name, want) in ROWS {
+    for &(name, want) in &ROWS {
         shows(&rt, name, want, report_of(rt.alloc(), name.as_bytes()));
     }
 }

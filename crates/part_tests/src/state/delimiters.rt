@@ -16,7 +16,7 @@ type Row = (
     &'static [u8],
 );
 
-const ROWS: &[Row] = &[
+static ROWS: [Row; 6] = [
     ("an empty state", &[], b"quotes ` '\ncomments # \n"),
     (
         "both strings",
@@ -86,7 +86,7 @@ fn report_of(alloc: Global, pairs: &[(&[u8], &[u8])]) -> Result<Vec<u8>, AllocEr
 
 #[test]
 fn delimiters_are_chosen(rt: HostRuntime) {
-    for &(name, pairs, want) in ROWS {
+    for &(name, pairs, want) in &ROWS {
         shows(&rt, name, want, report_of(rt.alloc(), pairs));
     }
 }

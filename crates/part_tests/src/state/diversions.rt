@@ -24,7 +24,7 @@ enum Step {
 }
 
 // A row's name, what is done to an empty state, and the answers, a line for each.
-const ROWS: &[(&str, &[Step], &[u8])] = &[
+static ROWS: [(&str, &[Step], &[u8]); 4] = [
     (
         "an empty state",
         &[Step::Current, Step::Above(0), Step::TakeLeast],
@@ -208,7 +208,7 @@ fn report_of(alloc: Global, steps: &[Step]) -> Result<Vec<u8>, AllocError> {
 
 #[test]
 fn texts_are_diverted(rt: HostRuntime) {
-    for &(name, steps, want) in ROWS {
+    for &(name, steps, want) in &ROWS {
         shows(&rt, name, want, report_of(rt.alloc(), steps));
     }
 }

@@ -25,7 +25,7 @@ enum Step {
 // each name its definitions from the oldest on, and the length of the newest.
 type Row = (&'static str, bool, &'static [Step], &'static [u8]);
 
-const ROWS: &[Row] = &[
+static ROWS: [Row; 7] = [
     ("an empty state", false, &[Step::Look(b"a")], b"a\n"),
     (
         "a fresh state has its builtins, and two names without text",
@@ -245,7 +245,7 @@ fn report_of(alloc: Global, fresh: bool, steps: &[Step]) -> Result<Vec<u8>, Allo
 
 #[test]
 fn names_and_their_definitions(rt: HostRuntime) {
-    for &(name, fresh, steps, want) in ROWS {
+    for &(name, fresh, steps, want) in &ROWS {
         shows(&rt, name, want, report_of(rt.alloc(), fresh, steps));
     }
 }

@@ -1,7 +1,5 @@
 //! Runs that start from a frozen file, and runs that freeze their state.
 
-ghost use Rattle.std.specs.Prelude.{◌≡◌, false};
-
 use super::given::{
     AT_MOST, BLOCKS, ROOM, Seen, USUAL, ended, freezing, opened, options, run_over,
 };
@@ -24,7 +22,7 @@ struct Loaded {
     frozen_text: &'static str,
 }
 
-static LOADED: [Loaded; 8] = [
+static LOADED: [Loaded; 10] = [
     Loaded {
         name: "a frozen file without names",
         frozen: "V1\n",
@@ -88,6 +86,22 @@ static LOADED: [Loaded; 8] = [
         output: "!\n",
         messages: "m4:b.m4:1: Warning: builtin `regexp' requested by frozen file is not supported\n",
         frozen_text: "# m4 frozen state\nV1\nF6,6\nregexpregexp\n# End of frozen state file\n",
+    },
+    Loaded {
+        name: "a builtin that an older table lacked",
+        frozen: "V1\nF4,4\nevaleval\n",
+        file: "eval(`1+1')\n",
+        output: "2\n",
+        messages: "",
+        frozen_text: "# m4 frozen state\nV1\nF4,4\nevaleval\n# End of frozen state file\n",
+    },
+    Loaded {
+        name: "its name without parameters",
+        frozen: "V1\nF4,4\nevaleval\n",
+        file: "eval\n",
+        output: "eval\n",
+        messages: "",
+        frozen_text: "# m4 frozen state\nV1\nF4,4\nevaleval\n# End of frozen state file\n",
     },
 ];
 
@@ -174,9 +188,7 @@ fn run_from(
     frozen: (&[u8], bool),
     file: &str,
     block: usize,
-) -> Seen
-    requires { options.prefix ≡ false }
-{
+) -> Seen {
     let mut frozen = Some(MemSource::new(frozen.0, block.max(1), frozen.1));
     let mut sources = [opened(rt, b"b.m4", file.as_bytes(), block)];
     run_over(rt, options, &mut frozen, &mut sources, ROOM, AT_MOST)
@@ -366,9 +378,7 @@ fn joint_run(
     options: Options,
     row: &Split,
     block: usize,
-) -> Seen
-    requires { options.prefix ≡ false }
-{
+) -> Seen {
     let mut both = [
         opened(rt, b"a.m4", row.first.as_bytes(), block),
         opened(rt, b"b.m4", row.second.as_bytes(), block),

@@ -1,7 +1,5 @@
 //! What a row gives to a run, and what is to be seen of the run.
 
-ghost use Rattle.std.specs.Prelude.{◌≡◌, false};
-
 use super::report::printed_run;
 use m4_engine::ending::{Cause, Ending};
 use m4_engine::options::Options;
@@ -34,9 +32,7 @@ pub fn ended(status: u8, cause: Cause) -> Ending {
 }
 
 /// The options with these limits, of a run that freezes its state.
-pub fn freezing(limits: (u64, u64)) -> Options
-    ensures { result.prefix ≡ false }
-{
+pub fn freezing(limits: (u64, u64)) -> Options {
     Options {
         calls: limits.0,
         nesting: limits.1,
@@ -46,9 +42,7 @@ pub fn freezing(limits: (u64, u64)) -> Options
 }
 
 /// The options with these limits: no freezing, no prefix.
-pub fn options(limits: (u64, u64)) -> Options
-    ensures { result.prefix ≡ false }
-{
+pub fn options(limits: (u64, u64)) -> Options {
     Options {
         calls: limits.0,
         nesting: limits.1,
@@ -104,9 +98,7 @@ pub fn run_over<'a>(
     sources: &mut [Source<MemSource<'a>>],
     room: (usize, usize),
     at_most: usize,
-) -> Seen
-    requires { options.prefix ≡ false }
-{
+) -> Seen {
     let mut output = sink(rt, room.0, at_most);
     let mut messages = sink(rt, room.1, at_most);
     let mut frozen_text = sink(rt, ROOM.0, at_most);

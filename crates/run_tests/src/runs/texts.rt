@@ -1,6 +1,6 @@
 //! Runs with the builtins on texts and numbers, and those that show where the input is. Manual: "Calculating
 //! length of strings", "Searching for substrings", "Extracting substrings", "Translating characters",
-//! "Decrement and increment operators", "Printing error messages", "Printing current location".
+//! "Decrement and increment operators", "Evaluating integer expressions", "Printing error messages", "Printing current location".
 
 use super::given::{BLOCKS, USUAL, ended, seen_of_file};
 use super::report::printed_run;
@@ -103,6 +103,33 @@ static TEXTS: [Row; 13] = [
     ),
 ];
 
+static EXPRESSIONS: [Row; 4] = [
+    (
+        "precedence, a radix and a width, and a decided side",
+        "eval(`-666',`6',`10') eval(`2+3*4') eval(`1||1/0')\n",
+        "-0000003030 14 1\n",
+        "",
+    ),
+    (
+        "quotients, shifts, literals and a zero divisor",
+        "eval(`7/-2') eval(`-2147483648/-1') eval(`1<<33') eval(`0x1F') eval(`255',16,4) eval(`1/0')x\n",
+        "-3 -2147483648 2 31 00ff x\n",
+        "m4:a.m4:1: Warning: divide by zero in eval\n",
+    ),
+    (
+        "a radix of 36, signs, and an empty expression",
+        "eval(`0r36:z') eval(`!0+~0') eval(`2==2&1') eval(`')\n",
+        "35 0 1 0\n",
+        "m4:a.m4:1: Warning: empty string treated as 0 in builtin `eval'\n",
+    ),
+    (
+        "a radix out of range",
+        "eval(`1',`1')x\n",
+        "x\n",
+        "m4:a.m4:1: Warning: radix or width out of range in eval\n",
+    ),
+];
+
 static PLACES: [Row; 5] = [
     (
         "arguments go to the messages, joined by spaces",
@@ -150,6 +177,11 @@ fn compare(rt: &(impl Abort + Alloc<A = Global>), rows: &[Row]) {
 #[test]
 fn builtins_on_texts_and_numbers(rt: HostRuntime) {
     compare(&rt, &TEXTS);
+}
+
+#[test]
+fn expressions(rt: HostRuntime) {
+    compare(&rt, &EXPRESSIONS);
 }
 
 #[test]

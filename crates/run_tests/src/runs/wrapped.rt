@@ -1,8 +1,6 @@
 //! Runs that save text for the end of the input, and runs that a macro ends. Manual: "Saving text until end
 //! of input", "Exiting from m4".
 
-ghost use Rattle.std.specs.Prelude.{◌≡◌, false};
-
 use super::given::{
     AT_MOST, BLOCKS, ROOM, Seen, USUAL, freezing, opened, options, printed_seen, run_over,
 };
@@ -310,9 +308,7 @@ fn ending((status, cause, wrapped): End) -> Ending {
 }
 
 // A run over one file, a.m4.
-fn run_of(rt: &(impl Abort + Alloc<A = Global>), options: Options, file: &str, block: usize) -> Seen
-    requires { options.prefix ≡ false }
-{
+fn run_of(rt: &(impl Abort + Alloc<A = Global>), options: Options, file: &str, block: usize) -> Seen {
     let mut sources = [opened(rt, b"a.m4", file.as_bytes(), block)];
     run_over(rt, options, &mut None, &mut sources, ROOM, AT_MOST)
 }
