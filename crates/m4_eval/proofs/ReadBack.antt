@@ -8,7 +8,7 @@ use Rattle.std.specs.Int.Digits.{number_from_digits_after}
 use Rattle.std.specs.Fmt.{digits_onto, digits, digit_glyph}
 use Rattle.m4_eval.specs.Literal.{AreDigits, number_in}
 use Rattle.m4_eval.specs.InRadix.{padded}
-use Rattle.m4_eval.specs.ExpressionLaws.{DigitsAreRead}
+use Rattle.m4_eval.specs.Laws.{DigitsAreRead}
 use Rattle.m4_eval.proofs.WrittenDigits.{digits_onto-nil}
 
 -- the number of digits that come after those of n

@@ -1,4 +1,4 @@
--- Expression: what an expression is when its text has been read, one constructor a production.
+-- Expression: the syntax of an expression, one constructor for each production of the grammar.
 -- Believed. Manual: "Evaluating integer expressions". Words: Expression, symbol_of, byte_of, level_of.
 -- own: no `**`, no assignments, no `=` and no `?:`; `!=` and `==` bind tighter than `&`.
 use Rattle.std.specs.Prelude.{ℕ, List, codes}
@@ -8,7 +8,7 @@ use Rattle.m4_eval.specs.declared.operator.Operator.{Operator}
 use Rattle.m4_eval.specs.declared.operator.Operator.TheVariants.{Multiply, Divide, Remainder, Add, Subtract, ShiftLeft, ShiftRight, Less, LessOrEqual, Greater, GreaterOrEqual, Equal, NotEqual, BitAnd, BitXor, BitOr, And, Or}
 
 pub data Expression : Type 0 where
-  -- a literal, by the number that it stands for, however large
+  -- a literal, by its number, however large
   Number : ℕ → Expression
   -- `( e )`
   Group : Expression → Expression
@@ -66,6 +66,6 @@ level_of Multiply = 10
 level_of Divide = 10
 level_of Remainder = 10
 
--- tighter than all operators: a literal, a parenthesis, or one of these after signs
+-- tighter than all operators: a literal, a parenthesis, or one of these with signs before it
 abbrev pub operand_level : ℕ
 operand_level = 11

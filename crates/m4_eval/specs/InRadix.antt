@@ -10,12 +10,12 @@ use Rattle.m4_input.specs.Ascii.{digit_zero}
 abbrev pub minus_sign : ℕ
 minus_sign = 45
 
--- the radix that a number is: 2 to 36
+-- the number as a radix, if it is one: 2 to 36
 abbrev pub radix_at : ℤ → Option ℕ
 radix_at (pos n) = if nat_le 2 n && nat_le n 36 then Some n else None
 radix_at (negsuc n) = None
 
--- digits with zeros in front, so that there are as many as a width
+-- digits after zeros, so that there are at least as many as the width
 abbrev pub padded : ℕ → List ℕ → List ℕ
 padded width x = replicate (width - length x) digit_zero ++ x
 

@@ -6,6 +6,6 @@ pub mod Evaluated
 pub mod InRadix
 pub mod ReadExpression
 pub mod EvaluateSteps
-pub mod ExpressionLaws
+pub mod Laws
 pub mod GrammarView
 pub mod LexerView

@@ -1,7 +1,7 @@
 -- Literal: which bytes are a number in an expression.
 -- Believed. Manual: "Evaluating integer expressions". Words: AreDigits, IsRadixPrefix, IsLiteral.
--- own: a radix is 2 to 36, in decimal with any leading zeros; digits of one literal are letters in
--- either case. A literal may be any number: it wraps only when it is evaluated.
+-- own: a radix is 2 to 36, in decimal, also after leading zeros; letters are digits in either case. A
+-- literal may be any number: it wraps only when it is evaluated.
 use Rattle.std.specs.Prelude.{◌≡◌, ◌≢◌, ℕ, ◌≤◌, List, [], ◌∷◌, ◌++◌, map, IsTrue, ◌⊎◌, codes}
 use Rattle.std.specs.List.{list_all}
 use Rattle.std.specs.Char.{digit_value, is_digit}
@@ -12,11 +12,11 @@ use Rattle.m4_input.specs.Ascii.{digit_zero}
 abbrev pub colon : ℕ
 colon = 58
 
--- the number that digits and letters stand for in a radix
+-- the number of digits and letters in a radix
 abbrev pub number_in : ℕ → List ℕ → ℕ
 number_in radix digits = number_from_digits radix (map digit_value digits)
 
--- digits of a radix, at least one, which stand for n
+-- digits of a radix, at least one, whose number is n
 pub record AreDigits (radix n : ℕ) (digits : List ℕ) : Type 0 where
   pub some : digits ≢ []
   pub below : IsTrue (list_all (λ b. is_digit b radix) digits)
@@ -37,7 +37,7 @@ pub record SaysRadix (radix : ℕ) (prefix : List ℕ) : Type 0 where
   pub most : radix ≤ 36
   pub spelled : prefix ≡ mark ++ digits ++ colon ∷ []
 
--- what stands before the digits of a number, and which radix that gives them
+-- the prefix before the digits of a number, and their radix
 pub data IsRadixPrefix (radix : ℕ) (prefix digits : List ℕ) : Type 0 where
   decimal : radix ≡ 10 → prefix ≡ [] → (BeginsWithZero digits → ⊥) → IsRadixPrefix radix prefix digits
   octal : radix ≡ 8 → prefix ≡ [] → BeginsWithZero digits → IsRadixPrefix radix prefix digits
@@ -45,7 +45,7 @@ pub data IsRadixPrefix (radix : ℕ) (prefix digits : List ℕ) : Type 0 where
   binary : radix ≡ 2 → (prefix ≡ codes "0b") ⊎ (prefix ≡ codes "0B") → IsRadixPrefix radix prefix digits
   stated : SaysRadix radix prefix → IsRadixPrefix radix prefix digits
 
--- a literal that stands for n
+-- a literal whose number is n
 pub record IsLiteral (n : ℕ) (bytes : List ℕ) : Type 0 where
   pub radix : ℕ
   pub prefix : List ℕ

@@ -1,4 +1,4 @@
--- ReadExpression: an expression's text is read byte by byte, with what waits on a stack.
+-- ReadExpression: an expression's text read byte by byte, with its open parts on a stack.
 -- Not believed: the law `ReadsExpressions` ties it to SpellsExpression.
 -- Words: Frame, Reading, literal_at, operator_at, completed, joined_above, read_from, expression_at.
 use Rattle.std.specs.Prelude.{ℕ, zero, suc, ◌+◌, ◌==◌, nat_le, ◌&&◌, ◌||◌, Bool, true, false, List, [], ◌∷◌, drop, length, Option, Some, None, option_map, option_and_then, if◌then◌else◌}
@@ -13,12 +13,12 @@ use Rattle.m4_eval.specs.declared.operator.Operator.TheVariants.{Multiply, Divid
 use Rattle.m4_eval.specs.Expression.{Expression, Number, Group, Signed, Joined, level_of}
 use Rattle.m4_eval.specs.Literal.{number_in}
 
--- one step, and then the next one unless there was none
+-- one step, and then the next one if there was one
 infixl 10 ◌>>=◌
 abbrev pub ◌>>=◌ : {A B : Type 0} → Option A → (A → Option B) → Option B
 o >>= f = option_and_then f o
 
--- goes on only if the test holds
+-- the rest only if the test holds
 infixl 10 ◌>>◌
 abbrev pub ◌>>◌ : {B : Type 0} → Bool → Option B → Option B
 test >> rest = if test then rest else None
@@ -27,7 +27,7 @@ test >> rest = if test then rest else None
 abbrev pub is_alphanumeric : ℕ → Bool
 is_alphanumeric b = is_digit b 36
 
--- the digits and letters at the front
+-- the digits and letters at the start
 abbrev pub run_of : List ℕ → List ℕ
 run_of [] = []
 run_of (b ∷ x) = if is_alphanumeric b then b ∷ run_of x else []
@@ -38,7 +38,7 @@ number_of radix [] = None
 number_of radix (b ∷ x) =
     list_all (λ d. is_digit d radix) (b ∷ x) >> Some (number_in radix (b ∷ x))
 
--- a number, and how many bytes besides the first a literal of it takes
+-- a number, and how many bytes its literal has after the first
 abbrev pub of_length : ℕ → Option ℕ → Option (ℕ × ℕ)
 of_length len o = option_map (λ n. (n, len)) o
 
@@ -54,11 +54,11 @@ abbrev pub in_stated_radix : List ℕ → Option (ℕ × ℕ)
 in_stated_radix x =
     number_of 10 (run_of x) >>= λ radix. after_radix radix (run_of x) (drop (length (run_of x)) x)
 
--- after a radix and its mark, which is one byte besides the first
+-- after a mark of a radix, which is one byte after the first
 abbrev pub in_marked_radix : ℕ → List ℕ → Option (ℕ × ℕ)
 in_marked_radix radix x = of_length (suc (length (run_of x))) (number_of radix (run_of x))
 
--- after a digit, which is the first of the radix
+-- after a first digit
 abbrev pub in_radix_from : ℕ → ℕ → List ℕ → Option (ℕ × ℕ)
 in_radix_from radix b x = of_length (length (run_of x)) (number_of radix (b ∷ run_of x))
 
@@ -75,30 +75,30 @@ after_zero (c ∷ x) =
     else (if is_either c 114 82 then in_stated_radix x
     else in_radix_from 8 digit_zero (c ∷ x)))
 
--- the literal that begins with a byte: its number, and how many bytes it takes besides
+-- the literal that begins with a byte: its number, and how many bytes it has after that one
 abbrev pub literal_at : ℕ → List ℕ → Option (ℕ × ℕ)
 literal_at b x =
     if b == digit_zero then after_zero x else (is_digit b 10 >> in_radix_from 10 b x)
 
--- the sign that a byte is
+-- the byte as a sign, if it is one
 abbrev pub sign_at : ℕ → Option Sign
 sign_at b =
     if b == 43 then Some Positive
     else (if b == 45 then Some Negative
     else (if b == 126 then Some Complement else (if b == 33 then Some Not else None)))
 
--- an operator of one byte or, where the next byte is this one, another of two
+-- an operator of one byte or, if the next byte is this one, another of two
 abbrev pub or_two : Option Operator → ℕ → Operator → List ℕ → Option (Operator × ℕ)
 or_two one second two [] = option_map (λ o. (o, 0)) one
 or_two one second two (c ∷ x) = if c == second then Some (two, 1) else option_map (λ o. (o, 0)) one
 
--- the same, where a third byte may be the second
+-- the same, if the second byte may be one of two
 abbrev pub or_either : Operator → ℕ → Operator → ℕ → Operator → List ℕ → Option (Operator × ℕ)
 or_either one second two third other [] = Some (one, 0)
 or_either one second two third other (c ∷ x) =
     if c == second then Some (two, 1) else (if c == third then Some (other, 1) else Some (one, 0))
 
--- the operator that begins with a byte, and how many bytes it has besides
+-- the operator that begins with a byte, and how many bytes it has after that one
 abbrev pub operator_at : ℕ → List ℕ → Option (Operator × ℕ)
 operator_at b x =
     if b == 42 then Some (Multiply, 0)
@@ -114,30 +114,30 @@ operator_at b x =
     else (if b == 94 then Some (BitXor, 0)
     else (if b == 124 then or_two (Some BitOr) 124 Or x else None)))))))))))
 
--- what waits for an operand
+-- an open part of an expression: it needs an operand
 pub data Frame : Type 0 where
-  -- a parenthesis that was opened
+  -- an open parenthesis
   Opened : Frame
   -- a sign
   Prefixed : Sign → Frame
   -- a left operand and its operator
   Left : Expression → Operator → Frame
 
--- how far a text was read, with what waits, the innermost first
+-- a place in a text that was read so far, with its open parts, the innermost first
 pub data Reading : Type 0 where
-  -- an operand has to come
+  -- before an operand
   Before : List Frame → Reading
-  -- an operand stands
+  -- after an operand
   After : List Frame → Expression → Reading
 
--- an operand, with the signs that wait in front of it
+-- an operand with the open signs before it
 abbrev pub completed : List Frame → Expression → Reading
 completed [] e = After [] e
 completed (Opened ∷ w) e = After (Opened ∷ w) e
 completed (Prefixed s ∷ w) e = completed w (Signed s e)
 completed (Left d o ∷ w) e = After (Left d o ∷ w) e
 
--- joined with the left operands that wait, as long as their operators are not looser than a level
+-- an operand joined with the open left operands, while their operators are not looser than a level
 abbrev pub joined_above : ℕ → List Frame → Expression → List Frame × Expression
 joined_above level [] e = ([], e)
 joined_above level (Opened ∷ w) e = (Opened ∷ w, e)
@@ -160,7 +160,7 @@ abbrev pub whole : List Frame → Expression → Option Expression
 whole [] e = Some e
 whole (f ∷ w) e = None
 
--- a byte where an operand has to come, and how many more bytes it takes with it
+-- a step at a byte before an operand, and how many more bytes it reads
 abbrev pub step_before : List Frame → ℕ → List ℕ → Option (Reading × ℕ)
 step_before w b x =
     if b == open_parenthesis then Some (Before (Opened ∷ w), 0)
@@ -169,18 +169,18 @@ step_before w b x =
       | None ↦ literal_at b x >>= λ n. Some (completed w (Number n.0), n.1)
     ]
 
--- an operator after an operand: what binds no looser is joined first
+-- an operator after an operand: open operators that are not looser are joined first
 abbrev pub operated : Operator → List Frame × Expression → Reading
 operated o j = Before (Left j.1 o ∷ j.0)
 
--- a byte after an operand, and how many more bytes it takes with it
+-- a step at a byte after an operand, and how many more bytes it reads
 abbrev pub step_after : List Frame → Expression → ℕ → List ℕ → Option (Reading × ℕ)
 step_after w e b x =
     if b == close_parenthesis
     then (closed (joined_above 1 w e).0 (joined_above 1 w e).1 >>= λ r. Some (r, 0))
     else operator_at b x >>= λ o. Some (operated o.0 (joined_above (level_of o.0) w e), o.1)
 
--- a byte that is no white space
+-- a step at a byte that is not white space
 abbrev pub step : Reading → ℕ → List ℕ → Option (Reading × ℕ)
 step (Before w) b x = step_before w b x
 step (After w e) b x = step_after w e b x
@@ -190,7 +190,7 @@ abbrev pub finished : Reading → Option Expression
 finished (Before w) = None
 finished (After w e) = whole (joined_above 1 w e).0 (joined_above 1 w e).1
 
--- the bytes after the first `skip`, from a reading
+-- from a reading, over the bytes after the first `skip`
 abbrev pub read_from : ℕ → Reading → List ℕ → Option Expression
 read_from skip r [] = finished r
 read_from (suc skip) r (b ∷ x) = read_from skip r x
@@ -200,6 +200,6 @@ read_from zero r (b ∷ x) =
       | false ↦ step r b x >>= λ p. read_from p.1 p.0 x
     ]
 
--- the expression that a text is
+-- the expression that a text spells, if it spells one
 abbrev pub expression_at : List ℕ → Option Expression
 expression_at text = read_from zero (Before []) text

@@ -1,21 +1,22 @@
 -- SpellsExpression: which texts are an expression.
 -- Believed. Its law: `OneExpression` (a text spells at most one). Manual: "Evaluating integer
 -- expressions". Words: AreSpaces, SpellsAt, SpellsExpression.
--- own: operators of one level group to the left; white space may stand before each token and after
--- the last one. No token holds white space. That the longest operator is taken needs no rule: no
--- operand begins as an operator goes on.
+-- own: operators of one level group to the left; white space may be before each token and after the
+-- last one, and in none. That the longest operator is read needs no rule: no operand begins with a
+-- byte that could continue an operator.
 use Rattle.std.specs.Prelude.{◌≡◌, ℕ, suc, ◌≤◌, List, [], ◌∷◌, ◌++◌, IsTrue}
 use Rattle.std.specs.List.{list_all}
 use Rattle.m4_input.specs.Ascii.{is_space, open_parenthesis, close_parenthesis}
 use Rattle.m4_eval.specs.Literal.{IsLiteral}
 use Rattle.m4_eval.specs.Expression.{Expression, Number, Group, Signed, Joined, byte_of, symbol_of, level_of, operand_level}
 
--- any amount of white space, also none
+-- white space, perhaps none
 abbrev pub AreSpaces : List ℕ → Type 0
 AreSpaces bytes = IsTrue (list_all is_space bytes)
 
--- The spellings of an expression that stands where no operator looser than a level may be joined:
--- the left operand of an operator stands at its own level, the right one at the next.
+-- The spellings of an expression in a place where operators have to bind at least as tightly as a
+-- level. The left operand of an operator is at its own level, the right one at the next: so operators
+-- of one level group to the left.
 abbrev pub SpellsAt : ℕ → Expression → List ℕ → Type 0
 SpellsAt level (Number n) text =
     (gap : List ℕ) × (literal : List ℕ) × AreSpaces gap × IsLiteral n literal

@@ -17,6 +17,7 @@ pub fn in_radix(
     radix: Radix,
     width: usize,
 ) -> Result<Vec<u8>, AllocError>
+    // exact expressions: the sign, the zeros and the digits
     ensures text { IfOk result (λ v. v.items ≡ spec.in_radix radix width value) }
 {
     let mut room = [0; 64];

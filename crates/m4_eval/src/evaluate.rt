@@ -1,4 +1,4 @@
-//! What the text of an expression is worth. Definitions and code share [`Evaluated`].
+//! The value of the text of an expression. Definitions and code share [`Evaluated`].
 //! Manual: "Evaluating integer expressions".
 
 ghost use Rattle.std.specs.Prelude.{◌≡◌, IfOk};
@@ -7,12 +7,12 @@ ghost use Rattle.m4_eval.specs.Evaluated as spec;
 use crate::grammar::value_of;
 use std::alloc::{AllocError, Global};
 
-/// What a text is worth.
+/// The value of a text, or why it has none.
 #[derive(Clone, Copy, Debug, PartialEq, Eq)]
 pub enum Evaluated {
     /// The value of the expression.
     Value(i32),
-    /// The text is an expression, and a zero divides.
+    /// The text is an expression in which a zero divides.
     DivideByZero,
     /// The text is no expression.
     BadExpression,
@@ -23,6 +23,7 @@ pub enum Evaluated {
 ///
 /// Fails only if an allocation fails. Takes time and memory in proportion to the text.
 pub fn evaluate(alloc: Global, text: &[u8]) -> Result<Evaluated, AllocError>
+    // exact expressions: the value of the expression that the text spells, if it has one
     ensures value { IfOk result (λ v. v ≡ spec.evaluated text.now) }
 {
     match value_of(alloc, text)? {

@@ -1,6 +1,8 @@
-//! The value of an expression's text. It is read byte by byte, and what waits for an operand stands
-//! on a stack of its own: nothing recurses with the nesting of the text.
+//! The value of an expression's text. It is read byte by byte, and its open parts are on a stack of
+//! their own: nothing recurses with the nesting of the text.
 //!
+//! An operand is an `Option<i32>`: it has no value if a zero divides in it. A step at a byte returns
+//! the operand that it completes, if any, and how many more bytes it reads.
 //! Manual: "Evaluating integer expressions".
 
 ghost use Rattle.std.specs.Prelude.{◌≡◌, ◌∷◌, ◌≤◌, ◌<◌, ◌≢◌, reverse, IfSome, IfNone, OnOk, IfOk, Some, None, length};
@@ -17,7 +19,7 @@ use crate::operator::{Operator, Sign};
 use crate::value::{apply_sign, join, level};
 use std::alloc::{AllocError, Global};
 
-/// The innermost sign, if one waits first.
+/// Removes the innermost frame if it is a sign.
 fn pop_sign(waiting: &mut Vec<Frame>) -> Option<Sign>
     ensures some { IfSome result (λ s. reverse waiting.old.items ≡ Prefixed s ∷ reverse waiting.new.items) }
     ensures none { IfNone result (waiting.new.items ≡ waiting.old.items) }
@@ -31,7 +33,7 @@ fn pop_sign(waiting: &mut Vec<Frame>) -> Option<Sign>
     Some(sign)
 }
 
-/// The innermost left operand with its operator, if one waits first that binds no looser than a level.
+/// Removes the innermost frame if it is a left operand whose operator is not looser than a level.
 fn pop_left(waiting: &mut Vec<Frame>, least: u8) -> Option<(Option<i32>, Operator)>
     ensures some { IfSome result (λ p. reverse waiting.old.items ≡ Left p.0 p.1 ∷ reverse waiting.new.items) }
     ensures tight { IfSome result (λ p. least ≤ level_of p.1) }
@@ -49,7 +51,7 @@ fn pop_left(waiting: &mut Vec<Frame>, least: u8) -> Option<(Option<i32>, Operato
     Some((value, operator))
 }
 
-/// An operand's value with the signs that wait in front of it.
+/// Applies the open signs to an operand, and removes them.
 fn complete(waiting: &mut Vec<Frame>, operand: Option<i32>) -> Option<i32>
     ensures { place (reverse waiting.new.items) (Some result) ≡ with_signs (reverse waiting.old.items) operand }
 {
@@ -63,7 +65,7 @@ fn complete(waiting: &mut Vec<Frame>, operand: Option<i32>) -> Option<i32>
     value
 }
 
-/// A value joined with the left operands that wait, as long as their operators are not looser.
+/// Joins an operand with the open left operands, while their operators are not looser than a level.
 fn join_while(waiting: &mut Vec<Frame>, least: u8, operand: Option<i32>) -> Option<i32>
     ensures { (reverse waiting.new.items, result) ≡ joined_while least (reverse waiting.old.items) operand }
 {
@@ -74,7 +76,7 @@ fn join_while(waiting: &mut Vec<Frame>, least: u8, operand: Option<i32>) -> Opti
     value
 }
 
-/// Takes away the innermost of what waits if it is a parenthesis.
+/// Removes the innermost frame if it is a parenthesis.
 fn pop_opened(waiting: &mut Vec<Frame>) -> bool
     ensures { MatchBool result (reverse waiting.old.items ≡ Opened ∷ reverse waiting.new.items) (NotOpened (reverse waiting.old.items)) }
 {
@@ -85,7 +87,7 @@ fn pop_opened(waiting: &mut Vec<Frame>) -> bool
     true
 }
 
-/// A byte where an operand has to come: what stands after it, and how many more bytes it takes.
+/// Reads a byte before an operand. Returns nothing if no operand begins with it.
 fn read_operand(
     waiting: &mut Vec<Frame>,
     byte: u8,
@@ -108,7 +110,7 @@ fn read_operand(
     }
 }
 
-/// A byte after an operand: what stands after it, and how many more bytes it takes.
+/// Reads a byte after an operand. Returns nothing if it is neither an operator nor a `)` that closes.
 fn read_operator(
     waiting: &mut Vec<Frame>,
     value: Option<i32>,
@@ -135,7 +137,7 @@ fn read_operator(
     }
 }
 
-/// A byte that is no white space.
+/// Reads a byte that is not white space, before or after an operand.
 fn read_token(
     waiting: &mut Vec<Frame>,
     current: Option<Option<i32>>,
@@ -151,8 +153,9 @@ fn read_token(
     }
 }
 
-/// The value of an expression's text: none where it is no expression, and then none where a zero
-/// divides. Takes memory in proportion to what waits at most, and time to the text.
+/// Returns the value of a text: nothing if it is no expression, and no value if a zero divides.
+///
+/// Fails only if an allocation fails. Takes time in proportion to the text.
 pub(crate) fn value_of(alloc: Global, text: &[u8]) -> Result<Option<Option<i32>>, AllocError>
     ensures value { IfOk result (λ v. v ≡ value_at text.now) }
 {

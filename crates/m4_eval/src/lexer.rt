@@ -10,14 +10,14 @@ ghost use Rattle.m4_eval.specs.Value.{wrapped};
 
 use crate::operator::{Operator, Sign};
 
-/// A digit or a letter.
+/// Returns whether a byte is a digit or a letter.
 fn is_alphanumeric_byte(byte: u8) -> bool
     ensures { result ≡ is_alphanumeric byte }
 {
     byte.is_ascii_alphanumeric()
 }
 
-/// How many digits and letters stand in front.
+/// Counts the digits and letters at the start.
 fn run_len(bytes: &[u8]) -> usize
     ensures len { result ≡ length (run_of bytes.now) }
     ensures within { result ≤ length bytes.now }
@@ -29,7 +29,7 @@ fn run_len(bytes: &[u8]) -> usize
     k
 }
 
-/// The sign that a byte is.
+/// Returns the byte as a sign, if it is one.
 pub(crate) fn sign(byte: u8) -> Option<Sign>
     ensures { result ≡ sign_at byte }
 {
@@ -42,7 +42,7 @@ pub(crate) fn sign(byte: u8) -> Option<Sign>
     }
 }
 
-/// The operator that begins with a byte, and how many bytes it has besides.
+/// Returns the operator that begins with a byte, and how many bytes it has after that one.
 pub(crate) fn operator(byte: u8, after: &[u8]) -> Option<(Operator, usize)>
     ensures value { result ≡ operator_at byte after.now }
     ensures within { IfSome result (λ o. o.1 ≤ length after.now) }
@@ -85,7 +85,8 @@ pub(crate) fn operator(byte: u8, after: &[u8]) -> Option<(Operator, usize)>
     }
 }
 
-/// The literal that begins with a byte: its number, which wraps, and how many bytes it takes besides.
+/// Returns the number of the literal that begins with a byte, and how many bytes it has after that
+/// one. The number wraps.
 pub(crate) fn literal(byte: u8, after: &[u8]) -> Option<(i32, usize)>
     ensures value { result ≡ option_map (λ n. (wrapped (pos n.0), n.1)) (literal_at byte after.now) }
     ensures within { IfSome result (λ n. n.1 ≤ length after.now) }
@@ -104,7 +105,7 @@ pub(crate) fn literal(byte: u8, after: &[u8]) -> Option<(i32, usize)>
     }
 }
 
-/// The digits of a radix after a first one.
+/// Reads the digits of a radix after a first one.
 fn from_digit(radix: u8, first: u8, after: &[u8]) -> Option<(i32, usize)>
     requires { radix ≤ 36 }
     ensures value { result ≡ option_map in_bits (in_radix_from radix first after.now) }
@@ -118,7 +119,7 @@ fn from_digit(radix: u8, first: u8, after: &[u8]) -> Option<(i32, usize)>
     Some((go_on(i32::from(value), radix, run)?, run.len()))
 }
 
-/// The digits of a radix after its mark, which is one byte besides the first.
+/// Reads the digits of a radix after its mark, which is one byte after the first.
 fn marked(radix: u8, after: &[u8]) -> Option<(i32, usize)>
     requires { radix ≤ 36 }
     ensures value { result ≡ option_map in_bits (in_marked_radix radix after.now) }
@@ -128,7 +129,7 @@ fn marked(radix: u8, after: &[u8]) -> Option<(i32, usize)>
     Some((whole(radix, run)?, run.len() + 1))
 }
 
-/// A radix, `:` and its digits.
+/// Reads a radix, `:` and its digits.
 fn stated(after: &[u8]) -> Option<(i32, usize)>
     ensures value { result ≡ option_map in_bits (in_stated_radix after.now) }
     ensures within { IfSome result (λ n. n.1 ≤ length after.now + 1) }
@@ -142,7 +143,7 @@ fn stated(after: &[u8]) -> Option<(i32, usize)>
     Some((whole(radix, run)?, said.len() + run.len() + 2))
 }
 
-/// The radix that digits say, where it is one.
+/// Returns the radix that decimal digits spell, if they spell one.
 fn radix_of(said: &[u8]) -> Option<u8>
     ensures value { result ≡ radix_said said.now }
     ensures most { IfSome result (λ radix. radix ≤ 36) }
@@ -164,7 +165,7 @@ fn radix_of(said: &[u8]) -> Option<u8>
     Some(radix)
 }
 
-/// The number of digits, at least one. It wraps.
+/// Returns the number of digits, if there is one at least. It wraps.
 fn whole(radix: u8, digits: &[u8]) -> Option<i32>
     ensures { result ≡ option_map bits_of (number_of radix digits.now) }
 {
@@ -174,7 +175,7 @@ fn whole(radix: u8, digits: &[u8]) -> Option<i32>
     go_on(0, radix, digits)
 }
 
-/// The number whose digits go on, after those that stand for a value. It wraps.
+/// Returns the number of more digits, after those of a value. It wraps.
 fn go_on(value: i32, radix: u8, digits: &[u8]) -> Option<i32>
     ensures { result ≡ bits_after radix value digits.now }
 {
@@ -189,7 +190,7 @@ fn go_on(value: i32, radix: u8, digits: &[u8]) -> Option<i32>
     Some(number)
 }
 
-/// A number with one more digit.
+/// Returns a number with one more digit. It wraps.
 fn add_digit(number: i32, radix: u8, digit: u8) -> i32
     ensures { result ≡ next_bits radix number digit }
 {
@@ -198,7 +199,7 @@ fn add_digit(number: i32, radix: u8, digit: u8) -> i32
         .wrapping_add(i32::from(digit))
 }
 
-/// The value of a digit or a letter, or 36 where a byte is neither.
+/// Returns the value of a digit or a letter, or 36 if a byte is neither.
 fn digit_of(byte: u8) -> u8
     ensures { result ≡ digit_value byte }
 {

@@ -1,15 +1,15 @@
 //! Integer expressions: their values, and numbers written in a radix.
 //!
 //! [`evaluate::evaluate`] reads a text and returns its value; [`digits::in_radix`] writes one.
-//! `specs/SpellsExpression.antt` says which texts are expressions, `specs/Value.antt` what they are
-//! worth, and `specs/InRadix.antt` how a value is written.
+//! `specs/SpellsExpression.antt` says which texts are expressions, `specs/Value.antt` defines their
+//! values, and `specs/InRadix.antt` says how a value is written.
 //! Manual: "Evaluating integer expressions".
 #![tactic(auto)]
 
 pub mod blank;
 pub mod digits;
 pub mod evaluate;
-// What waits for an operand: the specs share it with the code.
+// The auxiliary definitions share it with the code.
 #[doc(hidden)]
 pub mod frame;
 mod grammar;

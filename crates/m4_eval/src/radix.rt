@@ -24,7 +24,8 @@ impl Model for Radix {
 impl Radix {
     /// Returns the radix with this number, or `None` if the number is below 2 or above 36.
     pub fn new(number: i32) -> Option<Self>
-        ensures { result ≡ spec.radix_at number }
+        // exact expressions: 2 to 36
+        ensures radix { result ≡ spec.radix_at number }
     {
         match number {
             2..=36 => Some(Radix {

@@ -1,6 +1,7 @@
--- What holds of the definitions alone: the grammar decides each text, and the reading of its bytes is
--- that of the grammar.
--- Believed as statements. Words: OneExpression, ReadsExpressions, RefusesOthers, ValuesAreRead.
+-- Laws: the grammar decides each text, its reading by bytes follows it, and what is written is read back.
+-- Believed as statements, computed by `ReadExpression` and `EvaluateSteps`: the law `ReadsExpressions` and
+-- the law `ValuesAreRead` are about these two. Words: OneExpression, ReadsExpressions, RefusesOthers,
+-- ValuesAreRead, DigitsAreRead.
 use Rattle.std.specs.Prelude.{◌≡◌, ◌↔◌, ◌≤◌, ◌<◌, ◌^◌, ℕ, ℤ, List, Some, None, option_map, unsigned_abs, false}
 use Rattle.std.specs.Fmt.{digits}
 use Rattle.m4_eval.specs.Expression.{Expression}
@@ -11,7 +12,7 @@ use Rattle.m4_eval.specs.Value.{value}
 use Rattle.m4_eval.specs.Literal.{AreDigits}
 use Rattle.m4_eval.specs.InRadix.{padded}
 
--- a text spells one expression
+-- a text spells one expression at most
 abbrev pub OneExpression : Type 0
 OneExpression =
     (text : List ℕ) (d e : Expression) → SpellsExpression d text → SpellsExpression e text → d ≡ e
@@ -21,17 +22,17 @@ abbrev pub ReadsExpressions : Type 0
 ReadsExpressions =
     (text : List ℕ) (e : Expression) → (expression_at text ≡ Some e) ↔ SpellsExpression e text
 
--- a text is refused exactly where nothing spells it
+-- a text is refused exactly if no expression is spelled so
 abbrev pub RefusesOthers : Type 0
 RefusesOthers =
     (text : List ℕ)
     → (expression_at text ≡ None) ↔ ((e : Expression) → SpellsExpression e text → ⊥)
 
--- the value of a text is that of the expression which is read
+-- the value that is computed while a text is read is that of its expression
 abbrev pub ValuesAreRead : Type 0
 ValuesAreRead = (text : List ℕ) → value_at text ≡ option_map value (expression_at text)
 
--- the digits that are written spell the absolute value, with any zeros in front
+-- the digits that are written spell the absolute value, also after zeros
 abbrev pub DigitsAreRead : Type 0
 DigitsAreRead =
     (radix width : ℕ) (z : ℤ) → 2 ≤ radix → radix ≤ 36 → unsigned_abs z < 2 ^ 32
