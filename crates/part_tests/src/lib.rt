@@ -1,5 +1,5 @@
 //! Rows by hand on the parts below a run: the state of a macro processor and the devices, frozen
-//! files, the input with its tokens, and what a call does.
+//! files, the input with its tokens, expressions, and what a call does.
 //!
 //! Each row has a name, what is done, and what is then to be seen. The expected values were worked
 //! out by hand from the manual of GNU M4 and from the frozen file format.
@@ -9,6 +9,8 @@
 mod builtins;
 #[cfg(test)]
 mod devices;
+#[cfg(test)]
+mod eval;
 #[cfg(test)]
 mod frozen;
 #[cfg(test)]

@@ -1,0 +1,11 @@
+pub mod Expression
+pub mod Literal
+pub mod SpellsExpression
+pub mod Value
+pub mod Evaluated
+pub mod InRadix
+pub mod ReadExpression
+pub mod EvaluateSteps
+pub mod Laws
+pub mod GrammarView
+pub mod LexerView

@@ -1,0 +1,184 @@
+//! The value of an expression's text. It is read byte by byte, and its open parts are on a stack of
+//! their own: nothing recurses with the nesting of the text.
+//!
+//! An operand is an `Option<i32>`: it has no value if a zero divides in it. A step at a byte returns
+//! the operand that it completes, if any, and how many more bytes it reads.
+//! Manual: "Evaluating integer expressions".
+
+ghost use Rattle.std.specs.Prelude.{◌≡◌, ◌∷◌, ◌≤◌, ◌<◌, ◌≢◌, reverse, IfSome, IfNone, OnOk, IfOk, Some, None, length};
+ghost use Rattle.std.specs.Prelude.{true, false, ◌++◌, MatchBool};
+ghost use Rattle.m4_eval.specs.EvaluateSteps.{with_signs, joined_while, value_at, before_step, after_step, step_from};
+ghost use Rattle.m4_eval.specs.declared.frame.Frame.TheVariants.{Opened, Prefixed, Left};
+ghost use Rattle.m4_eval.specs.Expression.{level_of};
+ghost use Rattle.m4_eval.specs.GrammarView.{place, NoSign, NoneJoined, NotOpened, placed};
+
+use crate::blank::is_space;
+use crate::frame::Frame;
+use crate::lexer::{literal, operator, sign};
+use crate::operator::{Operator, Sign};
+use crate::value::{apply_sign, join, level};
+use std::alloc::{AllocError, Global};
+
+/// Removes the innermost frame if it is a sign.
+fn pop_sign(waiting: &mut Vec<Frame>) -> Option<Sign>
+    ensures some { IfSome result (λ s. reverse waiting.old.items ≡ Prefixed s ∷ reverse waiting.new.items) }
+    ensures none { IfNone result (waiting.new.items ≡ waiting.old.items) }
+    ensures no_sign { IfNone result (NoSign (reverse waiting.old.items)) }
+    ensures fewer { IfSome result (λ s. length waiting.new.items < length waiting.old.items) }
+{
+    let Some(Frame::Prefixed(sign)) = waiting.last().copied() else {
+        return None;
+    };
+    waiting.pop();
+    Some(sign)
+}
+
+/// Removes the innermost frame if it is a left operand whose operator is not looser than a level.
+fn pop_left(waiting: &mut Vec<Frame>, least: u8) -> Option<(Option<i32>, Operator)>
+    ensures some { IfSome result (λ p. reverse waiting.old.items ≡ Left p.0 p.1 ∷ reverse waiting.new.items) }
+    ensures tight { IfSome result (λ p. least ≤ level_of p.1) }
+    ensures none { IfNone result (waiting.new.items ≡ waiting.old.items) }
+    ensures looser { IfNone result (NoneJoined least (reverse waiting.old.items)) }
+    ensures fewer { IfSome result (λ s. length waiting.new.items < length waiting.old.items) }
+{
+    let Some(Frame::Left(value, operator)) = waiting.last().copied() else {
+        return None;
+    };
+    if level(operator) < least {
+        return None;
+    }
+    waiting.pop();
+    Some((value, operator))
+}
+
+/// Applies the open signs to an operand, and removes them.
+fn complete(waiting: &mut Vec<Frame>, operand: Option<i32>) -> Option<i32>
+    ensures { place (reverse waiting.new.items) (Some result) ≡ with_signs (reverse waiting.old.items) operand }
+{
+    let mut value = operand;
+    while let Some(sign) = pop_sign(waiting) {
+        value = match value {
+            Some(v) => Some(apply_sign(sign, v)),
+            None => None,
+        };
+    }
+    value
+}
+
+/// Joins an operand with the open left operands, while their operators are not looser than a level.
+fn join_while(waiting: &mut Vec<Frame>, least: u8, operand: Option<i32>) -> Option<i32>
+    ensures { (reverse waiting.new.items, result) ≡ joined_while least (reverse waiting.old.items) operand }
+{
+    let mut value = operand;
+    while let Some((left, operator)) = pop_left(waiting, least) {
+        value = join(operator, left, value);
+    }
+    value
+}
+
+/// Removes the innermost frame if it is a parenthesis.
+fn pop_opened(waiting: &mut Vec<Frame>) -> bool
+    ensures { MatchBool result (reverse waiting.old.items ≡ Opened ∷ reverse waiting.new.items) (NotOpened (reverse waiting.old.items)) }
+{
+    let Some(Frame::Opened) = waiting.last().copied() else {
+        return false;
+    };
+    waiting.pop();
+    true
+}
+
+/// Reads a byte before an operand. Returns nothing if no operand begins with it.
+fn read_operand(
+    waiting: &mut Vec<Frame>,
+    byte: u8,
+    after: &[u8],
+) -> Result<Option<(Option<Option<i32>>, usize)>, AllocError>
+    ensures step { IfOk result (λ r. placed (reverse waiting.new.items) r ≡ before_step (reverse waiting.old.items) byte after.now) }
+    ensures within { IfOk result (λ r. IfSome r (λ q. q.1 ≤ length after.now)) }
+{
+    if byte == b'(' {
+        waiting.push(Frame::Opened)?;
+        return Ok(Some((None, 0)));
+    }
+    if let Some(sign) = sign(byte) {
+        waiting.push(Frame::Prefixed(sign))?;
+        return Ok(Some((None, 0)));
+    }
+    match literal(byte, after) {
+        Some((value, more)) => Ok(Some((Some(complete(waiting, Some(value))), more))),
+        None => Ok(None),
+    }
+}
+
+/// Reads a byte after an operand. Returns nothing if it is neither an operator nor a `)` that closes.
+fn read_operator(
+    waiting: &mut Vec<Frame>,
+    value: Option<i32>,
+    byte: u8,
+    after: &[u8],
+) -> Result<Option<(Option<Option<i32>>, usize)>, AllocError>
+    ensures step { IfOk result (λ r. placed (reverse waiting.new.items) r ≡ after_step (reverse waiting.old.items) value byte after.now) }
+    ensures within { IfOk result (λ r. IfSome r (λ q. q.1 ≤ length after.now)) }
+{
+    if byte == b')' {
+        let inner = join_while(waiting, 1, value);
+        if !pop_opened(waiting) {
+            return Ok(None);
+        }
+        return Ok(Some((Some(complete(waiting, inner)), 0)));
+    }
+    match operator(byte, after) {
+        Some((operator, more)) => {
+            let left = join_while(waiting, level(operator), value);
+            waiting.push(Frame::Left(left, operator))?;
+            Ok(Some((None, more)))
+        }
+        None => Ok(None),
+    }
+}
+
+/// Reads a byte that is not white space, before or after an operand.
+fn read_token(
+    waiting: &mut Vec<Frame>,
+    current: Option<Option<i32>>,
+    byte: u8,
+    after: &[u8],
+) -> Result<Option<(Option<Option<i32>>, usize)>, AllocError>
+    ensures step { IfOk result (λ r. placed (reverse waiting.new.items) r ≡ step_from current (reverse waiting.old.items) byte after.now) }
+    ensures within { IfOk result (λ r. IfSome r (λ q. q.1 ≤ length after.now)) }
+{
+    match current {
+        None => read_operand(waiting, byte, after),
+        Some(value) => read_operator(waiting, value, byte, after),
+    }
+}
+
+/// Returns the value of a text: nothing if it is no expression, and no value if a zero divides.
+///
+/// Fails only if an allocation fails. Takes time in proportion to the text.
+pub(crate) fn value_of(alloc: Global, text: &[u8]) -> Result<Option<Option<i32>>, AllocError>
+    ensures value { IfOk result (λ v. v ≡ value_at text.now) }
+{
+    let mut waiting = Vec::new(alloc);
+    let mut current = None;
+    let mut rest = text;
+    while let Some((byte, after)) = rest.split_first() {
+        if is_space(*byte) {
+            rest = after;
+            continue;
+        }
+        let Some((next, more)) = read_token(&mut waiting, current, *byte, after)? else {
+            return Ok(None);
+        };
+        current = next;
+        rest = after.split_at(more).1;
+    }
+    let Some(last) = current else {
+        return Ok(None);
+    };
+    let value = join_while(&mut waiting, 1, last);
+    if !waiting.is_empty() {
+        return Ok(None);
+    }
+    Ok(Some(value))
+}

@@ -1,0 +1,162 @@
+//! Expressions: their values, also of texts that are deeply nested, numbers in a radix, and white space.
+//! Manual: "Evaluating integer expressions".
+
+use crate::report::{Report, joined};
+use crate::shows::shows;
+use m4_eval::blank::{is_blank, is_space, spaces_len};
+use m4_eval::digits::in_radix;
+use m4_eval::evaluate::{Evaluated, evaluate};
+use m4_eval::radix::Radix;
+use std::alloc::{AllocError, Global};
+
+// How deeply the texts are nested.
+const DEPTH: usize = 1_000_000;
+
+// A row's name, an expression, and its value.
+type Row = (&'static str, &'static [u8], &'static [u8]);
+
+static VALUES: [Row; 8] = [
+    ("a product before a sum", b"2+3*4", b"14"),
+    ("to the left", b" ( 10 - 3 ) - 2 - 1 ", b"4"),
+    ("decided by the left", b"1||1/0", b"1"),
+    ("a quotient that wraps", b"-2147483648/-1", b"-2147483648"),
+    ("a radix that is stated", b"0r36:z", b"35"),
+    ("a zero divisor", b"1/0", b"divide by zero"),
+    ("no operator of the language", b"2**3", b"bad expression"),
+    ("white space alone", b" ", b"bad expression"),
+];
+
+// A row's name, a byte that comes first and a text after it, a byte that comes last, and the value.
+type Nested = (
+    &'static str,
+    (u8, usize),
+    &'static [u8],
+    (u8, usize),
+    &'static [u8],
+);
+
+static NESTED: [Nested; 3] = [
+    (
+        "parentheses that never close",
+        (b'(', DEPTH),
+        b"1",
+        (b')', 0),
+        b"bad expression",
+    ),
+    (
+        "parentheses that close",
+        (b'(', DEPTH),
+        b"7",
+        (b')', DEPTH),
+        b"7",
+    ),
+    ("signs", (b'-', DEPTH), b"7", (b' ', 0), b"7"),
+];
+
+// A row's name, a value, a radix, a width, and the radix with the digits.
+type Written = (&'static str, i32, i32, usize, &'static [u8]);
+
+static WRITTEN: [Written; 7] = [
+    ("zero", 0, 10, 0, b"10: 0"),
+    ("a sign is not counted", -666, 6, 10, b"6: -0000003030"),
+    (
+        "the least in radix 2",
+        -2147483648,
+        2,
+        1,
+        b"2: -10000000000000000000000000000000",
+    ),
+    ("letters", 1295, 36, 0, b"36: zz"),
+    ("radix 1", 5, 1, 0, b"no radix"),
+    ("radix 37", 5, 37, 0, b"no radix"),
+    ("a negative radix", 5, -2, 0, b"no radix"),
+];
+
+static SPACES: [Row; 3] = [
+    ("nothing", b"", b"0, blank"),
+    ("each kind", b" \t\n\x0b\x0c\r", b"6, blank"),
+    ("a letter", b"\t x ", b"2, not blank"),
+];
+
+// The value of a text, or why it has none.
+fn value_seen(alloc: Global, text: &[u8]) -> Result<Vec<u8>, AllocError> {
+    let mut report = Report::new(alloc);
+    match evaluate(alloc, text)? {
+        Evaluated::Value(value) => report.number(value as i128),
+        Evaluated::DivideByZero => report.add(b"divide by zero"),
+        Evaluated::BadExpression => report.add(b"bad expression"),
+    }
+    report.text()
+}
+
+// A byte many times.
+fn repeated(alloc: Global, byte: (u8, usize)) -> Result<Vec<u8>, AllocError> {
+    let mut bytes = Vec::new(alloc);
+    bytes.resize(byte.1, byte.0)?;
+    Ok(bytes)
+}
+
+// The value of a text between many bytes.
+fn nested_seen(alloc: Global, row: &Nested) -> Result<Vec<u8>, AllocError> {
+    let first = repeated(alloc, row.1)?;
+    let last = repeated(alloc, row.3)?;
+    let text = joined(alloc, &[first.as_slice(), row.2, last.as_slice()])?;
+    value_seen(alloc, text.as_slice())
+}
+
+// A radix, if it is one, and a value written in it.
+fn written_seen(alloc: Global, row: &Written) -> Result<Vec<u8>, AllocError> {
+    let mut report = Report::new(alloc);
+    match Radix::new(row.2) {
+        Some(radix) => {
+            report.number(radix.value() as i128);
+            report.add(b": ");
+            report.add(in_radix(alloc, row.1, radix, row.3)?.as_slice());
+        }
+        None => report.add(b"no radix"),
+    }
+    report.text()
+}
+
+// The count of the spaces at the start of a text, and whether it is blank.
+fn spaces_seen(alloc: Global, text: &[u8]) -> Result<Vec<u8>, AllocError> {
+    let mut report = Report::new(alloc);
+    report.number(spaces_len(text) as i128);
+    report.add(if is_blank(text) {
+        b", blank"
+    } else {
+        b", not blank"
+    });
+    report.text()
+}
+
+#[test]
+fn texts_and_their_values(rt: HostRuntime) {
+    for row in &VALUES {
+        shows(&rt, row.0, row.2, value_seen(rt.alloc(), row.1));
+    }
+}
+
+#[test]
+fn texts_that_are_deeply_nested(rt: HostRuntime) {
+    for row in &NESTED {
+        shows(&rt, row.0, row.4, nested_seen(rt.alloc(), row));
+    }
+}
+
+#[test]
+fn values_in_a_radix(rt: HostRuntime) {
+    for row in &WRITTEN {
+        shows(&rt, row.0, row.4, written_seen(rt.alloc(), row));
+    }
+}
+
+#[test]
+fn white_space(rt: HostRuntime) {
+    for row in &SPACES {
+        shows(&rt, row.0, row.2, spaces_seen(rt.alloc(), row.1));
+    }
+    assert!(rt; is_space(b'\r'));
+    assert!(rt; !is_space(b'x'));
+    assert!(rt; Radix::decimal().value() == 10);
+}
