@@ -5,7 +5,7 @@ DESTDIR =
 
 SOURCES := crates.txt $(shell find crates -name out -prune -o -type f -print)
 
-.PHONY: check demo program cases programs differences install uninstall bench real-files mutants refused-memory wrong-bodies
+.PHONY: check demo program cases programs differences expressions install uninstall bench real-files mutants refused-memory wrong-bodies
 
 # The program: proved, then built. A crate that is not proved is not built.
 m4r: $(SOURCES)
@@ -36,6 +36,10 @@ programs: m4r
 # The cases of docs/DIFFERENCES.md, on m4r, and on GNU m4 where it is installed.
 differences: m4r
 	tests/differences
+
+# Expressions made by chance, on m4r and GNU m4; skipped where GNU m4 is not installed.
+expressions: m4r
+	tests/expressions
 
 # m4r and GNU m4 side by side, in time and memory. Give BENCH=--save to keep the numbers.
 bench: m4r

@@ -15,14 +15,14 @@ use Rattle.m4_input.specs.Ascii.{is_space}
 use Rattle.m4_eval.specs.declared.evaluate.Evaluated.{Evaluated}
 use Rattle.m4_eval.specs.declared.evaluate.Evaluated.TheVariants.{Value, DivideByZero, BadExpression}
 use Rattle.m4_eval.specs.Evaluated.{evaluated}
-use Rattle.m4_eval.specs.InRadix.{radix_at}
+use Rattle.m4_eval.specs.InRadix.{radix_at, in_radix}
 use Rattle.m4_builtins.specs.declared.args.Arg.{Arg}
 use Rattle.m4_builtins.specs.declared.args.Arg.TheVariants as args
 use Rattle.m4_builtins.specs.declared.number.Reading.{Reading}
 use Rattle.m4_builtins.specs.declared.number.Reading.TheVariants.{Number, Empty, NotNumeric}
 use Rattle.m4_builtins.specs.declared.place.Place.{Place}
 use Rattle.m4_builtins.specs.Args.{IsArg, text_of_arg, texts_of, definition_of_arg, text_at}
-use Rattle.m4_builtins.specs.Acted.{Acted, IsPushed, tells, telling_first}
+use Rattle.m4_builtins.specs.Acted.{Acted, IsPushed, tells, expands, telling_first}
 use Rattle.m4_builtins.specs.Numeric.{reading_of, number_of_reading, with_number}
 use Rattle.m4_builtins.specs.Naming.{define, pushdef, for_each, definition_in, definition_given, defn}
 use Rattle.m4_builtins.specs.Branching.{ifelse}
@@ -32,7 +32,7 @@ use Rattle.m4_builtins.specs.Arithmetic.{incr, decr}
 use Rattle.m4_builtins.specs.Texts.{substr}
 use Rattle.m4_builtins.specs.Messages.{bad_status, empty_number, out_of_range}
 use Rattle.m4_builtins.specs.Ending.{exits, exits_by, exits_reading, m4exit}
-use Rattle.m4_builtins.specs.Eval.{if_radix, with_radix, if_width, with_width, if_value, with_value, eval}
+use Rattle.m4_builtins.specs.Eval.{if_radix, with_radix, if_width, with_width, if_value, with_value, with_digits, eval}
 use Rattle.m4_builtins.specs.Indirect.{Inner, called_by_name, indir, done_by_name, builtin}
 use Rattle.m4_builtins.specs.Act.{row, taken, given_though_few, act_unless, act_with, goes_on, act}
 use Rattle.m4_builtins.proofs.NumbersFit.{IsReading, reading_fits}
@@ -151,9 +151,17 @@ module _ (p : Place) where
       by true = record { state = (each (pos 0)).state; push = (each (pos 0)).push }
       by false = value_is does s (evaluated x) h each
 
+  digits_are : (list : List Arg) (s : State) (does : List ℕ → Acted) → IsState s → ((x : List ℕ) → IsActed (does x)) → IsActed (with_digits list p s does)
+  digits_are list s does h each =
+      let written : ℕ → ℕ → ℤ → Acted = λ radix width n. does (in_radix radix width n) in
+      let after_width : ℕ → ℕ → Acted = λ radix width. with_value p s (text_at list 0) (written radix width) in
+      let after_radix : ℕ → Acted = λ radix. with_width p s (slice_get (texts_of list) 2) (after_width radix) in
+      with_radix_is (text_at list 1) after_radix s h
+      (λ radix. with_width_is (slice_get (texts_of list) 2) (after_width radix) s h
+      (λ width. with_value_is (text_at list 0) (written radix width) s h (λ n. each (in_radix radix width n))))
+
   eval_is : (list : List Arg) (s : State) → IsState s → IsActed (eval list p s)
-  eval_is list s h =
-      with_radix_is (text_at list 1) _ s h (λ radix. with_width_is (slice_get (texts_of list) 2) _ s h (λ width. with_value_is (text_at list 0) _ s h (λ n. record { state = h; push = tt })))
+  eval_is list s h = digits_are list s (expands s) h (λ x. record { state = h; push = tt })
 
   exits_by_is : (n : ℤ) (s : State) → IsState s → IsActed (exits_by n p s)
   exits_by_is (pos n) s h = by (nat_le n 255)

@@ -5,10 +5,11 @@ use Rattle.std.specs.Prelude.{slice_get, nat_lt, flat_map, filter_map, pos}
 use Rattle.std.specs.Fmt.{decimal, signed_decimal}
 use Rattle.std.specs.Int.{w32, int_wrapping_add, int_wrapping_sub}
 use Rattle.m4_state.specs.declared.builtin.Builtin.{Builtin}
-use Rattle.m4_state.specs.declared.builtin.Builtin.TheVariants.{Define, Undefine, Pushdef, Popdef, Defn, Indir, IndirBuiltin, Ifdef, Ifelse, Shift, Dumpdef, Dnl, Changequote, Changecom, Divert, Undivert, Divnum, Len, Index, Substr, Translit, Incr, Decr, Errprint, M4wrap, M4exit, File, Line}
+use Rattle.m4_state.specs.declared.builtin.Builtin.TheVariants.{Define, Undefine, Pushdef, Popdef, Defn, Indir, IndirBuiltin, Ifdef, Ifelse, Shift, Dumpdef, Dnl, Changequote, Changecom, Divert, Undivert, Divnum, Len, Index, Substr, Translit, Incr, Decr, Eval, Errprint, M4wrap, M4exit, File, Line}
 use Rattle.m4_state.specs.declared.definition.Def.{Def}
 use Rattle.m4_state.specs.Builtin.{takes_tokens, least_of, most_of}
 use Rattle.m4_state.specs.State.{State, popped, undefined, with_quotes, with_comments, top_of}
+use Rattle.m4_eval.specs.InRadix.{in_radix}
 use Rattle.m4_builtins.specs.declared.args.Arg.{Arg}
 use Rattle.m4_builtins.specs.declared.effect.Effect.{Effect}
 use Rattle.m4_builtins.specs.declared.number.Reading.{Reading}
@@ -26,6 +27,7 @@ use Rattle.m4_builtins.specs.Printing.{dumpdef, dumped}
 use Rattle.m4_builtins.specs.Texts.{place_in, place_shown, substr}
 use Rattle.m4_builtins.specs.Translit.{ranges, translated}
 use Rattle.m4_builtins.specs.Ending.{m4exit}
+use Rattle.m4_builtins.specs.Eval.{with_radix, with_width, with_value, eval}
 use Rattle.m4_builtins.specs.Indirect.{Inner}
 use Rattle.m4_builtins.specs.Act.{row, taken, act_unless, is_above, excess_if}
 
@@ -103,6 +105,13 @@ substr_taken (a ∷ []) p s = refl
 substr_taken (a ∷ b ∷ []) p s = refl
 substr_taken (a ∷ b ∷ c ∷ rest) p s = refl
 
+eval_taken : (list : List Arg) (p : Place) (s : State) → eval (map only_text list) p s ≡ eval list p s
+eval_taken list p s = λ i.
+    with_radix p s (text_taken list 1 i)
+    (λ radix. with_width p s (slice_get (texts_taken list i) 2)
+    (λ width. with_value p s (text_taken list 0 i)
+    (λ n. expands s (in_radix radix width n))))
+
 m4exit_taken : (list : List Arg) (p : Place) (s : State) → m4exit (map only_text list) p s ≡ m4exit list p s
 m4exit_taken [] p s = refl
 m4exit_taken (a ∷ rest) p s = refl
@@ -131,6 +140,7 @@ row_taken inner Substr list p s = substr_taken list p s
 row_taken inner Translit list p s = λ i. expands s (translated (text_taken list 0 i) (ranges (text_taken list 1 i)) (ranges (text_taken list 2 i)))
 row_taken inner Incr list p s = ap (λ (x : List ℕ). with_number p Incr s (reading_of x) (λ n. expands s (signed_decimal (int_wrapping_add w32 n (pos 1))))) (text_taken list 0)
 row_taken inner Decr list p s = ap (λ (x : List ℕ). with_number p Decr s (reading_of x) (λ n. expands s (signed_decimal (int_wrapping_sub w32 n (pos 1))))) (text_taken list 0)
+row_taken inner Eval list p s = eval_taken list p s
 row_taken inner Errprint list p s = ap (λ (texts : List (List ℕ)). tells s (with_spaces texts)) (texts_taken list)
 row_taken inner M4wrap list p s = ap (λ (texts : List (List ℕ)). let r : Acted = record { state = s; effect = record nothing { wrap = Some (with_spaces texts) } } in r) (texts_taken list)
 row_taken inner M4exit list p s = m4exit_taken list p s
