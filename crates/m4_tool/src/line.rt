@@ -27,24 +27,25 @@ const USAGE: &str = "m4r [-F FILE] [-R FILE] [-L N] [--expansions=N] [-P] [FILE.
        m4r --inspect=FILE";
 
 const AFTER_HELP: &str =
-    "The files are read in their order; `-`, or no FILE, is standard input. A mode, --canon or
---inspect, stands alone. The FILE of an option is a frozen state file, as `m4r -F FILE` and
-`m4 -F FILE` write it, and `-` there names a file called `-`. The FILE of -F is made when there
-is something to write to it, so that -R and -F may name one file. Output goes to standard
-output, messages to standard error.
+    "The files are read in their order; `-`, or no FILE, is standard input. Output goes to standard
+output, messages to standard error. A mode, --canon or --inspect, is given without other options
+and files. The FILE of an option is a frozen state file, as `m4r -F FILE` and `m4 -F FILE` write
+it, and `-` there names a file called `-`. The FILE of -F is made when its first byte is written,
+so that -R and -F may name one file.
 
 Exit status:
    0  the files were expanded, the mode did its work, or this help was asked for
-   1  the line cannot be followed, a file cannot be opened, a limit was passed, or a file,
-      the input or the output is at fault; nothing is read or written behind a frozen file
-      at fault
+   1  the line is refused, a file cannot be opened, a limit was passed, or a file, the input
+      or the output is at fault; after a fault of the frozen file of -R nothing is read or
+      written
   63  the frozen file is of a newer format than 1
 
 Examples:
-  m4r macros.m4 page.m4 > page.html
-  m4r -F macros.m4f macros.m4
-  m4r -R macros.m4f page.m4 > page.html
-  m4r --canon=macros.m4f > canonical.m4f";
+  m4r macros.m4 page.m4 > page.html          expands a page with a library of macros
+  m4r -F macros.m4f macros.m4                freezes the library
+  m4r -R macros.m4f page.m4 > page.html      expands the page from the frozen library
+  m4r --inspect=macros.m4f                   lists what the frozen library holds
+  m4r --canon=macros.m4f > canonical.m4f     writes it in its one canonical spelling";
 
 // How many calls may be open where the line says nothing of it.
 const USUAL_NESTING: u32 = 1024;
