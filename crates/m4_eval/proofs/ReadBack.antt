@@ -26,7 +26,7 @@ some_are : (x : List ℕ) → 0 < length x → x ≢ []
 some_are x h e = let none = ap (λ (l : List ℕ). length l) e in omega (arith, h, none)
 
 module _ (base : ℕ) (low : 2 ≤ base) (high : base ≤ 36) where
-  -- digits that go on, and what is written with them
+  -- the digits that were written so far, and all of them
   abbrev Reads : ℕ → ℕ → List ℕ → List ℕ → Type 0
   Reads k n acc x = (number_after base 0 x ≡ number_after base n acc) × AreBelow base x × (0 < k + length acc → 0 < length x)
 
