@@ -1,4 +1,4 @@
--- Literals: a literal before what is no digit or letter is read whole, as the number that it stands for.
+-- Literals: a literal with no digit or letter after it is read to its end, as its number.
 use Rattle.std.proofs.Common.{◌≡◌, ℕ, suc, ◌≤◌, ◌+◌, Bool, true, false, cond, ◌&&◌, List, [], ◌∷◌, ◌++◌, length, drop, Some, None, option_and_then, refl, sym, ap, ◌∙◌, subst, arith, append_assoc, ◌⊎◌, inl, inr, true≢false, le-leb}
 use Rattle.std.specs.Prelude.{⊤, nat_le, codes}
 use Rattle.std.proofs.lemmas.Bool.{and_parts, ne_eqb, lt-ltb, ltb-true}
@@ -10,7 +10,7 @@ use Rattle.m4_eval.specs.Literal.{colon}
 use Rattle.m4_eval.specs.Literal.{number_in, AreDigits, BeginsWithZero, SaysRadix, IsRadixPrefix, decimal, octal, hexadecimal, binary, stated, IsLiteral}
 use Rattle.m4_eval.specs.ReadExpression.{is_alphanumeric, run_of, number_of, of_length, after_radix, in_stated_radix, in_marked_radix, in_radix_from, is_either, after_zero, literal_at}
 
--- no digit or letter stands first
+-- the first byte is no digit or letter
 abbrev pub EndsRun : List ℕ → Type 0
 EndsRun [] = ⊤
 EndsRun (b ∷ x) = is_alphanumeric b ≡ false

@@ -1,4 +1,4 @@
--- Numbers: what the code reads digit by digit is the number that the digits stand for.
+-- Numbers: the code reads digit by digit the number of the digits.
 use Rattle.std.proofs.Common.{◌≡◌, ℕ, suc, ◌+◌, ◌*◌, ◌<◌, ◌≤◌, min, ℤ, pos, Bool, true, false, cond, ◌&&◌, List, [], ◌∷◌, length, map, take, Option, Some, None, option_map, option_and_then, refl, sym, ap, ◌∙◌, subst, arith, w32, le-leb, ◌⊎◌, inl, inr, true≢false, drop, unwrap_or, to_z, of_z}
 use Rattle.std.proofs.Math.ListN.{drop_of_length-le}
 use Rattle.m4_eval.specs.ReadExpression.{in_radix_from, in_marked_radix, in_stated_radix, after_radix}
@@ -110,7 +110,7 @@ capped_is n (b ∷ x) =
     go again true = again
     go again false = refl
 
--- the radix that digits say, as the code reads it
+-- the radix that digits spell, as the code reads it
 pub radix_is : (x : List ℕ) → option_and_then radix_within (capped_after 0 x) ≡ radix_said x
 radix_is [] = refl
 radix_is (b ∷ x) = capped_is 0 (b ∷ x) ∙ ap (option_and_then radix_within) (sym (number_is 10 b x))
@@ -167,7 +167,7 @@ some_is_not_none : {G : Type 0} {n : ℕ} → Some n ≡ None → G
 unfolding IsNoNumber
 some_is_not_none e = absurd (subst IsNoNumber (sym e) tt)
 
--- after the digits of a radix, where that is none
+-- after digits that are no radix
 none_after : (r : ℕ) (said rest : List ℕ) → radix_within r ≡ None → after_radix r said rest ≡ None
 none_after r said [] h = refl
 none_after r said (c ∷ z) h = go (c == colon) (nat_le 2 r && nat_le r 36) h
@@ -178,7 +178,7 @@ none_after r said (c ∷ z) h = go (c == colon) (nat_le 2 r && nat_le r 36) h
     go true false h = refl
     go true true h = some_is_not_none h
 
--- and where it is one, after a colon
+-- after digits that are one, and a colon
 some_after : (r radix : ℕ) (said z : List ℕ) → radix_within r ≡ Some radix
     → after_radix r said (colon ∷ z) ≡ of_length (suc (suc (length said + length (run_of z)))) (number_of radix (run_of z))
 some_after r radix said z h = go (nat_le 2 r && nat_le r 36) h

@@ -1,4 +1,4 @@
--- Operands: a byte where an operand has to come, from what the code's literals answer.
+-- Operands: a step at a byte before an operand, from the code's literals.
 use Rattle.std.proofs.Common.{◌≡◌, ℕ, zero, suc, ℤ, pos, Bool, true, false, cond, List, [], ◌∷◌, Option, Some, None, option_map, option_and_then, drop, refl, sym, ap, ◌∙◌}
 use Rattle.std.specs.Prelude.{◌==◌}
 use Rattle.m4_input.specs.Ascii.{open_parenthesis, is_space}
@@ -13,7 +13,7 @@ use Rattle.m4_eval.specs.EvaluateSteps.{Place, with_signs, before_step, step_fro
 abbrev pub in_bits : ℕ × ℕ → ℤ × ℕ
 in_bits n = (wrapped (pos n.0), n.1)
 
--- what an operand is, by its value
+-- an operand by its value
 abbrev operand_of : List Frame → Option (ℤ × ℕ) → Option (Place × ℕ)
 operand_of w o = option_and_then (λ n. Some (with_signs w (Some n.0), n.1)) o
 

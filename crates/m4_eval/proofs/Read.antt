@@ -1,4 +1,4 @@
--- Read: what is read is spelled: what was consumed is spelled by what waits and by what stands.
+-- Read: what is read is spelled. The open parts and the operand spell the bytes that were read.
 use Rattle.std.proofs.Common.{◌≡◌, ℕ, zero, suc, ◌≤◌, ◌+◌, Bool, true, false, cond, ◌&&◌, List, [], ◌∷◌, ◌++◌, length, take, drop, Option, Some, None, unwrap_or, option_and_then, refl, sym, ap, ◌∙◌, subst, arith, append_assoc, append-nil, ◌⊎◌, inl, inr, le_refl, take-append-drop}
 use Rattle.std.specs.Prelude.{◌==◌, ⊤, nat_le, codes}
 use Rattle.std.proofs.lemmas.Bool.{and_parts, and_from, or_cases, eqb-true, eqb-false, leb-true, leb-false}
@@ -15,13 +15,13 @@ use Rattle.m4_eval.specs.SpellsExpression.{AreSpaces, SpellsAt, SpellsExpression
 use Rattle.m4_eval.specs.ReadExpression.{Frame, Opened, Prefixed, Left, Reading, Before, After, is_alphanumeric, run_of, number_of, of_length, after_radix, in_stated_radix, in_marked_radix, in_radix_from, is_either, after_zero, literal_at, sign_at, or_two, or_either, operator_at, operated, closed, whole, finished, step, step_before, step_after, read_from, completed, joined_above, expression_at}
 use Rattle.m4_eval.proofs.Steps.{level_most, level_least, floor, HasNoSign, no_sign, looser}
 
--- By cases on what was answered.
+-- By cases on a result.
 
 IsSome : {A : Type 0} → Option A → Type 0
 IsSome None = ⊥
 IsSome (Some x) = ⊤
 
--- nothing was answered
+-- there was no result
 never : {A G : Type 0} {x : A} → None ≡ Some x → G
 unfolding IsSome
 never e = absurd (subst IsSome (sym e) tt)
@@ -47,7 +47,7 @@ step_case : {A B G : Type 0} (o : Option A) (f : A → Option B) {u : B} → opt
 step_case None f e g = never e
 step_case (Some x) f e g = g x refl e
 
--- what an answer held
+-- the value of a result
 same : {A : Type 0} {x y : A} → Some x ≡ Some y → x ≡ y
 same {x = x} e = ap (λ o. unwrap_or o x) e
 
@@ -114,7 +114,7 @@ operator_is b x q e =
 abbrev run_case : ℕ → List ℕ → Bool → List ℕ
 run_case b x t = cond t (b ∷ run_of x) []
 
--- the run stands at the front
+-- the run is at the start
 pub run_front : (x : List ℕ) → take (length (run_of x)) x ≡ run_of x
 run_front [] = refl
 run_front (b ∷ x) = go (run_front x) (is_alphanumeric b)
@@ -238,9 +238,9 @@ literal_is b x p e =
     byte_case b digit_zero e (λ f e. subst (λ c. IsLiteralAt c x p) (sym f) (zero_is x p e)) (λ f e.
     test_case (is_digit b 10) e (λ _ e. digit_is 10 b x p e (λ digits. decimal refl refl f)) (λ _ e. never e))
 
--- What was consumed.
+-- The bytes that were read.
 
--- what waits spells this
+-- the open parts spell this
 abbrev pub Waits : List Frame → List ℕ → Type 0
 Waits [] c = c ≡ []
 Waits (Opened ∷ w) c =
@@ -253,7 +253,7 @@ Waits (Left d o ∷ w) c =
     (before : List ℕ) × (left : List ℕ) × (gap : List ℕ) × Waits w before × (floor w ≤ level_of o)
     × SpellsAt (level_of o) d left × AreSpaces gap × (c ≡ before ++ left ++ gap ++ symbol_of o)
 
--- what waits and the operand that stands spell this
+-- the open parts and the operand spell this
 abbrev pub Holds : Reading → List ℕ → Type 0
 Holds (Before w) c = Waits w c
 Holds (After w e) c =
@@ -328,7 +328,7 @@ joined_holds n (Left d o ∷ w) e m before front l h g f k s =
       split = refl;
     }
 
--- the operand that stands, joined
+-- the operand, joined
 joined_after : (n : ℕ) (w : List Frame) (e : Expression) (c : List ℕ) → 1 ≤ n → n ≤ operand_level → Holds (After w e) c
     → JoinedHolds n (joined_above n w e) c
 joined_after n w e c l k h =
@@ -350,7 +350,7 @@ before_case w b x s =
       | None ↦ option_and_then (λ n. Some (completed w (Number n.0), n.1)) (literal_at b x)
     ]
 
--- what a step answers holds of the bytes with those that it takes
+-- the result of a step spells the bytes with those that it reads
 abbrev Took : List ℕ → ℕ → List ℕ → Reading × ℕ → Type 0
 Took c b x q = Holds q.0 (c ++ b ∷ take q.1 x)
 

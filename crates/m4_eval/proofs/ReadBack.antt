@@ -1,12 +1,12 @@
 -- ReadBack: the digits that are written spell the number, with any zeros in front.
-use Rattle.std.proofs.Common.{◌≡◌, ◌≢◌, ◌≤◌, ◌<◌, ◌+◌, ◌-◌, ◌*◌, ◌/◌, ◌%◌, ◌^◌, ℕ, ℤ, zero, suc, List, [], ◌∷◌, ◌++◌, map, refl, sym, ap, subst, ◌∙◌, Bool, true, false, cond, arith, ◌==◌, eqb-true, lt-ltb, IsTrue, replicate, length, unsigned_abs, mod-lt, mul-le-mul, pow-suc, div-lt_iff_lt-mul, div-add-mod'}
+use Rattle.std.proofs.Common.{◌≡◌, ◌≢◌, ◌≤◌, ◌<◌, ◌+◌, ◌-◌, ◌*◌, ◌/◌, ◌%◌, ◌^◌, ℕ, zero, suc, List, [], ◌∷◌, ◌++◌, map, refl, sym, ap, subst, ◌∙◌, Bool, true, false, cond, arith, ◌==◌, eqb-true, lt-ltb, IsTrue, replicate, length, unsigned_abs, mod-lt, mul-le-mul, pow-suc, div-lt_iff_lt-mul, div-add-mod'}
 use Rattle.std.proofs.Math.Nat.{pow-zero}
 use Rattle.std.proofs.lemmas.Str.{digit_value-digit_char}
 use Rattle.std.specs.List.{list_all}
 use Rattle.std.specs.Char.{digit_value, is_digit}
 use Rattle.std.specs.Int.Digits.{number_from_digits_after}
 use Rattle.std.specs.Fmt.{digits_onto, digits, digit_glyph}
-use Rattle.m4_eval.specs.Literal.{AreDigits, number_in}
+use Rattle.m4_eval.specs.Literal.{AreDigits}
 use Rattle.m4_eval.specs.InRadix.{padded}
 use Rattle.m4_eval.specs.Laws.{DigitsAreRead}
 use Rattle.m4_eval.proofs.WrittenDigits.{digits_onto-nil}
@@ -26,7 +26,7 @@ some_are : (x : List ℕ) → 0 < length x → x ≢ []
 some_are x h e = let none = ap (λ (l : List ℕ). length l) e in omega (arith, h, none)
 
 module _ (base : ℕ) (low : 2 ≤ base) (high : base ≤ 36) where
-  -- digits that go on, and what is written with them
+  -- the digits that were written so far, and all of them
   abbrev Reads : ℕ → ℕ → List ℕ → List ℕ → Type 0
   Reads k n acc x = (number_after base 0 x ≡ number_after base n acc) × AreBelow base x × (0 < k + length acc → 0 < length x)
 

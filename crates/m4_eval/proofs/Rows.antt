@@ -2,7 +2,7 @@
 -- The values come from outside the definitions: from the manual, from the language's description, and
 -- from an implementation that shares nothing with them.
 use Rattle.std.proofs.Common.{◌≡◌, [], ◌∷◌, refl, true, pos, negsuc}
-use Rattle.std.specs.Prelude.{codes, Some, None}
+use Rattle.std.specs.Prelude.{codes, None}
 use Rattle.std.specs.List.{list_all}
 use Rattle.std.specs.Int.{int_wrap}
 use Rattle.std.specs.Fmt.{digits}

@@ -21,7 +21,7 @@ abbrev pub IsAtMost : ℕ → Option (Operator × ℕ) → Type 0
 IsAtMost level None = ⊤
 IsAtMost level (Some p) = level_of p.0 ≤ level
 
--- after white space no operator stands that is tighter than a level
+-- after white space there is no operator that is tighter than a level
 abbrev pub NextAtMost : ℕ → List ℕ → Type 0
 NextAtMost level [] = ⊤
 NextAtMost level (b ∷ x) =
@@ -31,7 +31,7 @@ abbrev next_case : ℕ → ℕ → List ℕ → Bool → Type 0
 next_case level b x t =
     elim t [ true ↦ NextAtMost level x | false ↦ IsAtMost level (operator_at b x) ]
 
--- what stands after an expression of a level
+-- the bytes after an expression of a level
 pub record Follows (level : ℕ) (rest : List ℕ) : Type 0 where
   pub run : EndsRun rest
   pub next : NextAtMost level rest
@@ -88,7 +88,7 @@ follows_close level rest = record { run = refl; next = tt }
 follows_end : (level : ℕ) → Follows level []
 follows_end level = record { run = tt; next = tt }
 
--- Joining what waits.
+-- Joining the open operands.
 
 -- a closing parenthesis after what was joined
 abbrev closed_case : List Frame × Expression → Option (Reading × ℕ)
@@ -104,7 +104,7 @@ operator_joined : (w : List Frame) (d : Expression) (o : Operator) (e : Expressi
 operator_joined w d o e None a = refl
 operator_joined w d o e (Some p) a = ap (λ j. Some (operated p.0 j, p.1)) (joins (level_of p.0) w d o e a)
 
--- after a right operand: what waits is joined first, whatever comes
+-- after a right operand the open ones are joined first, whatever follows
 joined_at : (w : List Frame) (d : Expression) (o : Operator) (e : Expression) (b : ℕ) (x : List ℕ)
     → IsAtMost (level_of o) (operator_at b x)
     → step_after (Left d o ∷ w) e b x ≡ step_after w (Joined o d e) b x
@@ -221,7 +221,7 @@ begins (Signed g e) level text s =
 begins (Joined o d e) level text s =
     subst Begins (sym s.7) (begins_more (s.0 ++ s.1 ++ symbol_of o) s.2 (begins_more (s.0 ++ s.1) (symbol_of o) (begins_more s.0 s.1 (begins d (level_of o) s.0 s.4))))
 
--- an operator before an operand, after one that binds no looser than what waits
+-- an operator before an operand, after one that is not looser than the open ones
 operator_read : (w : List Frame) (d : Expression) (o : Operator) (rest : List ℕ) → Begins rest → floor w ≤ level_of o
     → read_from zero (After w d) (symbol_of o ++ rest) ≡ read_from zero (Before (Left d o ∷ w)) rest
 operator_read w d o rest b h =

@@ -59,14 +59,14 @@ pub level_least : (o : Operator) → 1 ≤ level_of o
 level_least Multiply = omega arith
 level_least _ = omega arith
 
--- the least level of an operand after what waits
+-- the least level of an operand after the open parts
 abbrev pub floor : List Frame → ℕ
 floor [] = 1
 floor (Opened ∷ w) = 1
 floor (Prefixed s ∷ w) = operand_level
 floor (Left d o ∷ w) = suc (level_of o)
 
--- no sign waits first
+-- the innermost open part is not a sign
 abbrev pub HasNoSign : List Frame → Type 0
 HasNoSign [] = ⊤
 HasNoSign (Opened ∷ w) = ⊤
@@ -79,14 +79,14 @@ no_sign (Opened ∷ w) o h = tt
 no_sign (Prefixed s ∷ w) o h = let m = level_most o in let never : ⊥ = omega arith in never
 no_sign (Left d p ∷ w) o h = tt
 
--- an operand stands, where no sign waits
+-- an operand with no open sign before it
 pub completed_is : (w : List Frame) (e : Expression) → HasNoSign w → completed w e ≡ After w e
 completed_is [] e h = refl
 completed_is (Opened ∷ w) e h = refl
 completed_is (Prefixed s ∷ w) e h = absurd h
 completed_is (Left d o ∷ w) e h = refl
 
--- a case of what waits on top
+-- by cases on the innermost open part
 abbrev joined_case : ℕ → List Frame → Expression → Operator → Expression → Bool → List Frame × Expression
 joined_case level w d o e t =
     elim t [
@@ -94,7 +94,7 @@ joined_case level w d o e t =
       | false ↦ (Left d o ∷ w, e)
     ]
 
--- what is looser waits
+-- a looser operator stays open
 pub waits : (level : ℕ) (w : List Frame) (e : Expression) → floor w ≤ level
     → joined_above level w e ≡ (w, e)
 waits level [] e h = refl
@@ -102,12 +102,12 @@ waits level (Opened ∷ w) e h = refl
 waits level (Prefixed s ∷ w) e h = refl
 waits level (Left d o ∷ w) e h = ap (joined_case level w d o e) (lt-leb level (level_of o) h)
 
--- what is not looser is joined
+-- one that is not looser is joined
 pub joins : (level : ℕ) (w : List Frame) (d : Expression) (o : Operator) (e : Expression) → level ≤ level_of o
     → joined_above level (Left d o ∷ w) e ≡ joined_above level w (Joined o d e)
 joins level w d o e h = ap (joined_case level w d o e) (le-leb level (level_of o) h)
 
--- a spelling where tighter operators stand is one where looser ones may stand too
+-- a spelling at a tighter level is one at a looser level too
 pub looser : (e : Expression) (m n : ℕ) (text : List ℕ) → n ≤ m → SpellsAt m e text → SpellsAt n e text
 looser (Number v) m n text h s = s
 looser (Group e) m n text h s = s

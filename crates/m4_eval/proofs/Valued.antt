@@ -12,7 +12,7 @@ use Rattle.m4_eval.specs.ReadExpression as r
 use Rattle.m4_eval.specs.ReadExpression.{Reading, Before, After, completed, joined_above, closed, whole, finished, step, read_from, expression_at, literal_at, sign_at, operator_at, operated}
 use Rattle.m4_eval.specs.EvaluateSteps.{Place, joined_values, with_signs, joined_while, closed_place, before_step, operated_place, after_step, step_from, alone, ended, values_from, value_at}
 
--- what waits, by its values
+-- the open parts by their values
 abbrev frames : List r.Frame → List Frame
 frames [] = []
 frames (r.Opened ∷ w) = f.Opened ∷ frames w
