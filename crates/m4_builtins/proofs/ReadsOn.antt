@@ -39,9 +39,11 @@ reads_no_more first next before now (w, grown, same) = (w, grown, (λ s does. sa
 -- what comes first is read, and then the next
 pub reads_on : {A B : Type 0} (first : State → (A → Acted) → Acted) (next : A → State → (B → Acted) → Acted) (x : A) (o : Option B) (before between now : List ℕ)
     → ReadsAs first (Some x) before between → ReadsAs (next x) o between now → ReadsAs (λ s does. first s (λ y. next y s does)) o before now
-reads_on first next x o before between now (v, grown, same) (w, grown_2, same_2) =
-    (v ++ w, grown_2 ∙ ap (λ (m : List ℕ). m ++ w) grown ∙ append_assoc before v w,
-    (λ s does. same s (λ y. next y s does) ∙ ap (telling_first v) (same_2 s does) ∙ both v w s does o))
+reads_on first next x o before between now (v, grown, same) (w, grown_2, same_2) = (
+  v ++ w,
+  grown_2 ∙ ap (λ (m : List ℕ). m ++ w) grown ∙ append_assoc before v w,
+  (λ s does. same s (λ y. next y s does) ∙ ap (telling_first v) (same_2 s does) ∙ both v w s does o),
+)
 
 -- a number, as it was read
 pub reads_number : (p : Place) (b : Builtin) (r : Reading) (o : Option ℤ) (before now : List ℕ) → o ≡ number_of_reading r → now ≡ before ++ reading_warning p b r

@@ -187,7 +187,13 @@ pub(crate) fn out_of_range_message(alloc: Global, place: &Place) -> Result<Bytes
     // exact steps: the whole line
     ensures { IfOk result (λ b. b ≡ out_of_range place.now) }
 {
-    warning_on(alloc, place, b"radix or width out of range in eval", b"", b"")
+    warning_on(
+        alloc,
+        place,
+        b"radix or width out of range in eval",
+        b"",
+        b"",
+    )
 }
 
 /// The warning that a code of the run's end is out of range.

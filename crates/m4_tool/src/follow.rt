@@ -78,8 +78,7 @@ fn run_line<E: Write + Drop>(
     rt: &(impl Files + Input + Alloc<A = Global> + Print + Eprint),
     errors: E,
     line: &Line,
-) -> u8
-{
+) -> u8 {
     if let Some(file) = &line.canon {
         return run_mode(rt, errors, Mode::Canon, file.as_str());
     }

@@ -24,8 +24,7 @@ pub fn run_files<E: Write + Drop>(
     rt: &(impl Files + Input + Alloc<A = Global> + Print + Eprint),
     errors: E,
     line: &Line,
-) -> io::Result<u8>
-{
+) -> io::Result<u8> {
     let output = BufWriter::with_capacity(rt.alloc(), BLOCK, io::writer(rt))?;
     let messages = BufWriter::with_capacity(rt.alloc(), BLOCK, errors)?;
     let shown = Shown::new(output, messages);
@@ -38,8 +37,7 @@ fn run_shown<R: Files + Input + Alloc<A = Global> + Eprint, W: Write, E: Write>(
     rt: &R,
     line: &Line,
     shown: &Shown<W, E>,
-) -> io::Result<u8>
-{
+) -> io::Result<u8> {
     let reloaded = name_of(&line.reload);
     let Ok(mut frozen) = frozen_of(rt, &line.reload) else {
         return Ok(report_unopened(rt, reloaded));

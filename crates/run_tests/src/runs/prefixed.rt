@@ -1,6 +1,8 @@
 //! Runs whose builtins have names with a prefix. Manual: "Invoking m4" (`--prefix-builtins`).
 
-use super::given::{AT_MOST, BLOCKS, ROOM, Seen, USUAL, ended, freezing, opened, options, run_over};
+use super::given::{
+    AT_MOST, BLOCKS, ROOM, Seen, USUAL, ended, freezing, opened, options, run_over,
+};
 use super::report::printed_run;
 use super::shows::agrees;
 use m4_engine::ending::Cause;
@@ -76,7 +78,14 @@ fn run_of(
         None => None,
     };
     let mut sources = [opened(rt, b"a.m4", file.as_bytes(), block)];
-    run_over(rt, prefixed(options), &mut frozen, &mut sources, ROOM, AT_MOST)
+    run_over(
+        rt,
+        prefixed(options),
+        &mut frozen,
+        &mut sources,
+        ROOM,
+        AT_MOST,
+    )
 }
 
 // What is to be seen of it.
@@ -108,7 +117,8 @@ fn builtins_with_prefixes(rt: HostRuntime) {
 
 #[test]
 fn prefixes_are_frozen(rt: HostRuntime) {
-    let begins = b"# m4 frozen state\nV1\nT7,0\n__gnu__\nT8,0\n__unix__\nF11,8\nm4___file____file__\n";
+    let begins =
+        b"# m4 frozen state\nV1\nT7,0\n__gnu__\nT8,0\n__unix__\nF11,8\nm4___file____file__\n";
     let seen = run_of(&rt, freezing(USUAL), None, "", 4096);
     assert!(rt; seen.frozen_text.written().starts_with(begins));
 }

@@ -308,7 +308,12 @@ fn ending((status, cause, wrapped): End) -> Ending {
 }
 
 // A run over one file, a.m4.
-fn run_of(rt: &(impl Abort + Alloc<A = Global>), options: Options, file: &str, block: usize) -> Seen {
+fn run_of(
+    rt: &(impl Abort + Alloc<A = Global>),
+    options: Options,
+    file: &str,
+    block: usize,
+) -> Seen {
     let mut sources = [opened(rt, b"a.m4", file.as_bytes(), block)];
     run_over(rt, options, &mut None, &mut sources, ROOM, AT_MOST)
 }
