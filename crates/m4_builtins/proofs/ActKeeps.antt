@@ -22,7 +22,7 @@ use Rattle.m4_builtins.specs.declared.number.Reading.{Reading}
 use Rattle.m4_builtins.specs.declared.number.Reading.TheVariants.{Number, Empty, NotNumeric}
 use Rattle.m4_builtins.specs.declared.place.Place.{Place}
 use Rattle.m4_builtins.specs.Args.{IsArg, text_of_arg, texts_of, definition_of_arg, text_at}
-use Rattle.m4_builtins.specs.Acted.{Acted, IsPushed, tells, expands, telling_first}
+use Rattle.m4_builtins.specs.Acted.{Acted, IsPushed, expands, telling_first}
 use Rattle.m4_builtins.specs.Numeric.{reading_of, number_of_reading, with_number}
 use Rattle.m4_builtins.specs.Naming.{define, pushdef, for_each, definition_in, definition_given, defn}
 use Rattle.m4_builtins.specs.Branching.{ifelse}
@@ -30,7 +30,7 @@ use Rattle.m4_builtins.specs.Delimiting.{changequote}
 use Rattle.m4_builtins.specs.Diverting.{divert, diverted_if, undivert, brought_back, held_numbers, readings_of}
 use Rattle.m4_builtins.specs.Arithmetic.{incr, decr}
 use Rattle.m4_builtins.specs.Texts.{substr}
-use Rattle.m4_builtins.specs.Messages.{bad_status, empty_number, out_of_range}
+use Rattle.m4_builtins.specs.Messages.{bad_status, empty_number}
 use Rattle.m4_builtins.specs.Ending.{exits, exits_by, exits_reading, m4exit}
 use Rattle.m4_builtins.specs.Eval.{if_radix, with_radix, if_width, with_width, if_value, with_value, with_digits, eval}
 use Rattle.m4_builtins.specs.Indirect.{Inner, called_by_name, indir, done_by_name, builtin}

@@ -1,27 +1,20 @@
 -- EvalReads: the radix, the width and the value of `eval`, as the code reads them one after the other.
-use Rattle.std.proofs.Common.{Bor, ◌≡◌, ◌≢◌, ℕ, ℤ, pos, List, [], ◌∷◌, ◌++◌, Bool, true, false, Option, Some, None, refl, sym, ap, subst, ◌∙◌, append-nil}
-use Rattle.std.specs.Prelude.{IfSome, ◌<◌, ◌≤◌, get_or, length, is_none, option_copied, option_map, slice_get, if◌then◌else◌}
+use Rattle.std.proofs.Common.{Bor, ◌≡◌, ◌≢◌, ℕ, ℤ, List, [], ◌∷◌, ◌++◌, true, false, Option, Some, None, refl, sym, ap, subst, ◌∙◌}
+use Rattle.std.specs.Prelude.{IfSome, ◌<◌, ◌≤◌, get_or, length, is_none, option_copied, option_map, slice_get}
 use Rattle.std.specs.Option.{MatchOption}
 use Rattle.std.proofs.lemmas.Option.{slice_get_past, slice_get_read, slice_get-map}
-use Rattle.std.specs.List.{list_all}
 use Rattle.m4_state.specs.declared.builtin.Builtin.TheVariants.{Eval}
 use Rattle.m4_state.specs.State.{State}
-use Rattle.m4_input.specs.Ascii.{is_space}
-use Rattle.m4_input.specs.declared.pushed.Pushed.TheVariants as pushes
-use Rattle.m4_eval.specs.declared.evaluate.Evaluated.{Evaluated}
-use Rattle.m4_eval.specs.declared.evaluate.Evaluated.TheVariants.{Value, DivideByZero, BadExpression}
-use Rattle.m4_eval.specs.Evaluated.{evaluated}
 use Rattle.m4_eval.specs.InRadix.{radix_at, in_radix}
 use Rattle.m4_builtins.specs.declared.args.Arg.{Arg}
 use Rattle.m4_builtins.specs.declared.place.Place.{Place}
-use Rattle.m4_builtins.specs.Acted.{Acted, nothing, tells, expands, telling_first}
+use Rattle.m4_builtins.specs.Acted.{Acted}
 use Rattle.m4_builtins.specs.Args.{text_of_arg, texts_of, text_at}
-use Rattle.m4_builtins.specs.Eval.{if_radix, with_radix, if_width, with_width, if_value, with_value, with_digits, eval}
-use Rattle.m4_builtins.specs.Messages.{empty_number, divide_by_zero, bad_expression, out_of_range}
+use Rattle.m4_builtins.specs.Eval.{if_radix, with_radix, with_width, with_value, with_digits}
+use Rattle.m4_builtins.specs.Messages.{out_of_range}
 use Rattle.m4_builtins.specs.Numeric.{reading_of, number_of_reading, reading_warning, with_number}
 use Rattle.m4_builtins.specs.ReadsAs.{ReadsAs}
-use Rattle.m4_builtins.proofs.WithNumber.{expands_telling}
-use Rattle.m4_builtins.proofs.ReadsOn.{reads_at_once, reads_wrong, reads_warned, reads_no_more, reads_on, reads_number}
+use Rattle.m4_builtins.proofs.ReadsOn.{reads_at_once, reads_wrong, reads_no_more, reads_on, reads_number}
 
 -- the third argument as text, by what the look-up says of it
 module _ (list : List Arg) where

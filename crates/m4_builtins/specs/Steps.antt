@@ -1,10 +1,9 @@
 -- Steps: how the code goes from one indirect call to the next in a loop.
 -- Not believed: it only bridges the code and `act`.
-use Rattle.std.specs.Prelude.{◌≡◌, ◌<◌, ℕ, suc, List, [], Option, None, length}
+use Rattle.std.specs.Prelude.{◌≡◌, ◌<◌, ℕ, suc, [], Option, None, length}
 use Rattle.std.specs.List.{AllByRecursion}
 use Rattle.m4_state.specs.declared.definition.Def.TheVariants as defs
 use Rattle.m4_state.specs.State.{State}
-use Rattle.m4_builtins.specs.declared.args.Arg.{Arg}
 use Rattle.m4_builtins.specs.declared.indirect.Step.{Step}
 use Rattle.m4_builtins.specs.declared.indirect.Step.TheVariants as steps
 use Rattle.m4_builtins.specs.declared.place.Place.{Place}

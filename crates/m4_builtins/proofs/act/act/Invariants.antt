@@ -1,4 +1,3 @@
-use Rattle.std.proofs.Common.{ℕ}
 use Rattle.m4_builtins.specs.Act.{act}
 use Rattle.m4_builtins.specs.Steps.{LeadsTo, left_of}
 use Rattle.m4_builtins.proofs.act.act.Given as goal

@@ -1,9 +1,8 @@
 -- The radix, the width and the value are read one after the other.
-use Rattle.std.proofs.Common.{◌≡◌, ℕ, List, Option, Some, None, rules, sym, ap, subst, ◌∙◌}
+use Rattle.std.proofs.Common.{◌≡◌, ℕ, List, Some, None, rules, sym, subst}
 use Rattle.std.specs.Prelude.{FitsSigned, option_copied, option_map, slice_get}
 use Rattle.std.specs.Int.{w32}
 use Rattle.std.proofs.lemmas.Int.{to_z-of_z}
-use Rattle.m4_eval.specs.InRadix.{in_radix}
 use Rattle.m4_builtins.specs.Args.{text_of_arg, texts_of, text_at}
 use Rattle.m4_builtins.specs.Eval.{with_radix, with_width, with_value, with_digits}
 use Rattle.m4_builtins.specs.ReadsAs.{ReadsAs}

@@ -1,12 +1,11 @@
 -- A text that is not empty is read as a number, and that as a radix.
-use Rattle.std.proofs.Common.{◌≡◌, ◌≢◌, [], Some, ◌++◌, rules, sym, ◌∙◌, ap, subst}
+use Rattle.std.proofs.Common.{◌≡◌, ◌≢◌, [], Some, ◌++◌, rules, sym, subst}
 use Rattle.std.specs.Prelude.{FitsSigned}
 use Rattle.std.specs.Int.{w32}
 use Rattle.std.proofs.lemmas.Int.{to_z-of_z}
 use Rattle.m4_state.specs.declared.builtin.Builtin.TheVariants.{Eval}
 use Rattle.m4_eval.specs.InRadix.{radix_at}
 use Rattle.m4_builtins.specs.Eval.{with_radix}
-use Rattle.m4_builtins.specs.Messages.{out_of_range}
 use Rattle.m4_builtins.specs.Numeric.{reading_of, number_of_reading, reading_warning}
 use Rattle.m4_builtins.specs.ReadsAs.{ReadsAs}
 use Rattle.m4_builtins.proofs.EvalReads.{radix_of_number, radix_kept, radix_lost, radix_read}

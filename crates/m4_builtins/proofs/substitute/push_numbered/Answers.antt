@@ -1,5 +1,4 @@
 use Rattle.std.proofs.Common.{◌≡◌, List, ℕ, arith, ◌++◌, ◌∙◌, ◌<◌, length, ap, sym, append-nil, map}
-use Rattle.m4_builtins.specs.declared.args.Arg.{Arg}
 use Rattle.m4_builtins.specs.Args.{text_of_arg}
 use Rattle.m4_builtins.specs.Subst.{nth_text}
 use Rattle.m4_builtins.proofs.Joins.{nth_within, nth_beyond}
