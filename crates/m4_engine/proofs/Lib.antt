@@ -12,6 +12,7 @@ pub mod SameStart
 pub mod Rows
 pub mod RowsBuiltins
 pub mod RowsFrozen
+pub mod RowsChain
 pub mod Shifts
 pub mod RunsBehind
 pub mod Split
@@ -45,3 +46,4 @@ pub mod Readers
 pub mod Whole
 pub mod Starts
 pub mod TwoRuns
+pub mod Chains

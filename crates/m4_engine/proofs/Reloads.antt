@@ -13,7 +13,7 @@ use Rattle.m4_engine.specs.File.{Source, Progress, after_sources}
 use Rattle.m4_engine.specs.Start.{Start, From, frozen_file, start_of, begun}
 use Rattle.m4_engine.specs.Run.{limits_of, saved_behind, run, run_from}
 use Rattle.m4_engine.specs.Carries.{Carries, end_of, frozen_state}
-use Rattle.m4_engine.specs.Laws.{freezing, prefixed, Joins}
+use Rattle.m4_engine.specs.Joined.{freezing, prefixed, Joins}
 use Rattle.m4_engine.proofs.SameStart.{start-spelled, starts_so}
 use Rattle.m4_engine.proofs.Split.{frozen_by, split_states}
 use Rattle.m4_engine.proofs.InOrder.{sources_valid, wraps_valid, start_valid}

@@ -10,9 +10,10 @@ use Rattle.m4_engine.specs.Wraps.{next_round, rounds, after_wraps, close}
 use Rattle.m4_engine.specs.Start.{Start, From, Faulty, begun}
 use Rattle.m4_engine.specs.Run.{RunResult, limits_of, closed_output, result_by, result_of, saved_unless_over, saved_behind, run_from}
 use Rattle.m4_engine.specs.Carries.{Carries, frozen_state}
-use Rattle.m4_engine.specs.Laws.{freezing, Joins}
+use Rattle.m4_engine.specs.Joined.{freezing, Joins}
 use Rattle.m4_engine.proofs.OnePass.{over_wraps, sources_append}
 use Rattle.m4_engine.proofs.Limits.{over_how}
+use Rattle.m4_engine.proofs.Shifts.{behind_record}
 use Rattle.m4_engine.proofs.RunsBehind.{Bp, Behind, sources_behind, rounds_behind}
 
 -- a run that froze is not over, and froze its state
@@ -87,12 +88,17 @@ module _ (limits : Limits) where
       ∙ ap (λ (x : List ℕ). let q : Progress = record { so_far = record p.so_far { saved = []; output = (p.so_far).output ++ []; messages = x }; over = None; missed = false } in q) (sym (append-nil (p.so_far).messages))
       ∙ ap (λ (n : ℕ). let q : Progress = record { so_far = record p.so_far { saved = []; output = (p.so_far).output ++ []; messages = (p.so_far).messages ++ []; calls = n }; over = None; missed = false } in q) (let h : (p.so_far).calls ≡ (p.so_far).calls + 0 = omega arith in h)
 
+  sources_alone : (bs : List Source) (p : Progress) → p.over ≡ None → (p.so_far).saved ≡ [] → p.missed ≡ false → BehindRun p.so_far (after_sources limits bs p) (after_sources limits bs (begun (From (p.so_far).state [])))
+  sources_alone bs p e f g =
+      let r : RunSoFar = p.so_far in
+      sources_behind r.output r.messages r.calls limits.calls limits.calls limits.nesting limits.nesting (fewer r.calls) (λ k e. e) Excused (inl excused) (inr refl) ends bs p (begun (From r.state [])) (inr (goes_on p e f g))
+
   sources_go_on : (bs : List Source) (p : Progress) → p.over ≡ None → (p.so_far).saved ≡ [] → p.missed ≡ false → BehindRun p.so_far (after_wraps limits (after_sources limits bs p)) (after_wraps limits (after_sources limits bs (begun (From (p.so_far).state []))))
   sources_go_on bs p e f g =
       let r : RunSoFar = p.so_far in
       rounds_behind r.output r.messages r.calls limits.calls limits.calls limits.nesting limits.nesting (fewer r.calls) (λ k e. e) Excused (inl excused) (inr refl) ends (suc limits.calls)
       (after_sources limits bs p) (after_sources limits bs (begun (From r.state [])))
-      (sources_behind r.output r.messages r.calls limits.calls limits.calls limits.nesting limits.nesting (fewer r.calls) (λ k e. e) Excused (inl excused) (inr refl) ends bs p (begun (From r.state [])) (inr (goes_on p e f g)))
+      (sources_alone bs p e f g)
 
 -- the result of a run that froze with nothing saved and status 0
 first_result : List (List ℕ) → RunSoFar → RunResult
@@ -102,17 +108,40 @@ output_joins : (freezes : Bool) (r q : RunSoFar) → closed_output freezes (reco
 output_joins true r q = refl
 output_joins false r q = append_assoc r.output q.output (close q.state)
 
--- the results of the three runs
-results_join : (freezes : Bool) (saved saved' saved'' : List (List ℕ)) (r : RunSoFar) (v : Option How) (q : RunSoFar) (missed : Bool) → Joins (first_result saved r) (result_by v freezes saved' q missed) (result_by v freezes saved'' (record q { output = r.output ++ q.output; messages = r.messages ++ q.messages; calls = r.calls + q.calls }) missed)
-unfolding first_result
-results_join freezes saved saved' saved'' r None q missed = record { output = output_joins freezes r q; messages = refl; how = refl; status = refl; frozen = refl; calls = refl }
-results_join freezes saved saved' saved'' r (Some h) q missed = record { output = refl; messages = refl; how = refl; status = refl; frozen = refl; calls = refl }
+-- ---- the texts that stand saved when the last source ended
 
-joined_results : (limits : Limits) (freezes : Bool) (saved saved' saved'' : List (List ℕ)) (r : RunSoFar) (j b : Progress) → BehindRun limits r j b → (result_of freezes saved'' j).how ≢ Ends causes.ExpansionLimit → Joins (first_result saved r) (result_of freezes saved' b) (result_of freezes saved'' j)
-joined_results limits freezes saved saved' saved'' r j b (inl h) n = absurd (n (over_how j.over h.0 freezes saved'' j.so_far j.missed h.1 ∙ opened limits h.0 h.2))
-joined_results limits freezes saved saved' saved'' r j b (inr e) n =
+saved_after_some : (as' : List Source) (b : Source) (bs : List Source) (p : Progress) → saved_behind (as' ++ b ∷ bs) p ≡ saved_unless_over p.over p.so_far
+saved_after_some [] b bs p = refl
+saved_after_some (a ∷ as') b bs p = refl
+
+saved_of_both : (limits : Limits) (r : RunSoFar) (v : Option How) (q : RunSoFar) → saved_unless_over v (behind_record r.output r.messages r.calls q) ≡ saved_unless_over v q
+saved_of_both limits r None q = refl
+saved_of_both limits r (Some h) q = refl
+
+-- a joint run's are those of the run that goes on
+same_saved : (limits : Limits) (freezes : Bool) (as' bs : List Source) (saved : List (List ℕ)) (r : RunSoFar) (p q : Progress) → saved_behind as' p ≡ [] → BehindRun limits r (after_sources limits bs p) (after_sources limits bs q) → (result_of freezes saved (after_wraps limits (after_sources limits bs p))).how ≢ Ends causes.ExpansionLimit → saved_behind (as' ++ bs) (after_sources limits bs p) ≡ saved_behind bs (after_sources limits bs q)
+same_saved limits freezes as' [] saved r p q nothing behind n = ap (λ (x : List Source). saved_behind x p) (append-nil as') ∙ nothing
+same_saved limits freezes as' (b ∷ bs) saved r p q nothing (inl h) n =
+    let j : Progress = after_sources limits (b ∷ bs) p in
+    absurd (n (ap (λ (x : Progress). (result_of freezes saved x).how) (over_wraps limits j h.0 h.1) ∙ over_how j.over h.0 freezes saved j.so_far j.missed h.1 ∙ opened limits h.0 h.2))
+same_saved limits freezes as' (b ∷ bs) saved r p q nothing (inr e) n =
+    let j : Progress = after_sources limits (b ∷ bs) p in
+    let k : Progress = after_sources limits (b ∷ bs) q in
+    saved_after_some as' b bs j
+    ∙ ap (λ (x : Progress). saved_unless_over x.over x.so_far) e
+    ∙ saved_of_both limits r k.over k.so_far
+
+-- the results of the three runs
+results_join : (freezes : Bool) (saved saved' saved'' : List (List ℕ)) (r : RunSoFar) (v : Option How) (q : RunSoFar) (missed : Bool) → saved'' ≡ saved' → Joins (first_result saved r) (result_by v freezes saved' q missed) (result_by v freezes saved'' (record q { output = r.output ++ q.output; messages = r.messages ++ q.messages; calls = r.calls + q.calls }) missed)
+unfolding first_result
+results_join freezes saved saved' saved'' r None q missed same = record { output = output_joins freezes r q; messages = refl; how = refl; status = refl; frozen = refl; calls = refl; saved = same }
+results_join freezes saved saved' saved'' r (Some h) q missed same = record { output = refl; messages = refl; how = refl; status = refl; frozen = refl; calls = refl; saved = same }
+
+joined_results : (limits : Limits) (freezes : Bool) (saved saved' saved'' : List (List ℕ)) (r : RunSoFar) (j b : Progress) → BehindRun limits r j b → saved'' ≡ saved' → (result_of freezes saved'' j).how ≢ Ends causes.ExpansionLimit → Joins (first_result saved r) (result_of freezes saved' b) (result_of freezes saved'' j)
+joined_results limits freezes saved saved' saved'' r j b (inl h) same n = absurd (n (over_how j.over h.0 freezes saved'' j.so_far j.missed h.1 ∙ opened limits h.0 h.2))
+joined_results limits freezes saved saved' saved'' r j b (inr e) same n =
     subst (λ (x : Progress). Joins (first_result saved r) (result_of freezes saved' b) (result_of freezes saved'' x)) (sym e)
-    (results_join freezes saved saved' saved'' r b.over b.so_far b.missed)
+    (results_join freezes saved saved' saved'' r b.over b.so_far b.missed same)
 
 pub split_states : (o : Options) (freezes : Bool) (start : Start) (as' bs : List Source) (text : List ℕ) → Carries (freezing true o) start as' → (run_from (freezing true o) start as').frozen ≡ Some text → (run_from (freezing freezes o) start (as' ++ bs)).how ≢ Ends causes.ExpansionLimit → Joins (run_from (freezing true o) start as') (run_from (freezing freezes o) (From (frozen_state (freezing true o) start as') []) bs) (run_from (freezing freezes o) start (as' ++ bs))
 unfolding first_result
@@ -136,7 +165,10 @@ split_states o freezes start as' bs text carries frozen joint =
     ∙ ap (result_by None true (saved_behind as' p) p.so_far) missed in
     let b : Progress = after_wraps limits (after_sources limits bs (begun (From (p.so_far).state []))) in
     let limit : (result_of freezes saved'' (after_wraps limits (after_sources limits bs p))).how ≢ Ends causes.ExpansionLimit = λ x. joint (ap (λ (q : Progress). (result_of freezes saved'' (after_wraps limits q)).how) apart ∙ x) in
+    let still : saved'' ≡ saved_behind bs (after_sources limits bs (begun (From (p.so_far).state []))) =
+    ap (λ (q : Progress). saved_behind (as' ++ bs) q) apart
+    ∙ same_saved limits freezes as' bs saved'' p.so_far p (begun (From (p.so_far).state [])) nothing (sources_alone limits bs p here saved missed) limit in
     subst (λ (s : State). Joins (run_from (freezing true o) start as') (run_from (freezing freezes o) (From s []) bs) (run_from (freezing freezes o) start (as' ++ bs))) (ap (λ (q : Progress). (q.so_far).state) (sym same))
     (subst (λ (x : RunResult). Joins x (run_from (freezing freezes o) (From (p.so_far).state []) bs) (run_from (freezing freezes o) start (as' ++ bs))) (sym first)
     (subst (λ (q : Progress). Joins (first_result (saved_behind as' p) p.so_far) (run_from (freezing freezes o) (From (p.so_far).state []) bs) (result_of freezes saved'' (after_wraps limits q))) (sym apart)
-    (joined_results limits freezes (saved_behind as' p) (saved_behind bs (after_sources limits bs (begun (From (p.so_far).state [])))) saved'' p.so_far (after_wraps limits (after_sources limits bs p)) b (sources_go_on limits bs p here saved missed) limit)))
+    (joined_results limits freezes (saved_behind as' p) (saved_behind bs (after_sources limits bs (begun (From (p.so_far).state [])))) saved'' p.so_far (after_wraps limits (after_sources limits bs p)) b (sources_go_on limits bs p here saved missed) still limit)))

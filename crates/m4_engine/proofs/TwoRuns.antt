@@ -16,7 +16,8 @@ use Rattle.m4_engine.specs.Run.{RunResult, limits_of, result_by, saved_behind, r
 use Rattle.m4_engine.specs.Session.{is_saved}
 use Rattle.m4_engine.specs.WholeRun.{wrapped_by, WroteAll, GivesBy, HasFrozen, FrozenBy, RunGives}
 use Rattle.m4_engine.specs.Carries.{Carries, frozen_state}
-use Rattle.m4_engine.specs.Laws.{freezing, prefixed, Joins, IsDecided, IsOneRun}
+use Rattle.m4_engine.specs.Joined.{freezing, prefixed, Joins}
+use Rattle.m4_engine.specs.Laws.{IsDecided, IsOneRun}
 use Rattle.m4_engine.specs.Writers.{Contents, Three, writers}
 use Rattle.m4_engine.proofs.Reloads.{split}
 

@@ -1,6 +1,6 @@
 -- What holds of the definitions alone: the laws of expansions and runs.
 -- Believed as statements; the functions of the module `laws` carry their proofs.
--- Words: ExpansionRules, ExpandRules, WrapsRules, OneStart, SameDenotation, SettledBegins, SplitStates, Split, IsDecided,
+-- Words: ExpansionRules, ExpandRules, WrapsRules, OneStart, SameDenotation, SettledBegins, SplitStates, Split, Chain, IsDecided,
 -- IsOneRun, TwoRuns, LargerNesting, LargerCalls, RunEnds.
 use Rattle.std.specs.Prelude.{◌≡◌, ◌≢◌, ◌↔◌, ◌⊎◌, ℕ, ◌+◌, ◌<◌, ◌≤◌, Bool, true, false, List, [], ◌∷◌, ◌++◌, Option, Some}
 use Rattle.m4_state.specs.Device.{Script, with_bytes}
@@ -20,6 +20,7 @@ use Rattle.m4_engine.specs.Start.{Start, From, frozen_file, IsStart, start_of}
 use Rattle.m4_engine.specs.Run.{RunResult, run, run_from}
 use Rattle.m4_engine.specs.Settled.{SettledSoFar, settled}
 use Rattle.m4_engine.specs.Carries.{Carries, frozen_state}
+use Rattle.m4_engine.specs.Joined.{freezing, prefixed, Joins, Link, chain, AllCarry, all_sources, JoinsAll}
 use Rattle.m4_engine.specs.declared.ending.Ending.{Ending}
 use Rattle.m4_engine.specs.Writers.{Three, writers}
 use Rattle.m4_engine.specs.WholeRun.{HasFrozen, RunGives}
@@ -74,24 +75,6 @@ SettledBegins =
     → AreSettled (settled o start before name w)
     (run_from o start (before ++ Opened name (w ++ more) ∷ later))
 
--- the options, for a run that freezes or not
-abbrev pub freezing : Bool → Options → Options
-freezing freezes o = record o { freeze = freezes }
-
--- the options with another prefix
-abbrev pub prefixed : Bool → Options → Options
-prefixed prefix o = record o { prefix = prefix }
-
--- a joint run writes what two runs write, one behind the other, and ends as the later one; the calls
--- of the two are its calls
-pub record Joins (first second joint : RunResult) : Type 0 where
-  pub output : joint.output ≡ first.output ++ second.output
-  pub messages : joint.messages ≡ first.messages ++ second.messages
-  pub how : joint.how ≡ second.how
-  pub status : joint.status ≡ second.status
-  pub frozen : joint.frozen ≡ second.frozen
-  pub calls : joint.calls ≡ first.calls + second.calls
-
 -- Where a freezing run over `as` carries, a run from the state that it froze over `bs` joins it to
 -- the run over both. That run has the same limits, and doesn't end by that of calls.
 abbrev pub SplitStates : Type 0
@@ -116,6 +99,16 @@ Split =
     → Joins (run (freezing true o) frozen as')
     (run (prefixed prefix (freezing freezes o)) (Some (frozen_file text)) bs)
     (run (freezing freezes o) frozen (as' ++ bs))
+
+-- The same of a chain of any number of runs: from any start, where each run but the last carries, and the
+-- next one starts from the text that it froze, all of them are joined to one run over all their sources,
+-- if that run doesn't end by the limit of calls.
+abbrev pub Chain : Type 0
+Chain =
+    (o : Options) (freezes : Bool) (frozen : Option Script) (sources : List Source) (links : List Link)
+    → AllCarry o frozen sources links
+    → (run (freezing freezes o) frozen (all_sources sources links)).how ≢ Ends causes.ExpansionLimit
+    → JoinsAll (chain o freezes frozen sources links) (run (freezing freezes o) frozen (all_sources sources links))
 
 -- a run whose end the definitions decide: no device failed, and memory was there
 abbrev pub IsDecided : Cause → Type 0

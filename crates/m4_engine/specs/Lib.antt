@@ -9,6 +9,7 @@ pub mod Start
 pub mod Run
 pub mod Settled
 pub mod Carries
+pub mod Joined
 pub mod Laws
 pub mod Ahead
 pub mod CallView

@@ -2,7 +2,7 @@
 //!
 //! Each function's contract is a law of `specs/Laws.antt`.
 
-ghost use Rattle.m4_engine.specs.Laws.{ExpansionRules, ExpandRules, LargerCalls, LargerNesting, OneStart, RunEnds, SameDenotation, SettledBegins, Split, SplitStates, TwoRuns, WrapsRules};
+ghost use Rattle.m4_engine.specs.Laws.{Chain, ExpansionRules, ExpandRules, LargerCalls, LargerNesting, OneStart, RunEnds, SameDenotation, SettledBegins, Split, SplitStates, TwoRuns, WrapsRules};
 
 /// An expansion whose calls nest is what its turns say, and no bound on them is ever reached.
 pub fn expansion_rules<S, F, D>()
@@ -60,6 +60,14 @@ pub fn larger_limits()
 pub fn split()
     // split: through the frozen text
     ensures { Split }
+{}
+
+/// A chain of any number of runs, each from the text that the one before it froze, comes to one run over
+/// the sources of all of them: outputs and messages joined, the ending, the status and the frozen text of the
+/// last run, and the sum of the calls. Manual: "Fast loading of frozen state".
+pub fn chain()
+    // chains; and limits: the sum of calls, of any number of runs
+    ensures { Chain }
 {}
 
 /// Where one call of [`run`](crate::run::run) freezes and carries, and another starts from what it froze,

@@ -1,6 +1,7 @@
 //! Whole runs over sources in memory, and sessions call by call.
 //! Manual: "Invoking m4", "Command line files", and the chapters on macros and builtins.
 
+mod chains;
 mod endings;
 mod files;
 mod freezing;

@@ -1,0 +1,135 @@
+//! Chains of runs: each run starts from the text that the one before it froze.
+
+use super::given::{
+    AT_MOST, BLOCKS, ROOM, Seen, USUAL, freezing, opened, options, run_over,
+};
+use super::report::Report;
+use super::shows::shows;
+use m4_engine::options::Options;
+use m4_state::memory::MemSource;
+use std::alloc::{AllocError, Global};
+use std::process::Abort;
+
+/// The four sources of the chain.
+const DEFINES: &str = "define(`n',`1')dnl\n";
+const DIVERTS: &str = "n pushdef(`n',`2')divert(1)n\n";
+const RESTORES: &str = "divert(0)n popdef(`n')dnl\n";
+const ISSUES: &str = "n undivert(1)end\n";
+
+/// How the frozen text of the second of four runs ends.
+const DIVERTED: &[u8] = b"D1,2\n2\n\n# End of frozen state file\n";
+
+/// A way to take the sources in runs: the sources of each run, and the outputs of the runs with bars between
+/// them.
+struct Grouping {
+    name: &'static str,
+    runs: &'static [&'static [&'static str]],
+    outputs: &'static [u8],
+}
+
+static GROUPINGS: [Grouping; 8] = [
+    Grouping {
+        name: "four runs",
+        runs: &[&[DEFINES], &[DIVERTS], &[RESTORES], &[ISSUES]],
+        outputs: b"|1 |2 |1 2\nend\n",
+    },
+    Grouping {
+        name: "the first two joined",
+        runs: &[&[DEFINES, DIVERTS], &[RESTORES], &[ISSUES]],
+        outputs: b"1 |2 |1 2\nend\n",
+    },
+    Grouping {
+        name: "the middle two joined",
+        runs: &[&[DEFINES], &[DIVERTS, RESTORES], &[ISSUES]],
+        outputs: b"|1 2 |1 2\nend\n",
+    },
+    Grouping {
+        name: "the last two joined",
+        runs: &[&[DEFINES], &[DIVERTS], &[RESTORES, ISSUES]],
+        outputs: b"|1 |2 1 2\nend\n",
+    },
+    Grouping {
+        name: "two and two",
+        runs: &[&[DEFINES, DIVERTS], &[RESTORES, ISSUES]],
+        outputs: b"1 |2 1 2\nend\n",
+    },
+    Grouping {
+        name: "one and three",
+        runs: &[&[DEFINES], &[DIVERTS, RESTORES, ISSUES]],
+        outputs: b"|1 2 1 2\nend\n",
+    },
+    Grouping {
+        name: "three and one",
+        runs: &[&[DEFINES, DIVERTS, RESTORES], &[ISSUES]],
+        outputs: b"1 2 |1 2\nend\n",
+    },
+    Grouping {
+        name: "one run",
+        runs: &[&[DEFINES, DIVERTS, RESTORES, ISSUES]],
+        outputs: b"1 2 1 2\nend\n",
+    },
+];
+
+/// A run over these sources, from what the run before it froze.
+fn next_run(
+    rt: &(impl Abort + Alloc<A = Global>),
+    options: Options,
+    before: &Option<Seen>,
+    texts: &[&str],
+    block: usize,
+) -> Result<Seen, AllocError> {
+    let mut frozen = match before {
+        Some(seen) => Some(MemSource::new(seen.frozen_text.written(), block.max(1), false)),
+        None => None,
+    };
+    let mut sources = Vec::new(rt.alloc());
+    for text in texts {
+        sources.push(opened(rt, b"a.m4", text.as_bytes(), block))?;
+    }
+    Ok(run_over(rt, options, &mut frozen, &mut sources, ROOM, AT_MOST))
+}
+
+/// The outputs of the runs of a chain, with bars between them: each run but the last freezes.
+fn outputs_of(
+    rt: &(impl Abort + Alloc<A = Global>),
+    runs: &[&[&str]],
+    block: usize,
+) -> Result<Vec<u8>, AllocError> {
+    let mut report = Report::new(rt.alloc());
+    let mut before = None;
+    if let Some((last, earlier)) = runs.split_last() {
+        for texts in earlier {
+            let seen = next_run(rt, freezing(USUAL), &before, texts, block)?;
+            report.add(seen.output.written());
+            report.add(b"|");
+            before = Some(seen);
+        }
+        let seen = next_run(rt, options(USUAL), &before, last, block)?;
+        report.add(seen.output.written());
+    }
+    report.text()
+}
+
+#[test]
+fn chains_are_one_run(rt: HostRuntime) {
+    for row in &GROUPINGS {
+        for block in BLOCKS {
+            shows(&rt, row.name, row.outputs, outputs_of(&rt, row.runs, block));
+        }
+    }
+}
+
+/// The end of what the second of two runs froze, or all of it where it ends otherwise.
+fn end_of_second(rt: &(impl Abort + Alloc<A = Global>)) -> Result<Vec<u8>, AllocError> {
+    let first = next_run(rt, freezing(USUAL), &None, &[DEFINES], AT_MOST)?;
+    let second = next_run(rt, freezing(USUAL), &Some(first), &[DIVERTS], AT_MOST)?;
+    let text = second.frozen_text.written();
+    let mut report = Report::new(rt.alloc());
+    report.add(if text.ends_with(DIVERTED) { DIVERTED } else { text });
+    report.text()
+}
+
+#[test]
+fn diverted_text_is_frozen_again(rt: HostRuntime) {
+    shows(&rt, "the second frozen text", DIVERTED, end_of_second(&rt));
+}
