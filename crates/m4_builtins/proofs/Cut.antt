@@ -1,6 +1,6 @@
 -- Cut: what `substr` gives, by the numbers that were read.
 use Rattle.std.proofs.Common.{◌≡◌, ℕ, ◌-◌, ◌<◌, ◌≤◌, ℤ, List, [], ◌∷◌, ◌++◌, append-nil, append_assoc, length, length-drop, take, drop, get_or, Option, Some, None, refl, sym, ap, ◌∙◌, arith}
-use Rattle.std.proofs.lemmas.List.{take_all}
+use Rattle.std.proofs.lemmas.List.{read_all}
 use Rattle.m4_state.specs.declared.builtin.Builtin.TheVariants.{Substr}
 use Rattle.m4_state.specs.State.{State}
 use Rattle.m4_input.specs.declared.pushed.Pushed.TheVariants as pushes
@@ -8,7 +8,7 @@ use Rattle.m4_builtins.specs.declared.args.Arg.{Arg}
 use Rattle.m4_builtins.specs.declared.effect.Effect.{Effect}
 use Rattle.m4_builtins.specs.declared.place.Place.{Place}
 use Rattle.m4_builtins.specs.Args.{text_of_arg}
-use Rattle.m4_builtins.specs.Acted.{Acted, nothing, tells, expands, telling_first}
+use Rattle.m4_builtins.specs.Acted.{Acted, nothing, only_warning, expands, telling_first}
 use Rattle.m4_builtins.specs.Numeric.{reading_of, number_of_reading, reading_warning, with_number}
 use Rattle.m4_builtins.specs.Texts.{substr, from_place, at_most}
 use Rattle.m4_builtins.proofs.WithNumber.{with_number-some, with_number-none}
@@ -52,7 +52,7 @@ counted p s (c ∷ rest) part =
 
 -- all that comes after the second
 after_second : (list : List Arg) → take (length list - 2) (drop 2 list) ≡ drop 2 list
-after_second list = take_all (length list - 2) (drop 2 list) (omega (arith, length-drop 2 list))
+after_second list = read_all (length list - 2) (drop 2 list) (omega (arith, length-drop 2 list))
 
 module _ (p : Place) (s : State) where
   counted-none : (counts : List Arg) (part : List ℕ) → length counts < 1 → counted p s counts part ≡ expands s part
@@ -67,7 +67,7 @@ module _ (p : Place) (s : State) where
       ∙ with_number-some p Substr s (λ count. expands s (at_most count part)) (reading_of (text_of_arg c)) count number
 
   counted-bad : (counts : List Arg) (c : Arg) (part : List ℕ) → 1 ≤ length counts → c ≡ get_or counts 0 c → None ≡ number_of c
-      → counted p s counts part ≡ tells s (warning_on p c)
+      → counted p s counts part ≡ only_warning s (warning_on p c)
   counted-bad [] c part some is number = absurd (omega arith)
   counted-bad (d ∷ rest) c part some is number =
       ap (λ (a : Arg). counted p s (a ∷ rest) part) (sym is)
@@ -90,7 +90,7 @@ module _ (p : Place) (s : State) (list counts : List Arg) (a b : Arg) (le : 2 �
       ∙ ap (λ (cs : List Arg). with_number p Substr s (reading_of (text_of_arg b)) (λ from. counted p s cs (from_place from (text_of_arg a)))) (sym (rest ∙ after_second list))
 
   -- the place is no number
-  pub substr-no_place : None ≡ number_of b → substr list p s ≡ tells s (warning_on p b)
+  pub substr-no_place : None ≡ number_of b → substr list p s ≡ only_warning s (warning_on p b)
   substr-no_place number =
       by_place
       ∙ with_number-none p Substr s (λ from. counted p s counts (from_place from (text_of_arg a))) (reading_of (text_of_arg b)) number
@@ -108,7 +108,7 @@ module _ (p : Place) (s : State) (list counts : List Arg) (a b : Arg) (le : 2 �
 
     -- the count is no number
     pub substr-no_count : (c : Arg) → 1 ≤ length counts → c ≡ get_or counts 0 c → None ≡ number_of c
-        → substr list p s ≡ telling_first (warning_on p b) (tells s (warning_on p c))
+        → substr list p s ≡ telling_first (warning_on p b) (only_warning s (warning_on p c))
     substr-no_count c some third number =
         by_count ∙ ap (telling_first (warning_on p b)) (counted-bad p s counts c (from_place from (text_of_arg a)) some third number)
 

@@ -85,10 +85,10 @@ pub record IsNext (n m : ℤ) (ds : List Diversion) : Type 0 where
 first : (n m : ℤ) (d : Diversion) (ds : List Diversion) → IsTrue (is_sorted int_cmp (d ∷ ds)) → int_lt n d.0 ≡ true → d.0 ≡ m → IsNext n m (d ∷ ds)
 first n m d ds sorted lt is = subst (λ (k : ℤ). IsNext n k (d ∷ ds)) is (record {
   above_is =
-      let behind : above n ds ≡ ds = above-below n d.0 ds lt (both _ _ sorted).0 in
+      let after : above n ds ≡ ds = above-below n d.0 ds lt (both _ _ sorted).0 in
       let own : int_lt d.0 d.0 ≡ false = int_lt-irrefl d.0 in
       let rest : above d.0 ds ≡ ds = above-first d.0 ds (both _ _ sorted).0 in
-      rw (lt, behind, own, rest) refl;
+      rw (lt, after, own, rest) refl;
   later = lt;
 })
 

@@ -6,7 +6,7 @@ use Rattle.m4_input.specs.Ascii.{dollar, digit_zero}
 use Rattle.m4_input.specs.Token.{run_length}
 use Rattle.m4_builtins.specs.declared.args.Arg.{Arg}
 use Rattle.m4_builtins.specs.Args.{joined, text_of_arg, or_empty}
-use Rattle.m4_builtins.specs.Subst.{subst_from, behind_dollar, nth_text}
+use Rattle.m4_builtins.specs.Subst.{subst_from, after_dollar, nth_text}
 use Rattle.m4_builtins.specs.Numbers.{IsNumber}
 
 -- what is still to be written of a joined list
@@ -92,10 +92,10 @@ is_dollar b h = by (b == dollar) h
 
 -- a dollar stands for what is behind it
 pub subst_dollar : (name : List ℕ) (xs : List (List ℕ)) (q : Delimiters) (b : ℕ) (y : List ℕ) → not (b == dollar) ≡ false
-    → let p = behind_dollar name xs q y in subst_from name xs q 0 (b ∷ y) ≡ p.0 ++ subst_from name xs q 0 (drop p.1 y)
+    → let p = after_dollar name xs q y in subst_from name xs q 0 (b ∷ y) ≡ p.0 ++ subst_from name xs q 0 (drop p.1 y)
 subst_dollar name xs q b y h =
     let here : (b == dollar) ≡ true = is_dollar b h in
-    let p = behind_dollar name xs q y in
+    let p = after_dollar name xs q y in
     rw here (ap (λ (z : List ℕ). p.0 ++ z) (subst_skip name xs q p.1 y))
 
 -- a text's front is written: all of the text is plain
@@ -109,10 +109,10 @@ front_plain name xs q out out' x y n e f g =
 
 -- a text's front is written, and what the dollar behind it stands for
 pub front_dollar : (name : List ℕ) (xs : List (List ℕ)) (q : Delimiters) (out mid out' x y z rest : List ℕ) (n b used : ℕ) → n ≡ run_length (λ b. not (b == dollar)) x → y ≡ drop n x → mid ≡ out ++ take n x
-    → y ≡ b ∷ z → used ≡ (behind_dollar name xs q z).1 → out' ≡ mid ++ (behind_dollar name xs q z).0 → rest ≡ drop used z
+    → y ≡ b ∷ z → used ≡ (after_dollar name xs q z).1 → out' ≡ mid ++ (after_dollar name xs q z).0 → rest ≡ drop used z
     → out' ++ subst_from name xs q 0 rest ≡ out ++ subst_from name xs q 0 x
 front_dollar name xs q out mid out' x y z rest n b used e f g here h i j =
-    let p = behind_dollar name xs q z in
+    let p = after_dollar name xs q z in
     let stop : not (b == dollar) ≡ false = run_stops (λ b. not (b == dollar)) x b z (ap (λ (m : ℕ). drop m x) (sym e) ∙ sym f ∙ here) in
     ap (λ (w : List ℕ). w ++ subst_from name xs q 0 rest) i ∙ append_assoc mid p.0 (subst_from name xs q 0 rest)
     ∙ ap (λ (w : List ℕ). mid ++ (p.0 ++ subst_from name xs q 0 w)) (j ∙ ap (λ (m : ℕ). drop m z) h)

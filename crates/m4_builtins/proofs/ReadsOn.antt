@@ -5,7 +5,7 @@ use Rattle.m4_state.specs.declared.builtin.Builtin.{Builtin}
 use Rattle.m4_state.specs.State.{State}
 use Rattle.m4_builtins.specs.declared.number.Reading.{Reading}
 use Rattle.m4_builtins.specs.declared.place.Place.{Place}
-use Rattle.m4_builtins.specs.Acted.{Acted, tells, telling_first}
+use Rattle.m4_builtins.specs.Acted.{Acted, only_warning, telling_first}
 use Rattle.m4_builtins.specs.Numeric.{number_of_reading, reading_warning, with_number}
 use Rattle.m4_builtins.specs.ReadsAs.{after, ReadsAs}
 use Rattle.m4_builtins.proofs.WithNumber.{with_number-some, with_number-none}
@@ -24,7 +24,7 @@ pub reads_at_once : {A : Type 0} (x : A) (before : List ℕ) → ReadsAs (λ s d
 reads_at_once x before = ([], sym (append-nil before), (λ s does. refl))
 
 -- a fault, and its warning
-pub reads_wrong : {A : Type 0} (warning before now : List ℕ) → now ≡ before ++ warning → ReadsAs {A = A} (λ s does. tells s warning) None before now
+pub reads_wrong : {A : Type 0} (warning before now : List ℕ) → now ≡ before ++ warning → ReadsAs {A = A} (λ s does. only_warning s warning) None before now
 reads_wrong warning before now grown = (warning, grown, (λ s does. refl))
 
 -- a value, after a warning

@@ -15,7 +15,7 @@ use Rattle.m4_builtins.specs.declared.effect.Effect.{Effect}
 use Rattle.m4_builtins.specs.declared.number.Reading.{Reading}
 use Rattle.m4_builtins.specs.declared.place.Place.{Place}
 use Rattle.m4_builtins.specs.Args.{text_of_arg, texts_of, only_text, text_at, or_empty, with_spaces}
-use Rattle.m4_builtins.specs.Acted.{Acted, nothing, changes, tells, expands, telling_first}
+use Rattle.m4_builtins.specs.Acted.{Acted, nothing, changes, only_warning, expands, telling_first}
 use Rattle.m4_builtins.specs.Messages.{excess}
 use Rattle.m4_builtins.specs.Numeric.{reading_of, number_of_reading, reading_warning, with_number}
 use Rattle.m4_builtins.specs.Subst.{all_quoted}
@@ -63,7 +63,7 @@ defn_taken (a ∷ b ∷ rest) p s = ap (λ (texts : List (List ℕ)). several p 
 
 dumpdef_taken : (list : List Arg) (p : Place) (s : State) → dumpdef (map only_text list) p s ≡ dumpdef list p s
 dumpdef_taken [] p s = refl
-dumpdef_taken (a ∷ rest) p s = ap (λ (texts : List (List ℕ)). tells s (dumped (text_of_arg a ∷ texts) p s)) (texts_taken rest)
+dumpdef_taken (a ∷ rest) p s = ap (λ (texts : List (List ℕ)). only_warning s (dumped (text_of_arg a ∷ texts) p s)) (texts_taken rest)
 
 ifdef_by_taken : (o : Option Def) (list : List Arg) → ifdef_by o (map only_text list) ≡ ifdef_by o list
 ifdef_by_taken None list = text_taken list 2
@@ -141,7 +141,7 @@ row_taken inner Translit list p s = λ i. expands s (translated (text_taken list
 row_taken inner Incr list p s = ap (λ (x : List ℕ). with_number p Incr s (reading_of x) (λ n. expands s (signed_decimal (int_wrapping_add w32 n (pos 1))))) (text_taken list 0)
 row_taken inner Decr list p s = ap (λ (x : List ℕ). with_number p Decr s (reading_of x) (λ n. expands s (signed_decimal (int_wrapping_sub w32 n (pos 1))))) (text_taken list 0)
 row_taken inner Eval list p s = eval_taken list p s
-row_taken inner Errprint list p s = ap (λ (texts : List (List ℕ)). tells s (with_spaces texts)) (texts_taken list)
+row_taken inner Errprint list p s = ap (λ (texts : List (List ℕ)). only_warning s (with_spaces texts)) (texts_taken list)
 row_taken inner M4wrap list p s = ap (λ (texts : List (List ℕ)). let r : Acted = record { state = s; effect = record nothing { wrap = Some (with_spaces texts) } } in r) (texts_taken list)
 row_taken inner M4exit list p s = m4exit_taken list p s
 row_taken inner File list p s = refl

@@ -8,7 +8,7 @@ use Rattle.m4_input.specs.declared.pushed.Pushed.TheVariants as pushes
 use Rattle.m4_builtins.specs.declared.number.Reading.{Reading}
 use Rattle.m4_builtins.specs.declared.number.Reading.TheVariants.{Number, Empty, NotNumeric}
 use Rattle.m4_builtins.specs.declared.place.Place.{Place}
-use Rattle.m4_builtins.specs.Acted.{Acted, nothing, tells, expands, telling_first}
+use Rattle.m4_builtins.specs.Acted.{Acted, nothing, only_warning, expands, telling_first}
 use Rattle.m4_builtins.specs.Numeric.{number_of_reading, reading_warning, with_number}
 
 -- a call that expands to a text, with messages
@@ -19,7 +19,7 @@ module _ (p : Place) (b : Builtin) (s : State) where
   module _ (does : ℤ → Acted) where
     -- by the number that was read, if there is one
     abbrev by_number : Option ℤ → Reading → Acted
-    by_number None r = tells s (reading_warning p b r)
+    by_number None r = only_warning s (reading_warning p b r)
     by_number (Some n) r = telling_first (reading_warning p b r) (does n)
 
     by_reading : (r : Reading) → with_number p b s r does ≡ by_number (number_of_reading r) r
@@ -32,7 +32,7 @@ module _ (p : Place) (b : Builtin) (s : State) where
     with_number-some r n e = by_reading r ∙ ap (λ (o : Option ℤ). by_number o r) (sym e)
 
     -- without a number
-    pub with_number-none : (r : Reading) → None ≡ number_of_reading r → with_number p b s r does ≡ tells s (reading_warning p b r)
+    pub with_number-none : (r : Reading) → None ≡ number_of_reading r → with_number p b s r does ≡ only_warning s (reading_warning p b r)
     with_number-none r e = by_reading r ∙ ap (λ (o : Option ℤ). by_number o r) (sym e)
 
   -- with the number that was read, where the call expands to a text

@@ -17,7 +17,7 @@ use Rattle.m4_input.specs.declared.pushed.Pushed.{Pushed}
 use Rattle.m4_input.specs.declared.pushed.Pushed.TheVariants as pushes
 use Rattle.m4_builtins.specs.declared.args.Arg.{Arg}
 use Rattle.m4_builtins.specs.declared.place.Place.{Place}
-pub use Rattle.m4_builtins.specs.Acted.{Acted, IsPushed, nothing, changes, tells, gives, expands, telling_first}
+pub use Rattle.m4_builtins.specs.Acted.{Acted, IsPushed, nothing, changes, only_warning, gives, expands, telling_first}
 use Rattle.m4_builtins.specs.Args.{text_of_arg, only_text}
 use Rattle.m4_builtins.specs.Arithmetic.{incr, decr}
 use Rattle.m4_builtins.specs.Branching.{ifdef, ifelse, shift}
@@ -112,7 +112,7 @@ abbrev pub act_with : Inner → Def → List ℕ → List Arg → Place → Stat
 act_with inner (defs.Text x) name list p s = expands s (subst x name list s.quotes)
 act_with inner (defs.Builtin b) name list p s =
     act_unless inner (nat_lt (length list) (least_of b)) b list p s
-act_with inner (defs.Placeholder x) name list p s = tells s (unsupported p x)
+act_with inner (defs.Placeholder x) name list p s = only_warning s (unsupported p x)
 
 -- what an indirect call with these arguments goes on as: a call on those after the first; without any
 -- it only warns

@@ -1,5 +1,5 @@
 -- Acted: the state and the effect of a call, and the forms in which the builtins' rows say them.
--- Believed. Words: Acted, IsPushed, nothing, changes, tells, gives, expands, telling_first.
+-- Believed. Words: Acted, IsPushed, nothing, changes, only_warning, gives, expands, telling_first.
 use Rattle.std.specs.Prelude.{ℕ, false, List, [], ◌++◌, Option, Some, None}
 use Rattle.m4_state.specs.Definition.{IsDefinition}
 use Rattle.m4_state.specs.State.{State}
@@ -27,8 +27,8 @@ abbrev pub changes : State → Acted
 changes s = record { state = s; effect = nothing }
 
 -- the call expands to nothing, with a message
-abbrev pub tells : State → List ℕ → Acted
-tells s message = record { state = s; effect = record nothing { messages = message } }
+abbrev pub only_warning : State → List ℕ → Acted
+only_warning s message = record { state = s; effect = record nothing { messages = message } }
 
 -- the call expands to a value
 abbrev pub gives : State → Pushed → Acted

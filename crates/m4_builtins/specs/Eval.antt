@@ -15,14 +15,14 @@ use Rattle.m4_eval.specs.InRadix.{radix_at, in_radix}
 use Rattle.m4_builtins.specs.declared.args.Arg.{Arg}
 use Rattle.m4_builtins.specs.declared.place.Place.{Place}
 use Rattle.m4_builtins.specs.Args.{texts_of, text_at}
-use Rattle.m4_builtins.specs.Acted.{Acted, tells, expands, telling_first}
+use Rattle.m4_builtins.specs.Acted.{Acted, only_warning, expands, telling_first}
 use Rattle.m4_builtins.specs.Messages.{empty_number, divide_by_zero, bad_expression, out_of_range}
 use Rattle.m4_builtins.specs.Numeric.{reading_of, with_number}
 
 -- what is done with a radix, if a number is one
 abbrev pub if_radix : Place → State → (ℕ → Acted) → Option ℕ → Acted
 if_radix p s does (Some radix) = does radix
-if_radix p s does None = tells s (out_of_range p)
+if_radix p s does None = only_warning s (out_of_range p)
 
 -- what is done with the radix, which is 10 where its argument is missing or empty
 abbrev pub with_radix : Place → State → List ℕ → (ℕ → Acted) → Acted
@@ -33,7 +33,7 @@ with_radix p s (b ∷ x) does =
 -- what is done with a width of 0 or more; a negative one is out of range
 abbrev pub if_width : Place → State → (ℕ → Acted) → ℤ → Acted
 if_width p s does (pos n) = does n
-if_width p s does (negsuc n) = tells s (out_of_range p)
+if_width p s does (negsuc n) = only_warning s (out_of_range p)
 
 -- what is done with the width, the least count of digits, which is 0 where its argument is missing
 abbrev pub with_width : Place → State → Option (List ℕ) → (ℕ → Acted) → Acted
@@ -43,8 +43,8 @@ with_width p s (Some x) does = with_number p Eval s (reading_of x) (if_width p s
 -- what is done with the value of an expression, if it has one
 abbrev pub if_value : Place → State → (ℤ → Acted) → Evaluated → Acted
 if_value p s does (Value n) = does n
-if_value p s does DivideByZero = tells s (divide_by_zero p)
-if_value p s does BadExpression = tells s (bad_expression p)
+if_value p s does DivideByZero = only_warning s (divide_by_zero p)
+if_value p s does BadExpression = only_warning s (bad_expression p)
 
 -- what is done with the value of a text, which is 0 where it is empty or white space alone
 abbrev pub with_value : Place → State → List ℕ → (ℤ → Acted) → Acted

@@ -14,7 +14,7 @@ use Rattle.m4_builtins.specs.declared.args.Arg.{Arg}
 use Rattle.m4_builtins.specs.declared.args.Arg.TheVariants as args
 use Rattle.m4_builtins.specs.declared.place.Place.{Place}
 use Rattle.m4_builtins.specs.Args.{text_of_arg, texts_of, definition_of_arg, quoted}
-use Rattle.m4_builtins.specs.Acted.{Acted, changes, tells, gives, expands, telling_first}
+use Rattle.m4_builtins.specs.Acted.{Acted, changes, only_warning, gives, expands, telling_first}
 use Rattle.m4_builtins.specs.Messages.{dropped, bad_name}
 
 -- the second of two arguments as a definition, or the empty text where there is none
@@ -26,13 +26,13 @@ definition_in (a ∷ rest) = definition_of_arg a
 abbrev pub define : List Arg → Place → State → Acted
 define [] p s = changes s
 define (args.Text x ∷ rest) p s = changes (defined s x (definition_in rest))
-define (args.Definition d ∷ rest) p s = tells s (bad_name p Define)
+define (args.Definition d ∷ rest) p s = only_warning s (bad_name p Define)
 
 -- `pushdef`: the same, on top of the definitions that the name has
 abbrev pub pushdef : List Arg → Place → State → Acted
 pushdef [] p s = changes s
 pushdef (args.Text x ∷ rest) p s = changes (pushed s x (definition_in rest))
-pushdef (args.Definition d ∷ rest) p s = tells s (bad_name p Pushdef)
+pushdef (args.Definition d ∷ rest) p s = only_warning s (bad_name p Pushdef)
 
 -- each argument in its order, as a name, changes the state
 abbrev pub for_each : (State → List ℕ → State) → List Arg → State → State

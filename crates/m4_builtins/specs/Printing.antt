@@ -14,7 +14,7 @@ use Rattle.m4_state.specs.State.{State, top_of, names_of}
 use Rattle.m4_builtins.specs.declared.args.Arg.{Arg}
 use Rattle.m4_builtins.specs.declared.place.Place.{Place}
 use Rattle.m4_builtins.specs.Args.{texts_of, with_spaces, quoted}
-use Rattle.m4_builtins.specs.Acted.{Acted, tells, expands}
+use Rattle.m4_builtins.specs.Acted.{Acted, only_warning, expands}
 use Rattle.m4_builtins.specs.Messages.{unknown_macro}
 
 -- a builtin's name as it is shown
@@ -66,11 +66,11 @@ abbrev pub dumped : List (List ℕ) → Place → State → List ℕ
 dumped names p s = warnings_on names p s ++ lines_of (in_byte_order names) s
 
 abbrev pub dumpdef : List Arg → Place → State → Acted
-dumpdef list p s = tells s (dumped (names_shown list s) p s)
+dumpdef list p s = only_warning s (dumped (names_shown list s) p s)
 
 -- `errprint`: the arguments joined by spaces; no newline is added
 abbrev pub errprint : List Arg → State → Acted
-errprint list s = tells s (with_spaces (texts_of list))
+errprint list s = only_warning s (with_spaces (texts_of list))
 
 -- `__file__`: between quotes; empty in wrapped text, whose line is 0
 abbrev pub file : Place → State → Acted

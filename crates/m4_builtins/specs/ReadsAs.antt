@@ -3,11 +3,11 @@
 -- done with all of them.
 use Rattle.std.specs.Prelude.{◌≡◌, ℕ, List, ◌++◌, Option, Some, None}
 use Rattle.m4_state.specs.State.{State}
-use Rattle.m4_builtins.specs.Acted.{Acted, tells, telling_first}
+use Rattle.m4_builtins.specs.Acted.{Acted, only_warning, telling_first}
 
 -- what is done after warnings: with what was read, or nothing where it is missing
 abbrev pub after : {A : Type 0} → List ℕ → State → (A → Acted) → Option A → Acted
-after warnings s does None = tells s warnings
+after warnings s does None = only_warning s warnings
 after warnings s does (Some x) = telling_first warnings (does x)
 
 -- the messages grew by warnings, and what is done with an argument is what is done with this answer

@@ -27,9 +27,9 @@ abbrev pub all_quoted : Delimiters → List (List ℕ) → List ℕ
 all_quoted q texts = with_commas (map (quoted q) texts)
 
 -- what a `$` stands for before these bytes, and how many of them belong to it
-abbrev pub behind_dollar : List ℕ → List (List ℕ) → Delimiters → List ℕ → List ℕ × ℕ
-behind_dollar name texts q [] = (dollar ∷ [], 0)
-behind_dollar name texts q (b ∷ x) =
+abbrev pub after_dollar : List ℕ → List (List ℕ) → Delimiters → List ℕ → List ℕ × ℕ
+after_dollar name texts q [] = (dollar ∷ [], 0)
+after_dollar name texts q (b ∷ x) =
     if is_digit b then (
     let n = run_length is_digit (b ∷ x) in (nth_text name texts (number_of (take n (b ∷ x))), n)
     ) else (
@@ -44,7 +44,7 @@ behind_dollar name texts q (b ∷ x) =
 
 -- what a byte stands for before these, and how many of them belong to it
 abbrev pub piece : List ℕ → List (List ℕ) → Delimiters → ℕ → List ℕ → List ℕ × ℕ
-piece name texts q b x = if b == dollar then behind_dollar name texts q x else (b ∷ [], 0)
+piece name texts q b x = if b == dollar then after_dollar name texts q x else (b ∷ [], 0)
 
 -- the text behind its first `skip` bytes, with the arguments put in
 abbrev pub subst_from : List ℕ → List (List ℕ) → Delimiters → ℕ → List ℕ → List ℕ

@@ -141,8 +141,8 @@ impl Head {
     pub fn file(&self) -> &[u8]
         ensures { result.now ≡ self.now.place.file }
     {
-        let behind_name = self.strings.split_at(self.name_len).1;
-        behind_name.split_at(self.text_len).1
+        let after_name = self.strings.split_at(self.name_len).1;
+        after_name.split_at(self.text_len).1
     }
 
     /// The line of the call's name; 0 in wrapped text.

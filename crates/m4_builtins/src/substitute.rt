@@ -5,7 +5,7 @@ ghost use Rattle.m4_input.specs.Ascii.{dollar, is_digit};
 ghost use Rattle.m4_input.specs.Token.{run_length};
 ghost use Rattle.m4_input.specs.DelimsView.{pair_of};
 ghost use Rattle.m4_builtins.specs.Args.{text_of_arg, texts_of, joined, quoted};
-ghost use Rattle.m4_builtins.specs.Subst.{subst, behind_dollar, number_of, nth_text, all_quoted};
+ghost use Rattle.m4_builtins.specs.Subst.{subst, after_dollar, number_of, nth_text, all_quoted};
 ghost use Rattle.m4_builtins.specs.Numbers.{IsNumber};
 
 use crate::args::{Arg, text_of};
@@ -51,9 +51,9 @@ fn push_front<'a>(
     let (plain, from_dollar) = text.split_at(plain_len(text));
     out.extend_from_slice(plain)?;
     match from_dollar.split_first() {
-        Some((_, behind)) => {
-            let used = push_dollar(out, behind, name, list, quotes)?;
-            Ok(behind.split_at(used).1)
+        Some((_, after)) => {
+            let used = push_dollar(out, after, name, list, quotes)?;
+            Ok(after.split_at(used).1)
         }
         None => Ok(from_dollar),
     }
@@ -74,20 +74,20 @@ fn plain_len(bytes: &[u8]) -> usize
 /// Adds what a dollar stands for, and answers how many of the bytes behind it belong to it.
 fn push_dollar(
     out: &mut Vec<u8>,
-    behind: &[u8],
+    after: &[u8],
     name: &[u8],
     list: &[Arg],
     quotes: (&[u8], &[u8]),
 ) -> Result<usize, AllocError>
-    ensures used { IfOk result (λ n. n ≡ (behind_dollar name.now (map text_of_arg list.now) (pair_of quotes.entry) behind.now).1) }
+    ensures used { IfOk result (λ n. n ≡ (after_dollar name.now (map text_of_arg list.now) (pair_of quotes.entry) after.now).1) }
     ensures text { OnOk result (out.new.items ≡ out.old.items
-        ++ (behind_dollar name.now (map text_of_arg list.now) (pair_of quotes.entry) behind.now).0) }
-    ensures within { IfOk result (λ n. n ≤ length behind.now) }
+        ++ (after_dollar name.now (map text_of_arg list.now) (pair_of quotes.entry) after.now).0) }
+    ensures within { IfOk result (λ n. n ≤ length after.now) }
 {
-    match behind.first() {
+    match after.first() {
         Some(b'0'..=b'9') => {
-            let len = digits_len(behind);
-            push_numbered(out, number_of(behind.split_at(len).0), name, list)?;
+            let len = digits_len(after);
+            push_numbered(out, number_of(after.split_at(len).0), name, list)?;
             Ok(len)
         }
         Some(b'#') => {

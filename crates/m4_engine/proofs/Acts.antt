@@ -19,29 +19,29 @@ use Rattle.m4_engine.specs.Expansion.{RunSoFar, Ends}
 use Rattle.m4_engine.specs.Nesting.{Halted, Close, Outcome, Closed}
 use Rattle.m4_engine.specs.OpenCalls.{Stops, Stacked, Move, Goes, pop}
 use Rattle.m4_engine.specs.Expansion.{Call, Limits, Expansion, Kept, Ended, reading}
-use Rattle.m4_engine.specs.Expand.{turn, join, effected, skip_or_push, with_acted, mode_behind_call}
-use Rattle.m4_engine.specs.Engine.{Engine, so_far_of, mode_of, kept_in, outer_of, here_of, configuration, with_made, called_within, ending_in, ending_argument, beginning, close_in, step, Moves}
+use Rattle.m4_engine.specs.Expand.{turn, join, effected, skip_or_push, with_acted, mode_after_call}
+use Rattle.m4_engine.specs.Engine.{Engine, so_far_of, mode_of, kept_in, outer_of, here_of, configuration, with_made, called_within, ending_in, ending_argument, with_open_call, close_in, step, Moves}
 
 -- where an expansion stands behind a call that did this
-abbrev behind : Acted → List ℕ → List ℕ → Engine → Pending → Expansion
-behind a o m e p = record {
+abbrev after : Acted → List ℕ → List ℕ → Engine → Pending → Expansion
+after a o m e p = record {
   limits = e.limits;
   so_far = with_acted a (so_far_of o m e);
   pending = p;
   open_calls = length e.open_calls;
-  mode = mode_behind_call (mode_of e.open_calls);
+  mode = mode_after_call (mode_of e.open_calls);
 }
 
 abbrev popped : List Call → Outcome Expansion Ended → Move Expansion Kept Ended
 popped cs v = pop Expansion Kept Ended turn join (outer_of cs) v
 
 -- the call is a token of what stands around it
-around : (a : Acted) (o m : List ℕ) (limits : Limits) (s : State) (saved : List (List ℕ)) (n : ℕ) (cs : List Call) (output messages : List ℕ) (p p' : Pending) → let e : Engine = record { limits = limits; state = s; saved = saved; calls = n; open_calls = cs; output = output; messages = messages } in let c : Stacked Expansion Kept = record { outer = outer_of cs; here = reading p' (behind a o m e p) } in c ≡ configuration o m (with_made (a.effect).messages (a.effect).output (a.effect).wrap (record e { state = a.state })) p'
+around : (a : Acted) (o m : List ℕ) (limits : Limits) (s : State) (saved : List (List ℕ)) (n : ℕ) (cs : List Call) (output messages : List ℕ) (p p' : Pending) → let e : Engine = record { limits = limits; state = s; saved = saved; calls = n; open_calls = cs; output = output; messages = messages } in let c : Stacked Expansion Kept = record { outer = outer_of cs; here = reading p' (after a o m e p) } in c ≡ configuration o m (with_made (a.effect).messages (a.effect).output (a.effect).wrap (record e { state = a.state })) p'
 around a o m limits s saved n [] output messages p p' = rw (append_assoc o output (a.effect).output, append_assoc m messages (a.effect).messages) refl
 around a o m limits s saved n (c ∷ cs) output messages p p' = rw (append_assoc o output (a.effect).output, append_assoc m messages (a.effect).messages) refl
 
 abbrev effect_at : Acted → List ℕ → List ℕ → Engine → Pending → Outcome Expansion Ended
-effect_at a o m e p = effected (a.effect).exit (a.effect).skip (a.effect).push (behind a o m e p)
+effect_at a o m e p = effected (a.effect).exit (a.effect).skip (a.effect).push (after a o m e p)
 
 called_is : (e : Engine) (c : Call) (a : Acted) (p : Pending) (o m : List ℕ) → act c.definition c.name c.done c.place e.state ≡ a → called_within e.open_calls c (here_of o m e p) ≡ popped e.open_calls (effect_at a o m e p)
 called_is e c a p o m h = ap (λ (a : Acted). popped e.open_calls (effect_at a o m e p)) h
@@ -50,16 +50,16 @@ called_is e c a p o m h = ap (λ (a : Acted). popped e.open_calls (effect_at a o
 pub called_goes : (e e1 : Engine) (c : Call) (a : Acted) (p p' : Pending) → act c.definition c.name c.done c.place e.state ≡ a → (a.effect).exit ≡ None → e1 ≡ with_made (a.effect).messages (a.effect).output (a.effect).wrap (record e { state = a.state }) → ((s : Expansion) → s.pending ≡ p → skip_or_push (a.effect).skip (a.effect).push s ≡ Closed (reading p' s)) → (o m : List ℕ) → called_within e.open_calls c (here_of o m e p) ≡ Goes (configuration o m e1 p')
 called_goes e e1 c a p p' h x i r o m =
     called_is e c a p o m h
-    ∙ ap (λ v. popped e.open_calls (effected v (a.effect).skip (a.effect).push (behind a o m e p))) x
-    ∙ ap (popped e.open_calls) (r (behind a o m e p) refl)
+    ∙ ap (λ v. popped e.open_calls (effected v (a.effect).skip (a.effect).push (after a o m e p))) x
+    ∙ ap (popped e.open_calls) (r (after a o m e p) refl)
     ∙ ap Goes (around a o m e.limits e.state e.saved e.calls e.open_calls e.output e.messages p p' ∙ ap (λ (d : Engine). configuration o m d p') (sym i))
 
 -- a call that ends the run
-pub called_exits : (e e1 : Engine) (c : Call) (a : Acted) (p : Pending) (code : ℕ) → act c.definition c.name c.done c.place e.state ≡ a → (a.effect).exit ≡ Some code → e1 ≡ with_made (a.effect).messages (a.effect).output (a.effect).wrap (record e { state = a.state }) → (o m : List ℕ) → called_within e.open_calls c (here_of o m e p) ≡ Stops (Halted (record { so_far = so_far_of o m e1; how = Ends (causes.Exited code) }))
+pub called_exits : (e e1 : Engine) (c : Call) (a : Acted) (p : Pending) (code : ℕ) → act c.definition c.name c.done c.place e.state ≡ a → (a.effect).exit ≡ Some code → e1 ≡ with_made (a.effect).messages (a.effect).output (a.effect).wrap (record e { state = a.state }) → (o m : List ℕ) → called_within e.open_calls c (here_of o m e p) ≡ Stops (Halted (record { so_far = so_far_of o m e1; reason = Ends (causes.Exited code) }))
 called_exits e e1 c a p code h x i o m =
     called_is e c a p o m h
-    ∙ ap (λ v. popped e.open_calls (effected v (a.effect).skip (a.effect).push (behind a o m e p))) x
-    ∙ ap (λ (r : RunSoFar). Stops (Halted (let d : Ended = record { so_far = r; how = Ends (causes.Exited code) } in d)))
+    ∙ ap (λ v. popped e.open_calls (effected v (a.effect).skip (a.effect).push (after a o m e p))) x
+    ∙ ap (λ (r : RunSoFar). Stops (Halted (let d : Ended = record { so_far = r; reason = Ends (causes.Exited code) } in d)))
     (ap (λ (k : Stacked Expansion Kept). (k.here).so_far) (around a o m e.limits e.state e.saved e.calls e.open_calls e.output e.messages p p) ∙ ap (λ (d : Engine). so_far_of o m d) (sym i))
 
 abbrev head_or : Call → List Call → Call
@@ -77,7 +77,7 @@ without_innermost e = record e { open_calls = tail_of e.open_calls }
 joined_is : (d : Call) (ds : List Call) (o m : List ℕ) (e : Engine) (p : Pending) (s : Expansion) → s ≡ here_of o m e p → step (kept_in ds ∷ outer_of ds) (Close (end_argument d s)) ≡ called_within ds (with_argument d) (here_of o m (record e { messages = e.messages ++ dropped_if_any d.place d.bytes d.tokens; open_calls = ds }) p)
 joined_is d ds o m e p s h = ap (λ (s : Expansion). step (kept_in ds ∷ outer_of ds) (Close (end_argument d s))) h ∙ (rw (append_assoc m e.messages (dropped_if_any d.place d.bytes d.tokens)) refl)
 
-closing_in : (cs : List Call) (e e2 : Engine) (c : Call) (p : Pending) → ending_in cs e ≡ beginning c e2 → e.open_calls ≡ cs → (o m : List ℕ) → step (outer_of cs) (close_in cs (here_of o m e p)) ≡ called_within e2.open_calls c (here_of o m e2 p)
+closing_in : (cs : List Call) (e e2 : Engine) (c : Call) (p : Pending) → ending_in cs e ≡ with_open_call c e2 → e.open_calls ≡ cs → (o m : List ℕ) → step (outer_of cs) (close_in cs (here_of o m e p)) ≡ called_within e2.open_calls c (here_of o m e2 p)
 closing_in [] e e2 c p h i o m =
     let f : [] ≡ c ∷ e2.open_calls = sym i ∙ ap (λ (x : Engine). x.open_calls) h in
     cc
@@ -93,11 +93,11 @@ pub moves_by : (e : Engine) (p : Pending) (t : Turned) (f g : List ℕ → List 
 moves_by e p turns.GoesOn f g h k = λ o m. h o m ∙ k o m
 moves_by e p (turns.Ends cause) f g h k = λ o m. h o m ∙ k o m
 
-pub closing : (e e2 e3 : Engine) (c : Call) (p p' : Pending) (t : Turned) → ending_argument e ≡ beginning c e2 → Moves e3 p' t (λ o m. called_within e2.open_calls c (here_of o m e2 p)) → Moves e3 p' t (λ o m. step (outer_of e.open_calls) (close_in e.open_calls (here_of o m e p)))
+pub closing : (e e2 e3 : Engine) (c : Call) (p p' : Pending) (t : Turned) → ending_argument e ≡ with_open_call c e2 → Moves e3 p' t (λ o m. called_within e2.open_calls c (here_of o m e2 p)) → Moves e3 p' t (λ o m. step (outer_of e.open_calls) (close_in e.open_calls (here_of o m e p)))
 closing e e2 e3 c p p' t h k = moves_by e3 p' t _ _ (closing_in e.open_calls e e2 c p h refl) k
 
 -- the same of an answer
-pub closing_result : (e e2 e3 : Engine) (c : Call) (p p' : Pending) (r : Result Turned TurnFault) → ending_argument e ≡ beginning c e2 → IfOk r (λ t. Moves e3 p' t (λ o m. called_within e2.open_calls c (here_of o m e2 p))) → IfOk r (λ t. Moves e3 p' t (λ o m. step (outer_of e.open_calls) (close_in e.open_calls (here_of o m e p))))
+pub closing_result : (e e2 e3 : Engine) (c : Call) (p p' : Pending) (r : Result Turned TurnFault) → ending_argument e ≡ with_open_call c e2 → IfOk r (λ t. Moves e3 p' t (λ o m. called_within e2.open_calls c (here_of o m e2 p))) → IfOk r (λ t. Moves e3 p' t (λ o m. step (outer_of e.open_calls) (close_in e.open_calls (here_of o m e p))))
 closing_result e e2 e3 c p p' (Ok t) h k = closing e e2 e3 c p p' t h k
 closing_result e e2 e3 c p p' (Err x) h k = tt
 

@@ -15,7 +15,7 @@ use Rattle.m4_engine.specs.declared.turned.Turned.TheVariants as turns
 use Rattle.m4_engine.specs.Nesting.{Closed}
 use Rattle.m4_engine.specs.Expansion.{Call, Expansion, reading}
 use Rattle.m4_engine.specs.Expand.{skip_or_push, call}
-use Rattle.m4_engine.specs.Engine.{Engine, outer_of, here_of, counting, with_made, is_deep_in, is_bare, called_within, step, Moves}
+use Rattle.m4_engine.specs.Engine.{Engine, outer_of, here_of, with_one_call, with_made, is_deep_in, is_bare, called_within, step, Moves}
 use Rattle.m4_engine.proofs.Acts.{called_goes}
 use Rattle.m4_engine.proofs.Calling.{bare_made}
 
@@ -29,7 +29,7 @@ pub text_goes : (e e1 : Engine) (c : Call) (t x : List ℕ) (p p' : Pending) →
 text_goes e e1 c t x p p' d h m r = λ o n. called_goes e e1 c (expands e.state x) p p' (acted_text c t x e d h) refl m r o n
 
 -- the same of a call with no list
-pub bare_goes : (e e2 e1 : Engine) (c : Call) (p p' : Pending) (r : Result Turned TurnFault) → nat_lt e.calls (e.limits).calls ≡ true → is_deep_in e ≡ false → e2 ≡ counting e → IfOk r (λ t. Moves e1 p' t (λ o m. called_within e2.open_calls c (here_of o m e2 p))) → IfOk r (λ t. (before : Pending) → Moves e1 p' t (λ o m. step (outer_of e.open_calls) (call false c p (here_of o m e before))))
+pub bare_goes : (e e2 e1 : Engine) (c : Call) (p p' : Pending) (r : Result Turned TurnFault) → nat_lt e.calls (e.limits).calls ≡ true → is_deep_in e ≡ false → e2 ≡ with_one_call e → IfOk r (λ t. Moves e1 p' t (λ o m. called_within e2.open_calls c (here_of o m e2 p))) → IfOk r (λ t. (before : Pending) → Moves e1 p' t (λ o m. step (outer_of e.open_calls) (call false c p (here_of o m e before))))
 bare_goes e e2 e1 c p p' r room shallow k h = bare_made e e2 e1 c false p p' r refl room k (ap is_deep_in k ∙ shallow) h
 
 -- a text with the same arguments put in
@@ -47,7 +47,7 @@ called_as e e1 x y c p p' (Ok t) h d s = h c y d s
 called_as e e1 x y c p p' (Err f) h d s = tt
 
 -- the same behind a call with no list, within the limits
-pub expanded_goes : (e e2 e1 : Engine) (x : List ℕ) (p p' : Pending) (r : Result Turned TurnFault) → nat_lt e.calls (e.limits).calls ≡ true → is_deep_in e ≡ false → e2 ≡ counting e → IfOk r (λ t. (k : Call) (z : List ℕ) → k.definition ≡ Text z → x ≡ substituted z k.name k.done (e2.state).quotes → Moves e1 p' t (λ o m. called_within e2.open_calls k (here_of o m e2 p))) → IfOk r (λ t. (k : Call) (z : List ℕ) → k.definition ≡ Text z → x ≡ substituted z k.name k.done (e.state).quotes → (before : Pending) → Moves e1 p' t (λ o m. step (outer_of e.open_calls) (call false k p (here_of o m e before))))
+pub expanded_goes : (e e2 e1 : Engine) (x : List ℕ) (p p' : Pending) (r : Result Turned TurnFault) → nat_lt e.calls (e.limits).calls ≡ true → is_deep_in e ≡ false → e2 ≡ with_one_call e → IfOk r (λ t. (k : Call) (z : List ℕ) → k.definition ≡ Text z → x ≡ substituted z k.name k.done (e2.state).quotes → Moves e1 p' t (λ o m. called_within e2.open_calls k (here_of o m e2 p))) → IfOk r (λ t. (k : Call) (z : List ℕ) → k.definition ≡ Text z → x ≡ substituted z k.name k.done (e.state).quotes → (before : Pending) → Moves e1 p' t (λ o m. step (outer_of e.open_calls) (call false k p (here_of o m e before))))
 expanded_goes e e2 e1 x p p' (Ok t) room shallow k h = λ c y d s.
     bare_goes e e2 e1 c p p' (Ok t) room shallow k (h c y d (s ∙ sym (ap (λ (d : Engine). substituted y c.name c.done (d.state).quotes) k)))
 expanded_goes e e2 e1 x p p' (Err f) room shallow k h = tt

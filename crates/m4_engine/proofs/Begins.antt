@@ -3,8 +3,8 @@ use Rattle.std.proofs.Common.{◌≡◌, ℕ, ◌+◌, ◌≤◌, List, [], ◌+
 use Rattle.std.proofs.lemmas.List.{length-append, nil_from_length, take-append-drop, take-take}
 use Rattle.m4_state.proofs.CallerLaws.{with_bytes-append, with_bytes-nil}
 use Rattle.m4_state.specs.Device.{with_bytes, HasBegun}
-use Rattle.m4_engine.specs.Engine.{Engine, handed_on}
-use Rattle.m4_engine.specs.Expands.{HandsOnSome, HasTaken, IsInOrder}
+use Rattle.m4_engine.specs.Engine.{Engine, after_flush}
+use Rattle.m4_engine.specs.Expands.{FlushesSome, HasTaken, IsInOrder}
 use Rattle.m4_engine.specs.Writers.{writers}
 
 -- a writer that was not asked has taken a beginning
@@ -16,8 +16,8 @@ pub all_begun : (o a : Option (List ℕ)) (x : List ℕ) → a ≡ with_bytes o 
 all_begun o a x e = ([], record { front = x; parts = sym (append-nil x); holds = e })
 
 -- what was put before, and a beginning of what comes behind it
-pub begun_behind : (o a b : Option (List ℕ)) (x y more all : List ℕ) → a ≡ with_bytes o x → HasBegun a b y → all ≡ (x ++ y) ++ more → HasBegun o b all
-begun_behind o a b x y more all e h f = (
+pub begun_after : (o a b : Option (List ℕ)) (x y more all : List ℕ) → a ≡ with_bytes o x → HasBegun a b y → all ≡ (x ++ y) ++ more → HasBegun o b all
+begun_after o a b x y more all e h f = (
   h.0 ++ more,
   record {
     front = x ++ (h.1).front;
@@ -29,14 +29,14 @@ begun_behind o a b x y more all e h f = (
 )
 
 -- nothing was handed on
-pub some_none : (e : Engine) (out told : Option (List ℕ)) → HandsOnSome e e (writers out out told told)
-some_none e out told = record { front = []; told = []; held = refl; output = with_bytes-nil out; messages = with_bytes-nil told }
+pub some_none : (e : Engine) (out reported : Option (List ℕ)) → FlushesSome e e (writers out out reported reported)
+some_none e out reported = record { front = []; reported = []; held = refl; output = with_bytes-nil out; messages = with_bytes-nil reported }
 
 -- all was
-pub some_all : (e e' : Engine) (out out' told told' : Option (List ℕ)) → e' ≡ handed_on e → out' ≡ with_bytes out e.output → told' ≡ with_bytes told e.messages → HandsOnSome e e' (writers out out' told told')
-some_all e e' out out' told told' h f g = record {
+pub some_all : (e e' : Engine) (out out' reported reported' : Option (List ℕ)) → e' ≡ after_flush e → out' ≡ with_bytes out e.output → reported' ≡ with_bytes reported e.messages → FlushesSome e e' (writers out out' reported reported')
+some_all e e' out out' reported reported' h f g = record {
   front = e.output;
-  told = e.messages;
+  reported = e.messages;
   held =
       ap (λ (x : List ℕ). let d : Engine = record e { output = x } in d) (sym (append-nil e.output))
       ∙ ap (λ (x : List ℕ). let d : Engine = record e { output = e.output ++ []; messages = x } in d) (sym (append-nil e.messages))
@@ -59,7 +59,7 @@ begun_front o a k all h = (
 -- all of the first part was, and a beginning of the second
 pub begun_parts : (o a b : Option (List ℕ)) (k : ℕ) (all : List ℕ) → a ≡ with_bytes o (take k all) → HasBegun a b (drop k all) → HasBegun o b all
 begun_parts o a b k all e h =
-    begun_behind o a b (take k all) (drop k all) [] all e h
+    begun_after o a b (take k all) (drop k all) [] all e h
     (sym (take-append-drop k all) ∙ sym (append-nil (take k all ++ drop k all)))
 
 -- the beginning of no text is all of it
@@ -79,19 +79,19 @@ taken o a m b n k all more l e = (
 )
 
 -- the messages could not be written
-pub messages_break : (o a m b : Option (List ℕ)) (n k : ℕ) (all told : List ℕ) → n ≤ k → (told ≡ []) ⊎ (n ≡ k) → a ≡ with_bytes o (take k all) → HasBegun m b told → IsInOrder (take n all) told (writers o a m b)
-messages_break o a m b n k all told l c e h = record {
+pub messages_break : (o a m b : Option (List ℕ)) (n k : ℕ) (all reported : List ℕ) → n ≤ k → (reported ≡ []) ⊎ (n ≡ k) → a ≡ with_bytes o (take k all) → HasBegun m b reported → IsInOrder (take n all) reported (writers o a m b)
+messages_break o a m b n k all reported l c e h = record {
   output_first = inr (taken o a m b n k all [] l (e ∙ ap (λ x. with_bytes o x) (sym (append-nil (take k all)))));
   then_messages = go c;
 }
   where
-    go : (told ≡ []) ⊎ (n ≡ k) → HasBegun o a (take n all) ⊎ (b ≡ with_bytes m told)
-    go (inl z) = inr (none_begun m b told z h)
+    go : (reported ≡ []) ⊎ (n ≡ k) → HasBegun o a (take n all) ⊎ (b ≡ with_bytes m reported)
+    go (inl z) = inr (none_begun m b reported z h)
     go (inr s) = inl (all_begun o a (take n all) (e ∙ ap (λ j. with_bytes o (take j all)) (sym s)))
 
 -- the output behind them could not
-pub own_breaks : (o a c m b : Option (List ℕ)) (n k : ℕ) (all y told : List ℕ) → n ≤ k → a ≡ with_bytes o (take k all) → HasBegun a c y → b ≡ with_bytes m told → IsInOrder (take n all) told (writers o c m b)
-own_breaks o a c m b n k all y told l e h f = record {
+pub own_breaks : (o a c m b : Option (List ℕ)) (n k : ℕ) (all y reported : List ℕ) → n ≤ k → a ≡ with_bytes o (take k all) → HasBegun a c y → b ≡ with_bytes m reported → IsInOrder (take n all) reported (writers o c m b)
+own_breaks o a c m b n k all y reported l e h f = record {
   output_first = inr (taken o c m b n k all (h.1).front l ((h.1).holds ∙ ap (λ z. with_bytes z (h.1).front) e ∙ with_bytes-append o (take k all) (h.1).front));
   then_messages = inr f;
 }

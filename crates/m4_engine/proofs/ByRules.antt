@@ -18,9 +18,9 @@ pub record Rules (S F D : Type 0) (turn : S → Turn S F D) (join : F → S → 
 
 module _ (S F D : Type 0) (turn : S → Turn S F D) (join : F → S → Outcome S D) (spent : S → D) (size left : S → ℕ) (falls : Falls S F D turn join size left) (Post : S → Outcome S D → Type 0) (rules : Rules S F D turn join Post) where
   -- behind a call's list
-  behind_list : (fewer : S → Outcome S D) (l : ℕ) → ((a : S) → left a < l → Post a (fewer a)) → ((a b : S) → fewer a ≡ Closed b → left b ≤ left a) → (s t : S) (f : F) → turn s ≡ Opens f t → left t < l → (o : Outcome S D) → fewer t ≡ o → Post t o → Post s (then_on (then_on o (join f)) fewer)
-  behind_list fewer l h keeps s t f e g (Halted d) i p = rules.list_halts s t f d e p
-  behind_list fewer l h keeps s t f e g (Closed u) i p =
+  after_list : (fewer : S → Outcome S D) (l : ℕ) → ((a : S) → left a < l → Post a (fewer a)) → ((a b : S) → fewer a ≡ Closed b → left b ≤ left a) → (s t : S) (f : F) → turn s ≡ Opens f t → left t < l → (o : Outcome S D) → fewer t ≡ o → Post t o → Post s (then_on (then_on o (join f)) fewer)
+  after_list fewer l h keeps s t f e g (Halted d) i p = rules.list_halts s t f d e p
+  after_list fewer l h keeps s t f e g (Closed u) i p =
       (elim (join f u) as (λ o. join f u ≡ o → Post s (then_on o fewer)) [
         | Halted d ↦ λ j. rules.call_halts s t u f d e p j
         | Closed w ↦ λ j.
@@ -42,7 +42,7 @@ module _ (S F D : Type 0) (turn : S → Turn S F D) (join : F → S → Outcome 
         | Bare t ↦ λ e. let a : left t < left s = falls.bare s t e in rules.bare s t _ e (h t (omega arith))
         | Opens f t ↦ λ e.
             let a : left t < left s = falls.opens s t f e in
-            behind_list fewer l h keeps s t f e (omega arith) (fewer t) refl (h t (omega arith))
+            after_list fewer l h keeps s t f e (omega arith) (fewer t) refl (h t (omega arith))
       ]) refl
 
   nested_holds : (n : ℕ) (s : S) → left s < n → Post s (nested S F D turn join spent size n s)

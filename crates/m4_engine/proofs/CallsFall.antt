@@ -20,7 +20,7 @@ use Rattle.m4_engine.specs.Expansion.{Call, Mode, Outside, Collecting, Expansion
 use Rattle.m4_engine.specs.declared.role.Role.{Role}
 use Rattle.m4_engine.specs.declared.role.Role.TheVariants.{Opening, Closing, Separator, Blank, Other}
 use Rattle.m4_engine.specs.Args.{role_of, take_closing, take_byte}
-use Rattle.m4_engine.specs.Expand.{skip_all, skip_line, skip_or_push, effected, kept_of, behind_call, called, join_by, join, call_of, bare, collect, call_unless_deep, is_deep, call_if_room, call, call_without_list, take_call, take_name, take_other, take_end, take_token, take_front, turn, definition_size, pending_size, spent_at, size_of, calls_left, expand}
+use Rattle.m4_engine.specs.Expand.{skip_all, skip_line, skip_or_push, effected, kept_of, after_call, called, join_by, join, call_of, bare, collect, call_unless_deep, is_deep, call_if_room, call, call_without_list, take_call, take_name, take_other, take_end, take_token, take_front, turn, definition_size, pending_size, out_of_bound_at, size_of, calls_left, expand}
 use Rattle.m4_engine.proofs.Bounds.{expansion_is}
 use Rattle.m4_input.proofs.Consumed.{HasBytes, scan_bytes, text-consumed}
 
@@ -63,7 +63,7 @@ effected_left (Some n) skip v s = tt
 effected_left None skip v s = pushed_left skip v s
 
 called_left : (c : Call) (t : Expansion) (k : Kept) → HasLeft (calls_left t) (called c t k)
-called_left c t k = effected_left _ _ _ (behind_call c t k)
+called_left c t k = effected_left _ _ _ (after_call c t k)
 
 enter_list_good : (listed : Bool) (c : Call) (p : Pending) (s : Expansion) → (s.so_far).calls < (s.limits).calls → Good s (collect listed c p (with_call s))
 unfolding Good
@@ -200,4 +200,4 @@ falls = record {
 
 -- an expansion is what its turns say
 pub expand_is : (s : Expansion) → expand s ≡ after Expansion Kept Ended join expand expand (turn s)
-expand_is s = expansion_is Expansion Kept Ended turn join spent_at size_of calls_left falls s
+expand_is s = expansion_is Expansion Kept Ended turn join out_of_bound_at size_of calls_left falls s

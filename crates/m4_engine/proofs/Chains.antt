@@ -16,7 +16,7 @@ alone : (r : RunResult) → JoinsAll (r ∷ []) r
 alone r = record {
   output = sym (append-nil r.output);
   messages = sym (append-nil r.messages);
-  ending = (r, ([], refl), record { how = refl; status = refl; frozen = refl; saved = refl });
+  ending = (r, ([], refl), record { reason = refl; status = refl; frozen = refl; saved = refl });
   calls = let h : r.calls ≡ r.calls + 0 = omega arith in h;
 }
 
@@ -29,16 +29,20 @@ one_more first second joint rest two all =
     record {
       output = two.output ∙ ap (λ x. first.output ++ x) all.output;
       messages = two.messages ∙ ap (λ x. first.messages ++ x) all.messages;
-      ending = (last, (first ∷ before, ap (λ x. first ∷ x) ((all.ending).1).1), record {
-        how = two.how ∙ ends.how;
-        status = two.status ∙ ends.status;
-        frozen = two.frozen ∙ ends.frozen;
-        saved = two.saved ∙ ends.saved;
-      });
+      ending = (
+        last,
+        (first ∷ before, ap (λ x. first ∷ x) ((all.ending).1).1),
+        record {
+          reason = two.reason ∙ ends.reason;
+          status = two.status ∙ ends.status;
+          frozen = two.frozen ∙ ends.frozen;
+          saved = two.saved ∙ ends.saved;
+        },
+      );
       calls = two.calls ∙ ap (λ n. first.calls + n) all.calls;
     }
 
-pub chain : (o : Options) (freezes : Bool) (frozen : Option Script) (sources : List Source) (links : List Link) → AllCarry o frozen sources links → (run (freezing freezes o) frozen (all_sources sources links)).how ≢ Ends causes.ExpansionLimit → JoinsAll (the_chain o freezes frozen sources links) (run (freezing freezes o) frozen (all_sources sources links))
+pub chain : (o : Options) (freezes : Bool) (frozen : Option Script) (sources : List Source) (links : List Link) → AllCarry o frozen sources links → (run (freezing freezes o) frozen (all_sources sources links)).reason ≢ Ends causes.ExpansionLimit → JoinsAll (the_chain o freezes frozen sources links) (run (freezing freezes o) frozen (all_sources sources links))
 chain o freezes frozen sources [] carry limit =
     subst (λ (x : List Source). JoinsAll (run (freezing freezes o) frozen sources ∷ []) (run (freezing freezes o) frozen x)) (sym (append-nil sources))
     (alone (run (freezing freezes o) frozen sources))
@@ -51,6 +55,6 @@ chain o freezes frozen sources (l ∷ ls) carry limit =
     let second : RunResult = run (freezing freezes (prefixed l.prefix o)) (Some (frozen_file text)) (all_sources l.sources ls) in
     let two : Joins first second joint = split o freezes l.prefix frozen sources (all_sources l.sources ls) text carry.0 froze limit in
     let on : AllCarry (prefixed l.prefix o) (Some (frozen_file text)) l.sources ls = subst (λ f. AllCarry (prefixed l.prefix o) f l.sources ls) file carry.2 in
-    let rest : JoinsAll (the_chain (prefixed l.prefix o) freezes (Some (frozen_file text)) l.sources ls) second = chain (prefixed l.prefix o) freezes (Some (frozen_file text)) l.sources ls on (λ e. limit (two.how ∙ e)) in
+    let rest : JoinsAll (the_chain (prefixed l.prefix o) freezes (Some (frozen_file text)) l.sources ls) second = chain (prefixed l.prefix o) freezes (Some (frozen_file text)) l.sources ls on (λ e. limit (two.reason ∙ e)) in
     subst (λ f. JoinsAll (first ∷ the_chain (prefixed l.prefix o) freezes f l.sources ls) joint) (sym file)
     (one_more first second joint _ two rest)

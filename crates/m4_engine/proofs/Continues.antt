@@ -21,11 +21,11 @@ use Rattle.m4_input.specs.Input.{longer}
 use Rattle.m4_builtins.specs.Act.{needs_list}
 use Rattle.m4_engine.specs.declared.ending.Cause.TheVariants as causes
 use Rattle.m4_engine.specs.Nesting.{Turn, Halt, Close, GoOn, Bare, Opens, Outcome, Halted, Closed, then_on, after}
-use Rattle.m4_engine.specs.Expansion.{Call, Mode, Outside, Collecting, Expansion, Kept, Ends, WantsMore, Ended, place_at, with_call, reading}
+use Rattle.m4_engine.specs.Expansion.{Call, Mode, Outside, Collecting, Expansion, Kept, Ends, NeedsInput, Ended, place_at, with_call, reading}
 use Rattle.m4_engine.specs.declared.role.Role.{Role}
 use Rattle.m4_engine.specs.declared.role.Role.TheVariants.{Opening, Closing, Separator, Blank, Other}
 use Rattle.m4_engine.specs.Args.{role_of, take_closing, take_byte}
-use Rattle.m4_engine.specs.Expand.{with_value, skip_all, skip_line, skip_or_push, effected, acted_at, kept_of, behind_call, called, join_by, join, call_of, bare, collect, call_unless_deep, is_deep, call_if_room, call_without_list, take_call, take_name, take_other, take_token, take_front, unended_cause, turn, size_of, calls_left, spent_at, expand}
+use Rattle.m4_engine.specs.Expand.{with_value, skip_all, skip_line, skip_or_push, effected, acted_at, kept_of, after_call, called, join_by, join, call_of, bare, collect, call_unless_deep, is_deep, call_if_room, call_without_list, take_call, take_name, take_other, take_token, take_front, unended_cause, turn, size_of, calls_left, out_of_bound_at, expand}
 use Rattle.m4_engine.proofs.Growth.{Extends, made_out, longer_level, Continues, Begins}
 use Rattle.m4_input.specs.declared.front.Unended.TheVariants.{InString, InComment}
 use Rattle.m4_input.proofs.OpenEnd.{NoEnd, scan_no_end, scan_stays, scan_fits, paren_in_stays, one_more_is}
@@ -77,7 +77,7 @@ module _ (z : List ℕ) (b : Bool) where
 
   -- what the turns of a level and of the longer one have to do with one another
   abbrev Meets : Turn Expansion Kept Ended → Turn Expansion Kept Ended → Type 0
-  Meets (Halt d) w = ((d.how ≡ WantsMore) × Extends d.so_far (made w)) ⊎ ((w ≡ Halt d) × (d.how ≢ Ends causes.Done))
+  Meets (Halt d) w = ((d.reason ≡ NeedsInput) × Extends d.so_far (made w)) ⊎ ((w ≡ Halt d) × (d.reason ≢ Ends causes.Done))
   Meets (Close u) w = (w ≡ Close (longer_level z b u)) × ((u.pending).may_follow ≡ true)
   Meets (GoOn u) w = (w ≡ GoOn (longer_level z b u)) × ((u.pending).may_follow ≡ true)
   Meets (Bare u) w = (w ≡ Bare (longer_level z b u)) × ((u.pending).may_follow ≡ true)
@@ -125,7 +125,7 @@ module _ (z : List ℕ) (b : Bool) where
   effected_meets None skip v s h = pushed_meets skip v s h
 
   called_meets : (c : Call) (t : Expansion) (k : Kept) → (t.pending).may_follow ≡ true → MeetsOut (called c t k) (called c (L t) k)
-  called_meets c t k h = effected_meets ((acted_at c t).effect).exit ((acted_at c t).effect).skip ((acted_at c t).effect).push (behind_call c t k) h
+  called_meets c t k h = effected_meets ((acted_at c t).effect).exit ((acted_at c t).effect).skip ((acted_at c t).effect).push (after_call c t k) h
 
   bare_meets : (o o' : Outcome Expansion Ended) → MeetsOut o o' → Meets (bare o) (bare o')
   bare_meets (Halted d) o' (inl h) = inl (h.0, subst (Extends d.so_far) (sym (bare_made o')) h.1)
@@ -293,7 +293,7 @@ module _ (z : List ℕ) (b : Bool) where
 
   -- the law: what an open end has, every end has as a beginning, and an end that it decides is the end
   pub settled_begins : (s : Expansion) → (s.pending).may_follow ≡ true → Fits Expansion Ended R Q (whole s) (whole (longer_level z b s))
-  settled_begins s h = expansion_fits Expansion Kept Ended turn join spent_at size_of calls_left falls R K Q follows s (L s) (h, refl)
+  settled_begins s h = expansion_fits Expansion Kept Ended turn join out_of_bound_at size_of calls_left falls R K Q follows s (L s) (h, refl)
 
   pub law : (s : Expansion) → (s.pending).may_follow ≡ true → Begins z b (whole s) (whole (longer_level z b s))
   law s h = go (whole s) (settled_begins s h)

@@ -7,18 +7,18 @@ use Rattle.m4_engine.specs.declared.ending.Cause.{Cause}
 use Rattle.m4_engine.specs.declared.ending.Cause.TheVariants as causes
 use Rattle.m4_engine.specs.declared.stop.Stop.{Stop}
 use Rattle.m4_engine.specs.declared.stop.Stop.TheVariants as stops
-use Rattle.m4_engine.specs.Expansion.{Limits, How, Ends}
+use Rattle.m4_engine.specs.Expansion.{Limits, EndReason, Ends}
 use Rattle.m4_engine.specs.File.{Source, Progress, after_sources}
 use Rattle.m4_engine.specs.Wraps.{after_wraps}
-use Rattle.m4_engine.specs.Session.{Standing, progress_of, how_over, written, IsOpen, Filed, BrokeOff, GoesTo}
+use Rattle.m4_engine.specs.Session.{SessionState, progress_of, how_over, written, IsOpen, Completed, BrokeOff, GoesTo}
 use Rattle.m4_engine.specs.Writers.{Contents, writers}
-use Rattle.m4_engine.proofs.Begins.{begun_behind}
+use Rattle.m4_engine.proofs.Begins.{begun_after}
 use Rattle.m4_engine.proofs.Growth.{Extends}
-use Rattle.m4_engine.proofs.RunsBehind.{Bp, Behind, sources_behind, rounds_behind}
+use Rattle.m4_engine.proofs.RunsBehind.{Bp, Behind, sources_follow, rounds_after}
 
 -- a progress behind what was written before
-abbrev pub behind : List ℕ → List ℕ → Progress → Progress
-behind o m p = record p { so_far = record p.so_far { output = o ++ (p.so_far).output; messages = m ++ (p.so_far).messages } }
+abbrev pub after : List ℕ → List ℕ → Progress → Progress
+after o m p = record p { so_far = record p.so_far { output = o ++ (p.so_far).output; messages = m ++ (p.so_far).messages } }
 
 -- the law of runs behind others, where nothing but output and messages was made before
 module _ (o m : List ℕ) (limits : Limits) where
@@ -28,74 +28,74 @@ module _ (o m : List ℕ) (limits : Limits) where
   abbrev B : Progress → Progress
   B = Bp o m 0 limits.calls limits.calls limits.nesting limits.nesting room (λ k h. h) (λ h. ⊥) (inr (refl, refl)) (inr refl) (λ h x. absurd x)
 
-  B_is : (q : Progress) → B q ≡ behind o m q
+  B_is : (q : Progress) → B q ≡ after o m q
   B_is q =
       let n : 0 + (q.so_far).calls ≡ (q.so_far).calls = omega arith in
-      ap (λ (k : ℕ). record (behind o m q) { so_far = record (behind o m q).so_far { calls = k } }) n
+      ap (λ (k : ℕ). record (after o m q) { so_far = record (after o m q).so_far { calls = k } }) n
 
   abbrev Behind' : Progress → Progress → Type 0
   Behind' = Behind o m 0 limits.calls limits.calls limits.nesting limits.nesting room (λ k h. h) (λ h. ⊥) (inr (refl, refl)) (inr refl) (λ h x. absurd x)
 
-  same : (p q : Progress) → Behind' p q → p ≡ behind o m q
+  same : (p q : Progress) → Behind' p q → p ≡ after o m q
   same p q (inl h) = absurd h.2
   same p q (inr e) = e ∙ B_is q
 
-  pub sources_after : (ss : List Source) (q : Progress) → after_sources limits ss (behind o m q) ≡ behind o m (after_sources limits ss q)
+  pub sources_after : (ss : List Source) (q : Progress) → after_sources limits ss (after o m q) ≡ after o m (after_sources limits ss q)
   sources_after ss q =
       ap (after_sources limits ss) (sym (B_is q))
       ∙ same (after_sources limits ss (B q)) (after_sources limits ss q)
-      (sources_behind o m 0 limits.calls limits.calls limits.nesting limits.nesting room (λ k h. h) (λ h. ⊥) (inr (refl, refl)) (inr refl) (λ h x. absurd x) ss (B q) q (inr refl))
+      (sources_follow o m 0 limits.calls limits.calls limits.nesting limits.nesting room (λ k h. h) (λ h. ⊥) (inr (refl, refl)) (inr refl) (λ h x. absurd x) ss (B q) q (inr refl))
 
-  pub wraps_after : (q : Progress) → after_wraps limits (behind o m q) ≡ behind o m (after_wraps limits q)
+  pub wraps_after : (q : Progress) → after_wraps limits (after o m q) ≡ after o m (after_wraps limits q)
   wraps_after q =
       ap (after_wraps limits) (sym (B_is q))
       ∙ same (after_wraps limits (B q)) (after_wraps limits q)
-      (rounds_behind o m 0 limits.calls limits.calls limits.nesting limits.nesting room (λ k h. h) (λ h. ⊥) (inr (refl, refl)) (inr refl) (λ h x. absurd x) (suc limits.calls) (B q) q (inr refl))
+      (rounds_after o m 0 limits.calls limits.calls limits.nesting limits.nesting room (λ k h. h) (λ h. ⊥) (inr (refl, refl)) (inr refl) (λ h x. absurd x) (suc limits.calls) (B q) q (inr refl))
 
 -- what was written of a progress
-pub written_behind : (o m : List ℕ) (p q : Progress) → q ≡ written p → behind o m p ≡ behind (o ++ (p.so_far).output) (m ++ (p.so_far).messages) q
-written_behind o m p q e =
+pub written_after : (o m : List ℕ) (p q : Progress) → q ≡ written p → after o m p ≡ after (o ++ (p.so_far).output) (m ++ (p.so_far).messages) q
+written_after o m p q e =
     (rw (append-nil (o ++ (p.so_far).output), append-nil (m ++ (p.so_far).messages)) refl)
-    ∙ ap (behind (o ++ (p.so_far).output) (m ++ (p.so_far).messages)) (sym e)
+    ∙ ap (after (o ++ (p.so_far).output) (m ++ (p.so_far).messages)) (sym e)
 
 -- behind more that was written
-pub behind_twice : (o m a b : List ℕ) (p : Progress) → behind o m (behind a b p) ≡ behind (o ++ a) (m ++ b) p
-behind_twice o m a b p = rw (append_assoc o a (p.so_far).output, append_assoc m b (p.so_far).messages) refl
+pub after_twice : (o m a b : List ℕ) (p : Progress) → after o m (after a b p) ≡ after (o ++ a) (m ++ b) p
+after_twice o m a b p = rw (append_assoc o a (p.so_far).output, append_assoc m b (p.so_far).messages) refl
 
 -- what a step makes, behind what was written before, is a beginning of the whole; where the step ends
 -- the run, it is all of it
 pub record Within (o m : List ℕ) (p whole : Progress) : Type 0 where
-  pub keeps : Extends (behind o m p).so_far whole.so_far
-  pub over : (h : How) → p.over ≡ Some h → whole ≡ behind o m p
+  pub keeps : Extends (after o m p).so_far whole.so_far
+  pub over : (h : EndReason) → p.over ≡ Some h → whole ≡ after o m p
 
 -- a step that ended the run
-pub over_behind_it : (s' : Standing) (p : Progress) (cause : Cause) → progress_of s' ≡ written p → s'.over ≡ Some cause → p.over ≡ Some (Ends cause)
-over_behind_it s' p cause e f = ap (λ (q : Progress). q.over) (sym e) ∙ ap how_over f
+pub over_after_it : (s' : SessionState) (p : Progress) (cause : Cause) → progress_of s' ≡ written p → s'.over ≡ Some cause → p.over ≡ Some (Ends cause)
+over_after_it s' p cause e f = ap (λ (q : Progress). q.over) (sym e) ∙ ap how_over f
 
 -- a step from where o and m were written, within the whole
-module _ (o m : List ℕ) (p whole : Progress) (t : Within o m p whole) (s0 s s' : Standing) (out0 out out' told0 told told' : Option (List ℕ)) (a : out ≡ with_bytes out0 o) (b : told ≡ with_bytes told0 m) (l0 : IsOpen s0) (l : s.limits ≡ s0.limits) where
+module _ (o m : List ℕ) (p whole : Progress) (t : Within o m p whole) (s0 s s' : SessionState) (out0 out out' reported0 reported reported' : Option (List ℕ)) (a : out ≡ with_bytes out0 o) (b : reported ≡ with_bytes reported0 m) (l0 : IsOpen s0) (l : s.limits ≡ s0.limits) where
   -- it broke off
-  broke : (cause : Cause) → BrokeOff s' p (writers out out' told told') cause → BrokeOff s' whole (writers out0 out' told0 told') cause
+  broke : (cause : Cause) → BrokeOff s' p (writers out out' reported reported') cause → BrokeOff s' whole (writers out0 out' reported0 reported') cause
   broke cause f = record {
     over = f.over;
-    output = begun_behind out0 out out' o (p.so_far).output (t.keeps).more (whole.so_far).output a f.output (t.keeps).output;
-    messages = begun_behind told0 told told' m (p.so_far).messages (t.keeps).told (whole.so_far).messages b f.messages (t.keeps).messages;
+    output = begun_after out0 out out' o (p.so_far).output (t.keeps).more (whole.so_far).output a f.output (t.keeps).output;
+    messages = begun_after reported0 reported reported' m (p.so_far).messages (t.keeps).reported (whole.so_far).messages b f.messages (t.keeps).messages;
   }
 
   -- it ended the run
-  ended : (cause : Cause) → Filed s s' p (writers out out' told told') → s'.over ≡ Some cause → Filed s0 s' whole (writers out0 out' told0 told')
+  ended : (cause : Cause) → Completed s s' p (writers out out' reported reported') → s'.over ≡ Some cause → Completed s0 s' whole (writers out0 out' reported0 reported')
   ended cause f v =
-      subst (λ (q : Progress). Filed s0 s' q (writers out0 out' told0 told')) (sym (t.over (Ends cause) (over_behind_it s' p cause f.progress v))) (record {
+      subst (λ (q : Progress). Completed s0 s' q (writers out0 out' reported0 reported')) (sym (t.over (Ends cause) (over_after_it s' p cause f.progress v))) (record {
         live = l0;
         limits = f.limits ∙ l;
         unfinished = f.unfinished;
         progress = f.progress;
         output = f.output ∙ ap (λ x. with_bytes x (p.so_far).output) a ∙ with_bytes-append out0 o (p.so_far).output;
-        messages = f.messages ∙ ap (λ x. with_bytes x (p.so_far).messages) b ∙ with_bytes-append told0 m (p.so_far).messages;
+        messages = f.messages ∙ ap (λ x. with_bytes x (p.so_far).messages) b ∙ with_bytes-append reported0 m (p.so_far).messages;
       })
 
   -- by the answer
-  pub step_stops : (e : Stop) → GoesTo p s s' (writers out out' told told') (Err e) → GoesTo whole s0 s' (writers out0 out' told0 told') (Err e)
+  pub step_stops : (e : Stop) → GoesTo p s s' (writers out out' reported reported') (Err e) → GoesTo whole s0 s' (writers out0 out' reported0 reported') (Err e)
   step_stops stops.Finished h = h
   step_stops (stops.Ended causes.Read) h = broke causes.Read h
   step_stops (stops.Ended causes.Write) h = broke causes.Write h
@@ -110,9 +110,9 @@ module _ (o m : List ℕ) (p whole : Progress) (t : Within o m p whole) (s0 s s'
   step_stops (stops.Ended (causes.Frozen x)) h = h
 
 -- all was made
-pub all_made : (o m : List ℕ) (s0 s : Standing) (w : Contents) (whole : Progress) → IsOpen s0 → IsOpen s → s.limits ≡ s0.limits → w.out_new ≡ with_bytes w.out_old o → w.messages_new ≡ with_bytes w.messages_old m → behind o m (progress_of s) ≡ whole → GoesTo whole s0 s w (Ok tt)
+pub all_made : (o m : List ℕ) (s0 s : SessionState) (w : Contents) (whole : Progress) → IsOpen s0 → IsOpen s → s.limits ≡ s0.limits → w.out_new ≡ with_bytes w.out_old o → w.messages_new ≡ with_bytes w.messages_old m → after o m (progress_of s) ≡ whole → GoesTo whole s0 s w (Ok tt)
 all_made o m s0 s w whole l0 l limits a b e = (
-  subst (λ (p : Progress). Filed s0 s p w) e (record {
+  subst (λ (p : Progress). Completed s0 s p w) e (record {
     live = l0;
     limits = limits;
     unfinished = l.unfinished;

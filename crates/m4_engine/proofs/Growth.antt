@@ -3,14 +3,14 @@ use Rattle.std.proofs.Common.{◌≡◌, ◌≢◌, ℕ, Bool, true, List, ◌++
 use Rattle.m4_input.specs.Input.{longer}
 use Rattle.m4_engine.specs.declared.ending.Cause.TheVariants as causes
 use Rattle.m4_engine.specs.Nesting.{Outcome, Halted, Closed}
-use Rattle.m4_engine.specs.Expansion.{RunSoFar, Expansion, Ended, Ends, WantsMore}
+use Rattle.m4_engine.specs.Expansion.{RunSoFar, Expansion, Ended, Ends, NeedsInput}
 
 -- the new one has the old one's output and messages, and maybe more
 pub record Extends (old new : RunSoFar) : Type 0 where
   pub more : List ℕ
   pub output : new.output ≡ old.output ++ more
-  pub told : List ℕ
-  pub messages : new.messages ≡ old.messages ++ told
+  pub reported : List ℕ
+  pub messages : new.messages ≡ old.messages ++ reported
 
 -- what an outcome has made
 abbrev pub made_out : Outcome Expansion Ended → RunSoFar
@@ -24,7 +24,7 @@ longer_level z b s = record s { pending = longer z b s.pending }
 -- how an end stands to what a longer input comes to: more is wanted, and the other goes on from what
 -- was written; or both end alike, and not at the end of the input
 abbrev pub Continues : Ended → Outcome Expansion Ended → Type 0
-Continues d o = ((d.how ≡ WantsMore) × Extends d.so_far (made_out o)) ⊎ ((o ≡ Halted d) × (d.how ≢ Ends causes.Done))
+Continues d o = ((d.reason ≡ NeedsInput) × Extends d.so_far (made_out o)) ⊎ ((o ≡ Halted d) × (d.reason ≢ Ends causes.Done))
 
 -- the same of outcomes
 abbrev pub Begins : List ℕ → Bool → Outcome Expansion Ended → Outcome Expansion Ended → Type 0

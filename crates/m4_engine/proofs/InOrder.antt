@@ -18,11 +18,11 @@ use Rattle.m4_state.specs.State.{State, top_of}
 use Rattle.m4_input.specs.declared.pushed.Pushed.{Pushed}
 use Rattle.m4_input.specs.declared.pushed.Pushed.TheVariants as pushes
 use Rattle.m4_engine.specs.Nesting.{Turn, Halt, Close, GoOn, Bare, Opens, Outcome, Halted, Closed}
-use Rattle.m4_engine.specs.Expansion.{RunSoFar, Limits, Call, Mode, Outside, Collecting, Expansion, Kept, How, Ended, place_at, with_call, reading, put_text}
+use Rattle.m4_engine.specs.Expansion.{RunSoFar, Limits, Call, Mode, Outside, Collecting, Expansion, Kept, EndReason, Ended, place_at, with_call, reading, put_text}
 use Rattle.m4_engine.specs.declared.role.Role.{Role}
 use Rattle.m4_engine.specs.declared.role.Role.TheVariants.{Opening, Closing, Separator, Blank, Other}
 use Rattle.m4_engine.specs.Args.{end_argument, with_parenthesis, role_of, take_closing, take_byte}
-use Rattle.m4_engine.specs.Expand.{with_value, skip_all, skip_line, skip_or_push, effected, acted_at, kept_of, behind_call, called, join_by, join, call_of, bare, collect, call_unless_deep, is_deep, call_if_room, call_without_list, take_call, take_name, take_other, take_end, take_token, take_front, turn, size_of, calls_left, spent_at, expand}
+use Rattle.m4_engine.specs.Expand.{with_value, skip_all, skip_line, skip_or_push, effected, acted_at, kept_of, after_call, called, join_by, join, call_of, bare, collect, call_unless_deep, is_deep, call_if_room, call_without_list, take_call, take_name, take_other, take_end, take_token, take_front, turn, size_of, calls_left, out_of_bound_at, expand}
 use Rattle.m4_state.specs.declared.definition.Def.TheVariants as defs
 use Rattle.m4_state.specs.declared.builtin.Builtin.{Builtin}
 use Rattle.m4_state.specs.Builtin.{builtin_named}
@@ -40,7 +40,7 @@ use Rattle.m4_frozen.specs.Spells.{SpellsAll, SpellsOne}
 use Rattle.m4_frozen.specs.Denote.{with_directive, definition_named, builtin_or_placeholder}
 use Rattle.m4_engine.specs.Expansion.{diverted_in, mode_with_text, mode_with_token}
 use Rattle.m4_engine.specs.Args.{argument_of}
-use Rattle.m4_engine.specs.Expand.{mode_behind_call, expansion_of, ended_of, expand_input}
+use Rattle.m4_engine.specs.Expand.{mode_after_call, expansion_of, ended_of, expand_input}
 use Rattle.m4_engine.specs.File.{Source, Opened, Unopened, Progress, file_pending, unless_over, read_source, after_source, after_sources}
 use Rattle.m4_engine.specs.Wraps.{read_saved, next_round, rounds, after_wraps, wrapped_pending, joined_back}
 use Rattle.m4_state.specs.Device.{Script}
@@ -161,14 +161,14 @@ unfolding ValidOut
 effected_valid (Some n) skip v s i h = h.0
 effected_valid None skip v s i h = skip_or_push_valid skip v s i h
 
-begun_valid : (m : Mode) → ValidMode m → ValidMode (mode_behind_call m)
+begun_valid : (m : Mode) → ValidMode m → ValidMode (mode_after_call m)
 unfolding ValidMode
 begun_valid Outside h = tt
 begun_valid (Collecting c) h = h
 
 called_valid : (c : Call) (t : Expansion) (k : Kept) → ValidCall c → IsState (t.so_far).state → ValidToken (t.pending).definition → ValidMode k.mode → ValidOut (called c t k)
 called_valid c t k v h g m =
-    effected_valid ((acted_at c t).effect).exit ((acted_at c t).effect).skip ((acted_at c t).effect).push (behind_call c t k)
+    effected_valid ((acted_at c t).effect).exit ((acted_at c t).effect).skip ((acted_at c t).effect).push (after_call c t k)
     (act_pushes c.definition c.name c.done c.place (t.so_far).state h v.1)
     (act_keeps c.definition c.name c.done c.place (t.so_far).state h v.1, g, begun_valid k.mode m)
 
@@ -314,7 +314,7 @@ rules = record {
 
 input_valid : (limits : Limits) (r : RunSoFar) (p : Pending) → IsState r.state → p.definition ≡ None → IsState ((expand_input limits r p).so_far).state
 unfolding ValidOut ValidMode
-input_valid limits r p h e = go (expand (expansion_of limits r p)) (holds Expansion Kept Ended turn join spent_at size_of calls_left falls Post rules (expansion_of limits r p) (h, subst ValidToken (sym e) none_valid, tt))
+input_valid limits r p h e = go (expand (expansion_of limits r p)) (holds Expansion Kept Ended turn join out_of_bound_at size_of calls_left falls Post rules (expansion_of limits r p) (h, subst ValidToken (sym e) none_valid, tt))
   where
     go : (o : Outcome Expansion Ended) → ValidOut o → IsState ((ended_of o).so_far).state
     go (Halted d) v = v
@@ -322,19 +322,19 @@ input_valid limits r p h e = go (expand (expansion_of limits r p)) (holds Expans
 
 -- ---- a run
 
-unless_valid : (o : Option How) (old new : Progress) → IsState (old.so_far).state → IsState (new.so_far).state → IsState ((unless_over o old new).so_far).state
+unless_valid : (o : Option EndReason) (old new : Progress) → IsState (old.so_far).state → IsState (new.so_far).state → IsState ((unless_over o old new).so_far).state
 unless_valid None old new h g = g
 unless_valid (Some x) old new h g = h
 
-read_valid : (limits : Limits) (s : Source) (r : RunSoFar) (missed : Bool) → IsState r.state → IsState ((read_source limits s r missed).so_far).state
-read_valid limits (Opened name bytes) r missed h = input_valid limits r (file_pending name bytes false) h refl
-read_valid limits (Unopened name) r missed h = h
+read_valid : (limits : Limits) (s : Source) (r : RunSoFar) (any_missing : Bool) → IsState r.state → IsState ((read_source limits s r any_missing).so_far).state
+read_valid limits (Opened name bytes) r any_missing h = input_valid limits r (file_pending name bytes false) h refl
+read_valid limits (Unopened name) r any_missing h = h
 
 pub sources_valid : (limits : Limits) (ss : List Source) (p : Progress) → IsState (p.so_far).state → IsState ((after_sources limits ss p).so_far).state
 sources_valid limits [] p h = h
-sources_valid limits (s ∷ ss) p h = sources_valid limits ss (after_source limits s p) (unless_valid p.over p (read_source limits s p.so_far p.missed) h (read_valid limits s p.so_far p.missed h))
+sources_valid limits (s ∷ ss) p h = sources_valid limits ss (after_source limits s p) (unless_valid p.over p (read_source limits s p.so_far p.any_missing) h (read_valid limits s p.so_far p.any_missing h))
 
-next_valid : (go : Progress → Progress) (limits : Limits) → ((q : Progress) → IsState (q.so_far).state → IsState ((go q).so_far).state) → (v : Option How) (saved : List (List ℕ)) (p : Progress) → IsState (p.so_far).state → IsState ((next_round go limits v saved p).so_far).state
+next_valid : (go : Progress → Progress) (limits : Limits) → ((q : Progress) → IsState (q.so_far).state → IsState ((go q).so_far).state) → (v : Option EndReason) (saved : List (List ℕ)) (p : Progress) → IsState (p.so_far).state → IsState ((next_round go limits v saved p).so_far).state
 next_valid go limits g (Some x) saved p h = h
 next_valid go limits g None [] p h = h
 next_valid go limits g None (x ∷ xs) p h = g (read_saved limits (x ∷ xs) p) (input_valid limits (record p.so_far { saved = [] }) (wrapped_pending (joined_back (x ∷ xs))) h refl)

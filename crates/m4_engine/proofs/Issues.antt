@@ -4,7 +4,7 @@ use Rattle.m4_state.proofs.CallerLaws.{with_bytes-append}
 use Rattle.m4_state.specs.Device.{with_bytes, HasBegun}
 use Rattle.m4_state.specs.State.{State}
 use Rattle.m4_engine.specs.Wraps.{close}
-use Rattle.m4_engine.proofs.Begins.{begun_behind}
+use Rattle.m4_engine.proofs.Begins.{begun_after}
 
 -- so much was issued, and the rest is left
 pub record Issuing (s0 s : State) (out0 out : Option (List ℕ)) : Type 0 where
@@ -25,5 +25,5 @@ issued_one s0 s s' n text out0 out out' i e f = record {
 
 pub issue_breaks : (s0 s s' : State) (n : ℤ) (text : List ℕ) (out0 out out' : Option (List ℕ)) → Issuing s0 s out0 out → s ≡ record s' { diversions = (n, text) ∷ s'.diversions } → HasBegun out out' text → HasBegun out0 out' (close s0)
 issue_breaks s0 s s' n text out0 out out' i e h =
-    begun_behind out0 out out' i.front text (close s') (close s0) i.output h
+    begun_after out0 out out' i.front text (close s') (close s0) i.output h
     (sym i.rest ∙ ap (λ x. i.front ++ x) (close_is s s' n text e) ∙ sym (append_assoc i.front text (close s')))

@@ -6,8 +6,8 @@ use Rattle.m4_engine.specs.declared.turned.Turned.TheVariants as turns
 use Rattle.m4_engine.specs.Nesting.{Turn, Halt, Close, GoOn, Bare, Opens, Outcome, Halted, Closed}
 use Rattle.m4_engine.specs.OpenCalls.{meaning, moved_meaning}
 use Rattle.m4_engine.specs.Expansion.{Expansion, Kept, Ended, Ends}
-use Rattle.m4_engine.specs.Expand.{turn, join, spent_at, size_of, calls_left, expand}
-use Rattle.m4_engine.specs.Engine.{Engine, so_far_of, outer_of, here_of, configuration, handed_on, moved, Moves}
+use Rattle.m4_engine.specs.Expand.{turn, join, out_of_bound_at, size_of, calls_left, expand}
+use Rattle.m4_engine.specs.Engine.{Engine, so_far_of, outer_of, here_of, configuration, after_flush, moved, Moves}
 use Rattle.m4_engine.proofs.CallsFall.{falls}
 use Rattle.m4_engine.proofs.MachineIsNesting.{move_keeps}
 use Rattle.m4_engine.proofs.Shifts.{B, HasLimits, Meets, MeetsOut, turn_meets, join_meets}
@@ -61,30 +61,30 @@ module _ (o m : List ℕ) (calls nesting : ℕ) where
 
 -- how many turns a machine still has
 abbrev pub turns_of : Engine → Pending → ℕ
-turns_of e p = turns_left Expansion Kept Ended turn join spent_at size_of calls_left falls (configuration [] [] e p)
+turns_of e p = turns_left Expansion Kept Ended turn join out_of_bound_at size_of calls_left falls (configuration [] [] e p)
 
 -- what was put out is handed on
-still_behind : (e : Engine) (p : Pending) → here_of [] [] e p ≡ B' e.output e.messages (e.limits).calls (e.limits).nesting (here_of [] [] (handed_on e) p)
-still_behind e p =
+still_after : (e : Engine) (p : Pending) → here_of [] [] e p ≡ B' e.output e.messages (e.limits).calls (e.limits).nesting (here_of [] [] (after_flush e) p)
+still_after e p =
     let n : 0 + e.calls ≡ e.calls = omega arith in
     rw (append-nil e.output, append-nil e.messages, n) refl
 
-same_left : (e : Engine) (p : Pending) → turns_of (handed_on e) p ≡ turns_of e p
+same_left : (e : Engine) (p : Pending) → turns_of (after_flush e) p ≡ turns_of e p
 same_left e p =
-    same_turns Expansion Kept Ended turn join spent_at size_of calls_left falls
+    same_turns Expansion Kept Ended turn join out_of_bound_at size_of calls_left falls
     (Behind e.output e.messages (e.limits).calls (e.limits).nesting)
     (alike e.output e.messages (e.limits).calls (e.limits).nesting)
     (alike_out e.output e.messages (e.limits).calls (e.limits).nesting)
-    (outer_of e.open_calls) (here_of [] [] e p) (here_of [] [] (handed_on e) p) (still_behind e p, (refl, refl))
+    (outer_of e.open_calls) (here_of [] [] e p) (here_of [] [] (after_flush e) p) (still_after e p, (refl, refl))
 
 -- a beginning of what was put out is handed on
 some_left : (e e2 : Engine) (p : Pending) (x y : List ℕ) → e ≡ record e2 { output = x ++ e2.output; messages = y ++ e2.messages } → turns_of e2 p ≡ turns_of e p
-some_left e e2 p x y h = sym (same_left e2 p) ∙ sym (ap (λ (d : Engine). turns_of (handed_on d) p) h) ∙ same_left e p
+some_left e e2 p x y h = sym (same_left e2 p) ∙ sym (ap (λ (d : Engine). turns_of (after_flush d) p) h) ∙ same_left e p
 
 -- a move takes a turn
 pub turn_falls : (e e' : Engine) (p p' : Pending) → Moves e' p' turns.GoesOn (λ o m. moved (configuration o m e p)) → turns_of e' p' < turns_of e p
 turn_falls e e' p p' h =
-    let f : turns_of e' p' + 1 ≡ turns_of e p = turns_fall Expansion Kept Ended turn join spent_at size_of calls_left falls (configuration [] [] e p) (configuration [] [] e' p') (h [] []) in
+    let f : turns_of e' p' + 1 ≡ turns_of e p = turns_fall Expansion Kept Ended turn join out_of_bound_at size_of calls_left falls (configuration [] [] e p) (configuration [] [] e' p') (h [] []) in
     omega arith
 
 pub move_falls : (e e' e2 : Engine) (p p' : Pending) (x y : List ℕ) → e' ≡ record e2 { output = x ++ e2.output; messages = y ++ e2.messages } → Moves e' p' turns.GoesOn (λ o m. moved (configuration o m e p)) → turns_of e2 p' < turns_of e p
@@ -104,10 +104,10 @@ some_means e e2 p o m x y h =
 pub moved_on : (e e' : Engine) (p p' : Pending) (o m : List ℕ) → Moves e' p' turns.GoesOn (λ o m. moved (configuration o m e p)) → meaning_of o m e' p' ≡ meaning_of o m e p
 moved_on e e' p p' o m h =
     ap (moved_meaning Expansion Kept Ended turn join expand) (sym (h o m))
-    ∙ move_keeps Expansion Kept Ended turn join spent_at size_of calls_left falls (configuration o m e p)
+    ∙ move_keeps Expansion Kept Ended turn join out_of_bound_at size_of calls_left falls (configuration o m e p)
 
 -- the end is what it came to
-pub end_means : (e e' : Engine) (p p' : Pending) (o m : List ℕ) (cause : Cause) → Moves e' p' (turns.Ends cause) (λ o m. moved (configuration o m e p)) → meaning_of o m e p ≡ Halted (record { so_far = so_far_of o m e'; how = Ends cause })
+pub end_means : (e e' : Engine) (p p' : Pending) (o m : List ℕ) (cause : Cause) → Moves e' p' (turns.Ends cause) (λ o m. moved (configuration o m e p)) → meaning_of o m e p ≡ Halted (record { so_far = so_far_of o m e'; reason = Ends cause })
 end_means e e' p p' o m cause h =
-    sym (move_keeps Expansion Kept Ended turn join spent_at size_of calls_left falls (configuration o m e p))
+    sym (move_keeps Expansion Kept Ended turn join out_of_bound_at size_of calls_left falls (configuration o m e p))
     ∙ ap (moved_meaning Expansion Kept Ended turn join expand) (h o m)

@@ -22,25 +22,25 @@ use Rattle.m4_engine.specs.Expansion.{RunSoFar, Limits, Call, Mode, Outside, Col
 use Rattle.m4_engine.specs.declared.role.Role.{Role}
 use Rattle.m4_engine.specs.declared.role.Role.TheVariants.{Opening, Closing, Separator, Blank, Other}
 use Rattle.m4_engine.specs.Args.{role_of, take_closing, take_byte}
-use Rattle.m4_engine.specs.Expand.{skip_all, skip_line, skip_or_push, effected, acted_at, kept_of, behind_call, called, join_by, join, call_of, bare, collect, call_unless_deep, is_deep, call_if_room, call, call_without_list, take_call, take_name, take_other, take_end, take_token, take_front, turn, size_of, calls_left, spent_at, expand}
+use Rattle.m4_engine.specs.Expand.{skip_all, skip_line, skip_or_push, effected, acted_at, kept_of, after_call, called, join_by, join, call_of, bare, collect, call_unless_deep, is_deep, call_if_room, call, call_without_list, take_call, take_name, take_other, take_end, take_token, take_front, turn, size_of, calls_left, out_of_bound_at, expand}
 use Rattle.m4_engine.specs.Expand.{expansion_of, ended_of, expand_input}
 use Rattle.m4_engine.proofs.Growth.{Extends, made_out}
 use Rattle.m4_engine.proofs.ByRules.{Rules, holds}
 use Rattle.m4_engine.proofs.CallsFall.{falls}
 
 pub extends_same : (r : RunSoFar) → Extends r r
-extends_same r = record { more = []; output = sym (append-nil r.output); told = []; messages = sym (append-nil r.messages) }
+extends_same r = record { more = []; output = sym (append-nil r.output); reported = []; messages = sym (append-nil r.messages) }
 
 pub extends_more : (a b c : RunSoFar) → Extends a b → Extends b c → Extends a c
 extends_more a b c f g = record {
   more = f.more ++ g.more;
   output = g.output ∙ ap (λ x. x ++ g.more) f.output ∙ append_assoc a.output f.more g.more;
-  told = f.told ++ g.told;
-  messages = g.messages ∙ ap (λ x. x ++ g.told) f.messages ∙ append_assoc a.messages f.told g.told;
+  reported = f.reported ++ g.reported;
+  messages = g.messages ∙ ap (λ x. x ++ g.reported) f.messages ∙ append_assoc a.messages f.reported g.reported;
 }
 
 writes : (a b : RunSoFar) (x y : List ℕ) → b.output ≡ a.output ++ x → b.messages ≡ a.messages ++ y → Extends a b
-writes a b x y e f = record { more = x; output = e; told = y; messages = f }
+writes a b x y e f = record { more = x; output = e; reported = y; messages = f }
 
 pub tells : (a b : RunSoFar) (y : List ℕ) → b.output ≡ a.output → b.messages ≡ a.messages ++ y → Extends a b
 tells a b y e f = writes a b [] y (e ∙ sym (append-nil a.output)) f
@@ -76,7 +76,7 @@ effected_keeps (Some n) skip v s = extends_same _
 effected_keeps None skip v s = pushed_keeps skip v s
 
 pub called_keeps : (c : Call) (t : Expansion) (s : Kept) → Extends t.so_far (made_out (called c t s))
-called_keeps c t s = extends_more _ _ _ (writes t.so_far (behind_call c t s).so_far ((acted_at c t).effect).output ((acted_at c t).effect).messages refl refl) (effected_keeps _ _ _ (behind_call c t s))
+called_keeps c t s = extends_more _ _ _ (writes t.so_far (after_call c t s).so_far ((acted_at c t).effect).output ((acted_at c t).effect).messages refl refl) (effected_keeps _ _ _ (after_call c t s))
 
 pub bare_made : (o : Outcome Expansion Ended) → made (bare o) ≡ made_out o
 bare_made (Halted d) = refl
@@ -170,7 +170,7 @@ rules = record {
 }
 
 pub whole_keeps : (s : Expansion) → Extends s.so_far (made_out (expand s))
-whole_keeps = holds Expansion Kept Ended turn join spent_at size_of calls_left falls Post rules
+whole_keeps = holds Expansion Kept Ended turn join out_of_bound_at size_of calls_left falls Post rules
 
 pub then_keeps : (o : Outcome Expansion Ended) (f : Expansion → Outcome Expansion Ended) → ((u : Expansion) → Extends u.so_far (made_out (f u))) → Extends (made_out o) (made_out (then_on o f))
 then_keeps (Halted d) f g = extends_same d.so_far

@@ -10,8 +10,8 @@ use Rattle.m4_engine.specs.declared.source.Source.{Source as RunSource}
 use Rattle.m4_engine.specs.declared.source.Source.TheVariants as sources
 use Rattle.m4_engine.specs.declared.stop.Stop.{Stop}
 use Rattle.m4_engine.specs.declared.stop.Stop.TheVariants as stops
-use Rattle.m4_engine.specs.Told.{AllPairs, is_unopened, any_unopened, has_failed, is_sound, any_failed, ReadersFailBy, is_taken, are_taken}
-use Rattle.m4_engine.specs.Session.{Standing, ReadFails, SourceFails, SourcesFail, EndGives, CloseGives}
+use Rattle.m4_engine.specs.RunSources.{AllPairs, is_unopened, any_unopened, HasFailed, is_sound, AnyFailed, ReadersFailBy, ConsumesOnly, AllConsumeOnly}
+use Rattle.m4_engine.specs.Session.{SessionState, ReadFails, SourceFails, SourcesFail, EndGives, CloseGives}
 use Rattle.m4_engine.specs.WholeRun.{ending_by}
 use Rattle.m4_engine.specs.Writers.{Contents, Three}
 use Rattle.m4_engine.proofs.Sessions.{close_ends}
@@ -23,27 +23,27 @@ sound_same failures (sources.Opened name r) = refl
 sound_same failures (sources.Unopened name) = tt
 
 -- a source by its reader
-opened_fails : {R : Type 0} (failures : R → ℕ) (name n : List ℕ) (before after : R) (r : Result Unit Stop) → ReadFails r (failures before) (failures after) → SourceFails failures r (sources.Opened name before) (sources.Opened n after)
-opened_fails failures name n before after (Err (stops.Ended causes.Read)) h = h
-opened_fails failures name n before after r h = h
+opened_fails : {R : Type 0} (failures : R → ℕ) (name n : List ℕ) (before later : R) (r : Result Unit Stop) → ReadFails r (failures before) (failures later) → SourceFails failures r (sources.Opened name before) (sources.Opened n later)
+opened_fails failures name n before later (Err (stops.Ended causes.Read)) h = h
+opened_fails failures name n before later r h = h
 
-pub source_fails : {R : Type 0} (failures : R → ℕ) (name n : List ℕ) (before after : R) (first behind : RunSource R) (r : Result Unit Stop) → first ≡ sources.Opened name before → behind ≡ sources.Opened n after → ReadFails r (failures before) (failures after) → SourceFails failures r first behind
-source_fails failures name n before after first behind r f b h =
-    subst (λ x. SourceFails failures r x behind) (sym f)
-    (subst (λ x. SourceFails failures r (sources.Opened name before) x) (sym b) (opened_fails failures name n before after r h))
+pub source_fails : {R : Type 0} (failures : R → ℕ) (name n : List ℕ) (before later : R) (first after : RunSource R) (r : Result Unit Stop) → first ≡ sources.Opened name before → after ≡ sources.Opened n later → ReadFails r (failures before) (failures later) → SourceFails failures r first after
+source_fails failures name n before later first after r f b h =
+    subst (λ x. SourceFails failures r x after) (sym f)
+    (subst (λ x. SourceFails failures r (sources.Opened name before) x) (sym b) (opened_fails failures name n before later r h))
 
 -- the reader at a place failed
-failed_there : {R : Type 0} (failures : R → ℕ) (i : ℕ) (xs ys : List (RunSource R)) (x v : RunSource R) → drop i xs ≡ drop i ys → drop i xs ≡ x ∷ drop (suc i) xs → has_failed failures x v → any_failed failures ys (slice_set xs i v)
+failed_there : {R : Type 0} (failures : R → ℕ) (i : ℕ) (xs ys : List (RunSource R)) (x v : RunSource R) → drop i xs ≡ drop i ys → drop i xs ≡ x ∷ drop (suc i) xs → HasFailed failures x v → AnyFailed failures ys (slice_set xs i v)
 failed_there failures zero [] ys x v e d h = cc
 failed_there failures zero (a ∷ xs) [] x v e d h = cc
 failed_there failures zero (a ∷ xs) (b ∷ ys) x v e d h =
     let k : x ≡ b = cc in
-    inl (subst (λ (y : RunSource _). has_failed failures y v) k h)
+    inl (subst (λ (y : RunSource _). HasFailed failures y v) k h)
 failed_there failures (suc i) [] ys x v e d h = cc
 failed_there failures (suc i) (a ∷ xs) [] x v e d h = cc
 failed_there failures (suc i) (a ∷ xs) (b ∷ ys) x v e d h = inr (failed_there failures i xs ys x v e d h)
 
-pub item_failed : {R : Type 0} (failures : R → ℕ) (i : ℕ) (xs ys : List (RunSource R)) (x v : RunSource R) → drop i xs ≡ drop i ys → i < length xs → has_failed failures (slice_index_or xs i x) v → any_failed failures ys (slice_set xs i v)
+pub item_failed : {R : Type 0} (failures : R → ℕ) (i : ℕ) (xs ys : List (RunSource R)) (x v : RunSource R) → drop i xs ≡ drop i ys → i < length xs → HasFailed failures (slice_index_or xs i x) v → AnyFailed failures ys (slice_set xs i v)
 item_failed failures i xs ys x v e l h = failed_there failures i xs ys (slice_index_or xs i x) v e (drop-cons xs i x l) h
 
 -- each source is so related to itself
@@ -65,8 +65,8 @@ pair_there P (suc i) (p ∷ xs) (q ∷ ys) x v a e d h = (a.0, pair_there P i xs
 pub pair_item : {A : Type 0} (P : A → A → Type 0) (i : ℕ) (xs ys : List A) (x v : A) → AllPairs P ys xs → drop i xs ≡ drop i ys → i < length xs → P (slice_index_or xs i x) v → AllPairs P ys (slice_set xs i v)
 pair_item P i xs ys x v a e l h = pair_there P i xs ys (slice_index_or xs i x) v a e (drop-cons xs i x l) h
 
-pub none_taken_yet : {R : Type 0} (script : R → Option Script) (xs : List (RunSource R)) → are_taken script xs xs
-none_taken_yet script xs = pairs_same (is_taken script) (same_taken script) xs
+pub none_taken_yet : {R : Type 0} (script : R → Option Script) (xs : List (RunSource R)) → AllConsumeOnly script xs xs
+none_taken_yet script xs = pairs_same (ConsumesOnly script) (same_taken script) xs
 
 pub all_sound : {R : Type 0} (failures : R → ℕ) (xs : List (RunSource R)) → AllPairs (is_sound failures) xs xs
 all_sound failures xs = pairs_same (is_sound failures) (sound_same failures) xs
@@ -82,11 +82,11 @@ sources_fail failures i xs ys x v e q r f g a d l h =
     (failed_by failures i xs ys x v e a d l (subst (λ (z : Result Unit Stop). SourceFails failures z (slice_index_or xs i x) v) f h))
 
 -- the end of a run asks no reader
-ends_sound : {R : Type 0} (failures : R → ℕ) (xs ys : List (RunSource R)) (freezes : Bool) (old new : Standing) (w : Contents) (e : Stop) → EndGives freezes old new w (Err e) → AllPairs (is_sound failures) xs ys → SourcesFail {A = Bool} failures (Err e) xs ys
+ends_sound : {R : Type 0} (failures : R → ℕ) (xs ys : List (RunSource R)) (freezes : Bool) (old new : SessionState) (w : Contents) (e : Stop) → EndGives freezes old new w (Err e) → AllPairs (is_sound failures) xs ys → SourcesFail {A = Bool} failures (Err e) xs ys
 ends_sound failures xs ys freezes old new w (stops.Ended causes.Read) h a = absurd h
 ends_sound failures xs ys freezes old new w e h a = a
 
-pub close_sound : {R : Type 0} (failures : R → ℕ) (xs ys : List (RunSource R)) (freezes : Bool) (old new : Standing) (w : Three (Option (List ℕ))) (e : Stop) (q : Result Unit Stop) (r : Result Bool Stop) → q ≡ Err e → r ≡ Err e → CloseGives freezes old new w q → AllPairs (is_sound failures) xs ys → SourcesFail failures r xs ys
+pub close_sound : {R : Type 0} (failures : R → ℕ) (xs ys : List (RunSource R)) (freezes : Bool) (old new : SessionState) (w : Three (Option (List ℕ))) (e : Stop) (q : Result Unit Stop) (r : Result Bool Stop) → q ≡ Err e → r ≡ Err e → CloseGives freezes old new w q → AllPairs (is_sound failures) xs ys → SourcesFail failures r xs ys
 close_sound failures xs ys freezes old new w e q r f g h a =
     subst (λ (z : Result Bool Stop). SourcesFail failures z xs ys) (sym g)
     (ends_sound failures xs ys freezes old new w.two e (subst (EndGives freezes old new w.two) f (close_ends freezes old new w q h)) a)

@@ -5,7 +5,7 @@ use Rattle.std.proofs.lemmas.List.{drop-set-lt, drop-drop}
 use Rattle.m4_state.proofs.CallerLaws.{with_bytes-append, with_bytes-nil}
 use Rattle.m4_state.specs.Device.{Script, with_bytes}
 use Rattle.m4_engine.specs.declared.source.Source.{Source as RunSource}
-use Rattle.m4_engine.specs.Told.{told, may_be, may_all_be, StandFor, StandsFor}
+use Rattle.m4_engine.specs.RunSources.{source_of, ExtendsSource, ExtendSources, DescribeSources, DescribesSource}
 use Rattle.m4_engine.specs.declared.ending.Cause.TheVariants as causes
 use Rattle.m4_engine.specs.declared.stop.Stop.{Stop}
 use Rattle.m4_engine.specs.declared.stop.Stop.TheVariants as stops
@@ -13,65 +13,65 @@ use Rattle.m4_engine.specs.declared.ending.Cause.{Cause}
 use Rattle.m4_engine.specs.Expansion.{Limits, Ends}
 use Rattle.m4_engine.proofs.OnePass.{sources_keep, over_sources}
 use Rattle.m4_engine.specs.File.{Source, Progress, after_source, after_sources}
-use Rattle.m4_engine.specs.Session.{Standing, progress_of, how_over, written, IsOpen, Filed, BrokeOff, GoesTo}
+use Rattle.m4_engine.specs.Session.{SessionState, progress_of, how_over, written, IsOpen, Completed, BrokeOff, GoesTo}
 use Rattle.m4_engine.specs.Writers.{Contents, writers}
-use Rattle.m4_engine.proofs.GoingOn.{behind, sources_after, written_behind, Within, step_stops, all_made}
+use Rattle.m4_engine.proofs.GoingOn.{after, sources_after, written_after, Within, step_stops, all_made}
 use Rattle.m4_engine.proofs.Growth.{Extends}
 
 -- some of the sources were read: so much was written, and the rest of the run is the rest of the sources
-pub record Between (ss : List Source) (i : ℕ) (s0 s : Standing) (w : Contents) : Type 0 where
+pub record Between (ss : List Source) (i : ℕ) (s0 s : SessionState) (w : Contents) : Type 0 where
   pub o : List ℕ
   pub m : List ℕ
   pub output : w.out_new ≡ with_bytes w.out_old o
   pub messages : w.messages_new ≡ with_bytes w.messages_old m
   pub limits : s.limits ≡ s0.limits
-  pub rest : after_sources s0.limits ss (progress_of s0) ≡ after_sources s0.limits (drop i ss) (behind o m (progress_of s))
+  pub rest : after_sources s0.limits ss (progress_of s0) ≡ after_sources s0.limits (drop i ss) (after o m (progress_of s))
 
-pub none_read : (ss : List Source) (s : Standing) (out told : Option (List ℕ)) → Between ss 0 s s (writers out out told told)
-none_read ss s out told = record { o = []; m = []; output = with_bytes-nil out; messages = with_bytes-nil told; limits = refl; rest = refl }
+pub none_read : (ss : List Source) (s : SessionState) (out reported : Option (List ℕ)) → Between ss 0 s s (writers out out reported reported)
+none_read ss s out reported = record { o = []; m = []; output = with_bytes-nil out; messages = with_bytes-nil reported; limits = refl; rest = refl }
 
 -- behind a source, the run goes on from what was written of it
-source_after : (s0 s : Standing) (o m : List ℕ) (t : Source) (ts : List Source) → s.limits ≡ s0.limits → after_sources s0.limits (t ∷ ts) (behind o m (progress_of s)) ≡ after_sources s0.limits ts (behind o m (after_source s.limits t (progress_of s)))
+source_after : (s0 s : SessionState) (o m : List ℕ) (t : Source) (ts : List Source) → s.limits ≡ s0.limits → after_sources s0.limits (t ∷ ts) (after o m (progress_of s)) ≡ after_sources s0.limits ts (after o m (after_source s.limits t (progress_of s)))
 source_after s0 s o m t ts l =
     ap (after_sources s0.limits ts)
-    (sources_after o m s0.limits (t ∷ []) (progress_of s) ∙ ap (λ (x : Limits). behind o m (after_source x t (progress_of s))) (sym l))
+    (sources_after o m s0.limits (t ∷ []) (progress_of s) ∙ ap (λ (x : Limits). after o m (after_source x t (progress_of s))) (sym l))
 
-pub one_read : (ss : List Source) (i j : ℕ) (s0 s s' : Standing) (t : Source) (out0 out out' told0 told told' : Option (List ℕ)) → Between ss i s0 s (writers out0 out told0 told) → drop i ss ≡ t ∷ drop j ss → Filed s s' (after_source s.limits t (progress_of s)) (writers out out' told told') → Between ss j s0 s' (writers out0 out' told0 told')
-one_read ss i j s0 s s' t out0 out out' told0 told told' b d f =
+pub one_read : (ss : List Source) (i j : ℕ) (s0 s s' : SessionState) (t : Source) (out0 out out' reported0 reported reported' : Option (List ℕ)) → Between ss i s0 s (writers out0 out reported0 reported) → drop i ss ≡ t ∷ drop j ss → Completed s s' (after_source s.limits t (progress_of s)) (writers out out' reported reported') → Between ss j s0 s' (writers out0 out' reported0 reported')
+one_read ss i j s0 s s' t out0 out out' reported0 reported reported' b d f =
     let p : Progress = after_source s.limits t (progress_of s) in
     record {
       o = b.o ++ (p.so_far).output;
       m = b.m ++ (p.so_far).messages;
       output = f.output ∙ ap (λ x. with_bytes x (p.so_far).output) b.output ∙ with_bytes-append out0 b.o (p.so_far).output;
-      messages = f.messages ∙ ap (λ x. with_bytes x (p.so_far).messages) b.messages ∙ with_bytes-append told0 b.m (p.so_far).messages;
+      messages = f.messages ∙ ap (λ x. with_bytes x (p.so_far).messages) b.messages ∙ with_bytes-append reported0 b.m (p.so_far).messages;
       limits = f.limits ∙ b.limits;
       rest = b.rest
-          ∙ ap (λ (ts : List Source). after_sources s0.limits ts (behind b.o b.m (progress_of s))) d
+          ∙ ap (λ (ts : List Source). after_sources s0.limits ts (after b.o b.m (progress_of s))) d
           ∙ source_after s0 s b.o b.m t (drop j ss) b.limits
-          ∙ ap (after_sources s0.limits (drop j ss)) (written_behind b.o b.m p (progress_of s') f.progress);
+          ∙ ap (after_sources s0.limits (drop j ss)) (written_after b.o b.m p (progress_of s') f.progress);
     }
 
 -- all were read
-pub all_read : (ss : List Source) (i : ℕ) (s0 s : Standing) (w : Contents) → IsOpen s0 → IsOpen s → Between ss i s0 s w → drop i ss ≡ [] → GoesTo (after_sources s0.limits ss (progress_of s0)) s0 s w (Ok tt)
+pub all_read : (ss : List Source) (i : ℕ) (s0 s : SessionState) (w : Contents) → IsOpen s0 → IsOpen s → Between ss i s0 s w → drop i ss ≡ [] → GoesTo (after_sources s0.limits ss (progress_of s0)) s0 s w (Ok tt)
 all_read ss i s0 s w l0 l b d =
     all_made b.o b.m s0 s w _ l0 l b.limits b.output b.messages
-    (sym (b.rest ∙ ap (λ (ts : List Source). after_sources s0.limits ts (behind b.o b.m (progress_of s))) d))
+    (sym (b.rest ∙ ap (λ (ts : List Source). after_sources s0.limits ts (after b.o b.m (progress_of s))) d))
 
 -- a source that is read is within all of them
-within : (ss : List Source) (i j : ℕ) (s0 s : Standing) (t : Source) (w : Contents) (b : Between ss i s0 s w) → drop i ss ≡ t ∷ drop j ss → Within b.o b.m (after_source s.limits t (progress_of s)) (after_sources s0.limits ss (progress_of s0))
+within : (ss : List Source) (i j : ℕ) (s0 s : SessionState) (t : Source) (w : Contents) (b : Between ss i s0 s w) → drop i ss ≡ t ∷ drop j ss → Within b.o b.m (after_source s.limits t (progress_of s)) (after_sources s0.limits ss (progress_of s0))
 within ss i j s0 s t w b d =
     let p : Progress = after_source s.limits t (progress_of s) in
-    let e : after_sources s0.limits ss (progress_of s0) ≡ after_sources s0.limits (drop j ss) (behind b.o b.m p) =
-    b.rest ∙ ap (λ (ts : List Source). after_sources s0.limits ts (behind b.o b.m (progress_of s))) d ∙ source_after s0 s b.o b.m t (drop j ss) b.limits in
+    let e : after_sources s0.limits ss (progress_of s0) ≡ after_sources s0.limits (drop j ss) (after b.o b.m p) =
+    b.rest ∙ ap (λ (ts : List Source). after_sources s0.limits ts (after b.o b.m (progress_of s))) d ∙ source_after s0 s b.o b.m t (drop j ss) b.limits in
     record {
-      keeps = subst (λ (q : Progress). Extends (behind b.o b.m p).so_far q.so_far) (sym e) (sources_keep s0.limits (drop j ss) (behind b.o b.m p));
-      over = λ h v. e ∙ over_sources s0.limits (drop j ss) (behind b.o b.m p) h v;
+      keeps = subst (λ (q : Progress). Extends (after b.o b.m p).so_far q.so_far) (sym e) (sources_keep s0.limits (drop j ss) (after b.o b.m p));
+      over = λ h v. e ∙ over_sources s0.limits (drop j ss) (after b.o b.m p) h v;
     }
 
 -- by the answer
-stopped : (ss : List Source) (i j : ℕ) (s0 s s' : Standing) (t : Source) (out0 out out' told0 told told' : Option (List ℕ)) (e : Stop) → IsOpen s0 → Between ss i s0 s (writers out0 out told0 told) → drop i ss ≡ t ∷ drop j ss → GoesTo (after_source s.limits t (progress_of s)) s s' (writers out out' told told') (Err e) → GoesTo (after_sources s0.limits ss (progress_of s0)) s0 s' (writers out0 out' told0 told') (Err e)
-stopped ss i j s0 s s' t out0 out out' told0 told told' e l b d h =
-    step_stops b.o b.m _ _ (within ss i j s0 s t _ b d) s0 s s' out0 out out' told0 told told' b.output b.messages l b.limits e h
+stopped : (ss : List Source) (i j : ℕ) (s0 s s' : SessionState) (t : Source) (out0 out out' reported0 reported reported' : Option (List ℕ)) (e : Stop) → IsOpen s0 → Between ss i s0 s (writers out0 out reported0 reported) → drop i ss ≡ t ∷ drop j ss → GoesTo (after_source s.limits t (progress_of s)) s s' (writers out out' reported reported') (Err e) → GoesTo (after_sources s0.limits ss (progress_of s0)) s0 s' (writers out0 out' reported0 reported') (Err e)
+stopped ss i j s0 s s' t out0 out out' reported0 reported reported' e l b d h =
+    step_stops b.o b.m _ _ (within ss i j s0 s t _ b d) s0 s s' out0 out out' reported0 reported reported' b.output b.messages l b.limits e h
 
 -- which source stands at a place
 told_at : {R : Type 0} (f : R → Option Source) (xs : List R) (ss : List Source) (i : ℕ) (x : R) (rest : List R) → map f xs ≡ map Some ss → drop i xs ≡ x ∷ rest → (t : Source) × (f x ≡ Some t) × (drop i ss ≡ t ∷ drop (suc i) ss)
@@ -103,12 +103,12 @@ rest_kept xs ys i v e =
 
 -- the first sources may have been these
 abbrev may_first : {R : Type 0} → (R → Option Script) → ℕ → List (RunSource R) → List (RunSource R) → List Source → Type 0
-may_first script zero before behind ss = Unit {0}
+may_first script zero before after ss = Unit {0}
 may_first script (suc i) [] [] [] = Unit {0}
-may_first script (suc i) (x ∷ xs) (y ∷ ys) (s ∷ ss) = may_be script x y s × may_first script i xs ys ss
-may_first script (suc i) before behind ss = ⊥
+may_first script (suc i) (x ∷ xs) (y ∷ ys) (s ∷ ss) = ExtendsSource script x y s × may_first script i xs ys ss
+may_first script (suc i) before after ss = ⊥
 
-first_of_all : {R : Type 0} (script : R → Option Script) (xs ys : List (RunSource R)) (ss : List Source) (i : ℕ) → may_all_be script xs ys ss → may_first script i xs ys ss
+first_of_all : {R : Type 0} (script : R → Option Script) (xs ys : List (RunSource R)) (ss : List Source) (i : ℕ) → ExtendSources script xs ys ss → may_first script i xs ys ss
 first_of_all script xs ys ss zero h = tt
 first_of_all script [] [] [] (suc i) h = tt
 first_of_all script [] [] (s ∷ ss) (suc i) h = absurd h
@@ -118,7 +118,7 @@ first_of_all script (x ∷ xs) [] ss (suc i) h = absurd h
 first_of_all script (x ∷ xs) (y ∷ ys) [] (suc i) h = absurd h
 first_of_all script (x ∷ xs) (y ∷ ys) (s ∷ ss) (suc i) h = (h.0, first_of_all script xs ys ss i h.1)
 
-none_may : {R : Type 0} (script : R → Option Script) (xs ys : List (RunSource R)) (ss : List Source) (i : ℕ) → may_all_be script xs ys ss → length xs ≤ i → drop i ss ≡ []
+none_may : {R : Type 0} (script : R → Option Script) (xs ys : List (RunSource R)) (ss : List Source) (i : ℕ) → ExtendSources script xs ys ss → length xs ≤ i → drop i ss ≡ []
 none_may script [] [] [] zero h l = refl
 none_may script [] [] [] (suc i) h l = refl
 none_may script [] [] (s ∷ ss) i h l = absurd h
@@ -133,7 +133,7 @@ none_may script (x ∷ xs) (y ∷ ys) (s ∷ ss) (suc i) h l = none_may script x
 record ItemMay {R : Type 0} (script : R → Option Script) (i : ℕ) (xs ys : List (RunSource R)) (x v : RunSource R) (ss : List Source) : Type 0 where
   first : may_first script i ys xs ss
   source : Source
-  may : may_be script x v source
+  may : ExtendsSource script x v source
   there : drop i ss ≡ source ∷ drop (suc i) ss
 
 item_may : {R : Type 0} (script : R → Option Script) (i : ℕ) (xs ys : List (RunSource R)) (x v : RunSource R) (ss : List Source) → drop i xs ≡ drop i ys → drop i xs ≡ x ∷ drop (suc i) xs → may_first script (suc i) ys (slice_set xs i v) ss → ItemMay script i xs ys x v ss
@@ -142,7 +142,7 @@ item_may script zero (a ∷ xs) [] x v ss e d h = cc
 item_may script zero (a ∷ xs) (b ∷ ys) x v [] e d h = absurd h
 item_may script zero (a ∷ xs) (b ∷ ys) x v (s ∷ ss) e d h =
     let k : b ≡ x = cc in
-    record { first = tt; source = s; may = subst (λ (y : RunSource _). may_be script y v s) k h.0; there = refl }
+    record { first = tt; source = s; may = subst (λ (y : RunSource _). ExtendsSource script y v s) k h.0; there = refl }
 item_may script (suc i) [] ys x v ss e d h = cc
 item_may script (suc i) (a ∷ xs) [] x v ss e d h = absurd h
 item_may script (suc i) (a ∷ xs) (b ∷ ys) x v [] e d h = absurd h
@@ -152,26 +152,26 @@ item_may script (suc i) (a ∷ xs) (b ∷ ys) x v (s ∷ ss) e d h =
 
 -- what stands for the first sources
 abbrev pub FirstFor : {R : Type 0} → (R → Option Script) → ℕ → List (RunSource R) → List (RunSource R) → List Source → Type 0
-FirstFor script i before behind ss = (map (told script) before ≡ map Some ss) ⊎ may_first script i before behind ss
+FirstFor script i before after ss = (map (source_of script) before ≡ map Some ss) ⊎ may_first script i before after ss
 
-pub first_for : {R : Type 0} (script : R → Option Script) (i : ℕ) (xs ys : List (RunSource R)) (ss : List Source) → StandFor script xs ys ss → FirstFor script i xs ys ss
+pub first_for : {R : Type 0} (script : R → Option Script) (i : ℕ) (xs ys : List (RunSource R)) (ss : List Source) → DescribeSources script xs ys ss → FirstFor script i xs ys ss
 first_for script i xs ys ss (inl t) = inl t
 first_for script i xs ys ss (inr m) = inr (first_of_all script xs ys ss i m)
 
-pub none_left : {R : Type 0} (script : R → Option Script) (xs ys : List (RunSource R)) (ss : List Source) (i : ℕ) → StandFor script xs ys ss → length xs ≤ i → drop i ss ≡ []
-none_left script xs ys ss i (inl t) l = none_told (told script) xs ss i t l
+pub none_left : {R : Type 0} (script : R → Option Script) (xs ys : List (RunSource R)) (ss : List Source) (i : ℕ) → DescribeSources script xs ys ss → length xs ≤ i → drop i ss ≡ []
+none_left script xs ys ss i (inl t) l = none_told (source_of script) xs ss i t l
 none_left script xs ys ss i (inr m) l = none_may script xs ys ss i m l
 
 -- the source at a place, and what the definitions have there
 pub record Item {R : Type 0} (script : R → Option Script) (i : ℕ) (xs ys : List (RunSource R)) (x v : RunSource R) (ss : List Source) : Type 0 where
   pub first : FirstFor script i ys xs ss
   pub source : Source
-  pub stands : StandsFor script x v source
+  pub stands : DescribesSource script x v source
   pub there : drop i ss ≡ source ∷ drop (i + 1) ss
 
 pub item : {R : Type 0} (script : R → Option Script) (i : ℕ) (xs ys : List (RunSource R)) (x v : RunSource R) (ss : List Source) → drop i xs ≡ drop i ys → i < length xs → FirstFor script (i + 1) ys (slice_set xs i v) ss → Item script i xs ys (slice_index_or xs i x) v ss
 item script i xs ys x v ss d l (inl t) =
-    let k = told_at (told script) ys ss i (slice_index_or xs i x) (drop (suc i) xs) t (sym d ∙ drop-cons xs i x l) in
+    let k = told_at (source_of script) ys ss i (slice_index_or xs i x) (drop (suc i) xs) t (sym d ∙ drop-cons xs i x l) in
     let n : suc i ≡ i + 1 = omega arith in
     record { first = inl t; source = k.0; stands = inl k.1; there = k.2 ∙ ap (λ (j : ℕ). k.0 ∷ drop j ss) n }
 item script i xs ys x v ss d l (inr m) =
@@ -179,7 +179,7 @@ item script i xs ys x v ss d l (inr m) =
     let k = item_may script i xs ys (slice_index_or xs i x) v ss d (drop-cons xs i x l) (subst (λ (j : ℕ). may_first script j ys (slice_set xs i v) ss) n m) in
     record { first = inr k.first; source = k.source; stands = inr k.may; there = k.there ∙ ap (λ (j : ℕ). k.source ∷ drop j ss) (sym n) }
 
-pub stopped_so : (ss : List Source) (i j : ℕ) (s0 s s' : Standing) (t : Source) (out0 out out' told0 told told' : Option (List ℕ)) (e : Stop) (q r : Result Unit Stop) → q ≡ Err e → r ≡ Err e → IsOpen s0 → Between ss i s0 s (writers out0 out told0 told) → drop i ss ≡ t ∷ drop j ss → GoesTo (after_source s.limits t (progress_of s)) s s' (writers out out' told told') q → GoesTo (after_sources s0.limits ss (progress_of s0)) s0 s' (writers out0 out' told0 told') r
-stopped_so ss i j s0 s s' t out0 out out' told0 told told' e q r f g l b d h =
-    subst (GoesTo (after_sources s0.limits ss (progress_of s0)) s0 s' (writers out0 out' told0 told')) (sym g)
-    (stopped ss i j s0 s s' t out0 out out' told0 told told' e l b d (subst (GoesTo (after_source s.limits t (progress_of s)) s s' (writers out out' told told')) f h))
+pub stopped_so : (ss : List Source) (i j : ℕ) (s0 s s' : SessionState) (t : Source) (out0 out out' reported0 reported reported' : Option (List ℕ)) (e : Stop) (q r : Result Unit Stop) → q ≡ Err e → r ≡ Err e → IsOpen s0 → Between ss i s0 s (writers out0 out reported0 reported) → drop i ss ≡ t ∷ drop j ss → GoesTo (after_source s.limits t (progress_of s)) s s' (writers out out' reported reported') q → GoesTo (after_sources s0.limits ss (progress_of s0)) s0 s' (writers out0 out' reported0 reported') r
+stopped_so ss i j s0 s s' t out0 out out' reported0 reported reported' e q r f g l b d h =
+    subst (GoesTo (after_sources s0.limits ss (progress_of s0)) s0 s' (writers out0 out' reported0 reported')) (sym g)
+    (stopped ss i j s0 s s' t out0 out out' reported0 reported reported' e l b d (subst (GoesTo (after_source s.limits t (progress_of s)) s s' (writers out out' reported reported')) f h))

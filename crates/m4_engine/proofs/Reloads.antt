@@ -11,7 +11,7 @@ use Rattle.m4_engine.specs.declared.ending.Cause.TheVariants as causes
 use Rattle.m4_engine.specs.Expansion.{Limits, Ends}
 use Rattle.m4_engine.specs.File.{Source, Progress, after_sources}
 use Rattle.m4_engine.specs.Start.{Start, From, frozen_file, start_of, begun}
-use Rattle.m4_engine.specs.Run.{limits_of, saved_behind, run, run_from}
+use Rattle.m4_engine.specs.Run.{limits_of, saved_after, run, run_from}
 use Rattle.m4_engine.specs.Carries.{Carries, end_of, frozen_state}
 use Rattle.m4_engine.specs.Joined.{freezing, prefixed, Joins}
 use Rattle.m4_engine.proofs.SameStart.{start-spelled, starts_so}
@@ -33,12 +33,12 @@ frozen_in_order o frozen as' =
     wraps_valid limits (after_sources limits as' (begun start))
     (sources_valid limits as' (begun start) (start_valid o.prefix frozen start (starts_so o.prefix frozen)))
 
-pub split : (o : Options) (freezes prefix : Bool) (frozen : Option Script) (as' bs : List Source) (text : List ℕ) → Carries (freezing true o) (start_of o.prefix frozen) as' → (run (freezing true o) frozen as').frozen ≡ Some text → (run (freezing freezes o) frozen (as' ++ bs)).how ≢ Ends causes.ExpansionLimit → Joins (run (freezing true o) frozen as') (run (prefixed prefix (freezing freezes o)) (Some (frozen_file text)) bs) (run (freezing freezes o) frozen (as' ++ bs))
+pub split : (o : Options) (freezes prefix : Bool) (frozen : Option Script) (as' bs : List Source) (text : List ℕ) → Carries (freezing true o) (start_of o.prefix frozen) as' → (run (freezing true o) frozen as').frozen ≡ Some text → (run (freezing freezes o) frozen (as' ++ bs)).reason ≢ Ends causes.ExpansionLimit → Joins (run (freezing true o) frozen as') (run (prefixed prefix (freezing freezes o)) (Some (frozen_file text)) bs) (run (freezing freezes o) frozen (as' ++ bs))
 split o freezes prefix frozen as' bs text carries froze joint =
     let start : Start = start_of o.prefix frozen in
     let s : State = frozen_state (freezing true o) start as' in
     let e : Progress = end_of (freezing true o) start as' in
-    let is : text ≡ freeze s = (frozen_by e.over (saved_behind as' (after_sources (limits_of o) as' (begun start))) e.so_far e.missed text froze).1 in
+    let is : text ≡ freeze s = (frozen_by e.over (saved_after as' (after_sources (limits_of o) as' (begun start))) e.so_far e.any_missing text froze).1 in
     let from : start_of o.prefix (Some (frozen_file text)) ≡ From s [] =
     ap (λ (x : List ℕ). start_of o.prefix (Some (frozen_file x))) is
     ∙ start_frozen o.prefix s (frozen_in_order (freezing true o) frozen as') carries.sized in

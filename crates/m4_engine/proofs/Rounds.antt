@@ -1,6 +1,6 @@
 -- Rounds: the rounds of saved texts have no bound that is ever reached.
 use Rattle.std.proofs.Common.{◌≡◌, ◌⊎◌, inl, inr, ⊎_elim, ℕ, zero, suc, ◌-◌, ◌<◌, ◌≤◌, List, [], ◌∷◌, Option, Some, None, refl, sym, ap, subst, arith}
-use Rattle.m4_engine.specs.Expansion.{Limits as TheLimits, How}
+use Rattle.m4_engine.specs.Expansion.{Limits as TheLimits, EndReason}
 use Rattle.m4_engine.specs.File.{Progress}
 use Rattle.m4_engine.specs.Wraps.{read_saved, next_round, rounds, after_wraps, joined_back, wrapped_pending}
 use Rattle.m4_engine.specs.Laws.{WrapsRules}
@@ -9,9 +9,9 @@ use Rattle.m4_engine.proofs.RunsBehind.{over_rounds}
 
 -- no round is left: the run is over, or no text is saved
 abbrev pub Complete : Progress → Type 0
-Complete p = ((h : How) × (p.over ≡ Some h)) ⊎ ((p.so_far).saved ≡ [])
+Complete p = ((h : EndReason) × (p.over ≡ Some h)) ⊎ ((p.so_far).saved ≡ [])
 
-complete_by : (v : Option How) (go : Progress → Progress) (limits : TheLimits) (p : Progress) → p.over ≡ v → (p.so_far).saved ≡ [] → next_round go limits v (p.so_far).saved p ≡ p
+complete_by : (v : Option EndReason) (go : Progress → Progress) (limits : TheLimits) (p : Progress) → p.over ≡ v → (p.so_far).saved ≡ [] → next_round go limits v (p.so_far).saved p ≡ p
 complete_by None go limits p e f = ap (λ saved. next_round go limits None saved p) f
 complete_by (Some h) go limits p e f = refl
 
@@ -28,7 +28,7 @@ complete_after n limits p h = subst Complete (sym (complete_stays n limits p h))
 pub round_saves : (limits : TheLimits) (saved : List (List ℕ)) (p : Progress) → ((read_saved limits saved p).so_far.saved ≡ []) ⊎ (limits.calls - (read_saved limits saved p).so_far.calls < limits.calls - (p.so_far).calls)
 round_saves limits saved p = (input_saves limits (record p.so_far { saved = [] }) (wrapped_pending (joined_back saved))).1
 
-next_complete : (go : Progress → Progress) (limits : TheLimits) (l : ℕ) → ((q : Progress) → Complete q → Complete (go q)) → ((q : Progress) → limits.calls - (q.so_far).calls < l → Complete (go q)) → (v : Option How) (saved : List (List ℕ)) (p : Progress) → p.over ≡ v → (p.so_far).saved ≡ saved → limits.calls - (p.so_far).calls ≤ l → Complete (next_round go limits v saved p)
+next_complete : (go : Progress → Progress) (limits : TheLimits) (l : ℕ) → ((q : Progress) → Complete q → Complete (go q)) → ((q : Progress) → limits.calls - (q.so_far).calls < l → Complete (go q)) → (v : Option EndReason) (saved : List (List ℕ)) (p : Progress) → p.over ≡ v → (p.so_far).saved ≡ saved → limits.calls - (p.so_far).calls ≤ l → Complete (next_round go limits v saved p)
 next_complete go limits l h g (Some x) saved p e f k = inl (x, e)
 next_complete go limits l h g None [] p e f k = inr f
 next_complete go limits l h g None (x ∷ xs) p e f k =
@@ -46,7 +46,7 @@ pub wraps_complete : (limits : TheLimits) (p : Progress) → Complete (after_wra
 wraps_complete limits p = rounds_complete (suc limits.calls) limits p (omega arith)
 
 -- with more rounds than were enough the run is the same
-next_same : (go go' : Progress → Progress) (limits : TheLimits) → ((q : Progress) → Complete (go q) → go' q ≡ go q) → (v : Option How) (saved : List (List ℕ)) (p : Progress) → Complete (next_round go limits v saved p) → next_round go' limits v saved p ≡ next_round go limits v saved p
+next_same : (go go' : Progress → Progress) (limits : TheLimits) → ((q : Progress) → Complete (go q) → go' q ≡ go q) → (v : Option EndReason) (saved : List (List ℕ)) (p : Progress) → Complete (next_round go limits v saved p) → next_round go' limits v saved p ≡ next_round go limits v saved p
 next_same go go' limits h (Some x) saved p c = refl
 next_same go go' limits h None [] p c = refl
 next_same go go' limits h None (x ∷ xs) p c = h (read_saved limits (x ∷ xs) p) c
@@ -57,7 +57,7 @@ more_rounds (suc n) zero limits p h c = absurd (omega arith)
 more_rounds (suc n) (suc m) limits p h c = next_same (rounds n limits) (rounds m limits) limits (λ q k. more_rounds n m limits q (omega arith) k) p.over (p.so_far).saved p c
 
 -- the round that comes next, and what comes after it
-next_rule : (limits : TheLimits) (p : Progress) (v : Option How) (saved : List (List ℕ)) → next_round (rounds limits.calls limits) limits v saved p ≡ next_round (after_wraps limits) limits v saved p
+next_rule : (limits : TheLimits) (p : Progress) (v : Option EndReason) (saved : List (List ℕ)) → next_round (rounds limits.calls limits) limits v saved p ≡ next_round (after_wraps limits) limits v saved p
 next_rule limits p (Some h) saved = refl
 next_rule limits p None [] = refl
 next_rule limits p None (x ∷ xs) =

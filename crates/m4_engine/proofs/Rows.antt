@@ -31,7 +31,7 @@ abbrev pub done : List ℕ → List ℕ → ℕ → RunResult
 done output messages calls = record {
   output = output;
   messages = messages;
-  how = Ends causes.Done;
+  reason = Ends causes.Done;
   status = 0;
   frozen = None;
   calls = calls;
@@ -55,7 +55,7 @@ definition_before_arguments = refl
 too_deep : over_a (limited 4294967295 2) (codes "define(`f',`$1')f(f(f(`x')))\n") ≡ record {
   output = [];
   messages = codes "m4:a.m4:1: ERROR: more than 2 nested calls\n";
-  how = Ends causes.NestingLimit;
+  reason = Ends causes.NestingLimit;
   status = 1;
   frozen = None;
   calls = 4;
@@ -71,7 +71,7 @@ deep_enough = refl
 too_many : over_a (limited 100 1024) (codes "define(`l',`l')l\n") ≡ record {
   output = [];
   messages = codes "m4:a.m4:1: ERROR: more than 100 calls\n";
-  how = Ends causes.ExpansionLimit;
+  reason = Ends causes.ExpansionLimit;
   status = 1;
   frozen = None;
   calls = 100;
@@ -93,7 +93,7 @@ unopened = refl
 string_without_end : over_a freezing (codes "`abc") ≡ record {
   output = [];
   messages = codes "m4:a.m4:1: ERROR: end of input in string\n";
-  how = Ends causes.EndInString;
+  reason = Ends causes.EndInString;
   status = 1;
   frozen = None;
   calls = 0;
@@ -132,7 +132,7 @@ excess_arguments = refl
 list_without_end : over_a usual (codes "define(`f',`$1')\nf(a\n") ≡ record {
   output = codes "\n";
   messages = codes "m4:a.m4:2: ERROR: end of input in argument list\n";
-  how = Ends causes.EndInArguments;
+  reason = Ends causes.EndInArguments;
   status = 1;
   frozen = None;
   calls = 2;

@@ -30,7 +30,7 @@ unfolding digits
 newest_first = refl
 
 -- a run that ends by `m4exit` doesn't freeze
-exit_with_a_code : over_a freezing (codes "x m4exit(`3')y\n") ≡ record (done (codes "x ") [] 1) { how = Ends (causes.Exited 3); status = 3 }
+exit_with_a_code : over_a freezing (codes "x m4exit(`3')y\n") ≡ record (done (codes "x ") [] 1) { reason = Ends (causes.Exited 3); status = 3 }
 unfolding digits
 exit_with_a_code = refl
 
@@ -60,7 +60,7 @@ unfolding digits
 saved_again = refl
 
 -- a code that is out of range
-exit_out_of_range : over_a usual (codes "m4exit(`300')x") ≡ record (done [] (codes "m4:a.m4:1: Warning: exit status out of range\n") 1) { how = Ends (causes.Exited 1); status = 1 }
+exit_out_of_range : over_a usual (codes "m4exit(`300')x") ≡ record (done [] (codes "m4:a.m4:1: Warning: exit status out of range\n") 1) { reason = Ends (causes.Exited 1); status = 1 }
 unfolding digits
 exit_out_of_range = refl
 
@@ -95,12 +95,12 @@ unfolding digits
 saved_without_place = refl
 
 -- saved text ends the run
-saved_exit : over_a usual (codes "m4wrap(`m4exit(`4')z')x\n") ≡ record (done (codes "x\n") [] 2) { how = Ends (causes.Exited 4); status = 4; saved = codes "m4exit(`4')z" ∷ [] }
+saved_exit : over_a usual (codes "m4wrap(`m4exit(`4')z')x\n") ≡ record (done (codes "x\n") [] 2) { reason = Ends (causes.Exited 4); status = 4; saved = codes "m4exit(`4')z" ∷ [] }
 unfolding digits
 saved_exit = refl
 
 -- a run that ends by `m4exit` brings nothing back
-exit_without_diversions : over_a usual (codes "divert(1)a\ndivert(0)b m4exit\n") ≡ record (done (codes "b ") [] 3) { how = Ends (causes.Exited 0) }
+exit_without_diversions : over_a usual (codes "divert(1)a\ndivert(0)b m4exit\n") ≡ record (done (codes "b ") [] 3) { reason = Ends (causes.Exited 0) }
 unfolding digits
 exit_without_diversions = refl
 

@@ -7,7 +7,7 @@ use Rattle.m4_state.specs.Device.{Script}
 use Rattle.m4_frozen.specs.ReaderSteps as steps
 use Rattle.m4_frozen.specs.declared.fault.FrozenKind.TheVariants as kinds
 use Rattle.m4_engine.specs.declared.ending.Cause.TheVariants as causes
-use Rattle.m4_engine.specs.Expansion.{Ends, WantsMore}
+use Rattle.m4_engine.specs.Expansion.{Ends, NeedsInput}
 use Rattle.m4_engine.specs.File.{Opened}
 use Rattle.m4_engine.specs.Start.{frozen_file, start_of}
 use Rattle.m4_engine.specs.Run.{run}
@@ -24,7 +24,7 @@ settled_by_a w = settled usual (start_of false None) [] (codes "a.m4") w
 
 -- so much is written, and more is wanted
 abbrev wanting : List ℕ → SettledSoFar
-wanting output = record { output = output; messages = []; how = WantsMore }
+wanting output = record { output = output; messages = []; reason = NeedsInput }
 
 -- a name may go on
 cut_name : settled_by_a (codes "ab") ≡ wanting []
@@ -53,7 +53,7 @@ cut_line = refl
 decided : settled (record usual { calls = 0 }) (start_of false None) [] (codes "a.m4") (codes "x dnl ") ≡ record {
   output = codes "x ";
   messages = codes "m4:a.m4:1: ERROR: more than 0 calls\n";
-  how = Ends causes.ExpansionLimit;
+  reason = Ends causes.ExpansionLimit;
 }
 unfolding digits
 decided = refl
@@ -82,7 +82,7 @@ unfolding steps.file_at steps.version_at steps.directives_at steps.directive_at 
 issued_text = refl
 
 -- a frozen file of a newer version: nothing is read
-newer_file : run usual (from (codes "# c\n\nV2\n")) (Opened (codes "a.m4") (codes "x") ∷ []) ≡ record (done [] [] 0) { how = Ends (causes.Frozen (record { kind = kinds.Newer; offset = 6 })); status = 63 }
+newer_file : run usual (from (codes "# c\n\nV2\n")) (Opened (codes "a.m4") (codes "x") ∷ []) ≡ record (done [] [] 0) { reason = Ends (causes.Frozen (record { kind = kinds.Newer; offset = 6 })); status = 63 }
 unfolding steps.file_at steps.version_at steps.directives_at steps.directive_at steps.pair_at steps.diversion_at steps.length_at steps.string_at
 newer_file = refl
 

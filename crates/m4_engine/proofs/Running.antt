@@ -12,40 +12,40 @@ use Rattle.m4_engine.specs.Nesting.{Outcome, Halted, Closed, then_on}
 use Rattle.m4_engine.specs.OpenCalls.{resume}
 use Rattle.m4_engine.specs.Expansion.{Call, Expansion, Kept, Ended, Ends}
 use Rattle.m4_engine.specs.Expand.{turn, join, expand, expansion_of, ended_of}
-use Rattle.m4_engine.specs.Engine.{Engine, so_far_of, outer_of, here_of, configuration, handed_on, moved, IsReady, Moves, Passes}
-use Rattle.m4_engine.specs.Expands.{made_before, comes_to, Expanded, Expands, HandsOn, HandsOnSome, IsIdle}
+use Rattle.m4_engine.specs.Engine.{Engine, so_far_of, outer_of, here_of, configuration, after_flush, moved, IsReady, Moves, Passes}
+use Rattle.m4_engine.specs.Expands.{made_before, input_expansion, Expanded, Expands, FlushesPrefix, FlushesSome, IsIdle}
 use Rattle.m4_engine.specs.Writers.{writers, Broken}
-use Rattle.m4_engine.proofs.Begins.{begun_behind}
+use Rattle.m4_engine.proofs.Begins.{begun_after}
 use Rattle.m4_engine.proofs.Growth.{Extends, made_out}
 use Rattle.m4_engine.proofs.LoopKeeps.{turns_of, move_falls, meaning_of, some_means, moved_on, end_means}
 use Rattle.m4_engine.proofs.Passing.{passes_reaches, passes_ready, passes_limits}
 use Rattle.m4_engine.proofs.OnlyGrows.{extends_same, extends_more, whole_keeps, list_keeps}
 
 -- so much was handed on of what the expansion comes to, and the machine stands where the rest of it does
-pub record Running (e0 : Engine) (p0 : Pending) (out0 told0 : Option (List ℕ)) (e : Engine) (i : Held) (out told : Option (List ℕ)) : Type 0 where
+pub record Running (e0 : Engine) (p0 : Pending) (out0 reported0 : Option (List ℕ)) (e : Engine) (i : Held) (out reported : Option (List ℕ)) : Type 0 where
   pub o : List ℕ
   pub m : List ℕ
   pub output : out ≡ with_bytes out0 o
-  pub messages : told ≡ with_bytes told0 m
+  pub messages : reported ≡ with_bytes reported0 m
   pub means : meaning_of o m e i.pending ≡ expand (here_of [] [] e0 p0)
   pub ready : IsReady i
   pub limits : e.limits ≡ e0.limits
 
 -- the loop begins
-pub begins : (e : Engine) (i : Held) (out told : Option (List ℕ)) → IsIdle e → IsReady i → Running e i.pending out told e i out told
-begins e i out told d r = record {
+pub begins : (e : Engine) (i : Held) (out reported : Option (List ℕ)) → IsIdle e → IsReady i → Running e i.pending out reported e i out reported
+begins e i out reported d r = record {
   o = [];
   m = [];
   output = with_bytes-nil out;
-  messages = with_bytes-nil told;
+  messages = with_bytes-nil reported;
   means = ap (λ (cs : List Call). resume Expansion Kept Ended turn join expand (outer_of cs) (expand (here_of [] [] e i.pending))) d.open_calls;
   ready = r;
   limits = refl;
 }
 
 -- tokens that stand for themselves were put out at once
-pub passed : (e0 e e1 : Engine) (p0 : Pending) (i i1 : Held) (out0 told0 out told : Option (List ℕ)) → Running e0 p0 out0 told0 e i out told → Passes e e1 i i1 → Running e0 p0 out0 told0 e1 i1 out told
-passed e0 e e1 p0 i i1 out0 told0 out told r h = record {
+pub passed : (e0 e e1 : Engine) (p0 : Pending) (i i1 : Held) (out0 reported0 out reported : Option (List ℕ)) → Running e0 p0 out0 reported0 e i out reported → Passes e e1 i i1 → Running e0 p0 out0 reported0 e1 i1 out reported
+passed e0 e e1 p0 i i1 out0 reported0 out reported r h = record {
   o = r.o;
   m = r.m;
   output = r.output;
@@ -56,14 +56,14 @@ passed e0 e e1 p0 i i1 out0 told0 out told r h = record {
 }
 
 -- a turn after which it goes on
-goes_on : (e0 e e' e2 : Engine) (p0 : Pending) (i i' : Held) (out0 told0 out told out' told' : Option (List ℕ)) → Running e0 p0 out0 told0 e i out told → Moves e' i'.pending turns.GoesOn (λ o m. moved (configuration o m e i.pending)) → IsReady i' → e'.limits ≡ e.limits → HandsOnSome e' e2 (writers out out' told told') → Running e0 p0 out0 told0 e2 i' out' told'
-goes_on e0 e e' e2 p0 i i' out0 told0 out told out' told' r h q l f = record {
+goes_on : (e0 e e' e2 : Engine) (p0 : Pending) (i i' : Held) (out0 reported0 out reported out' reported' : Option (List ℕ)) → Running e0 p0 out0 reported0 e i out reported → Moves e' i'.pending turns.GoesOn (λ o m. moved (configuration o m e i.pending)) → IsReady i' → e'.limits ≡ e.limits → FlushesSome e' e2 (writers out out' reported reported') → Running e0 p0 out0 reported0 e2 i' out' reported'
+goes_on e0 e e' e2 p0 i i' out0 reported0 out reported out' reported' r h q l f = record {
   o = r.o ++ f.front;
-  m = r.m ++ f.told;
+  m = r.m ++ f.reported;
   output = f.output ∙ ap (λ x. with_bytes x f.front) r.output ∙ with_bytes-append out0 r.o f.front;
-  messages = f.messages ∙ ap (λ x. with_bytes x f.told) r.messages ∙ with_bytes-append told0 r.m f.told;
+  messages = f.messages ∙ ap (λ x. with_bytes x f.reported) r.messages ∙ with_bytes-append reported0 r.m f.reported;
   means =
-      some_means e' e2 i'.pending r.o r.m f.front f.told f.held
+      some_means e' e2 i'.pending r.o r.m f.front f.reported f.held
       ∙ moved_on e e' i.pending i'.pending r.o r.m h ∙ r.means;
   ready = q;
   limits = sym (ap (λ (d : Engine). d.limits) f.held) ∙ l ∙ r.limits;
@@ -76,47 +76,47 @@ idle_here e p d =
     ∙ ap (λ (x : List ℕ). here_of [] [] (record e { output = []; messages = x }) p) d.messages
     ∙ ap (λ (x : List Call). here_of [] [] (record e { output = []; messages = []; open_calls = x }) p) d.open_calls
 
-comes_is : (e : Engine) (p : Pending) → IsIdle e → comes_to e p ≡ ended_of (expand (here_of [] [] e p))
+comes_is : (e : Engine) (p : Pending) → IsIdle e → input_expansion e p ≡ ended_of (expand (here_of [] [] e p))
 comes_is e p d = ap (λ (s : Expansion). ended_of (expand s)) (sym (idle_here e p d))
 
 -- all was written
 wrote_all : (o : Option (List ℕ)) (a : Option (List ℕ)) (x : List ℕ) → a ≡ with_bytes o x → HasBegun o a x
 wrote_all o a x e = ([], record { front = x; parts = sym (append-nil x); holds = e })
 
-broken_of : (old new : Engine) (d : Ended) (cause : Cause) (out0 out told0 told : Option (List ℕ)) → Expanded old new d cause (writers out0 out told0 told) → Broken d (writers out0 out told0 told)
-broken_of old new d cause out0 out told0 told x = record {
+broken_of : (old new : Engine) (d : Ended) (cause : Cause) (out0 out reported0 reported : Option (List ℕ)) → Expanded old new d cause (writers out0 out reported0 reported) → Broken d (writers out0 out reported0 reported)
+broken_of old new d cause out0 out reported0 reported x = record {
   output = wrote_all out0 out (d.so_far).output x.output;
-  messages = wrote_all told0 told (d.so_far).messages x.messages;
+  messages = wrote_all reported0 reported (d.so_far).messages x.messages;
 }
 
-expands_of : (old new : Engine) (p : Pending) (out0 out told0 told : Option (List ℕ)) (cause : Cause) → Expanded old new (comes_to old p) cause (writers out0 out told0 told) → Expands old new p (writers out0 out told0 told) cause
-expands_of old new p out0 out told0 told causes.Done x = x
-expands_of old new p out0 out told0 told (causes.Exited n) x = x
-expands_of old new p out0 out told0 told causes.EndInString x = x
-expands_of old new p out0 out told0 told causes.EndInComment x = x
-expands_of old new p out0 out told0 told causes.EndInArguments x = x
-expands_of old new p out0 out told0 told causes.ExpansionLimit x = x
-expands_of old new p out0 out told0 told causes.NestingLimit x = x
-expands_of old new p out0 out told0 told (causes.Frozen f) x = x
-expands_of old new p out0 out told0 told causes.Read x = broken_of old new (comes_to old p) causes.Read out0 out told0 told x
-expands_of old new p out0 out told0 told causes.Write x = broken_of old new (comes_to old p) causes.Write out0 out told0 told x
-expands_of old new p out0 out told0 told causes.OutOfMemory x = broken_of old new (comes_to old p) causes.OutOfMemory out0 out told0 told x
+expands_of : (old new : Engine) (p : Pending) (out0 out reported0 reported : Option (List ℕ)) (cause : Cause) → Expanded old new (input_expansion old p) cause (writers out0 out reported0 reported) → Expands old new p (writers out0 out reported0 reported) cause
+expands_of old new p out0 out reported0 reported causes.Done x = x
+expands_of old new p out0 out reported0 reported (causes.Exited n) x = x
+expands_of old new p out0 out reported0 reported causes.EndInString x = x
+expands_of old new p out0 out reported0 reported causes.EndInComment x = x
+expands_of old new p out0 out reported0 reported causes.EndInArguments x = x
+expands_of old new p out0 out reported0 reported causes.ExpansionLimit x = x
+expands_of old new p out0 out reported0 reported causes.NestingLimit x = x
+expands_of old new p out0 out reported0 reported (causes.Frozen f) x = x
+expands_of old new p out0 out reported0 reported causes.Read x = broken_of old new (input_expansion old p) causes.Read out0 out reported0 reported x
+expands_of old new p out0 out reported0 reported causes.Write x = broken_of old new (input_expansion old p) causes.Write out0 out reported0 reported x
+expands_of old new p out0 out reported0 reported causes.OutOfMemory x = broken_of old new (input_expansion old p) causes.OutOfMemory out0 out reported0 reported x
 
 -- a turn after which it ends
-pub ends : (e0 e e' : Engine) (p0 p' : Pending) (i : Held) (out0 told0 out told out' told' : Option (List ℕ)) (cause : Cause) → IsIdle e0 → Running e0 p0 out0 told0 e i out told → Moves e' p' (turns.Ends cause) (λ o m. moved (configuration o m e i.pending)) → e'.limits ≡ e.limits → out' ≡ with_bytes out e'.output → told' ≡ with_bytes told e'.messages → Expands e0 (handed_on e') p0 (writers out0 out' told0 told') cause
-ends e0 e e' p0 p' i out0 told0 out told out' told' cause d r h l f g =
-    let end : Ended = record { so_far = so_far_of r.o r.m e'; how = Ends cause } in
-    let c : comes_to e0 p0 ≡ end = comes_is e0 p0 d ∙ ap ended_of (sym r.means ∙ end_means e e' i.pending p' r.o r.m cause h) in
-    let x : Expanded e0 (handed_on e') end cause (writers out0 out' told0 told') = record {
-      how = refl;
+pub ends : (e0 e e' : Engine) (p0 p' : Pending) (i : Held) (out0 reported0 out reported out' reported' : Option (List ℕ)) (cause : Cause) → IsIdle e0 → Running e0 p0 out0 reported0 e i out reported → Moves e' p' (turns.Ends cause) (λ o m. moved (configuration o m e i.pending)) → e'.limits ≡ e.limits → out' ≡ with_bytes out e'.output → reported' ≡ with_bytes reported e'.messages → Expands e0 (after_flush e') p0 (writers out0 out' reported0 reported') cause
+ends e0 e e' p0 p' i out0 reported0 out reported out' reported' cause d r h l f g =
+    let end : Ended = record { so_far = so_far_of r.o r.m e'; reason = Ends cause } in
+    let c : input_expansion e0 p0 ≡ end = comes_is e0 p0 d ∙ ap ended_of (sym r.means ∙ end_means e e' i.pending p' r.o r.m cause h) in
+    let x : Expanded e0 (after_flush e') end cause (writers out0 out' reported0 reported') = record {
+      reason = refl;
       limits = l ∙ r.limits;
       state = refl;
       saved = refl;
       calls = refl;
       output = f ∙ ap (λ x. with_bytes x e'.output) r.output ∙ with_bytes-append out0 r.o e'.output;
-      messages = g ∙ ap (λ x. with_bytes x e'.messages) r.messages ∙ with_bytes-append told0 r.m e'.messages;
+      messages = g ∙ ap (λ x. with_bytes x e'.messages) r.messages ∙ with_bytes-append reported0 r.m e'.messages;
     } in
-    expands_of e0 (handed_on e') p0 out0 out' told0 told' cause (subst (λ (y : Ended). Expanded e0 (handed_on e') y cause (writers out0 out' told0 told')) (sym c) x)
+    expands_of e0 (after_flush e') p0 out0 out' reported0 reported' cause (subst (λ (y : Ended). Expanded e0 (after_flush e') y cause (writers out0 out' reported0 reported')) (sym c) x)
 
 -- what a machine comes to goes on from what it has made
 resume_keeps : (fs : List Kept) (v : Outcome Expansion Ended) → Extends (made_out v) (made_out (resume Expansion Kept Ended turn join expand fs v))
@@ -130,17 +130,17 @@ made_is : (v : Outcome Expansion Ended) → made_out v ≡ (ended_of v).so_far
 made_is (Halted d) = refl
 made_is (Closed s) = refl
 
-made_there : (e0 e : Engine) (p0 : Pending) (i : Held) (out0 told0 out told : Option (List ℕ)) → IsIdle e0 → (r : Running e0 p0 out0 told0 e i out told) → made_out (meaning_of r.o r.m e i.pending) ≡ (comes_to e0 p0).so_far
-made_there e0 e p0 i out0 told0 out told d r =
+made_there : (e0 e : Engine) (p0 : Pending) (i : Held) (out0 reported0 out reported : Option (List ℕ)) → IsIdle e0 → (r : Running e0 p0 out0 reported0 e i out reported) → made_out (meaning_of r.o r.m e i.pending) ≡ (input_expansion e0 p0).so_far
+made_there e0 e p0 i out0 reported0 out reported d r =
     ap made_out r.means ∙ made_is (expand (here_of [] [] e0 p0)) ∙ ap (λ (x : Ended). x.so_far) (sym (comes_is e0 p0 d))
 
 -- where a turn isn't made, a beginning was handed on
-pub breaks : (e0 e : Engine) (p0 : Pending) (i : Held) (out0 told0 out told : Option (List ℕ)) → IsIdle e0 → Running e0 p0 out0 told0 e i out told → Broken (comes_to e0 p0) (writers out0 out told0 told)
-breaks e0 e p0 i out0 told0 out told d r =
-    let k = subst (Extends (so_far_of r.o r.m e)) (made_there e0 e p0 i out0 told0 out told d r) (meaning_keeps r.o r.m e i.pending) in
+pub breaks : (e0 e : Engine) (p0 : Pending) (i : Held) (out0 reported0 out reported : Option (List ℕ)) → IsIdle e0 → Running e0 p0 out0 reported0 e i out reported → Broken (input_expansion e0 p0) (writers out0 out reported0 reported)
+breaks e0 e p0 i out0 reported0 out reported d r =
+    let k = subst (Extends (so_far_of r.o r.m e)) (made_there e0 e p0 i out0 reported0 out reported d r) (meaning_keeps r.o r.m e i.pending) in
     record {
       output = (e.output ++ k.more, record { front = r.o; parts = k.output ∙ append_assoc r.o e.output k.more; holds = r.output });
-      messages = (e.messages ++ k.told, record { front = r.m; parts = k.messages ∙ append_assoc r.m e.messages k.told; holds = r.messages });
+      messages = (e.messages ++ k.reported, record { front = r.m; parts = k.messages ∙ append_assoc r.m e.messages k.reported; holds = r.messages });
     }
 
 -- what a turn has made is a beginning of what the expansion comes to
@@ -151,26 +151,26 @@ turn_made e e' p p' o m (turns.Ends cause) h =
     subst (λ v. Extends (so_far_of o m e') (made_out v)) (sym (end_means e e' p p' o m cause h)) (extends_same (so_far_of o m e'))
 
 -- where it can't be handed on, a beginning was
-pub write_breaks : (e0 e e' : Engine) (p0 p' : Pending) (i : Held) (t : Turned) (out0 told0 out told out' told' : Option (List ℕ)) → IsIdle e0 → Running e0 p0 out0 told0 e i out told → Moves e' p' t (λ o m. moved (configuration o m e i.pending)) → HandsOn e'.output e'.messages (writers out out' told told') → Broken (comes_to e0 p0) (writers out0 out' told0 told')
-write_breaks e0 e e' p0 p' i t out0 told0 out told out' told' d r h b =
-    let k = subst (Extends (so_far_of r.o r.m e')) (made_there e0 e p0 i out0 told0 out told d r) (turn_made e e' i.pending p' r.o r.m t h) in
+pub write_breaks : (e0 e e' : Engine) (p0 p' : Pending) (i : Held) (t : Turned) (out0 reported0 out reported out' reported' : Option (List ℕ)) → IsIdle e0 → Running e0 p0 out0 reported0 e i out reported → Moves e' p' t (λ o m. moved (configuration o m e i.pending)) → FlushesPrefix e'.output e'.messages (writers out out' reported reported') → Broken (input_expansion e0 p0) (writers out0 out' reported0 reported')
+write_breaks e0 e e' p0 p' i t out0 reported0 out reported out' reported' d r h b =
+    let k = subst (Extends (so_far_of r.o r.m e')) (made_there e0 e p0 i out0 reported0 out reported d r) (turn_made e e' i.pending p' r.o r.m t h) in
     record {
-      output = begun_behind out0 out out' r.o e'.output k.more ((comes_to e0 p0).so_far).output r.output b.0 k.output;
-      messages = begun_behind told0 told told' r.m e'.messages k.told ((comes_to e0 p0).so_far).messages r.messages b.1 k.messages;
+      output = begun_after out0 out out' r.o e'.output k.more ((input_expansion e0 p0).so_far).output r.output b.0 k.output;
+      messages = begun_after reported0 reported reported' r.m e'.messages k.reported ((input_expansion e0 p0).so_far).messages r.messages b.1 k.messages;
     }
 
 -- the same for a turn and an engine with names of their own
-pub ended : (e0 e e' e2 : Engine) (p0 p' : Pending) (i : Held) (out0 told0 out told out' told' : Option (List ℕ)) (t : Turned) (cause : Cause) → IsIdle e0 → Running e0 p0 out0 told0 e i out told → Moves e' p' t (λ o m. moved (configuration o m e i.pending)) → t ≡ turns.Ends cause → e2 ≡ handed_on e' → e'.limits ≡ e.limits → out' ≡ with_bytes out e'.output → told' ≡ with_bytes told e'.messages → Expands e0 e2 p0 (writers out0 out' told0 told') cause
-ended e0 e e' e2 p0 p' i out0 told0 out told out' told' t cause d r h k j l f g =
-    subst (λ (x : Engine). Expands e0 x p0 (writers out0 out' told0 told') cause) (sym j)
-    (ends e0 e e' p0 p' i out0 told0 out told out' told' cause d r (subst (λ (x : Turned). Moves e' p' x (λ o m. moved (configuration o m e i.pending))) k h) l f g)
+pub ended : (e0 e e' e2 : Engine) (p0 p' : Pending) (i : Held) (out0 reported0 out reported out' reported' : Option (List ℕ)) (t : Turned) (cause : Cause) → IsIdle e0 → Running e0 p0 out0 reported0 e i out reported → Moves e' p' t (λ o m. moved (configuration o m e i.pending)) → t ≡ turns.Ends cause → e2 ≡ after_flush e' → e'.limits ≡ e.limits → out' ≡ with_bytes out e'.output → reported' ≡ with_bytes reported e'.messages → Expands e0 e2 p0 (writers out0 out' reported0 reported') cause
+ended e0 e e' e2 p0 p' i out0 reported0 out reported out' reported' t cause d r h k j l f g =
+    subst (λ (x : Engine). Expands e0 x p0 (writers out0 out' reported0 reported') cause) (sym j)
+    (ends e0 e e' p0 p' i out0 reported0 out reported out' reported' cause d r (subst (λ (x : Turned). Moves e' p' x (λ o m. moved (configuration o m e i.pending))) k h) l f g)
 
-pub went_on : (e0 e e' e2 : Engine) (p0 : Pending) (i i' : Held) (out0 told0 out told out' told' : Option (List ℕ)) (t : Turned) → Running e0 p0 out0 told0 e i out told → Moves e' i'.pending t (λ o m. moved (configuration o m e i.pending)) → t ≡ turns.GoesOn → IsReady i' → e'.limits ≡ e.limits → HandsOnSome e' e2 (writers out out' told told') → Running e0 p0 out0 told0 e2 i' out' told'
-went_on e0 e e' e2 p0 i i' out0 told0 out told out' told' t r h k q l f =
-    goes_on e0 e e' e2 p0 i i' out0 told0 out told out' told' r (subst (λ (x : Turned). Moves e' i'.pending x (λ o m. moved (configuration o m e i.pending))) k h) q l f
+pub went_on : (e0 e e' e2 : Engine) (p0 : Pending) (i i' : Held) (out0 reported0 out reported out' reported' : Option (List ℕ)) (t : Turned) → Running e0 p0 out0 reported0 e i out reported → Moves e' i'.pending t (λ o m. moved (configuration o m e i.pending)) → t ≡ turns.GoesOn → IsReady i' → e'.limits ≡ e.limits → FlushesSome e' e2 (writers out out' reported reported') → Running e0 p0 out0 reported0 e2 i' out' reported'
+went_on e0 e e' e2 p0 i i' out0 reported0 out reported out' reported' t r h k q l f =
+    goes_on e0 e e' e2 p0 i i' out0 reported0 out reported out' reported' r (subst (λ (x : Turned). Moves e' i'.pending x (λ o m. moved (configuration o m e i.pending))) k h) q l f
 
-pub fell : (e e1 e' e2 : Engine) (i i1 : Held) (p' : Pending) (out out' told told' : Option (List ℕ)) (t : Turned) → IsReady i → Passes e e1 i i1 → Moves e' p' t (λ o m. moved (configuration o m e1 i1.pending)) → t ≡ turns.GoesOn → HandsOnSome e' e2 (writers out out' told told') → turns_of e2 p' < turns_of e i.pending
-fell e e1 e' e2 i i1 p' out out' told told' t q w h k f =
-    let a : turns_of e2 p' < turns_of e1 i1.pending = move_falls e1 e' e2 i1.pending p' f.front f.told f.held (subst (λ (x : Turned). Moves e' p' x (λ o m. moved (configuration o m e1 i1.pending))) k h) in
+pub fell : (e e1 e' e2 : Engine) (i i1 : Held) (p' : Pending) (out out' reported reported' : Option (List ℕ)) (t : Turned) → IsReady i → Passes e e1 i i1 → Moves e' p' t (λ o m. moved (configuration o m e1 i1.pending)) → t ≡ turns.GoesOn → FlushesSome e' e2 (writers out out' reported reported') → turns_of e2 p' < turns_of e i.pending
+fell e e1 e' e2 i i1 p' out out' reported reported' t q w h k f =
+    let a : turns_of e2 p' < turns_of e1 i1.pending = move_falls e1 e' e2 i1.pending p' f.front f.reported f.held (subst (λ (x : Turned). Moves e' p' x (λ o m. moved (configuration o m e1 i1.pending))) k h) in
     let b : turns_of e1 i1.pending ≤ turns_of e i.pending = (passes_reaches e e1 i i1 q w).turns in
     omega arith

@@ -20,23 +20,23 @@ use Rattle.m4_builtins.specs.Act.{needs_list}
 use Rattle.m4_engine.specs.declared.ending.Cause.{Cause}
 use Rattle.m4_engine.specs.declared.ending.Cause.TheVariants as causes
 use Rattle.m4_engine.specs.Nesting.{Turn, Halt, Close, GoOn, Bare, Opens, Outcome, Halted, Closed}
-use Rattle.m4_engine.specs.Expansion.{RunSoFar, Limits, Call, Mode, Outside, Collecting, Expansion, Kept, How, Ends, Ended, place_at, with_call, reading}
+use Rattle.m4_engine.specs.Expansion.{RunSoFar, Limits, Call, Mode, Outside, Collecting, Expansion, Kept, EndReason, Ends, Ended, place_at, with_call, reading}
 use Rattle.m4_engine.specs.declared.role.Role.{Role}
 use Rattle.m4_engine.specs.declared.role.Role.TheVariants.{Opening, Closing, Separator, Blank, Other}
 use Rattle.m4_engine.specs.Args.{role_of, take_closing, take_byte}
-use Rattle.m4_engine.specs.Expand.{with_value, skip_all, skip_line, skip_or_push, effected, kept_of, behind_call, called, join_by, join, call_of, bare, collect, call_unless_deep, is_deep, call_if_room, call_without_list, take_call, take_name, take_other, take_end, take_token, take_front, unended_cause, turn, size_of, calls_left, spent_at, expand}
-use Rattle.m4_engine.specs.Expand.{mode_behind_call, expansion_of, ended_of, expand_input}
+use Rattle.m4_engine.specs.Expand.{with_value, skip_all, skip_line, skip_or_push, effected, kept_of, after_call, called, join_by, join, call_of, bare, collect, call_unless_deep, is_deep, call_if_room, call_without_list, take_call, take_name, take_other, take_end, take_token, take_front, unended_cause, turn, size_of, calls_left, out_of_bound_at, expand}
+use Rattle.m4_engine.specs.Expand.{mode_after_call, expansion_of, ended_of, expand_input}
 use Rattle.m4_engine.specs.declared.options.Options.{Options}
 use Rattle.m4_engine.specs.File.{Source, Opened, Unopened, Progress, file_pending, over_by, over_of, unless_over, read_source, after_source, after_sources}
 use Rattle.m4_engine.specs.Wraps.{read_saved, next_round, rounds, after_wraps, wrapped_pending, joined_back}
 use Rattle.m4_engine.specs.Start.{Start, From, Faulty, begun}
-use Rattle.m4_engine.specs.Run.{limits_of, result_by, saved_behind, run_from}
+use Rattle.m4_engine.specs.Run.{limits_of, result_by, saved_after, run_from}
 use Rattle.m4_engine.proofs.ByRules.{Rules, holds}
 use Rattle.m4_engine.proofs.CallsFall.{falls}
 
 -- an end that a cause makes
-abbrev IsCaused : How → Type 0
-IsCaused how = (cause : Cause) × (how ≡ Ends cause)
+abbrev IsCaused : EndReason → Type 0
+IsCaused reason = (cause : Cause) × (reason ≡ Ends cause)
 
 -- whether an expansion stands outside of calls
 abbrev is_outside : Mode → Bool
@@ -45,14 +45,14 @@ is_outside (Collecting c) = false
 
 -- where no byte may follow, a turn ends by a cause, and a level outside of calls never closes
 Turns : Expansion → Turn Expansion Kept Ended → Type 0
-Turns s (Halt d) = IsCaused d.how
+Turns s (Halt d) = IsCaused d.reason
 Turns s (Close t) = (is_outside s.mode ≡ false) × ((t.pending).may_follow ≡ false) × (is_outside t.mode ≡ false)
 Turns s (GoOn t) = (is_outside t.mode ≡ is_outside s.mode) × ((t.pending).may_follow ≡ false)
 Turns s (Bare t) = (is_outside t.mode ≡ is_outside s.mode) × ((t.pending).may_follow ≡ false)
 Turns s (Opens f t) = (is_outside f.mode ≡ is_outside s.mode) × ((t.pending).may_follow ≡ false) × (is_outside t.mode ≡ false)
 
 Outs : Mode → Outcome Expansion Ended → Type 0
-Outs m (Halted d) = IsCaused d.how
+Outs m (Halted d) = IsCaused d.reason
 Outs m (Closed u) = (is_outside u.mode ≡ is_outside m) × ((u.pending).may_follow ≡ false)
 
 text_outside : (x : List ℕ) (m : Mode) → is_outside (Rattle.m4_engine.specs.Expansion.mode_with_text x m) ≡ is_outside m
@@ -63,7 +63,7 @@ token_outside : (d : Def) (m : Mode) → is_outside (Rattle.m4_engine.specs.Expa
 token_outside d Outside = refl
 token_outside d (Collecting c) = refl
 
-begun_outside : (m : Mode) → is_outside (mode_behind_call m) ≡ is_outside m
+begun_outside : (m : Mode) → is_outside (mode_after_call m) ≡ is_outside m
 begun_outside Outside = refl
 begun_outside (Collecting c) = refl
 
@@ -98,7 +98,7 @@ outs_as m k (Halted d) e h = h
 outs_as m k (Closed u) e h = (h.0 ∙ e, h.1)
 
 called_outs : (c : Call) (t : Expansion) (k : Kept) → (t.pending).may_follow ≡ false → Outs k.mode (called c t k)
-called_outs c t k h = outs_as (mode_behind_call k.mode) k.mode _ (begun_outside k.mode) (effected_outs _ _ _ (behind_call c t k) h)
+called_outs c t k h = outs_as (mode_after_call k.mode) k.mode _ (begun_outside k.mode) (effected_outs _ _ _ (after_call c t k) h)
 
 bare_turns : (s : Expansion) (o : Outcome Expansion Ended) → Outs s.mode o → Turns s (bare o)
 unfolding Outs Turns
@@ -261,39 +261,39 @@ join_outs Outside k t v e o h = cc
 join_outs (Collecting c) k t v e o h = subst (Outs k.mode) e (called_outs c t k h)
 
 Post : Expansion → Outcome Expansion Ended → Type 0
-Post s (Halted d) = (s.pending).may_follow ≡ false → IsCaused d.how
+Post s (Halted d) = (s.pending).may_follow ≡ false → IsCaused d.reason
 Post s (Closed u) = (s.pending).may_follow ≡ false → (is_outside s.mode ≡ false) × (is_outside u.mode ≡ false) × ((u.pending).may_follow ≡ false)
 
-behind_step : (s t : Expansion) (o : Outcome Expansion Ended) → (((s.pending).may_follow ≡ false) → (is_outside t.mode ≡ is_outside s.mode) × ((t.pending).may_follow ≡ false)) → Post t o → Post s o
+after_step : (s t : Expansion) (o : Outcome Expansion Ended) → (((s.pending).may_follow ≡ false) → (is_outside t.mode ≡ is_outside s.mode) × ((t.pending).may_follow ≡ false)) → Post t o → Post s o
 unfolding Post
-behind_step s t (Halted d) f p = λ h. p (f h).1
-behind_step s t (Closed u) f p = λ h. let k = p (f h).1 in (sym (f h).0 ∙ k.0, k.1, k.2)
+after_step s t (Halted d) f p = λ h. p (f h).1
+after_step s t (Closed u) f p = λ h. let k = p (f h).1 in (sym (f h).0 ∙ k.0, k.1, k.2)
 
 rules : Rules Expansion Kept Ended turn join Post
 unfolding Post Turns Outs
 rules = record {
   halt = λ s d e h. turn_turns s (Halt d) e h;
   close = λ s t e h. let v = turn_turns s (Close t) e h in (v.0, v.2, v.1);
-  go_on = λ s t o e p. behind_step s t o (λ h. turn_turns s (GoOn t) e h) p;
-  bare = λ s t o e p. behind_step s t o (λ h. turn_turns s (Bare t) e h) p;
+  go_on = λ s t o e p. after_step s t o (λ h. turn_turns s (GoOn t) e h) p;
+  bare = λ s t o e p. after_step s t o (λ h. turn_turns s (Bare t) e h) p;
   list_halts = λ s t f d e p h. p (turn_turns s (Opens f t) e h).1;
   call_halts = λ s t u f d e p j h. let v = turn_turns s (Opens f t) e h in let k = p v.1 in join_outs u.mode f u (Halted d) j k.1 k.2;
-  joins = λ s t u w f o e p j q. behind_step s w o (λ h. let v = turn_turns s (Opens f t) e h in let k = p v.1 in let x = join_outs u.mode f u (Closed w) j k.1 k.2 in (x.0 ∙ v.0, x.1)) q;
+  joins = λ s t u w f o e p j q. after_step s w o (λ h. let v = turn_turns s (Opens f t) e h in let k = p v.1 in let x = join_outs u.mode f u (Closed w) j k.1 k.2 in (x.0 ∙ v.0, x.1)) q;
 }
 
-input_caused : (limits : Limits) (r : RunSoFar) (p : Pending) → p.may_follow ≡ false → IsCaused (expand_input limits r p).how
+input_caused : (limits : Limits) (r : RunSoFar) (p : Pending) → p.may_follow ≡ false → IsCaused (expand_input limits r p).reason
 unfolding Post
-input_caused limits r p h = go (expand (expansion_of limits r p)) (holds Expansion Kept Ended turn join spent_at size_of calls_left falls Post rules (expansion_of limits r p))
+input_caused limits r p h = go (expand (expansion_of limits r p)) (holds Expansion Kept Ended turn join out_of_bound_at size_of calls_left falls Post rules (expansion_of limits r p))
   where
-    go : (o : Outcome Expansion Ended) → Post (expansion_of limits r p) o → IsCaused (ended_of o).how
+    go : (o : Outcome Expansion Ended) → Post (expansion_of limits r p) o → IsCaused (ended_of o).reason
     go (Halted d) v = v h
     go (Closed u) v = let e : true ≡ false = (v h).0 in cc
 
 -- ---- a run
 
-CausedOver : Option How → Type 0
+CausedOver : Option EndReason → Type 0
 CausedOver None = Unit {0}
-CausedOver (Some how) = IsCaused how
+CausedOver (Some reason) = IsCaused reason
 
 by_caused : (c : Cause) → CausedOver (over_by c)
 unfolding CausedOver
@@ -309,23 +309,23 @@ by_caused causes.Read = (causes.Read, refl)
 by_caused causes.Write = (causes.Write, refl)
 by_caused causes.OutOfMemory = (causes.OutOfMemory, refl)
 
-over_caused : (h : How) → IsCaused h → CausedOver (over_of h)
+over_caused : (h : EndReason) → IsCaused h → CausedOver (over_of h)
 over_caused h c = subst (λ x. CausedOver (over_of x)) (sym c.1) (by_caused c.0)
 
-unless_caused : (o : Option How) (old new : Progress) → CausedOver old.over → CausedOver new.over → CausedOver (unless_over o old new).over
+unless_caused : (o : Option EndReason) (old new : Progress) → CausedOver old.over → CausedOver new.over → CausedOver (unless_over o old new).over
 unless_caused None old new h g = g
 unless_caused (Some x) old new h g = h
 
-read_caused : (limits : Limits) (s : Source) (r : RunSoFar) (missed : Bool) → CausedOver (read_source limits s r missed).over
+read_caused : (limits : Limits) (s : Source) (r : RunSoFar) (any_missing : Bool) → CausedOver (read_source limits s r any_missing).over
 unfolding CausedOver
-read_caused limits (Opened name bytes) r missed = over_caused _ (input_caused limits r (file_pending name bytes false) refl)
-read_caused limits (Unopened name) r missed = tt
+read_caused limits (Opened name bytes) r any_missing = over_caused _ (input_caused limits r (file_pending name bytes false) refl)
+read_caused limits (Unopened name) r any_missing = tt
 
 sources_caused : (limits : Limits) (ss : List Source) (p : Progress) → CausedOver p.over → CausedOver (after_sources limits ss p).over
 sources_caused limits [] p h = h
-sources_caused limits (s ∷ ss) p h = sources_caused limits ss (after_source limits s p) (unless_caused p.over p (read_source limits s p.so_far p.missed) h (read_caused limits s p.so_far p.missed))
+sources_caused limits (s ∷ ss) p h = sources_caused limits ss (after_source limits s p) (unless_caused p.over p (read_source limits s p.so_far p.any_missing) h (read_caused limits s p.so_far p.any_missing))
 
-next_caused : (go : Progress → Progress) (limits : Limits) → ((q : Progress) → CausedOver q.over → CausedOver (go q).over) → (v : Option How) (saved : List (List ℕ)) (p : Progress) → CausedOver p.over → CausedOver (next_round go limits v saved p).over
+next_caused : (go : Progress → Progress) (limits : Limits) → ((q : Progress) → CausedOver q.over → CausedOver (go q).over) → (v : Option EndReason) (saved : List (List ℕ)) (p : Progress) → CausedOver p.over → CausedOver (next_round go limits v saved p).over
 next_caused go limits g (Some x) saved p h = h
 next_caused go limits g None [] p h = h
 next_caused go limits g None (x ∷ xs) p h = g (read_saved limits (x ∷ xs) p) (over_caused _ (input_caused limits (record p.so_far { saved = [] }) (wrapped_pending (joined_back (x ∷ xs))) refl))
@@ -339,15 +339,15 @@ unfolding CausedOver
 start_caused (From s issued) = tt
 start_caused (Faulty fault) = (causes.Frozen fault, refl)
 
-result_caused : (v : Option How) (freezes : Bool) (saved : List (List ℕ)) (r : RunSoFar) (missed : Bool) → CausedOver v → IsCaused (result_by v freezes saved r missed).how
+result_caused : (v : Option EndReason) (freezes : Bool) (saved : List (List ℕ)) (r : RunSoFar) (any_missing : Bool) → CausedOver v → IsCaused (result_by v freezes saved r any_missing).reason
 unfolding CausedOver
-result_caused None freezes saved r missed h = (causes.Done, refl)
-result_caused (Some x) freezes saved r missed h = h
+result_caused None freezes saved r any_missing h = (causes.Done, refl)
+result_caused (Some x) freezes saved r any_missing h = h
 
-pub run_ends : (o : Options) (start : Start) (sources : List Source) → (cause : Cause) × ((run_from o start sources).how ≡ Ends cause)
+pub run_ends : (o : Options) (start : Start) (sources : List Source) → (cause : Cause) × ((run_from o start sources).reason ≡ Ends cause)
 run_ends o start sources =
     let limits : Limits = limits_of o in
     let p : Progress = after_sources limits sources (begun start) in
     let e : Progress = after_wraps limits p in
-    result_caused e.over o.freeze (saved_behind sources p) e.so_far e.missed
+    result_caused e.over o.freeze (saved_after sources p) e.so_far e.any_missing
     (rounds_caused (suc limits.calls) limits p (sources_caused limits sources (begun start) (start_caused start)))

@@ -17,7 +17,7 @@ use Rattle.m4_engine.specs.Expansion.{RunSoFar, Limits, Call, Mode, Outside, Col
 use Rattle.m4_engine.specs.declared.role.Role.{Role}
 use Rattle.m4_engine.specs.declared.role.Role.TheVariants.{Opening, Closing, Separator, Blank, Other}
 use Rattle.m4_engine.specs.Args.{role_of, take_closing, take_byte}
-use Rattle.m4_engine.specs.Expand.{skip_all, skip_line, skip_or_push, effected, kept_of, behind_call, called, join_by, join, call_of, bare, collect, call_unless_deep, is_deep, call_if_room, call, call_without_list, take_call, take_name, take_other, take_end, take_token, take_front, turn, size_of, calls_left, spent_at, expand}
+use Rattle.m4_engine.specs.Expand.{skip_all, skip_line, skip_or_push, effected, kept_of, after_call, called, join_by, join, call_of, bare, collect, call_unless_deep, is_deep, call_if_room, call, call_without_list, take_call, take_name, take_other, take_end, take_token, take_front, turn, size_of, calls_left, out_of_bound_at, expand}
 use Rattle.m4_engine.specs.Expand.{expansion_of, ended_of, expand_input}
 use Rattle.m4_engine.proofs.ByRules.{Rules, holds}
 use Rattle.m4_engine.proofs.CallsFall.{falls}
@@ -69,8 +69,8 @@ unfolding OutSaves
 effected_saves (Some n) skip v s = refl
 effected_saves None skip v s = skip_or_push_saves skip v s
 
-called_saves : (c : Call) (t : Expansion) (k : Kept) → OutSaves (behind_call c t k) (called c t k)
-called_saves c t k = effected_saves _ _ _ (behind_call c t k)
+called_saves : (c : Call) (t : Expansion) (k : Kept) → OutSaves (after_call c t k) (called c t k)
+called_saves c t k = effected_saves _ _ _ (after_call c t k)
 
 -- what a turn leaves
 TurnSaves : Expansion → Turn Expansion Kept Ended → Type 0
@@ -88,7 +88,7 @@ bare_saves s t (Closed u) e f h g = g.0 ∙ e
 collect_saves : (listed : Bool) (c : Call) (p : Pending) (s : Expansion) → (s.so_far).calls < limit_of s → TurnSaves s (collect listed c p (with_call s))
 unfolding TurnSaves
 collect_saves true c p s h = refl
-collect_saves false c p s h = bare_saves s (behind_call c (reading p (with_call s)) (kept_of s)) (called c (reading p (with_call s)) (kept_of s)) refl refl h (called_saves c (reading p (with_call s)) (kept_of s))
+collect_saves false c p s h = bare_saves s (after_call c (reading p (with_call s)) (kept_of s)) (called c (reading p (with_call s)) (kept_of s)) refl refl h (called_saves c (reading p (with_call s)) (kept_of s))
 
 deep_saves : (deep listed : Bool) (c : Call) (p : Pending) (s : Expansion) → (s.so_far).calls < limit_of s → TurnSaves s (call_unless_deep deep listed c p (with_call s))
 unfolding TurnSaves
@@ -172,7 +172,7 @@ join_saves Outside k t v e = subst (OutSaves t) e (same t)
     same t = (refl, refl)
 join_saves (Collecting c) k t v e = subst (OutSaves t) e (weaken (called c t k) (called_saves c t k))
   where
-    weaken : (o : Outcome Expansion Ended) → OutSaves (behind_call c t k) o → OutSaves t o
+    weaken : (o : Outcome Expansion Ended) → OutSaves (after_call c t k) o → OutSaves t o
     weaken (Halted d) h = h
     weaken (Closed u) h = h
 
@@ -186,12 +186,12 @@ steps : (s t : Expansion) → t.limits ≡ s.limits → calls_left t ≡ limit_o
 steps s t e = ap (λ (l : Limits). l.calls - (t.so_far).calls) e
 
 -- a step behind which an outcome stands
-behind_step : (s t : Expansion) (o : Outcome Expansion Ended) → t.limits ≡ s.limits → Saves (limit_of s) s.so_far t.so_far → Post t o → Post s o
+after_step : (s t : Expansion) (o : Outcome Expansion Ended) → t.limits ≡ s.limits → Saves (limit_of s) s.so_far t.so_far → Post t o → Post s o
 unfolding Post
-behind_step s t (Halted d) e f g =
+after_step s t (Halted d) e f g =
     let P : Limits → Type 0 = λ l. Saves l.calls t.so_far d.so_far in
     saves_then (limit_of s) s.so_far t.so_far d.so_far f (subst P e g)
-behind_step s t (Closed u) e f g =
+after_step s t (Closed u) e f g =
     let P : Limits → Type 0 = λ l. Saves l.calls t.so_far u.so_far in
     (g.0 ∙ e, saves_then (limit_of s) s.so_far t.so_far u.so_far f (subst P e g.1))
 
@@ -228,9 +228,9 @@ unfolding Post TurnSaves OutSaves
 rules = record {
   halt = λ s d e. turn_saves s (Halt d) e;
   close = λ s t e. let h = turn_saves s (Close t) e in (h.0, close_step s t e h);
-  go_on = λ s t o e p. let h = turn_saves s (GoOn t) e in behind_step s t o h.0 (go_on_step s t e h) p;
-  bare = λ s t o e p. let h = turn_saves s (Bare t) e in behind_step s t o h (saves_more (limit_of s) s.so_far t.so_far (call_step s t h (falls.bare s t e))) p;
-  list_halts = λ s t f d e p. let h = turn_saves s (Opens f t) e in behind_step s t (Halted d) h (saves_more (limit_of s) s.so_far t.so_far (call_step s t h (falls.opens s t f e))) p;
+  go_on = λ s t o e p. let h = turn_saves s (GoOn t) e in after_step s t o h.0 (go_on_step s t e h) p;
+  bare = λ s t o e p. let h = turn_saves s (Bare t) e in after_step s t o h (saves_more (limit_of s) s.so_far t.so_far (call_step s t h (falls.bare s t e))) p;
+  list_halts = λ s t f d e p. let h = turn_saves s (Opens f t) e in after_step s t (Halted d) h (saves_more (limit_of s) s.so_far t.so_far (call_step s t h (falls.opens s t f e))) p;
   call_halts = λ s t u f d e p j.
       let h = turn_saves s (Opens f t) e in
       let k = list_step s t u h (call_step s t h (falls.opens s t f e)) p in
@@ -239,13 +239,13 @@ rules = record {
       let h = turn_saves s (Opens f t) e in
       let k = list_step s t u h (call_step s t h (falls.opens s t f e)) p in
       let v = join_saves u.mode f u (Closed w) j in
-      behind_step s w o (v.0 ∙ k.0) (saves_count s u.so_far w.so_far v.1 k.1) q;
+      after_step s w o (v.0 ∙ k.0) (saves_count s u.so_far w.so_far v.1 k.1) q;
 }
 
 -- the expansion of an input
 pub input_saves : (limits : Limits) (r : RunSoFar) (p : Pending) → Saves limits.calls r (expand_input limits r p).so_far
 unfolding Post
-input_saves limits r p = go (expand (expansion_of limits r p)) (holds Expansion Kept Ended turn join spent_at size_of calls_left falls Post rules (expansion_of limits r p))
+input_saves limits r p = go (expand (expansion_of limits r p)) (holds Expansion Kept Ended turn join out_of_bound_at size_of calls_left falls Post rules (expansion_of limits r p))
   where
     go : (o : Outcome Expansion Ended) → Post (expansion_of limits r p) o → Saves limits.calls r (ended_of o).so_far
     go (Halted d) h = h

@@ -13,20 +13,20 @@ use Rattle.m4_input.specs.declared.token.Token.TheVariants.{Name, Byte}
 use Rattle.m4_input.proofs.Parts.{drop_parts}
 use Rattle.m4_builtins.specs.declared.place.Place.{Place}
 use Rattle.m4_builtins.specs.Act.{needs_list}
-use Rattle.m4_engine.specs.declared.ahead.Meaning.{Meaning}
-use Rattle.m4_engine.specs.declared.ahead.Named.{Named}
-use Rattle.m4_engine.specs.declared.ahead.Ahead.{Ahead}
-use Rattle.m4_engine.specs.declared.ahead.Ahead.TheVariants as aheads
+use Rattle.m4_engine.specs.declared.lookahead.Meaning.{Meaning}
+use Rattle.m4_engine.specs.declared.lookahead.Named.{Named}
+use Rattle.m4_engine.specs.declared.lookahead.Lookahead.{Lookahead}
+use Rattle.m4_engine.specs.declared.lookahead.Lookahead.TheVariants as aheads
 use Rattle.m4_engine.specs.declared.turned.Turned.{Turned}
 use Rattle.m4_engine.specs.declared.turned.TurnFault.{TurnFault}
 use Rattle.m4_engine.specs.Expansion.{Call, Limits, place_at, issued, reading, put_text}
 use Rattle.m4_engine.specs.Expand.{call, call_of, take_call, call_without_list, take_name}
-use Rattle.m4_engine.specs.Ahead.{IsMeaning, IsAheadOf}
-use Rattle.m4_engine.specs.Engine.{Engine, outer_of, here_of, leaves_call, is_bare, configuration, put_in, with_text, step, Moves, IsAhead}
+use Rattle.m4_engine.specs.Lookahead.{IsMeaning, IsLookaheadOf}
+use Rattle.m4_engine.specs.Engine.{Engine, outer_of, here_of, allows_call, is_bare, configuration, put_in, with_text, step, Moves, IsLookahead}
 use Rattle.m4_state.specs.State.{top_of}
 use Rattle.m4_builtins.specs.Subst.{subst as substituted}
 use Rattle.m4_state.specs.declared.definition.Def.TheVariants.{Text}
-use Rattle.m4_engine.specs.declared.ahead.Meaning.TheVariants as meanings
+use Rattle.m4_engine.specs.declared.lookahead.Meaning.TheVariants as meanings
 use Rattle.m4_engine.specs.declared.turned.Turned.TheVariants as turns
 use Rattle.m4_builtins.specs.CallHead.{CallHead}
 use Rattle.m4_engine.specs.Nesting.{GoOn}
@@ -39,53 +39,53 @@ use Rattle.m4_engine.proofs.Passing.{found_at}
 abbrev leaves_by : ℕ → Limits → ℕ → Bool
 leaves_by calls l depth = nat_lt calls l.calls && not (nat_lt 0 l.nesting && nat_lt l.nesting (suc depth))
 
-leaves_same : (e e1 : Engine) → e1.calls ≡ e.calls → e1.limits ≡ e.limits → length e1.open_calls ≡ length e.open_calls → leaves_call e ≡ leaves_call e1
+leaves_same : (e e1 : Engine) → e1.calls ≡ e.calls → e1.limits ≡ e.limits → length e1.open_calls ≡ length e.open_calls → allows_call e ≡ allows_call e1
 leaves_same e e1 h i j =
     ap (λ n. leaves_by n e.limits (length e.open_calls)) (sym h)
     ∙ ap (λ l. leaves_by e1.calls l (length e.open_calls)) (sym i)
     ∙ ap (leaves_by e1.calls e1.limits) (sym j)
 
 -- an engine that differs in what was put out, or in an argument, sees the same
-pub seen_same : (a : Ahead) (e e1 : Engine) (room : Bool) (p : Pending) → room ≡ leaves_call e → e1.state ≡ e.state → e1.calls ≡ e.calls → e1.limits ≡ e.limits → length e1.open_calls ≡ length e.open_calls → IsAheadOf a e.state room p → IsAhead a e1 p
+pub seen_same : (a : Lookahead) (e e1 : Engine) (room : Bool) (p : Pending) → room ≡ allows_call e → e1.state ≡ e.state → e1.calls ≡ e.calls → e1.limits ≡ e.limits → length e1.open_calls ≡ length e.open_calls → IsLookaheadOf a e.state room p → IsLookahead a e1 p
 seen_same a e e1 room p r s h i j k =
-    subst (λ (t : State). IsAheadOf a t (leaves_call e1) p) (sym s)
-    (subst (λ (v : Bool). IsAheadOf a e.state v p) (r ∙ leaves_same e e1 h i j) k)
+    subst (λ (t : State). IsLookaheadOf a t (allows_call e1) p) (sym s)
+    (subst (λ (v : Bool). IsLookaheadOf a e.state v p) (r ∙ leaves_same e e1 h i j) k)
 
 -- what stands behind so many bytes stands first once these were taken
-pub first_behind : (s : State) (f : First) (p q : Pending) (k : ℕ) (x : List ℕ) → x ≡ text_of p → q ≡ consumed k p → IsFirst s (drop k x) f → IsFirst s (text_of q) f
-first_behind s f p q k x t g v =
+pub first_after : (s : State) (f : First) (p q : Pending) (k : ℕ) (x : List ℕ) → x ≡ text_of p → q ≡ consumed k p → IsFirst s (drop k x) f → IsFirst s (text_of q) f
+first_after s f p q k x t g v =
     subst (λ (r : Pending). IsFirst s (text_of r) f) (sym g)
     (subst (λ (y : List ℕ). IsFirst s y f) (drop_parts k p.pushed p.unread) (subst (λ (y : List ℕ). IsFirst s (drop k y) f) t v))
 
-pub lies_behind : (f : First) (p q : Pending) (k : ℕ) (x : List ℕ) → x ≡ text_of p → q ≡ consumed k p → FirstLies (length (drop k x)) f → FirstLies (length (text_of q)) f
-lies_behind f p q k x t g v =
+pub lies_after : (f : First) (p q : Pending) (k : ℕ) (x : List ℕ) → x ≡ text_of p → q ≡ consumed k p → FirstLies (length (drop k x)) f → FirstLies (length (text_of q)) f
+lies_after f p q k x t g v =
     subst (λ (r : Pending). FirstLies (length (text_of r)) f) (sym g)
     (subst (λ (y : List ℕ). FirstLies (length y) f) (drop_parts k p.pushed p.unread) (subst (λ (y : List ℕ). FirstLies (length (drop k y)) f) t v))
 
 -- a byte that was seen is the token at the front
-pub byte_front : (a : Ahead) (e : Engine) (p q : Pending) (b : ℕ) → a ≡ aheads.Byte b → p.may_follow ≡ false → q ≡ consumed 1 p → IsAhead a e p → token_at (e.state).quotes (e.state).comments p ≡ Taken (Byte b) q
+pub byte_front : (a : Lookahead) (e : Engine) (p q : Pending) (b : ℕ) → a ≡ aheads.Byte b → p.may_follow ≡ false → q ≡ consumed 1 p → IsLookahead a e p → token_at (e.state).quotes (e.state).comments p ≡ Taken (Byte b) q
 byte_front a e p q b h f g k =
-    let r = subst (λ (v : Ahead). IsAhead v e p) h k in
+    let r = subst (λ (v : Lookahead). IsLookahead v e p) h k in
     found_at e.state p (Found (Byte b) 1) r.0 f r.1 ∙ ap (Taken (Byte b)) (sym g)
 
 -- and so is a name
-pub name_front : (a : Ahead) (e : Engine) (p q : Pending) (n : Named) → a ≡ aheads.Named n → p.may_follow ≡ false → q ≡ consumed n.len p → IsAhead a e p → token_at (e.state).quotes (e.state).comments p ≡ Taken (Name (take n.len (text_of p))) q
+pub name_front : (a : Lookahead) (e : Engine) (p q : Pending) (n : Named) → a ≡ aheads.Named n → p.may_follow ≡ false → q ≡ consumed n.len p → IsLookahead a e p → token_at (e.state).quotes (e.state).comments p ≡ Taken (Name (take n.len (text_of p))) q
 name_front a e p q n h f g k =
-    let r = subst (λ (v : Ahead). IsAhead v e p) h k in
+    let r = subst (λ (v : Lookahead). IsLookahead v e p) h k in
     found_at e.state p (Found (Name (take n.len (text_of p))) n.len) r.first f r.scanned ∙ ap (Taken (Name (take n.len (text_of p)))) (sym g)
 
 -- the list that was seen behind a name stands behind it
-pub name_list : (a : Ahead) (e : Engine) (p q : Pending) (n : Named) → a ≡ aheads.Named n → p.may_follow ≡ false → q ≡ consumed n.len p → IsAhead a e p → paren_at (e.state).quotes (e.state).comments q ≡ answer_of n.listed
+pub name_list : (a : Lookahead) (e : Engine) (p q : Pending) (n : Named) → a ≡ aheads.Named n → p.may_follow ≡ false → q ≡ consumed n.len p → IsLookahead a e p → paren_at (e.state).quotes (e.state).comments q ≡ answer_of n.listed
 name_list a e p q n h f g k =
-    let r = subst (λ (v : Ahead). IsAhead v e p) h k in
+    let r = subst (λ (v : Lookahead). IsLookahead v e p) h k in
     ap (paren_at (e.state).quotes (e.state).comments) g
     ∙ ap (λ v. paren_in (e.state).quotes (e.state).comments v (text_of (consumed n.len p))) f
     ∙ ap (paren_in (e.state).quotes (e.state).comments false) (sym (drop_parts n.len p.pushed p.unread))
     ∙ r.list
 
 -- what a name stands for that was seen
-pub name_means : (a : Ahead) (e : Engine) (p : Pending) (n : Named) → a ≡ aheads.Named n → IsAhead a e p → IsMeaning n.meaning (is_bare n.listed e) e.state (take n.len (text_of p)) (record { file = name_of p; line = line_of p })
-name_means a e p n h k = let r = subst (λ (v : Ahead). IsAhead v e p) h k in r.meaning
+pub name_means : (a : Lookahead) (e : Engine) (p : Pending) (n : Named) → a ≡ aheads.Named n → IsLookahead a e p → IsMeaning n.meaning (is_bare n.listed e) e.state (take n.len (text_of p)) (record { file = name_of p; line = line_of p })
+name_means a e p n h k = let r = subst (λ (v : Lookahead). IsLookahead v e p) h k in r.meaning
 
 -- a name whose meaning is known where it stands
 pub named_moves : (e e1 : Engine) (m : Meaning) (bare : Bool) (name : List ℕ) (at : Place) (p q p' : Pending) (r : Result Turned TurnFault) → at.file ≡ name_of p → q ≡ p → IsMeaning m bare e.state name at → IfOk r (λ t. (name : List ℕ) (before : Pending) → IsMeaning m bare e.state name (place_at before) → Moves e1 p' t (λ o l. step (outer_of e.open_calls) (take_name (top_of e.state name) name q (here_of o l e before)))) → IfOk r (λ t. (before : Pending) → at.line ≡ line_of before → before.file ≡ p.file → Moves e1 p' t (λ o l. step (outer_of e.open_calls) (take_name (top_of e.state name) name p (here_of o l e before))))

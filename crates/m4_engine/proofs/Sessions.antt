@@ -11,130 +11,130 @@ use Rattle.m4_engine.specs.declared.ending.Cause.{Cause}
 use Rattle.m4_engine.specs.declared.ending.Cause.TheVariants as causes
 use Rattle.m4_engine.specs.declared.stop.Stop.{Stop}
 use Rattle.m4_engine.specs.declared.stop.Stop.TheVariants as stops
-use Rattle.m4_engine.specs.Expansion.{How, Ends, Ended}
+use Rattle.m4_engine.specs.Expansion.{EndReason, Ends, Ended}
 use Rattle.m4_engine.specs.File.{Progress, file_pending, over_of, over_by, after_input}
 use Rattle.m4_engine.specs.Run.{closed_output, result_of}
 use Rattle.m4_engine.specs.Wraps.{joined_back, after_wraps, close}
 use Rattle.m4_engine.proofs.Begins.{nothing_begun}
 use Rattle.m4_engine.specs.Engine.{Engine}
-use Rattle.m4_engine.specs.Expands.{comes_to, Expanded, Expands, EndsInput, at_rest}
-use Rattle.m4_engine.specs.Session.{Standing, progress_of, written, how_over, IsOpen, Filed, FileDone, FileBroke, FileGives, BrokeOff, WrapsGive, round_of, answer_by, over_behind, behind_wraps, last_state, Unfinished, EndGives, FinishGives, FreezeGives, CloseGives}
+use Rattle.m4_engine.specs.Expands.{input_expansion, Expanded, Expands, EndsInput, at_rest}
+use Rattle.m4_engine.specs.Session.{SessionState, progress_of, written, how_over, IsOpen, Completed, FileDone, FileBroke, FileGives, BrokeOff, WrapsGive, round_of, answer_by, over_after, session_after_wraps, last_state, Unfinished, EndGives, FinishGives, FreezeGives, CloseGives}
 use Rattle.m4_engine.specs.Writers.{Contents, Three, Broken, writers}
 
 -- what a file's input has in hand when it was read
-pub whole_file : (name x : List ℕ) (before behind : Option Script) (p : Pending) → Reads before behind (unread_file name).pending x p → p.may_follow ≡ false → p ≡ file_pending name x false
-whole_file name x before behind p r e = r.in_hand ∙ ap (λ (b : Bool). longer x b (unread_file name).pending) e
+pub whole_file : (name x : List ℕ) (before after : Option Script) (p : Pending) → Reads before after (unread_file name).pending x p → p.may_follow ≡ false → p ≡ file_pending name x false
+whole_file name x before after p r e = r.in_hand ∙ ap (λ (b : Bool). longer x b (unread_file name).pending) e
 
 -- the session as the machine and the rest of it give it
-abbrev standing_of : Engine → Bool → Option Cause → Bool → Standing
-standing_of e missed over finished = record {
+abbrev standing_of : Engine → Bool → Option Cause → Bool → SessionState
+standing_of e any_missing over finished = record {
   limits = e.limits;
   state = e.state;
   saved = e.saved;
   calls = e.calls;
-  missed = missed;
+  any_missing = any_missing;
   over = over;
   finished = finished;
 }
 
 -- the progress behind a file that ended by a cause
-abbrev progress_with : State → List (List ℕ) → ℕ → Option How → Bool → Progress
-progress_with s saved calls over missed = record {
+abbrev progress_with : State → List (List ℕ) → ℕ → Option EndReason → Bool → Progress
+progress_with s saved calls over any_missing = record {
   so_far = record { state = s; output = []; messages = []; saved = saved; calls = calls };
   over = over;
-  missed = missed;
+  any_missing = any_missing;
 }
 
-progress_behind : (new : Engine) (missed : Bool) (over : Option Cause) (cause : Cause) (d : Ended) → d.how ≡ Ends cause → new.state ≡ (d.so_far).state → new.saved ≡ (d.so_far).saved → new.calls ≡ (d.so_far).calls → how_over over ≡ over_by cause → progress_of (standing_of new missed over false) ≡ written (after_input d missed)
-progress_behind new missed over cause d h s v n o =
-    ap (λ (x : State). progress_with x new.saved new.calls (how_over over) missed) s
-    ∙ ap (λ (x : List (List ℕ)). progress_with (d.so_far).state x new.calls (how_over over) missed) v
-    ∙ ap (λ (x : ℕ). progress_with (d.so_far).state (d.so_far).saved x (how_over over) missed) n
-    ∙ ap (λ (x : Option How). progress_with (d.so_far).state (d.so_far).saved (d.so_far).calls x missed) (o ∙ sym (ap over_of h))
+progress_after : (new : Engine) (any_missing : Bool) (over : Option Cause) (cause : Cause) (d : Ended) → d.reason ≡ Ends cause → new.state ≡ (d.so_far).state → new.saved ≡ (d.so_far).saved → new.calls ≡ (d.so_far).calls → how_over over ≡ over_by cause → progress_of (standing_of new any_missing over false) ≡ written (after_input d any_missing)
+progress_after new any_missing over cause d h s v n o =
+    ap (λ (x : State). progress_with x new.saved new.calls (how_over over) any_missing) s
+    ∙ ap (λ (x : List (List ℕ)). progress_with (d.so_far).state x new.calls (how_over over) any_missing) v
+    ∙ ap (λ (x : ℕ). progress_with (d.so_far).state (d.so_far).saved x (how_over over) any_missing) n
+    ∙ ap (λ (x : Option EndReason). progress_with (d.so_far).state (d.so_far).saved (d.so_far).calls x any_missing) (o ∙ sym (ap over_of h))
 
 -- an input was read to an end
-input_done : (old : Standing) (e0 e1 : Engine) (missed : Bool) (over : Option Cause) (cause : Cause) (d : Ended) (w : Contents) → IsOpen old → e0.limits ≡ old.limits → Expanded e0 e1 d cause w → how_over over ≡ over_by cause → Filed old (standing_of (at_rest e1) missed over false) (after_input d missed) w
-input_done old e0 e1 missed over cause d w l e k o = record {
+input_done : (old : SessionState) (e0 e1 : Engine) (any_missing : Bool) (over : Option Cause) (cause : Cause) (d : Ended) (w : Contents) → IsOpen old → e0.limits ≡ old.limits → Expanded e0 e1 d cause w → how_over over ≡ over_by cause → Completed old (standing_of (at_rest e1) any_missing over false) (after_input d any_missing) w
+input_done old e0 e1 any_missing over cause d w l e k o = record {
   live = l;
   limits = k.limits ∙ e;
   unfinished = refl;
-  progress = progress_behind (at_rest e1) missed over cause d k.how k.state k.saved k.calls o;
+  progress = progress_after (at_rest e1) any_missing over cause d k.reason k.state k.saved k.calls o;
   output = k.output;
   messages = k.messages;
 }
 
 -- a file was read to an end
-file_done : (e0 e1 : Engine) (missed : Bool) (name x : List ℕ) (over : Option Cause) (cause : Cause) (before behind : Option Script) (p : Pending) (w : Contents) → before ≡ after_bytes x behind → IsAtEnd behind → p ≡ file_pending name x false → Expanded e0 e1 (comes_to e0 p) cause w → how_over over ≡ over_by cause → FileDone name before behind (standing_of e0 missed None false) (standing_of (at_rest e1) missed over false) w over
-file_done e0 e1 missed name x over cause before behind p w g a e d o = (
+file_done : (e0 e1 : Engine) (any_missing : Bool) (name x : List ℕ) (over : Option Cause) (cause : Cause) (before after : Option Script) (p : Pending) (w : Contents) → before ≡ after_bytes x after → IsAtEnd after → p ≡ file_pending name x false → Expanded e0 e1 (input_expansion e0 p) cause w → how_over over ≡ over_by cause → FileDone name before after (standing_of e0 any_missing None false) (standing_of (at_rest e1) any_missing over false) w over
+file_done e0 e1 any_missing name x over cause before after p w g a e d o = (
   x,
   g,
   a,
-  input_done (standing_of e0 missed None false) e0 e1 missed over cause (comes_to e0 (file_pending name x false)) w (record { over = refl; unfinished = refl }) refl (subst (λ (p : Pending). Expanded e0 e1 (comes_to e0 p) cause w) e d) o,
+  input_done (standing_of e0 any_missing None false) e0 e1 any_missing over cause (input_expansion e0 (file_pending name x false)) w (record { over = refl; unfinished = refl }) refl (subst (λ (p : Pending). Expanded e0 e1 (input_expansion e0 p) cause w) e d) o,
   refl,
 )
 
 -- a file broke off
-file_broke : (e0 e1 : Engine) (missed : Bool) (name x : List ℕ) (cause : Cause) (before behind : Option Script) (p : Pending) (w : Contents) → before ≡ after_bytes x behind → IsAtEnd behind → p ≡ file_pending name x false → Broken (comes_to e0 p) w → FileBroke name before behind (standing_of e0 missed None false) (standing_of (at_rest e1) missed (Some cause) false) w cause
-file_broke e0 e1 missed name x cause before behind p w g a e d = (
+file_broke : (e0 e1 : Engine) (any_missing : Bool) (name x : List ℕ) (cause : Cause) (before after : Option Script) (p : Pending) (w : Contents) → before ≡ after_bytes x after → IsAtEnd after → p ≡ file_pending name x false → Broken (input_expansion e0 p) w → FileBroke name before after (standing_of e0 any_missing None false) (standing_of (at_rest e1) any_missing (Some cause) false) w cause
+file_broke e0 e1 any_missing name x cause before after p w g a e d = (
   x,
   g,
   record { live = record { over = refl; unfinished = refl }; over = refl },
-  inr (a, subst (λ (p : Pending). Broken (comes_to e0 p) w) e d),
+  inr (a, subst (λ (p : Pending). Broken (input_expansion e0 p) w) e d),
 )
 
-by_cause : (e0 e1 : Engine) (missed : Bool) (name x : List ℕ) (cause : Cause) (before behind : Option Script) (p : Pending) (w : Contents) → before ≡ after_bytes x behind → IsAtEnd behind → p ≡ file_pending name x false → Expands e0 e1 p w cause → EndsInput cause → FileGives name before behind (standing_of e0 missed None false) (standing_of (at_rest e1) missed (over_behind cause None) false) w (answer_by cause)
-by_cause e0 e1 missed name x causes.Done before behind p w g a e d u = file_done e0 e1 missed name x None causes.Done before behind p w g a e d refl
-by_cause e0 e1 missed name x (causes.Exited n) before behind p w g a e d u = file_done e0 e1 missed name x (Some (causes.Exited n)) (causes.Exited n) before behind p w g a e d refl
-by_cause e0 e1 missed name x causes.EndInString before behind p w g a e d u = file_done e0 e1 missed name x (Some causes.EndInString) causes.EndInString before behind p w g a e d refl
-by_cause e0 e1 missed name x causes.EndInComment before behind p w g a e d u = file_done e0 e1 missed name x (Some causes.EndInComment) causes.EndInComment before behind p w g a e d refl
-by_cause e0 e1 missed name x causes.EndInArguments before behind p w g a e d u = file_done e0 e1 missed name x (Some causes.EndInArguments) causes.EndInArguments before behind p w g a e d refl
-by_cause e0 e1 missed name x causes.ExpansionLimit before behind p w g a e d u = file_done e0 e1 missed name x (Some causes.ExpansionLimit) causes.ExpansionLimit before behind p w g a e d refl
-by_cause e0 e1 missed name x causes.NestingLimit before behind p w g a e d u = file_done e0 e1 missed name x (Some causes.NestingLimit) causes.NestingLimit before behind p w g a e d refl
-by_cause e0 e1 missed name x (causes.Frozen f) before behind p w g a e d u = absurd u
-by_cause e0 e1 missed name x causes.Read before behind p w g a e d u = absurd u
-by_cause e0 e1 missed name x causes.Write before behind p w g a e d u = file_broke e0 e1 missed name x causes.Write before behind p w g a e d
-by_cause e0 e1 missed name x causes.OutOfMemory before behind p w g a e d u = file_broke e0 e1 missed name x causes.OutOfMemory before behind p w g a e d
+by_cause : (e0 e1 : Engine) (any_missing : Bool) (name x : List ℕ) (cause : Cause) (before after : Option Script) (p : Pending) (w : Contents) → before ≡ after_bytes x after → IsAtEnd after → p ≡ file_pending name x false → Expands e0 e1 p w cause → EndsInput cause → FileGives name before after (standing_of e0 any_missing None false) (standing_of (at_rest e1) any_missing (over_after cause None) false) w (answer_by cause)
+by_cause e0 e1 any_missing name x causes.Done before after p w g a e d u = file_done e0 e1 any_missing name x None causes.Done before after p w g a e d refl
+by_cause e0 e1 any_missing name x (causes.Exited n) before after p w g a e d u = file_done e0 e1 any_missing name x (Some (causes.Exited n)) (causes.Exited n) before after p w g a e d refl
+by_cause e0 e1 any_missing name x causes.EndInString before after p w g a e d u = file_done e0 e1 any_missing name x (Some causes.EndInString) causes.EndInString before after p w g a e d refl
+by_cause e0 e1 any_missing name x causes.EndInComment before after p w g a e d u = file_done e0 e1 any_missing name x (Some causes.EndInComment) causes.EndInComment before after p w g a e d refl
+by_cause e0 e1 any_missing name x causes.EndInArguments before after p w g a e d u = file_done e0 e1 any_missing name x (Some causes.EndInArguments) causes.EndInArguments before after p w g a e d refl
+by_cause e0 e1 any_missing name x causes.ExpansionLimit before after p w g a e d u = file_done e0 e1 any_missing name x (Some causes.ExpansionLimit) causes.ExpansionLimit before after p w g a e d refl
+by_cause e0 e1 any_missing name x causes.NestingLimit before after p w g a e d u = file_done e0 e1 any_missing name x (Some causes.NestingLimit) causes.NestingLimit before after p w g a e d refl
+by_cause e0 e1 any_missing name x (causes.Frozen f) before after p w g a e d u = absurd u
+by_cause e0 e1 any_missing name x causes.Read before after p w g a e d u = absurd u
+by_cause e0 e1 any_missing name x causes.Write before after p w g a e d u = file_broke e0 e1 any_missing name x causes.Write before after p w g a e d
+by_cause e0 e1 any_missing name x causes.OutOfMemory before after p w g a e d u = file_broke e0 e1 any_missing name x causes.OutOfMemory before after p w g a e d
 
 -- a session that goes on
-open_is : (old : Standing) (e0 : Engine) (missed : Bool) (over : Option Cause) (finished : Bool) → old ≡ standing_of e0 missed over finished → IsOpen old → (over ≡ None) × (finished ≡ false)
-open_is old e0 missed over finished o l = (sym (ap (λ (s : Standing). s.over) o) ∙ l.over, sym (ap (λ (s : Standing). s.finished) o) ∙ l.unfinished)
+open_is : (old : SessionState) (e0 : Engine) (any_missing : Bool) (over : Option Cause) (finished : Bool) → old ≡ standing_of e0 any_missing over finished → IsOpen old → (over ≡ None) × (finished ≡ false)
+open_is old e0 any_missing over finished o l = (sym (ap (λ (s : SessionState). s.over) o) ∙ l.over, sym (ap (λ (s : SessionState). s.finished) o) ∙ l.unfinished)
 
 -- a session before an input and after it, and the answer, as the clause of the call has them
-module _ (To : Standing → Standing → Result Unit Stop → Type 0) (old new : Standing) (e0 e1 e2 : Engine) (missed : Bool) (over : Option Cause) (finished : Bool) (cause : Cause) (result : Result Unit Stop) where
-  as_it_stands : old ≡ standing_of e0 missed over finished → IsOpen old → e2 ≡ at_rest e1 → new ≡ standing_of e2 missed (over_behind cause over) finished → result ≡ answer_by cause → To (standing_of e0 missed None false) (standing_of (at_rest e1) missed (over_behind cause None) false) (answer_by cause) → To old new result
+module _ (To : SessionState → SessionState → Result Unit Stop → Type 0) (old new : SessionState) (e0 e1 e2 : Engine) (any_missing : Bool) (over : Option Cause) (finished : Bool) (cause : Cause) (result : Result Unit Stop) where
+  as_it_stands : old ≡ standing_of e0 any_missing over finished → IsOpen old → e2 ≡ at_rest e1 → new ≡ standing_of e2 any_missing (over_after cause over) finished → result ≡ answer_by cause → To (standing_of e0 any_missing None false) (standing_of (at_rest e1) any_missing (over_after cause None) false) (answer_by cause) → To old new result
   as_it_stands o l z v r g =
-      let k = open_is old e0 missed over finished o l in
-      let o' : old ≡ standing_of e0 missed None false = o ∙ ap (λ x. standing_of e0 missed x finished) k.0 ∙ ap (λ x. standing_of e0 missed None x) k.1 in
-      let v' : new ≡ standing_of (at_rest e1) missed (over_behind cause None) false =
-      v ∙ ap (λ (x : Engine). standing_of x missed (over_behind cause over) finished) z ∙ ap (λ x. standing_of (at_rest e1) missed (over_behind cause x) finished) k.0 ∙ ap (λ x. standing_of (at_rest e1) missed (over_behind cause None) x) k.1 in
-      subst (λ (x : Standing). To x new result) (sym o')
-      (subst (λ (x : Standing). To (standing_of e0 missed None false) x result) (sym v')
-      (subst (To (standing_of e0 missed None false) (standing_of (at_rest e1) missed (over_behind cause None) false)) (sym r) g))
+      let k = open_is old e0 any_missing over finished o l in
+      let o' : old ≡ standing_of e0 any_missing None false = o ∙ ap (λ x. standing_of e0 any_missing x finished) k.0 ∙ ap (λ x. standing_of e0 any_missing None x) k.1 in
+      let v' : new ≡ standing_of (at_rest e1) any_missing (over_after cause None) false =
+      v ∙ ap (λ (x : Engine). standing_of x any_missing (over_after cause over) finished) z ∙ ap (λ x. standing_of (at_rest e1) any_missing (over_after cause x) finished) k.0 ∙ ap (λ x. standing_of (at_rest e1) any_missing (over_after cause None) x) k.1 in
+      subst (λ (x : SessionState). To x new result) (sym o')
+      (subst (λ (x : SessionState). To (standing_of e0 any_missing None false) x result) (sym v')
+      (subst (To (standing_of e0 any_missing None false) (standing_of (at_rest e1) any_missing (over_after cause None) false)) (sym r) g))
 
 -- a file that was read whole
-pub file_gives : (old new : Standing) (e0 e1 e2 : Engine) (missed : Bool) (over : Option Cause) (finished : Bool) (name : List ℕ) (i0 i : Held) (before behind : Option Script) (w : Contents) (cause : Cause) (result : Result Unit Stop) → old ≡ standing_of e0 missed over finished → IsOpen old → i0 ≡ unread_file name → WholeGives before behind i0 i (Ok tt) → Expands e0 e1 i.pending w cause → EndsInput cause → e2 ≡ at_rest e1 → new ≡ standing_of e2 missed (over_behind cause over) finished → result ≡ answer_by cause → FileGives name before behind old new w result
-file_gives old new e0 e1 e2 missed over finished name i0 i before behind w cause result o l n h d u z v r =
-    let k = subst (λ (i0 : Held). WholeGives before behind i0 i (Ok tt)) n h in
-    let p : i.pending ≡ file_pending name k.0 false = whole_file name k.0 before behind i.pending k.1 k.2 in
-    let g = by_cause e0 e1 missed name k.0 cause before behind i.pending w (k.1).given ((k.1).at_end refl k.2) p d u in
-    as_it_stands (λ a b x. FileGives name before behind a b w x) old new e0 e1 e2 missed over finished cause result o l z v r g
+pub file_gives : (old new : SessionState) (e0 e1 e2 : Engine) (any_missing : Bool) (over : Option Cause) (finished : Bool) (name : List ℕ) (i0 i : Held) (before after : Option Script) (w : Contents) (cause : Cause) (result : Result Unit Stop) → old ≡ standing_of e0 any_missing over finished → IsOpen old → i0 ≡ unread_file name → WholeGives before after i0 i (Ok tt) → Expands e0 e1 i.pending w cause → EndsInput cause → e2 ≡ at_rest e1 → new ≡ standing_of e2 any_missing (over_after cause over) finished → result ≡ answer_by cause → FileGives name before after old new w result
+file_gives old new e0 e1 e2 any_missing over finished name i0 i before after w cause result o l n h d u z v r =
+    let k = subst (λ (i0 : Held). WholeGives before after i0 i (Ok tt)) n h in
+    let p : i.pending ≡ file_pending name k.0 false = whole_file name k.0 before after i.pending k.1 k.2 in
+    let g = by_cause e0 e1 any_missing name k.0 cause before after i.pending w (k.1).given ((k.1).at_end refl k.2) p d u in
+    as_it_stands (λ a b x. FileGives name before after a b w x) old new e0 e1 e2 any_missing over finished cause result o l z v r g
 
 -- a round over saved texts
-module _ (old : Standing) (e0 e1 : Engine) (missed : Bool) (p : Pending) (w : Contents) (l : IsOpen old) (e : e0.limits ≡ old.limits) where
+module _ (old : SessionState) (e0 e1 : Engine) (any_missing : Bool) (p : Pending) (w : Contents) (l : IsOpen old) (e : e0.limits ≡ old.limits) where
   abbrev d : Ended
-  d = comes_to e0 p
+  d = input_expansion e0 p
 
   abbrev To : Cause → Type 0
-  To cause = WrapsGive (after_input d missed) old (standing_of (at_rest e1) missed (over_behind cause None) false) w (answer_by cause)
+  To cause = WrapsGive (after_input d any_missing) old (standing_of (at_rest e1) any_missing (over_after cause None) false) w (answer_by cause)
 
-  ends_by : (cause : Cause) → Expanded e0 e1 d cause w → how_over (Some cause) ≡ over_by cause → Filed old (standing_of (at_rest e1) missed (Some cause) false) (after_input d missed) w × (Some cause ≡ Some cause)
-  ends_by cause k o = (input_done old e0 e1 missed (Some cause) cause d w l e k o, refl)
+  ends_by : (cause : Cause) → Expanded e0 e1 d cause w → how_over (Some cause) ≡ over_by cause → Completed old (standing_of (at_rest e1) any_missing (Some cause) false) (after_input d any_missing) w × (Some cause ≡ Some cause)
+  ends_by cause k o = (input_done old e0 e1 any_missing (Some cause) cause d w l e k o, refl)
 
-  breaks_by : (cause : Cause) → Broken d w → BrokeOff (standing_of (at_rest e1) missed (Some cause) false) (after_input d missed) w cause
+  breaks_by : (cause : Cause) → Broken d w → BrokeOff (standing_of (at_rest e1) any_missing (Some cause) false) (after_input d any_missing) w cause
   breaks_by cause k = record { over = refl; output = k.output; messages = k.messages }
 
   round_by : (cause : Cause) → Expands e0 e1 p w cause → EndsInput cause → To cause
-  round_by causes.Done k u = ((input_done old e0 e1 missed None causes.Done d w l e k refl, refl), tt)
+  round_by causes.Done k u = ((input_done old e0 e1 any_missing None causes.Done d w l e k refl, refl), tt)
   round_by (causes.Exited n) k u = (ends_by (causes.Exited n) k refl, tt)
   round_by causes.EndInString k u = (ends_by causes.EndInString k refl, tt)
   round_by causes.EndInComment k u = (ends_by causes.EndInComment k refl, tt)
@@ -146,42 +146,42 @@ module _ (old : Standing) (e0 e1 : Engine) (missed : Bool) (p : Pending) (w : Co
   round_by causes.Write k u = (breaks_by causes.Write k, tt)
   round_by causes.OutOfMemory k u = (breaks_by causes.OutOfMemory k, tt)
 
-pub round_gives : (old new : Standing) (e0 ea e1 e2 : Engine) (missed : Bool) (over : Option Cause) (finished : Bool) (x : List ℕ) (i : Held) (w : Contents) (cause : Cause) (result : Result Unit Stop) → old ≡ standing_of e0 missed over finished → IsOpen old → ea ≡ record e0 { saved = [] } → x ≡ joined_back e0.saved → i ≡ wrapped_text x → Expands ea e1 i.pending w cause → EndsInput cause → e2 ≡ at_rest e1 → new ≡ standing_of e2 missed (over_behind cause over) finished → result ≡ answer_by cause → WrapsGive (round_of old) old new w result
-round_gives old new e0 ea e1 e2 missed over finished x i w cause result o l a j n d u z v r =
+pub round_gives : (old new : SessionState) (e0 ea e1 e2 : Engine) (any_missing : Bool) (over : Option Cause) (finished : Bool) (x : List ℕ) (i : Held) (w : Contents) (cause : Cause) (result : Result Unit Stop) → old ≡ standing_of e0 any_missing over finished → IsOpen old → ea ≡ record e0 { saved = [] } → x ≡ joined_back e0.saved → i ≡ wrapped_text x → Expands ea e1 i.pending w cause → EndsInput cause → e2 ≡ at_rest e1 → new ≡ standing_of e2 any_missing (over_after cause over) finished → result ≡ answer_by cause → WrapsGive (round_of old) old new w result
+round_gives old new e0 ea e1 e2 any_missing over finished x i w cause result o l a j n d u z v r =
     let taken : Engine = record e0 { saved = [] } in
     let p : Pending = wrapped_pending (joined_back e0.saved) in
     let k : Expands taken e1 p w cause = subst (λ (y : Engine). Expands y e1 p w cause) a (subst (λ (y : Pending). Expands ea e1 y w cause) (ap (λ (h : Held). h.pending) n ∙ ap wrapped_pending j) d) in
-    as_it_stands (λ a b y. WrapsGive (round_of a) a b w y) old new e0 e1 e2 missed over finished cause result o l z v r
-    (round_by (standing_of e0 missed None false) taken e1 missed p w (record { over = refl; unfinished = refl }) refl cause k u)
+    as_it_stands (λ a b y. WrapsGive (round_of a) a b w y) old new e0 e1 e2 any_missing over finished cause result o l z v r
+    (round_by (standing_of e0 any_missing None false) taken e1 any_missing p w (record { over = refl; unfinished = refl }) refl cause k u)
 
 -- a round whose text could not be made
-lacked_by : (new : Standing) (p : Progress) (w : Contents) → new.over ≡ Some causes.OutOfMemory → w.out_new ≡ w.out_old → w.messages_new ≡ w.messages_old → BrokeOff new p w causes.OutOfMemory
+lacked_by : (new : SessionState) (p : Progress) (w : Contents) → new.over ≡ Some causes.OutOfMemory → w.out_new ≡ w.out_old → w.messages_new ≡ w.messages_old → BrokeOff new p w causes.OutOfMemory
 lacked_by new p w v o m = record {
   over = v;
   output = subst (λ x. HasBegun w.out_old x (p.so_far).output) (sym o) (nothing_begun w.out_old (p.so_far).output);
   messages = subst (λ x. HasBegun w.messages_old x (p.so_far).messages) (sym m) (nothing_begun w.messages_old (p.so_far).messages);
 }
 
-pub round_lacked : (old new : Standing) (w : Contents) (e : Stop) → e ≡ stops.Ended causes.OutOfMemory → new.over ≡ Some causes.OutOfMemory → w.out_new ≡ w.out_old → w.messages_new ≡ w.messages_old → WrapsGive (round_of old) old new w (Err e)
+pub round_lacked : (old new : SessionState) (w : Contents) (e : Stop) → e ≡ stops.Ended causes.OutOfMemory → new.over ≡ Some causes.OutOfMemory → w.out_new ≡ w.out_old → w.messages_new ≡ w.messages_old → WrapsGive (round_of old) old new w (Err e)
 round_lacked old new w e i v o m =
     subst (λ (x : Stop). WrapsGive (round_of old) old new w (Err x)) (sym i) (lacked_by new (round_of old) w v o m, tt)
 
 -- no text stands saved: there is no round
-pub behind_is : (s : Standing) → IsOpen s → s.saved ≡ [] → behind_wraps s ≡ progress_of s
-behind_is s l e =
+pub after_is : (s : SessionState) → IsOpen s → s.saved ≡ [] → session_after_wraps s ≡ progress_of s
+after_is s l e =
     ap (λ (o : Option Cause). after_wraps s.limits (progress_of (record s { over = o }))) l.over
     ∙ ap (λ (x : List (List ℕ)). after_wraps s.limits (progress_of (record s { over = None; saved = x }))) e
     ∙ sym (ap (λ (x : List (List ℕ)). progress_of (record s { over = None; saved = x })) e)
     ∙ sym (ap (λ (o : Option Cause). progress_of (record s { over = o })) l.over)
 
 -- what a run puts out behind its saved texts, where none is saved
-ended_output : (freezes : Bool) (s : Standing) → s.over ≡ None → (result_of freezes [] (progress_of s)).output ≡ closed_output freezes (progress_of s).so_far
+ended_output : (freezes : Bool) (s : SessionState) → s.over ≡ None → (result_of freezes [] (progress_of s)).output ≡ closed_output freezes (progress_of s).so_far
 ended_output freezes s e = ap (λ (o : Option Cause). (result_of freezes [] (progress_of (record s { over = o }))).output) e
 
 -- the end of a run broke off, with so much of the rest written
-broke_off : (freezes : Bool) (old new : Standing) (w : Contents) (cause : Cause) → IsOpen old → old.saved ≡ [] → new.over ≡ Some cause → w.messages_new ≡ w.messages_old → HasBegun w.out_old w.out_new (closed_output freezes (progress_of old).so_far) → Unfinished freezes old new w cause
+broke_off : (freezes : Bool) (old new : SessionState) (w : Contents) (cause : Cause) → IsOpen old → old.saved ≡ [] → new.over ≡ Some cause → w.messages_new ≡ w.messages_old → HasBegun w.out_old w.out_new (closed_output freezes (progress_of old).so_far) → Unfinished freezes old new w cause
 broke_off freezes old new w cause l e o m h =
-    let p : progress_of old ≡ behind_wraps old = sym (behind_is old l e) in
+    let p : progress_of old ≡ session_after_wraps old = sym (after_is old l e) in
     record {
       live = l;
       over = o;
@@ -191,66 +191,66 @@ broke_off freezes old new w cause l e o m h =
     }
 
 -- the diversions could not be issued
-pub finish_broke : (old new : Standing) (w : Contents) (s : Stop) → IsOpen old → old.saved ≡ [] → s ≡ stops.Ended causes.Write → new.over ≡ Some causes.Write → w.messages_new ≡ w.messages_old → HasBegun w.out_old w.out_new (close old.state) → FinishGives old new w (Err s)
+pub finish_broke : (old new : SessionState) (w : Contents) (s : Stop) → IsOpen old → old.saved ≡ [] → s ≡ stops.Ended causes.Write → new.over ≡ Some causes.Write → w.messages_new ≡ w.messages_old → HasBegun w.out_old w.out_new (close old.state) → FinishGives old new w (Err s)
 finish_broke old new w s l e i o m h = subst (λ (x : Stop). FinishGives old new w (Err x)) (sym i) (broke_off false old new w causes.Write l e o m h)
 
 -- the diversions were issued
-pub issued_all : (old new : Standing) (out out' told : Option (List ℕ)) → IsOpen old → old.saved ≡ [] → new.finished ≡ true → new.over ≡ old.over → new.missed ≡ old.missed → new.saved ≡ old.saved → new.calls ≡ old.calls → out' ≡ with_bytes out (close old.state) → FinishGives old new (writers out out' told told) (Ok tt)
-issued_all old new out out' told l e f v m s n o =
-    let p : progress_of old ≡ behind_wraps old = sym (behind_is old l e) in
+pub issued_all : (old new : SessionState) (out out' reported : Option (List ℕ)) → IsOpen old → old.saved ≡ [] → new.finished ≡ true → new.over ≡ old.over → new.any_missing ≡ old.any_missing → new.saved ≡ old.saved → new.calls ≡ old.calls → out' ≡ with_bytes out (close old.state) → FinishGives old new (writers out out' reported reported) (Ok tt)
+issued_all old new out out' reported l e f v m s n o =
+    let p : progress_of old ≡ session_after_wraps old = sym (after_is old l e) in
     record {
       live = l;
       finished = f;
       over = v ∙ l.over;
-      missed = m;
+      any_missing = m;
       saved = s ∙ e;
       calls = n ∙ ap (λ (x : Progress). (x.so_far).calls) p;
       ended = ap (λ (x : Progress). x.over) (sym p) ∙ ap how_over l.over;
       output = o ∙ ap (λ (x : Progress). with_bytes out (closed_output false x.so_far)) p;
-      messages = with_bytes-nil told ∙ ap (λ (x : Progress). with_bytes told (x.so_far).messages) p;
+      messages = with_bytes-nil reported ∙ ap (λ (x : Progress). with_bytes reported (x.so_far).messages) p;
     }
 
 -- the state was frozen
-pub froze : (old new : Standing) (s : State) (out told frozen frozen' : Option (List ℕ)) → IsOpen old → old.saved ≡ [] → s ≡ old.state → new ≡ record old { finished = true } → frozen' ≡ with_bytes frozen (freeze s) → IsSized s → FreezeGives old new (record { two = writers out out told told; frozen_old = frozen; frozen_new = frozen' }) (Ok tt)
-froze old new s out told frozen frozen' l e i n f z =
-    let p : progress_of old ≡ behind_wraps old = sym (behind_is old l e) in
+pub froze : (old new : SessionState) (s : State) (out reported frozen frozen' : Option (List ℕ)) → IsOpen old → old.saved ≡ [] → s ≡ old.state → new ≡ record old { finished = true } → frozen' ≡ with_bytes frozen (freeze s) → IsSized s → FreezeGives old new (record { two = writers out out reported reported; frozen_old = frozen; frozen_new = frozen' }) (Ok tt)
+froze old new s out reported frozen frozen' l e i n f z =
+    let p : progress_of old ≡ session_after_wraps old = sym (after_is old l e) in
     let t : s ≡ last_state old = i ∙ ap (λ (x : Progress). (x.so_far).state) p in (
       record {
         live = l;
-        finished = ap (λ (x : Standing). x.finished) n;
-        over = ap (λ (x : Standing). x.over) n ∙ l.over;
-        missed = ap (λ (x : Standing). x.missed) n;
-        saved = ap (λ (x : Standing). x.saved) n ∙ e;
-        calls = ap (λ (x : Standing). x.calls) n ∙ ap (λ (x : Progress). (x.so_far).calls) p;
+        finished = ap (λ (x : SessionState). x.finished) n;
+        over = ap (λ (x : SessionState). x.over) n ∙ l.over;
+        any_missing = ap (λ (x : SessionState). x.any_missing) n;
+        saved = ap (λ (x : SessionState). x.saved) n ∙ e;
+        calls = ap (λ (x : SessionState). x.calls) n ∙ ap (λ (x : Progress). (x.so_far).calls) p;
         ended = ap (λ (x : Progress). x.over) (sym p) ∙ ap how_over l.over;
         output = with_bytes-nil out ∙ ap (λ (x : Progress). with_bytes out (closed_output true x.so_far)) p;
-        messages = with_bytes-nil told ∙ ap (λ (x : Progress). with_bytes told (x.so_far).messages) p;
+        messages = with_bytes-nil reported ∙ ap (λ (x : Progress). with_bytes reported (x.so_far).messages) p;
       },
       (f ∙ ap (λ x. with_bytes frozen (freeze x)) t, subst IsSized t z),
     )
 
 -- the frozen text broke off
-pub freeze_broke : (old new : Standing) (s : State) (e : Stop) (out told frozen frozen' : Option (List ℕ)) → IsOpen old → old.saved ≡ [] → s ≡ old.state → e ≡ stops.Ended causes.Write → new.over ≡ Some causes.Write → HasBegun frozen frozen' (freeze s) → FreezeGives old new (record { two = writers out out told told; frozen_old = frozen; frozen_new = frozen' }) (Err e)
-freeze_broke old new s e out told frozen frozen' l v i k o f =
-    let p : progress_of old ≡ behind_wraps old = sym (behind_is old l v) in
+pub freeze_broke : (old new : SessionState) (s : State) (e : Stop) (out reported frozen frozen' : Option (List ℕ)) → IsOpen old → old.saved ≡ [] → s ≡ old.state → e ≡ stops.Ended causes.Write → new.over ≡ Some causes.Write → HasBegun frozen frozen' (freeze s) → FreezeGives old new (record { two = writers out out reported reported; frozen_old = frozen; frozen_new = frozen' }) (Err e)
+freeze_broke old new s e out reported frozen frozen' l v i k o f =
+    let p : progress_of old ≡ session_after_wraps old = sym (after_is old l v) in
     let t : s ≡ last_state old = i ∙ ap (λ (x : Progress). (x.so_far).state) p in
-    subst (λ (x : Stop). FreezeGives old new (record { two = writers out out told told; frozen_old = frozen; frozen_new = frozen' }) (Err x)) (sym k) (
-      broke_off true old new (writers out out told told) causes.Write l v o refl (nothing_begun out _),
+    subst (λ (x : Stop). FreezeGives old new (record { two = writers out out reported reported; frozen_old = frozen; frozen_new = frozen' }) (Err x)) (sym k) (
+      broke_off true old new (writers out out reported reported) causes.Write l v o refl (nothing_begun out _),
       inr (record {
         ended = ap (λ (x : Progress). x.over) (sym p) ∙ ap how_over l.over;
         begun = subst (λ x. HasBegun frozen frozen' (freeze x)) t f;
         output = with_bytes-nil out ∙ ap (λ (x : Progress). with_bytes out (x.so_far).output) p;
-        messages = with_bytes-nil told ∙ ap (λ (x : Progress). with_bytes told (x.so_far).messages) p;
+        messages = with_bytes-nil reported ∙ ap (λ (x : Progress). with_bytes reported (x.so_far).messages) p;
       }),
     )
 
 -- memory ran out before the frozen text was begun
-pub freeze_lacked : (old new : Standing) (e : Stop) (out told frozen frozen' : Option (List ℕ)) → IsOpen old → old.saved ≡ [] → e ≡ stops.Ended causes.OutOfMemory → new.over ≡ Some causes.OutOfMemory → frozen' ≡ frozen → FreezeGives old new (record { two = writers out out told told; frozen_old = frozen; frozen_new = frozen' }) (Err e)
-freeze_lacked old new e out told frozen frozen' l v k o f =
-    subst (λ (x : Stop). FreezeGives old new (record { two = writers out out told told; frozen_old = frozen; frozen_new = frozen' }) (Err x)) (sym k)
-    (broke_off true old new (writers out out told told) causes.OutOfMemory l v o refl (nothing_begun out _), f)
+pub freeze_lacked : (old new : SessionState) (e : Stop) (out reported frozen frozen' : Option (List ℕ)) → IsOpen old → old.saved ≡ [] → e ≡ stops.Ended causes.OutOfMemory → new.over ≡ Some causes.OutOfMemory → frozen' ≡ frozen → FreezeGives old new (record { two = writers out out reported reported; frozen_old = frozen; frozen_new = frozen' }) (Err e)
+freeze_lacked old new e out reported frozen frozen' l v k o f =
+    subst (λ (x : Stop). FreezeGives old new (record { two = writers out out reported reported; frozen_old = frozen; frozen_new = frozen' }) (Err x)) (sym k)
+    (broke_off true old new (writers out out reported reported) causes.OutOfMemory l v o refl (nothing_begun out _), f)
 
 -- the end of a run, of the writers of output and messages
-pub close_ends : (freezes : Bool) (old new : Standing) (w : Three (Option (List ℕ))) (r : Result Unit Stop) → CloseGives freezes old new w r → EndGives freezes old new w.two r
+pub close_ends : (freezes : Bool) (old new : SessionState) (w : Three (Option (List ℕ))) (r : Result Unit Stop) → CloseGives freezes old new w r → EndGives freezes old new w.two r
 close_ends true old new w r h = h.0
 close_ends false old new w r h = h.0

@@ -17,11 +17,11 @@ use Rattle.m4_builtins.specs.Act.{needs_list}
 use Rattle.m4_engine.specs.declared.ending.Cause.{Cause}
 use Rattle.m4_engine.specs.declared.ending.Cause.TheVariants as causes
 use Rattle.m4_engine.specs.Nesting.{Turn, Halt, Close, GoOn, Bare, Opens, Outcome, Halted, Closed, then_on, after}
-use Rattle.m4_engine.specs.Expansion.{RunSoFar, Call, Mode, Outside, Collecting, Expansion, Kept, How, Ends, Ended, place_at, with_message, with_call, reading, put_text}
+use Rattle.m4_engine.specs.Expansion.{RunSoFar, Call, Mode, Outside, Collecting, Expansion, Kept, EndReason, Ends, Ended, place_at, with_message, with_call, reading, put_text}
 use Rattle.m4_engine.specs.declared.role.Role.{Role}
 use Rattle.m4_engine.specs.declared.role.Role.TheVariants.{Opening, Closing, Separator, Blank, Other}
 use Rattle.m4_engine.specs.Args.{with_argument, dropped_if_any, end_argument, role_of, take_closing, take_byte}
-use Rattle.m4_engine.specs.Expand.{skip_all, skip_line, skip_or_push, effected, acted_at, kept_of, behind_call, called, join_by, join, call_of, bare, collect, call_unless_deep, is_deep, call_if_room, call, call_without_list, take_call, take_name, take_other, take_end, take_token, take_front, unended_cause, turn, size_of, calls_left, spent_at, expand}
+use Rattle.m4_engine.specs.Expand.{skip_all, skip_line, skip_or_push, effected, acted_at, kept_of, after_call, called, join_by, join, call_of, bare, collect, call_unless_deep, is_deep, call_if_room, call, call_without_list, take_call, take_name, take_other, take_end, take_token, take_front, unended_cause, turn, size_of, calls_left, out_of_bound_at, expand}
 use Rattle.std.specs.Prelude.{codes}
 use Rattle.std.specs.Fmt.{decimal}
 use Rattle.m4_builtins.specs.Messages.{error}
@@ -29,44 +29,44 @@ use Rattle.m4_engine.proofs.Beside.{Follows, Fits, expansion_fits}
 use Rattle.m4_engine.proofs.CallsFall.{falls, expand_is}
 
 -- the record consumed one with this output, these messages and this count
-abbrev pub behind_record : List ℕ → List ℕ → ℕ → RunSoFar → RunSoFar
-behind_record o m c r = record r { output = o ++ r.output; messages = m ++ r.messages; calls = c + r.calls }
+abbrev pub after_record : List ℕ → List ℕ → ℕ → RunSoFar → RunSoFar
+after_record o m c r = record r { output = o ++ r.output; messages = m ++ r.messages; calls = c + r.calls }
 
 -- The first run goes on from output, messages and calls that were made before, and has the limits
 -- `calls` and `nesting`; the second starts with none, and its limits are as large or larger. `Limit`
 -- says at which ends nothing is claimed of the second: at those of a limit that is not the same.
-module _ (o m : List ℕ) (c calls calls' nesting nesting' : ℕ) (room : (k : ℕ) → c + k < calls → k < calls') (depth : (k : ℕ) → (nat_lt 0 nesting && nat_lt nesting k) ≡ false → (nat_lt 0 nesting' && nat_lt nesting' k) ≡ false) (Limit : How → Type 0) (at_calls : Limit (Ends causes.ExpansionLimit) ⊎ ((c ≡ 0) × (calls ≡ calls'))) (at_nesting : Limit (Ends causes.NestingLimit) ⊎ (nesting ≡ nesting')) where
+module _ (o m : List ℕ) (c calls calls' nesting nesting' : ℕ) (room : (k : ℕ) → c + k < calls → k < calls') (depth : (k : ℕ) → (nat_lt 0 nesting && nat_lt nesting k) ≡ false → (nat_lt 0 nesting' && nat_lt nesting' k) ≡ false) (Limit : EndReason → Type 0) (at_calls : Limit (Ends causes.ExpansionLimit) ⊎ ((c ≡ 0) × (calls ≡ calls'))) (at_nesting : Limit (Ends causes.NestingLimit) ⊎ (nesting ≡ nesting')) where
   abbrev pub B : Expansion → Expansion
-  B s = record s { limits = record s.limits { calls = calls; nesting = nesting }; so_far = behind_record o m c s.so_far }
+  B s = record s { limits = record s.limits { calls = calls; nesting = nesting }; so_far = after_record o m c s.so_far }
 
   -- the second run has the larger limits
   abbrev pub HasLimits : Expansion → Type 0
   HasLimits s = ((s.limits).calls ≡ calls') × ((s.limits).nesting ≡ nesting')
 
   abbrev Bd : Ended → Ended
-  Bd d = record { so_far = behind_record o m c d.so_far; how = d.how }
+  Bd d = record { so_far = after_record o m c d.so_far; reason = d.reason }
 
   -- what the first run's turn says of the second's
   unfoldable pub Meets : Turn Expansion Kept Ended → Turn Expansion Kept Ended → Type 0
-  Meets (Halt d) w = Limit d.how ⊎ ((e : Ended) × (w ≡ Halt e) × (d ≡ Bd e))
+  Meets (Halt d) w = Limit d.reason ⊎ ((e : Ended) × (w ≡ Halt e) × (d ≡ Bd e))
   Meets (Close u) w = (v : Expansion) × (w ≡ Close v) × (u ≡ B v) × HasLimits v
   Meets (GoOn u) w = (v : Expansion) × (w ≡ GoOn v) × (u ≡ B v) × HasLimits v
   Meets (Bare u) w = (v : Expansion) × (w ≡ Bare v) × (u ≡ B v) × HasLimits v
   Meets (Opens f u) w = (v : Expansion) × (w ≡ Opens f v) × (u ≡ B v) × HasLimits v
 
   unfoldable pub MeetsOut : Outcome Expansion Ended → Outcome Expansion Ended → Type 0
-  MeetsOut (Halted d) w = Limit d.how ⊎ ((e : Ended) × (w ≡ Halted e) × (d ≡ Bd e))
+  MeetsOut (Halted d) w = Limit d.reason ⊎ ((e : Ended) × (w ≡ Halted e) × (d ≡ Bd e))
   MeetsOut (Closed u) w = (v : Expansion) × (w ≡ Closed v) × (u ≡ B v) × HasLimits v
 
   -- text and messages go consumed what there was
-  text_behind : (x : List ℕ) (s : Expansion) → put_text x (B s) ≡ B (put_text x s)
-  text_behind x s = ap (λ (y : List ℕ). record (B (put_text x s)) { so_far = record (B (put_text x s)).so_far { output = y } }) (append_assoc o (s.so_far).output _)
+  text_after : (x : List ℕ) (s : Expansion) → put_text x (B s) ≡ B (put_text x s)
+  text_after x s = ap (λ (y : List ℕ). record (B (put_text x s)) { so_far = record (B (put_text x s)).so_far { output = y } }) (append_assoc o (s.so_far).output _)
 
-  told_behind : (x : List ℕ) (r : RunSoFar) → record (behind_record o m c r) { messages = (m ++ r.messages) ++ x } ≡ behind_record o m c (record r { messages = r.messages ++ x })
-  told_behind x r = ap (λ (y : List ℕ). record (behind_record o m c r) { messages = y }) (append_assoc m r.messages x)
+  told_after : (x : List ℕ) (r : RunSoFar) → record (after_record o m c r) { messages = (m ++ r.messages) ++ x } ≡ after_record o m c (record r { messages = r.messages ++ x })
+  told_after x r = ap (λ (y : List ℕ). record (after_record o m c r) { messages = y }) (append_assoc m r.messages x)
 
-  count_behind : (s : Expansion) → with_call (B s) ≡ B (with_call s)
-  count_behind s = ap (λ (n : ℕ). record (B s) { so_far = record (B s).so_far { calls = n } }) (let e : suc (c + (s.so_far).calls) ≡ c + suc (s.so_far).calls = omega arith in e)
+  count_follows : (s : Expansion) → with_call (B s) ≡ B (with_call s)
+  count_follows s = ap (λ (n : ℕ). record (B s) { so_far = record (B s).so_far { calls = n } }) (let e : suc (c + (s.so_far).calls) ≡ c + suc (s.so_far).calls = omega arith in e)
 
   skipped_all_meets : (b : Bool) (s : Expansion) → HasLimits s → MeetsOut (skip_all b (B s)) (skip_all b s)
   unfolding MeetsOut
@@ -88,16 +88,16 @@ module _ (o m : List ℕ) (c calls calls' nesting nesting' : ℕ) (room : (k : �
   effected_meets (Some n) skip v s l = inr (_, refl, refl)
   effected_meets None skip v s l = pushed_meets skip v s l
 
-  call_behind : (k : Call) (t : Expansion) (f : Kept) → behind_call k (B t) f ≡ B (behind_call k t f)
-  call_behind k t f =
-      ap (λ (x : List ℕ × List ℕ). record (B (behind_call k t f)) { so_far = record (B (behind_call k t f)).so_far { output = x.0; messages = x.1 } })
+  call_after : (k : Call) (t : Expansion) (f : Kept) → after_call k (B t) f ≡ B (after_call k t f)
+  call_after k t f =
+      ap (λ (x : List ℕ × List ℕ). record (B (after_call k t f)) { so_far = record (B (after_call k t f)).so_far { output = x.0; messages = x.1 } })
       (ap (λ (y : List ℕ). (y, (m ++ (t.so_far).messages) ++ ((acted_at k t).effect).messages)) (append_assoc o (t.so_far).output _)
       ∙ ap (λ (y : List ℕ). (o ++ ((t.so_far).output ++ ((acted_at k t).effect).output), y)) (append_assoc m (t.so_far).messages _))
 
   called_meets : (k : Call) (t : Expansion) (f : Kept) → HasLimits t → MeetsOut (called k (B t) f) (called k t f)
   called_meets k t f l =
-      subst (λ x. MeetsOut (effected ((acted_at k t).effect).exit ((acted_at k t).effect).skip ((acted_at k t).effect).push x) (called k t f)) (sym (call_behind k t f))
-      (effected_meets ((acted_at k t).effect).exit ((acted_at k t).effect).skip ((acted_at k t).effect).push (behind_call k t f) l)
+      subst (λ x. MeetsOut (effected ((acted_at k t).effect).exit ((acted_at k t).effect).skip ((acted_at k t).effect).push x) (called k t f)) (sym (call_after k t f))
+      (effected_meets ((acted_at k t).effect).exit ((acted_at k t).effect).skip ((acted_at k t).effect).push (after_call k t f) l)
 
   bare_meets : (v w : Outcome Expansion Ended) → MeetsOut v w → Meets (bare v) (bare w)
   unfolding MeetsOut Meets
@@ -112,29 +112,29 @@ module _ (o m : List ℕ) (c calls calls' nesting nesting' : ℕ) (room : (k : �
 
   -- an error whose text tells a limit, where the limit is the same
   abbrev failed : Call → List ℕ → Cause → RunSoFar → Ended
-  failed k x h r = record { so_far = with_message (error k.place x) r; how = Ends h }
+  failed k x h r = record { so_far = with_message (error k.place x) r; reason = Ends h }
 
   abbrev failing : Call → List ℕ → Cause → RunSoFar → Turn Expansion Kept Ended
   failing k x h r = Halt (failed k x h r)
 
-  fails_behind : (x y : List ℕ) (h : Cause) (k : Call) (r : RunSoFar) → x ≡ y → (e : Ended) × (failing k y h r ≡ Halt e) × (failed k x h (behind_record o m c r) ≡ Bd e)
-  fails_behind x y h k r e = (
+  fails_after : (x y : List ℕ) (h : Cause) (k : Call) (r : RunSoFar) → x ≡ y → (e : Ended) × (failing k y h r ≡ Halt e) × (failed k x h (after_record o m c r) ≡ Bd e)
+  fails_after x y h k r e = (
     failed k y h r,
     refl,
-    ap (λ (z : List ℕ). failed k z h (behind_record o m c r)) e
-        ∙ ap (λ (q : RunSoFar). let d : Ended = record { so_far = q; how = Ends h } in d) (told_behind (error k.place y) r),
+    ap (λ (z : List ℕ). failed k z h (after_record o m c r)) e
+        ∙ ap (λ (q : RunSoFar). let d : Ended = record { so_far = q; reason = Ends h } in d) (told_after (error k.place y) r),
   )
 
   enter_meets : (deep deep' listed : Bool) (k : Call) (p : Pending) (s : Expansion) → (deep ≡ false → deep' ≡ false) → (deep ≡ true → nesting ≡ nesting' → deep' ≡ true) → HasLimits s → Meets (call_unless_deep deep listed k p (B s)) (call_unless_deep deep' listed k p s)
   unfolding Meets
   enter_meets true deep' listed k p s h g l =
       ⊎_elim (λ x. inl x)
-      (λ e. inr (let f = fails_behind (codes "more than " ++ decimal nesting ++ codes " nested calls") (codes "more than " ++ decimal (s.limits).nesting ++ codes " nested calls") causes.NestingLimit k s.so_far (ap (λ n. codes "more than " ++ decimal n ++ codes " nested calls") (e ∙ sym l.1)) in (f.0, ap (λ d. call_unless_deep d listed k p s) (g refl e) ∙ f.1, f.2)))
+      (λ e. inr (let f = fails_after (codes "more than " ++ decimal nesting ++ codes " nested calls") (codes "more than " ++ decimal (s.limits).nesting ++ codes " nested calls") causes.NestingLimit k s.so_far (ap (λ n. codes "more than " ++ decimal n ++ codes " nested calls") (e ∙ sym l.1)) in (f.0, ap (λ d. call_unless_deep d listed k p s) (g refl e) ∙ f.1, f.2)))
       at_nesting
   enter_meets false deep' listed k p s h g l = subst (λ d. Meets (call_unless_deep false listed k p (B s)) (call_unless_deep d listed k p s)) (sym (h refl)) (enter_list_meets listed k p s l)
 
-  deep_behind : (s : Expansion) → HasLimits s → is_deep (B s) ≡ false → is_deep s ≡ false
-  deep_behind s l e = subst (λ (n : ℕ). (nat_lt 0 n && nat_lt n (suc s.open_calls)) ≡ false) (sym l.1) (depth (suc s.open_calls) e)
+  deep_after : (s : Expansion) → HasLimits s → is_deep (B s) ≡ false → is_deep s ≡ false
+  deep_after s l e = subst (λ (n : ℕ). (nat_lt 0 n && nat_lt n (suc s.open_calls)) ≡ false) (sym l.1) (depth (suc s.open_calls) e)
 
   deep_same : (s : Expansion) → HasLimits s → is_deep (B s) ≡ true → nesting ≡ nesting' → is_deep s ≡ true
   deep_same s l e f = subst (λ (n : ℕ). (nat_lt 0 n && nat_lt n (suc s.open_calls)) ≡ true) (f ∙ sym l.1) e
@@ -143,12 +143,12 @@ module _ (o m : List ℕ) (c calls calls' nesting nesting' : ℕ) (room : (k : �
   unfolding Meets
   call_if_meets false r' listed k p s h g l =
       ⊎_elim (λ x. inl x)
-      (λ e. inr (let f = fails_behind (codes "more than " ++ decimal calls ++ codes " calls") (codes "more than " ++ decimal (s.limits).calls ++ codes " calls") causes.ExpansionLimit k s.so_far (ap (λ n. codes "more than " ++ decimal n ++ codes " calls") (e.1 ∙ sym l.0)) in (f.0, ap (λ d. call_if_room d listed k p s) (g refl e.0 e.1) ∙ f.1, f.2)))
+      (λ e. inr (let f = fails_after (codes "more than " ++ decimal calls ++ codes " calls") (codes "more than " ++ decimal (s.limits).calls ++ codes " calls") causes.ExpansionLimit k s.so_far (ap (λ n. codes "more than " ++ decimal n ++ codes " calls") (e.1 ∙ sym l.0)) in (f.0, ap (λ d. call_if_room d listed k p s) (g refl e.0 e.1) ∙ f.1, f.2)))
       at_calls
   call_if_meets true r' listed k p s h g l =
-      subst (λ x. Meets (call_unless_deep (is_deep x) listed k p x) (call_if_room r' listed k p s)) (sym (count_behind s))
+      subst (λ x. Meets (call_unless_deep (is_deep x) listed k p x) (call_if_room r' listed k p s)) (sym (count_follows s))
       (subst (λ x. Meets (call_unless_deep (is_deep (B (with_call s))) listed k p (B (with_call s))) (call_if_room x listed k p s)) (sym (h refl))
-      (enter_meets _ _ listed k p (with_call s) (deep_behind (with_call s) l) (deep_same (with_call s) l) l))
+      (enter_meets _ _ listed k p (with_call s) (deep_after (with_call s) l) (deep_same (with_call s) l) l))
 
   lt_true : (a b : ℕ) → a < b → nat_lt a b ≡ true
   lt_true a b h = grind (arith, nat_tests)
@@ -169,7 +169,7 @@ module _ (o m : List ℕ) (c calls calls' nesting nesting' : ℕ) (room : (k : �
 
   unlisted_meets : (b : Bool) (k : Call) (p : Pending) (s : Expansion) → HasLimits s → Meets (call_without_list b k p (B s)) (call_without_list b k p s)
   unfolding Meets
-  unlisted_meets true k p s l = (_, refl, text_behind k.name (reading p s), l)
+  unlisted_meets true k p s l = (_, refl, text_after k.name (reading p s), l)
   unlisted_meets false k p s l = call_meets false k p s l
 
   on_answer_meets : (a : Answer) (k : Call) (p : Pending) (s : Expansion) → HasLimits s → Meets (take_call a k p (B s)) (take_call a k p s)
@@ -180,11 +180,11 @@ module _ (o m : List ℕ) (c calls calls' nesting nesting' : ℕ) (room : (k : �
 
   on_name_meets : (d : Option Def) (x : List ℕ) (p : Pending) (s : Expansion) → HasLimits s → Meets (take_name d x p (B s)) (take_name d x p s)
   unfolding Meets
-  on_name_meets None x p s l = (_, refl, text_behind x (reading p s), l)
+  on_name_meets None x p s l = (_, refl, text_after x (reading p s), l)
   on_name_meets (Some d) x p s l = on_answer_meets (paren_at ((s.so_far).state).quotes ((s.so_far).state).comments p) (call_of d x (place_at s.pending)) p s l
 
   ended : (k : Call) (s : Expansion) → end_argument k (B s) ≡ B (end_argument k s)
-  ended k s = ap (λ r. record (B s) { so_far = r; mode = Collecting (with_argument k) }) (told_behind (dropped_if_any k.place k.bytes k.tokens) s.so_far)
+  ended k s = ap (λ r. record (B s) { so_far = r; mode = Collecting (with_argument k) }) (told_after (dropped_if_any k.place k.bytes k.tokens) s.so_far)
 
   on_closing_meets : (n b : ℕ) (k : Call) (s : Expansion) → HasLimits s → Meets (take_closing n b k (B s)) (take_closing n b k s)
   unfolding Meets
@@ -197,23 +197,23 @@ module _ (o m : List ℕ) (c calls calls' nesting nesting' : ℕ) (room : (k : �
   take_byte_meets Closing b k s l = on_closing_meets k.parentheses b k s l
   take_byte_meets Separator b k s l = (_, refl, ended k s, l)
   take_byte_meets Blank b k s l = (_, refl, refl, l)
-  take_byte_meets Other b k s l = (_, refl, text_behind (b ∷ []) s, l)
+  take_byte_meets Other b k s l = (_, refl, text_after (b ∷ []) s, l)
 
   on_byte_meets : (h : Mode) (b : ℕ) (s : Expansion) → HasLimits s → Meets (take_other h b (B s)) (take_other h b s)
   unfolding Meets
-  on_byte_meets Outside b s l = (_, refl, text_behind (b ∷ []) s, l)
+  on_byte_meets Outside b s l = (_, refl, text_after (b ∷ []) s, l)
   on_byte_meets (Collecting k) b s l = take_byte_meets (role_of b k) b k s l
 
   on_end_meets : (h : Mode) (s : Expansion) → HasLimits s → Meets (take_end h (B s)) (take_end h s)
   unfolding Meets
   on_end_meets Outside s l = inr (_, refl, refl)
-  on_end_meets (Collecting k) s l = inr (_, refl, ap (λ (r : RunSoFar). let d : Ended = record { so_far = r; how = Ends causes.EndInArguments } in d) (told_behind _ s.so_far))
+  on_end_meets (Collecting k) s l = inr (_, refl, ap (λ (r : RunSoFar). let d : Ended = record { so_far = r; reason = Ends causes.EndInArguments } in d) (told_after _ s.so_far))
 
   on_token_meets : (t : Token) (p : Pending) (s : Expansion) → HasLimits s → Meets (take_token t p (B s)) (take_token t p s)
   unfolding Meets
   on_token_meets (Name x) p s l = on_name_meets (top_of (s.so_far).state x) x p s l
-  on_token_meets (Str x) p s l = (_, refl, text_behind x (reading p s), l)
-  on_token_meets (Comment x) p s l = (_, refl, text_behind x (reading p s), l)
+  on_token_meets (Str x) p s l = (_, refl, text_after x (reading p s), l)
+  on_token_meets (Comment x) p s l = (_, refl, text_after x (reading p s), l)
   on_token_meets (Byte b) p s l = on_byte_meets s.mode b (reading p s) l
   on_token_meets (Definition d) p s l = (_, refl, refl, l)
   on_token_meets End p s l = on_end_meets s.mode s l
@@ -221,7 +221,7 @@ module _ (o m : List ℕ) (c calls calls' nesting nesting' : ℕ) (room : (k : �
   on_seen_meets : (v : Front) (s : Expansion) → HasLimits s → Meets (take_front v (B s)) (take_front v s)
   unfolding Meets
   on_seen_meets (Taken t p) s l = on_token_meets t p s l
-  on_seen_meets (Refused f n) s l = inr (_, refl, ap (λ (r : RunSoFar). let d : Ended = record { so_far = r; how = Ends (unended_cause f) } in d) (told_behind _ s.so_far))
+  on_seen_meets (Refused f n) s l = inr (_, refl, ap (λ (r : RunSoFar). let d : Ended = record { so_far = r; reason = Ends (unended_cause f) } in d) (told_after _ s.so_far))
   on_seen_meets More s l = inr (_, refl, refl)
 
   pub turn_meets : (s : Expansion) → HasLimits s → Meets (turn (B s)) (turn s)
@@ -240,7 +240,7 @@ module _ (o m : List ℕ) (c calls calls' nesting nesting' : ℕ) (room : (k : �
 
   -- the first ends by a limit, or the second ends likewise
   abbrev Q : Ended → Outcome Expansion Ended → Type 0
-  Q d v = Limit d.how ⊎ ((e : Ended) × (v ≡ Halted e) × (d ≡ Bd e))
+  Q d v = Limit d.reason ⊎ ((e : Ended) × (v ≡ Halted e) × (d ≡ Bd e))
 
   met : (s t : Expansion) (v : Turn Expansion Kept Ended) → R s t → turn s ≡ v → Meets v (turn t)
   met s t v r e = subst (λ x. Meets x (turn t)) (sym (ap turn r.0) ∙ e) (turn_meets t r.1)
@@ -262,5 +262,5 @@ module _ (o m : List ℕ) (c calls calls' nesting nesting' : ℕ) (room : (k : �
   }
 
   -- the law: unless the first run ends by a limit, the second does the same
-  pub same_behind : (t : Expansion) → HasLimits t → Fits Expansion Ended R Q (whole (B t)) (whole t)
-  same_behind t l = expansion_fits Expansion Kept Ended turn join spent_at size_of calls_left falls R (λ f g. g ≡ f) Q follows (B t) t (refl, l)
+  pub same_after : (t : Expansion) → HasLimits t → Fits Expansion Ended R Q (whole (B t)) (whole t)
+  same_after t l = expansion_fits Expansion Kept Ended turn join out_of_bound_at size_of calls_left falls R (λ f g. g ≡ f) Q follows (B t) t (refl, l)

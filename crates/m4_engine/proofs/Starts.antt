@@ -18,75 +18,75 @@ use Rattle.m4_engine.specs.declared.source.Source.{Source as RunSource}
 use Rattle.m4_engine.specs.declared.stop.Stop.{Stop}
 use Rattle.m4_engine.specs.declared.stop.Stop.TheVariants as stops
 use Rattle.m4_engine.specs.Carries.{frozen_state}
-use Rattle.m4_engine.specs.Expansion.{Limits, How, Ends, RunSoFar}
+use Rattle.m4_engine.specs.Expansion.{Limits, EndReason, Ends, RunSoFar}
 use Rattle.m4_engine.specs.File.{Source, Progress, after_sources}
 use Rattle.m4_engine.specs.Start.{Start, From, Faulty, start_of, begun}
 use Rattle.m4_engine.specs.Wraps.{after_wraps}
-use Rattle.m4_engine.specs.Run.{RunResult, limits_of, result_by, result_of, saved_behind, saved_unless_over, status_of, run_from}
-use Rattle.m4_engine.specs.Session.{Standing, progress_of, standing_from, fresh_standing, AreReloaded, ReloadGives, BeginGives, IsBegun, IsOpen, IsLeft, EndGives, CloseGives, ReloadFails, BeginFails, ByAnswer, TellFails, SparesBy, status_behind}
-use Rattle.m4_engine.specs.Told.{AllPairs, is_sound, ReadersFailBy, TellsFrozen, frozen_fails, FrozenFailsBy}
-use Rattle.m4_engine.specs.WholeRun.{WroteAll, FellShort, GivesBy, RefusedBy, HasFrozen, FrozenBegan, FrozenBy, RunGives, NothingIsDone, result_behind, ending_by}
+use Rattle.m4_engine.specs.Run.{RunResult, limits_of, result_by, result_of, saved_after, saved_unless_over, status_of, run_from}
+use Rattle.m4_engine.specs.Session.{SessionState, progress_of, standing_from, fresh_session, AreReloaded, ReloadGives, BeginGives, IsBegun, IsOpen, IsLeft, EndGives, CloseGives, ReloadFails, BeginFails, ByAnswer, MessageWriteFails, SparesBy, status_after}
+use Rattle.m4_engine.specs.RunSources.{AllPairs, is_sound, ReadersFailBy, TellsFrozen, frozen_fails, FrozenFailsBy}
+use Rattle.m4_engine.specs.WholeRun.{WroteAll, WrotePrefix, GivesBy, RefusedBy, HasFrozen, FrozenBegan, FrozenBy, RunGives, NothingIsDone, result_after, ending_by}
 use Rattle.m4_engine.specs.Writers.{Contents, Three, writers, ByCause, NoneOfThree, OneOfThree, IsSpared, Spares}
-use Rattle.m4_engine.proofs.Begins.{nothing_begun, begun_behind}
+use Rattle.m4_engine.proofs.Begins.{nothing_begun, begun_after}
 use Rattle.m4_engine.proofs.OnePass.{over_sources, over_wraps}
-use Rattle.m4_engine.proofs.GoingOn.{behind, sources_after, wraps_after}
+use Rattle.m4_engine.proofs.GoingOn.{after, sources_after, wraps_after}
 use Rattle.m4_engine.proofs.SameStart.{is_start}
 use Rattle.m4_engine.proofs.Sessions.{close_ends}
-use Rattle.m4_engine.proofs.Whole.{begun_longer, closed_behind, none_saved, StatusIs}
+use Rattle.m4_engine.proofs.Whole.{begun_longer, closed_after, none_saved, StatusIs}
 
 -- a result with output that was written before
 abbrev issuing : List ℕ → RunResult → RunResult
 issuing x r = record r { output = x ++ r.output }
 
 -- a run's progress after what its start issues
-begun_is : (o : Options) (s : State) (x : List ℕ) → begun (From s x) ≡ behind x [] (progress_of (standing_from o s))
+begun_is : (o : Options) (s : State) (x : List ℕ) → begun (From s x) ≡ after x [] (progress_of (standing_from o s))
 begun_is o s x = ap (λ y. begun (From s y)) (sym (append-nil x))
 
-saved_same : (ss : List Source) (x : List ℕ) (p : Progress) → saved_behind ss (behind x [] p) ≡ saved_behind ss p
+saved_same : (ss : List Source) (x : List ℕ) (p : Progress) → saved_after ss (after x [] p) ≡ saved_after ss p
 saved_same [] x p = refl
 saved_same (s ∷ ss) x p = there p.over
   where
-    there : (over : Option How) → saved_unless_over over (behind x [] p).so_far ≡ saved_unless_over over p.so_far
+    there : (over : Option EndReason) → saved_unless_over over (after x [] p).so_far ≡ saved_unless_over over p.so_far
     there None = refl
     there (Some h) = refl
 
-result_by_behind : (over : Option How) (freezes : Bool) (saved : List (List ℕ)) (x : List ℕ) (r : RunSoFar) (missed : Bool) → result_by over freezes saved (record r { output = x ++ r.output; messages = [] ++ r.messages }) missed ≡ issuing x (result_by over freezes saved r missed)
-result_by_behind None freezes saved x r missed =
-    ap (λ (y : List ℕ). let k : RunResult = record (result_by None freezes saved r missed) { output = y } in k) (closed_behind freezes x [] r)
-result_by_behind (Some h) freezes saved x r missed = refl
+result_by_after : (over : Option EndReason) (freezes : Bool) (saved : List (List ℕ)) (x : List ℕ) (r : RunSoFar) (any_missing : Bool) → result_by over freezes saved (record r { output = x ++ r.output; messages = [] ++ r.messages }) any_missing ≡ issuing x (result_by over freezes saved r any_missing)
+result_by_after None freezes saved x r any_missing =
+    ap (λ (y : List ℕ). let k : RunResult = record (result_by None freezes saved r any_missing) { output = y } in k) (closed_after freezes x [] r)
+result_by_after (Some h) freezes saved x r any_missing = refl
 
 -- a run from a start is the run from its state, after what is issued
-pub run_behind : (o : Options) (s : State) (x : List ℕ) (ss : List Source) → run_from o (From s x) ss ≡ issuing x (result_behind o.freeze (limits_of o) ss (after_sources (limits_of o) ss (progress_of (standing_from o s))))
-run_behind o s x ss =
+pub run_after : (o : Options) (s : State) (x : List ℕ) (ss : List Source) → run_from o (From s x) ss ≡ issuing x (result_after o.freeze (limits_of o) ss (after_sources (limits_of o) ss (progress_of (standing_from o s))))
+run_after o s x ss =
     let limits : Limits = limits_of o in
     let q : Progress = progress_of (standing_from o s) in
     let p : Progress = after_sources limits ss q in
-    let e : after_sources limits ss (begun (From s x)) ≡ behind x [] p = ap (after_sources limits ss) (begun_is o s x) ∙ sources_after x [] limits ss q in
-    ap (λ (y : Progress). result_of o.freeze (saved_behind ss y) (after_wraps limits y)) e
-    ∙ ap (λ v. result_of o.freeze v (after_wraps limits (behind x [] p))) (saved_same ss x p)
-    ∙ ap (result_of o.freeze (saved_behind ss p)) (wraps_after x [] limits p)
-    ∙ result_by_behind (after_wraps limits p).over o.freeze (saved_behind ss p) x (after_wraps limits p).so_far (after_wraps limits p).missed
+    let e : after_sources limits ss (begun (From s x)) ≡ after x [] p = ap (after_sources limits ss) (begun_is o s x) ∙ sources_after x [] limits ss q in
+    ap (λ (y : Progress). result_of o.freeze (saved_after ss y) (after_wraps limits y)) e
+    ∙ ap (λ v. result_of o.freeze v (after_wraps limits (after x [] p))) (saved_same ss x p)
+    ∙ ap (result_of o.freeze (saved_after ss p)) (wraps_after x [] limits p)
+    ∙ result_by_after (after_wraps limits p).over o.freeze (saved_after ss p) x (after_wraps limits p).so_far (after_wraps limits p).any_missing
 
-module _ (x : List ℕ) (r : RunResult) (out0 out1 out2 told told' frozen frozen' : Option (List ℕ)) (e : out1 ≡ with_bytes out0 x) where
+module _ (x : List ℕ) (r : RunResult) (out0 out1 out2 reported reported' frozen frozen' : Option (List ℕ)) (e : out1 ≡ with_bytes out0 x) where
   abbrev V : Three (Option (List ℕ))
-  V = record { two = writers out1 out2 told told'; frozen_old = frozen; frozen_new = frozen' }
+  V = record { two = writers out1 out2 reported reported'; frozen_old = frozen; frozen_new = frozen' }
 
   abbrev W : Three (Option (List ℕ))
-  W = record { two = writers out0 out2 told told'; frozen_old = frozen; frozen_new = frozen' }
+  W = record { two = writers out0 out2 reported reported'; frozen_old = frozen; frozen_new = frozen' }
 
   wrote : (d : Ending) → WroteAll r d V.two → WroteAll (issuing x r) d W.two
   wrote d h = record {
-    how = h.how;
+    reason = h.reason;
     status = h.status;
     wrapped = h.wrapped;
     output = h.output ∙ ap (λ (y : Option (List ℕ)). with_bytes y r.output) e ∙ with_bytes-append out0 x r.output;
     messages = h.messages;
   }
 
-  short : (d : Ending) → FellShort r d V.two → FellShort (issuing x r) d W.two
+  short : (d : Ending) → WrotePrefix r d V.two → WrotePrefix (issuing x r) d W.two
   short d h = record {
     wrapped = h.wrapped;
-    output = begun_behind out0 out1 out2 x r.output [] _ e h.output (sym (append-nil _));
+    output = begun_after out0 out1 out2 x r.output [] _ e h.output (sym (append-nil _));
     messages = h.messages;
   }
 
@@ -151,26 +151,26 @@ module _ (x : List ℕ) (r : RunResult) (out0 out1 out2 told told' frozen frozen
   issued_gives d h = record { gives = gives d.cause d h.gives; frozen = froze d.cause h.frozen }
 
 -- a run that began
-pub begun_gives : (o : Options) (start : Start) (ss : List Source) (s : Standing) (st : Result Standing Stop) (d x : Ending) (out0 out1 out2 told told' frozen frozen' : Option (List ℕ)) → st ≡ Ok s → d ≡ x → BeginGives start o out0 out1 st → RunGives (result_behind o.freeze s.limits ss (after_sources s.limits ss (progress_of s))) x (record { two = writers out1 out2 told told'; frozen_old = frozen; frozen_new = frozen' }) → RunGives (run_from o start ss) d (record { two = writers out0 out2 told told'; frozen_old = frozen; frozen_new = frozen' })
-begun_gives o start ss s st d x out0 out1 out2 told told' frozen frozen' i j b h =
+pub begun_gives : (o : Options) (start : Start) (ss : List Source) (s : SessionState) (st : Result SessionState Stop) (d x : Ending) (out0 out1 out2 reported reported' frozen frozen' : Option (List ℕ)) → st ≡ Ok s → d ≡ x → BeginGives start o out0 out1 st → RunGives (result_after o.freeze s.limits ss (after_sources s.limits ss (progress_of s))) x (record { two = writers out1 out2 reported reported'; frozen_old = frozen; frozen_new = frozen' }) → RunGives (run_from o start ss) d (record { two = writers out0 out2 reported reported'; frozen_old = frozen; frozen_new = frozen' })
+begun_gives o start ss s st d x out0 out1 out2 reported reported' frozen frozen' i j b h =
     let k = subst (BeginGives start o out0 out1) i b in
-    let v : Three (Option (List ℕ)) = record { two = writers out1 out2 told told'; frozen_old = frozen; frozen_new = frozen' } in
-    let w : Three (Option (List ℕ)) = record { two = writers out0 out2 told told'; frozen_old = frozen; frozen_new = frozen' } in
-    let r : RunResult = result_behind o.freeze (limits_of o) ss (after_sources (limits_of o) ss (progress_of (standing_from o k.0))) in
-    let g : RunGives r x v = subst (λ (y : Standing). RunGives (result_behind o.freeze y.limits ss (after_sources y.limits ss (progress_of y))) x v) k.3 h in
-    let n : run_from o start ss ≡ issuing k.1 r = ap (λ (y : Start). run_from o y ss) k.2 ∙ run_behind o k.0 k.1 ss in
+    let v : Three (Option (List ℕ)) = record { two = writers out1 out2 reported reported'; frozen_old = frozen; frozen_new = frozen' } in
+    let w : Three (Option (List ℕ)) = record { two = writers out0 out2 reported reported'; frozen_old = frozen; frozen_new = frozen' } in
+    let r : RunResult = result_after o.freeze (limits_of o) ss (after_sources (limits_of o) ss (progress_of (standing_from o k.0))) in
+    let g : RunGives r x v = subst (λ (y : SessionState). RunGives (result_after o.freeze y.limits ss (after_sources y.limits ss (progress_of y))) x v) k.3 h in
+    let n : run_from o start ss ≡ issuing k.1 r = ap (λ (y : Start). run_from o y ss) k.2 ∙ run_after o k.0 k.1 ss in
     subst (λ (y : Ending). RunGives (run_from o start ss) y w) (sym j)
     (subst (λ (y : RunResult). RunGives y x w) (sym n)
-    (issued_gives k.1 r out0 out1 out2 told told' frozen frozen' k.4 x g))
+    (issued_gives k.1 r out0 out1 out2 reported reported' frozen frozen' k.4 x g))
 
 -- the state that such a run freezes
-pub begun_sized : (o : Options) (start : Start) (ss : List Source) (s : Standing) (st : Result Standing Stop) (out0 out1 : Option (List ℕ)) → st ≡ Ok s → BeginGives start o out0 out1 st → IsSized ((after_wraps s.limits (after_sources s.limits ss (progress_of s))).so_far).state → IsSized (frozen_state o start ss)
+pub begun_sized : (o : Options) (start : Start) (ss : List Source) (s : SessionState) (st : Result SessionState Stop) (out0 out1 : Option (List ℕ)) → st ≡ Ok s → BeginGives start o out0 out1 st → IsSized ((after_wraps s.limits (after_sources s.limits ss (progress_of s))).so_far).state → IsSized (frozen_state o start ss)
 begun_sized o start ss s st out0 out1 i b h =
     let k = subst (BeginGives start o out0 out1) i b in
     let limits : Limits = limits_of o in
     let p : Progress = after_sources limits ss (progress_of (standing_from o k.0)) in
-    let g : IsSized ((after_wraps limits p).so_far).state = subst (λ (y : Standing). IsSized ((after_wraps y.limits (after_sources y.limits ss (progress_of y))).so_far).state) k.3 h in
-    let e : after_wraps limits (after_sources limits ss (begun start)) ≡ behind k.1 [] (after_wraps limits p) =
+    let g : IsSized ((after_wraps limits p).so_far).state = subst (λ (y : SessionState). IsSized ((after_wraps y.limits (after_sources y.limits ss (progress_of y))).so_far).state) k.3 h in
+    let e : after_wraps limits (after_sources limits ss (begun start)) ≡ after k.1 [] (after_wraps limits p) =
     ap (λ (y : Start). after_wraps limits (after_sources limits ss (begun y))) k.2
     ∙ ap (λ (y : Progress). after_wraps limits (after_sources limits ss y)) (begun_is o k.0 k.1)
     ∙ ap (after_wraps limits) (sources_after k.1 [] limits ss (progress_of (standing_from o k.0)))
@@ -188,67 +188,67 @@ faulty_is o fault ss =
     ∙ ap (result_of o.freeze []) (over_wraps (limits_of o) p (Ends (causes.Frozen fault)) refl)
 
 -- it wrote nothing
-faulty_wrote : (o : Options) (start : Start) (fault : FrozenFault) (ss : List Source) (out out' told : Option (List ℕ)) → out' ≡ out → start ≡ Faulty fault → WroteAll (run_from o start ss) (ending_by (status_behind (stops.Ended (causes.Frozen fault))) (Err (stops.Ended (causes.Frozen fault)))) (writers out out' told told)
-faulty_wrote o start fault ss out out' told i e =
-    subst (λ (y : RunResult). WroteAll y (ending_by (status_behind (stops.Ended (causes.Frozen fault))) (Err (stops.Ended (causes.Frozen fault)))) (writers out out' told told))
+faulty_wrote : (o : Options) (start : Start) (fault : FrozenFault) (ss : List Source) (out out' reported : Option (List ℕ)) → out' ≡ out → start ≡ Faulty fault → WroteAll (run_from o start ss) (ending_by (status_after (stops.Ended (causes.Frozen fault))) (Err (stops.Ended (causes.Frozen fault)))) (writers out out' reported reported)
+faulty_wrote o start fault ss out out' reported i e =
+    subst (λ (y : RunResult). WroteAll y (ending_by (status_after (stops.Ended (causes.Frozen fault))) (Err (stops.Ended (causes.Frozen fault)))) (writers out out' reported reported))
     (sym (ap (λ (y : Start). run_from o y ss) e ∙ faulty_is o fault ss)) (record {
-      how = refl;
+      reason = refl;
       status = refl;
       wrapped = refl;
       output = i ∙ with_bytes-nil out;
-      messages = with_bytes-nil told;
+      messages = with_bytes-nil reported;
     })
 
 -- a run that wrote nothing, or a beginning of what its start issues
-fell_silent : (r : RunResult) (d : Ending) (out out' told : Option (List ℕ)) → d.wrapped ≡ false → out' ≡ out → FellShort r d (writers out out' told told)
-fell_silent r d out out' told w i = record {
+fell_silent : (r : RunResult) (d : Ending) (out out' reported : Option (List ℕ)) → d.wrapped ≡ false → out' ≡ out → WrotePrefix r d (writers out out' reported reported)
+fell_silent r d out out' reported w i = record {
   wrapped = w;
   output = subst (λ y. HasBegun out y r.output) (sym i) (nothing_begun out r.output);
-  messages = nothing_begun told r.messages;
+  messages = nothing_begun reported r.messages;
 }
 
-fell_issuing : (o : Options) (start : Start) (ss : List Source) (d : Ending) (out out' told : Option (List ℕ)) (s : State) (x : List ℕ) → d.wrapped ≡ false → start ≡ From s x → HasBegun out out' x → FellShort (run_from o start ss) d (writers out out' told told)
-fell_issuing o start ss d out out' told s x w e h =
-    let r : RunResult = result_behind o.freeze (limits_of o) ss (after_sources (limits_of o) ss (progress_of (standing_from o s))) in
-    subst (λ (y : RunResult). FellShort y d (writers out out' told told)) (sym (ap (λ (y : Start). run_from o y ss) e ∙ run_behind o s x ss)) (record {
+fell_issuing : (o : Options) (start : Start) (ss : List Source) (d : Ending) (out out' reported : Option (List ℕ)) (s : State) (x : List ℕ) → d.wrapped ≡ false → start ≡ From s x → HasBegun out out' x → WrotePrefix (run_from o start ss) d (writers out out' reported reported)
+fell_issuing o start ss d out out' reported s x w e h =
+    let r : RunResult = result_after o.freeze (limits_of o) ss (after_sources (limits_of o) ss (progress_of (standing_from o s))) in
+    subst (λ (y : RunResult). WrotePrefix y d (writers out out' reported reported)) (sym (ap (λ (y : Start). run_from o y ss) e ∙ run_after o s x ss)) (record {
       wrapped = w;
       output = begun_longer out out' x (x ++ r.output) h (r.output, refl);
-      messages = nothing_begun told r.messages;
+      messages = nothing_begun reported r.messages;
     })
 
-refused_gives : (k : FrozenKind) (o : Options) (start : Start) (fault : FrozenFault) (ss : List Source) (out out' told : Option (List ℕ)) → fault.kind ≡ k → out' ≡ out → (fault.kind ≢ kinds.OutOfMemory → start ≡ Faulty fault) → RefusedBy k (run_from o start ss) (ending_by (status_behind (stops.Ended (causes.Frozen fault))) (Err (stops.Ended (causes.Frozen fault)))) (writers out out' told told)
-refused_gives kinds.NoVersion o start fault ss out out' told e i h = faulty_wrote o start fault ss out out' told i (h (λ x. cc))
-refused_gives kinds.Newer o start fault ss out out' told e i h = faulty_wrote o start fault ss out out' told i (h (λ x. cc))
-refused_gives kinds.VersionZero o start fault ss out out' told e i h = faulty_wrote o start fault ss out out' told i (h (λ x. cc))
-refused_gives kinds.SecondVersion o start fault ss out out' told e i h = faulty_wrote o start fault ss out out' told i (h (λ x. cc))
-refused_gives kinds.UnknownDirective o start fault ss out out' told e i h = faulty_wrote o start fault ss out out' told i (h (λ x. cc))
-refused_gives kinds.DigitExpected o start fault ss out out' told e i h = faulty_wrote o start fault ss out out' told i (h (λ x. cc))
-refused_gives kinds.NumberTooLarge o start fault ss out out' told e i h = faulty_wrote o start fault ss out out' told i (h (λ x. cc))
-refused_gives kinds.SeparatorExpected o start fault ss out out' told e i h = faulty_wrote o start fault ss out out' told i (h (λ x. cc))
-refused_gives kinds.PrematureEnd o start fault ss out out' told e i h = faulty_wrote o start fault ss out out' told i (h (λ x. cc))
-refused_gives kinds.Read o start fault ss out out' told e i h = faulty_wrote o start fault ss out out' told i (h (λ x. cc))
-refused_gives kinds.OutOfMemory o start fault ss out out' told e i h = fell_silent _ _ out out' told refl i
+refused_gives : (k : FrozenKind) (o : Options) (start : Start) (fault : FrozenFault) (ss : List Source) (out out' reported : Option (List ℕ)) → fault.kind ≡ k → out' ≡ out → (fault.kind ≢ kinds.OutOfMemory → start ≡ Faulty fault) → RefusedBy k (run_from o start ss) (ending_by (status_after (stops.Ended (causes.Frozen fault))) (Err (stops.Ended (causes.Frozen fault)))) (writers out out' reported reported)
+refused_gives kinds.NoVersion o start fault ss out out' reported e i h = faulty_wrote o start fault ss out out' reported i (h (λ x. cc))
+refused_gives kinds.Newer o start fault ss out out' reported e i h = faulty_wrote o start fault ss out out' reported i (h (λ x. cc))
+refused_gives kinds.VersionZero o start fault ss out out' reported e i h = faulty_wrote o start fault ss out out' reported i (h (λ x. cc))
+refused_gives kinds.SecondVersion o start fault ss out out' reported e i h = faulty_wrote o start fault ss out out' reported i (h (λ x. cc))
+refused_gives kinds.UnknownDirective o start fault ss out out' reported e i h = faulty_wrote o start fault ss out out' reported i (h (λ x. cc))
+refused_gives kinds.DigitExpected o start fault ss out out' reported e i h = faulty_wrote o start fault ss out out' reported i (h (λ x. cc))
+refused_gives kinds.NumberTooLarge o start fault ss out out' reported e i h = faulty_wrote o start fault ss out out' reported i (h (λ x. cc))
+refused_gives kinds.SeparatorExpected o start fault ss out out' reported e i h = faulty_wrote o start fault ss out out' reported i (h (λ x. cc))
+refused_gives kinds.PrematureEnd o start fault ss out out' reported e i h = faulty_wrote o start fault ss out out' reported i (h (λ x. cc))
+refused_gives kinds.Read o start fault ss out out' reported e i h = faulty_wrote o start fault ss out out' reported i (h (λ x. cc))
+refused_gives kinds.OutOfMemory o start fault ss out out' reported e i h = fell_silent _ _ out out' reported refl i
 
 -- a run that did not begin
-never_by : (o : Options) (start : Start) (ss : List Source) (e : Stop) (out out' told frozen : Option (List ℕ)) → BeginGives start o out out' (Err e) → RunGives (run_from o start ss) (ending_by (status_behind e) (Err e)) (record { two = writers out out' told told; frozen_old = frozen; frozen_new = frozen })
-never_by o start ss stops.Finished out out' told frozen h = absurd h
-never_by o start ss (stops.Ended causes.Done) out out' told frozen h = absurd h
-never_by o start ss (stops.Ended (causes.Exited n)) out out' told frozen h = absurd h
-never_by o start ss (stops.Ended causes.EndInString) out out' told frozen h = absurd h
-never_by o start ss (stops.Ended causes.EndInComment) out out' told frozen h = absurd h
-never_by o start ss (stops.Ended causes.EndInArguments) out out' told frozen h = absurd h
-never_by o start ss (stops.Ended causes.ExpansionLimit) out out' told frozen h = absurd h
-never_by o start ss (stops.Ended causes.NestingLimit) out out' told frozen h = absurd h
-never_by o start ss (stops.Ended causes.Read) out out' told frozen h = absurd h
-never_by o start ss (stops.Ended (causes.Frozen fault)) out out' told frozen h = record { gives = refused_gives fault.kind o start fault ss out out' told refl h.0 h.1; frozen = refl }
-never_by o start ss (stops.Ended causes.Write) out out' told frozen h = record { gives = fell_issuing o start ss _ out out' told h.0 h.1 refl h.2 h.3; frozen = inl refl }
-never_by o start ss (stops.Ended causes.OutOfMemory) out out' told frozen h = record { gives = fell_silent _ _ out out' told refl h; frozen = refl }
+never_by : (o : Options) (start : Start) (ss : List Source) (e : Stop) (out out' reported frozen : Option (List ℕ)) → BeginGives start o out out' (Err e) → RunGives (run_from o start ss) (ending_by (status_after e) (Err e)) (record { two = writers out out' reported reported; frozen_old = frozen; frozen_new = frozen })
+never_by o start ss stops.Finished out out' reported frozen h = absurd h
+never_by o start ss (stops.Ended causes.Done) out out' reported frozen h = absurd h
+never_by o start ss (stops.Ended (causes.Exited n)) out out' reported frozen h = absurd h
+never_by o start ss (stops.Ended causes.EndInString) out out' reported frozen h = absurd h
+never_by o start ss (stops.Ended causes.EndInComment) out out' reported frozen h = absurd h
+never_by o start ss (stops.Ended causes.EndInArguments) out out' reported frozen h = absurd h
+never_by o start ss (stops.Ended causes.ExpansionLimit) out out' reported frozen h = absurd h
+never_by o start ss (stops.Ended causes.NestingLimit) out out' reported frozen h = absurd h
+never_by o start ss (stops.Ended causes.Read) out out' reported frozen h = absurd h
+never_by o start ss (stops.Ended (causes.Frozen fault)) out out' reported frozen h = record { gives = refused_gives fault.kind o start fault ss out out' reported refl h.0 h.1; frozen = refl }
+never_by o start ss (stops.Ended causes.Write) out out' reported frozen h = record { gives = fell_issuing o start ss _ out out' reported h.0 h.1 refl h.2 h.3; frozen = inl refl }
+never_by o start ss (stops.Ended causes.OutOfMemory) out out' reported frozen h = record { gives = fell_silent _ _ out out' reported refl h; frozen = refl }
 
-pub never_gives : (o : Options) (start : Start) (ss : List Source) (st : Result Standing Stop) (e : Stop) (n : ℕ) (d : Ending) (out out' told frozen : Option (List ℕ)) → st ≡ Err e → n ≡ status_behind e → d ≡ ending_by n (Err e) → BeginGives start o out out' st → RunGives (run_from o start ss) d (record { two = writers out out' told told; frozen_old = frozen; frozen_new = frozen })
-never_gives o start ss st e n d out out' told frozen i m j h =
-    subst (λ (y : Ending). RunGives (run_from o start ss) y (record { two = writers out out' told told; frozen_old = frozen; frozen_new = frozen }))
+pub never_gives : (o : Options) (start : Start) (ss : List Source) (st : Result SessionState Stop) (e : Stop) (n : ℕ) (d : Ending) (out out' reported frozen : Option (List ℕ)) → st ≡ Err e → n ≡ status_after e → d ≡ ending_by n (Err e) → BeginGives start o out out' st → RunGives (run_from o start ss) d (record { two = writers out out' reported reported; frozen_old = frozen; frozen_new = frozen })
+never_gives o start ss st e n d out out' reported frozen i m j h =
+    subst (λ (y : Ending). RunGives (run_from o start ss) y (record { two = writers out out' reported reported; frozen_old = frozen; frozen_new = frozen }))
     (sym (j ∙ ap (λ (k : ℕ). ending_by k (Err e)) m))
-    (never_by o start ss e out out' told frozen (subst (BeginGives start o out out') i h))
+    (never_by o start ss e out out' reported frozen (subst (BeginGives start o out out') i h))
 
 -- how it ended
 begun_cause : (o : Options) (e : Stop) → IsBegun o (Err e) → (cause : Cause) × (e ≡ stops.Ended cause) × (cause ≢ causes.Done) × (cause ≢ causes.Read)
@@ -265,17 +265,17 @@ begun_cause o (stops.Ended (causes.Frozen fault)) h = (causes.Frozen fault, refl
 begun_cause o (stops.Ended causes.Write) h = (causes.Write, refl, λ x. cc, λ x. cc)
 begun_cause o (stops.Ended causes.OutOfMemory) h = (causes.OutOfMemory, refl, λ x. cc, λ x. cc)
 
-never_is : (o : Options) (st : Result Standing Stop) (e : Stop) (n : ℕ) (d : Ending) → st ≡ Err e → n ≡ status_behind e → d ≡ ending_by n (Err e) → IsBegun o st → (cause : Cause) × (st ≡ Err (stops.Ended cause)) × (d ≡ record { status = status_of (Ends cause) false; cause = cause; wrapped = false }) × (cause ≢ causes.Done) × (cause ≢ causes.Read)
+never_is : (o : Options) (st : Result SessionState Stop) (e : Stop) (n : ℕ) (d : Ending) → st ≡ Err e → n ≡ status_after e → d ≡ ending_by n (Err e) → IsBegun o st → (cause : Cause) × (st ≡ Err (stops.Ended cause)) × (d ≡ record { status = status_of (Ends cause) false; cause = cause; wrapped = false }) × (cause ≢ causes.Done) × (cause ≢ causes.Read)
 never_is o st e n d i m j h =
     let k = begun_cause o e (subst (IsBegun o) i h) in (
       k.0,
       i ∙ ap (λ (y : Stop). Err y) k.1,
-      j ∙ ap (λ (y : ℕ). ending_by y (Err e)) m ∙ ap (λ (y : Stop). ending_by (status_behind y) (Err y)) k.1,
+      j ∙ ap (λ (y : ℕ). ending_by y (Err e)) m ∙ ap (λ (y : Stop). ending_by (status_after y) (Err y)) k.1,
       k.2,
       k.3,
     )
 
-pub never_status : (o : Options) (st : Result Standing Stop) (e : Stop) (n : ℕ) (d : Ending) (unopened : Bool) → st ≡ Err e → n ≡ status_behind e → d ≡ ending_by n (Err e) → IsBegun o st → StatusIs unopened d
+pub never_status : (o : Options) (st : Result SessionState Stop) (e : Stop) (n : ℕ) (d : Ending) (unopened : Bool) → st ≡ Err e → n ≡ status_after e → d ≡ ending_by n (Err e) → IsBegun o st → StatusIs unopened d
 never_status o st e n d unopened i m j h =
     let k = never_is o st e n d i m j h in
     subst (StatusIs unopened) (sym k.2) (false, refl, λ x. absurd (k.3 x))
@@ -285,48 +285,48 @@ sound_by : {R : Type 0} (failures : R → ℕ) (xs ys : List (RunSource R)) (cau
 sound_by failures xs ys causes.Read n a = absurd (n refl)
 sound_by failures xs ys cause n a = a
 
-pub never_read : {R : Type 0} (failures : R → ℕ) (xs ys : List (RunSource R)) (o : Options) (st : Result Standing Stop) (e : Stop) (n : ℕ) (d : Ending) → st ≡ Err e → n ≡ status_behind e → d ≡ ending_by n (Err e) → IsBegun o st → AllPairs (is_sound failures) xs ys → ReadersFailBy failures d.cause xs ys
+pub never_read : {R : Type 0} (failures : R → ℕ) (xs ys : List (RunSource R)) (o : Options) (st : Result SessionState Stop) (e : Stop) (n : ℕ) (d : Ending) → st ≡ Err e → n ≡ status_after e → d ≡ ending_by n (Err e) → IsBegun o st → AllPairs (is_sound failures) xs ys → ReadersFailBy failures d.cause xs ys
 never_read failures xs ys o st e n d i m j h a =
     let k = never_is o st e n d i m j h in
     subst (λ (y : Ending). ReadersFailBy failures y.cause xs ys) (sym k.2) (sound_by failures xs ys k.0 k.4 a)
 
 -- the frozen file's reader
-frozen_by : (cause : Cause) (old new : ℕ) → ReloadFails {A = Standing} (Err (stops.Ended cause)) old new → frozen_fails cause old new
+frozen_by : (cause : Cause) (old new : ℕ) → ReloadFails {A = SessionState} (Err (stops.Ended cause)) old new → frozen_fails cause old new
 frozen_by (causes.Frozen fault) old new h = h
 frozen_by cause old new h = h
 
-never_frozen_by : {R : Type 0} (failures : R → ℕ) (xs ys : Option R) (cause : Cause) → BeginFails {A = Standing} failures (Err (stops.Ended cause)) xs ys → FrozenFailsBy failures cause xs ys
+never_frozen_by : {R : Type 0} (failures : R → ℕ) (xs ys : Option R) (cause : Cause) → BeginFails {A = SessionState} failures (Err (stops.Ended cause)) xs ys → FrozenFailsBy failures cause xs ys
 never_frozen_by failures None None cause h = tt
 never_frozen_by failures None (Some y) cause h = absurd h
 never_frozen_by failures (Some x) None cause h = absurd h
 never_frozen_by failures (Some x) (Some y) cause h = frozen_by cause (failures x) (failures y) h
 
-pub never_frozen : {R : Type 0} (failures : R → ℕ) (xs ys : Option R) (o : Options) (st : Result Standing Stop) (e : Stop) (n : ℕ) (d : Ending) → st ≡ Err e → n ≡ status_behind e → d ≡ ending_by n (Err e) → IsBegun o st → BeginFails failures st xs ys → FrozenFailsBy failures d.cause xs ys
+pub never_frozen : {R : Type 0} (failures : R → ℕ) (xs ys : Option R) (o : Options) (st : Result SessionState Stop) (e : Stop) (n : ℕ) (d : Ending) → st ≡ Err e → n ≡ status_after e → d ≡ ending_by n (Err e) → IsBegun o st → BeginFails failures st xs ys → FrozenFailsBy failures d.cause xs ys
 never_frozen failures xs ys o st e n d i m j h a =
     let k = never_is o st e n d i m j h in
     subst (λ (y : Ending). FrozenFailsBy failures y.cause xs ys) (sym k.2)
-    (never_frozen_by failures xs ys k.0 (subst (λ (y : Result Standing Stop). BeginFails failures y xs ys) k.1 a))
+    (never_frozen_by failures xs ys k.0 (subst (λ (y : Result SessionState Stop). BeginFails failures y xs ys) k.1 a))
 
 -- the writers
-written_by : (cause : Cause) (old new told frozen : ℕ) (w : Three (Option (List ℕ))) → IsSpared w → ByCause cause (new ≡ old) (new ≡ one_more old) → ByCause cause (NoneOfThree (record { two = writers old new told told; frozen_old = frozen; frozen_new = frozen })) (OneOfThree (record { two = writers old new told told; frozen_old = frozen; frozen_new = frozen }) w)
-written_by causes.Write old new told frozen w s h = inl (inl (h, refl), refl, s)
-written_by causes.Done old new told frozen w s h = ((h, refl), refl)
-written_by (causes.Exited n) old new told frozen w s h = ((h, refl), refl)
-written_by causes.EndInString old new told frozen w s h = ((h, refl), refl)
-written_by causes.EndInComment old new told frozen w s h = ((h, refl), refl)
-written_by causes.EndInArguments old new told frozen w s h = ((h, refl), refl)
-written_by causes.ExpansionLimit old new told frozen w s h = ((h, refl), refl)
-written_by causes.NestingLimit old new told frozen w s h = ((h, refl), refl)
-written_by (causes.Frozen f) old new told frozen w s h = ((h, refl), refl)
-written_by causes.Read old new told frozen w s h = ((h, refl), refl)
-written_by causes.OutOfMemory old new told frozen w s h = ((h, refl), refl)
+written_by : (cause : Cause) (old new reported frozen : ℕ) (w : Three (Option (List ℕ))) → IsSpared w → ByCause cause (new ≡ old) (new ≡ one_more old) → ByCause cause (NoneOfThree (record { two = writers old new reported reported; frozen_old = frozen; frozen_new = frozen })) (OneOfThree (record { two = writers old new reported reported; frozen_old = frozen; frozen_new = frozen }) w)
+written_by causes.Write old new reported frozen w s h = inl (inl (h, refl), refl, s)
+written_by causes.Done old new reported frozen w s h = ((h, refl), refl)
+written_by (causes.Exited n) old new reported frozen w s h = ((h, refl), refl)
+written_by causes.EndInString old new reported frozen w s h = ((h, refl), refl)
+written_by causes.EndInComment old new reported frozen w s h = ((h, refl), refl)
+written_by causes.EndInArguments old new reported frozen w s h = ((h, refl), refl)
+written_by causes.ExpansionLimit old new reported frozen w s h = ((h, refl), refl)
+written_by causes.NestingLimit old new reported frozen w s h = ((h, refl), refl)
+written_by (causes.Frozen f) old new reported frozen w s h = ((h, refl), refl)
+written_by causes.Read old new reported frozen w s h = ((h, refl), refl)
+written_by causes.OutOfMemory old new reported frozen w s h = ((h, refl), refl)
 
-pub never_wrote : (o : Options) (st : Result Standing Stop) (e : Stop) (n : ℕ) (d : Ending) (old new told frozen : ℕ) (w : Three (Option (List ℕ))) → st ≡ Err e → n ≡ status_behind e → d ≡ ending_by n (Err e) → IsBegun o st → IsSpared w → TellFails st old new → ByCause d.cause (NoneOfThree (record { two = writers old new told told; frozen_old = frozen; frozen_new = frozen })) (OneOfThree (record { two = writers old new told told; frozen_old = frozen; frozen_new = frozen }) w)
-never_wrote o st e n d old new told frozen w i m j h s t =
+pub never_wrote : (o : Options) (st : Result SessionState Stop) (e : Stop) (n : ℕ) (d : Ending) (old new reported frozen : ℕ) (w : Three (Option (List ℕ))) → st ≡ Err e → n ≡ status_after e → d ≡ ending_by n (Err e) → IsBegun o st → IsSpared w → MessageWriteFails st old new → ByCause d.cause (NoneOfThree (record { two = writers old new reported reported; frozen_old = frozen; frozen_new = frozen })) (OneOfThree (record { two = writers old new reported reported; frozen_old = frozen; frozen_new = frozen }) w)
+never_wrote o st e n d old new reported frozen w i m j h s t =
     let k = never_is o st e n d i m j h in
-    let f : Three ℕ = record { two = writers old new told told; frozen_old = frozen; frozen_new = frozen } in
+    let f : Three ℕ = record { two = writers old new reported reported; frozen_old = frozen; frozen_new = frozen } in
     subst (λ (y : Ending). ByCause y.cause (NoneOfThree f) (OneOfThree f w)) (sym k.2)
-    (written_by k.0 old new told frozen w s (subst (λ (y : Result Standing Stop). TellFails y old new) k.1 t))
+    (written_by k.0 old new reported frozen w s (subst (λ (y : Result SessionState Stop). MessageWriteFails y old new) k.1 t))
 
 pub spares_any : (cause : Cause) (w : Three (Option (List ℕ))) → IsSpared w → Spares cause w
 spares_any causes.Done w s = tt
@@ -334,14 +334,14 @@ spares_any causes.Write w s = tt
 spares_any cause w s = s
 
 -- nothing was read or written where the frozen file was refused
-pub never_done : {S : Type 0} (sources : S) (o : Options) (st : Result Standing Stop) (e : Stop) (n : ℕ) (d : Ending) (fault : FrozenFault) (out out' told frozen : Option (List ℕ)) → st ≡ Err e → n ≡ status_behind e → d ≡ ending_by n (Err e) → IsBegun o st → d.cause ≡ causes.Frozen fault → (st ≡ Err (stops.Ended (causes.Frozen fault)) → out' ≡ out) → NothingIsDone sources sources (record { two = writers out out' told told; frozen_old = frozen; frozen_new = frozen })
-never_done sources o st e n d fault out out' told frozen i m j h c s =
+pub never_done : {S : Type 0} (sources : S) (o : Options) (st : Result SessionState Stop) (e : Stop) (n : ℕ) (d : Ending) (fault : FrozenFault) (out out' reported frozen : Option (List ℕ)) → st ≡ Err e → n ≡ status_after e → d ≡ ending_by n (Err e) → IsBegun o st → d.cause ≡ causes.Frozen fault → (st ≡ Err (stops.Ended (causes.Frozen fault)) → out' ≡ out) → NothingIsDone sources sources (record { two = writers out out' reported reported; frozen_old = frozen; frozen_new = frozen })
+never_done sources o st e n d fault out out' reported frozen i m j h c s =
     let k = never_is o st e n d i m j h in
     let f : k.0 ≡ causes.Frozen fault = sym (ap (λ (y : Ending). y.cause) k.2) ∙ c in
     record { sources = refl; output = s (k.1 ∙ ap (λ (y : Cause). Err (stops.Ended y)) f); messages = refl; frozen = refl }
 
 -- a run that began doesn't end by its frozen file
-left_unrefused : (new : Standing) (n : ℕ) (r : Result Bool Stop) (fault : FrozenFault) → IsLeft new r → (ending_by n r).cause ≡ causes.Frozen fault → ⊥
+left_unrefused : (new : SessionState) (n : ℕ) (r : Result Bool Stop) (fault : FrozenFault) → IsLeft new r → (ending_by n r).cause ≡ causes.Frozen fault → ⊥
 left_unrefused new n (Ok wrapped) fault l c = cc
 left_unrefused new n (Err stops.Finished) fault l c = l
 left_unrefused new n (Err (stops.Ended causes.Done)) fault l c = l
@@ -356,22 +356,22 @@ left_unrefused new n (Err (stops.Ended causes.Read)) fault l c = cc
 left_unrefused new n (Err (stops.Ended causes.Write)) fault l c = cc
 left_unrefused new n (Err (stops.Ended causes.OutOfMemory)) fault l c = cc
 
-pub not_refused : (new : Standing) (n : ℕ) (r : Result Bool Stop) (d : Ending) (fault : FrozenFault) → d ≡ ending_by n r → IsLeft new r → d.cause ≡ causes.Frozen fault → ⊥
+pub not_refused : (new : SessionState) (n : ℕ) (r : Result Bool Stop) (d : Ending) (fault : FrozenFault) → d ≡ ending_by n r → IsLeft new r → d.cause ≡ causes.Frozen fault → ⊥
 not_refused new n r d fault j l c = left_unrefused new n r fault l (ap (λ (y : Ending). y.cause) (sym j) ∙ c)
 
 frozen_same : (cause : Cause) (old new : ℕ) → ((fault : FrozenFault) → cause ≡ causes.Frozen fault → ⊥) → new ≡ old → frozen_fails cause old new
 frozen_same (causes.Frozen fault) old new n h = absurd (n fault refl)
 frozen_same cause old new n h = h
 
-begun_frozen_by : {R : Type 0} (failures : R → ℕ) (xs ys : Option R) (s : Standing) (cause : Cause) → ((fault : FrozenFault) → cause ≡ causes.Frozen fault → ⊥) → BeginFails failures (Ok s) xs ys → FrozenFailsBy failures cause xs ys
+begun_frozen_by : {R : Type 0} (failures : R → ℕ) (xs ys : Option R) (s : SessionState) (cause : Cause) → ((fault : FrozenFault) → cause ≡ causes.Frozen fault → ⊥) → BeginFails failures (Ok s) xs ys → FrozenFailsBy failures cause xs ys
 begun_frozen_by failures None None s cause n h = tt
 begun_frozen_by failures None (Some y) s cause n h = absurd h
 begun_frozen_by failures (Some x) None s cause n h = absurd h
 begun_frozen_by failures (Some x) (Some y) s cause n h = frozen_same cause (failures x) (failures y) n h
 
-pub begun_frozen : {R : Type 0} (failures : R → ℕ) (xs ys : Option R) (s : Standing) (st : Result Standing Stop) (new : Standing) (n : ℕ) (r : Result Bool Stop) (d : Ending) → st ≡ Ok s → d ≡ ending_by n r → IsLeft new r → BeginFails failures st xs ys → FrozenFailsBy failures d.cause xs ys
+pub begun_frozen : {R : Type 0} (failures : R → ℕ) (xs ys : Option R) (s : SessionState) (st : Result SessionState Stop) (new : SessionState) (n : ℕ) (r : Result Bool Stop) (d : Ending) → st ≡ Ok s → d ≡ ending_by n r → IsLeft new r → BeginFails failures st xs ys → FrozenFailsBy failures d.cause xs ys
 begun_frozen failures xs ys s st new n r d i j l h =
-    begun_frozen_by failures xs ys s d.cause (λ fault c. not_refused new n r d fault j l c) (subst (λ (y : Result Standing Stop). BeginFails failures y xs ys) i h)
+    begun_frozen_by failures xs ys s d.cause (λ fault c. not_refused new n r d fault j l c) (subst (λ (y : Result SessionState Stop). BeginFails failures y xs ys) i h)
 
 -- by the answer of the rest of the run
 by_answer : (n : ℕ) (r : Result Bool Stop) (none one : Type 0) → ByAnswer r none one → ByCause (ending_by n r).cause none one
@@ -403,7 +403,7 @@ spared_by n (Err (stops.Ended cause)) two two' frozen frozen' h = spared_answer 
 pub ended_spared : (n : ℕ) (r : Result Bool Stop) (d : Ending) (two two' : Contents) (frozen frozen' : Option (List ℕ)) → d ≡ ending_by n r → SparesBy r (record { two = two; frozen_old = frozen; frozen_new = frozen' }) → Spares d.cause (record { two = two'; frozen_old = frozen; frozen_new = frozen' })
 ended_spared n r d two two' frozen frozen' j h = subst (λ (y : Ending). Spares y.cause (record { two = two'; frozen_old = frozen; frozen_new = frozen' })) (sym j) (spared_by n r two two' frozen frozen' h)
 
-done_answer : (new : Standing) (n : ℕ) (r : Result Bool Stop) → IsLeft new r → (ending_by n r).cause ≡ causes.Done → (b : Bool) × (r ≡ Ok b)
+done_answer : (new : SessionState) (n : ℕ) (r : Result Bool Stop) → IsLeft new r → (ending_by n r).cause ≡ causes.Done → (b : Bool) × (r ≡ Ok b)
 done_answer new n (Ok b) l c = (b, refl)
 done_answer new n (Err stops.Finished) l c = absurd l
 done_answer new n (Err (stops.Ended causes.Done)) l c = absurd l
@@ -418,7 +418,7 @@ done_answer new n (Err (stops.Ended causes.Read)) l c = cc
 done_answer new n (Err (stops.Ended causes.Write)) l c = cc
 done_answer new n (Err (stops.Ended causes.OutOfMemory)) l c = cc
 
-pub ended_done : (P : Type 0) (new : Standing) (n : ℕ) (r : Result Bool Stop) (d : Ending) → d ≡ ending_by n r → IsLeft new r → d.cause ≡ causes.Done → OnOk r P → P
+pub ended_done : (P : Type 0) (new : SessionState) (n : ℕ) (r : Result Bool Stop) (d : Ending) → d ≡ ending_by n r → IsLeft new r → d.cause ≡ causes.Done → OnOk r P → P
 ended_done P new n r d j l c h =
     let k = done_answer new n r l (ap (λ (y : Ending). y.cause) (sym j) ∙ c) in
     subst (λ (y : Result Bool Stop). OnOk y P) k.1 h
@@ -431,7 +431,7 @@ reloaded_is o (Some script) loaded h =
     inl (k.directives, h.0, k.spelled, ap (λ (l : Loaded). From l.state l.issued) k.denoted)
 
 -- what a reloaded run begins with
-reload_by : (o : Options) (script : Script) (out out' : Option (List ℕ)) (st : Result Standing Stop) → ReloadGives o (Some script) out out' st → BeginGives (start_of o.prefix (Some script)) o out out' st
+reload_by : (o : Options) (script : Script) (out out' : Option (List ℕ)) (st : Result SessionState Stop) → ReloadGives o (Some script) out out' st → BeginGives (start_of o.prefix (Some script)) o out out' st
 reload_by o script out out' (Ok new) h = (h.0, h.1, sym (is_start o.prefix (Some script) (From h.0 h.1) h.2), h.3, h.4)
 reload_by o script out out' (Err stops.Finished) h = absurd h
 reload_by o script out out' (Err (stops.Ended causes.Done)) h = absurd h
@@ -446,13 +446,13 @@ reload_by o script out out' (Err (stops.Ended (causes.Frozen fault))) h = (h.0, 
 reload_by o script out out' (Err (stops.Ended causes.Write)) h = (h.0, h.1, sym (is_start o.prefix (Some script) (From h.0 h.1) h.2), h.3)
 reload_by o script out out' (Err (stops.Ended causes.OutOfMemory)) h = absurd h
 
-pub reload_begins : {R : Type 0} (tells : R → Option Script) (reader : R) (frozen : Option R) (o : Options) (file : Option Script) (out out' : Option (List ℕ)) (st : Result Standing Stop) → frozen ≡ Some reader → TellsFrozen tells frozen file → ReloadGives o (tells reader) out out' st → BeginGives (start_of o.prefix file) o out out' st
+pub reload_begins : {R : Type 0} (tells : R → Option Script) (reader : R) (frozen : Option R) (o : Options) (file : Option Script) (out out' : Option (List ℕ)) (st : Result SessionState Stop) → frozen ≡ Some reader → TellsFrozen tells frozen file → ReloadGives o (tells reader) out out' st → BeginGives (start_of o.prefix file) o out out' st
 reload_begins tells reader frozen o file out out' st i t h =
     let k = subst (λ (y : Option _). TellsFrozen tells y file) i t in
     subst (λ (y : Option Script). BeginGives (start_of o.prefix y) o out out' st) (sym k.2)
     (reload_by o k.0 out out' st (subst (λ (y : Option Script). ReloadGives o y out out' st) k.1 h))
 
-pub reload_begun : (o : Options) (file : Option Script) (out out' : Option (List ℕ)) (st : Result Standing Stop) → ReloadGives o file out out' st → IsBegun o st
+pub reload_begun : (o : Options) (file : Option Script) (out out' : Option (List ℕ)) (st : Result SessionState Stop) → ReloadGives o file out out' st → IsBegun o st
 reload_begun o file out out' (Ok new) h = (h.0, h.3)
 reload_begun o file out out' (Err stops.Finished) h = absurd h
 reload_begun o file out out' (Err (stops.Ended causes.Done)) h = absurd h
@@ -467,25 +467,25 @@ reload_begun o file out out' (Err (stops.Ended (causes.Frozen fault))) h = tt
 reload_begun o file out out' (Err (stops.Ended causes.Write)) h = tt
 reload_begun o file out out' (Err (stops.Ended causes.OutOfMemory)) h = absurd h
 
-pub reload_refused : (o : Options) (file : Option Script) (out out' : Option (List ℕ)) (st : Result Standing Stop) (fault : FrozenFault) → ReloadGives o file out out' st → st ≡ Err (stops.Ended (causes.Frozen fault)) → out' ≡ out
+pub reload_refused : (o : Options) (file : Option Script) (out out' : Option (List ℕ)) (st : Result SessionState Stop) (fault : FrozenFault) → ReloadGives o file out out' st → st ≡ Err (stops.Ended (causes.Frozen fault)) → out' ≡ out
 reload_refused o file out out' st fault h e = (subst (ReloadGives o file out out') e h).0
 
 -- what a fresh run begins with
-fresh_by : (o : Options) (out : Option (List ℕ)) (st : Result Standing Stop) → IfOk st (λ s. s ≡ fresh_standing o) → IfErr st (λ e. e ≡ stops.Ended causes.OutOfMemory) → BeginGives (start_of o.prefix None) o out out st
+fresh_by : (o : Options) (out : Option (List ℕ)) (st : Result SessionState Stop) → IfOk st (λ s. s ≡ fresh_session o) → IfErr st (λ e. e ≡ stops.Ended causes.OutOfMemory) → BeginGives (start_of o.prefix None) o out out st
 fresh_by o out (Ok s) f e = (fresh o.prefix, [], refl, f, with_bytes-nil out)
 fresh_by o out (Err x) f e = subst (λ (y : Stop). BeginGives (start_of o.prefix None) o out out (Err y)) (sym e) refl
 
-pub fresh_begins : {R : Type 0} (tells : R → Option Script) (frozen : Option R) (o : Options) (file : Option Script) (out : Option (List ℕ)) (st : Result Standing Stop) → frozen ≡ None → TellsFrozen tells frozen file → IfOk st (λ s. s ≡ fresh_standing o) → IfErr st (λ e. e ≡ stops.Ended causes.OutOfMemory) → BeginGives (start_of o.prefix file) o out out st
+pub fresh_begins : {R : Type 0} (tells : R → Option Script) (frozen : Option R) (o : Options) (file : Option Script) (out : Option (List ℕ)) (st : Result SessionState Stop) → frozen ≡ None → TellsFrozen tells frozen file → IfOk st (λ s. s ≡ fresh_session o) → IfErr st (λ e. e ≡ stops.Ended causes.OutOfMemory) → BeginGives (start_of o.prefix file) o out out st
 fresh_begins tells frozen o file out st i t f e =
     let k : file ≡ None = subst (λ (y : Option _). TellsFrozen tells y file) i t in
     subst (λ (y : Option Script). BeginGives (start_of o.prefix y) o out out st) (sym k) (fresh_by o out st f e)
 
-pub fresh_begun : (o : Options) (st : Result Standing Stop) → IfOk st (λ s. s ≡ fresh_standing o) → IfErr st (λ e. e ≡ stops.Ended causes.OutOfMemory) → IsBegun o st
+pub fresh_begun : (o : Options) (st : Result SessionState Stop) → IfOk st (λ s. s ≡ fresh_session o) → IfErr st (λ e. e ≡ stops.Ended causes.OutOfMemory) → IsBegun o st
 fresh_begun o (Ok s) f e = (fresh o.prefix, f)
 fresh_begun o (Err x) f e = subst (λ (y : Stop). IsBegun o (Err y)) (sym e) tt
 
 -- the end of a run leaves the session over, by the cause that is answered
-end_left : (freezes : Bool) (old new : Standing) (w : Contents) (e : Stop) → IsOpen old → EndGives freezes old new w (Err e) → IsLeft {A = Bool} new (Err e)
+end_left : (freezes : Bool) (old new : SessionState) (w : Contents) (e : Stop) → IsOpen old → EndGives freezes old new w (Err e) → IsLeft {A = Bool} new (Err e)
 end_left freezes old new w stops.Finished l h = absurd (h.closed l)
 end_left freezes old new w (stops.Ended causes.Done) l h = absurd h
 end_left freezes old new w (stops.Ended (causes.Exited n)) l h = h.1
@@ -499,7 +499,7 @@ end_left freezes old new w (stops.Ended causes.Read) l h = absurd h
 end_left freezes old new w (stops.Ended causes.Write) l h = h.over
 end_left freezes old new w (stops.Ended causes.OutOfMemory) l h = h.over
 
-pub close_left : (freezes : Bool) (old new : Standing) (w : Three (Option (List ℕ))) (e : Stop) (q : Result Unit Stop) (r : Result Bool Stop) → q ≡ Err e → r ≡ Err e → IsOpen old → CloseGives freezes old new w q → IsLeft new r
+pub close_left : (freezes : Bool) (old new : SessionState) (w : Three (Option (List ℕ))) (e : Stop) (q : Result Unit Stop) (r : Result Bool Stop) → q ≡ Err e → r ≡ Err e → IsOpen old → CloseGives freezes old new w q → IsLeft new r
 close_left freezes old new w e q r f g l h =
     subst (IsLeft new) (sym g)
     (end_left freezes old new w.two e l (subst (EndGives freezes old new w.two) f (close_ends freezes old new w q h)))

@@ -35,9 +35,9 @@ unfolding Keeps
 taken_keeps q c p r t e = subst (Keeps p) e (from_keeps p.definition q c p)
 
 -- the token that a closed input gives
-pub next_taken : (q c : Delimiters) (before behind : Option Script) (old new : Held) (t : Token) → IsReady old → NextGives q c before behind old new (Ok t) → (token_at q c old.pending ≡ Taken t new.pending) × Stays old new × ((new.pending).definition ≡ None)
-next_taken q c before behind old new t r g =
-    let e : g.1 ≡ old.pending = closed_reads before behind old.pending g.0 g.1 g.2 r.closed in
+pub next_taken : (q c : Delimiters) (before after : Option Script) (old new : Held) (t : Token) → IsReady old → NextGives q c before after old new (Ok t) → (token_at q c old.pending ≡ Taken t new.pending) × Stays old new × ((new.pending).definition ≡ None)
+next_taken q c before after old new t r g =
+    let e : g.1 ≡ old.pending = closed_reads before after old.pending g.0 g.1 g.2 r.closed in
     let h : token_at q c old.pending ≡ Taken t new.pending = sym (ap (token_at q c) e) ∙ g.3 in
     let k : ((new.pending).may_follow ≡ (old.pending).may_follow) × ((new.pending).definition ≡ None) × ((new.pending).file ≡ (old.pending).file) = taken_keeps q c old.pending new.pending t h in
     (h, record { ready = record { sound = g.5; closed = k.0 ∙ r.closed; front = none_is_front (new.pending).definition k.1 }; file = k.2 }, k.1)

@@ -76,8 +76,8 @@ module _ (S F D : Type 0) (turn : S → Turn S F D) (join : F → S → Outcome 
   tells_out n (Halted d) = (refl, refl)
   tells_out n (Closed t) = (refl, refl)
 
-  told : (s : S × ℕ) (v : Turn (S × ℕ) F (D × ℕ)) → turn' s ≡ v → Tells (turn s.0) (suc s.1) v
-  told s v e = subst (Tells (turn s.0) (suc s.1)) e (tells (suc s.1) (turn s.0))
+  reported : (s : S × ℕ) (v : Turn (S × ℕ) F (D × ℕ)) → turn' s ≡ v → Tells (turn s.0) (suc s.1) v
+  reported s v e = subst (Tells (turn s.0) (suc s.1)) e (tells (suc s.1) (turn s.0))
 
   told_out : (f : F) (t : S × ℕ) (v : Outcome (S × ℕ) (D × ℕ)) → join' f t ≡ v → TellsOut (join f t.0) t.1 v
   told_out f t v e = subst (TellsOut (join f t.0) t.1) e (tells_out t.1 (join f t.0))
@@ -85,11 +85,11 @@ module _ (S F D : Type 0) (turn : S → Turn S F D) (join : F → S → Outcome 
   pub falls' : Falls (S × ℕ) F (D × ℕ) turn' join' size' left'
   unfolding Tells TellsOut
   falls' = record {
-    shorter = λ s t e. falls.shorter s.0 t.0 (told s (GoOn t) e).0;
-    go_on = λ s t e. falls.go_on s.0 t.0 (told s (GoOn t) e).0;
-    close = λ s t e. falls.close s.0 t.0 (told s (Close t) e).0;
-    bare = λ s t e. falls.bare s.0 t.0 (told s (Bare t) e).0;
-    opens = λ s t f e. falls.opens s.0 t.0 f (told s (Opens f t) e).0;
+    shorter = λ s t e. falls.shorter s.0 t.0 (reported s (GoOn t) e).0;
+    go_on = λ s t e. falls.go_on s.0 t.0 (reported s (GoOn t) e).0;
+    close = λ s t e. falls.close s.0 t.0 (reported s (Close t) e).0;
+    bare = λ s t e. falls.bare s.0 t.0 (reported s (Bare t) e).0;
+    opens = λ s t f e. falls.opens s.0 t.0 f (reported s (Opens f t) e).0;
     joins = λ f t u e. falls.joins f t.0 u.0 (told_out f t (Closed u) e).0;
   }
 
@@ -109,14 +109,14 @@ module _ (S F D : Type 0) (turn : S → Turn S F D) (join : F → S → Outcome 
   pub shifted : (k : ℕ) → Follows (S × ℕ) F (D × ℕ) turn' join' whole' (Later k) (λ f g. g ≡ f) (LaterEnd k)
   unfolding Tells TellsOut
   shifted k = record {
-    halt = λ s t d r e. let h = told s (Halt d) e in
+    halt = λ s t d r e. let h = reported s (Halt d) e in
         expansion_is (S × ℕ) F (D × ℕ) turn' join' spent' size' left' falls' t
         ∙ ap (after (S × ℕ) F (D × ℕ) join' whole' whole') (ap (counted_turn (suc t.1)) (ap turn r.0 ∙ h.0))
         ∙ ap (λ (n : ℕ). Halted (d.0, n)) (add_suc t.1 s.1 d.1 k r.1 h.1);
-    close = λ s t u r e. let h = told s (Close u) e in ((u.0, suc t.1), ap (counted_turn (suc t.1)) (ap turn r.0 ∙ h.0), (refl, add_suc t.1 s.1 u.1 k r.1 h.1));
-    go_on = λ s t u r e. let h = told s (GoOn u) e in ((u.0, suc t.1), ap (counted_turn (suc t.1)) (ap turn r.0 ∙ h.0), (refl, add_suc t.1 s.1 u.1 k r.1 h.1));
-    bare = λ s t u r e. let h = told s (Bare u) e in ((u.0, suc t.1), ap (counted_turn (suc t.1)) (ap turn r.0 ∙ h.0), (refl, add_suc t.1 s.1 u.1 k r.1 h.1));
-    opens = λ s t u f r e. let h = told s (Opens f u) e in (f, (u.0, suc t.1), ap (counted_turn (suc t.1)) (ap turn r.0 ∙ h.0), refl, (refl, add_suc t.1 s.1 u.1 k r.1 h.1));
+    close = λ s t u r e. let h = reported s (Close u) e in ((u.0, suc t.1), ap (counted_turn (suc t.1)) (ap turn r.0 ∙ h.0), (refl, add_suc t.1 s.1 u.1 k r.1 h.1));
+    go_on = λ s t u r e. let h = reported s (GoOn u) e in ((u.0, suc t.1), ap (counted_turn (suc t.1)) (ap turn r.0 ∙ h.0), (refl, add_suc t.1 s.1 u.1 k r.1 h.1));
+    bare = λ s t u r e. let h = reported s (Bare u) e in ((u.0, suc t.1), ap (counted_turn (suc t.1)) (ap turn r.0 ∙ h.0), (refl, add_suc t.1 s.1 u.1 k r.1 h.1));
+    opens = λ s t u f r e. let h = reported s (Opens f u) e in (f, (u.0, suc t.1), ap (counted_turn (suc t.1)) (ap turn r.0 ∙ h.0), refl, (refl, add_suc t.1 s.1 u.1 k r.1 h.1));
     join_halt = λ f g u w d r q e. let h = told_out f u (Halted d) e in
         ap (λ o. then_on o whole') (ap (counted_outcome w.1) (ap (λ (a : F). join a w.0) r ∙ ap (join f) q.0 ∙ h.0))
         ∙ ap (λ (n : ℕ). Halted (d.0, n)) (q.1 ∙ ap (λ n. n + k) (sym h.1));
@@ -213,17 +213,17 @@ module _ (S F D : Type 0) (turn : S → Turn S F D) (join : F → S → Outcome 
     unfolding Tells TellsOut AlikeTurns AlikeOuts
     beside = record {
       halt = λ s t d r e.
-          let h = told s (Halt d) e in
+          let h = reported s (Halt d) e in
           let k = met s t (Halt d.0) r h.0 in (
             k.0,
             expansion_is (S × ℕ) F (D × ℕ) turn' join' spent' size' left' falls' t
                 ∙ ap (after (S × ℕ) F (D × ℕ) join' whole' whole') (ap (counted_turn (suc t.1)) k.1)
                 ∙ ap (λ (n : ℕ). Halted (k.0, n)) (ap suc r.1 ∙ sym h.1),
           );
-      close = λ s t u r e. let h = told s (Close u) e in let k = met s t (Close u.0) r h.0 in ((k.0, suc t.1), ap (counted_turn (suc t.1)) k.1, (k.2, ap suc r.1 ∙ sym h.1));
-      go_on = λ s t u r e. let h = told s (GoOn u) e in let k = met s t (GoOn u.0) r h.0 in ((k.0, suc t.1), ap (counted_turn (suc t.1)) k.1, (k.2, ap suc r.1 ∙ sym h.1));
-      bare = λ s t u r e. let h = told s (Bare u) e in let k = met s t (Bare u.0) r h.0 in ((k.0, suc t.1), ap (counted_turn (suc t.1)) k.1, (k.2, ap suc r.1 ∙ sym h.1));
-      opens = λ s t u f r e. let h = told s (Opens f u) e in let k = met s t (Opens f u.0) r h.0 in (f, (k.0, suc t.1), ap (counted_turn (suc t.1)) k.1, refl, (k.2, ap suc r.1 ∙ sym h.1));
+      close = λ s t u r e. let h = reported s (Close u) e in let k = met s t (Close u.0) r h.0 in ((k.0, suc t.1), ap (counted_turn (suc t.1)) k.1, (k.2, ap suc r.1 ∙ sym h.1));
+      go_on = λ s t u r e. let h = reported s (GoOn u) e in let k = met s t (GoOn u.0) r h.0 in ((k.0, suc t.1), ap (counted_turn (suc t.1)) k.1, (k.2, ap suc r.1 ∙ sym h.1));
+      bare = λ s t u r e. let h = reported s (Bare u) e in let k = met s t (Bare u.0) r h.0 in ((k.0, suc t.1), ap (counted_turn (suc t.1)) k.1, (k.2, ap suc r.1 ∙ sym h.1));
+      opens = λ s t u f r e. let h = reported s (Opens f u) e in let k = met s t (Opens f u.0) r h.0 in (f, (k.0, suc t.1), ap (counted_turn (suc t.1)) k.1, refl, (k.2, ap suc r.1 ∙ sym h.1));
       join_halt = λ f g u w d q r e.
           let h = told_out f u (Halted d) e in
           let k = met_out f g u w (Halted d.0) q r h.0 in

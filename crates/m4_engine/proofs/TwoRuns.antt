@@ -8,11 +8,11 @@ use Rattle.m4_engine.specs.declared.options.Options.{Options}
 use Rattle.m4_engine.specs.declared.ending.Cause.{Cause}
 use Rattle.m4_engine.specs.declared.ending.Cause.TheVariants as causes
 use Rattle.m4_engine.specs.declared.ending.Ending.{Ending}
-use Rattle.m4_engine.specs.Expansion.{RunSoFar, Limits, How, Ends, WantsMore, Spent}
+use Rattle.m4_engine.specs.Expansion.{RunSoFar, Limits, EndReason, Ends, NeedsInput, OutOfBound}
 use Rattle.m4_engine.specs.File.{Source, Opened, Unopened, Progress, over_of, unless_over, read_source, after_source, after_sources}
 use Rattle.m4_engine.specs.Wraps.{read_saved, next_round, rounds, after_wraps}
 use Rattle.m4_engine.specs.Start.{Start, From, Faulty, frozen_file, start_of, begun}
-use Rattle.m4_engine.specs.Run.{RunResult, limits_of, result_by, saved_behind, run, run_from}
+use Rattle.m4_engine.specs.Run.{RunResult, limits_of, result_by, saved_after, run, run_from}
 use Rattle.m4_engine.specs.Session.{is_saved}
 use Rattle.m4_engine.specs.WholeRun.{wrapped_by, WroteAll, GivesBy, HasFrozen, FrozenBy, RunGives}
 use Rattle.m4_engine.specs.Carries.{Carries, frozen_state}
@@ -22,10 +22,10 @@ use Rattle.m4_engine.specs.Writers.{Contents, Three, writers}
 use Rattle.m4_engine.proofs.Reloads.{split}
 
 -- a run that is over did not come to its end
-abbrev IsCut : Option How → Type 0
+abbrev IsCut : Option EndReason → Type 0
 IsCut v = v ≢ Some (Ends causes.Done)
 
-over_cut : (h : How) → IsCut (over_of h)
+over_cut : (h : EndReason) → IsCut (over_of h)
 over_cut (Ends causes.Done) = λ e. cc
 over_cut (Ends (causes.Exited n)) = λ e. cc
 over_cut (Ends causes.EndInString) = λ e. cc
@@ -37,22 +37,22 @@ over_cut (Ends (causes.Frozen f)) = λ e. cc
 over_cut (Ends causes.Read) = λ e. cc
 over_cut (Ends causes.Write) = λ e. cc
 over_cut (Ends causes.OutOfMemory) = λ e. cc
-over_cut WantsMore = λ e. cc
-over_cut Spent = λ e. cc
+over_cut NeedsInput = λ e. cc
+over_cut OutOfBound = λ e. cc
 
-unless_cut : (o : Option How) (old new : Progress) → IsCut old.over → IsCut new.over → IsCut (unless_over o old new).over
+unless_cut : (o : Option EndReason) (old new : Progress) → IsCut old.over → IsCut new.over → IsCut (unless_over o old new).over
 unless_cut None old new h g = g
 unless_cut (Some x) old new h g = h
 
-read_cut : (limits : Limits) (s : Source) (r : RunSoFar) (missed : Bool) → IsCut (read_source limits s r missed).over
-read_cut limits (Opened name bytes) r missed = over_cut _
-read_cut limits (Unopened name) r missed = λ e. cc
+read_cut : (limits : Limits) (s : Source) (r : RunSoFar) (any_missing : Bool) → IsCut (read_source limits s r any_missing).over
+read_cut limits (Opened name bytes) r any_missing = over_cut _
+read_cut limits (Unopened name) r any_missing = λ e. cc
 
 sources_cut : (limits : Limits) (ss : List Source) (p : Progress) → IsCut p.over → IsCut (after_sources limits ss p).over
 sources_cut limits [] p h = h
-sources_cut limits (s ∷ ss) p h = sources_cut limits ss (after_source limits s p) (unless_cut p.over p (read_source limits s p.so_far p.missed) h (read_cut limits s p.so_far p.missed))
+sources_cut limits (s ∷ ss) p h = sources_cut limits ss (after_source limits s p) (unless_cut p.over p (read_source limits s p.so_far p.any_missing) h (read_cut limits s p.so_far p.any_missing))
 
-next_cut : (go : Progress → Progress) (limits : Limits) → ((q : Progress) → IsCut q.over → IsCut (go q).over) → (v : Option How) (saved : List (List ℕ)) (p : Progress) → IsCut p.over → IsCut (next_round go limits v saved p).over
+next_cut : (go : Progress → Progress) (limits : Limits) → ((q : Progress) → IsCut q.over → IsCut (go q).over) → (v : Option EndReason) (saved : List (List ℕ)) (p : Progress) → IsCut p.over → IsCut (next_round go limits v saved p).over
 next_cut go limits g (Some x) saved p h = h
 next_cut go limits g None [] p h = h
 next_cut go limits g None (x ∷ xs) p h = g (read_saved limits (x ∷ xs) p) (over_cut _)
@@ -65,17 +65,17 @@ start_cut : (start : Start) → IsCut (begun start).over
 start_cut (From s issued) = λ e. cc
 start_cut (Faulty fault) = λ e. cc
 
-froze_by : (v : Option How) (saved : List (List ℕ)) (r : RunSoFar) (missed : Bool) → IsCut v → (result_by v true saved r missed).how ≡ Ends causes.Done → (text : List ℕ) × ((result_by v true saved r missed).frozen ≡ Some text)
-froze_by None saved r missed c e = (freeze r.state, refl)
-froze_by (Some h) saved r missed c e = absurd (c (ap Some e))
+froze_by : (v : Option EndReason) (saved : List (List ℕ)) (r : RunSoFar) (any_missing : Bool) → IsCut v → (result_by v true saved r any_missing).reason ≡ Ends causes.Done → (text : List ℕ) × ((result_by v true saved r any_missing).frozen ≡ Some text)
+froze_by None saved r any_missing c e = (freeze r.state, refl)
+froze_by (Some h) saved r any_missing c e = absurd (c (ap Some e))
 
 -- a run that freezes and read everything has a frozen text
-has_text : (o : Options) (start : Start) (ss : List Source) → (run_from (freezing true o) start ss).how ≡ Ends causes.Done → (text : List ℕ) × ((run_from (freezing true o) start ss).frozen ≡ Some text)
+has_text : (o : Options) (start : Start) (ss : List Source) → (run_from (freezing true o) start ss).reason ≡ Ends causes.Done → (text : List ℕ) × ((run_from (freezing true o) start ss).frozen ≡ Some text)
 has_text o start ss e =
     let limits : Limits = limits_of o in
     let p : Progress = after_sources limits ss (begun start) in
     let q : Progress = after_wraps limits p in
-    froze_by q.over (saved_behind ss p) q.so_far q.missed (rounds_cut (suc limits.calls) limits p (sources_cut limits ss (begun start) (start_cut start))) e
+    froze_by q.over (saved_after ss p) q.so_far q.any_missing (rounds_cut (suc limits.calls) limits p (sources_cut limits ss (begun start) (start_cut start))) e
 
 -- which the writer has, where it was empty
 text_is : (frozen : Option (List ℕ)) (t text : List ℕ) (v : Three (Option (List ℕ))) → frozen ≡ Some t → v.frozen_old ≡ Some [] → v.frozen_new ≡ Some text → HasFrozen frozen v → frozen ≡ Some text
@@ -111,14 +111,14 @@ has_same : (v : Option (List ℕ)) (two : Contents) (w : Three (Option (List ℕ
 has_same None two w h = h
 has_same (Some text) two w h = h
 
-pub two_runs : (o : Options) (freezes prefix : Bool) (file : Option Script) (as' bs : List Source) (text : List ℕ) (e f : Ending) (v w : Three (Option (List ℕ))) → RunGives (run (freezing true o) file as') e v → e.cause ≡ causes.Done → e.status ≡ 0 → e.wrapped ≡ false → IsSized (frozen_state (freezing true o) (start_of o.prefix file) as') → v.frozen_old ≡ Some [] → v.frozen_new ≡ Some text → RunGives (run (prefixed prefix (freezing freezes o)) (Some (frozen_file text)) bs) f w → IsDecided f.cause → (w.two).out_old ≡ (v.two).out_new → (w.two).messages_old ≡ (v.two).messages_new → (run (freezing freezes o) file (as' ++ bs)).how ≢ Ends causes.ExpansionLimit → IsOneRun (run (freezing freezes o) file (as' ++ bs)) f (record { two = writers (v.two).out_old (w.two).out_new (v.two).messages_old (w.two).messages_new; frozen_old = w.frozen_old; frozen_new = w.frozen_new })
+pub two_runs : (o : Options) (freezes prefix : Bool) (file : Option Script) (as' bs : List Source) (text : List ℕ) (e f : Ending) (v w : Three (Option (List ℕ))) → RunGives (run (freezing true o) file as') e v → e.cause ≡ causes.Done → e.status ≡ 0 → e.wrapped ≡ false → IsSized (frozen_state (freezing true o) (start_of o.prefix file) as') → v.frozen_old ≡ Some [] → v.frozen_new ≡ Some text → RunGives (run (prefixed prefix (freezing freezes o)) (Some (frozen_file text)) bs) f w → IsDecided f.cause → (w.two).out_old ≡ (v.two).out_new → (w.two).messages_old ≡ (v.two).messages_new → (run (freezing freezes o) file (as' ++ bs)).reason ≢ Ends causes.ExpansionLimit → IsOneRun (run (freezing freezes o) file (as' ++ bs)) f (record { two = writers (v.two).out_old (w.two).out_new (v.two).messages_old (w.two).messages_new; frozen_old = w.frozen_old; frozen_new = w.frozen_new })
 two_runs o freezes prefix file as' bs text e f v w g i s n z old new h d a b l =
     let r : RunResult = run (freezing true o) file as' in
     let t : RunResult = run (prefixed prefix (freezing freezes o)) (Some (frozen_file text)) bs in
     let j : RunResult = run (freezing freezes o) file (as' ++ bs) in
     let k : WroteAll r e v.two = subst (λ (c : Cause). GivesBy c r e v.two) i g.gives in
     let q : WroteAll t f w.two = decided f.cause t f w.two d h.gives in
-    let done : r.how ≡ Ends causes.Done = k.how ∙ ap Ends i in
+    let done : r.reason ≡ Ends causes.Done = k.reason ∙ ap Ends i in
     let had : HasFrozen r.frozen v = subst (λ (c : Cause). FrozenBy c r v) i g.frozen in
     let some = has_text o (start_of o.prefix file) as' done in
     let froze : r.frozen ≡ Some text = text_is r.frozen some.0 text v some.1 old new had in
@@ -130,7 +130,7 @@ two_runs o freezes prefix file as' bs text e f v w g i s n z old new h d a b l =
     } in
     let joins : Joins r t j = split o freezes prefix file as' bs text carries froze l in
     record {
-      how = joins.how ∙ q.how;
+      reason = joins.reason ∙ q.reason;
       status = q.status ∙ sym joins.status;
       output = both_wrote (v.two).out_old (v.two).out_new (w.two).out_old (w.two).out_new r.output t.output j.output k.output a q.output joins.output;
       messages = both_wrote (v.two).messages_old (v.two).messages_new (w.two).messages_old (w.two).messages_new r.messages t.messages j.messages k.messages b q.messages joins.messages;

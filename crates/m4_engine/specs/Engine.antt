@@ -14,8 +14,8 @@ use Rattle.m4_input.specs.declared.token.Token.{Token}
 use Rattle.m4_input.specs.declared.token.Token.TheVariants.{Definition}
 use Rattle.m4_input.specs.Input.{Held}
 use Rattle.m4_engine.specs.declared.ending.Cause.TheVariants as causes
-use Rattle.m4_engine.specs.declared.ahead.Ahead.{Ahead}
-use Rattle.m4_engine.specs.Ahead.{IsAheadOf}
+use Rattle.m4_engine.specs.declared.lookahead.Lookahead.{Lookahead}
+use Rattle.m4_engine.specs.Lookahead.{IsLookaheadOf}
 use Rattle.m4_engine.specs.declared.turned.Turned.{Turned}
 use Rattle.m4_engine.specs.declared.turned.TurnFault.{TurnFault}
 use Rattle.m4_engine.specs.declared.turned.Turned.TheVariants as turns
@@ -27,9 +27,9 @@ use Rattle.std.specs.List.{AllByRecursion}
 use Rattle.m4_builtins.specs.Args.{IsArg}
 
 -- the warning on dropped definitions, where some were
-abbrev pub told_if : Bool → Place → List ℕ
-told_if true p = dropped p
-told_if false p = []
+abbrev pub warning_if_dropped : Bool → Place → List ℕ
+warning_if_dropped true p = dropped p
+warning_if_dropped false p = []
 
 -- a run as the machine holds it: the calls whose lists are open, the innermost first; and the output
 -- and the messages that were not handed on yet
@@ -97,20 +97,20 @@ abbrev pub with_token : Def → Engine → Engine
 with_token d e = put_token_in e.open_calls d e
 
 -- with a message more
-abbrev pub telling : List ℕ → Engine → Engine
-telling x e = record e { messages = e.messages ++ x }
+abbrev pub with_engine_message : List ℕ → Engine → Engine
+with_engine_message x e = record e { messages = e.messages ++ x }
 
 -- with a text more that is saved for the end
 abbrev pub saving : List ℕ → Engine → Engine
 saving x e = record e { saved = e.saved ++ x ∷ [] }
 
 -- with a call more that was made
-abbrev pub counting : Engine → Engine
-counting e = record e { calls = suc e.calls }
+abbrev pub with_one_call : Engine → Engine
+with_one_call e = record e { calls = suc e.calls }
 
 -- with another list open
-abbrev pub beginning : Call → Engine → Engine
-beginning c e = record e { open_calls = c ∷ e.open_calls }
+abbrev pub with_open_call : Call → Engine → Engine
+with_open_call c e = record e { open_calls = c ∷ e.open_calls }
 
 -- a turn's effect on the stack of open calls
 abbrev pub step : List Kept → Turn Expansion Kept Ended → Move Expansion Kept Ended
@@ -120,7 +120,7 @@ step fs v = take_turn Expansion Kept Ended turn join fs v
 abbrev pub Moves : Engine → Pending → Turned → (List ℕ → List ℕ → Move Expansion Kept Ended) → Type 0
 Moves e p turns.GoesOn f = (o m : List ℕ) → f o m ≡ Goes (configuration o m e p)
 Moves e p (turns.Ends cause) f =
-    (o m : List ℕ) → f o m ≡ Stops (Halted (record { so_far = so_far_of o m e; how = Ends cause }))
+    (o m : List ℕ) → f o m ≡ Stops (Halted (record { so_far = so_far_of o m e; reason = Ends cause }))
 
 -- an input of which nothing more is asked of a reader, and at whose front no definition out of order stands
 abbrev pub IsFront : Option Def → Type 0
@@ -228,8 +228,8 @@ abbrev pub moved : Stacked Expansion Kept → Move Expansion Kept Ended
 moved c = move Expansion Kept Ended turn join c
 
 -- what was put out is handed on
-abbrev pub handed_on : Engine → Engine
-handed_on e = record e { output = []; messages = [] }
+abbrev pub after_flush : Engine → Engine
+after_flush e = record e { output = []; messages = [] }
 
 -- an engine that has made nothing
 abbrev pub engine_at : State → ℕ → ℕ → Engine
@@ -269,13 +269,13 @@ abbrev pub Passes : Engine → Engine → Held → Held → Type 0
 Passes old new i j = ((new ≡ old) × (j ≡ i)) ⊎ (PassesPlain old new i j ⊎ PassesInner old new i j)
 
 -- whether the limits leave a call
-abbrev pub leaves_call : Engine → Bool
-leaves_call e = nat_lt e.calls (e.limits).calls && not (is_deep_in e)
+abbrev pub allows_call : Engine → Bool
+allows_call e = nat_lt e.calls (e.limits).calls && not (is_deep_in e)
 
 -- whether a text is called with no list, within the limits
 abbrev pub is_bare : Bool → Engine → Bool
-is_bare listed e = not listed && leaves_call e
+is_bare listed e = not listed && allows_call e
 
 -- what was seen of the token at the front
-abbrev pub IsAhead : Ahead → Engine → Pending → Type 0
-IsAhead a e p = IsAheadOf a e.state (leaves_call e) p
+abbrev pub IsLookahead : Lookahead → Engine → Pending → Type 0
+IsLookahead a e p = IsLookaheadOf a e.state (allows_call e) p

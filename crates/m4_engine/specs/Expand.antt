@@ -25,7 +25,7 @@ use Rattle.m4_builtins.specs.Act.{Acted, act, needs_list}
 use Rattle.m4_engine.specs.declared.ending.Cause.{Cause}
 use Rattle.m4_engine.specs.declared.ending.Cause.TheVariants as causes
 use Rattle.m4_engine.specs.Nesting.{Turn, Halt, GoOn, Bare, Opens, Outcome, Halted, Closed, expansion}
-use Rattle.m4_engine.specs.Expansion.{RunSoFar, Limits, Call, Mode, Outside, Collecting, Expansion, Kept, Ends, WantsMore, Spent, Ended, place_at, with_call, reading, stop, fail, put_text, put_token}
+use Rattle.m4_engine.specs.Expansion.{RunSoFar, Limits, Call, Mode, Outside, Collecting, Expansion, Kept, Ends, NeedsInput, OutOfBound, Ended, place_at, with_call, reading, stop, fail, put_text, put_token}
 use Rattle.m4_engine.specs.Args.{take_byte, role_of}
 
 -- a value, if there is one, is put in front of what is pending
@@ -49,7 +49,7 @@ with_acted a r = record r {
 
 -- no newline is pending: all is skipped, unless more may follow
 abbrev pub skip_all : Bool → Expansion → Outcome Expansion Ended
-skip_all true s = Halted (record { so_far = s.so_far; how = WantsMore })
+skip_all true s = Halted (record { so_far = s.so_far; reason = NeedsInput })
 skip_all false s = Closed (reading (consumed (length (text_of s.pending)) s.pending) s)
 
 -- the rest of a line of so many bytes is skipped
@@ -64,13 +64,13 @@ skip_or_push false v s = Closed (reading (with_value v s.pending) s)
 
 -- behind a call that may end the run
 abbrev pub effected : Option ℕ → Bool → Option Pushed → Expansion → Outcome Expansion Ended
-effected (Some code) skip v s = Halted (record { so_far = s.so_far; how = Ends (causes.Exited code) })
+effected (Some code) skip v s = Halted (record { so_far = s.so_far; reason = Ends (causes.Exited code) })
 effected None skip v s = skip_or_push skip v s
 
 -- a call is a token: it begins the argument that it stands in
-abbrev pub mode_behind_call : Mode → Mode
-mode_behind_call Outside = Outside
-mode_behind_call (Collecting c) = Collecting (record c { begun = true })
+abbrev pub mode_after_call : Mode → Mode
+mode_after_call Outside = Outside
+mode_after_call (Collecting c) = Collecting (record c { begun = true })
 
 -- what a call does where the expansion stands at t
 abbrev pub acted_at : Call → Expansion → Acted
@@ -81,20 +81,20 @@ abbrev pub kept_of : Expansion → Kept
 kept_of s = record { open_calls = s.open_calls; mode = s.mode }
 
 -- behind a call that was acted on at t, where `kept` goes on
-abbrev pub behind_call : Call → Expansion → Kept → Expansion
-behind_call c t kept = record {
+abbrev pub after_call : Call → Expansion → Kept → Expansion
+after_call c t kept = record {
   limits = t.limits;
   so_far = with_acted (acted_at c t) t.so_far;
   pending = t.pending;
   open_calls = kept.open_calls;
-  mode = mode_behind_call kept.mode;
+  mode = mode_after_call kept.mode;
 }
 
 -- a call is acted on at t, with the definition that it had before its arguments
 abbrev pub called : Call → Expansion → Kept → Outcome Expansion Ended
 called c t kept =
     effected ((acted_at c t).effect).exit ((acted_at c t).effect).skip
-    ((acted_at c t).effect).push (behind_call c t kept)
+    ((acted_at c t).effect).push (after_call c t kept)
 
 -- the list that was collected at t is complete
 abbrev pub join_by : Mode → Kept → Expansion → Outcome Expansion Ended
@@ -159,7 +159,7 @@ call_without_list false c p s = call false c p s
 
 -- a name with a definition, by whether an argument list follows
 abbrev pub take_call : Answer → Call → Pending → Expansion → Turn Expansion Kept Ended
-take_call Unknown c p s = stop s WantsMore
+take_call Unknown c p s = stop s NeedsInput
 take_call Yes c p s = call true c p s
 take_call No c p s = call_without_list (needs_list c.definition) c p s
 
@@ -204,7 +204,7 @@ take_front (Taken t p) s = take_token t p s
 take_front (Refused what line) s =
     fail s (record { file = or_empty (s.pending).file; line = line }) (unended_text what)
     (unended_cause what)
-take_front More s = stop s WantsMore
+take_front More s = stop s NeedsInput
 
 -- one turn of an expansion
 abbrev pub turn : Expansion → Turn Expansion Kept Ended
@@ -226,17 +226,17 @@ abbrev pub calls_left : Expansion → ℕ
 calls_left s = (s.limits).calls - (s.so_far).calls
 
 -- where a bound runs out
-abbrev pub spent_at : Expansion → Ended
-spent_at s = record { so_far = s.so_far; how = Spent }
+abbrev pub out_of_bound_at : Expansion → Ended
+out_of_bound_at s = record { so_far = s.so_far; reason = OutOfBound }
 
 -- what an expansion comes to
 abbrev pub expand : Expansion → Outcome Expansion Ended
-expand = expansion Expansion Kept Ended turn join spent_at size_of calls_left
+expand = expansion Expansion Kept Ended turn join out_of_bound_at size_of calls_left
 
 -- an expansion that stands in no call: that it closes doesn't happen
 abbrev pub ended_of : Outcome Expansion Ended → Ended
 ended_of (Halted d) = d
-ended_of (Closed s) = spent_at s
+ended_of (Closed s) = out_of_bound_at s
 
 -- the expansion of what is pending, outside of calls
 abbrev pub expansion_of : Limits → RunSoFar → Pending → Expansion

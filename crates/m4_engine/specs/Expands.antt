@@ -1,6 +1,6 @@
 -- Expands: what the expansion of an input leaves, over writers.
 -- Not believed: it stands between the machine and `Session`, which says the same of a source.
--- Manual: "How m4 copies input to output". Words: made_before, comes_to, Expanded, Expands, EndsInput, HandsOn, IsInOrder, IsIdle.
+-- Manual: "How m4 copies input to output". Words: made_before, input_expansion, Expanded, Expands, EndsInput, FlushesPrefix, IsInOrder, IsIdle.
 use Rattle.std.specs.Prelude.{◌≡◌, ℕ, List, [], ◌++◌, ◌⊎◌}
 use Rattle.m4_state.specs.Device.{with_bytes, HasBegun}
 use Rattle.m4_input.specs.Pending.{Pending}
@@ -22,12 +22,12 @@ made_before e = record {
 }
 
 -- what the input comes to
-abbrev pub comes_to : Engine → Pending → Ended
-comes_to e p = expand_input e.limits (made_before e) p
+abbrev pub input_expansion : Engine → Pending → Ended
+input_expansion e p = expand_input e.limits (made_before e) p
 
 -- the expansion ended by this cause, and all that it puts out was written
 pub record Expanded (old new : Engine) (d : Ended) (cause : Cause) (w : Contents) : Type 0 where
-  pub how : d.how ≡ Ends cause
+  pub reason : d.reason ≡ Ends cause
   pub limits : new.limits ≡ old.limits
   pub state : new.state ≡ (d.so_far).state
   pub saved : new.saved ≡ (d.so_far).saved
@@ -37,10 +37,10 @@ pub record Expanded (old new : Engine) (d : Ended) (cause : Cause) (w : Contents
 
 -- by the cause: a device or memory breaks the expansion off
 abbrev pub Expands : Engine → Engine → Pending → Contents → Cause → Type 0
-Expands old new p w causes.Read = Broken (comes_to old p) w
-Expands old new p w causes.Write = Broken (comes_to old p) w
-Expands old new p w causes.OutOfMemory = Broken (comes_to old p) w
-Expands old new p w cause = Expanded old new (comes_to old p) cause w
+Expands old new p w causes.Read = Broken (input_expansion old p) w
+Expands old new p w causes.Write = Broken (input_expansion old p) w
+Expands old new p w causes.OutOfMemory = Broken (input_expansion old p) w
+Expands old new p w cause = Expanded old new (input_expansion old p) cause w
 
 -- an expansion asks no reader, so no reader's fault and no frozen file's ends it
 abbrev pub EndsInput : Cause → Type 0
@@ -49,8 +49,8 @@ EndsInput causes.Read = ⊥
 EndsInput cause = Unit {0}
 
 -- a beginning of an engine's output and messages was written
-abbrev pub HandsOn : List ℕ → List ℕ → Contents → Type 0
-HandsOn output messages w =
+abbrev pub FlushesPrefix : List ℕ → List ℕ → Contents → Type 0
+FlushesPrefix output messages w =
     HasBegun w.out_old w.out_new output × HasBegun w.messages_old w.messages_new messages
 
 -- this output was written, and maybe more
@@ -63,12 +63,12 @@ pub record IsInOrder (before messages : List ℕ) (w : Contents) : Type 0 where
   pub then_messages : HasBegun w.out_old w.out_new before ⊎ (w.messages_new ≡ with_bytes w.messages_old messages)
 
 -- a beginning of an engine's output and messages was written, and the rest is still held
-pub record HandsOnSome (old new : Engine) (w : Contents) : Type 0 where
+pub record FlushesSome (old new : Engine) (w : Contents) : Type 0 where
   pub front : List ℕ
-  pub told : List ℕ
-  pub held : old ≡ record new { output = front ++ new.output; messages = told ++ new.messages }
+  pub reported : List ℕ
+  pub held : old ≡ record new { output = front ++ new.output; messages = reported ++ new.messages }
   pub output : w.out_new ≡ with_bytes w.out_old front
-  pub messages : w.messages_new ≡ with_bytes w.messages_old told
+  pub messages : w.messages_new ≡ with_bytes w.messages_old reported
 
 -- an engine between two inputs
 pub record IsIdle (e : Engine) : Type 0 where

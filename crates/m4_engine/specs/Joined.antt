@@ -22,7 +22,7 @@ prefixed prefix o = record o { prefix = prefix }
 pub record Joins (first second joint : RunResult) : Type 0 where
   pub output : joint.output ≡ first.output ++ second.output
   pub messages : joint.messages ≡ first.messages ++ second.messages
-  pub how : joint.how ≡ second.how
+  pub reason : joint.reason ≡ second.reason
   pub status : joint.status ≡ second.status
   pub frozen : joint.frozen ≡ second.frozen
   pub calls : joint.calls ≡ first.calls + second.calls
@@ -69,7 +69,7 @@ IsLast last rs = (before : List RunResult) × (rs ≡ before ++ last ∷ [])
 
 -- two runs end alike
 pub record EndsAs (r last : RunResult) : Type 0 where
-  pub how : r.how ≡ last.how
+  pub reason : r.reason ≡ last.reason
   pub status : r.status ≡ last.status
   pub frozen : r.frozen ≡ last.frozen
   pub saved : r.saved ≡ last.saved

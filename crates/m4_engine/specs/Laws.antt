@@ -12,7 +12,7 @@ use Rattle.m4_engine.specs.declared.options.Options.{Options}
 use Rattle.m4_engine.specs.Nesting.{Turn, Outcome, after, expansion, Falls}
 use Rattle.m4_engine.specs.declared.ending.Cause.{Cause}
 use Rattle.m4_engine.specs.declared.ending.Cause.TheVariants as causes
-use Rattle.m4_engine.specs.Expansion.{Limits, Expansion, Kept, Ended, Ends, WantsMore}
+use Rattle.m4_engine.specs.Expansion.{Limits, Expansion, Kept, Ended, Ends, NeedsInput}
 use Rattle.m4_engine.specs.Expand.{turn, join, expand}
 use Rattle.m4_engine.specs.File.{Source, Opened, Progress}
 use Rattle.m4_engine.specs.Wraps.{next_round, after_wraps}
@@ -66,7 +66,7 @@ SameDenotation =
 pub record AreSettled (s : SettledSoFar) (r : RunResult) : Type 0 where
   pub output : IsBeginning s.output r.output
   pub messages : IsBeginning s.messages r.messages
-  pub ending : s.how ≢ WantsMore → (r.how ≡ s.how) × (r.output ≡ s.output) × (r.messages ≡ s.messages)
+  pub ending : s.reason ≢ NeedsInput → (r.reason ≡ s.reason) × (r.output ≡ s.output) × (r.messages ≡ s.messages)
 
 -- what w settles stands whatever bytes follow it and whatever sources come later
 abbrev pub SettledBegins : Type 0
@@ -82,7 +82,7 @@ SplitStates =
     (o : Options) (freezes : Bool) (start : Start) (as' bs : List Source) (text : List ℕ)
     → Carries (freezing true o) start as'
     → (run_from (freezing true o) start as').frozen ≡ Some text
-    → (run_from (freezing freezes o) start (as' ++ bs)).how ≢ Ends causes.ExpansionLimit
+    → (run_from (freezing freezes o) start (as' ++ bs)).reason ≢ Ends causes.ExpansionLimit
     → Joins (run_from (freezing true o) start as')
     (run_from (freezing freezes o) (From (frozen_state (freezing true o) start as') []) bs)
     (run_from (freezing freezes o) start (as' ++ bs))
@@ -95,7 +95,7 @@ Split =
     (o : Options) (freezes prefix : Bool) (frozen : Option Script) (as' bs : List Source) (text : List ℕ)
     → Carries (freezing true o) (start_of o.prefix frozen) as'
     → (run (freezing true o) frozen as').frozen ≡ Some text
-    → (run (freezing freezes o) frozen (as' ++ bs)).how ≢ Ends causes.ExpansionLimit
+    → (run (freezing freezes o) frozen (as' ++ bs)).reason ≢ Ends causes.ExpansionLimit
     → Joins (run (freezing true o) frozen as')
     (run (prefixed prefix (freezing freezes o)) (Some (frozen_file text)) bs)
     (run (freezing freezes o) frozen (as' ++ bs))
@@ -107,7 +107,7 @@ abbrev pub Chain : Type 0
 Chain =
     (o : Options) (freezes : Bool) (frozen : Option Script) (sources : List Source) (links : List Link)
     → AllCarry o frozen sources links
-    → (run (freezing freezes o) frozen (all_sources sources links)).how ≢ Ends causes.ExpansionLimit
+    → (run (freezing freezes o) frozen (all_sources sources links)).reason ≢ Ends causes.ExpansionLimit
     → JoinsAll (chain o freezes frozen sources links) (run (freezing freezes o) frozen (all_sources sources links))
 
 -- a run whose end the definitions decide: no device failed, and memory was there
@@ -120,7 +120,7 @@ IsDecided cause = Unit {0}
 
 -- what was written is what a run writes, and the ending is that run's
 pub record IsOneRun (r : RunResult) (e : Ending) (w : Three (Option (List ℕ))) : Type 0 where
-  pub how : r.how ≡ Ends e.cause
+  pub reason : r.reason ≡ Ends e.cause
   pub status : e.status ≡ r.status
   pub output : (w.two).out_new ≡ with_bytes (w.two).out_old r.output
   pub messages : (w.two).messages_new ≡ with_bytes (w.two).messages_old r.messages
@@ -142,7 +142,7 @@ TwoRuns =
     → RunGives (run (prefixed prefix (freezing freezes o)) (Some (frozen_file text)) bs) f w
     → IsDecided f.cause
     → (w.two).out_old ≡ (v.two).out_new → (w.two).messages_old ≡ (v.two).messages_new
-    → (run (freezing freezes o) file (as' ++ bs)).how ≢ Ends causes.ExpansionLimit
+    → (run (freezing freezes o) file (as' ++ bs)).reason ≢ Ends causes.ExpansionLimit
     → IsOneRun (run (freezing freezes o) file (as' ++ bs)) f (record {
       two = writers (v.two).out_old (w.two).out_new (v.two).messages_old (w.two).messages_new;
       frozen_old = w.frozen_old;
@@ -158,18 +158,18 @@ abbrev pub LargerNesting : Type 0
 LargerNesting =
     (o : Options) (nesting : ℕ) (start : Start) (sources : List Source)
     → IsAsDeep o.nesting nesting
-    → (run_from o start sources).how ≢ Ends causes.NestingLimit
+    → (run_from o start sources).reason ≢ Ends causes.NestingLimit
     → run_from (record o { nesting = nesting }) start sources ≡ run_from o start sources
 
 abbrev pub LargerCalls : Type 0
 LargerCalls =
     (o : Options) (calls : ℕ) (start : Start) (sources : List Source)
     → o.calls ≤ calls
-    → (run_from o start sources).how ≢ Ends causes.ExpansionLimit
+    → (run_from o start sources).reason ≢ Ends causes.ExpansionLimit
     → run_from (record o { calls = calls }) start sources ≡ run_from o start sources
 
 -- each run ends by a cause: it never wants more
 abbrev pub RunEnds : Type 0
 RunEnds =
     (o : Options) (start : Start) (sources : List Source)
-    → (cause : Cause) × ((run_from o start sources).how ≡ Ends cause)
+    → (cause : Cause) × ((run_from o start sources).reason ≡ Ends cause)

@@ -11,13 +11,13 @@ pub mod Settled
 pub mod Carries
 pub mod Joined
 pub mod Laws
-pub mod Ahead
+pub mod Lookahead
 pub mod CallView
 pub mod Engine
 pub mod MachineView
 pub mod Writers
 pub mod Expands
-pub mod Told
+pub mod RunSources
 pub mod Session
 pub mod SessionView
 pub mod WholeRun

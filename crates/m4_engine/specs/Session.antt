@@ -1,7 +1,7 @@
 -- Session: a run between two of its calls, and what each call does to it.
 -- Believed. Manual: "Command line files", "Invoking m4".
--- Words: Standing, progress_of, written, standing_from, fresh_standing, IsOpen, ReloadGives, Filed, FileGives,
--- MissingGives, EndGives, FinishGives, FreezeGives, BeginGives, IsBegun, ReadFails, ReloadFails, BeginFails, SparesBy, ByAnswer, WriteFails, TellFails.
+-- Words: SessionState, progress_of, written, standing_from, fresh_session, IsOpen, ReloadGives, Completed, FileGives,
+-- MissingGives, EndGives, FinishGives, FreezeGives, BeginGives, IsBegun, ReadFails, ReloadFails, BeginFails, SparesBy, ByAnswer, WriteFails, MessageWriteFails.
 -- A session is a run's progress without what was written; what is written goes to the writers.
 use Rattle.std.specs.Prelude.{◌≡◌, ◌≢◌, IfSome, ℕ, Bool, true, false, List, [], ◌∷◌, Option, Some, None, Result, Ok, Err, ◌⊎◌}
 use Rattle.m4_state.specs.State.{State, IsSized}
@@ -15,8 +15,8 @@ use Rattle.m4_engine.specs.declared.options.Options.{Options}
 use Rattle.m4_engine.specs.declared.source.Source.{Source as RunSource}
 use Rattle.m4_engine.specs.declared.stop.Stop.{Stop}
 use Rattle.m4_engine.specs.declared.stop.Stop.TheVariants as stops
-use Rattle.m4_engine.specs.Expansion.{Limits, How, Ends}
-use Rattle.m4_engine.specs.Told.{AllPairs, has_failed, is_sound, any_failed}
+use Rattle.m4_engine.specs.Expansion.{Limits, EndReason, Ends}
+use Rattle.m4_engine.specs.RunSources.{AllPairs, HasFailed, is_sound, AnyFailed}
 use Rattle.m4_engine.specs.Start.{Start, From, Faulty, IsStart}
 use Rattle.m4_engine.specs.Writers.{Contents, Failures, Three, NoneFailed, OneFailed, ByCause, Broken, IsSpared, Spares}
 use Rattle.m4_engine.specs.File.{Opened, Unopened, Progress, file, after_source, cannot_open}
@@ -25,26 +25,26 @@ use Rattle.m4_engine.specs.Run.{limits_of, status_of, closed_output, result_of}
 
 -- a run between two calls: what it has made beside what was written; whether a source wasn't opened;
 -- why it is over, if it is; and whether it was brought to its end
-pub record Standing : Type 0 where
+pub record SessionState : Type 0 where
   pub limits : Limits
   pub state : State
   pub saved : List (List ℕ)
   pub calls : ℕ
-  pub missed : Bool
+  pub any_missing : Bool
   pub over : Option Cause
   pub finished : Bool
 
 -- the progress of a run by its cause
-abbrev pub how_over : Option Cause → Option How
+abbrev pub how_over : Option Cause → Option EndReason
 how_over None = None
 how_over (Some cause) = Some (Ends cause)
 
 -- the run's progress, where all that it put out was written before
-abbrev pub progress_of : Standing → Progress
+abbrev pub progress_of : SessionState → Progress
 progress_of s = record {
   so_far = record { state = s.state; output = []; messages = []; saved = s.saved; calls = s.calls };
   over = how_over s.over;
-  missed = s.missed;
+  any_missing = s.any_missing;
 }
 
 -- a progress whose output and messages were written
@@ -52,23 +52,23 @@ abbrev pub written : Progress → Progress
 written p = record p { so_far = record p.so_far { output = []; messages = [] } }
 
 -- a run that starts from a state
-abbrev pub standing_from : Options → State → Standing
+abbrev pub standing_from : Options → State → SessionState
 standing_from o s = record {
   limits = limits_of o;
   state = s;
   saved = [];
   calls = 0;
-  missed = false;
+  any_missing = false;
   over = None;
   finished = false;
 }
 
 -- a run that starts from the fresh state
-abbrev pub fresh_standing : Options → Standing
-fresh_standing o = standing_from o (fresh o.prefix)
+abbrev pub fresh_session : Options → SessionState
+fresh_session o = standing_from o (fresh o.prefix)
 
 -- the run goes on
-pub record IsOpen (s : Standing) : Type 0 where
+pub record IsOpen (s : SessionState) : Type 0 where
   pub over : s.over ≡ None
   pub unfinished : s.finished ≡ false
 
@@ -78,7 +78,7 @@ pub record Silent (w : Contents) : Type 0 where
   pub messages : w.messages_new ≡ w.messages_old
 
 -- the call was made to its end: the run's progress is p, and all that p put out was written
-pub record Filed (old new : Standing) (p : Progress) (w : Contents) : Type 0 where
+pub record Completed (old new : SessionState) (p : Progress) (w : Contents) : Type 0 where
   pub live : IsOpen old
   pub limits : new.limits ≡ old.limits
   pub unfinished : new.finished ≡ false
@@ -87,43 +87,43 @@ pub record Filed (old new : Standing) (p : Progress) (w : Contents) : Type 0 whe
   pub messages : w.messages_new ≡ with_bytes w.messages_old (p.so_far).messages
 
 -- a session that is over or finished answers so, and nothing changes
-pub record Refused (old new : Standing) (w : Contents) : Type 0 where
+pub record Refused (old new : SessionState) (w : Contents) : Type 0 where
   pub closed : IsOpen old → ⊥
   pub same : new ≡ old
   pub silent : Silent w
 
 -- the call broke off by this cause, which ends the run
-pub record Fell (old new : Standing) (cause : Cause) : Type 0 where
+pub record Interrupted (old new : SessionState) (cause : Cause) : Type 0 where
   pub live : IsOpen old
   pub over : new.over ≡ Some cause
 
 -- a file was read, of which the reader gave x
-abbrev pub FileDone : List ℕ → Option Script → Option Script → Standing → Standing → Contents → Option Cause → Type 0
-FileDone name before behind old new w over =
-    (x : List ℕ) × (before ≡ after_bytes x behind) × IsAtEnd behind
-    × Filed old new (after_source old.limits (Opened name x) (progress_of old)) w × (new.over ≡ over)
+abbrev pub FileDone : List ℕ → Option Script → Option Script → SessionState → SessionState → Contents → Option Cause → Type 0
+FileDone name before after old new w over =
+    (x : List ℕ) × (before ≡ after_bytes x after) × IsAtEnd after
+    × Completed old new (after_source old.limits (Opened name x) (progress_of old)) w × (new.over ≡ over)
 
 -- a file wasn't read, or only a beginning of what it puts out was written
-abbrev pub FileBroke : List ℕ → Option Script → Option Script → Standing → Standing → Contents → Cause → Type 0
-FileBroke name before behind old new w cause =
-    (x : List ℕ) × (before ≡ after_bytes x behind) × Fell old new cause
-    × (Silent w ⊎ (IsAtEnd behind
+abbrev pub FileBroke : List ℕ → Option Script → Option Script → SessionState → SessionState → Contents → Cause → Type 0
+FileBroke name before after old new w cause =
+    (x : List ℕ) × (before ≡ after_bytes x after) × Interrupted old new cause
+    × (Silent w ⊎ (IsAtEnd after
     × Broken (file old.limits (progress_of old).so_far name x) w))
 
 -- a file: it is read to its end, or the run ends
-abbrev pub FileGives : List ℕ → Option Script → Option Script → Standing → Standing → Contents → Result Unit Stop → Type 0
-FileGives name before behind old new w (Ok done) = FileDone name before behind old new w None
-FileGives name before behind old new w (Err stops.Finished) = Refused old new w × (behind ≡ before)
-FileGives name before behind old new w (Err (stops.Ended causes.Done)) = ⊥
-FileGives name before behind old new w (Err (stops.Ended (causes.Frozen fault))) = ⊥
-FileGives name before behind old new w (Err (stops.Ended causes.Read)) =
-    (x : List ℕ) × (before ≡ after_bytes x behind) × IsAtFault behind × Fell old new causes.Read × Silent w
-FileGives name before behind old new w (Err (stops.Ended causes.Write)) =
-    FileBroke name before behind old new w causes.Write
-FileGives name before behind old new w (Err (stops.Ended causes.OutOfMemory)) =
-    FileBroke name before behind old new w causes.OutOfMemory
-FileGives name before behind old new w (Err (stops.Ended cause)) =
-    FileDone name before behind old new w (Some cause)
+abbrev pub FileGives : List ℕ → Option Script → Option Script → SessionState → SessionState → Contents → Result Unit Stop → Type 0
+FileGives name before after old new w (Ok done) = FileDone name before after old new w None
+FileGives name before after old new w (Err stops.Finished) = Refused old new w × (after ≡ before)
+FileGives name before after old new w (Err (stops.Ended causes.Done)) = ⊥
+FileGives name before after old new w (Err (stops.Ended (causes.Frozen fault))) = ⊥
+FileGives name before after old new w (Err (stops.Ended causes.Read)) =
+    (x : List ℕ) × (before ≡ after_bytes x after) × IsAtFault after × Interrupted old new causes.Read × Silent w
+FileGives name before after old new w (Err (stops.Ended causes.Write)) =
+    FileBroke name before after old new w causes.Write
+FileGives name before after old new w (Err (stops.Ended causes.OutOfMemory)) =
+    FileBroke name before after old new w causes.OutOfMemory
+FileGives name before after old new w (Err (stops.Ended cause)) =
+    FileDone name before after old new w (Some cause)
 
 -- by an answer: one writer failed where the run ends by a write fault, and else none did
 abbrev pub ByAnswer : {A : Type 0} → Result A Stop → Type 0 → Type 0 → Type 0
@@ -142,16 +142,16 @@ ReadFails result old new = new ≡ old
 
 -- the same of one of a run's sources, and of all of them
 abbrev pub SourceFails : {A R : Type 0} → (R → ℕ) → Result A Stop → RunSource R → RunSource R → Type 0
-SourceFails failures (Err (stops.Ended causes.Read)) before behind = has_failed failures before behind
-SourceFails failures result before behind = is_sound failures before behind
+SourceFails failures (Err (stops.Ended causes.Read)) before after = HasFailed failures before after
+SourceFails failures result before after = is_sound failures before after
 
 abbrev pub SourcesFail : {A R : Type 0} → (R → ℕ) → Result A Stop → List (RunSource R) → List (RunSource R) → Type 0
-SourcesFail failures (Err (stops.Ended causes.Read)) before behind = any_failed failures before behind
-SourcesFail failures result before behind = AllPairs (is_sound failures) before behind
+SourcesFail failures (Err (stops.Ended causes.Read)) before after = AnyFailed failures before after
+SourcesFail failures result before after = AllPairs (is_sound failures) before after
 
 -- the same of a call with one writer, which has failed so often before and behind it
-abbrev pub TellFails : {A : Type 0} → Result A Stop → ℕ → ℕ → Type 0
-TellFails answer old new = ByAnswer answer (new ≡ old) (new ≡ one_more old)
+abbrev pub MessageWriteFails : {A : Type 0} → Result A Stop → ℕ → ℕ → Type 0
+MessageWriteFails answer old new = ByAnswer answer (new ≡ old) (new ≡ one_more old)
 
 -- the reader of a frozen file failed where the run ends by that; it did not where the run begins
 abbrev pub ReloadFails : {A : Type 0} → Result A Stop → ℕ → ℕ → Type 0
@@ -161,8 +161,8 @@ ReloadFails answer old new = new ≡ old
 -- the same of a run's frozen file, where there is one
 abbrev pub BeginFails : {A R : Type 0} → (R → ℕ) → Result A Stop → Option R → Option R → Type 0
 BeginFails failures answer None None = Unit {0}
-BeginFails failures answer (Some before) (Some behind) = ReloadFails answer (failures before) (failures behind)
-BeginFails failures answer before behind = ⊥
+BeginFails failures answer (Some before) (Some after) = ReloadFails answer (failures before) (failures after)
+BeginFails failures answer before after = ⊥
 
 -- by an answer: a call that ends the run by another cause than a write fault spares the frozen text
 abbrev pub SparesBy : {A : Type 0} → Result A Stop → Three (Option (List ℕ)) → Type 0
@@ -175,7 +175,7 @@ abbrev pub AreReloaded : Options → Option Script → State → List ℕ → Ty
 AreReloaded o file s issued = IfSome file (λ script. IsStart o.prefix (Some script) (From s issued))
 
 -- a run that starts from a frozen file: what is issued is written; a file that is refused leaves nothing
-abbrev pub ReloadGives : Options → Option Script → Option (List ℕ) → Option (List ℕ) → Result Standing Stop → Type 0
+abbrev pub ReloadGives : Options → Option Script → Option (List ℕ) → Option (List ℕ) → Result SessionState Stop → Type 0
 ReloadGives o file out_old out_new (Ok new) =
     (s : State) × (issued : List ℕ) × AreReloaded o file s issued
     × (new ≡ standing_from o s) × (out_new ≡ with_bytes out_old issued)
@@ -188,24 +188,24 @@ ReloadGives o file out_old out_new (Err (stops.Ended causes.Write)) =
 ReloadGives o file out_old out_new (Err (stops.Ended cause)) = ⊥
 
 -- the status where a run stands so
-abbrev pub how_by : Option Cause → How
+abbrev pub how_by : Option Cause → EndReason
 how_by None = Ends causes.Done
 how_by (Some cause) = Ends cause
 
-abbrev pub status_at : Standing → ℕ
-status_at s = status_of (how_by s.over) s.missed
+abbrev pub status_at : SessionState → ℕ
+status_at s = status_of (how_by s.over) s.any_missing
 
 -- the answer behind an input, by its cause
 abbrev pub answer_by : Cause → Result Unit Stop
 answer_by causes.Done = Ok tt
 answer_by cause = Err (stops.Ended cause)
 
-abbrev pub over_behind : Cause → Option Cause → Option Cause
-over_behind causes.Done over = over
-over_behind cause over = Some cause
+abbrev pub over_after : Cause → Option Cause → Option Cause
+over_after causes.Done over = over
+over_after cause over = Some cause
 
 -- a source that wasn't opened: it is told of
-abbrev pub MissingGives : List ℕ → Standing → Standing → Option (List ℕ) → Option (List ℕ) → Result Unit Stop → Type 0
+abbrev pub MissingGives : List ℕ → SessionState → SessionState → Option (List ℕ) → Option (List ℕ) → Result Unit Stop → Type 0
 MissingGives name old new messages_old messages_new (Ok done) =
     IsOpen old × IsOpen new × (new.limits ≡ old.limits)
     × (progress_of new ≡ written (after_source old.limits (Unopened name) (progress_of old)))
@@ -213,34 +213,34 @@ MissingGives name old new messages_old messages_new (Ok done) =
 MissingGives name old new messages_old messages_new (Err stops.Finished) =
     (IsOpen old → ⊥) × (new ≡ old) × (messages_new ≡ messages_old)
 MissingGives name old new messages_old messages_new (Err (stops.Ended causes.Write)) =
-    Fell old new causes.Write × HasBegun messages_old messages_new (cannot_open name)
+    Interrupted old new causes.Write × HasBegun messages_old messages_new (cannot_open name)
 MissingGives name old new messages_old messages_new (Err (stops.Ended cause)) = ⊥
 
 -- the run behind its saved texts
-abbrev pub behind_wraps : Standing → Progress
-behind_wraps s = after_wraps s.limits (progress_of s)
+abbrev pub session_after_wraps : SessionState → Progress
+session_after_wraps s = after_wraps s.limits (progress_of s)
 
 -- the run came to its end: the saved texts were read, and the diversions were issued, unless it freezes
-pub record Closed (freezes : Bool) (old new : Standing) (w : Contents) : Type 0 where
+pub record Closed (freezes : Bool) (old new : SessionState) (w : Contents) : Type 0 where
   pub live : IsOpen old
   pub finished : new.finished ≡ true
   pub over : new.over ≡ None
-  pub missed : new.missed ≡ old.missed
+  pub any_missing : new.any_missing ≡ old.any_missing
   pub saved : new.saved ≡ []
-  pub calls : new.calls ≡ ((behind_wraps old).so_far).calls
-  pub ended : (behind_wraps old).over ≡ None
-  pub output : w.out_new ≡ with_bytes w.out_old (closed_output freezes (behind_wraps old).so_far)
-  pub messages : w.messages_new ≡ with_bytes w.messages_old ((behind_wraps old).so_far).messages
+  pub calls : new.calls ≡ ((session_after_wraps old).so_far).calls
+  pub ended : (session_after_wraps old).over ≡ None
+  pub output : w.out_new ≡ with_bytes w.out_old (closed_output freezes (session_after_wraps old).so_far)
+  pub messages : w.messages_new ≡ with_bytes w.messages_old ((session_after_wraps old).so_far).messages
 
 -- the end broke off: a beginning of what the run still puts out was written
-pub record Unfinished (freezes : Bool) (old new : Standing) (w : Contents) (cause : Cause) : Type 0 where
+pub record Unfinished (freezes : Bool) (old new : SessionState) (w : Contents) (cause : Cause) : Type 0 where
   pub live : IsOpen old
   pub over : new.over ≡ Some cause
-  pub output : HasBegun w.out_old w.out_new (result_of freezes [] (behind_wraps old)).output
-  pub messages : HasBegun w.messages_old w.messages_new ((behind_wraps old).so_far).messages
+  pub output : HasBegun w.out_old w.out_new (result_of freezes [] (session_after_wraps old)).output
+  pub messages : HasBegun w.messages_old w.messages_new ((session_after_wraps old).so_far).messages
 
 -- the end of a run, which freezes or not
-abbrev pub EndGives : Bool → Standing → Standing → Contents → Result Unit Stop → Type 0
+abbrev pub EndGives : Bool → SessionState → SessionState → Contents → Result Unit Stop → Type 0
 EndGives freezes old new w (Ok done) = Closed freezes old new w
 EndGives freezes old new w (Err stops.Finished) = Refused old new w
 EndGives freezes old new w (Err (stops.Ended causes.Done)) = ⊥
@@ -250,41 +250,41 @@ EndGives freezes old new w (Err (stops.Ended causes.Write)) = Unfinished freezes
 EndGives freezes old new w (Err (stops.Ended causes.OutOfMemory)) =
     Unfinished freezes old new w causes.OutOfMemory
 EndGives freezes old new w (Err (stops.Ended cause)) =
-    Filed old new (behind_wraps old) w × (new.over ≡ Some cause)
+    Completed old new (session_after_wraps old) w × (new.over ≡ Some cause)
 
-abbrev pub FinishGives : Standing → Standing → Contents → Result Unit Stop → Type 0
+abbrev pub FinishGives : SessionState → SessionState → Contents → Result Unit Stop → Type 0
 FinishGives old new w answer = EndGives false old new w answer
 
 -- the state that a run leaves after its saved texts, which is the one that it freezes
-abbrev pub last_state : Standing → State
-last_state s = ((behind_wraps s).so_far).state
+abbrev pub last_state : SessionState → State
+last_state s = ((session_after_wraps s).so_far).state
 
 -- the frozen text was begun after all else that the run writes
-pub record FreezeBegan (old : Standing) (w : Three (Option (List ℕ))) : Type 0 where
-  pub ended : (behind_wraps old).over ≡ None
+pub record FreezeBegan (old : SessionState) (w : Three (Option (List ℕ))) : Type 0 where
+  pub ended : (session_after_wraps old).over ≡ None
   pub begun : HasBegun w.frozen_old w.frozen_new (freeze (last_state old))
-  pub output : (w.two).out_new ≡ with_bytes (w.two).out_old ((behind_wraps old).so_far).output
-  pub messages : (w.two).messages_new ≡ with_bytes (w.two).messages_old ((behind_wraps old).so_far).messages
+  pub output : (w.two).out_new ≡ with_bytes (w.two).out_old ((session_after_wraps old).so_far).output
+  pub messages : (w.two).messages_new ≡ with_bytes (w.two).messages_old ((session_after_wraps old).so_far).messages
 
 -- what the writer of the frozen text has: all of it, or a beginning where a writer failed, or nothing; a
 -- state that is frozen is sized
-abbrev pub FrozenGives : Standing → Three (Option (List ℕ)) → Result Unit Stop → Type 0
+abbrev pub FrozenGives : SessionState → Three (Option (List ℕ)) → Result Unit Stop → Type 0
 FrozenGives old w (Ok done) =
     (w.frozen_new ≡ with_bytes w.frozen_old (freeze (last_state old))) × IsSized (last_state old)
 FrozenGives old w (Err (stops.Ended causes.Write)) = IsSpared w ⊎ FreezeBegan old w
 FrozenGives old w (Err stop) = IsSpared w
 
 -- the end of a run that freezes
-abbrev pub FreezeGives : Standing → Standing → Three (Option (List ℕ)) → Result Unit Stop → Type 0
+abbrev pub FreezeGives : SessionState → SessionState → Three (Option (List ℕ)) → Result Unit Stop → Type 0
 FreezeGives old new w answer = EndGives true old new w.two answer × FrozenGives old w answer
 
 -- the end of a run, with what the writer of the frozen text has
-abbrev pub CloseGives : Bool → Standing → Standing → Three (Option (List ℕ)) → Result Unit Stop → Type 0
+abbrev pub CloseGives : Bool → SessionState → SessionState → Three (Option (List ℕ)) → Result Unit Stop → Type 0
 CloseGives true old new w answer = FreezeGives old new w answer
 CloseGives false old new w answer = FinishGives old new w.two answer × IsSpared w
 
 -- a run begins: from a start, of which the issued text was written, or with its fault
-abbrev pub BeginGives : Start → Options → Option (List ℕ) → Option (List ℕ) → Result Standing Stop → Type 0
+abbrev pub BeginGives : Start → Options → Option (List ℕ) → Option (List ℕ) → Result SessionState Stop → Type 0
 BeginGives start o out_old out_new (Ok new) =
     (s : State) × (issued : List ℕ) × (start ≡ From s issued)
     × (new ≡ standing_from o s) × (out_new ≡ with_bytes out_old issued)
@@ -297,7 +297,7 @@ BeginGives start o out_old out_new (Err (stops.Ended causes.OutOfMemory)) = out_
 BeginGives start o out_old out_new (Err (stops.Ended cause)) = ⊥
 
 -- a run begins from some state, or ends by a frozen file, a writer or memory
-abbrev pub IsBegun : Options → Result Standing Stop → Type 0
+abbrev pub IsBegun : Options → Result SessionState Stop → Type 0
 IsBegun o (Ok new) = (s : State) × (new ≡ standing_from o s)
 IsBegun o (Err (stops.Ended (causes.Frozen fault))) = Unit {0}
 IsBegun o (Err (stops.Ended causes.Write)) = Unit {0}
@@ -305,9 +305,9 @@ IsBegun o (Err (stops.Ended causes.OutOfMemory)) = Unit {0}
 IsBegun o (Err stop) = ⊥
 
 -- the status of a run that did not begin
-abbrev pub status_behind : Stop → ℕ
-status_behind stops.Finished = 0
-status_behind (stops.Ended cause) = status_of (Ends cause) false
+abbrev pub status_after : Stop → ℕ
+status_after stops.Finished = 0
+status_after (stops.Ended cause) = status_of (Ends cause) false
 
 -- whether a text stands saved
 abbrev pub is_saved : List (List ℕ) → Bool
@@ -315,21 +315,21 @@ is_saved [] = false
 is_saved (x ∷ xs) = true
 
 -- what a run puts out is written up to a beginning, and the cause ends it
-pub record BrokeOff (new : Standing) (p : Progress) (w : Contents) (cause : Cause) : Type 0 where
+pub record BrokeOff (new : SessionState) (p : Progress) (w : Contents) (cause : Cause) : Type 0 where
   pub over : new.over ≡ Some cause
   pub output : HasBegun w.out_old w.out_new (p.so_far).output
   pub messages : HasBegun w.messages_old w.messages_new (p.so_far).messages
 
 -- an open session that went on to this progress, or broke off on the way there
-abbrev pub GoesTo : Progress → Standing → Standing → Contents → Result Unit Stop → Type 0
-GoesTo p old new w (Ok done) = Filed old new p w × (new.over ≡ None)
+abbrev pub GoesTo : Progress → SessionState → SessionState → Contents → Result Unit Stop → Type 0
+GoesTo p old new w (Ok done) = Completed old new p w × (new.over ≡ None)
 GoesTo p old new w (Err stops.Finished) = ⊥
 GoesTo p old new w (Err (stops.Ended causes.Done)) = ⊥
 GoesTo p old new w (Err (stops.Ended (causes.Frozen fault))) = ⊥
 GoesTo p old new w (Err (stops.Ended causes.Read)) = BrokeOff new p w causes.Read
 GoesTo p old new w (Err (stops.Ended causes.Write)) = BrokeOff new p w causes.Write
 GoesTo p old new w (Err (stops.Ended causes.OutOfMemory)) = BrokeOff new p w causes.OutOfMemory
-GoesTo p old new w (Err (stops.Ended cause)) = Filed old new p w × (new.over ≡ Some cause)
+GoesTo p old new w (Err (stops.Ended cause)) = Completed old new p w × (new.over ≡ Some cause)
 
 -- no reader's fault ends the run
 abbrev pub AsksNoReader : Result Unit Stop → Type 0
@@ -337,15 +337,15 @@ AsksNoReader (Err (stops.Ended causes.Read)) = ⊥
 AsksNoReader result = Unit {0}
 
 -- the same of saved texts, for which no reader is asked
-abbrev pub WrapsGive : Progress → Standing → Standing → Contents → Result Unit Stop → Type 0
+abbrev pub WrapsGive : Progress → SessionState → SessionState → Contents → Result Unit Stop → Type 0
 WrapsGive p old new w result = GoesTo p old new w result × AsksNoReader result
 
 -- what the saved texts of a run come to as one input
-abbrev pub round_of : Standing → Progress
+abbrev pub round_of : SessionState → Progress
 round_of s = read_saved s.limits s.saved (progress_of s)
 
 -- a session that stopped is over, by the cause that is answered; else it goes on
-abbrev pub IsLeft : {A : Type 0} → Standing → Result A Stop → Type 0
+abbrev pub IsLeft : {A : Type 0} → SessionState → Result A Stop → Type 0
 IsLeft new (Ok done) = new.over ≡ None
 IsLeft new (Err stops.Finished) = ⊥
 IsLeft new (Err (stops.Ended causes.Done)) = ⊥

@@ -1,15 +1,15 @@
 -- SessionView: the code's session as a run between two calls.
 -- Not believed: it only says which fields are which.
 use Rattle.m4_engine.specs.declared.session.Session.TheInside.{Inside}
-use Rattle.m4_engine.specs.Session.{Standing}
+use Rattle.m4_engine.specs.Session.{SessionState}
 
-abbrev pub session_view : Inside → Standing
+abbrev pub session_view : Inside → SessionState
 session_view s = record {
   limits = (s.machine).limits;
   state = (s.machine).state;
   saved = (s.machine).saved;
   calls = (s.machine).calls;
-  missed = s.missed;
+  any_missing = s.any_missing;
   over = s.over;
   finished = s.finished;
 }

@@ -1,6 +1,6 @@
 -- WholeRun: what a whole run writes and answers, by the definition of a run.
 -- Believed. Manual: "Invoking m4", "Fast loading of frozen state".
--- Words: wrapped_by, WroteAll, FellShort, RunGives, HasFrozen, FrozenBegan, FrozenBy, NothingIsDone.
+-- Words: wrapped_by, WroteAll, WrotePrefix, RunGives, HasFrozen, FrozenBegan, FrozenBy, NothingIsDone.
 use Rattle.std.specs.Prelude.{◌≡◌, ℕ, Bool, false, List, Option, Some, None, Result, Ok, Err, ◌⊎◌}
 use Rattle.m4_state.specs.Device.{with_bytes, HasBegun}
 use Rattle.m4_frozen.specs.declared.fault.FrozenKind.{FrozenKind}
@@ -13,7 +13,7 @@ use Rattle.m4_engine.specs.declared.stop.Stop.TheVariants as stops
 use Rattle.m4_engine.specs.Expansion.{Limits, Ends}
 use Rattle.m4_engine.specs.File.{Source, Progress}
 use Rattle.m4_engine.specs.Wraps.{after_wraps}
-use Rattle.m4_engine.specs.Run.{RunResult, result_of, saved_behind}
+use Rattle.m4_engine.specs.Run.{RunResult, result_of, saved_after}
 use Rattle.m4_engine.specs.Writers.{Contents, Three, IsSpared}
 use Rattle.m4_engine.specs.Session.{is_saved}
 
@@ -24,27 +24,27 @@ wrapped_by cause saved = false
 
 -- the run ended as it is defined, and all that it puts out was written
 pub record WroteAll (r : RunResult) (e : Ending) (w : Contents) : Type 0 where
-  pub how : r.how ≡ Ends e.cause
+  pub reason : r.reason ≡ Ends e.cause
   pub status : e.status ≡ r.status
   pub wrapped : e.wrapped ≡ wrapped_by e.cause r.saved
   pub output : w.out_new ≡ with_bytes w.out_old r.output
   pub messages : w.messages_new ≡ with_bytes w.messages_old r.messages
 
 -- a device or memory failed: a beginning of what the run puts out was written
-pub record FellShort (r : RunResult) (e : Ending) (w : Contents) : Type 0 where
+pub record WrotePrefix (r : RunResult) (e : Ending) (w : Contents) : Type 0 where
   pub wrapped : e.wrapped ≡ false
   pub output : HasBegun w.out_old w.out_new r.output
   pub messages : HasBegun w.messages_old w.messages_new r.messages
 
 -- a frozen file that was refused: it has the fault that the run's definition names, unless memory ran out
 abbrev pub RefusedBy : FrozenKind → RunResult → Ending → Contents → Type 0
-RefusedBy kinds.OutOfMemory r e w = FellShort r e w
+RefusedBy kinds.OutOfMemory r e w = WrotePrefix r e w
 RefusedBy kind r e w = WroteAll r e w
 
 abbrev pub GivesBy : Cause → RunResult → Ending → Contents → Type 0
-GivesBy causes.Read r e w = FellShort r e w
-GivesBy causes.Write r e w = FellShort r e w
-GivesBy causes.OutOfMemory r e w = FellShort r e w
+GivesBy causes.Read r e w = WrotePrefix r e w
+GivesBy causes.Write r e w = WrotePrefix r e w
+GivesBy causes.OutOfMemory r e w = WrotePrefix r e w
 GivesBy (causes.Frozen fault) r e w = RefusedBy fault.kind r e w
 GivesBy cause r e w = WroteAll r e w
 
@@ -73,15 +73,15 @@ pub record RunGives (r : RunResult) (e : Ending) (w : Three (Option (List ℕ)))
   pub frozen : FrozenBy e.cause r w
 
 -- nothing was read of a run's sources, and nothing was written
-pub record NothingIsDone {S : Type 0} (before behind : S) (w : Three (Option (List ℕ))) : Type 0 where
-  pub sources : behind ≡ before
+pub record NothingIsDone {S : Type 0} (before after : S) (w : Three (Option (List ℕ))) : Type 0 where
+  pub sources : after ≡ before
   pub output : (w.two).out_new ≡ (w.two).out_old
   pub messages : (w.two).messages_new ≡ (w.two).messages_old
   pub frozen : IsSpared w
 
 -- the steps of the code: the result of a run behind its sources, and the ending by the last answer
-abbrev pub result_behind : Bool → Limits → List Source → Progress → RunResult
-result_behind freezes limits ss p = result_of freezes (saved_behind ss p) (after_wraps limits p)
+abbrev pub result_after : Bool → Limits → List Source → Progress → RunResult
+result_after freezes limits ss p = result_of freezes (saved_after ss p) (after_wraps limits p)
 
 abbrev pub ending_by : ℕ → Result Bool Stop → Ending
 ending_by status (Ok wrapped) = record { status = status; cause = causes.Done; wrapped = wrapped }

@@ -6,7 +6,7 @@ ghost use Rattle.m4_state.specs.Definition.{IsDefinition};
 ghost use Rattle.m4_builtins.specs.Args.{IsArg};
 ghost use Rattle.m4_input.specs.Ascii.{open_parenthesis, close_parenthesis};
 ghost use Rattle.m4_engine.specs.Args.{role_of, argument_of, dropped_if_any, with_argument};
-ghost use Rattle.m4_engine.specs.Engine.{IsCall, told_if};
+ghost use Rattle.m4_engine.specs.Engine.{IsCall, warning_if_dropped};
 ghost use Rattle.m4_engine.specs.Expand.{call_of};
 
 use crate::role::Role;
@@ -155,7 +155,7 @@ impl OpenCall {
 
     /// Whether definitions stand in the argument that it drops: one alone is the argument.
     fn drops(&self) -> bool
-        ensures { dropped_if_any self.now.place self.now.bytes self.now.tokens ≡ told_if result self.now.place }
+        ensures { dropped_if_any self.now.place self.now.bytes self.now.tokens ≡ warning_if_dropped result self.now.place }
     {
         match self.tokens.len() {
             0 => false,
@@ -189,7 +189,7 @@ impl OpenCall {
     pub fn end_argument(&mut self) -> Result<bool, AllocError>
         requires { self.old.parentheses ≡ 0 }
         ensures { IfOk result (λ drops. (self.new ≡ with_argument self.old)
-            × (dropped_if_any self.old.place self.old.bytes self.old.tokens ≡ told_if drops self.old.place)) }
+            × (dropped_if_any self.old.place self.old.bytes self.old.tokens ≡ warning_if_dropped drops self.old.place)) }
     {
         let drops = self.drops();
         let argument = self.argument();

@@ -4,10 +4,10 @@
 //! `specs/`, and what is proved of these alone in [`laws`]. Manual: "Macro invocation", "Macro arguments".
 #![tactic(auto)]
 
-mod ahead;
 mod call;
 pub mod ending;
 pub mod laws;
+mod lookahead;
 mod machine;
 pub mod options;
 mod role;

@@ -5,7 +5,7 @@
 ghost use Rattle.std.specs.Prelude.{◌≡◌, suc, [], OnOk, IfOk, IfSome, IfNone};
 ghost use Rattle.m4_state.specs.Definition.{IsDefinition};
 ghost use Rattle.m4_builtins.specs.Messages.{error};
-ghost use Rattle.m4_engine.specs.Engine.{with_text, with_token, telling, saving, beginning, engine_at};
+ghost use Rattle.m4_engine.specs.Engine.{with_text, with_token, with_engine_message, saving, with_open_call, engine_at};
 ghost use Rattle.m4_engine.specs.Session.{is_saved};
 ghost use Rattle.m4_engine.specs.Wraps.{joined_back};
 
@@ -132,24 +132,24 @@ impl Machine {
     }
 
     /// Adds a message.
-    pub fn tell(&mut self, message: &[u8]) -> Result<(), AllocError>
-        ensures { OnOk result (self.new ≡ telling message.now self.old) }
+    pub fn add_message(&mut self, message: &[u8]) -> Result<(), AllocError>
+        ensures { OnOk result (self.new ≡ with_engine_message message.now self.old) }
     {
         self.messages.extend_from_slice(message)
     }
 
     /// Adds the message of an error.
-    pub fn tell_error(&mut self, place: &Place, text: &[u8]) -> Result<(), TurnFault>
-        ensures { OnOk result (self.new ≡ telling (error place.now text.now) self.old) }
+    pub fn add_error(&mut self, place: &Place, text: &[u8]) -> Result<(), TurnFault>
+        ensures { OnOk result (self.new ≡ with_engine_message (error place.now text.now) self.old) }
     {
         let message = error_message(self.alloc, place, text)?;
-        self.tell(message.as_slice())?;
+        self.add_message(message.as_slice())?;
         Ok(())
     }
 
     /// A list begins: its call becomes the innermost.
     pub fn begin(&mut self, call: OpenCall) -> Result<(), AllocError>
-        ensures { OnOk result (self.new ≡ beginning call self.old) }
+        ensures { OnOk result (self.new ≡ with_open_call call self.old) }
     {
         if let Some(outer) = std::mem::replace(&mut self.innermost, Some(call)) {
             self.outer.push(outer)?;
@@ -159,7 +159,7 @@ impl Machine {
 
     /// The innermost list is closed: its call is taken out.
     pub fn close(&mut self) -> Option<OpenCall>
-        ensures some { IfSome result (λ c. self.old ≡ beginning c self.new) }
+        ensures some { IfSome result (λ c. self.old ≡ with_open_call c self.new) }
         ensures none { IfNone result ((self.old.open_calls ≡ []) × (self.new ≡ self.old)) }
     {
         let around = self.outer.pop();

@@ -12,9 +12,9 @@ ghost use Rattle.m4_engine.specs.Wraps.{after_wraps};
 ghost use Rattle.m4_engine.specs.Run.{run as defined, status_of};
 ghost use Rattle.m4_engine.specs.Expansion.{Ends};
 ghost use Rattle.m4_engine.specs.Writers.{both, three, ByCause, NoneOfThree, OneOfThree, Spares};
-ghost use Rattle.m4_engine.specs.Told.{StandFor, StandsFor, ReadersFailBy, TellsFrozen, FrozenFailsBy, any_unopened, is_unopened, are_taken, is_taken};
-ghost use Rattle.m4_engine.specs.Session.{IsOpen, IsLeft, GoesTo, BeginGives, BeginFails, IsBegun, CloseGives, ByAnswer, WriteFails, TellFails, SourceFails, SourcesFail, SparesBy, progress_of, status_at};
-ghost use Rattle.m4_engine.specs.WholeRun.{RunGives, NothingIsDone, result_behind, ending_by};
+ghost use Rattle.m4_engine.specs.RunSources.{DescribeSources, DescribesSource, ReadersFailBy, TellsFrozen, FrozenFailsBy, any_unopened, is_unopened, AllConsumeOnly, ConsumesOnly};
+ghost use Rattle.m4_engine.specs.Session.{IsOpen, IsLeft, GoesTo, BeginGives, BeginFails, IsBegun, CloseGives, ByAnswer, WriteFails, MessageWriteFails, SourceFails, SourcesFail, SparesBy, progress_of, status_at};
+ghost use Rattle.m4_engine.specs.WholeRun.{RunGives, NothingIsDone, result_after, ending_by};
 
 use crate::ending::{Cause, Ending};
 use crate::options::Options;
@@ -43,15 +43,15 @@ pub fn run<R: ByteSource, O: ByteSink, M: ByteSink, Z: ByteSink>(
 ) -> Ending
     // whole run: what is written and answered is what the definition of a run says
     ensures gives { (file : Option Script) → TellsFrozen R.script frozen.old file
-        → (ss : List Said) → StandFor R.script sources.old sources.new ss →
+        → (ss : List Said) → DescribeSources R.script sources.old sources.new ss →
         RunGives (defined options file ss) result
         (three Z.contents (both O.contents M.contents out.old out.new messages.old messages.new) freeze_to.old freeze_to.new) }
     // whole run: the status of its cause, which is 1 after a source that wasn't opened
-    ensures status { (missed : Bool) × (result.status ≡ status_of (Ends result.cause) missed)
-        × (result.cause ≡ Cause.Done → missed ≡ any_unopened sources.old) }
+    ensures status { (any_missing : Bool) × (result.status ≡ status_of (Ends result.cause) any_missing)
+        × (result.cause ≡ Cause.Done → any_missing ≡ any_unopened sources.old) }
     // whole run: a state that is frozen is sized
     ensures sized { (file : Option Script) → TellsFrozen R.script frozen.old file
-        → (ss : List Said) → StandFor R.script sources.old sources.new ss →
+        → (ss : List Said) → DescribeSources R.script sources.old sources.new ss →
         result.cause ≡ Cause.Done → options.freeze ≡ true → IsSized (frozen_state options (start_of options.prefix file) ss) }
     // safe and total: a read fault comes where a reader failed in this call, and only there
     ensures read { ReadersFailBy R.failures result.cause sources.old sources.new }
@@ -63,7 +63,7 @@ pub fn run<R: ByteSource, O: ByteSink, M: ByteSink, Z: ByteSink>(
         (OneOfThree (three Z.failures (both O.failures M.failures out.old out.new messages.old messages.new) freeze_to.old freeze_to.new)
         (three Z.contents (both O.contents M.contents out.old out.new messages.old messages.new) freeze_to.old freeze_to.new)) }
     // whole run: each reader gave a beginning of what it tells
-    ensures taken { are_taken R.script sources.old sources.new }
+    ensures taken { AllConsumeOnly R.script sources.old sources.new }
     // faults leave beginnings: where a frozen file is refused, nothing is read or written
     ensures refused { (fault : FrozenFault) → result.cause ≡ Cause.Frozen fault → NothingIsDone sources.old sources.new
         (three Z.contents (both O.contents M.contents out.old out.new messages.old messages.new) freeze_to.old freeze_to.new) }
@@ -98,7 +98,7 @@ fn begin<R: ByteSource, O: ByteSink>(
         → BeginGives (start_of options.prefix file) options (O.contents out.old) (O.contents out.new) result }
     ensures begun { IsBegun options result }
     ensures refused { (fault : FrozenFault) → result ≡ Err (Stop.Ended (Cause.Frozen fault)) → O.contents out.new ≡ O.contents out.old }
-    ensures write { TellFails result (O.failures out.old) (O.failures out.new) }
+    ensures write { MessageWriteFails result (O.failures out.old) (O.failures out.new) }
     ensures read { BeginFails R.failures result frozen.old frozen.new }
 {
     match frozen {
@@ -135,16 +135,16 @@ fn read_to_end<R: ByteSource, O: ByteSink, M: ByteSink, Z: ByteSink>(
 ) -> Result<bool, Stop>
     requires live { IsOpen session.old }
     requires unsaved { session.old.saved ≡ [] }
-    ensures gives { (ss : List Said) → StandFor R.script sources.old sources.new ss →
-        RunGives (result_behind freezes session.old.limits ss (after_sources session.old.limits ss (progress_of session.old)))
+    ensures gives { (ss : List Said) → DescribeSources R.script sources.old sources.new ss →
+        RunGives (result_after freezes session.old.limits ss (after_sources session.old.limits ss (progress_of session.old)))
         (ending_by (status_at session.new) result)
         (three Z.contents (both O.contents M.contents out.old out.new messages.old messages.new) freeze_to.old freeze_to.new) }
     ensures left { IsLeft session.new result }
-    ensures missed { OnOk result (session.new.missed ≡ (any_unopened sources.old || session.old.missed)) }
-    ensures sized { (ss : List Said) → StandFor R.script sources.old sources.new ss → OnOk result (freezes ≡ true
+    ensures any_missing { OnOk result (session.new.any_missing ≡ (any_unopened sources.old || session.old.any_missing)) }
+    ensures sized { (ss : List Said) → DescribeSources R.script sources.old sources.new ss → OnOk result (freezes ≡ true
         → IsSized ((after_wraps session.old.limits (after_sources session.old.limits ss (progress_of session.old))).so_far).state) }
     ensures read { SourcesFail R.failures result sources.old sources.new }
-    ensures taken { are_taken R.script sources.old sources.new }
+    ensures taken { AllConsumeOnly R.script sources.old sources.new }
     ensures write { ByAnswer result
         (NoneOfThree (three Z.failures (both O.failures M.failures out.old out.new messages.old messages.new) freeze_to.old freeze_to.new))
         (OneOfThree (three Z.failures (both O.failures M.failures out.old out.new messages.old messages.new) freeze_to.old freeze_to.new)
@@ -192,13 +192,13 @@ fn read<R: ByteSource, O: ByteSink, M: ByteSink>(
     requires { IsOpen session.old }
     ensures left { IsLeft session.new result }
     ensures unfinished { OnOk result (IsOpen session.new) }
-    ensures goes { (s : Said) → StandsFor R.script source.old source.new s →
+    ensures goes { (s : Said) → DescribesSource R.script source.old source.new s →
         GoesTo (after_source session.old.limits s (progress_of session.old)) session.old session.new
         (both O.contents M.contents out.old out.new messages.old messages.new)
         result }
-    ensures missed { OnOk result (session.new.missed ≡ (is_unopened source.old || session.old.missed)) }
+    ensures any_missing { OnOk result (session.new.any_missing ≡ (is_unopened source.old || session.old.any_missing)) }
     ensures read { SourceFails R.failures result source.old source.new }
-    ensures taken { is_taken R.script source.old source.new }
+    ensures taken { ConsumesOnly R.script source.old source.new }
     ensures write { WriteFails result (both O.failures M.failures out.old out.new messages.old messages.new) }
 {
     match source {
@@ -223,14 +223,14 @@ fn read_sources<R: ByteSource, O: ByteSink, M: ByteSink>(
 ) -> Result<(), Stop>
     requires { IsOpen session.old }
     ensures left { IsLeft session.new result }
-    ensures goes { (ss : List Said) → StandFor R.script sources.old sources.new ss →
+    ensures goes { (ss : List Said) → DescribeSources R.script sources.old sources.new ss →
         GoesTo (after_sources session.old.limits ss (progress_of session.old)) session.old session.new
         (both O.contents M.contents out.old out.new messages.old messages.new)
         result }
     ensures unfinished { OnOk result (IsOpen session.new) }
-    ensures missed { OnOk result (session.new.missed ≡ (any_unopened sources.old || session.old.missed)) }
+    ensures any_missing { OnOk result (session.new.any_missing ≡ (any_unopened sources.old || session.old.any_missing)) }
     ensures read { SourcesFail R.failures result sources.old sources.new }
-    ensures taken { are_taken R.script sources.old sources.new }
+    ensures taken { AllConsumeOnly R.script sources.old sources.new }
     ensures write { WriteFails result (both O.failures M.failures out.old out.new messages.old messages.new) }
 {
     'sources: for source in sources.iter_mut() {

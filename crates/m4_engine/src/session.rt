@@ -3,7 +3,7 @@
 
 ghost use Rattle.std.specs.Prelude.{◌≡◌, true, false, Some, [], IfOk, IfErr, OnOk};
 ghost use Rattle.m4_engine.specs.Writers.{both, three, NoneOfThree, OneOfThree};
-ghost use Rattle.m4_engine.specs.Session.{Standing, IsOpen, answer_by, over_behind, standing_from, fresh_standing, ReloadGives, FileGives, MissingGives, FinishGives, FreezeGives, ReadFails, ReloadFails, ByAnswer, WriteFails, TellFails, WrapsGive, behind_wraps, round_of, is_saved, status_at};
+ghost use Rattle.m4_engine.specs.Session.{SessionState, IsOpen, answer_by, over_after, standing_from, fresh_session, ReloadGives, FileGives, MissingGives, FinishGives, FreezeGives, ReadFails, ReloadFails, ByAnswer, WriteFails, MessageWriteFails, WrapsGive, session_after_wraps, round_of, is_saved, status_at};
 
 use crate::ending::Cause;
 use crate::machine::Machine;
@@ -17,24 +17,24 @@ use m4_input::input::Input;
 use m4_state::bytes::Bytes;
 use m4_state::device::{ByteSink, ByteSource, DeviceFault};
 use m4_state::state::State;
-use m4_state::transfer::{put_all, put_pieces};
+use m4_state::transfer::{write_all, write_pieces};
 use std::alloc::Global;
 use std::marker::Model;
 
 /// A run between two calls.
 pub struct Session {
     machine: Machine,
-    missed: bool,
+    any_missing: bool,
     over: Option<Cause>,
     finished: bool,
 }
 
 impl Model for Session {
     ghost use Rattle.m4_engine.specs.Expands.{IsIdle};
-    ghost use Rattle.m4_engine.specs.Session.{Standing};
+    ghost use Rattle.m4_engine.specs.Session.{SessionState};
     ghost use Rattle.m4_engine.specs.SessionView.{session_view};
 
-    ghost Value = { Standing };
+    ghost Value = { SessionState };
 
     ghost view = { session_view };
 
@@ -46,7 +46,7 @@ impl Drop for Session {
     fn drop(self) {
         let Session {
             machine: _machine,
-            missed: _missed,
+            any_missing: _missed,
             over: _over,
             finished: _finished,
         } = self;
@@ -58,7 +58,7 @@ impl Session {
     /// for. `Ended(OutOfMemory)` where memory runs out.
     pub fn fresh(alloc: Global, options: Options) -> Result<Session, Stop>
         // session steps: the fresh state, with nothing read
-        ensures fresh { IfOk result (λ s. s ≡ fresh_standing options) }
+        ensures fresh { IfOk result (λ s. s ≡ fresh_session options) }
         ensures refused { IfErr result (λ stop. stop ≡ Stop.Ended Cause.OutOfMemory) }
     {
         let Ok(state) = State::fresh(alloc, options.prefix) else {
@@ -82,14 +82,14 @@ impl Session {
         // safe and total: a read fault comes only where the reader failed in this call
         ensures read { ReloadFails result (R.failures frozen.old) (R.failures frozen.new) }
         // safe and total: a write fault comes only where the writer failed in this call
-        ensures write { TellFails result (O.failures out.old) (O.failures out.new) }
+        ensures write { MessageWriteFails result (O.failures out.old) (O.failures out.new) }
     {
         let loaded = match read_frozen(alloc, frozen) {
             Ok(loaded) => loaded,
             Err(fault) => return Err(Stop::Ended(Cause::Frozen(fault))),
         };
         let (state, issued) = loaded.into_parts();
-        if let Err(DeviceFault) = put_all(out, issued.as_slice()) {
+        if let Err(DeviceFault) = write_all(out, issued.as_slice()) {
             return Err(Stop::Ended(Cause::Write));
         }
         Ok(Session::starting(alloc, options, state))
@@ -101,7 +101,7 @@ impl Session {
     {
         Session {
             machine: Machine::new(alloc, state, options.calls, options.nesting),
-            missed: false,
+            any_missing: false,
             over: None,
             finished: false,
         }
@@ -148,7 +148,7 @@ impl Session {
         ensures read { ReadFails result (R.failures reader.old) (R.failures reader.new) }
         // safe and total: a write fault comes only where a writer failed in this call
         ensures write { WriteFails result (both O.failures M.failures out.old out.new messages.old messages.new) }
-        ensures missed { self.new.missed ≡ self.old.missed }
+        ensures any_missing { self.new.any_missing ≡ self.old.any_missing }
     {
         if !self.is_open() {
             return Err(Stop::Finished);
@@ -167,7 +167,7 @@ impl Session {
     /// The answer behind an input: only its end lets the run go on.
     fn settle(&mut self, cause: Cause) -> Result<(), Stop>
         ensures answer { result ≡ answer_by cause }
-        ensures over { self.new ≡ record self.old { over = over_behind cause self.old.over } }
+        ensures over { self.new ≡ record self.old { over = over_after cause self.old.over } }
     {
         if cause == Cause::Done {
             return Ok(());
@@ -181,7 +181,7 @@ impl Session {
         // session steps: the status so far
         ensures { result ≡ status_at self.now }
     {
-        self.over.unwrap_or(Cause::Done).status(self.missed)
+        self.over.unwrap_or(Cause::Done).status(self.any_missing)
     }
 
     /// Tells of a source that could not be opened; the status will not be 0. `Ended(Write)` behind a
@@ -190,16 +190,16 @@ impl Session {
         // session steps: the unopened source, with its message written
         ensures gives { MissingGives name.now self.old self.new (M.contents messages.old) (M.contents messages.new) result }
         // safe and total: a write fault comes only where a writer failed in this call
-        ensures write { TellFails result (M.failures messages.old) (M.failures messages.new) }
-        ensures missed { OnOk result (self.new.missed ≡ true) }
+        ensures write { MessageWriteFails result (M.failures messages.old) (M.failures messages.new) }
+        ensures any_missing { OnOk result (self.new.any_missing ≡ true) }
     {
         if !self.is_open() {
             return Err(Stop::Finished);
         }
-        if let Err(DeviceFault) = put_pieces(messages, &[b"m4: cannot open `", name, b"'\n"]) {
+        if let Err(DeviceFault) = write_pieces(messages, &[b"m4: cannot open `", name, b"'\n"]) {
             return Err(self.end(Cause::Write));
         }
-        self.missed = true;
+        self.any_missing = true;
         Ok(())
     }
 
@@ -214,7 +214,7 @@ impl Session {
             (both O.contents M.contents out.old out.new messages.old messages.new)
             result }
         ensures write { WriteFails result (both O.failures M.failures out.old out.new messages.old messages.new) }
-        ensures missed { self.new.missed ≡ self.old.missed }
+        ensures any_missing { self.new.any_missing ≡ self.old.any_missing }
     {
         let Ok(text) = self.machine.take_saved() else {
             return Err(self.end(Cause::OutOfMemory));
@@ -232,12 +232,12 @@ impl Session {
         messages: &mut M,
     ) -> Result<(), Stop>
         requires { IsOpen self.old }
-        ensures goes { WrapsGive (behind_wraps self.old) self.old self.new
+        ensures goes { WrapsGive (session_after_wraps self.old) self.old self.new
             (both O.contents M.contents out.old out.new messages.old messages.new)
             result }
         ensures none_saved { OnOk result (self.new.saved ≡ []) }
         ensures write { WriteFails result (both O.failures M.failures out.old out.new messages.old messages.new) }
-        ensures missed { self.new.missed ≡ self.old.missed }
+        ensures any_missing { self.new.any_missing ≡ self.old.any_missing }
     {
         'rounds: while self.machine.has_saved() {
             self.read_round(out, messages)?;

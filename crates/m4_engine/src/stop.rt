@@ -1,7 +1,7 @@
 //! Why a call of a session stops.
 
 ghost use Rattle.std.specs.Prelude.{◌≡◌};
-ghost use Rattle.m4_engine.specs.Session.{status_behind};
+ghost use Rattle.m4_engine.specs.Session.{status_after};
 
 use crate::ending::Cause;
 
@@ -17,7 +17,7 @@ pub enum Stop {
 impl Stop {
     /// The status of a run that did not begin.
     pub(crate) fn status(self) -> u8
-        ensures { result ≡ status_behind self }
+        ensures { result ≡ status_after self }
     {
         match self {
             Stop::Ended(cause) => cause.status(false),

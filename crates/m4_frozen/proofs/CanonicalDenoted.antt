@@ -31,8 +31,8 @@ use Rattle.m4_frozen.proofs.LastPlace.{AreBelow, AreBelowFirst, AreBelowFirst-ne
 -- ---- the delimiters
 
 -- the state behind some directives
-abbrev after : State → List Directive → State
-after t ds = fold with_directive t ds
+abbrev state_after : State → List Directive → State
+state_after t ds = fold with_directive t ds
 
 same_delimiters-is : (d default : Delimiters) → same_delimiters d default ≡ true → default ≡ d
 same_delimiters-is d default is =
@@ -56,11 +56,11 @@ abbrev quoted : State → Delimiters → State
 quoted t d = record t { quotes = d }
 
 quotes_denoted : (t : State) (d : Delimiters) → t.quotes ≡ default_quotes → IsPaired d
-    → after t (unless_default Quotes default_quotes d) ≡ quoted t d
+    → state_after t (unless_default Quotes default_quotes d) ≡ quoted t d
 quotes_denoted t d default paired = by (same_delimiters d default_quotes) refl
   where
     by : (b : Bool) → same_delimiters d default_quotes ≡ b
-        → after t (cond b [] (Quotes d.begin d.end ∷ [])) ≡ quoted t d
+        → state_after t (cond b [] (Quotes d.begin d.end ∷ [])) ≡ quoted t d
     by true is = ap (quoted t) (default ∙ same_delimiters-is d default_quotes is)
     by false is = ap (quoted t) (chosen-paired default_quotes d paired)
 
@@ -68,11 +68,11 @@ abbrev commented : State → Delimiters → State
 commented t d = record t { comments = d }
 
 comments_denoted : (t : State) (d : Delimiters) → t.comments ≡ default_comments → IsPaired d
-    → after t (unless_default Comments default_comments d) ≡ commented t d
+    → state_after t (unless_default Comments default_comments d) ≡ commented t d
 comments_denoted t d default paired = by (same_delimiters d default_comments) refl
   where
     by : (b : Bool) → same_delimiters d default_comments ≡ b
-        → after t (cond b [] (Comments d.begin d.end ∷ [])) ≡ commented t d
+        → state_after t (cond b [] (Comments d.begin d.end ∷ [])) ≡ commented t d
     by true is = ap (commented t) (default ∙ same_delimiters-is d default_comments is)
     by false is = ap (commented t) (chosen-paired default_comments d paired)
 
@@ -98,65 +98,65 @@ IsBehind done name = AreBelow byte_order nat_list_cmp_total done name
 -- the first definition of a name
 first_push : (done : Pairs) (name : List ℕ) (d : Def) → IsBehind done name
     → with_push done name d ≡ done ++ (name, d ∷ []) ∷ []
-first_push done name d behind =
+first_push done name d after =
     ap (λ (found : Option (List Def)). put byte_order name (unwrap_or found [] ++ d ∷ []) done)
-    (find-missing byte_order nat_list_cmp_total name done behind)
-    ∙ put-missing byte_order nat_list_cmp_total name (d ∷ []) done behind
+    (find-missing byte_order nat_list_cmp_total name done after)
+    ∙ put-missing byte_order nat_list_cmp_total name (d ∷ []) done after
 
 -- one more on top of those that the name has
 next_push : (done : Pairs) (name : List ℕ) (front : List Def) (d : Def) → IsBehind done name
     → with_push (done ++ (name, front) ∷ []) name d ≡ done ++ (name, front ++ d ∷ []) ∷ []
-next_push done name front d behind =
+next_push done name front d after =
     let table : Pairs = done ++ (name, front) ∷ [] in
     ap (λ (found : Option (List Def)). put byte_order name (unwrap_or found [] ++ d ∷ []) table)
-    (find-last byte_order nat_list_cmp_total name front done behind)
-    ∙ put-last byte_order nat_list_cmp_total name front (front ++ d ∷ []) done behind
+    (find-last byte_order nat_list_cmp_total name front done after)
+    ∙ put-last byte_order nat_list_cmp_total name front (front ++ d ∷ []) done after
 
 more_denoted : (t : State) (done : Pairs) (name : List ℕ) (front stack : List Def)
     → IsBehind done name → AllByRecursion IsDefinition stack
-    → after (with_names t (done ++ (name, front) ∷ [])) (map (definition name) stack)
+    → state_after (with_names t (done ++ (name, front) ∷ [])) (map (definition name) stack)
     ≡ with_names t (done ++ (name, front ++ stack) ∷ [])
-more_denoted t done name front [] behind valid =
+more_denoted t done name front [] after valid =
     ap (λ (stack : List Def). with_names t (done ++ (name, stack) ∷ [])) (sym (append-nil front))
-more_denoted t done name front (d ∷ stack) behind valid =
+more_denoted t done name front (d ∷ stack) after valid =
     let old : State = with_names t (done ++ (name, front) ∷ []) in
     let new : State = with_names t (done ++ (name, front ++ d ∷ []) ∷ []) in
     let here : with_directive old (definition name d) ≡ new =
     definition_denoted old name d valid.0
-    ∙ ap (with_names t) (next_push done name front d behind) in
-    ap (λ (u : State). after u (map (definition name) stack)) here
-    ∙ more_denoted t done name (front ++ d ∷ []) stack behind valid.1
+    ∙ ap (with_names t) (next_push done name front d after) in
+    ap (λ (u : State). state_after u (map (definition name) stack)) here
+    ∙ more_denoted t done name (front ++ d ∷ []) stack after valid.1
     ∙ ap (λ (all : List Def). with_names t (done ++ (name, all) ∷ []))
     (append_assoc front (d ∷ []) stack)
 
 stack_denoted : (t : State) (done : Pairs) (name : List ℕ) (stack : List Def)
     → stack ≢ [] → AllByRecursion IsDefinition stack → IsBehind done name
-    → after (with_names t done) (map (definition name) stack)
+    → state_after (with_names t done) (map (definition name) stack)
     ≡ with_names t (done ++ (name, stack) ∷ [])
-stack_denoted t done name [] some valid behind = absurd (some refl)
-stack_denoted t done name (d ∷ stack) some valid behind =
+stack_denoted t done name [] some valid after = absurd (some refl)
+stack_denoted t done name (d ∷ stack) some valid after =
     let old : State = with_names t done in
     let new : State = with_names t (done ++ (name, d ∷ []) ∷ []) in
     let here : with_directive old (definition name d) ≡ new =
     definition_denoted old name d valid.0
-    ∙ ap (with_names t) (first_push done name d behind) in
-    ap (λ (u : State). after u (map (definition name) stack)) here
-    ∙ more_denoted t done name (d ∷ []) stack behind valid.1
+    ∙ ap (with_names t) (first_push done name d after) in
+    ap (λ (u : State). state_after u (map (definition name) stack)) here
+    ∙ more_denoted t done name (d ∷ []) stack after valid.1
 
 abbrev directives_of_names : Pairs → List Directive
 directives_of_names es = flat_map (λ e. map (definition e.0) e.1) es
 
 names_denoted : (t : State) (done es : Pairs) → IsTrue (is_sorted byte_order es)
     → AllByRecursion IsStack es → AreBelowFirst byte_order nat_list_cmp_total done es
-    → after (with_names t done) (directives_of_names es) ≡ with_names t (done ++ es)
-names_denoted t done [] sorted stacks behind = ap (with_names t) (sym (append-nil done))
-names_denoted t done (e ∷ es) sorted stacks behind =
+    → state_after (with_names t done) (directives_of_names es) ≡ with_names t (done ++ es)
+names_denoted t done [] sorted stacks after = ap (with_names t) (sym (append-nil done))
+names_denoted t done (e ∷ es) sorted stacks after =
     let rest : List Directive = directives_of_names es in
     fold-append with_directive (with_names t done) (map (definition e.0) e.1) rest
-    ∙ ap (λ (u : State). after u rest)
-    (stack_denoted t done e.0 e.1 stacks.0.some stacks.0.definitions behind)
+    ∙ ap (λ (u : State). state_after u rest)
+    (stack_denoted t done e.0 e.1 stacks.0.some stacks.0.definitions after)
     ∙ names_denoted t (done ++ e ∷ []) es (both _ _ sorted).1 stacks.1
-    (AreBelowFirst-next byte_order nat_list_cmp_total done e es sorted behind)
+    (AreBelowFirst-next byte_order nat_list_cmp_total done e es sorted after)
     ∙ ap (with_names t) (append_assoc done (e ∷ []) es)
 
 -- ---- the diversions
@@ -168,32 +168,32 @@ with_texts t number diversions = record t { diversions = diversions; current = n
 -- the text of a number above all others is the last one
 text_added : (done : List NumberedText) (d : NumberedText) → IsDiversion d
     → AreBelow int_cmp int_cmp_total done d.0 → with_text done d.0 d.1 ≡ done ++ d ∷ []
-text_added done d valid behind =
+text_added done d valid after =
     with_text-some d.0 d.1 done valid.some
     ∙ ap (λ (found : Option (List ℕ)). put int_cmp d.0 (unwrap_or found [] ++ d.1) done)
-    (find-missing int_cmp int_cmp_total d.0 done behind)
-    ∙ put-missing int_cmp int_cmp_total d.0 d.1 done behind
+    (find-missing int_cmp int_cmp_total d.0 done after)
+    ∙ put-missing int_cmp int_cmp_total d.0 d.1 done after
 
 diversion_denoted : (t : State) (number : ℤ) (done : List NumberedText) (d : NumberedText)
     → IsDiversion d → AreBelow int_cmp int_cmp_total done d.0
     → with_directive (with_texts t number done) (diversion d) ≡ with_texts t d.0 (done ++ d ∷ [])
-diversion_denoted t number done d valid behind =
+diversion_denoted t number done d valid after =
     let text : List NumberedText = with_text done d.0 d.1 in
     ap (λ (holds : Bool). with_texts t d.0 (cond holds text done)) valid.positive
-    ∙ ap (with_texts t d.0) (text_added done d valid behind)
+    ∙ ap (with_texts t d.0) (text_added done d valid after)
 
 diversions_denoted : (t : State) (number : ℤ) (done ds : List NumberedText)
     → IsTrue (is_sorted int_cmp ds) → AllByRecursion IsDiversion ds
     → AreBelowFirst int_cmp int_cmp_total done ds
-    → after (with_texts t number done) (map diversion ds)
+    → state_after (with_texts t number done) (map diversion ds)
     ≡ with_texts t (last_number number ds) (done ++ ds)
-diversions_denoted t number done [] sorted valid behind =
+diversions_denoted t number done [] sorted valid after =
     ap (with_texts t number) (sym (append-nil done))
-diversions_denoted t number done (d ∷ ds) sorted valid behind =
-    ap (λ (u : State). after u (map diversion ds))
-    (diversion_denoted t number done d valid.0 behind)
+diversions_denoted t number done (d ∷ ds) sorted valid after =
+    ap (λ (u : State). state_after u (map diversion ds))
+    (diversion_denoted t number done d valid.0 after)
     ∙ diversions_denoted t d.0 (done ++ d ∷ []) ds (both _ _ sorted).1 valid.1
-    (AreBelowFirst-next int_cmp int_cmp_total done d ds sorted behind)
+    (AreBelowFirst-next int_cmp int_cmp_total done d ds sorted after)
     ∙ ap (with_texts t (last_number d.0 ds)) (append_assoc done (d ∷ []) ds)
 
 -- ---- the current number
@@ -217,11 +217,11 @@ empty_text_denoted s t is =
     by true = refl
     by false = refl
 
-current_denoted : (s : State) → after (current_at s (left_by_last s)) (current_unless_last s) ≡ s
+current_denoted : (s : State) → state_after (current_at s (left_by_last s)) (current_unless_last s) ≡ s
 current_denoted s = by (int_eq s.current (left_by_last s)) refl
   where
     by : (b : Bool) → int_eq s.current (left_by_last s) ≡ b
-        → after (current_at s (left_by_last s)) (cond b [] (Diversion s.current [] ∷ [])) ≡ s
+        → state_after (current_at s (left_by_last s)) (cond b [] (Diversion s.current [] ∷ [])) ≡ s
     by true is = ap (current_at s) (sym ((Decides-int_eq s.current (left_by_last s)).0 is))
     by false is = empty_text_denoted s (current_at s (left_by_last s)) refl
 
@@ -237,12 +237,12 @@ no_text_done [] = tt
 no_text_done (d ∷ ds) = tt
 
 -- directives behind others
-then_after : (t u v : State) (ds es : List Directive) → after t ds ≡ u → after u es ≡ v
-    → after t (ds ++ es) ≡ v
+then_after : (t u v : State) (ds es : List Directive) → state_after t ds ≡ u → state_after u es ≡ v
+    → state_after t (ds ++ es) ≡ v
 then_after t u v ds es first second =
-    fold-append with_directive t ds es ∙ ap (λ (w : State). after w es) first ∙ second
+    fold-append with_directive t ds es ∙ ap (λ (w : State). state_after w es) first ∙ second
 
-canonical_state : (s : State) → IsState s → after empty (canonical s) ≡ s
+canonical_state : (s : State) → IsState s → state_after empty (canonical s) ≡ s
 canonical_state s valid =
     let quotes : List Directive = unless_default Quotes default_quotes s.quotes in
     let comments : List Directive = unless_default Comments default_comments s.comments in

@@ -10,7 +10,7 @@ use Rattle.m4_frozen.specs.declared.fault.FrozenKind.{FrozenKind}
 use Rattle.m4_frozen.specs.declared.fault.FrozenKind.TheVariants as kinds
 use Rattle.m4_frozen.specs.Directive.{Directive, Quotes, Comments, Text, Builtin}
 use Rattle.m4_frozen.specs.Spells.{Spells, SpellsAll}
-use Rattle.m4_frozen.specs.ReaderSteps.{refused, directive_at, skip_lines, next_at, directives_at, behind_version, file_at, fault_of}
+use Rattle.m4_frozen.specs.ReaderSteps.{refused, directive_at, skip_lines, next_at, directives_at, after_version, file_at, fault_of}
 use Rattle.m4_frozen.specs.Layout.{Layout, layout_of, pair_layout, diversion_layout, version_layout, first_is}
 use Rattle.m4_frozen.specs.FaultAt.{RowFits, FitsWithin, IsFront, IsFault, is_none_of}
 use Rattle.m4_frozen.proofs.SkippedLines.{skip_lines-append, skip_lines-open}
@@ -153,10 +153,10 @@ directives_refused kind (d ∷ ds) front before here (suc n) w h lt =
     ) refl
 
 -- behind the version
-behind_refused : (kind : FrozenKind) (front before here : List ℕ) → IsFront true front
+after_refused : (kind : FrozenKind) (front before here : List ℕ) → IsFront true front
     → RowFits kind true before here → file_at (front ++ (before ++ here)) ≡ refused kind here
 unfolding file_at
-behind_refused kind front before here f h =
+after_refused kind front before here f h =
     let rest : List ℕ = f.2 ++ (before ++ here) in
     let parts : front ++ (before ++ here) ≡ f.0 ++ letter_V ∷ (f.1 ++ newline ∷ rest) =
     rw f.7 (simp append_assoc) in
@@ -171,7 +171,7 @@ behind_refused kind front before here f h =
 
 -- before it
 version_refused : (kind : FrozenKind) (before here : List ℕ) → FitsWithin kind false before here
-    → behind_version (skip_lines false (before ++ here)) ≡ refused kind here
+    → after_version (skip_lines false (before ++ here)) ≡ refused kind here
 version_refused kind before here h =
     rw (
       h.2,
@@ -182,7 +182,7 @@ version_refused kind before here h =
 
 -- a byte before `V` is refused
 none_refused : (here : List ℕ) → IsTrue (first_is (is_none_of (newline ∷ hash ∷ letter_V ∷ [])) here)
-    → behind_version (skip_lines false here) ≡ refused kinds.NoVersion here
+    → after_version (skip_lines false here) ≡ refused kinds.NoVersion here
 none_refused [] h = absurd cc
 none_refused (b ∷ bs) h =
     let h1 = none_of newline (hash ∷ letter_V ∷ []) b h in
@@ -192,7 +192,7 @@ none_refused (b ∷ bs) h =
 
 -- before the version a row of the table is answered
 pub row_refused_before : (kind : FrozenKind) (before here : List ℕ) → RowFits kind false before here
-    → behind_version (skip_lines false (before ++ here)) ≡ refused kind here
+    → after_version (skip_lines false (before ++ here)) ≡ refused kind here
 row_refused_before kinds.NoVersion before here (e, inl h) = rw h.0 (none_refused here h.1)
 row_refused_before kinds.NoVersion before here (e, inr h) =
     rw (h.1, append-nil before, skip_lines-open before h.0) refl
@@ -216,7 +216,7 @@ file_refused : (kind : FrozenKind) (versioned : Bool) (front before here : List 
     → IsFront versioned front → RowFits kind versioned before here
     → file_at (front ++ (before ++ here)) ≡ refused kind here
 unfolding file_at
-file_refused kind true front before here f h = behind_refused kind front before here f h
+file_refused kind true front before here f h = after_refused kind front before here f h
 file_refused kind false front before here f h =
     rw (skip_lines-append front (before ++ here) f, row_refused_before kind before here h)
     refl

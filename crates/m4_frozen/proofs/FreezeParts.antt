@@ -88,10 +88,10 @@ pub record IsNext (n m : ℤ) (ds : List NumberedText) : Type 0 where
 first : (n m : ℤ) (d : NumberedText) (ds : List NumberedText) → IsTrue (is_sorted int_cmp (d ∷ ds)) → int_lt n d.0 ≡ true → d.0 ≡ m → IsNext n m (d ∷ ds)
 first n m d ds sorted lt is = subst (λ (k : ℤ). IsNext n k (d ∷ ds)) is (record {
   above_is =
-      let behind : above n ds ≡ ds = above-below n d.0 ds lt (both _ _ sorted).0 in
+      let after : above n ds ≡ ds = above-below n d.0 ds lt (both _ _ sorted).0 in
       let own : int_lt d.0 d.0 ≡ false = int_lt-irrefl d.0 in
       let rest : above d.0 ds ≡ ds = above-first d.0 ds (both _ _ sorted).0 in
-      rw (lt, behind, own, rest) refl;
+      rw (lt, after, own, rest) refl;
   later = lt;
 })
 
@@ -155,17 +155,17 @@ not_tied_to_first k q h = ap is_eq (nat_list_cmp_total.antisymm q k) ∙ by (byt
 abbrev pub IsFoundIn : Pairs → Pair → Type 0
 IsFoundIn table e = stack_at table e.0 ≡ e.1
 
-found_behind : (first : Pair) (table es : Pairs) → IsTrue (below_all byte_order first.0 es) → AllByRecursion (IsFoundIn table) es → AllByRecursion (IsFoundIn (first ∷ table)) es
-found_behind first table [] below h = tt
-found_behind first table (e ∷ es) below h =
+found_after : (first : Pair) (table es : Pairs) → IsTrue (below_all byte_order first.0 es) → AllByRecursion (IsFoundIn table) es → AllByRecursion (IsFoundIn (first ∷ table)) es
+found_after first table [] below h = tt
+found_after first table (e ∷ es) below h =
     let other : eq_by_cmp byte_order e.0 first.0 ≡ false = not_tied_to_first first.0 e.0 (both _ _ below).0 in
-    (rw other h.0, found_behind first table es (both _ _ below).1 h.1)
+    (rw other h.0, found_after first table es (both _ _ below).1 h.1)
 
 pub all_found : (table : Pairs) → IsTrue (is_sorted byte_order table) → AllByRecursion (IsFoundIn table) table
 all_found [] h = tt
 all_found (e ∷ es) h =
     let tie : byte_order e.0 e.0 ≡ Equal = tied_itself nat_list_cmp_total e.0 in
-    (rw tie refl, found_behind e es es (both _ _ h).0 (all_found es (both _ _ h).1))
+    (rw tie refl, found_after e es es (both _ _ h).0 (all_found es (both _ _ h).1))
 
 -- the texts of a name's definitions
 stack_text-map : (name : List ℕ) (stack : List Def) → stack_text name stack ≡ flat_map spelling (map (definition name) stack)

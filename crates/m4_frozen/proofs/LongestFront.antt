@@ -10,7 +10,7 @@ use Rattle.m4_frozen.specs.declared.fault.FrozenKind.{FrozenKind}
 use Rattle.m4_frozen.specs.declared.fault.FrozenKind.TheVariants as kinds
 use Rattle.m4_frozen.specs.Directive.{Directive}
 use Rattle.m4_frozen.specs.Spells.{AreSkippedLines, SpellsAll}
-use Rattle.m4_frozen.specs.ReaderSteps.{skip_lines, next_at, behind_version}
+use Rattle.m4_frozen.specs.ReaderSteps.{skip_lines, next_at, after_version}
 use Rattle.m4_frozen.specs.Layout.{first_is}
 use Rattle.m4_frozen.specs.FaultAt.{RowFits, FitsWithin, IsFront, IsFault, FaultAt, IsLongest, is_none_of}
 use Rattle.m4_frozen.proofs.SkippedLines.{are_skipped, skipped_pass, skip_lines-append}
@@ -67,11 +67,11 @@ directives_max (d ∷ ds) [] front other tail rest x a b e f stops =
     let r = one_is_read d a.1 (a.2 ++ tail) a.4 in
     let parts : front ++ tail ≡ a.0 ++ (a.1 ++ (a.2 ++ tail)) =
     rw a.6 (append_assoc (a.0 ++ a.1) a.2 tail ∙ append_assoc a.0 a.1 (a.2 ++ tail)) in
-    let same : a.0 ++ r.letter ∷ r.behind ≡ other ++ rest =
+    let same : a.0 ++ r.letter ∷ r.after ≡ other ++ rest =
     ap (λ (bs : List ℕ). a.0 ++ bs) (sym r.begins) ∙ sym parts ∙ e in
     omega (
       arith,
-      lines_max a.0 other (r.letter ∷ r.behind) rest a.3 b same r.apart,
+      lines_max a.0 other (r.letter ∷ r.after) rest a.3 b same r.apart,
       ap length r.begins,
       length-append a.1 (a.2 ++ tail),
       length-append a.2 tail,
@@ -219,10 +219,10 @@ row_max_before kinds.OutOfMemory front other before here rest a b h e = absurd h
 -- a front with the version, whatever follows
 record Starts (front tail : List ℕ) (rest : List ℕ) : Type 0 where
   lines : List ℕ
-  behind : List ℕ
+  after : List ℕ
   are_lines : AreSkippedLines lines
-  parts : front ++ tail ≡ lines ++ letter_V ∷ (behind ++ (rest ++ tail))
-  gives : behind_version (skip_lines false (front ++ tail)) ≡ Ok (rest ++ tail)
+  parts : front ++ tail ≡ lines ++ letter_V ∷ (after ++ (rest ++ tail))
+  gives : after_version (skip_lines false (front ++ tail)) ≡ Ok (rest ++ tail)
 
 -- a front with the version begins so
 front_starts : (front tail : List ℕ) → (f : IsFront true front) → Starts front tail f.2
@@ -234,7 +234,7 @@ front_starts front tail f =
     ∙ skip_lines-append f.0 (letter_V ∷ (f.1 ++ newline ∷ (f.2 ++ tail))) f.4 in
     record {
       lines = f.0;
-      behind = f.1 ++ newline ∷ [];
+      after = f.1 ++ newline ∷ [];
       are_lines = f.4;
       parts =
           rw (parts, append_assoc f.1 (newline ∷ []) (f.2 ++ tail)) refl;
@@ -262,7 +262,7 @@ front_max kind true true front other before here rest f g h e =
     let a = front_starts front (before ++ here) f in
     let b = front_starts other rest g in
     let same : f.2 ++ (before ++ here) ≡ g.2 ++ rest =
-    same_given _ _ (sym a.gives ∙ ap (λ (bs : List ℕ). behind_version (skip_lines false bs)) e
+    same_given _ _ (sym a.gives ∙ ap (λ (bs : List ℕ). after_version (skip_lines false bs)) e
     ∙ b.gives) in
     directives_max f.3 g.3 f.2 g.2 (before ++ here) rest
     (record { kind = kind; bytes_left = length here }) f.6 g.6 same
@@ -271,15 +271,15 @@ front_max kind true false front other before here rest f g h e =
     let a = front_starts front (before ++ here) f in
     omega (
       arith,
-      lines_max a.lines other (letter_V ∷ (a.behind ++ (f.2 ++ (before ++ here)))) rest
+      lines_max a.lines other (letter_V ∷ (a.after ++ (f.2 ++ (before ++ here)))) rest
           a.are_lines g (sym a.parts ∙ e) refl,
-      length-append a.behind (f.2 ++ (before ++ here)),
+      length-append a.after (f.2 ++ (before ++ here)),
       length-append f.2 (before ++ here),
     )
 front_max kind false true front other before here rest f g h e =
     let b = front_starts other rest g in
     absurd (not_given (g.2 ++ rest) (record { kind = kind; bytes_left = length here })
-    (behind_version (skip_lines false (front ++ (before ++ here)))) (rw e b.gives)
+    (after_version (skip_lines false (front ++ (before ++ here)))) (rw e b.gives)
     (rw (skip_lines-append front (before ++ here) f)
     (row_refused_before kind before here h)))
 front_max kind false false front other before here rest f g h e =

@@ -17,7 +17,7 @@ use Rattle.m4_frozen.specs.Underway.{StandsAt, text_left, HasRead, HasReadNamed,
 use Rattle.m4_frozen.proofs.ReadBack.{pair_head_at-spelled, comma_on}
 use Rattle.m4_frozen.proofs.Parts.{Step, layout_at, LayoutSays, layout_says}
 use Rattle.m4_frozen.proofs.Spelled.{bind_assoc}
-use Rattle.m4_frozen.proofs.TextRead.{then_all, then_text, as_next, behind_next, within_opened, within_more, within_short, has_read_closed, text_ends}
+use Rattle.m4_frozen.proofs.TextRead.{then_all, then_text, as_next, after_next, within_opened, within_more, within_short, has_read_closed, text_ends}
 
 -- the first string of a pair and the length of the second, by their parts
 abbrev head_layout : Layout (List ℕ × ℕ)
@@ -71,14 +71,14 @@ as_directive p = Ok (Text p.0.0 p.0.1, p.1)
 
 -- what is read behind the newline of a text
 closed_of : (count : ℕ) (name text : List ℕ) (r : Result (List ℕ) Refusal)
-    → ((((r >>= with_rest name text) >>= as_directive) >>= as_next) >>= behind_next count)
+    → ((((r >>= with_rest name text) >>= as_directive) >>= as_next) >>= after_next count)
     ≡ (r >>= then_all count (Text name text))
 closed_of count name text (Ok rest) = refl
 closed_of count name text (Err e) = refl
 
 -- and behind the name
 opened_of : (count : ℕ) (name : List ℕ) (r : Step (List ℕ))
-    → ((((r >>= to_newline name) >>= as_directive) >>= as_next) >>= behind_next count)
+    → ((((r >>= to_newline name) >>= as_directive) >>= as_next) >>= after_next count)
     ≡ (r >>= then_text count (Text name) [])
 opened_of count name (Ok t) = closed_of count name t.0 (expect_byte newline t.1)
 opened_of count name (Err e) = refl
@@ -140,13 +140,13 @@ named_more read bytes l new t u le name items missing is h =
     )
 
 -- it was read whole, and is the name's definition
-pub named_text : (bytes c behind rest whole : List ℕ) (l new : Loading) (t : NamedText)
-    → bytes ≡ c ++ behind → t.missing ≡ length c → expect_byte newline behind ≡ Ok rest → l.begun ≡ None
+pub named_text : (bytes c after rest whole : List ℕ) (l new : Loading) (t : NamedText)
+    → bytes ≡ c ++ after → t.missing ≡ length c → expect_byte newline after ≡ Ok rest → l.begun ≡ None
     → whole ≡ t.text.items ++ c
     → new ≡ record l { state = pushed l.state t.name (defs.Text whole) }
     → HasReadText (λ read. HasReadNamed read l t) bytes new rest
-named_text bytes c behind rest whole l new t parts all e none items is =
-    text_ends (λ read. HasReadNamed read l t) bytes c behind rest new parts e
+named_text bytes c after rest whole l new t parts all e none items is =
+    text_ends (λ read. HasReadNamed read l t) bytes c after rest new parts e
     (ap (λ (x : Loading). x.begun) is ∙ none)
     (λ read h. has_read_closed read c l new h.directives (Text t.name) t.text.items t.missing h.within all
     (ap (λ (x : Loading). x.versioned) is) (ap (λ (x : Loading). x.inside) is)

@@ -34,7 +34,7 @@ part_at (String n) bytes = string_at n bytes
 -- all parts of a layout
 abbrev pub layout_at : {A : Type 0} → Layout A → List ℕ → Step A
 layout_at (Done x) bytes = Ok (x, bytes)
-layout_at (Then p behind) bytes = part_at p bytes >>= λ v. layout_at (behind v.0) v.1
+layout_at (Then p after) bytes = part_at p bytes >>= λ v. layout_at (after v.0) v.1
 
 -- what the answer at a part says: it stands, or a row of the table fits
 abbrev pub PartSays : (p : Part) → List ℕ → Step (Value p) → Type 0
@@ -279,9 +279,9 @@ module _ (blanks : List ℕ) (are : AreBlanks blanks) where
       f
 
   -- no digit behind a `-`
-  behind_minus : (bs : List ℕ) (e : Refusal) → DigitsSay bs (Err e)
+  after_minus : (bs : List ℕ) (e : Refusal) → DigitsSay bs (Err e)
       → number_part (minus_sign ∷ bs) (Err e)
-  behind_minus bs e (inl h) = (
+  after_minus bs e (inl h) = (
     blanks ++ minus_sign ∷ [],
     bs,
     subst (λ (k : FrozenKind). IsWrong k Number (blanks ++ minus_sign ∷ []) bs)
@@ -289,7 +289,7 @@ module _ (blanks : List ℕ) (are : AreBlanks blanks) where
     sym (append_assoc blanks (minus_sign ∷ []) bs),
     h.2,
   )
-  behind_minus bs e (inr h) = (
+  after_minus bs e (inr h) = (
     blanks ++ minus_sign ∷ [],
     [],
     subst (λ (k : FrozenKind). IsWrong k Number (blanks ++ minus_sign ∷ []) [])
@@ -315,7 +315,7 @@ module _ (blanks : List ℕ) (are : AreBlanks blanks) where
   sign_says : (rest : List ℕ) → IsTrue (no_blank rest) → number_part rest (signed_at rest)
   sign_says [] apart = (blanks, [], (inl are, refl), refl, refl)
   sign_says (b ∷ bs) apart = by_test (number_part (b ∷ bs)) (eqb b minus_sign) _ _
-      (λ e. rw (eq_of b minus_sign e) (magnitude_says true bs (behind_minus bs)))
+      (λ e. rw (eq_of b minus_sign e) (magnitude_says true bs (after_minus bs)))
       (λ e. magnitude_says false (b ∷ bs) (no_minus b bs apart e))
 
   -- a comma stands, or a row fits
@@ -377,9 +377,9 @@ part_says (String n) bytes = string_says n bytes
 -- The parts of a layout stand one behind the other.
 abbrev pub IsSpelled : {A : Type 0} → Layout A → A → List ℕ → List ℕ → Type 0
 IsSpelled (Done x) y bytes rest = (x ≡ y) × (bytes ≡ [])
-IsSpelled (Then p behind) y bytes rest =
+IsSpelled (Then p after) y bytes rest =
     (v : Value p) × (one : List ℕ) × (more : List ℕ) × IsPart p v one × IsEnded p (more ++ rest)
-    × (bytes ≡ one ++ more) × IsSpelled (behind v) y more rest
+    × (bytes ≡ one ++ more) × IsSpelled (after v) y more rest
 
 -- what the answer at a layout says: its parts stand, or a row of the table fits
 abbrev pub LayoutSays : {A : Type 0} → Layout A → List ℕ → Step A → Type 0
@@ -388,17 +388,17 @@ LayoutSays l bytes (Err e) = (before : List ℕ) × (here : List ℕ)
     × IsWrongWithin e.kind l before here × (bytes ≡ before ++ here) × (e.bytes_left ≡ length here)
 
 -- a part that stands goes before what is said of the others
-behind_part : {A : Type 0} (p : Part) (behind : Value p → Layout A) (bytes : List ℕ) (v : Value p)
-    (after : List ℕ) (r : Step A)
-    → PartSays p bytes (Ok (v, after)) → LayoutSays (behind v) after r
-    → LayoutSays (Then p behind) bytes r
-behind_part p behind bytes v after (Ok x) h k = (
+after_part : {A : Type 0} (p : Part) (after : Value p → Layout A) (bytes : List ℕ) (v : Value p)
+    (later : List ℕ) (r : Step A)
+    → PartSays p bytes (Ok (v, later)) → LayoutSays (after v) later r
+    → LayoutSays (Then p after) bytes r
+after_part p after bytes v later (Ok x) h k = (
   h.0 ++ k.0,
   (v, h.0, k.0, h.1, rw (← k.2) h.2, refl, k.1),
   rw (h.3, append_assoc h.0 k.0 x.1)
       (ap (λ (xs : List ℕ). h.0 ++ xs) k.2),
 )
-behind_part p behind bytes v after (Err e) h k = (
+after_part p after bytes v later (Err e) h k = (
   h.0 ++ k.0,
   k.1,
   inr (v, h.0, k.0, h.1, rw (← k.3) h.2, refl, k.2),
@@ -410,8 +410,8 @@ behind_part p behind bytes v after (Err e) h k = (
 pub layout_says : {A : Type 0} (l : Layout A) (bytes : List ℕ)
     → LayoutSays l bytes (layout_at l bytes)
 layout_says (Done x) bytes = ([], (refl, refl), refl)
-layout_says (Then p behind) bytes = by_bind (PartSays p bytes) (LayoutSays (Then p behind) bytes)
+layout_says (Then p after) bytes = by_bind (PartSays p bytes) (LayoutSays (Then p after) bytes)
     (part_at p bytes) _ (part_says p bytes)
-    (λ v h. behind_part p behind bytes v.0 v.1 (layout_at (behind v.0) v.1) h
-    (layout_says (behind v.0) v.1))
+    (λ v h. after_part p after bytes v.0 v.1 (layout_at (after v.0) v.1) h
+    (layout_says (after v.0) v.1))
     (λ e h. (h.0, h.1, inl h.2, h.3, h.4))

@@ -156,10 +156,10 @@ pair_at-spelled letter first second bytes rest p =
 -- bytes that spell a directive begin with its letter, and the directive is read behind it
 pub record IsRead (d : Directive) (bytes rest : List ℕ) : Type 0 where
   pub letter : ℕ
-  pub behind : List ℕ
-  pub begins : bytes ++ rest ≡ letter ∷ behind
-  pub apart : (skip_lines false (letter ∷ behind) ≡ letter ∷ behind)
-  pub gives : directive_at letter behind ≡ Ok (d, rest)
+  pub after : List ℕ
+  pub begins : bytes ++ rest ≡ letter ∷ after
+  pub apart : (skip_lines false (letter ∷ after) ≡ letter ∷ after)
+  pub gives : directive_at letter after ≡ Ok (d, rest)
 
 -- a directive with two strings is read
 pair_is_read : (letter : ℕ) (make : List ℕ → List ℕ → Directive) (first second bytes rest : List ℕ)
@@ -169,7 +169,7 @@ pair_is_read : (letter : ℕ) (make : List ℕ → List ℕ → Directive) (firs
     → IsRead (make first second) bytes rest
 pair_is_read letter make first second bytes rest p apart is = record {
   letter = letter;
-  behind = pair_text letter first second bytes p rest;
+  after = pair_text letter first second bytes p rest;
   begins = pair_bytes letter first second bytes rest p;
   apart = apart _;
   gives = is _ ∙ rw (pair_at-spelled letter first second bytes rest p) refl;
@@ -254,7 +254,7 @@ one_is_read (Builtin first second) bytes rest p =
     pair_is_read letter_F Builtin first second bytes rest p (λ bs. refl) (λ bs. refl)
 one_is_read (Diversion number text) bytes rest p = record {
   letter = letter_D;
-  behind = diversion_text number text bytes p rest;
+  after = diversion_text number text bytes p rest;
   begins = ap (λ (bs : List ℕ). bs ++ rest) p.spelled ∙ simp append_assoc;
   apart = refl;
   gives = rw (diversion_at-spelled number text bytes rest p) refl;
@@ -264,7 +264,7 @@ one_is_read (Diversion number text) bytes rest p = record {
 pub next_at-spelled : (d : Directive) (lines one rest : List ℕ) → AreSkippedLines lines
     → IsRead d one rest → next_at (skip_lines false (lines ++ one ++ rest)) ≡ Ok (Some (d, rest))
 next_at-spelled d lines one rest are r =
-    let e : skip_lines false (lines ++ one ++ rest) ≡ r.letter ∷ r.behind =
+    let e : skip_lines false (lines ++ one ++ rest) ≡ r.letter ∷ r.after =
     ap (skip_lines false) (append_assoc lines one rest)
     ∙ skip_lines-append lines (one ++ rest) are ∙ ap (skip_lines false) r.begins
     ∙ r.apart in

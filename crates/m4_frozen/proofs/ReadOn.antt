@@ -16,7 +16,7 @@ use Rattle.m4_frozen.specs.Denote.{with_directive, issued_by}
 use Rattle.m4_frozen.specs.Directive.{Directive}
 use Rattle.m4_frozen.specs.Outcome.{Loads}
 use Rattle.m4_frozen.specs.Spells.{IsSkippedLine, AreSkippedLines}
-use Rattle.m4_frozen.specs.ReaderSteps.{◌>>=◌, skip_lines, next_at, directive_at, directives_at, behind_version, file_at, is_settled}
+use Rattle.m4_frozen.specs.ReaderSteps.{◌>>=◌, skip_lines, next_at, directive_at, directives_at, after_version, file_at, is_settled}
 use Rattle.m4_frozen.proofs.ByteTests.{test}
 use Rattle.m4_frozen.specs.Underway.{StandsAt, Skips, with_front, left_at, HasRead, ReadAs, IsRead, HasReadOne, HasAdvanced, HasPaused, Keeps, ReadsOne, IsWithin, PausesAt, Advances, EndsSo, stays}
 use Rattle.m4_frozen.proofs.SkippedLines.{skip_lines-append}
@@ -101,16 +101,16 @@ at_letter inside (b ∷ bs) (inl e) = absurd cc
 at_letter inside (b ∷ bs) (inr e) = rw e.0 e.1
 
 -- the version at the front, whatever follows it
-record Versioned (bytes behind : List ℕ) : Type 0 where
+record Versioned (bytes after : List ℕ) : Type 0 where
   one : List ℕ
-  spelled : bytes ≡ one ++ behind
+  spelled : bytes ≡ one ++ after
   some : 0 < length one
-  gives : (more : List ℕ) → behind_version (skip_lines false (one ++ more)) ≡ Ok more
+  gives : (more : List ℕ) → after_version (skip_lines false (one ++ more)) ≡ Ok more
 
 -- what is said of an answer is said of what it is
-start_ok : (bytes behind : List ℕ) (r : Result (List ℕ) Refusal) → StartSays bytes r
-    → r ≡ Ok behind → StartSays bytes (Ok behind)
-start_ok bytes behind r h e = rw e at h
+start_ok : (bytes after : List ℕ) (r : Result (List ℕ) Refusal) → StartSays bytes r
+    → r ≡ Ok after → StartSays bytes (Ok after)
+start_ok bytes after r h e = rw e at h
 
 start_err : (bytes : List ℕ) (x : Refusal) (r : Result (List ℕ) Refusal) → StartSays bytes r
     → r ≡ Err x → StartSays bytes (Err x)
@@ -118,13 +118,13 @@ start_err bytes x r h e = rw e at h
 
 -- what stands at the front before the version
 start_here : (bytes : List ℕ) → skip_lines false bytes ≡ bytes
-    → StartSays bytes (behind_version bytes)
+    → StartSays bytes (after_version bytes)
 start_here bytes stops = rw stops at (start_says_of bytes (skip_lines false bytes) (has_lines bytes))
 
-version_stands : (bytes behind : List ℕ) → skip_lines false bytes ≡ bytes
-    → behind_version bytes ≡ Ok behind → Versioned bytes behind
-version_stands bytes behind stops e =
-    let h = start_ok bytes behind (behind_version bytes) (start_here bytes stops) e in record {
+version_stands : (bytes after : List ℕ) → skip_lines false bytes ≡ bytes
+    → after_version bytes ≡ Ok after → Versioned bytes after
+version_stands bytes after stops e =
+    let h = start_ok bytes after (after_version bytes) (start_here bytes stops) e in record {
       one = h.0 ++ letter_V ∷ h.1 ++ newline ∷ [];
       spelled = h.4 ∙ simp append_assoc;
       some = omega (arith, length-append (h.0 ++ letter_V ∷ h.1) (newline ∷ []));
@@ -139,13 +139,13 @@ version_stands bytes behind stops e =
     }
 
 -- the version was read
-pub has_read_version : (bytes behind : List ℕ) (l : Loading)
+pub has_read_version : (bytes after : List ℕ) (l : Loading)
     → StandsAt l.inside bytes
-    → l.versioned ≡ false → behind_version bytes ≡ Ok behind
-    → HasReadOne bytes l (record l { versioned = true }) behind
-has_read_version bytes behind l (inl none) v e = absurd (let k = rw none at e in cc)
-has_read_version bytes behind l (inr at) v e =
-    let s = version_stands bytes behind at.1 e in record {
+    → l.versioned ≡ false → after_version bytes ≡ Ok after
+    → HasReadOne bytes l (record l { versioned = true }) after
+has_read_version bytes after l (inl none) v e = absurd (let k = rw none at e in cc)
+has_read_version bytes after l (inr at) v e =
+    let s = version_stands bytes after at.1 e in record {
       one = s.one;
       spelled = s.spelled;
       some = s.some;
@@ -166,13 +166,13 @@ has_read_version bytes behind l (inr at) v e =
     }
 
 -- what an answer says of directives
-directive_ok : (b : ℕ) (bs : List ℕ) (r : Step Directive) (d : Directive) (behind : List ℕ)
-    → DirectiveSays b bs r → (r >>= λ v. Ok (Some v)) ≡ Ok (Some (d, behind))
-    → DirectiveSays b bs (Ok (d, behind))
-directive_ok b bs (Ok v) d behind h e =
-    let same : v ≡ (d, behind) = cc in
+directive_ok : (b : ℕ) (bs : List ℕ) (r : Step Directive) (d : Directive) (after : List ℕ)
+    → DirectiveSays b bs r → (r >>= λ v. Ok (Some v)) ≡ Ok (Some (d, after))
+    → DirectiveSays b bs (Ok (d, after))
+directive_ok b bs (Ok v) d after h e =
+    let same : v ≡ (d, after) = cc in
     subst (λ (w : Directive × List ℕ). DirectiveSays b bs (Ok w)) same h
-directive_ok b bs (Err x) d behind h e = absurd cc
+directive_ok b bs (Err x) d after h e = absurd cc
 
 directive_err : (b : ℕ) (bs : List ℕ) (r : Step Directive) (x : Refusal) → DirectiveSays b bs r
     → (r >>= λ v. Ok (Some v)) ≡ Err x → DirectiveSays b bs (Err x)
@@ -200,27 +200,27 @@ fold-push s [] d = refl
 fold-push s (x ∷ ds) d = fold-push (with_directive s x) ds d
 
 -- one more directive is read
-one_more : (n : ℕ) (front : List Directive) (d : Directive) (bytes after : List ℕ) → 0 < n
-    → next_at (skip_lines false bytes) ≡ Ok (Some (d, after))
+one_more : (n : ℕ) (front : List Directive) (d : Directive) (bytes later : List ℕ) → 0 < n
+    → next_at (skip_lines false bytes) ≡ Ok (Some (d, later))
     → with_front front (directives_at n bytes)
-    ≡ with_front (front ++ d ∷ []) (directives_at (n - 1) after)
+    ≡ with_front (front ++ d ∷ []) (directives_at (n - 1) later)
 unfolding directives_at
-one_more zero front d bytes after lt h = absurd (omega arith)
-one_more (suc n) front d bytes after lt h =
+one_more zero front d bytes later lt h = absurd (omega arith)
+one_more (suc n) front d bytes later lt h =
     let k : suc n - 1 ≡ n = omega arith in
-    rw (h, k) (regroup front d (directives_at n after))
+    rw (h, k) (regroup front d (directives_at n later))
 
 -- a directive was read
-pub has_read_directive : (bytes behind : List ℕ) (d : Directive) (l new : Loading)
+pub has_read_directive : (bytes after : List ℕ) (d : Directive) (l new : Loading)
     → StandsAt l.inside bytes
-    → l.versioned ≡ true → next_at bytes ≡ Ok (Some (d, behind))
+    → l.versioned ≡ true → next_at bytes ≡ Ok (Some (d, after))
     → new ≡ record l { state = with_directive l.state d; issued = new.issued }
     → new.issued.items ≡ l.issued.items ++ issued_by d
-    → HasReadOne bytes l new behind
-has_read_directive [] behind d l new at v e s i = absurd cc
-has_read_directive (b ∷ bs) behind d l new (inl none) v e s i = absurd cc
-has_read_directive (b ∷ bs) behind d l new (inr at) v e s i =
-    let k = directive_ok b bs (directive_at b bs) d behind (directive_here b bs at.1) e in record {
+    → HasReadOne bytes l new after
+has_read_directive [] after d l new at v e s i = absurd cc
+has_read_directive (b ∷ bs) after d l new (inl none) v e s i = absurd cc
+has_read_directive (b ∷ bs) after d l new (inr at) v e s i =
+    let k = directive_ok b bs (directive_at b bs) d after (directive_here b bs at.1) e in record {
       one = b ∷ k.0;
       spelled = ap (λ (xs : List ℕ). b ∷ xs) k.2;
       some = omega arith;
@@ -251,7 +251,7 @@ has_read_directive (b ∷ bs) behind d l new (inr at) v e s i =
 -- a refusal at the version is the file's
 pub version_refused : (read bytes : List ℕ) (x : Refusal) (l : Loading)
     → StandsAt l.inside bytes
-    → l.versioned ≡ false → behind_version bytes ≡ Err x → HasRead read l
+    → l.versioned ≡ false → after_version bytes ≡ Err x → HasRead read l
     → file_at (read ++ bytes) ≡ Err x
 version_refused read bytes x l at v e h =
     let g = h.goes_on bytes in
@@ -279,9 +279,9 @@ directive_refused read (b ∷ bs) x l (inr at) v e h =
 -- the place of a refusal is among the bytes
 pub version_left : (bytes : List ℕ) (x : Refusal) (inside : Bool)
     → StandsAt inside bytes
-    → behind_version bytes ≡ Err x → x.bytes_left ≤ length bytes
+    → after_version bytes ≡ Err x → x.bytes_left ≤ length bytes
 version_left bytes x inside at e =
-    let h = start_err bytes x (behind_version bytes) (start_here bytes (at_letter false bytes (elim at [ inl n ↦ inl n | inr a ↦ inr (refl, a.1) ]))) e in
+    let h = start_err bytes x (after_version bytes) (start_here bytes (at_letter false bytes (elim at [ inl n ↦ inl n | inr a ↦ inr (refl, a.1) ]))) e in
     omega (arith, h.6, ap length h.5, length-append (h.0 ++ h.1) h.2)
 
 pub directive_left : (bytes : List ℕ) (x : Refusal) (inside : Bool)
@@ -323,9 +323,9 @@ loads_at_end given l h v =
     }
 
 -- whether a refusal stays is seen in the last bytes
-pub stays_behind : (before here : List ℕ) (x : Refusal) → x.bytes_left ≤ length here
+pub stays_after : (before here : List ℕ) (x : Refusal) → x.bytes_left ≤ length here
     → stays (before ++ here) x ≡ stays here x
-stays_behind before here x le =
+stays_after before here x le =
     let k : length (before ++ here) - x.bytes_left ≡ length before + (length here - x.bytes_left) =
     omega (arith, length-append before here) in
     ap (is_settled x.kind) (ap (λ (n : ℕ). drop n (before ++ here)) k
@@ -333,11 +333,11 @@ stays_behind before here x le =
     ∙ ap (drop (length here - x.bytes_left)) (drop_at before here (length before) refl))
 
 -- lines and then one more were read
-pub advanced_more : (bytes rest here behind : List ℕ) (old l new : Loading) (inside : Bool)
+pub advanced_more : (bytes rest here after : List ℕ) (old l new : Loading) (inside : Bool)
     → HasAdvanced bytes old l rest → Skips l.inside rest inside here
-    → HasReadOne here (record l { inside = inside }) new behind
-    → HasAdvanced bytes old new behind
-advanced_more bytes rest here behind old l new inside a s o = record {
+    → HasReadOne here (record l { inside = inside }) new after
+    → HasAdvanced bytes old new after
+advanced_more bytes rest here after old l new inside a s o = record {
   front = a.front ++ s.skipped ++ o.one;
   spelled = rw (a.spelled, s.spelled, o.spelled) (simp append_assoc);
   no_text = o.no_text ∙ a.no_text;
@@ -387,7 +387,7 @@ paused_before_end bytes rest here old l final inside x pause read n a s le refus
     (has_read_lines (read ++ a.front) s.skipped l inside (a.has_read read h) s.same) in
     let so : EndsSo (read ++ bytes) final (Some x) = (
       ap file_at parts ∙ refused read_here got,
-      ap (λ (xs : List ℕ). stays xs x) parts ∙ stays_behind read_here here x le ∙ unsettled,
+      ap (λ (xs : List ℕ). stays xs x) parts ∙ stays_after read_here here x le ∙ unsettled,
     ) in
     elim keeps [
       | inl k ↦ record {
@@ -423,7 +423,7 @@ refused_for_good bytes rest here old l inside x read a s le refused settled h =
     rw (sym (append_assoc read a.front s.skipped))
     (has_read_lines (read ++ a.front) s.skipped l inside (a.has_read read h) s.same) in (
       ap file_at parts ∙ refused (read ++ (a.front ++ s.skipped)) got,
-      ap (λ (xs : List ℕ). stays xs x) parts ∙ stays_behind (read ++ (a.front ++ s.skipped)) here x le ∙ settled,
+      ap (λ (xs : List ℕ). stays xs x) parts ∙ stays_after (read ++ (a.front ++ s.skipped)) here x le ∙ settled,
     )
 
 -- a stop where one more was to be read, and what is answered for it

@@ -207,9 +207,9 @@ part_refused kind p before here h = absurd h
 pub layout_refused : {A : Type 0} (kind : FrozenKind) (l : Layout A) (before here : List ℕ)
     → IsWrongWithin kind l before here → layout_at l (before ++ here) ≡ refused kind here
 layout_refused kind (Done x) before here h = absurd h
-layout_refused kind (Then p behind) before here (inl h) =
+layout_refused kind (Then p after) before here (inl h) =
     rw (part_refused kind p before here h) refl
-layout_refused kind (Then p behind) before here (inr h) =
+layout_refused kind (Then p after) before here (inr h) =
     let parts : before ++ here ≡ h.1 ++ (h.2 ++ here) = rw h.5 (append_assoc h.1 h.2 here) in
     rw (parts, part_stands p h.0 h.1 (h.2 ++ here) h.3 h.4)
-    (layout_refused kind (behind h.0) h.2 here h.6)
+    (layout_refused kind (after h.0) h.2 here h.6)

@@ -166,9 +166,9 @@ wrong_more : {A : Type 0} (kind : FrozenKind) (l : Layout A) (before here more :
     → IsFirm kind here → IsWrongWithin kind l before here
     → IsWrongWithin kind l before (here ++ more)
 wrong_more kind (Done x) before here more firm h = h
-wrong_more kind (Then p behind) before here more firm (inl h) =
+wrong_more kind (Then p after) before here more firm (inl h) =
     inl (part_wrong_more kind p before here more firm h)
-wrong_more kind (Then p behind) before here more firm (inr h) =
+wrong_more kind (Then p after) before here more firm (inr h) =
     inr (
       h.0,
       h.1,
@@ -178,7 +178,7 @@ wrong_more kind (Then p behind) before here more firm (inr h) =
           (ended_more p (h.2 ++ here) more (some_more h.2 here firm.0) h.4),
       h.5,
       wrong_more kind
-          (behind h.0) h.2 here more firm h.6,
+          (after h.0) h.2 here more firm h.6,
     )
 
 -- so does a directive

@@ -9,7 +9,7 @@ use Rattle.m4_frozen.specs.declared.fault.FrozenKind.{FrozenKind}
 use Rattle.m4_frozen.specs.declared.fault.FrozenKind.TheVariants as kinds
 use Rattle.m4_frozen.specs.Directive.{Directive, Quotes, Comments, Text, Builtin, Diversion}
 use Rattle.m4_frozen.specs.Spells.{IsSkippedLine, IsNumber, IsPair, IsDiversion, SpellsOne, AreSkippedLines, SpellsAll, Spells}
-use Rattle.m4_frozen.specs.ReaderSteps.{◌>>=◌, with_pair, pair_at, diversion_at, directive_at, skip_lines, next_at, directives_at, version_at, expect_byte, behind_version, file_at}
+use Rattle.m4_frozen.specs.ReaderSteps.{◌>>=◌, with_pair, pair_at, diversion_at, directive_at, skip_lines, next_at, directives_at, version_at, expect_byte, after_version, file_at}
 use Rattle.m4_frozen.specs.Layout.{Part, Layout, Done, Then, IsWrong, pair_layout, diversion_layout, version_layout, layout_of, IsWrongWithin}
 use Rattle.m4_frozen.specs.FaultAt.{RowFits, IsFault}
 use Rattle.m4_frozen.specs.ReaderSteps.{fault_of}
@@ -144,8 +144,8 @@ DirectiveSays letter bytes (Err e) = (before : List ℕ) × (here : List ℕ)
 never : {A : Type 0} (kind : FrozenKind) (l : Layout A) (before here : List ℕ)
     → ((p : Part) (b x : List ℕ) → IsWrong kind p b x → ⊥) → IsWrongWithin kind l before here → ⊥
 never kind (Done x) before here f h = h
-never kind (Then p behind) before here f (inl h) = f p before here h
-never kind (Then p behind) before here f (inr h) = never kind (behind h.0) h.2 here f h.6
+never kind (Then p after) before here f (inl h) = f p before here h
+never kind (Then p after) before here f (inr h) = never kind (after h.0) h.2 here f h.6
 
 -- a fault within a layout is one behind the letter
 within : (kind : FrozenKind) (letter : ℕ) (l : Layout Directive) (before here : List ℕ)
@@ -247,10 +247,10 @@ abbrev pub LinesSay : Bool → List ℕ → List ℕ → Type 0
 LinesSay inside bytes rest = HasLines inside bytes rest ⊎ IsOpenRest inside bytes rest
 
 -- one more byte in front of lines
-with_byte : (inside after : Bool) (b : ℕ) (bytes rest : List ℕ)
-    → ((lines : List ℕ) → are_skipped false inside (b ∷ lines) ≡ are_skipped false after lines)
-    → HasLines after bytes rest → HasLines inside (b ∷ bytes) rest
-with_byte inside after b bytes rest e h =
+with_byte : (inside later : Bool) (b : ℕ) (bytes rest : List ℕ)
+    → ((lines : List ℕ) → are_skipped false inside (b ∷ lines) ≡ are_skipped false later lines)
+    → HasLines later bytes rest → HasLines inside (b ∷ bytes) rest
+with_byte inside later b bytes rest e h =
     (b ∷ h.0, h.1, rw (e h.0) h.2, h.3, ap (λ (xs : List ℕ). b ∷ xs) h.4, h.5, h.6)
 
 -- a directive's letter begins no line
@@ -322,9 +322,9 @@ after_one bytes lines one rest d (Err x) are h e k = (
 )
 
 -- what is read behind a directive, if one came
-abbrev behind : ℕ → Option (Directive × List ℕ) → Result (List Directive) Refusal
-behind n None = Ok []
-behind n (Some d) = directives_at n d.1 >>= λ ds. Ok (d.0 ∷ ds)
+abbrev after : ℕ → Option (Directive × List ℕ) → Result (List Directive) Refusal
+after n None = Ok []
+after n (Some d) = directives_at n d.1 >>= λ ds. Ok (d.0 ∷ ds)
 
 -- fewer bytes stand behind a directive
 shorter : (lines one rest bytes : List ℕ) (b : ℕ) → bytes ≡ lines ++ (b ∷ one) ++ rest
@@ -345,8 +345,8 @@ and_nots false true e = absurd cc
 
 -- the same behind the lines
 directives_say_of : (n : ℕ) (bytes rest : List ℕ)
-    → ((after : List ℕ) → length after < length bytes → DirectivesSay after (directives_at n after))
-    → HasLines false bytes rest → DirectivesSay bytes (next_at rest >>= behind n)
+    → ((later : List ℕ) → length later < length bytes → DirectivesSay later (directives_at n later))
+    → HasLines false bytes rest → DirectivesSay bytes (next_at rest >>= after n)
 directives_say_of n bytes [] ih h =
     (h.0, h.1, passed_skipped h.0 h.2, h.3, h.4 ∙ append-nil (h.0 ++ h.1))
 directives_say_of n bytes (b ∷ bs) ih h =
@@ -354,7 +354,7 @@ directives_say_of n bytes (b ∷ bs) ih h =
     let e : bytes ≡ h.0 ++ b ∷ bs = h.4 ∙ rw (none, append-nil h.0) refl in
     let apart = and_nots (eqb b newline) (eqb b hash) h.6 in
     by_bind (DirectiveSays b bs)
-    (λ (r : Result (Option (Directive × List ℕ)) Refusal). DirectivesSay bytes (r >>= behind n))
+    (λ (r : Result (Option (Directive × List ℕ)) Refusal). DirectivesSay bytes (r >>= after n))
     (directive_at b bs) _ (directive_says b bs apart.0 apart.1)
     (λ d k.
     let parts : bytes ≡ h.0 ++ (b ∷ k.0) ++ d.1 = e ∙ rw k.2 (simp append_assoc) in
@@ -369,7 +369,7 @@ pub directives_say : (n : ℕ) (bytes : List ℕ) → length bytes < n
 unfolding directives_at
 directives_say zero bytes lt = absurd (omega arith)
 directives_say (suc n) bytes lt = directives_say_of n bytes (skip_lines false bytes)
-    (λ after less. directives_say n after (omega arith)) (has_lines bytes)
+    (λ later less. directives_say n later (omega arith)) (has_lines bytes)
 
 -- the version at the front, or the fault there
 abbrev pub VersionSays : List ℕ → Result (List ℕ) Refusal → Type 0
@@ -418,7 +418,7 @@ StartSays bytes (Err e) = (front : List ℕ) × (before : List ℕ) × (here : L
 
 -- lines and the version stand, or a row fits
 pub start_says_of : (bytes rest : List ℕ) → HasLines false bytes rest
-    → StartSays bytes (behind_version rest)
+    → StartSays bytes (after_version rest)
 start_says_of bytes [] h = (h.0, h.1, [], passed_skipped h.0 h.2, (refl, inr (h.3, refl)), h.4, refl)
 start_says_of bytes (b ∷ bs) h =
     let none : h.1 ≡ [] = no_both_open h.1 b bs h.5 in
@@ -463,7 +463,7 @@ place_of_left front before here bytes left e f = rw (e, f) (simp length-append (
 pub file_says : (bytes : List ℕ) → FileSays bytes (file_at bytes)
 unfolding file_at
 file_says bytes = by_bind (StartSays bytes) (FileSays bytes)
-    (behind_version (skip_lines false bytes)) _
+    (after_version (skip_lines false bytes)) _
     (start_says_of bytes (skip_lines false bytes) (has_lines bytes))
     (λ rest h. by_result (DirectivesSay rest) (FileSays bytes)
     (directives_at (length rest + 1) rest) (directives_say (length rest + 1) rest (omega arith))

@@ -29,7 +29,7 @@ use Rattle.m4_frozen.proofs.ByteTests.{test, lt_of, ge_of, eq_of}
 use Rattle.m4_frozen.proofs.ReadBack.{head_at-spelled, comma_on}
 use Rattle.m4_frozen.proofs.Parts.{Step, layout_at, LayoutSays, layout_says}
 use Rattle.m4_frozen.proofs.Spelled.{bind_assoc}
-use Rattle.m4_frozen.proofs.ReadOn.{regroup, directives_at-skip, fold-push, stays_behind}
+use Rattle.m4_frozen.proofs.ReadOn.{regroup, directives_at-skip, fold-push, stays_after}
 
 -- the last text of a number counts
 put-put : (n : ℤ) (v w : List ℕ) (ds : List NumberedText)
@@ -75,25 +75,25 @@ issued_by-twice (pos (suc n)) a b = refl
 issued_by-twice (negsuc n) a b = refl
 
 -- the front of a string, and the rest of it
-take-behind : (n m : ℕ) (c more : List ℕ) → n ≡ length c + m → take n (c ++ more) ≡ c ++ take m more
-take-behind n m [] more e = let k : n ≡ m = omega arith in rw k refl
-take-behind zero m (b ∷ c) more e = absurd (omega arith)
-take-behind (suc n) m (b ∷ c) more e =
-    ap (λ (xs : List ℕ). b ∷ xs) (take-behind n m c more (omega arith))
+take-after : (n m : ℕ) (c more : List ℕ) → n ≡ length c + m → take n (c ++ more) ≡ c ++ take m more
+take-after n m [] more e = let k : n ≡ m = omega arith in rw k refl
+take-after zero m (b ∷ c) more e = absurd (omega arith)
+take-after (suc n) m (b ∷ c) more e =
+    ap (λ (xs : List ℕ). b ∷ xs) (take-after n m c more (omega arith))
 
-drop-behind : (n m : ℕ) (c more : List ℕ) → n ≡ length c + m → drop n (c ++ more) ≡ drop m more
-drop-behind n m [] more e = let k : n ≡ m = omega arith in rw k refl
-drop-behind zero m (b ∷ c) more e = absurd (omega arith)
-drop-behind (suc n) m (b ∷ c) more e = drop-behind n m c more (omega arith)
+drop-after : (n m : ℕ) (c more : List ℕ) → n ≡ length c + m → drop n (c ++ more) ≡ drop m more
+drop-after n m [] more e = let k : n ≡ m = omega arith in rw k refl
+drop-after zero m (b ∷ c) more e = absurd (omega arith)
+drop-after (suc n) m (b ∷ c) more e = drop-after n m c more (omega arith)
 
-string_at-behind : (n m : ℕ) (c more : List ℕ) → n ≡ length c + m
+string_at-after : (n m : ℕ) (c more : List ℕ) → n ≡ length c + m
     → string_at n (c ++ more) ≡ (string_at m more >>= λ t. Ok (c ++ t.0, t.1))
 unfolding string_at
-string_at-behind n m c more e = elim (test (ltb (length more) m)) [
+string_at-after n m c more e = elim (test (ltb (length more) m)) [
   | inl h ↦ (let k : ltb (length (c ++ more)) n ≡ true = lt-ltb _ _ (omega (arith, lt_of _ _ h, length-append c more)) in
       rw (h, k) refl)
   | inr h ↦ (let k : ltb (length (c ++ more)) n ≡ false = le-ltb _ _ (omega (arith, ge_of _ _ h, length-append c more)) in
-      rw (h, k, take-behind n m c more e, drop-behind n m c more e) refl)
+      rw (h, k, take-after n m c more e, drop-after n m c more e) refl)
 ]
 
 -- bytes in front of a string
@@ -118,7 +118,7 @@ text_left-more : (count : ℕ) (make : List ℕ → Directive) (came c : List �
     → n ≡ length c + m → text_left count make came n (c ++ more) ≡ text_left count make (came ++ c) m more
 unfolding text_left
 text_left-more count make came c n m more e =
-    rw (string_at-behind n m c more e) (text_of count make came c (string_at m more))
+    rw (string_at-after n m c more e) (text_of count make came c (string_at m more))
 
 -- nothing is left of it
 string_at-none : (bytes : List ℕ) → string_at 0 bytes ≡ Ok ([], bytes)
@@ -199,19 +199,19 @@ as_directive p = Ok (Diversion p.0.0 p.0.1, p.1)
 abbrev pub as_next : Directive × List ℕ → Result (Option (Directive × List ℕ)) Refusal
 as_next d = Ok (Some d)
 
-abbrev pub behind_next : ℕ → Option (Directive × List ℕ) → Result (List Directive) Refusal
-behind_next count o = elim o [ None ↦ Ok [] | Some d ↦ then_all count d.0 d.1 ]
+abbrev pub after_next : ℕ → Option (Directive × List ℕ) → Result (List Directive) Refusal
+after_next count o = elim o [ None ↦ Ok [] | Some d ↦ then_all count d.0 d.1 ]
 
 -- what is read behind the newline of a text
 closed_of : (count : ℕ) (z : ℤ) (text : List ℕ) (r : Result (List ℕ) Refusal)
-    → ((((r >>= with_rest z text) >>= as_directive) >>= as_next) >>= behind_next count)
+    → ((((r >>= with_rest z text) >>= as_directive) >>= as_next) >>= after_next count)
     ≡ (r >>= then_all count (Diversion z text))
 closed_of count z text (Ok rest) = refl
 closed_of count z text (Err e) = refl
 
 -- and behind its line
 opened_of : (count : ℕ) (z : ℤ) (r : Step (List ℕ))
-    → ((((r >>= to_newline z) >>= as_directive) >>= as_next) >>= behind_next count)
+    → ((((r >>= to_newline z) >>= as_directive) >>= as_next) >>= after_next count)
     ≡ (r >>= then_text count (Diversion z) [])
 opened_of count z (Ok t) = closed_of count z t.0 (expect_byte newline t.1)
 opened_of count z (Err e) = refl
@@ -349,15 +349,15 @@ has_read_more read bytes l new m le is i h =
     )
 
 -- all of the bytes were
-pub all_bytes : (P : List ℕ → Type 0) (bytes c behind : List ℕ) → bytes ≡ c ++ behind → behind ≡ [] → P c → P bytes
-all_bytes P bytes c behind parts none h = subst P (sym (parts ∙ rw (none, append-nil c) refl)) h
+pub all_bytes : (P : List ℕ → Type 0) (bytes c after : List ℕ) → bytes ≡ c ++ after → after ≡ [] → P c → P bytes
+all_bytes P bytes c after parts none h = subst P (sym (parts ∙ rw (none, append-nil c) refl)) h
 
 -- what stands behind a whole text
-text_left-whole : (count : ℕ) (make : List ℕ → Directive) (came c behind : List ℕ) (n : ℕ) → n ≡ length c
-    → text_left count make came n (c ++ behind)
-    ≡ (expect_byte newline behind >>= λ r. (directives_at count r >>= λ ds. Ok (make (came ++ c) ∷ ds)))
-text_left-whole count make came c behind n e =
-    text_left-more count make came c n 0 behind (omega (arith, e)) ∙ text_left-none count make (came ++ c) behind
+text_left-whole : (count : ℕ) (make : List ℕ → Directive) (came c after : List ℕ) (n : ℕ) → n ≡ length c
+    → text_left count make came n (c ++ after)
+    ≡ (expect_byte newline after >>= λ r. (directives_at count r >>= λ ds. Ok (make (came ++ c) ∷ ds)))
+text_left-whole count make came c after n e =
+    text_left-more count make came c n 0 after (omega (arith, e)) ∙ text_left-none count make (came ++ c) after
 
 -- a text was read whole
 pub has_read_closed : (read c : List ℕ) (l new : Loading) (ds : List Directive) (make : List ℕ → Directive) (came : List ℕ) (m : ℕ)
@@ -398,7 +398,7 @@ diverted_closed read c l new m all is i h =
     (issued_more read c new.issued.items l m h i)
 
 -- the byte that has to stand there does
-newline_stands : (behind rest : List ℕ) → expect_byte newline behind ≡ Ok rest → behind ≡ newline ∷ rest
+newline_stands : (after rest : List ℕ) → expect_byte newline after ≡ Ok rest → after ≡ newline ∷ rest
 newline_stands [] rest e = absurd cc
 newline_stands (b ∷ bs) rest e = elim (test (eqb b newline)) [
   | inl k ↦ (let q : bs ≡ rest = (let p = rw k at e in cc) in rw (eq_of b newline k, q) refl)
@@ -406,25 +406,25 @@ newline_stands (b ∷ bs) rest e = elim (test (eqb b newline)) [
 ]
 
 -- so a text ends there
-pub text_ends : (Before : List ℕ → Type 0) (bytes c behind rest : List ℕ) (new : Loading)
-    → bytes ≡ c ++ behind → expect_byte newline behind ≡ Ok rest → new.begun ≡ None
+pub text_ends : (Before : List ℕ → Type 0) (bytes c after rest : List ℕ) (new : Loading)
+    → bytes ≡ c ++ after → expect_byte newline after ≡ Ok rest → new.begun ≡ None
     → ((read : List ℕ) → Before read → HasRead (read ++ (c ++ newline ∷ [])) new)
     → HasReadText Before bytes new rest
-text_ends Before bytes c behind rest new parts e none closed = record {
+text_ends Before bytes c after rest new parts e none closed = record {
   one = c ++ newline ∷ [];
-  spelled = parts ∙ ap (λ (xs : List ℕ). c ++ xs) (newline_stands behind rest e)
+  spelled = parts ∙ ap (λ (xs : List ℕ). c ++ xs) (newline_stands after rest e)
       ∙ sym (append_assoc c (newline ∷ []) rest);
   no_text = none;
   has_read = closed;
 }
 
-pub has_read_text : (bytes c behind rest : List ℕ) (l new : Loading) (m : ℕ)
-    → bytes ≡ c ++ behind → m ≡ length c → expect_byte newline behind ≡ Ok rest → l.begun ≡ None
+pub has_read_text : (bytes c after rest : List ℕ) (l new : Loading) (m : ℕ)
+    → bytes ≡ c ++ after → m ≡ length c → expect_byte newline after ≡ Ok rest → l.begun ≡ None
     → new ≡ record l { state = appended l.state c; issued = new.issued }
     → new.issued.items ≡ l.issued.items ++ issued_by (Diversion l.state.current c)
     → HasReadText (λ read. HasReadIn read l m) bytes new rest
-has_read_text bytes c behind rest l new m parts all e none is i =
-    text_ends (λ read. HasReadIn read l m) bytes c behind rest new parts e
+has_read_text bytes c after rest l new m parts all e none is i =
+    text_ends (λ read. HasReadIn read l m) bytes c after rest new parts e
     (ap (λ (x : Loading). x.begun) is ∙ none)
     (λ read h. diverted_closed read c l new m all is i h)
 
@@ -436,9 +436,9 @@ settled_here b bs e h = elim (test (eqb b newline)) [
   | inr k ↦ (let p = rw k at h in cc)
 ]
 
-pub text_refused : (read bytes c behind : List ℕ) (l : Loading) (ds : List Directive) (make : List ℕ → Directive) (came : List ℕ)
-    (m : ℕ) (e : Refusal) → bytes ≡ c ++ behind → m ≡ length c → behind ≢ []
-    → expect_byte newline behind ≡ Err e → IsWithinText read l ds make came m
+pub text_refused : (read bytes c after : List ℕ) (l : Loading) (ds : List Directive) (make : List ℕ → Directive) (came : List ℕ)
+    (m : ℕ) (e : Refusal) → bytes ≡ c ++ after → m ≡ length c → after ≢ []
+    → expect_byte newline after ≡ Err e → IsWithinText read l ds make came m
     → (file_at (read ++ bytes) ≡ Err e) × (stays (read ++ bytes) e ≡ true)
 text_refused read bytes c [] l ds make came m e parts all some h w = absurd (some refl)
 text_refused read bytes c (b ∷ bs) l ds make came m e parts all some h w =
@@ -451,19 +451,19 @@ text_refused read bytes c (b ∷ bs) l ds make came m e parts all some h w =
     ap (λ (xs : List ℕ). read ++ xs) parts ∙ sym (append_assoc read c (b ∷ bs)) in (
       g.answer ∙ ap (with_front ds) so,
       ap (λ (xs : List ℕ). stays xs e) whole
-          ∙ stays_behind (read ++ c) (b ∷ bs) e (rw is (omega arith))
+          ∙ stays_after (read ++ c) (b ∷ bs) e (rw is (omega arith))
           ∙ rw is (let k : length (b ∷ bs) - length (b ∷ bs) ≡ 0 = omega arith in rw k refl),
     )
 
 -- what is read behind a text is read behind what was read before it
-pub text_then_whole : (Before : List ℕ → Type 0) (bytes behind : List ℕ) (mid new : Loading)
+pub text_then_whole : (Before : List ℕ → Type 0) (bytes after : List ℕ) (mid new : Loading)
     (r : Result Pause ReadStop)
-    → HasReadText Before bytes mid behind → Advances behind mid new r
+    → HasReadText Before bytes mid after → Advances after mid new r
     → ReadsOn Before bytes new r
-text_then_whole Before bytes behind mid new (Ok pause) x a = λ read h.
+text_then_whole Before bytes after mid new (Ok pause) x a = λ read h.
     let p = a (read ++ x.one) (x.has_read read h) in
-    let same : read ++ bytes ≡ (read ++ x.one) ++ behind =
-    ap (λ (xs : List ℕ). read ++ xs) x.spelled ∙ sym (append_assoc read x.one behind) in record {
+    let same : read ++ bytes ≡ (read ++ x.one) ++ after =
+    ap (λ (xs : List ℕ). read ++ xs) x.spelled ∙ sym (append_assoc read x.one after) in record {
       front = x.one ++ p.front;
       rest = p.rest;
       spelled = x.spelled ∙ ap (λ (xs : List ℕ). x.one ++ xs) p.spelled ∙ sym (append_assoc x.one p.front p.rest);
@@ -471,11 +471,11 @@ text_then_whole Before bytes behind mid new (Ok pause) x a = λ read h.
       has_read = subst (λ (xs : List ℕ). IsRead xs new) (append_assoc read x.one p.front) p.has_read;
       ends = subst (λ (xs : List ℕ). EndsSo xs new pause.refusal) (sym same) p.ends;
     }
-text_then_whole Before bytes behind mid new (Err stops.OutOfMemory) x a = tt
-text_then_whole Before bytes behind mid new (Err (stops.Refused e)) x a = λ read h.
+text_then_whole Before bytes after mid new (Err stops.OutOfMemory) x a = tt
+text_then_whole Before bytes after mid new (Err (stops.Refused e)) x a = λ read h.
     let p = a (read ++ x.one) (x.has_read read h) in
-    let same : read ++ bytes ≡ (read ++ x.one) ++ behind =
-    ap (λ (xs : List ℕ). read ++ xs) x.spelled ∙ sym (append_assoc read x.one behind) in
+    let same : read ++ bytes ≡ (read ++ x.one) ++ after =
+    ap (λ (xs : List ℕ). read ++ xs) x.spelled ∙ sym (append_assoc read x.one after) in
     (ap file_at same ∙ p.0, ap (λ (xs : List ℕ). stays xs e) same ∙ p.1)
 
 -- nothing stands behind all
@@ -500,11 +500,11 @@ all_were_read Before bytes new all = λ read h. let a = all read h in record {
     short_is_open given = let all : length given - 0 ≡ length given = omega arith in rw (all, drop_all given) refl
 
 -- a text, and what is behind it
-pub text_and_behind : (Before : List ℕ → Type 0) (bytes : List ℕ) (behind : Option (Bor (List ℕ))) (mid new : Loading)
+pub text_and_after : (Before : List ℕ → Type 0) (bytes : List ℕ) (after : Option (Bor (List ℕ))) (mid new : Loading)
     (r : Result Pause ReadStop)
-    → ReadsText Before bytes mid (Ok behind) → ReadsBehind behind mid new r → ReadsOn Before bytes new r
-text_and_behind Before bytes None mid new r x b = rw (b.1, b.0) (all_were_read Before bytes mid x)
-text_and_behind Before bytes (Some behind) mid new r x b = text_then_whole Before bytes behind.now mid new r x b
+    → ReadsText Before bytes mid (Ok after) → ReadsBehind after mid new r → ReadsOn Before bytes new r
+text_and_after Before bytes None mid new r x b = rw (b.1, b.0) (all_were_read Before bytes mid x)
+text_and_after Before bytes (Some after) mid new r x b = text_then_whole Before bytes after.now mid new r x b
 
 -- the same of what was read, where that is the same
 pub read_on_as : (Before Since : List ℕ → Type 0) (bytes : List ℕ) (new : Loading) (r : Result Pause ReadStop)
@@ -527,9 +527,9 @@ diverted_since read old o now m was at h =
     }
 
 -- bytes that are split
-pub two_parts : (bytes front behind : List ℕ) (n : ℕ) → front ≡ take n bytes → behind ≡ drop n bytes
-    → bytes ≡ front ++ behind
-two_parts bytes front behind n f b = rw (f, b) (sym (take-append-drop n bytes))
+pub two_parts : (bytes front after : List ℕ) (n : ℕ) → front ≡ take n bytes → after ≡ drop n bytes
+    → bytes ≡ front ++ after
+two_parts bytes front after n f b = rw (f, b) (sym (take-append-drop n bytes))
 
 -- there are some
 pub some_if : (bytes : List ℕ) → eqb (length bytes) 0 ≡ false → bytes ≢ []
@@ -537,8 +537,8 @@ some_if [] h = λ e. cc
 some_if (b ∷ bs) h = λ e. cc
 
 -- behind some bytes a text is whole
-pub all_came : (bytes front behind : List ℕ) (m n : ℕ) → front ≡ take n bytes → behind ≡ drop n bytes
-    → length front ≡ n → n ≡ min m (length bytes) → eqb (length behind) 0 ≡ false → m ≡ length front
-all_came bytes front behind m n f b len is h =
-    let some : length behind ≢ 0 = λ e. let k = rw e at h in cc in
-    omega (arith, len, is, some, ap length (two_parts bytes front behind n f b), length-append front behind)
+pub all_came : (bytes front after : List ℕ) (m n : ℕ) → front ≡ take n bytes → after ≡ drop n bytes
+    → length front ≡ n → n ≡ min m (length bytes) → eqb (length after) 0 ≡ false → m ≡ length front
+all_came bytes front after m n f b len is h =
+    let some : length after ≢ 0 = λ e. let k = rw e at h in cc in
+    omega (arith, len, is, some, ap length (two_parts bytes front after n f b), length-append front after)

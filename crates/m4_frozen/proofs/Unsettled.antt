@@ -57,15 +57,15 @@ part_wrong_at_end kind p before h = absurd h
 wrong_at_end : {A : Type 0} (kind : FrozenKind) (l : Layout A) (before : List ℕ)
     → IsWrongWithin kind l before [] → kind ≡ kinds.PrematureEnd
 wrong_at_end kind (Done x) before h = absurd h
-wrong_at_end kind (Then p behind) before (inl h) = part_wrong_at_end kind p before h
-wrong_at_end kind (Then p behind) before (inr h) = wrong_at_end kind (behind h.0) h.2 h.6
+wrong_at_end kind (Then p after) before (inl h) = part_wrong_at_end kind p before h
+wrong_at_end kind (Then p after) before (inr h) = wrong_at_end kind (after h.0) h.2 h.6
 
 -- what lies in wait at the end of a whole part
 short_at_end : {A : Type 0} (l : Layout A) (before here : List ℕ)
     → IsWrongWithin kinds.PrematureEnd l before here → here ≡ []
 short_at_end (Done x) before here h = absurd h
-short_at_end (Then p behind) before here (inl h) = h.1
-short_at_end (Then p behind) before here (inr h) = short_at_end (behind h.0) h.2 here h.6
+short_at_end (Then p after) before here (inl h) = h.1
+short_at_end (Then p after) before here (inr h) = short_at_end (after h.0) h.2 here h.6
 
 -- the same of a directive
 short_within : (versioned : Bool) (before here : List ℕ)
@@ -77,9 +77,9 @@ short_within false before here h = short_at_end version_layout h.1 here h.3.1
 zero_within : {A : Type 0} (l : Layout A) (before here : List ℕ)
     → IsWrongWithin kinds.VersionZero l before here → HasDigits (λ n. n ≡ 0) here
 zero_within (Done x) before here h = absurd h
-zero_within (Then Version behind) before here (inl h) = h.1
-zero_within (Then p behind) before here (inl h) = absurd h
-zero_within (Then p behind) before here (inr h) = zero_within (behind h.0) h.2 here h.6
+zero_within (Then Version after) before here (inl h) = h.1
+zero_within (Then p after) before here (inl h) = absurd h
+zero_within (Then p after) before here (inr h) = zero_within (after h.0) h.2 here h.6
 
 -- the same of a directive
 within_zero : (versioned : Bool) (before here : List ℕ)

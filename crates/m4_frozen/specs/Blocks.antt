@@ -1,6 +1,6 @@
 -- Blocks: where a file stands whose bytes come block by block from a reader.
 -- Not believed: private contracts cite it; `read_frozen` says the same of whole files.
--- Words: Fills, Stands, failures_behind, IsUnderway.
+-- Words: Fills, Stands, failures_after, IsUnderway.
 use Rattle.std.specs.Prelude.{◌≡◌, ℕ, ◌+◌, List, ◌++◌, length, Option, Result, Ok, Err, ◌⊎◌}
 use Rattle.m4_state.specs.Device.{Script, after_bytes, one_more, IsAtEnd, IsAtFault}
 use Rattle.m4_frozen.specs.declared.fault.FrozenKind.TheVariants as kinds
@@ -9,7 +9,7 @@ use Rattle.m4_frozen.specs.declared.loading.Loaded.{Loaded}
 use Rattle.m4_frozen.specs.declared.loading.Loading.{Loading}
 use Rattle.m4_frozen.specs.declared.loading.Pause.{Pause}
 use Rattle.m4_frozen.specs.declared.window.Behind.{Behind}
-use Rattle.m4_frozen.specs.declared.window.Behind.TheVariants as behinds
+use Rattle.m4_frozen.specs.declared.window.Behind.TheVariants as marks
 use Rattle.m4_frozen.specs.declared.window.Window.{Window}
 use Rattle.m4_frozen.specs.FaultAt.{FaultAt, IsSettledBy}
 use Rattle.m4_frozen.specs.Outcome.{Loads}
@@ -17,25 +17,25 @@ use Rattle.m4_frozen.specs.Underway.{IsRead, HasPaused, EndsSo}
 
 -- where a reader stands of which this is known
 abbrev pub Stands : Behind → Option Script → Type 0
-Stands behinds.More told = Unit {0}
-Stands behinds.End told = IsAtEnd told
-Stands behinds.Failure told = IsAtFault told
+Stands marks.More told = Unit {0}
+Stands marks.End told = IsAtEnd told
+Stands marks.Failure told = IsAtFault told
 
 -- the count of its failures
-abbrev pub failures_behind : Behind → ℕ → ℕ
-failures_behind behinds.Failure n = one_more n
-failures_behind behind n = n
+abbrev pub failures_after : Behind → ℕ → ℕ
+failures_after marks.Failure n = one_more n
+failures_after after n = n
 
 -- bytes came behind those that were there
-pub record HasCome (old new : Window) (told_old told_new : Option Script) : Type 0 where
+pub record HasCome (old new : Window) (messages_old messages_new : Option Script) : Type 0 where
   pub block : List ℕ
   pub bytes : new.bytes ≡ old.bytes ++ block
   pub came : new.came ≡ old.came + length block
-  pub gives : told_old ≡ after_bytes block told_new
+  pub gives : messages_old ≡ after_bytes block messages_new
 
 -- so they did, and this is known of the reader
 abbrev pub Fills : Window → Window → Option Script → Option Script → Behind → Type 0
-Fills old new told_old told_new behind = HasCome old new told_old told_new × Stands behind told_new
+Fills old new messages_old messages_new after = HasCome old new messages_old messages_new × Stands after messages_new
 
 -- what came was read, but for the bytes of the window
 pub record IsUnderway (at_first told : Option Script) (window : Window) (loading : Loading)

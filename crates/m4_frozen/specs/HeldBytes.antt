@@ -6,14 +6,14 @@ use Rattle.m4_state.specs.Device.{Script, after_bytes, IsAtEnd, IsAtFault}
 use Rattle.m4_state.specs.declared.device.DeviceFault.{DeviceFault}
 
 -- so many bytes came behind those that were held
-pub record HasTaken (old new : List ℕ) (told_old told_new : Option Script) (n : ℕ) : Type 0 where
+pub record HasTaken (old new : List ℕ) (messages_old messages_new : Option Script) (n : ℕ) : Type 0 where
   pub block : List ℕ
   pub bytes : new ≡ old ++ block
   pub count : length block ≡ n
-  pub gives : told_old ≡ after_bytes block told_new
-  pub ended : n ≡ 0 → IsAtEnd told_new
+  pub gives : messages_old ≡ after_bytes block messages_new
+  pub ended : n ≡ 0 → IsAtEnd messages_new
 
 -- some bytes, or a failure, which gives none
 abbrev pub Takes : List ℕ → List ℕ → Option Script → Option Script → Result ℕ DeviceFault → Type 0
-Takes old new told_old told_new (Ok n) = HasTaken old new told_old told_new n
-Takes old new told_old told_new (Err fault) = (new ≡ old) × (told_new ≡ told_old) × IsAtFault told_old
+Takes old new messages_old messages_new (Ok n) = HasTaken old new messages_old messages_new n
+Takes old new messages_old messages_new (Err fault) = (new ≡ old) × (messages_new ≡ messages_old) × IsAtFault messages_old

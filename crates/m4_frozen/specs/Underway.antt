@@ -18,18 +18,18 @@ use Rattle.m4_frozen.specs.declared.loading.Pause.{Pause}
 use Rattle.m4_frozen.specs.Denote.{denote, issued_by}
 use Rattle.m4_frozen.specs.Directive.{Directive, Text, Diversion}
 use Rattle.m4_frozen.specs.Outcome.{Loads}
-use Rattle.m4_frozen.specs.ReaderSteps.{◌>>=◌, skip_lines, string_at, expect_byte, directives_at, behind_version, file_at, is_settled}
+use Rattle.m4_frozen.specs.ReaderSteps.{◌>>=◌, skip_lines, string_at, expect_byte, directives_at, after_version, file_at, is_settled}
 
 -- no line stands at the front, where this says whether a comment has begun
 abbrev pub StandsAt : Bool → List ℕ → Type 0
 StandsAt inside bytes = (bytes ≡ []) ⊎ ((inside ≡ false) × (skip_lines false bytes ≡ bytes))
 
 -- lines at the front are skipped: what follows them is read as behind them
-pub record Skips (inside : Bool) (bytes : List ℕ) (after : Bool) (rest : List ℕ) : Type 0 where
+pub record Skips (inside : Bool) (bytes : List ℕ) (later : Bool) (rest : List ℕ) : Type 0 where
   pub skipped : List ℕ
   pub spelled : bytes ≡ skipped ++ rest
-  pub same : (more : List ℕ) → skip_lines inside (skipped ++ more) ≡ skip_lines after more
-  pub begins : StandsAt after rest
+  pub same : (more : List ℕ) → skip_lines inside (skipped ++ more) ≡ skip_lines later more
+  pub begins : StandsAt later rest
 
 -- directives that were read, and what is read behind them
 abbrev pub with_front : List Directive → Result (List Directive) Refusal
@@ -39,7 +39,7 @@ with_front front read = read >>= λ ds. Ok (front ++ ds)
 -- what bytes are read as behind the version (`true`) or before it, where no comment has begun
 abbrev pub left_at : Bool → ℕ → List ℕ → Result (List Directive) Refusal
 left_at true count bytes = directives_at count bytes
-left_at false count bytes = behind_version bytes >>= λ r. directives_at (length r + 1) r
+left_at false count bytes = after_version bytes >>= λ r. directives_at (length r + 1) r
 
 -- what a file is read as that goes on with these bytes
 pub record GoesOn (read : List ℕ) (ds : List Directive) (versioned inside : Bool) (more : List ℕ)
@@ -141,16 +141,16 @@ PausesAt (stops.Refused e) here old new (Ok pause) =
     (pause.refusal ≡ Some e) × (stays here e ≡ false) × Keeps here old new pause.left
 
 -- the version or a directive was read at the front
-pub record HasReadOne (bytes : List ℕ) (old new : Loading) (behind : List ℕ) : Type 0 where
+pub record HasReadOne (bytes : List ℕ) (old new : Loading) (after : List ℕ) : Type 0 where
   pub one : List ℕ
-  pub spelled : bytes ≡ one ++ behind
+  pub spelled : bytes ≡ one ++ after
   pub some : 0 < length one
   pub no_text : new.begun ≡ old.begun
   pub has_read : (read : List ℕ) → HasRead read old → HasRead (read ++ one) new
 
 -- what stands at the front: the version or a directive; the end; or a refusal
 abbrev pub ReadsOne : List ℕ → Loading → Loading → Result (Option (Bor (List ℕ))) ReadStop → Type 0
-ReadsOne bytes old new (Ok (Some behind)) = HasReadOne bytes old new behind.now
+ReadsOne bytes old new (Ok (Some after)) = HasReadOne bytes old new after.now
 ReadsOne bytes old new (Ok None) = (bytes ≡ []) × (old.versioned ≡ true) × (new ≡ old)
 ReadsOne bytes old new (Err stops.OutOfMemory) = Unit {0}
 ReadsOne bytes old new (Err (stops.Refused e)) = (new ≡ old) × (e.bytes_left ≤ length bytes)
@@ -183,16 +183,16 @@ Advances bytes old new r = ReadsOn (λ read. HasRead read old) bytes new r
 
 -- a text was read to its end, of which this was read before
 pub record HasReadText (Before : List ℕ → Type 0) (bytes : List ℕ) (new : Loading)
-    (behind : List ℕ) : Type 0 where
+    (after : List ℕ) : Type 0 where
   pub one : List ℕ
-  pub spelled : bytes ≡ one ++ behind
+  pub spelled : bytes ≡ one ++ after
   pub no_text : new.begun ≡ None
   pub has_read : (read : List ℕ) → Before read → HasRead (read ++ one) new
 
 -- what is read of a text: its end, all the bytes, or a refusal
 abbrev pub ReadsText : (List ℕ → Type 0) → List ℕ → Loading
     → Result (Option (Bor (List ℕ))) ReadStop → Type 0
-ReadsText Before bytes new (Ok (Some behind)) = HasReadText Before bytes new behind.now
+ReadsText Before bytes new (Ok (Some after)) = HasReadText Before bytes new after.now
 ReadsText Before bytes new (Ok None) = (read : List ℕ) → Before read
     → IsRead (read ++ bytes) new × (file_at (read ++ bytes) ≡ Err short)
 ReadsText Before bytes new (Err stops.OutOfMemory) = Unit {0}
@@ -202,4 +202,4 @@ ReadsText Before bytes new (Err (stops.Refused e)) = (read : List ℕ) → Befor
 -- what is read behind a text, where it has ended
 abbrev pub ReadsBehind : Option (Bor (List ℕ)) → Loading → Loading → Result Pause ReadStop → Type 0
 ReadsBehind None old new r = (new ≡ old) × (r ≡ Ok (record { left = 0; refusal = Some short }))
-ReadsBehind (Some behind) old new r = Advances behind.now old new r
+ReadsBehind (Some after) old new r = Advances after.now old new r

@@ -58,7 +58,7 @@ fn make_room(room: &mut Vec<u8>, end: usize) -> Result<(), AllocError>
 }
 
 /// Takes bytes of a reader into the room behind a place.
-fn take_behind<R: ByteSource>(
+fn take_after<R: ByteSource>(
     room: &mut Vec<u8>,
     end: usize,
     reader: &mut R,
@@ -129,7 +129,7 @@ impl Held {
         ensures falls { IfOk result (λ r. IfOk r (λ n. 0 < n → R.takes_left reader.new < R.takes_left reader.old)) }
     {
         make_room(&mut self.room, self.end)?;
-        match take_behind(&mut self.room, self.end, reader) {
+        match take_after(&mut self.room, self.end, reader) {
             Ok(n) => {
                 self.end += n;
                 Ok(Ok(n))

@@ -17,7 +17,7 @@ use m4_state::bytes::Bytes;
 use m4_state::definition::Def;
 use m4_state::device::{ByteSink, DeviceFault};
 use m4_state::state::State;
-use m4_state::transfer::{put_all, put_pieces};
+use m4_state::transfer::{write_all, write_pieces};
 
 /// Writes a line for each thing that a frozen file gave: the delimiters, the definitions, the
 /// diversions, the current number, the length of the issued text.
@@ -80,7 +80,7 @@ fn put_delimiters<W: ByteSink>(
     ensures counted { W.failures writer.new ≡ count_after result (W.failures writer.old) }
 {
     if begin.is_empty() {
-        return put_pieces(writer, &[word, b"none\n"]);
+        return write_pieces(writer, &[word, b"none\n"]);
     }
     put_two_words(word, begin, end, writer)
 }
@@ -143,7 +143,7 @@ fn put_length<W: ByteSink>(text: &[u8], writer: &mut W) -> Result<(), DeviceFaul
 {
     let mut length = Buffer::new();
     let length = length.format(text.len()).as_bytes();
-    put_pieces(writer, &[b" ", length, b"\n"])
+    write_pieces(writer, &[b" ", length, b"\n"])
 }
 
 /// The diversions that hold text, the current number, and the length of the issued text.
@@ -180,7 +180,7 @@ fn put_diversion<W: ByteSink>(number: i32, text: &[u8], writer: &mut W) -> Resul
     let digits = digits.format(number).as_bytes();
     let mut length = Buffer::new();
     let length = length.format(text.len()).as_bytes();
-    put_pieces(writer, &[b"diversion ", digits, b" ", length, b"\n"])
+    write_pieces(writer, &[b"diversion ", digits, b" ", length, b"\n"])
 }
 
 /// The current number.
@@ -190,7 +190,7 @@ fn put_current<W: ByteSink>(state: &State, writer: &mut W) -> Result<(), DeviceF
 {
     let mut digits = Buffer::new();
     let digits = digits.format(state.current()).as_bytes();
-    put_pieces(writer, &[b"current ", digits, b"\n"])
+    write_pieces(writer, &[b"current ", digits, b"\n"])
 }
 
 /// The length of the issued text, if there is any.
@@ -203,7 +203,7 @@ fn put_issued<W: ByteSink>(issued: &[u8], writer: &mut W) -> Result<(), DeviceFa
     }
     let mut length = Buffer::new();
     let length = length.format(issued.len()).as_bytes();
-    put_pieces(writer, &[b"issued ", length, b"\n"])
+    write_pieces(writer, &[b"issued ", length, b"\n"])
 }
 
 /// A word and two strings.
@@ -218,7 +218,7 @@ fn put_two_words<W: ByteSink>(
 {
     put_word(word, first, writer)?;
     put_word(b" ", second, writer)?;
-    put_all(writer, b"\n")
+    write_all(writer, b"\n")
 }
 
 /// A word and a string, so that each byte of it can be seen.
@@ -226,9 +226,9 @@ fn put_word<W: ByteSink>(word: &[u8], bytes: &[u8], writer: &mut W) -> Result<()
     ensures puts { Puts result (W.contents writer.old) (W.contents writer.new) (steps.word_line word.now bytes.now) }
     ensures counted { W.failures writer.new ≡ count_after result (W.failures writer.old) }
 {
-    put_all(writer, word)?;
+    write_all(writer, word)?;
     if bytes.is_empty() {
-        return put_all(writer, b"\\.");
+        return write_all(writer, b"\\.");
     }
     put_shown(bytes, writer)
 }
@@ -240,7 +240,7 @@ fn put_shown<W: ByteSink>(bytes: &[u8], writer: &mut W) -> Result<(), DeviceFaul
     ensures counted { W.failures writer.new ≡ count_after result (W.failures writer.old) }
 {
     if are_plain(bytes) {
-        return put_all(writer, bytes);
+        return write_all(writer, bytes);
     }
     put_each(bytes, writer)
 }
@@ -276,9 +276,9 @@ fn put_byte<W: ByteSink>(byte: u8, writer: &mut W) -> Result<(), DeviceFault>
     ensures counted { W.failures writer.new ≡ count_after result (W.failures writer.old) }
 {
     if is_plain(byte) {
-        return put_all(writer, &[byte]);
+        return write_all(writer, &[byte]);
     }
-    put_all(writer, &[b'\\', hex_digit(byte / 16), hex_digit(byte % 16)])
+    write_all(writer, &[b'\\', hex_digit(byte / 16), hex_digit(byte % 16)])
 }
 
 /// A digit below 16, in lower case.

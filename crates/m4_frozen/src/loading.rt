@@ -13,7 +13,7 @@ use crate::begun::{Begun, NamedText};
 use crate::directive::Directive;
 use crate::fault::{FrozenKind, ReadStop, Refusal, refused_at};
 use crate::lines::skip_lines;
-use crate::reader::{behind_version, line_behind, next_directive, stays};
+use crate::reader::{after_version, line_after, next_directive, stays};
 use crate::strings::{diversion_head, expect_byte, pair_head};
 use m4_state::builtin::Builtin;
 use m4_state::bytes::Bytes;
@@ -108,23 +108,23 @@ impl Loading {
         match self.begun.take() {
             None => self.read_whole(alloc, bytes),
             Some(Begun::Diversion(missing)) => {
-                let behind = self.read_diverted(missing, bytes)?;
-                self.read_behind(alloc, behind)
+                let after = self.read_diverted(missing, bytes)?;
+                self.read_after(alloc, after)
             }
             Some(Begun::Name(text)) => {
-                let behind = self.read_named(text, bytes)?;
-                self.read_behind(alloc, behind)
+                let after = self.read_named(text, bytes)?;
+                self.read_after(alloc, after)
             }
         }
     }
 
     /// Reads what stands behind a text, or pauses where that is not whole.
-    fn read_behind(&mut self, alloc: Global, behind: Option<&[u8]>) -> Result<Pause, ReadStop>
-        requires { IfSome behind (λ _. self.old.begun ≡ None) }
-        ensures { underway.ReadsBehind behind.entry self.old self.new result }
+    fn read_after(&mut self, alloc: Global, after: Option<&[u8]>) -> Result<Pause, ReadStop>
+        requires { IfSome after (λ _. self.old.begun ≡ None) }
+        ensures { underway.ReadsBehind after.entry self.old self.new result }
     {
-        match behind {
-            Some(behind) => self.read_whole(alloc, behind),
+        match after {
+            Some(after) => self.read_whole(alloc, after),
             None => Ok(Pause {
                 left: 0,
                 refusal: Some(refused_at(FrozenKind::PrematureEnd, &[])),
@@ -146,7 +146,7 @@ impl Loading {
                 Err(stop) => return self.pause_at(alloc, stop, here),
             };
             match one {
-                Some(behind) => rest = behind,
+                Some(after) => rest = after,
                 None => {
                     return Ok(Pause {
                         left: 0,
@@ -166,9 +166,9 @@ impl Loading {
         if self.versioned {
             return self.read_directive(alloc, bytes);
         }
-        let behind = behind_version(bytes)?;
+        let after = after_version(bytes)?;
         self.versioned = true;
-        Ok(Some(behind))
+        Ok(Some(after))
     }
 
     /// Reads a directive. The version came.
@@ -183,9 +183,9 @@ impl Loading {
     {
         match next_directive(bytes)? {
             None => Ok(None),
-            Some((directive, behind)) => {
+            Some((directive, after)) => {
                 self.apply(alloc, &directive)?;
-                Ok(Some(behind))
+                Ok(Some(after))
             }
         }
     }
@@ -224,7 +224,7 @@ impl Loading {
         requires { underway.StandsAt self.old.inside here.now }
         ensures { underway.Opens here.now self.old self.new result }
     {
-        let Some(line) = line_behind(b'T', here) else {
+        let Some(line) = line_after(b'T', here) else {
             return Ok(false);
         };
         let Ok(((name, len), text)) = pair_head(line) else {
@@ -247,7 +247,7 @@ impl Loading {
         requires { underway.StandsAt self.old.inside here.now }
         ensures { underway.Opens here.now self.old self.new result }
     {
-        let Some(line) = line_behind(b'D', here) else {
+        let Some(line) = line_after(b'D', here) else {
             return Ok(false);
         };
         let Ok(((number, len), text)) = diversion_head(line) else {
@@ -273,14 +273,14 @@ impl Loading {
         requires { self.old.begun ≡ None }
         ensures { underway.ReadsText (λ read. underway.HasReadIn read self.old missing) bytes.now self.new result }
     {
-        let (more, behind) = bytes.split_at(missing.min(bytes.len()));
+        let (more, after) = bytes.split_at(missing.min(bytes.len()));
         self.add(more)?;
-        if behind.is_empty() {
+        if after.is_empty() {
             self.begun = Some(Begun::Diversion(missing - more.len()));
             return Ok(None);
         }
-        let behind = expect_byte(b'\n', behind)?;
-        Ok(Some(behind))
+        let after = expect_byte(b'\n', after)?;
+        Ok(Some(after))
     }
 
     /// Reads what came of a name's text: up to its end, whose newline is taken too, or all of the
@@ -298,9 +298,9 @@ impl Loading {
             mut text,
             missing,
         } = begun;
-        let (more, behind) = bytes.split_at(missing.min(bytes.len()));
+        let (more, after) = bytes.split_at(missing.min(bytes.len()));
         text.extend_from_slice(more)?;
-        if behind.is_empty() {
+        if after.is_empty() {
             self.begun = Some(Begun::Name(NamedText {
                 name,
                 text,
@@ -308,9 +308,9 @@ impl Loading {
             }));
             return Ok(None);
         }
-        let behind = expect_byte(b'\n', behind)?;
+        let after = expect_byte(b'\n', after)?;
         self.state.push(name, Def::Text(Bytes::from(text)))?;
-        Ok(Some(behind))
+        Ok(Some(after))
     }
 
     /// Adds text to the current diversion, or to what is issued where its number is 0.

@@ -39,8 +39,8 @@ pub(crate) fn stays(refusal: Refusal, bytes: &[u8]) -> bool
 }
 
 /// The bytes behind the line of the version.
-pub(crate) fn behind_version(bytes: &[u8]) -> Result<&[u8], Refusal>
-    ensures { Gives (λ x. x.now) result (steps.behind_version bytes.now) }
+pub(crate) fn after_version(bytes: &[u8]) -> Result<&[u8], Refusal>
+    ensures { Gives (λ x. x.now) result (steps.after_version bytes.now) }
 {
     match bytes {
         [] => Err(refused_at(FrozenKind::NoVersion, bytes)),
@@ -50,7 +50,7 @@ pub(crate) fn behind_version(bytes: &[u8]) -> Result<&[u8], Refusal>
 }
 
 /// The bytes behind a letter, if it stands at the front.
-pub(crate) fn line_behind(letter: u8, bytes: &[u8]) -> Option<&[u8]>
+pub(crate) fn line_after(letter: u8, bytes: &[u8]) -> Option<&[u8]>
     ensures some { IfSome result (λ line. bytes.now ≡ letter ∷ line.now) }
     ensures none { IfNone result ((line : List ℕ) → bytes.now ≡ letter ∷ line → ⊥) }
 {

@@ -43,9 +43,9 @@ pub fn read_frozen<R: ByteSource>(alloc: Global, reader: &mut R) -> Result<Loade
     let mut window = Window::new(alloc);
     let mut loading = Loading::new(alloc)?;
     loop {
-        let behind = window.fill(reader)?;
+        let after = window.fill(reader)?;
         let pause = read_window(alloc, &mut loading, &window)?;
-        match behind {
+        match after {
             Behind::More => window.keep_last(pause.left),
             Behind::End => return end(loading, pause, &window),
             Behind::Failure => return Err(window.failure()),

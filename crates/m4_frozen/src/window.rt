@@ -3,7 +3,7 @@
 ghost use Rattle.std.specs.Prelude.{◌≡◌, ◌+◌, ◌++◌, ◌-◌, ◌*◌, ◌^◌, ◌<◌, ◌≤◌, [], min, length, drop, IfOk, OnOk};
 ghost use Rattle.m4_frozen.specs.Blocks as blocks;
 ghost use Rattle.m4_frozen.specs.declared.fault.FrozenKind.TheVariants as kinds;
-ghost use Rattle.m4_frozen.specs.declared.window.Behind.TheVariants as behinds;
+ghost use Rattle.m4_frozen.specs.declared.window.Behind.TheVariants as marks;
 
 use crate::fault::{FrozenFault, FrozenKind, Refusal};
 use crate::held::{BLOCK, Held};
@@ -50,13 +50,13 @@ impl Window {
     /// Takes more bytes, at least as many as there are, so that what is read again is no more than
     /// what came.
     pub(crate) fn fill<R: ByteSource>(&mut self, reader: &mut R) -> Result<Behind, AllocError>
-        ensures takes { IfOk result (λ behind. blocks.Fills self.old self.new
-            (R.script reader.old) (R.script reader.new) behind) }
-        ensures counted { IfOk result (λ behind. R.failures reader.new
-            ≡ blocks.failures_behind behind (R.failures reader.old)) }
-        ensures falls { IfOk result (λ behind. behind ≡ behinds.More
+        ensures takes { IfOk result (λ after. blocks.Fills self.old self.new
+            (R.script reader.old) (R.script reader.new) after) }
+        ensures counted { IfOk result (λ after. R.failures reader.new
+            ≡ blocks.failures_after after (R.failures reader.old)) }
+        ensures falls { IfOk result (λ after. after ≡ marks.More
             → R.takes_left reader.new < R.takes_left reader.old) }
-        ensures doubles { IfOk result (λ behind. behind ≡ behinds.More
+        ensures doubles { IfOk result (λ after. after ≡ marks.More
             → min (length self.old.bytes * 2) (2 ^ 64 - 1) ≤ length self.new.bytes) }
     {
         let enough = self.bytes().len().saturating_mul(2).max(BLOCK);

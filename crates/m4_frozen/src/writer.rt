@@ -16,7 +16,7 @@ use m4_state::bytes::Bytes;
 use m4_state::definition::Def;
 use m4_state::device::{ByteSink, DeviceFault};
 use m4_state::state::State;
-use m4_state::transfer::{put_all, put_pieces};
+use m4_state::transfer::{write_all, write_pieces};
 
 /// The first two lines: a comment, and the version.
 const HEADER: &[u8] = b"# m4 frozen state\nV1\n";
@@ -61,9 +61,9 @@ fn put_frozen<W: ByteSink>(
     ensures puts { Puts result (W.contents writer.old) (W.contents writer.new) (steps.frozen_text state.now names.now) }
     ensures counted { W.failures writer.new ≡ count_after result (W.failures writer.old) }
 {
-    put_all(writer, HEADER)?;
+    write_all(writer, HEADER)?;
     put_directives(state, names, writer)?;
-    put_all(writer, END_LINE)
+    write_all(writer, END_LINE)
 }
 
 /// The delimiters, the definitions, the diversions.
@@ -202,7 +202,7 @@ fn put_strings<W: ByteSink>(
     let mut second_length = Buffer::new();
     let second_length = second_length.format(second.len()).as_bytes();
     let letter = [letter];
-    put_pieces(
+    write_pieces(
         writer,
         &[
             &letter,
@@ -226,5 +226,5 @@ fn put_diversion<W: ByteSink>(number: i32, text: &[u8], writer: &mut W) -> Resul
     let digits = digits.format(number).as_bytes();
     let mut length = Buffer::new();
     let length = length.format(text.len()).as_bytes();
-    put_pieces(writer, &[b"D", digits, b",", length, b"\n", text, b"\n"])
+    write_pieces(writer, &[b"D", digits, b",", length, b"\n", text, b"\n"])
 }

@@ -7,7 +7,7 @@ use Rattle.std.proofs.lemmas.List.{take-append-drop, reverse-append, length-reve
 use Rattle.std.proofs.lemmas.List.Sums.{sum_by-append}
 use Rattle.std.specs.Prelude.{reverse, cond, ◌==◌}
 use Rattle.m4_input.specs.Ascii.{newline}
-use Rattle.m4_input.specs.Text.{HeldText, text_behind}
+use Rattle.m4_input.specs.Text.{HeldText, text_after}
 
 pub drop_parts : (n : ℕ) (x y : List ℕ) → drop n (x ++ y) ≡ drop n x ++ drop (n - length x) y
 drop_parts zero x y = let e : 0 ≡ 0 - length x = omega arith in ap (λ m. x ++ drop m y) e
@@ -83,8 +83,8 @@ pub newlines_further : (x : List ℕ) (at n : ℕ) → newlines_in (take (at + n
 newlines_further x at n = ap newlines_in (take-add at n x) ∙ newlines_append (take at x) (take n (drop at x))
 
 -- what is left where all that is taken was pushed
-pub pushed_behind : (t : HeldText) (p : List ℕ) (n : ℕ) → n ≤ length t.pushed → p ≡ drop n t.pushed → record t { pushed = p } ≡ text_behind n t
-pushed_behind t p n h e =
+pub pushed_after : (t : HeldText) (p : List ℕ) (n : ℕ) → n ≤ length t.pushed → p ≡ drop n t.pushed → record t { pushed = p } ≡ text_after n t
+pushed_after t p n h e =
     let none : 0 ≡ n - length t.pushed = omega arith in
     ap (λ (q : List ℕ). let u : HeldText = record { pushed = q; unread = t.unread; newlines = t.newlines } in u) e
     ∙ ap (λ m. let u : HeldText = record { pushed = drop n t.pushed; unread = t.unread; newlines = m } in u) (sym (add-zero t.newlines))

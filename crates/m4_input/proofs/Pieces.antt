@@ -4,8 +4,8 @@ use Rattle.std.proofs.Math.ListN.{drop_of_length-le}
 use Rattle.std.proofs.Math.Seq.{drop-append_seam}
 use Rattle.std.proofs.lemmas.List.{take-append-drop, drop-drop, length-take}
 use Rattle.m4_input.specs.Pending.{newlines_in}
-use Rattle.m4_input.specs.Text.{HeldText, text_behind}
-use Rattle.m4_input.proofs.Parts.{drop_parts, take_parts, take_long, pushed_behind}
+use Rattle.m4_input.specs.Text.{HeldText, text_after}
+use Rattle.m4_input.proofs.Parts.{drop_parts, take_parts, take_long, pushed_after}
 
 -- the pushed bytes and those behind them
 pub piece_text : (at n : ℕ) (b : List ℕ) → drop at b ≡ take n (drop at b) ++ drop (at + n) b
@@ -22,10 +22,10 @@ still_pushed zero n b = let e : 0 + n ≡ n = omega arith in ap (λ m. take n (t
 still_pushed (suc at) n [] = let e : suc at + n ≡ suc (at + n) = omega arith in ap (λ m. take n (drop (suc at) (take m []))) e
 still_pushed (suc at) n (x ∷ b) = let e : suc at + n ≡ suc (at + n) = omega arith in ap (λ m. take n (drop (suc at) (take m (x ∷ b)))) e ∙ still_pushed at n b
 
-pub none_behind : (n : ℕ) (b : List ℕ) → drop n (take n b) ≡ []
-none_behind zero b = refl
-none_behind (suc n) [] = refl
-none_behind (suc n) (x ∷ b) = none_behind n b
+pub none_after : (n : ℕ) (b : List ℕ) → drop n (take n b) ≡ []
+none_after zero b = refl
+none_after (suc n) [] = refl
+none_after (suc n) (x ∷ b) = none_after n b
 
 seam_at : (n : ℕ) (x y : List ℕ) → length x ≡ n → drop n (x ++ y) ≡ y
 seam_at n x y e = ap (λ m. drop m (x ++ y)) (sym e) ∙ drop-append_seam x y
@@ -67,7 +67,7 @@ pub file_dropped : (b new : List ℕ) (at n : ℕ) → new ≡ take (at + n) b �
 file_dropped b new at n e =
     ap (λ (x : List ℕ). piece_of x at n 0) e
     ∙ ap (λ (x : List ℕ). let t : HeldText = record { pushed = x; unread = drop (at + n) (take (at + n) b); newlines = 0 } in t) (still_pushed at n b)
-    ∙ ap (λ (x : List ℕ). let t : HeldText = record { pushed = take n (drop at b); unread = x; newlines = 0 } in t) (none_behind (at + n) b)
+    ∙ ap (λ (x : List ℕ). let t : HeldText = record { pushed = take n (drop at b); unread = x; newlines = 0 } in t) (none_after (at + n) b)
 
 none_taken : (m : ℕ) → take m [] ≡ (let x : List ℕ = [] in x)
 none_taken zero = refl
@@ -83,12 +83,12 @@ take_further (suc a) (suc n) (b ∷ x) h = let e : suc a - suc n ≡ a - n = ome
 pushed_length : (at a : ℕ) (b : List ℕ) → at + a ≤ length b → length (take a (drop at b)) ≡ a
 pushed_length at a b h = omega (arith, length-take a (drop at b), length-drop at b)
 
-pub pushed_taken : (b : List ℕ) (at a n newlines : ℕ) → n ≤ a → at + a ≤ length b → piece_of b (at + n) (a - n) newlines ≡ text_behind n (piece_of b at a newlines)
+pub pushed_taken : (b : List ℕ) (at a n newlines : ℕ) → n ≤ a → at + a ≤ length b → piece_of b (at + n) (a - n) newlines ≡ text_after n (piece_of b at a newlines)
 pushed_taken b at a n newlines h k =
     let l : length (take a (drop at b)) ≡ a = pushed_length at a b k in
     let e : (at + n) + (a - n) ≡ at + a = omega arith in
     ap (λ m. let t : HeldText = record { pushed = take (a - n) (drop (at + n) b); unread = drop m b; newlines = newlines } in t) e
-    ∙ pushed_behind (piece_of b at a newlines) (take (a - n) (drop (at + n) b)) n (omega arith) (ap (take (a - n)) (sym (drop-drop n at b)) ∙ take_further a n (drop at b) h)
+    ∙ pushed_after (piece_of b at a newlines) (take (a - n) (drop (at + n) b)) n (omega arith) (ap (take (a - n)) (sym (drop-drop n at b)) ∙ take_further a n (drop at b) h)
 
 -- all pushed bytes are taken away, and some of the file
 pub file_read : (pu un : List ℕ) (a n : ℕ) → length pu ≡ a → a ≤ n → drop a (take n (pu ++ un)) ≡ take (n - length pu) un
@@ -96,7 +96,7 @@ file_read pu un a n l h =
     ap (drop a) (take_parts n pu un ∙ ap (λ (z : List ℕ). z ++ take (n - length pu) un) (take_long n pu (omega arith)))
     ∙ seam_at a pu (take (n - length pu) un) l
 
-pub file_taken : (b of_file : List ℕ) (at a n newlines count : ℕ) → a ≤ n → at + a ≤ length b → of_file ≡ drop a (take n (take a (drop at b) ++ drop (at + a) b)) → count ≡ newlines_in of_file → piece_of b (at + n) 0 (newlines + count) ≡ text_behind n (piece_of b at a newlines)
+pub file_taken : (b of_file : List ℕ) (at a n newlines count : ℕ) → a ≤ n → at + a ≤ length b → of_file ≡ drop a (take n (take a (drop at b) ++ drop (at + a) b)) → count ≡ newlines_in of_file → piece_of b (at + n) 0 (newlines + count) ≡ text_after n (piece_of b at a newlines)
 file_taken b of_file at a n newlines count h k e c =
     let pu = take a (drop at b) in
     let l : length pu ≡ a = pushed_length at a b k in
@@ -109,7 +109,7 @@ file_taken b of_file at a n newlines count h k e c =
     ∙ ap (λ i. let t : HeldText = record { pushed = drop n pu; unread = drop (n - length pu) (drop (at + a) b); newlines = newlines + i } in t) (c ∙ ap newlines_in f)
 
 -- text that stands apart in front is taken away, and then some of the piece
-pub apart_taken : (x : List ℕ) (t : HeldText) (n : ℕ) → length x ≤ n → text_behind (n - length x) t ≡ text_behind n (record t { pushed = x ++ t.pushed })
+pub apart_taken : (x : List ℕ) (t : HeldText) (n : ℕ) → length x ≤ n → text_after (n - length x) t ≡ text_after n (record t { pushed = x ++ t.pushed })
 apart_taken x t n h =
     let l : length (x ++ t.pushed) ≡ length x + length t.pushed = length-append x t.pushed in
     let m : (n - length x) - length t.pushed ≡ n - length (x ++ t.pushed) = omega arith in

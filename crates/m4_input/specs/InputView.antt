@@ -43,12 +43,12 @@ unread_again h = record h { pending = record h.pending { unread = []; may_follow
 
 -- the reader is read to its end, or the call stopped
 abbrev pub Fills : Option Script → Option Script → Held → Held → Result Unit InputFault → Type 0
-Fills before behind old new (Ok done) =
-    (x : List ℕ) × Reads before behind old.pending x new.pending
+Fills before after old new (Ok done) =
+    (x : List ℕ) × Reads before after old.pending x new.pending
     × ((new.pending).may_follow ≡ false) × (new.fault ≡ None)
     × ((old.pending).may_follow ≡ true → IsUnread old.pending)
-Fills before behind old new (Err fault) =
-    (x : List ℕ) × Stopped fault before behind old new x
+Fills before after old new (Err fault) =
+    (x : List ℕ) × Stopped fault before after old new x
 
 -- the fault of what has no end
 abbrev pub fault_of : Unended → ℕ → InputFault

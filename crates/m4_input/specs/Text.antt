@@ -1,6 +1,6 @@
 -- Text: the bytes that an input holds, as its code keeps them.
 -- Not believed: it only bridges the code and specs/Pending.antt. Words: HeldText, text_in,
--- text_behind, LiesIn.
+-- text_after, LiesIn.
 use Rattle.std.specs.Prelude.{ℕ, ◌+◌, ◌-◌, ◌≤◌, List, ◌++◌, length, take, drop}
 use Rattle.m4_input.specs.declared.front.Scan.{Scan}
 use Rattle.m4_input.specs.declared.front.Scan.TheVariants.{Found, Broken, NeedsMore}
@@ -17,8 +17,8 @@ abbrev pub text_in : HeldText → List ℕ
 text_in t = t.pushed ++ t.unread
 
 -- what is left behind the first n bytes
-abbrev pub text_behind : ℕ → HeldText → HeldText
-text_behind n t = record {
+abbrev pub text_after : ℕ → HeldText → HeldText
+text_after n t = record {
   pushed = drop n t.pushed;
   unread = drop (n - length t.pushed) t.unread;
   newlines = t.newlines + newlines_in (take (n - length t.pushed) t.unread);

@@ -20,7 +20,7 @@ use crate::token::Token;
 use m4_state::bytes::Bytes;
 use m4_state::definition::Def;
 use m4_state::device::ByteSource;
-use m4_state::transfer::take_all;
+use m4_state::transfer::read_all;
 use std::alloc::{AllocError, Global};
 use std::marker::Model;
 
@@ -60,7 +60,7 @@ impl Drop for Input {
 }
 
 impl Input {
-    ghost use Rattle.m4_input.specs.Input.{Held, IsLasting, unread_file, wrapped_text, with_pushed, all_read, NextGives, ParenGives, SkipGives, WholeGives, failures_behind};
+    ghost use Rattle.m4_input.specs.Input.{Held, IsLasting, unread_file, wrapped_text, with_pushed, all_read, NextGives, ParenGives, SkipGives, WholeGives, failures_after};
     ghost use Rattle.m4_input.specs.InputView.{unread_again, fault_of, Fills, Takes};
 
     /// A file that is read from its start.
@@ -181,7 +181,7 @@ impl Input {
         ensures gives { NextGives (pair_of delims.now.quotes) (pair_of delims.now.comments)
             (R.script reader.old) (R.script reader.new) self.old self.new result }
         ensures counted { R.failures reader.new
-            ≡ failures_behind self.old.fault self.new.fault (R.failures reader.old) }
+            ≡ failures_after self.old.fault self.new.fault (R.failures reader.old) }
     {
         if let Some(fault) = self.fault {
             return Err(fault);
@@ -209,7 +209,7 @@ impl Input {
         ensures gives { ParenGives (pair_of delims.now.quotes) (pair_of delims.now.comments)
             (R.script reader.old) (R.script reader.new) self.old self.new result }
         ensures counted { R.failures reader.new
-            ≡ failures_behind self.old.fault self.new.fault (R.failures reader.old) }
+            ≡ failures_after self.old.fault self.new.fault (R.failures reader.old) }
     {
         if let Some(fault) = self.fault {
             return Err(fault);
@@ -228,7 +228,7 @@ impl Input {
         ensures gives { SkipGives
             (R.script reader.old) (R.script reader.new) self.old self.new result }
         ensures counted { R.failures reader.new
-            ≡ failures_behind self.old.fault self.new.fault (R.failures reader.old) }
+            ≡ failures_after self.old.fault self.new.fault (R.failures reader.old) }
     {
         if let Some(fault) = self.fault {
             return Err(fault);
@@ -255,7 +255,7 @@ impl Input {
     pub fn read_whole<R: ByteSource>(&mut self, reader: &mut R) -> Result<(), InputFault>
         // exact steps: all that the reader gives
         ensures gives { WholeGives (R.script reader.old) (R.script reader.new) self.old self.new result }
-        ensures counted { R.failures reader.new ≡ failures_behind self.old.fault self.new.fault (R.failures reader.old) }
+        ensures counted { R.failures reader.new ≡ failures_after self.old.fault self.new.fault (R.failures reader.old) }
     {
         if let Some(fault) = self.fault {
             return Err(fault);
@@ -268,12 +268,12 @@ impl Input {
         requires { self.old.fault ≡ None }
         ensures gives { Fills (R.script reader.old) (R.script reader.new) self.old self.new result }
         ensures counted { R.failures reader.new
-            ≡ failures_behind self.old.fault self.new.fault (R.failures reader.old) }
+            ≡ failures_after self.old.fault self.new.fault (R.failures reader.old) }
     {
         if !self.may_follow {
             return Ok(());
         }
-        match take_all(self.alloc, reader) {
+        match read_all(self.alloc, reader) {
             Err(AllocError) => Err(self.stop(InputFault::OutOfMemory)),
             Ok(taken) => {
                 if taken.failed {

@@ -54,7 +54,7 @@ fn put_before(bytes: &mut [u8], at: usize, text: &[u8])
 }
 
 impl Piece {
-    ghost use Rattle.m4_input.specs.Text.{text_in, text_behind};
+    ghost use Rattle.m4_input.specs.Text.{text_in, text_after};
 
     /// No bytes.
     pub fn new(alloc: Global) -> Piece
@@ -137,7 +137,7 @@ impl Piece {
     /// Takes the first n bytes away.
     pub fn consume(&mut self, n: usize)
         requires { n ≤ length (text_in self.old) }
-        ensures { self.new ≡ text_behind n self.old }
+        ensures { self.new ≡ text_after n self.old }
     {
         if n <= self.ahead {
             self.ahead -= n;

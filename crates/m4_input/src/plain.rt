@@ -37,7 +37,7 @@ pub fn plain_run<'a>(text: &[u8], state: &'a State, most: usize) -> (usize, Firs
     // exact steps: tokens of the definition `scan`, each a name without a definition or a byte
     ensures plain { IsPlainRun state.now result.0 text.now }
     ensures within { result.0 ≤ length text.now }
-    ensures behind { IsFirst state.now (drop result.0 text.now) result.1 }
+    ensures after { IsFirst state.now (drop result.0 text.now) result.1 }
     ensures lies { FirstLies (length (drop result.0 text.now)) result.1 }
 {
     let delims = Delims::of(state);
@@ -70,10 +70,10 @@ fn first_token<'a>(text: &[u8], state: &'a State, delims: &Delims<'_>) -> First<
         return First::Byte(*first);
     }
     let len = word_len(text);
-    let (name, behind) = text.split_at(len);
+    let (name, after) = text.split_at(len);
     match state.top(name) {
         None => First::Word(len),
-        Some(definition) => First::Called(len, sees_paren(behind, delims), definition),
+        Some(definition) => First::Called(len, sees_paren(after, delims), definition),
     }
 }
 
@@ -112,8 +112,8 @@ pub fn inner_text<'a>(first: &First<'_>, text: &'a [u8]) -> Option<(&'a [u8], us
 {
     match *first {
         First::Quoted(begin, len, all) => {
-            let behind = text.split_at(begin).1;
-            Some((behind.split_at(len).0, all))
+            let after = text.split_at(begin).1;
+            Some((after.split_at(len).0, all))
         }
         First::Word(len) => Some((text.split_at(len).0, len)),
         First::Byte(byte) if is_inner(byte) => Some((text.split_at(1).0, 1)),

@@ -28,7 +28,7 @@ impl Model for Text {
 }
 
 impl Text {
-    ghost use Rattle.m4_input.specs.Text.{text_in, text_behind};
+    ghost use Rattle.m4_input.specs.Text.{text_in, text_after};
 
     /// No bytes.
     pub fn new(alloc: Global) -> Text
@@ -110,7 +110,7 @@ impl Text {
     /// Takes the first n bytes away.
     pub fn consume(&mut self, n: usize)
         requires { n ≤ length (text_in self.old) }
-        ensures { self.new ≡ text_behind n self.old }
+        ensures { self.new ≡ text_after n self.old }
     {
         let len = self.pushed.len();
         if n <= len {

@@ -17,7 +17,7 @@ pub struct Taken {
 }
 
 /// Reads to the end, or up to the first fault. The bytes grow as they come.
-pub fn take_all<R: ByteSource>(alloc: Global, reader: &mut R) -> Result<Taken, AllocError>
+pub fn read_all<R: ByteSource>(alloc: Global, reader: &mut R) -> Result<Taken, AllocError>
     ensures bytes { IfOk result (λ t. IfSome (R.script reader.old) (λ s.
         (t.bytes.items ≡ s.bytes) × (t.failed ≡ s.fails))) }
     ensures counted { IfOk result (λ t. MatchBool t.failed
@@ -56,7 +56,7 @@ pub fn take_all<R: ByteSource>(alloc: Global, reader: &mut R) -> Result<Taken, A
 }
 
 /// Puts all of the bytes, or fails behind a beginning of them.
-pub fn put_all<W: ByteSink>(writer: &mut W, bytes: &[u8]) -> Result<(), DeviceFault>
+pub fn write_all<W: ByteSink>(writer: &mut W, bytes: &[u8]) -> Result<(), DeviceFault>
     ensures puts { Puts result (W.contents writer.old) (W.contents writer.new) bytes.now }
     ensures counted { W.failures writer.new ≡ count_after result (W.failures writer.old) }
 {
@@ -69,12 +69,12 @@ pub fn put_all<W: ByteSink>(writer: &mut W, bytes: &[u8]) -> Result<(), DeviceFa
 }
 
 /// Puts the pieces one behind the other, or fails behind a beginning of them all.
-pub fn put_pieces<W: ByteSink>(writer: &mut W, pieces: &[&[u8]]) -> Result<(), DeviceFault>
+pub fn write_pieces<W: ByteSink>(writer: &mut W, pieces: &[&[u8]]) -> Result<(), DeviceFault>
     ensures puts { Puts result (W.contents writer.old) (W.contents writer.new) (joined pieces.now) }
     ensures counted { W.failures writer.new ≡ count_after result (W.failures writer.old) }
 {
     for piece in pieces {
-        put_all(writer, piece)?;
+        write_all(writer, piece)?;
     }
     Ok(())
 }

@@ -3,7 +3,7 @@ use Rattle.std.proofs.Common.{◌≡◌, refl, codes, List, [], ◌∷◌, Optio
 use Rattle.clap.proofs.OnLiterals.{clap_on_literals}
 use Rattle.clap.specs.Words.{Text, first_of, one_of}
 use Rattle.clap.specs.declared.error.kind.ErrorKind.TheVariants as kind
-use Rattle.m4_tool.specs.CommandLine.{asks, files_in, has_company, refusals_of, rows_by}
+use Rattle.m4_tool.specs.CommandLine.{asks, files_in, mode_has_others, refusals_of, rows_by}
 
 -- a line of the program with these words behind its name
 abbrev line : List Text → List Text
@@ -53,7 +53,7 @@ prefix_twice : refusals_of (line (codes "-P" ∷ codes "-P" ∷ [])) ≡ kind.Ar
 unfolding clap_on_literals
 prefix_twice = refl
 
-mode_with_prefix : has_company (rows_by (line (codes "-P" ∷ codes "--canon=a" ∷ []))) ≡ true
+mode_with_prefix : mode_has_others (rows_by (line (codes "-P" ∷ codes "--canon=a" ∷ []))) ≡ true
 unfolding clap_on_literals
 mode_with_prefix = refl
 
@@ -69,11 +69,11 @@ reload_no_value : refusals_of (line (codes "-R" ∷ [])) ≡ kind.InvalidValue �
 unfolding clap_on_literals
 reload_no_value = refl
 
-mode_with_frozen : has_company (rows_by (line (codes "-R" ∷ codes "s" ∷ codes "--inspect=a" ∷ []))) ≡ true
+mode_with_frozen : mode_has_others (rows_by (line (codes "-R" ∷ codes "s" ∷ codes "--inspect=a" ∷ []))) ≡ true
 unfolding clap_on_literals
 mode_with_frozen = refl
 
-frozen_alone : has_company (rows_by (line (codes "-R" ∷ codes "s" ∷ codes "-F" ∷ codes "t" ∷ codes "a" ∷ []))) ≡ false
+frozen_alone : mode_has_others (rows_by (line (codes "-R" ∷ codes "s" ∷ codes "-F" ∷ codes "t" ∷ codes "a" ∷ []))) ≡ false
 unfolding clap_on_literals
 frozen_alone = refl
 
@@ -81,9 +81,9 @@ no_inspect : file_of (codes "inspect") (line (codes "--canon=a" ∷ [])) ≡ Non
 unfolding clap_on_literals
 no_inspect = refl
 
-value_behind : file_of (codes "inspect") (line (codes "--inspect" ∷ codes "a" ∷ [])) ≡ Some (codes "a")
+value_after : file_of (codes "inspect") (line (codes "--inspect" ∷ codes "a" ∷ [])) ≡ Some (codes "a")
 unfolding clap_on_literals
-value_behind = refl
+value_after = refl
 
 dash : file_of (codes "canon") (line (codes "--canon=-" ∷ [])) ≡ Some (codes "-")
 unfolding clap_on_literals
@@ -145,11 +145,11 @@ nesting_twice : refusals_of (line (codes "-L1" ∷ codes "--nesting-limit=1" ∷
 unfolding clap_on_literals
 nesting_twice = refl
 
-mode_alone : has_company (rows_by (line (codes "--canon=a" ∷ []))) ≡ false
+mode_alone : mode_has_others (rows_by (line (codes "--canon=a" ∷ []))) ≡ false
 unfolding clap_on_literals
 mode_alone = refl
 
-mode_with_file : has_company (rows_by (line (codes "--canon=a" ∷ codes "b" ∷ []))) ≡ true
+mode_with_file : mode_has_others (rows_by (line (codes "--canon=a" ∷ codes "b" ∷ []))) ≡ true
 unfolding clap_on_literals
 mode_with_file = refl
 

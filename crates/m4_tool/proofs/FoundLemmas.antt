@@ -2,7 +2,7 @@
 use Rattle.std.proofs.Common.{◌≡◌, ◌∙◌, List, Result, Ok, Err, IfOk, ap, subst, sym, true}
 use Rattle.clap.specs.Words.{Row, Text, found_of, rows_of}
 use Rattle.clap.specs.declared.parser.matches.ArgMatches.{ArgMatches}
-use Rattle.m4_tool.specs.CommandLine.{HoldsFound, IsModeInCompany, Says, has_company}
+use Rattle.m4_tool.specs.CommandLine.{HoldsFound, IsModeNotAlone, Says, mode_has_others}
 use Rattle.m4_tool.specs.LineSteps.{HasRowsOf}
 use Rattle.m4_tool.specs.declared.line.Line.{Line}
 use Rattle.m4_tool.specs.declared.line.LineFault.{LineFault}
@@ -18,8 +18,8 @@ found_says words matches (Err fault) found holds = tt
 
 -- matches with a mode in company come of words with a mode in company
 pub found_company : (words : List Text) (matches : ArgMatches) → HasRowsOf words matches
-    → has_company (rows_of (found_of matches)) ≡ true → IsModeInCompany words
+    → mode_has_others (rows_of (found_of matches)) ≡ true → IsModeNotAlone words
 found_company words matches found company = record {
   is_taken = found.is_taken;
-  company = ap has_company (sym found.rows) ∙ company;
+  company = ap mode_has_others (sym found.rows) ∙ company;
 }

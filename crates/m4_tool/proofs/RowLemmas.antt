@@ -7,7 +7,7 @@ use Rattle.clap.proofs.WalkLemmas.{raw_values-rows}
 use Rattle.clap.specs.Matches.{ReadsOne}
 use Rattle.clap.specs.Words.{Row, Text, all_of, first_of, matched_of, raw_values, rows_of}
 use Rattle.clap.specs.declared.parser.matches.Found.{Found}
-use Rattle.m4_tool.specs.CommandLine.{HasNoFiles, HoldsFound, IsLimit, StandAlone, files_in, has_company, stand_files, stand_options, stands}
+use Rattle.m4_tool.specs.CommandLine.{HasNoFiles, HoldsFound, IsLimit, StandAlone, files_in, mode_has_others, stand_files, stand_options, stands}
 use Rattle.m4_tool.specs.declared.line.Line.{Line}
 use Rattle.m4_tool.specs.declared.line.LineFault.{LineFault}
 
@@ -95,7 +95,7 @@ no_files rows line holds absent =
     }
 
 -- a mode of a line with no company has none in the line
-pub stand_alone : (rows : List Row) (line : Line) → HoldsFound rows line → has_company rows ≡ false
+pub stand_alone : (rows : List Row) (line : Line) → HoldsFound rows line → mode_has_others rows ≡ false
     → StandAlone line
 stand_alone rows line holds alone = record {
   canon = λ some.
@@ -116,7 +116,7 @@ stand_alone rows line holds alone = record {
 
 -- and so of a line that was made
 pub made_alone : (rows : List Row) (r : Result Line LineFault) → IfOk r (HoldsFound rows)
-    → IfOk r (λ _. has_company rows ≡ false) → IfOk r StandAlone
+    → IfOk r (λ _. mode_has_others rows ≡ false) → IfOk r StandAlone
 made_alone rows (Ok line) holds alone = stand_alone rows line holds alone
 made_alone rows (Err fault) holds alone = tt
 

@@ -3,7 +3,7 @@
 -- `matches_of` and `fault_of`, which proofs/Examples.antt computes for lines that are written out.
 -- Manual: "Invoking m4", "Limits control", "Frozen state". Words: known_words, rows_by,
 -- refusals_of, files_in, IsLimit, asks, HoldsFound, Says, AreInRange, HasNoFiles, StandAlone, stands,
--- stand_options, stand_files, has_company, IsModeInCompany, IsRefusal.
+-- stand_options, stand_files, mode_has_others, IsModeNotAlone, IsRefusal.
 -- own: a mode stands alone; `--help` has no short form; `--expansions`; each option stands once.
 use Rattle.std.specs.Prelude.{◌≡◌, ◌≤◌, ◌&&◌, ◌||◌, ℕ, Bool, List, [], Option, Some, None, IsSome, true, false, codes}
 use Rattle.std.specs.Prelude.{is_some, map, option_map, string_bytes, unwrap_or}
@@ -170,15 +170,15 @@ stand_files rows = stands (codes "freeze-state") rows || (stands (codes "reload-
     || stands (codes "files") rows)
 
 -- a mode is beside another one, a limit, a prefix or a file
-abbrev pub has_company : List Row → Bool
-has_company rows = (stands (codes "canon") rows && stands (codes "inspect") rows)
+abbrev pub mode_has_others : List Row → Bool
+mode_has_others rows = (stands (codes "canon") rows && stands (codes "inspect") rows)
     || ((stands (codes "canon") rows || stands (codes "inspect") rows)
     && (stand_options rows || stand_files rows))
 
 -- clap takes the words, and a mode stands in company
-pub record IsModeInCompany (words : List Text) : Type 0 where
+pub record IsModeNotAlone (words : List Text) : Type 0 where
   pub is_taken : refusals_of words ≡ []
-  pub company : has_company (rows_by words) ≡ true
+  pub company : mode_has_others (rows_by words) ≡ true
 
 -- of a refusal by clap: it is one that the words call for
 abbrev pub IsRefusal : List Text → LineFault → Type 0

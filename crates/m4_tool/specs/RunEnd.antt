@@ -28,9 +28,9 @@ last_fault cause true = None
 last_fault cause false = Some (codes "write fault")
 
 -- 1 where a line is added, else the run's own
-abbrev pub status_behind : Option (List ℕ) → ℕ → ℕ
-status_behind None status = status
-status_behind (Some line) status = 1
+abbrev pub status_after : Option (List ℕ) → ℕ → ℕ
+status_after None status = status
+status_after (Some line) status = 1
 
 abbrev pub last_status : Ending → Bool → ℕ
-last_status ending flushed = status_behind (last_fault ending.cause flushed) ending.status
+last_status ending flushed = status_after (last_fault ending.cause flushed) ending.status

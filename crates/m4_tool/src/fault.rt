@@ -8,7 +8,7 @@ ghost use Rattle.m4_tool.specs.declared.fault.ModeFault.TheVariants as faults;
 use itoa::Buffer;
 use m4_frozen::fault::{FrozenFault, FrozenKind, WriteFault};
 use m4_state::device::{ByteSink, DeviceFault};
-use m4_state::transfer::{put_all, put_pieces};
+use m4_state::transfer::{write_all, write_pieces};
 
 /// What kept a mode from its work.
 #[derive(Clone, Copy, Debug, PartialEq, Eq)]
@@ -67,8 +67,8 @@ impl ModeFault {
         match self {
             ModeFault::Frozen(fault) => put_frozen_fault(fault, file, messages),
             ModeFault::Issues => put_line(file, b"K1 text would be issued at reload", messages),
-            ModeFault::Write => put_all(messages, b"m4: write fault\n"),
-            ModeFault::OutOfMemory => put_all(messages, b"m4: out of memory\n"),
+            ModeFault::Write => write_all(messages, b"m4: write fault\n"),
+            ModeFault::OutOfMemory => write_all(messages, b"m4: out of memory\n"),
         }
     }
 }
@@ -95,7 +95,7 @@ fn put_line<M: ByteSink>(file: &[u8], text: &[u8], messages: &mut M) -> Result<(
         (codes "m4: " ++ (file.now ++ (codes ": " ++ (text.now ++ codes "\n")))) }
     ensures counted { M.failures messages.new ≡ count_after result (M.failures messages.old) }
 {
-    put_pieces(messages, &[b"m4: ", file, b": ", text, b"\n"])
+    write_pieces(messages, &[b"m4: ", file, b": ", text, b"\n"])
 }
 
 /// A file and what is wrong with it at a byte.
@@ -112,7 +112,7 @@ fn put_line_at<M: ByteSink>(
 {
     let mut digits = Buffer::new();
     let digits = digits.format(offset).as_bytes();
-    put_pieces(
+    write_pieces(
         messages,
         &[b"m4: ", file, b": ", text, b" at byte ", digits, b"\n"],
     )

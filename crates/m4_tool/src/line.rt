@@ -8,8 +8,8 @@
 ghost use Rattle.std.specs.Prelude.{◌≡◌, ◌≢◌, ◌≤◌, ◌<◌, ◌^◌, IfErr, IfOk, codes, false, true, is_some, map, option_map, string_bytes};
 ghost use Rattle.clap.specs.Walk.{texts};
 ghost use Rattle.clap.specs.Words.{app_of, first_of, found_of, new_app, one_of, rows_of, rule_of};
-ghost use Rattle.m4_tool.specs.CommandLine.{AreInRange, HoldsFound, IsLimit, IsModeInCompany, IsRefusal, Says, StandAlone};
-ghost use Rattle.m4_tool.specs.CommandLine.{file_word, files_in, has_company, known_words, limit_word, path_word, stand_files, stand_options, asks, stands, with_frozen, with_limits, with_modes, with_prefix, without_short_help};
+ghost use Rattle.m4_tool.specs.CommandLine.{AreInRange, HoldsFound, IsLimit, IsModeNotAlone, IsRefusal, Says, StandAlone};
+ghost use Rattle.m4_tool.specs.CommandLine.{file_word, files_in, mode_has_others, known_words, limit_word, path_word, stand_files, stand_options, asks, stands, with_frozen, with_limits, with_modes, with_prefix, without_short_help};
 ghost use Rattle.m4_tool.specs.LineSteps.{HasRowsOf, IsNoRefusal, TellsApart};
 
 use clap::builder::ValueParser;
@@ -104,7 +104,7 @@ pub fn read_line(alloc: Global, words: &[&str]) -> Result<Line, LineFault>
 
     // exact command line: a mode in company is refused where clap takes the words, else clap refuses
     // them.
-    ensures in_company { result ≡ Err LineFault.ModeNotAlone → IsModeInCompany (texts words.now) }
+    ensures not_alone { result ≡ Err LineFault.ModeNotAlone → IsModeNotAlone (texts words.now) }
     ensures refused { IfErr result (IsRefusal (texts words.now)) }
 {
     let matches = matches_of_words(alloc, words)?;
@@ -129,12 +129,12 @@ fn line_of_matches(alloc: Global, matches: &ArgMatches<'_>) -> Result<Line, Line
     ensures says { IfOk result (HoldsFound (rows_of (found_of matches.now))) }
     ensures in_range { IfOk result AreInRange }
 
-    ensures alone { IfOk result (λ _. has_company (rows_of (found_of matches.now)) ≡ false) }
-    ensures in_company { result ≡ Err LineFault.ModeNotAlone
-        → has_company (rows_of (found_of matches.now)) ≡ true }
+    ensures alone { IfOk result (λ _. mode_has_others (rows_of (found_of matches.now)) ≡ false) }
+    ensures not_alone { result ≡ Err LineFault.ModeNotAlone
+        → mode_has_others (rows_of (found_of matches.now)) ≡ true }
     ensures no_refusal { IfErr result IsNoRefusal }
 {
-    if has_company(matches) {
+    if mode_has_others(matches) {
         return Err(LineFault::ModeNotAlone);
     }
     let freeze = file_of(alloc, matches, "freeze-state")?;
@@ -154,8 +154,8 @@ fn line_of_matches(alloc: Global, matches: &ArgMatches<'_>) -> Result<Line, Line
 }
 
 // Whether a mode is beside another one, a limit, a prefix or a file.
-fn has_company(matches: &ArgMatches<'_>) -> bool
-    ensures { result ≡ has_company (rows_of (found_of matches.now)) }
+fn mode_has_others(matches: &ArgMatches<'_>) -> bool
+    ensures { result ≡ mode_has_others (rows_of (found_of matches.now)) }
 {
     let canon = stands(matches, "canon");
     let inspect = stands(matches, "inspect");

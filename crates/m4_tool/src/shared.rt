@@ -40,15 +40,15 @@ fn flush<W: Write>(cell: &RefCell<W>) -> io::Result<()> {
 
 /// What a run shows: its output and its messages.
 #[derive(Drop)]
-pub struct Shown<W, E> {
+pub struct SharedOutputs<W, E> {
     output: RefCell<W>,
     messages: RefCell<E>,
 }
 
-impl<W, E> Shown<W, E> {
+impl<W, E> SharedOutputs<W, E> {
     /// These two writers.
-    pub fn new(output: W, messages: E) -> Shown<W, E> {
-        Shown {
+    pub fn new(output: W, messages: E) -> SharedOutputs<W, E> {
+        SharedOutputs {
             output: RefCell::new(output),
             messages: RefCell::new(messages),
         }
@@ -71,7 +71,7 @@ impl<W, E> Shown<W, E> {
     }
 }
 
-impl<W: Write, E: Write> Shown<W, E> {
+impl<W: Write, E: Write> SharedOutputs<W, E> {
     /// Flushes both, the output first, and answers whether both could be flushed.
     pub fn flush(&self) -> bool {
         let output = flush(&self.output).is_ok();
@@ -82,19 +82,19 @@ impl<W: Write, E: Write> Shown<W, E> {
 
 /// A reader that flushes what was shown before each read.
 #[derive(Drop)]
-pub struct Prompting<'a, R, W, E> {
+pub struct FlushBeforeRead<'a, R, W, E> {
     reader: R,
-    shown: &'a Shown<W, E>,
+    shown: &'a SharedOutputs<W, E>,
 }
 
-impl<'a, R, W, E> Prompting<'a, R, W, E> {
+impl<'a, R, W, E> FlushBeforeRead<'a, R, W, E> {
     /// This reader, which flushes these writers.
-    pub fn new(reader: R, shown: &'a Shown<W, E>) -> Prompting<'a, R, W, E> {
-        Prompting { reader, shown }
+    pub fn new(reader: R, shown: &'a SharedOutputs<W, E>) -> FlushBeforeRead<'a, R, W, E> {
+        FlushBeforeRead { reader, shown }
     }
 }
 
-impl<R: Read, W: Write, E: Write> Read for Prompting<'_, R, W, E> {
+impl<R: Read, W: Write, E: Write> Read for FlushBeforeRead<'_, R, W, E> {
     fn read(&mut self, buf: &mut [u8]) -> io::Result<usize> {
         // What could not be flushed stays in the writer, and the fault comes again at its last flush.
         let _flushed = self.shown.flush();

@@ -37,7 +37,7 @@ fn read(alloc: Global, bytes: &[u8], block: usize, fails: bool) -> Result<Loaded
 }
 
 // A comment line of so many bytes, its newline among them, and then these bytes.
-fn behind_a_comment(alloc: Global, before: usize, bytes: &[u8]) -> Result<Vec<u8>, AllocError> {
+fn after_a_comment(alloc: Global, before: usize, bytes: &[u8]) -> Result<Vec<u8>, AllocError> {
     let mut file = Vec::new(alloc);
     file.resize(before.saturating_sub(1), b'#')?;
     file.push(b'\n')?;

@@ -3,16 +3,16 @@
 
 ghost use Rattle.std.specs.Prelude.{◌≡◌, ◌<◌, ◌≤◌, [], length, take, OnOk, OnErr};
 ghost use Rattle.m4_state.specs.Device.{with_bytes};
-ghost use Rattle.m4_engine.specs.Engine.{IsReady, handed_on};
+ghost use Rattle.m4_engine.specs.Engine.{IsReady, after_flush};
 ghost use Rattle.m4_engine.specs.Writers.{both, FailsBy, FailsOnce};
-ghost use Rattle.m4_engine.specs.Expands.{Expands, EndsInput, HandsOn, HandsOnSome, IsInOrder, IsIdle, at_rest};
+ghost use Rattle.m4_engine.specs.Expands.{Expands, EndsInput, FlushesPrefix, FlushesSome, IsInOrder, IsIdle, at_rest};
 
 use crate::ending::Cause;
 use crate::machine::Machine;
 use crate::turned::{TurnFault, Turned};
 use m4_input::input::Input;
 use m4_state::device::{ByteSink, DeviceFault};
-use m4_state::transfer::put_all;
+use m4_state::transfer::write_all;
 use std::alloc::AllocError;
 
 /// How many bytes of output are held, at most, beside those of one turn.
@@ -22,19 +22,19 @@ impl Machine {
     /// Hands on what was put out, in the order in which it arose: the output of earlier turns, which is
     /// this long, then the messages, which are those of the last turn, and then its own output.
     #[tactic(auto, using(crate::proofs::Begins::nothing_begun))]
-    fn hand_on<O: ByteSink, M: ByteSink>(
+    fn flush<O: ByteSink, M: ByteSink>(
         &mut self,
         earlier: usize,
         out: &mut O,
         messages: &mut M,
     ) -> Result<(), DeviceFault>
         requires { earlier ≤ length self.old.output }
-        ensures engine { OnOk result (self.new ≡ handed_on self.old) }
+        ensures engine { OnOk result (self.new ≡ after_flush self.old) }
         ensures output { OnOk result (O.contents out.new ≡ with_bytes (O.contents out.old) self.old.output) }
         ensures messages { OnOk result (M.contents messages.new ≡ with_bytes (M.contents messages.old) self.old.messages) }
         ensures order { OnErr result (IsInOrder (take earlier self.old.output) self.old.messages
             (both O.contents M.contents out.old out.new messages.old messages.new)) }
-        ensures begun { OnErr result (HandsOn self.old.output self.old.messages
+        ensures begun { OnErr result (FlushesPrefix self.old.output self.old.messages
             (both O.contents M.contents out.old out.new messages.old messages.new)) }
         ensures counted { FailsOnce result (both O.failures M.failures out.old out.new messages.old messages.new) }
     {
@@ -45,9 +45,9 @@ impl Machine {
             earlier
         };
         let (before, own) = self.output.split_at(first);
-        put_all(out, before)?;
-        put_all(messages, &self.messages)?;
-        put_all(out, own)?;
+        write_all(out, before)?;
+        write_all(messages, &self.messages)?;
+        write_all(out, own)?;
         self.output.clear();
         self.messages.clear();
         Ok(())
@@ -55,25 +55,25 @@ impl Machine {
 
     /// Hands on what was put out where a message is there, or a block of output.
     #[tactic(auto, using(crate::proofs::Begins::some_none, crate::proofs::Begins::some_all))]
-    fn hand_on_due<O: ByteSink, M: ByteSink>(
+    fn flush_if_due<O: ByteSink, M: ByteSink>(
         &mut self,
         earlier: usize,
         out: &mut O,
         messages: &mut M,
     ) -> Result<(), DeviceFault>
         requires { earlier ≤ length self.old.output }
-        ensures some { OnOk result (HandsOnSome self.old self.new
+        ensures some { OnOk result (FlushesSome self.old self.new
             (both O.contents M.contents out.old out.new messages.old messages.new)) }
         ensures order { OnErr result (IsInOrder (take earlier self.old.output) self.old.messages
             (both O.contents M.contents out.old out.new messages.old messages.new)) }
-        ensures begun { OnErr result (HandsOn self.old.output self.old.messages
+        ensures begun { OnErr result (FlushesPrefix self.old.output self.old.messages
             (both O.contents M.contents out.old out.new messages.old messages.new)) }
         ensures none_waits { OnOk result (self.new.messages ≡ []) }
         ensures less_than_a_block { OnOk result (length self.new.output < 65536) }
         ensures counted { FailsOnce result (both O.failures M.failures out.old out.new messages.old messages.new) }
     {
         if !self.messages.is_empty() || self.output.len() >= BLOCK {
-            self.hand_on(earlier, out, messages)?;
+            self.flush(earlier, out, messages)?;
         }
         Ok(())
     }
@@ -93,22 +93,22 @@ impl Machine {
         ensures counted { FailsBy result (both O.failures M.failures out.old out.new messages.old messages.new) }
     {
         'turns: loop {
-            let Ok(ahead) = self.pass_plain(input) else {
+            let Ok(lookahead) = self.pass_plain(input) else {
                 return Cause::OutOfMemory;
             };
             let earlier = self.output.len();
-            let turned = match self.turn(ahead, input) {
+            let turned = match self.turn(lookahead, input) {
                 Ok(turned) => turned,
                 Err(TurnFault::OutOfMemory) => return Cause::OutOfMemory,
             };
             match turned {
                 Turned::GoesOn => {
-                    if let Err(DeviceFault) = self.hand_on_due(earlier, out, messages) {
+                    if let Err(DeviceFault) = self.flush_if_due(earlier, out, messages) {
                         return Cause::Write;
                     }
                 }
                 Turned::Ends(cause) => {
-                    return match self.hand_on(earlier, out, messages) {
+                    return match self.flush(earlier, out, messages) {
                         Ok(()) => cause,
                         Err(DeviceFault) => Cause::Write,
                     };

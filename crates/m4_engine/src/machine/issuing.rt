@@ -8,7 +8,7 @@ ghost use Rattle.m4_engine.specs.Wraps.{close};
 use crate::machine::Machine;
 use m4_state::device::{ByteSink, DeviceFault};
 use m4_state::state::State;
-use m4_state::transfer::put_all;
+use m4_state::transfer::write_all;
 
 impl Machine {
     /// Writes the diversions by rising number, each one as it is taken out.
@@ -34,7 +34,7 @@ fn issue<O: ByteSink>(state: &mut State, out: &mut O) -> Result<(), DeviceFault>
     ensures counted { O.failures out.new ≡ count_after result (O.failures out.old) }
 {
     while let Some((_, text)) = state.take_least() {
-        put_all(out, &text)?;
+        write_all(out, &text)?;
     }
     Ok(())
 }

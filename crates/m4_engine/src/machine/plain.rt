@@ -2,10 +2,10 @@
 //! Manual: "How m4 copies input to output", "Macro arguments".
 
 ghost use Rattle.std.specs.Prelude.{◌≡◌, IfOk, OnOk};
-ghost use Rattle.m4_engine.specs.Engine.{IsReady, IsAhead, Passes, leaves_call};
+ghost use Rattle.m4_engine.specs.Engine.{IsReady, IsLookahead, Passes, allows_call};
 
 use super::driver::BLOCK;
-use crate::ahead::{Ahead, ahead_of};
+use crate::lookahead::{Lookahead, lookahead_of};
 use crate::machine::Machine;
 use crate::turned::TurnFault;
 use m4_input::input::Input;
@@ -16,64 +16,64 @@ impl Machine {
     /// goes to the output, and one of them within a list. It leaves what as many turns would leave,
     /// and tells what it has seen behind them.
     #[inline(always)]
-    pub fn pass_plain(&mut self, input: &mut Input) -> Result<Ahead, TurnFault>
+    pub fn pass_plain(&mut self, input: &mut Input) -> Result<Lookahead, TurnFault>
         requires { IsReady input.old }
         ensures passes { OnOk result (Passes self.old self.new input.old input.new) }
-        ensures ahead { IfOk result (λ a. IsAhead a self.new input.new.pending) }
+        ensures lookahead { IfOk result (λ a. IsLookahead a self.new input.new.pending) }
     {
         if self.innermost.is_some() {
             return self.pass_inner(input);
         }
         if self.state.current() != 0 {
-            return Ok(Ahead::Unknown);
+            return Ok(Lookahead::Unknown);
         }
-        let room = self.leaves_call();
+        let room = self.allows_call();
         let Some(text) = input.piece() else {
-            return Ok(Ahead::Unknown);
+            return Ok(Lookahead::Unknown);
         };
         let (len, first) = plain_run(text, &self.state, BLOCK);
         self.output.extend_from_slice(text.split_at(len).0)?;
         input.consume(len);
-        let ahead = ahead_of(self.alloc, &self.state, room, first, input)?;
-        Ok(ahead)
+        let lookahead = lookahead_of(self.alloc, &self.state, room, first, input)?;
+        Ok(lookahead)
     }
 
     /// Puts the first token into the innermost call's argument, where it is text.
     #[inline(always)]
-    fn pass_inner(&mut self, input: &mut Input) -> Result<Ahead, TurnFault>
+    fn pass_inner(&mut self, input: &mut Input) -> Result<Lookahead, TurnFault>
         requires { IsReady input.old }
         ensures passes { OnOk result (Passes self.old self.new input.old input.new) }
-        ensures ahead { IfOk result (λ a. IsAhead a self.new input.new.pending) }
+        ensures lookahead { IfOk result (λ a. IsLookahead a self.new input.new.pending) }
     {
-        let room = self.leaves_call();
+        let room = self.allows_call();
         let Some(text) = input.piece() else {
-            return Ok(Ahead::Unknown);
+            return Ok(Lookahead::Unknown);
         };
         let first = first_in_list(text, &self.state);
         let Some((inner, all)) = inner_text(&first, text) else {
-            return ahead_of(self.alloc, &self.state, room, first, input);
+            return lookahead_of(self.alloc, &self.state, room, first, input);
         };
         let Some(call) = &mut self.innermost else {
-            return Ok(Ahead::Unknown);
+            return Ok(Lookahead::Unknown);
         };
         call.put(inner)?;
         input.consume(all);
-        let ahead = self.look_in_list(room, input)?;
-        Ok(ahead)
+        let lookahead = self.look_in_list(room, input)?;
+        Ok(lookahead)
     }
 
     /// What stands at the front, within a list.
     #[inline(always)]
-    fn look_in_list(&self, room: bool, input: &Input) -> Result<Ahead, TurnFault>
-        requires { room ≡ leaves_call self.now }
-        ensures { IfOk result (λ a. IsAhead a self.now input.now.pending) }
+    fn look_in_list(&self, room: bool, input: &Input) -> Result<Lookahead, TurnFault>
+        requires { room ≡ allows_call self.now }
+        ensures { IfOk result (λ a. IsLookahead a self.now input.now.pending) }
     {
         match input.piece() {
             Some(text) => {
                 let first = first_in_list(text, &self.state);
-                ahead_of(self.alloc, &self.state, room, first, input)
+                lookahead_of(self.alloc, &self.state, room, first, input)
             }
-            None => Ok(Ahead::Unknown),
+            None => Ok(Lookahead::Unknown),
         }
     }
 }

@@ -9,8 +9,8 @@ ghost use Rattle.m4_input.specs.Token.{Refused};
 ghost use Rattle.m4_builtins.specs.Messages.{error};
 ghost use Rattle.m4_input.specs.Input.{Held, answer_of};
 ghost use Rattle.m4_input.specs.Pending.{Pending, line_of, consumed};
-ghost use Rattle.m4_engine.specs.Engine.{Moves, IsTaken, IsToken, IsReady, Makes, Steps, moved, configuration, Stays, with_made, ending_argument, telling, counting, calls_text, nested_text, is_deep_in, IfHead, IsAhead, is_bare, leaves_call, mode_of, close_in, step, here_of, outer_of, called_within};
-ghost use Rattle.m4_engine.specs.Ahead.{IsMeaning, Fits};
+ghost use Rattle.m4_engine.specs.Engine.{Moves, IsTaken, IsToken, IsReady, Makes, Steps, moved, configuration, Stays, with_made, ending_argument, with_engine_message, with_one_call, calls_text, nested_text, is_deep_in, IfHead, IsLookahead, is_bare, allows_call, mode_of, close_in, step, here_of, outer_of, called_within};
+ghost use Rattle.m4_engine.specs.Lookahead.{IsMeaning, Fits};
 ghost use Rattle.m4_builtins.specs.Act.{IsPushed};
 ghost use Rattle.m4_builtins.specs.Subst.{subst};
 ghost use Rattle.m4_state.specs.declared.definition.Def.TheVariants.{Text};
@@ -18,9 +18,9 @@ ghost use Rattle.m4_engine.specs.Nesting.{Closed};
 ghost use Rattle.m4_engine.specs.Expansion.{Call, Expansion, reading, place_at};
 ghost use Rattle.m4_engine.specs.Expand.{skip_or_push, take_token, take_front, take_name, take_other, take_end, call as call_turn, call_of};
 
-use crate::ahead::{Ahead, Meaning, Named};
 use crate::call::OpenCall;
 use crate::ending::Cause;
+use crate::lookahead::{Lookahead, Meaning, Named};
 use crate::machine::Machine;
 use crate::role::Role;
 use crate::turned::{TurnFault, Turned};
@@ -80,7 +80,7 @@ impl Machine {
         };
         let place = call.place()?;
         let message = error_message(self.alloc, &place, b"end of input in argument list")?;
-        self.tell(message.as_slice())?;
+        self.add_message(message.as_slice())?;
         Ok(Turned::Ends(Cause::EndInArguments))
     }
 
@@ -94,7 +94,7 @@ impl Machine {
     ) -> Result<(), TurnFault>
         ensures { OnOk result (self.new ≡ with_made messages.now output.now wrap self.old) }
     {
-        self.tell(messages)?;
+        self.add_message(messages)?;
         self.output.extend_from_slice(output)?;
         if let Some(text) = wrap {
             self.save(text)?;
@@ -153,7 +153,7 @@ impl Machine {
         if call.end_argument()? {
             let place = call.place()?;
             let message = dropped_message(self.alloc, &place)?;
-            self.tell(message.as_slice())?;
+            self.add_message(message.as_slice())?;
         }
         Ok(())
     }
@@ -197,32 +197,32 @@ impl Machine {
     }
 
     /// Tells that a call is one more than a limit allows.
-    fn refuse(&mut self, place: &Place, limit: u64, what: &[u8]) -> Result<(), TurnFault>
+    fn report_limit(&mut self, place: &Place, limit: u64, what: &[u8]) -> Result<(), TurnFault>
         ensures { OnOk result (self.new
-            ≡ telling (error place.now (codes "more than " ++ decimal limit ++ what.now)) self.old) }
+            ≡ with_engine_message (error place.now (codes "more than " ++ decimal limit ++ what.now)) self.old) }
     {
         let mut buffer = Buffer::new();
         let mut text = Vec::new(self.alloc);
         text.extend_from_slice(b"more than ")?;
         text.extend_from_slice(buffer.format(limit).as_bytes())?;
         text.extend_from_slice(what)?;
-        self.tell_error(place, &text)
+        self.add_error(place, &text)
     }
 
     /// Tells that there are too many calls.
-    fn refuse_calls(&mut self, call: &OpenCall) -> Result<(), TurnFault>
-        ensures { OnOk result (self.new ≡ telling (error call.now.place (calls_text self.old.limits.calls)) self.old) }
+    fn report_call_limit(&mut self, call: &OpenCall) -> Result<(), TurnFault>
+        ensures { OnOk result (self.new ≡ with_engine_message (error call.now.place (calls_text self.old.limits.calls)) self.old) }
     {
         let place = call.place()?;
-        self.refuse(&place, self.most_calls, b" calls")
+        self.report_limit(&place, self.most_calls, b" calls")
     }
 
     /// Tells that too many calls are open.
-    fn refuse_depth(&mut self, call: &OpenCall) -> Result<(), TurnFault>
-        ensures { OnOk result (self.new ≡ telling (error call.now.place (nested_text self.old.limits.nesting)) self.old) }
+    fn report_nesting_limit(&mut self, call: &OpenCall) -> Result<(), TurnFault>
+        ensures { OnOk result (self.new ≡ with_engine_message (error call.now.place (nested_text self.old.limits.nesting)) self.old) }
     {
         let place = call.place()?;
-        self.refuse(&place, self.most_nested, b" nested calls")
+        self.report_limit(&place, self.most_nested, b" nested calls")
     }
 
     /// Whether the limit leaves a call.
@@ -235,7 +235,7 @@ impl Machine {
     /// Counts a call.
     fn count(&mut self)
         requires { nat_lt self.old.calls self.old.limits.calls ≡ true }
-        ensures { self.new ≡ counting self.old }
+        ensures { self.new ≡ with_one_call self.old }
     {
         self.calls += 1;
     }
@@ -274,12 +274,12 @@ impl Machine {
             (λ o m. step (outer_of self.old.open_calls) (call_turn listed call input.old.pending (here_of o m self.old before)))) }
     {
         if !self.has_room() {
-            self.refuse_calls(&call)?;
+            self.report_call_limit(&call)?;
             return Ok(Turned::Ends(Cause::ExpansionLimit));
         }
         self.count();
         if self.is_deep() {
-            self.refuse_depth(&call)?;
+            self.report_nesting_limit(&call)?;
             return Ok(Turned::Ends(Cause::NestingLimit));
         }
         if !listed {
@@ -299,7 +299,7 @@ impl Machine {
             (take_name (top_of self.old.state name) name input.old.pending (here_of o m self.old before)))) }
     {
         let listed = self.sees_list(input)?;
-        let bare = !listed && self.leaves_call();
+        let bare = !listed && self.allows_call();
         let Some(definition) = self.state.top(name.as_slice()) else {
             self.put_text(name.as_slice())?;
             return Ok(Turned::GoesOn);
@@ -353,8 +353,8 @@ impl Machine {
     }
 
     /// Whether the limits leave a call.
-    pub fn leaves_call(&self) -> bool
-        ensures { result ≡ leaves_call self.now }
+    pub fn allows_call(&self) -> bool
+        ensures { result ≡ allows_call self.now }
     {
         self.has_room() && !self.is_deep()
     }
@@ -433,11 +433,11 @@ impl Machine {
         let place = Place { file, line };
         match what {
             Unended::InString => {
-                self.tell_error(&place, b"end of input in string")?;
+                self.add_error(&place, b"end of input in string")?;
                 Ok(Turned::Ends(Cause::EndInString))
             }
             Unended::InComment => {
-                self.tell_error(&place, b"end of input in comment")?;
+                self.add_error(&place, b"end of input in comment")?;
                 Ok(Turned::Ends(Cause::EndInComment))
             }
         }
@@ -445,20 +445,20 @@ impl Machine {
 
     /// One turn: the first token of what is pending, and what it does.
     #[inline(always)]
-    pub fn turn(&mut self, ahead: Ahead, input: &mut Input) -> Result<Turned, TurnFault>
+    pub fn turn(&mut self, lookahead: Lookahead, input: &mut Input) -> Result<Turned, TurnFault>
         requires ready { IsReady input.old }
-        requires ahead { IsAhead ahead self.old input.old.pending }
+        requires lookahead { IsLookahead lookahead self.old input.old.pending }
         ensures { Steps result self.old self.new input.old input.new (λ t. Moves self.new input.new.pending t
             (λ o m. moved (configuration o m self.old input.old.pending))) }
     {
         let line = input.line();
-        match ahead {
-            Ahead::Unknown => self.take_next(line, input),
-            Ahead::Byte(byte) => {
+        match lookahead {
+            Lookahead::Unknown => self.take_next(line, input),
+            Lookahead::Byte(byte) => {
                 input.consume(1);
                 self.take_token(Token::Byte(byte), line, input)
             }
-            Ahead::Named(named) => {
+            Lookahead::Named(named) => {
                 input.consume(named.len);
                 self.take_named(named, input)
             }

@@ -7,7 +7,7 @@ use super::reports::{report, report_unopened};
 use crate::endings::{last_fault, put_refused};
 use crate::late::LateFile;
 use crate::line::Line;
-use crate::shared::{BLOCK, Prompting, Shown};
+use crate::shared::{BLOCK, FlushBeforeRead, SharedOutputs};
 use crate::sources::{FileOrInput, INPUT, source_name};
 use m4_engine::ending::Ending;
 use m4_engine::run::run;
@@ -27,7 +27,7 @@ pub fn run_files<E: Write + Drop>(
 ) -> io::Result<u8> {
     let output = BufWriter::with_capacity(rt.alloc(), BLOCK, io::writer(rt))?;
     let messages = BufWriter::with_capacity(rt.alloc(), BLOCK, errors)?;
-    let shown = Shown::new(output, messages);
+    let shown = SharedOutputs::new(output, messages);
     run_shown(rt, line, &shown)
 }
 
@@ -36,7 +36,7 @@ pub fn run_files<E: Write + Drop>(
 fn run_shown<R: Files + Input + Alloc<A = Global> + Eprint, W: Write, E: Write>(
     rt: &R,
     line: &Line,
-    shown: &Shown<W, E>,
+    shown: &SharedOutputs<W, E>,
 ) -> io::Result<u8> {
     let reloaded = name_of(&line.reload);
     let Ok(mut frozen) = frozen_of(rt, &line.reload) else {
@@ -57,7 +57,7 @@ fn run_shown<R: Files + Input + Alloc<A = Global> + Eprint, W: Write, E: Write>(
     );
     let is_shown = shown.flush();
     let is_frozen = freeze_to.finish().is_ok();
-    Ok(tell_end(rt, ending, is_shown && is_frozen, reloaded, shown))
+    Ok(report_end(rt, ending, is_shown && is_frozen, reloaded, shown))
 }
 
 // The frozen file that the run starts from, opened; none where it starts afresh.
@@ -86,7 +86,7 @@ fn name_of(file: &Option<String>) -> &str {
 fn sources_of<'a, R: Files + Input + Alloc<A = Global>, W: Write, E: Write>(
     rt: &R,
     files: &[String],
-    shown: &'a Shown<W, E>,
+    shown: &'a SharedOutputs<W, E>,
 ) -> Result<Vec<Source<Opened<'a, R, W, E>>>, AllocError> {
     let mut sources = Vec::new(rt.alloc());
     if files.is_empty() {
@@ -100,18 +100,18 @@ fn sources_of<'a, R: Files + Input + Alloc<A = Global>, W: Write, E: Write>(
 
 // What a source of the run is read through.
 type Opened<'a, R, W, E> = StdSource<
-    FileOrInput<<R as Files>::File, Prompting<'a, <R as Input>::Reader, W, E>>,
+    FileOrInput<<R as Files>::File, FlushBeforeRead<'a, <R as Input>::Reader, W, E>>,
 >;
 
 // A file of the line, opened unless that fails.
 fn opened<'a, R: Files + Input + Alloc<A = Global>, W: Write, E: Write>(
     rt: &R,
     file: &str,
-    shown: &'a Shown<W, E>,
+    shown: &'a SharedOutputs<W, E>,
 ) -> Result<Source<Opened<'a, R, W, E>>, AllocError> {
     let name = source_name(rt.alloc(), file)?;
     if file == INPUT {
-        let input = Prompting::new(rt.reader(), shown);
+        let input = FlushBeforeRead::new(rt.reader(), shown);
         let reader = StdSource::new(FileOrInput::Input(input));
         return Ok(Source::Opened { name, reader });
     }
@@ -126,12 +126,12 @@ fn opened<'a, R: Files + Input + Alloc<A = Global>, W: Write, E: Write>(
 
 // Reports what the run has not reported itself, and returns the last status. Only the status reports
 // it where it can't be shown.
-fn tell_end<W: Write, E: Write>(
+fn report_end<W: Write, E: Write>(
     rt: &impl Eprint,
     ending: Ending,
     flushed: bool,
     reloaded: &str,
-    shown: &Shown<W, E>,
+    shown: &SharedOutputs<W, E>,
 ) -> u8
     ensures { result ≡ last_status ending flushed }
 {

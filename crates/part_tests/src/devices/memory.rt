@@ -4,7 +4,7 @@ use crate::report::{Report, joined};
 use crate::shows::{agrees, shows};
 use m4_state::device::{ByteSink, ByteSource, DeviceFault};
 use m4_state::memory::{MemSink, MemSource};
-use m4_state::transfer::{put_all, put_pieces, take_all};
+use m4_state::transfer::{read_all, write_all, write_pieces};
 use std::alloc::{AllocError, Global};
 use std::test::Fail;
 
@@ -31,7 +31,7 @@ static READERS: [(&str, bool, &[u8]); 2] = [
 fn taken_of(alloc: Global, at_most: usize, fails: bool) -> Result<Vec<u8>, AllocError> {
     let mut report = Report::new(alloc);
     let mut reader = MemSource::new(BYTES, at_most.max(1), fails);
-    let taken = take_all(alloc, &mut reader)?;
+    let taken = read_all(alloc, &mut reader)?;
     report.add(&taken.bytes);
     report.add(if taken.failed {
         b"; failed behind "
@@ -54,7 +54,7 @@ fn all_that_is_given_is_taken(rt: HostRuntime) {
 // All that is taken of a long text.
 fn taken_of_a_long_text(alloc: Global, text: &[u8]) -> Result<Vec<u8>, AllocError> {
     let mut reader = MemSource::new(text, 4096, false);
-    Ok(take_all(alloc, &mut reader)?.bytes)
+    Ok(read_all(alloc, &mut reader)?.bytes)
 }
 
 #[test]
@@ -118,7 +118,7 @@ fn held(
 // What comes of putting the bytes into a writer with so much room.
 fn put_into(alloc: Global, room: usize, at_most: usize) -> Result<Vec<u8>, AllocError> {
     let mut writer = MemSink::new(alloc, room, at_most.max(1))?;
-    let answer = put_all(&mut writer, BYTES);
+    let answer = write_all(&mut writer, BYTES);
     held(alloc, answer, &writer)
 }
 
@@ -149,7 +149,7 @@ fn all_bytes_are_put_where_there_is_room(rt: HostRuntime) {
 // What comes of putting pieces into a writer with room for nine bytes.
 fn pieces_put(alloc: Global) -> Result<Vec<u8>, AllocError> {
     let mut writer = MemSink::new(alloc, 9, 2)?;
-    let answer = put_pieces(&mut writer, &[b"one", b"", b"two", b"three"]);
+    let answer = write_pieces(&mut writer, &[b"one", b"", b"two", b"three"]);
     held(alloc, answer, &writer)
 }
 

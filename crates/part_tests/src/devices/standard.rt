@@ -4,7 +4,7 @@ use crate::report::Report;
 use crate::shows::shows;
 use m4_state::device::{ByteSink, DeviceFault};
 use m4_state::standard::{StdSink, StdSource};
-use m4_state::transfer::{put_all, take_all};
+use m4_state::transfer::{read_all, write_all};
 use std::alloc::{AllocError, Global};
 use std::io;
 use std::io::{Read, Write};
@@ -115,7 +115,7 @@ fn taken_of(alloc: Global, script: &'static [Answer]) -> Result<Vec<u8>, AllocEr
         script,
         taken: Vec::new(alloc),
     });
-    let taken = take_all(alloc, &mut reader)?;
+    let taken = read_all(alloc, &mut reader)?;
     report.add(&taken.bytes);
     report.add(if taken.failed {
         b"; failed"
@@ -169,7 +169,7 @@ fn put_into(alloc: Global, script: &'static [Answer]) -> Result<Vec<u8>, AllocEr
         script,
         taken: Vec::new(alloc),
     });
-    let first = put_all(&mut writer, b"abcdefgh");
+    let first = write_all(&mut writer, b"abcdefgh");
     let second = writer.put(b"ij");
     report.add(&writer.into_inner().taken);
     match first {

@@ -1,6 +1,6 @@
 //! Files that are read and written again, in their one canonical text.
 
-use super::{BLOCK, BLOCKS, HEAD, LAST, ROOM, behind_a_comment, read, tell, tell_written};
+use super::{BLOCK, BLOCKS, HEAD, LAST, ROOM, after_a_comment, read, tell, tell_written};
 use crate::report::{Report, joined};
 use crate::shows::agrees;
 use m4_frozen::loading::Loaded;
@@ -137,7 +137,7 @@ const EACH_CANONICAL: &[u8] = b"Q1,1\n[]\nC0,0\n\nT2,3\na\n# b\nF3,3\ndnldnl\nD1
 
 // A file behind a comment that ends so many bytes before the first block does.
 fn again_later(alloc: Global, cut: usize) -> Result<Vec<u8>, AllocError> {
-    let file = behind_a_comment(alloc, BLOCK.saturating_sub(cut), EACH_LETTER)?;
+    let file = after_a_comment(alloc, BLOCK.saturating_sub(cut), EACH_LETTER)?;
     again(alloc, &file, 4096)
 }
 
@@ -176,7 +176,7 @@ fn begun_twice(alloc: Global, beginning: &[u8]) -> Result<Vec<u8>, AllocError> {
 }
 
 #[test]
-fn a_writer_fails_behind_each_byte(rt: HostRuntime) {
+fn a_writer_fails_after_each_byte(rt: HostRuntime) {
     for room in 0..FAILING_CANONICAL.len() {
         for block in BLOCKS {
             let want = begun_twice(rt.alloc(), FAILING_CANONICAL.split_at(room).0);

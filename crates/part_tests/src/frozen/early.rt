@@ -1,6 +1,6 @@
 //! Files that are refused early: with lengths that no memory has, and before the reader's end.
 
-use super::{BLOCK, BLOCKS, behind_a_comment, read, tell};
+use super::{BLOCK, BLOCKS, after_a_comment, read, tell};
 use crate::report::Report;
 use crate::shows::shows;
 use m4_frozen::reading::read_frozen;
@@ -92,7 +92,7 @@ static BLOCKED: [(&str, usize, &[u8]); 2] = [
 
 // A file of three blocks with a wrong letter in the first one.
 fn three_blocks(alloc: Global, before: usize) -> Result<Vec<u8>, AllocError> {
-    let mut file = behind_a_comment(alloc, before, b"V1\nX\n")?;
+    let mut file = after_a_comment(alloc, before, b"V1\nX\n")?;
     file.resize(3 * BLOCK, b'#')?;
     Ok(file)
 }

@@ -1,6 +1,6 @@
 //! Files that are refused: each fault with the offset of its byte.
 
-use super::{BLOCK, BLOCKS, behind_a_comment, read, tell};
+use super::{BLOCK, BLOCKS, after_a_comment, read, tell};
 use crate::report::{Report, printed};
 use crate::shows::{agrees, shows};
 use m4_frozen::fault::{FrozenFault, FrozenKind, WriteFault};
@@ -223,7 +223,7 @@ fn refused_later(
     cut: usize,
     fails: bool,
 ) -> Result<Vec<u8>, AllocError> {
-    let file = behind_a_comment(alloc, BLOCK.saturating_sub(cut), bytes)?;
+    let file = after_a_comment(alloc, BLOCK.saturating_sub(cut), bytes)?;
     refused(alloc, &file, 4096, fails)
 }
 
@@ -288,7 +288,7 @@ fn failed_twice(alloc: Global, bytes: &[u8], block: usize) -> Result<Vec<u8>, Al
 }
 
 // What is told of a reader that fails behind so many bytes: it fails there, and then at once.
-fn failed_behind(alloc: Global, len: usize) -> Result<Vec<u8>, AllocError> {
+fn failed_after(alloc: Global, len: usize) -> Result<Vec<u8>, AllocError> {
     let mut report = Report::new(alloc);
     report.counted(b"F10 Read at ", len);
     report.counted(b" of ", len);
@@ -298,14 +298,14 @@ fn failed_behind(alloc: Global, len: usize) -> Result<Vec<u8>, AllocError> {
 }
 
 #[test]
-fn a_reader_fails_behind_each_byte(rt: HostRuntime) {
+fn a_reader_fails_after_each_byte(rt: HostRuntime) {
     for len in 0..=CUT.len() {
         for block in BLOCKS {
             let got = failed_twice(rt.alloc(), CUT.split_at(len).0, block);
             agrees(
                 &rt,
                 "a reader that fails",
-                failed_behind(rt.alloc(), len),
+                failed_after(rt.alloc(), len),
                 got,
             );
         }

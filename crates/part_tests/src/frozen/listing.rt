@@ -65,7 +65,7 @@ fn files_are_listed(rt: HostRuntime) {
 }
 
 #[test]
-fn a_writer_fails_behind_each_byte(rt: HostRuntime) {
+fn a_writer_fails_after_each_byte(rt: HostRuntime) {
     for &(name, bytes, lines) in &ROWS {
         for room in 0..lines.len() {
             let want = joined(rt.alloc(), &[lines.split_at(room).0, b"; write fault\n"]);

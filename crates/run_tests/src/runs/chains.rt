@@ -1,8 +1,6 @@
 //! Chains of runs: each run starts from the text that the one before it froze.
 
-use super::given::{
-    AT_MOST, BLOCKS, ROOM, Seen, USUAL, freezing, opened, options, run_over,
-};
+use super::given::{AT_MOST, BLOCKS, ROOM, Seen, USUAL, freezing, opened, options, run_over};
 use super::report::Report;
 use super::shows::shows;
 use m4_engine::options::Options;
@@ -12,8 +10,11 @@ use std::process::Abort;
 
 /// The four sources of the chain.
 const DEFINES: &str = "define(`n',`1')dnl\n";
+
 const DIVERTS: &str = "n pushdef(`n',`2')divert(1)n\n";
+
 const RESTORES: &str = "divert(0)n popdef(`n')dnl\n";
+
 const ISSUES: &str = "n undivert(1)end\n";
 
 /// How the frozen text of the second of four runs ends.
@@ -125,7 +126,11 @@ fn end_of_second(rt: &(impl Abort + Alloc<A = Global>)) -> Result<Vec<u8>, Alloc
     let second = next_run(rt, freezing(USUAL), &Some(first), &[DIVERTS], AT_MOST)?;
     let text = second.frozen_text.written();
     let mut report = Report::new(rt.alloc());
-    report.add(if text.ends_with(DIVERTED) { DIVERTED } else { text });
+    report.add(if text.ends_with(DIVERTED) {
+        DIVERTED
+    } else {
+        text
+    });
     report.text()
 }
 

@@ -55,11 +55,11 @@ fn repeat(report: &mut Report, piece: &str, times: usize) {
 }
 
 // A text that is made.
-fn made(alloc: Global, (before, piece, times, behind): Made) -> Result<Vec<u8>, AllocError> {
+fn made(alloc: Global, (before, piece, times, after): Made) -> Result<Vec<u8>, AllocError> {
     let mut report = Report::new(alloc);
     report.add(before.as_bytes());
     repeat(&mut report, piece, times);
-    report.add(behind.as_bytes());
+    report.add(after.as_bytes());
     report.text()
 }
 

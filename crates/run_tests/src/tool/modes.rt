@@ -123,7 +123,7 @@ struct Row<'a> {
 struct Devices {
     at_most: usize,
     out_room: usize,
-    told_room: usize,
+    messages_room: usize,
 }
 
 // A file that `--canon` writes as this text.
@@ -149,7 +149,7 @@ fn check_by(
     let alloc = rt.alloc();
     let mut reader = MemSource::new(row.file, devices.at_most, row.fails);
     let mut out = MemSink::new(alloc, devices.out_room, devices.at_most)?;
-    let mut told = MemSink::new(alloc, devices.told_room, devices.at_most)?;
+    let mut told = MemSink::new(alloc, devices.messages_room, devices.at_most)?;
     let status = match row.mode {
         Mode::Canon => canon(alloc, b"F", &mut reader, &mut out, &mut told),
         Mode::Inspect => inspect(alloc, b"F", &mut reader, &mut out, &mut told),
@@ -167,7 +167,7 @@ fn check_row(rt: &(impl Abort + Alloc<A = Global>), row: Row<'_>) -> Result<(), 
         let devices = Devices {
             at_most,
             out_room: AMPLE,
-            told_room: AMPLE,
+            messages_room: AMPLE,
         };
         check_by(rt, row, devices)?;
     }
@@ -225,7 +225,7 @@ fn an_output_that_fails_has_a_beginning(rt: HostRuntime) -> Result<(), Fail> {
         let devices = Devices {
             at_most: 4096,
             out_room: room,
-            told_room: AMPLE,
+            messages_room: AMPLE,
         };
         check_by(&rt, row, devices)?;
     }
@@ -243,7 +243,7 @@ fn messages_that_fail_have_a_beginning(rt: HostRuntime) -> Result<(), Fail> {
     let devices = Devices {
         at_most: 4096,
         out_room: AMPLE,
-        told_room: 6,
+        messages_room: 6,
     };
     check_by(&rt, row, devices)?;
     Ok(())

@@ -2,7 +2,7 @@ use Rattle.std.proofs.Common.{◌≡◌, refl, sym, ap, ◌∙◌, Some, None, [
 use Rattle.std.specs.Prelude.{FitsSigned}
 use Rattle.std.specs.Int.{w32}
 use Rattle.std.proofs.lemmas.Int.{to_z-of_z}
-use Rattle.m4_builtins.specs.Acted.{tells}
+use Rattle.m4_builtins.specs.Acted.{only_warning}
 use Rattle.m4_builtins.specs.Args.{text_of_arg}
 use Rattle.m4_builtins.specs.Texts.{from_place, at_most}
 use Rattle.m4_builtins.proofs.Cut.{leaves, pushed_with, number_of, warning_on, read_of, told_of, substr-no_place, substr-no_count, substr-rest, substr-counted}
@@ -20,7 +20,7 @@ returns-in_default-number c =
     let number : None ≡ number_of b = read_of _ _ _ b c.in_default-number.is c.in_ok-number.ensures.number c.text_of.ensures in
     let told : c.number_in.new.messages.items ≡ warning_on p b = told_of p _ _ [] _ b c.new-messages.ensures.items c.in_ok-number.ensures.told c.text_of.ensures in
     substr-no_place p s list (take (length list - 2) (drop 2 list)) a b c.in-len2-up.len_at_least c.text-item.is c.from-item.is refl number
-    ∙ ap (tells s) (sym (c.from.ensures ∙ told))
+    ∙ ap (only_warning s) (sym (c.from.ensures ∙ told))
     ∙ ap (leaves s) (sym c.telling.ensures)
 
 -- the count is no number
@@ -37,7 +37,7 @@ returns-in_default-number-2 c =
     let number_2 : None ≡ number_of d = read_of _ _ _ d c.in_default-number-2.is c.in_ok-number-2.ensures.number c.text_of-in-len1-up.ensures in
     let told_2 : c.number_in-in-len1-up.new.messages.items ≡ warning_on p b ++ warning_on p d = told_of p _ _ (warning_on p b) _ d told c.in_ok-number-2.ensures.told c.text_of-in-len1-up.ensures in
     substr-no_count p s list (take (length list - 2) (drop 2 list)) a b c.in-len2-up.len_at_least c.text-item.is c.from-item.is refl c.in-Some.from number d c.in-len1-up.len_at_least c.count-item.is number_2
-    ∙ ap (tells s) (sym (c.from-in_default-number-2.ensures ∙ told_2))
+    ∙ ap (only_warning s) (sym (c.from-in_default-number-2.ensures ∙ told_2))
     ∙ ap (leaves s) (sym c.telling-in_default-number-2.ensures)
 
 -- there is no count, or it is a number

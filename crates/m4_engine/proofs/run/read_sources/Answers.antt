@@ -1,5 +1,5 @@
 use Rattle.std.proofs.Common.{rules, refl, ◌+◌, ◌∙◌}
-use Rattle.m4_engine.specs.Told.{is_sound, is_taken}
+use Rattle.m4_engine.specs.RunSources.{is_sound, ConsumesOnly}
 use Rattle.m4_engine.proofs.Reading.{none_read, one_read, all_read, stopped_so, item, first_for, none_left, rest_kept}
 use Rattle.m4_engine.proofs.Readers.{none_taken_yet, all_sound, pair_item, sources_fail, missed_on, missed_last}
 use Rattle.m4_engine.proofs.run.read_sources.Goals as goal
@@ -20,12 +20,12 @@ sources-preserved g c = (
   c.in_ok-read.ensures.unfinished,
   rest_kept c.sources.sources c.args.sources.now c.sources.source-index c.read.new.source c.sources.invariant.1,
   (c.in_ok-read.ensures.write.0 ∙ c.sources.invariant.2.0, c.in_ok-read.ensures.write.1 ∙ c.sources.invariant.2.1),
-  pair_item (is_taken g.R.ByteSource.script) c.sources.source-index c.sources.sources c.args.sources.now c.source-item.result c.read.new.source c.sources.invariant.3 c.sources.invariant.1 (search rules) c.in_ok-read.ensures.taken,
+  pair_item (ConsumesOnly g.R.ByteSource.script) c.sources.source-index c.sources.sources c.args.sources.now c.source-item.result c.read.new.source c.sources.invariant.3 c.sources.invariant.1 (search rules) c.in_ok-read.ensures.taken,
   λ ss e.
       let t = item g.R.ByteSource.script c.sources.source-index c.sources.sources c.args.sources.now c.source-item.result c.read.new.source ss c.sources.invariant.1 (search rules) e in
       one_read ss c.sources.source-index (c.sources.source-index + 1) c.args.session.now c.sources.session c.read.new.session t.source _ _ _ _ _ _ (c.sources.invariant.4 ss t.first) t.there (c.in_ok-read.ensures.goes t.source t.stands).0,
   pair_item (is_sound g.R.ByteSource.failures) c.sources.source-index c.sources.sources c.args.sources.now c.source-item.result c.read.new.source c.sources.invariant.5 c.sources.invariant.1 (search rules) c.in_ok-read.ensures.read,
-  missed_on c.sources.source-index c.sources.sources c.args.sources.now c.source-item.result c.sources.session.missed c.read.new.session.missed _ c.sources.invariant.1 (search rules) c.in_ok-read.ensures.missed c.sources.invariant.6,
+  missed_on c.sources.source-index c.sources.sources c.args.sources.now c.source-item.result c.sources.session.any_missing c.read.new.session.any_missing _ c.sources.invariant.1 (search rules) c.in_ok-read.ensures.any_missing c.sources.invariant.6,
 )
 
 pub returns-in_err-read-clause-goes : goal.returns-in_err-read-clause-goes
@@ -41,7 +41,7 @@ pub returns-in_err-read-clause-read : goal.returns-in_err-read-clause-read
 returns-in_err-read-clause-read g c = sources_fail g.R.ByteSource.failures c.sources.source-index c.sources.sources c.args.sources.now c.source-item.result c.read.new.source c.in_err-read.field-0.0 c.read.result c.from_residual.result (search rules) (search rules) c.sources.invariant.5 c.sources.invariant.1 (search rules) c.read.ensures.read
 
 pub returns-in_err-read-clause-taken : goal.returns-in_err-read-clause-taken
-returns-in_err-read-clause-taken g c = pair_item (is_taken g.R.ByteSource.script) c.sources.source-index c.sources.sources c.args.sources.now c.source-item.result c.read.new.source c.sources.invariant.3 c.sources.invariant.1 (search rules) c.read.ensures.taken
+returns-in_err-read-clause-taken g c = pair_item (ConsumesOnly g.R.ByteSource.script) c.sources.source-index c.sources.sources c.args.sources.now c.source-item.result c.read.new.source c.sources.invariant.3 c.sources.invariant.1 (search rules) c.read.ensures.taken
 
-pub returns-clause-missed : goal.returns-clause-missed
-returns-clause-missed g c = missed_last c.sources.source-index c.sources.sources c.args.sources.now c.sources.session.missed _ c.sources.invariant.1 (search rules) c.sources.invariant.6
+pub returns-clause-any_missing : goal.returns-clause-any_missing
+returns-clause-any_missing g c = missed_last c.sources.source-index c.sources.sources c.args.sources.now c.sources.session.any_missing _ c.sources.invariant.1 (search rules) c.sources.invariant.6

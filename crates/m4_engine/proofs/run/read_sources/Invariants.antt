@@ -3,7 +3,7 @@ use Rattle.std.specs.Prelude.{◌||◌}
 use Rattle.m4_engine.specs.File.{Source}
 use Rattle.m4_engine.specs.Writers.{both, NoneFailed}
 use Rattle.m4_engine.specs.Session.{IsOpen}
-use Rattle.m4_engine.specs.Told.{AllPairs, is_sound, any_unopened, are_taken}
+use Rattle.m4_engine.specs.RunSources.{AllPairs, is_sound, any_unopened, AllConsumeOnly}
 use Rattle.m4_engine.proofs.Reading.{Between, FirstFor}
 use Rattle.m4_engine.proofs.run.read_sources.Given as goal
 
@@ -12,8 +12,8 @@ abbrev pub invariant-sources : goal.invariant-sources
 invariant-sources g l =
     IsOpen l.session × (drop l.source-index l.sources ≡ drop l.source-index l.fn.sources)
     × NoneFailed (both g.O.ByteSink.failures g.M.ByteSink.failures l.fn.out l.out l.fn.messages l.messages)
-    × are_taken g.R.ByteSource.script l.fn.sources l.sources
+    × AllConsumeOnly g.R.ByteSource.script l.fn.sources l.sources
     × ((ss : List Source) → FirstFor g.R.ByteSource.script l.source-index l.fn.sources l.sources ss
     → Between ss l.source-index l.fn.session l.session (both g.O.ByteSink.contents g.M.ByteSink.contents l.fn.out l.out l.fn.messages l.messages))
     × AllPairs (is_sound g.R.ByteSource.failures) l.fn.sources l.sources
-    × ((any_unopened (drop l.source-index l.fn.sources) || l.session.missed) ≡ (any_unopened l.fn.sources || l.fn.session.missed))
+    × ((any_unopened (drop l.source-index l.fn.sources) || l.session.any_missing) ≡ (any_unopened l.fn.sources || l.fn.session.any_missing))

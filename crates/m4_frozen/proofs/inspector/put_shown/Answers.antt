@@ -6,5 +6,5 @@ use Rattle.m4_frozen.proofs.inspector.put_shown.Goals as goal
 -- the bytes stand for themselves
 pub returns-then-are_plain-clause-puts : goal.returns-then-are_plain-clause-puts
 returns-then-are_plain-clause-puts g c =
-    subst (λ (t : List ℕ). Puts c.put_all.result (g.W.ByteSink.contents c.args.writer.now) (g.W.ByteSink.contents c.put_all.new.writer) t)
-    (sym (shown_as_they_are c.args.bytes.now (sym c.are_plain.ensures ∙ c.if-are_plain.true))) c.put_all.ensures.puts
+    subst (λ (t : List ℕ). Puts c.write_all.result (g.W.ByteSink.contents c.args.writer.now) (g.W.ByteSink.contents c.write_all.new.writer) t)
+    (sym (shown_as_they_are c.args.bytes.now (sym c.are_plain.ensures ∙ c.if-are_plain.true))) c.write_all.ensures.puts

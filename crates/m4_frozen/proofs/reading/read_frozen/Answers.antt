@@ -12,7 +12,7 @@ returns-in_err-pause-clause-accepts g c =
     c.loop-loading.loading c.read_window.new.loading c.in_err-pause.field-0.0
     (filled (g.R.ByteSource.script c.args.reader.now) (g.R.ByteSource.script c.loop-loading.reader)
     (g.R.ByteSource.script c.fill.new.reader) c.loop-loading.window c.fill.new.self c.loop-loading.loading
-    c.loop-loading.invariant.0 c.in_ok-behind.ensures.takes.0)
+    c.loop-loading.invariant.0 c.in_ok-after.ensures.takes.0)
     c.in_err-pause.ensures).accepts
 
 pub returns-in_err-pause-clause-fault : goal.returns-in_err-pause-clause-fault
@@ -23,7 +23,7 @@ returns-in_err-pause-clause-fault g c =
     c.loop-loading.loading c.read_window.new.loading c.in_err-pause.field-0.0
     (filled (g.R.ByteSource.script c.args.reader.now) (g.R.ByteSource.script c.loop-loading.reader)
     (g.R.ByteSource.script c.fill.new.reader) c.loop-loading.window c.fill.new.self c.loop-loading.loading
-    c.loop-loading.invariant.0 c.in_ok-behind.ensures.takes.0)
+    c.loop-loading.invariant.0 c.in_ok-after.ensures.takes.0)
     c.in_err-pause.ensures).fault
 
 pub returns-in_err-pause-clause-no_memory : goal.returns-in_err-pause-clause-no_memory
@@ -34,7 +34,7 @@ returns-in_err-pause-clause-no_memory g c =
     c.loop-loading.loading c.read_window.new.loading c.in_err-pause.field-0.0
     (filled (g.R.ByteSource.script c.args.reader.now) (g.R.ByteSource.script c.loop-loading.reader)
     (g.R.ByteSource.script c.fill.new.reader) c.loop-loading.window c.fill.new.self c.loop-loading.loading
-    c.loop-loading.invariant.0 c.in_ok-behind.ensures.takes.0)
+    c.loop-loading.invariant.0 c.in_ok-after.ensures.takes.0)
     c.in_err-pause.ensures).no_memory
 
 pub returns-in_err-pause-clause-read_fault : goal.returns-in_err-pause-clause-read_fault
@@ -46,7 +46,7 @@ returns-in_err-pause-clause-read_fault g c =
     c.loop-loading.loading c.read_window.new.loading c.in_err-pause.field-0.0
     (filled (g.R.ByteSource.script c.args.reader.now) (g.R.ByteSource.script c.loop-loading.reader)
     (g.R.ByteSource.script c.fill.new.reader) c.loop-loading.window c.fill.new.self c.loop-loading.loading
-    c.loop-loading.invariant.0 c.in_ok-behind.ensures.takes.0)
+    c.loop-loading.invariant.0 c.in_ok-after.ensures.takes.0)
     c.in_err-pause.ensures).not_read)
 
 pub keep_last-requires : goal.keep_last-requires
@@ -56,7 +56,7 @@ keep_last-requires g c =
     c.loop-loading.loading c.read_window.new.loading c.in_ok-pause.pause
     (filled (g.R.ByteSource.script c.args.reader.now) (g.R.ByteSource.script c.loop-loading.reader)
     (g.R.ByteSource.script c.fill.new.reader) c.loop-loading.window c.fill.new.self c.loop-loading.loading
-    c.loop-loading.invariant.0 c.in_ok-behind.ensures.takes.0)
+    c.loop-loading.invariant.0 c.in_ok-after.ensures.takes.0)
     c.in_ok-pause.ensures
 
 pub loop-loading-preserved : goal.loop-loading-preserved
@@ -66,9 +66,9 @@ loop-loading-preserved g c = (
       c.keep_last.new.self c.loop-loading.loading c.read_window.new.loading c.in_ok-pause.pause
       (filled (g.R.ByteSource.script c.args.reader.now) (g.R.ByteSource.script c.loop-loading.reader)
       (g.R.ByteSource.script c.fill.new.reader) c.loop-loading.window c.fill.new.self c.loop-loading.loading
-      c.loop-loading.invariant.0 c.in_ok-behind.ensures.takes.0)
+      c.loop-loading.invariant.0 c.in_ok-after.ensures.takes.0)
       c.in_ok-pause.ensures c.keep_last.ensures.bytes c.keep_last.ensures.came,
-  (rw c.in-More.is at c.in_ok-behind.ensures.counted) ∙ c.loop-loading.invariant.1,
+  (rw c.in-More.is at c.in_ok-after.ensures.counted) ∙ c.loop-loading.invariant.1,
 )
 
 pub returns-in-End-clause-loaded : goal.returns-in-End-clause-loaded
@@ -78,8 +78,8 @@ returns-in-End-clause-loaded g c =
     c.loop-loading.loading c.read_window.new.loading c.in_ok-pause.pause c.end.result
     (filled (g.R.ByteSource.script c.args.reader.now) (g.R.ByteSource.script c.loop-loading.reader)
     (g.R.ByteSource.script c.fill.new.reader) c.loop-loading.window c.fill.new.self c.loop-loading.loading
-    c.loop-loading.invariant.0 c.in_ok-behind.ensures.takes.0)
-    c.in_ok-pause.ensures (rw c.in-End.is at c.in_ok-behind.ensures.takes.1) c.end.ensures).loaded
+    c.loop-loading.invariant.0 c.in_ok-after.ensures.takes.0)
+    c.in_ok-pause.ensures (rw c.in-End.is at c.in_ok-after.ensures.takes.1) c.end.ensures).loaded
 
 pub returns-in-End-clause-accepts : goal.returns-in-End-clause-accepts
 returns-in-End-clause-accepts g c =
@@ -88,8 +88,8 @@ returns-in-End-clause-accepts g c =
     c.loop-loading.loading c.read_window.new.loading c.in_ok-pause.pause c.end.result
     (filled (g.R.ByteSource.script c.args.reader.now) (g.R.ByteSource.script c.loop-loading.reader)
     (g.R.ByteSource.script c.fill.new.reader) c.loop-loading.window c.fill.new.self c.loop-loading.loading
-    c.loop-loading.invariant.0 c.in_ok-behind.ensures.takes.0)
-    c.in_ok-pause.ensures (rw c.in-End.is at c.in_ok-behind.ensures.takes.1) c.end.ensures).accepts
+    c.loop-loading.invariant.0 c.in_ok-after.ensures.takes.0)
+    c.in_ok-pause.ensures (rw c.in-End.is at c.in_ok-after.ensures.takes.1) c.end.ensures).accepts
 
 pub returns-in-End-clause-fault : goal.returns-in-End-clause-fault
 returns-in-End-clause-fault g c =
@@ -98,8 +98,8 @@ returns-in-End-clause-fault g c =
     c.loop-loading.loading c.read_window.new.loading c.in_ok-pause.pause c.end.result
     (filled (g.R.ByteSource.script c.args.reader.now) (g.R.ByteSource.script c.loop-loading.reader)
     (g.R.ByteSource.script c.fill.new.reader) c.loop-loading.window c.fill.new.self c.loop-loading.loading
-    c.loop-loading.invariant.0 c.in_ok-behind.ensures.takes.0)
-    c.in_ok-pause.ensures (rw c.in-End.is at c.in_ok-behind.ensures.takes.1) c.end.ensures).fault
+    c.loop-loading.invariant.0 c.in_ok-after.ensures.takes.0)
+    c.in_ok-pause.ensures (rw c.in-End.is at c.in_ok-after.ensures.takes.1) c.end.ensures).fault
 
 pub returns-in-End-clause-no_memory : goal.returns-in-End-clause-no_memory
 returns-in-End-clause-no_memory g c =
@@ -108,8 +108,8 @@ returns-in-End-clause-no_memory g c =
     c.loop-loading.loading c.read_window.new.loading c.in_ok-pause.pause c.end.result
     (filled (g.R.ByteSource.script c.args.reader.now) (g.R.ByteSource.script c.loop-loading.reader)
     (g.R.ByteSource.script c.fill.new.reader) c.loop-loading.window c.fill.new.self c.loop-loading.loading
-    c.loop-loading.invariant.0 c.in_ok-behind.ensures.takes.0)
-    c.in_ok-pause.ensures (rw c.in-End.is at c.in_ok-behind.ensures.takes.1) c.end.ensures).no_memory
+    c.loop-loading.invariant.0 c.in_ok-after.ensures.takes.0)
+    c.in_ok-pause.ensures (rw c.in-End.is at c.in_ok-after.ensures.takes.1) c.end.ensures).no_memory
 
 pub returns-in-End-clause-read_fault : goal.returns-in-End-clause-read_fault
 returns-in-End-clause-read_fault g c =
@@ -119,8 +119,8 @@ returns-in-End-clause-read_fault g c =
     c.loop-loading.loading c.read_window.new.loading c.in_ok-pause.pause c.end.result
     (filled (g.R.ByteSource.script c.args.reader.now) (g.R.ByteSource.script c.loop-loading.reader)
     (g.R.ByteSource.script c.fill.new.reader) c.loop-loading.window c.fill.new.self c.loop-loading.loading
-    c.loop-loading.invariant.0 c.in_ok-behind.ensures.takes.0)
-    c.in_ok-pause.ensures (rw c.in-End.is at c.in_ok-behind.ensures.takes.1) c.end.ensures).not_read
+    c.loop-loading.invariant.0 c.in_ok-after.ensures.takes.0)
+    c.in_ok-pause.ensures (rw c.in-End.is at c.in_ok-after.ensures.takes.1) c.end.ensures).not_read
 
 pub returns-in-Failure-clause-fault : goal.returns-in-Failure-clause-fault
 returns-in-Failure-clause-fault g c = λ room.
@@ -129,5 +129,5 @@ returns-in-Failure-clause-fault g c = λ room.
     c.loop-loading.loading c.read_window.new.loading c.in_ok-pause.pause c.failure.result
     (filled (g.R.ByteSource.script c.args.reader.now) (g.R.ByteSource.script c.loop-loading.reader)
     (g.R.ByteSource.script c.fill.new.reader) c.loop-loading.window c.fill.new.self c.loop-loading.loading
-    c.loop-loading.invariant.0 c.in_ok-behind.ensures.takes.0)
-    c.in_ok-pause.ensures (rw c.in-Failure.is at c.in_ok-behind.ensures.takes.1) c.failure.ensures
+    c.loop-loading.invariant.0 c.in_ok-after.ensures.takes.0)
+    c.in_ok-pause.ensures (rw c.in-Failure.is at c.in_ok-after.ensures.takes.1) c.failure.ensures

@@ -15,7 +15,7 @@ returns-clause-alone c =
     made_alone (rows_of (found_of c.in_ok-matches.matches)) c.line_of_matches.result
     c.line_of_matches.ensures.says c.line_of_matches.ensures.alone
 
-pub returns-clause-in_company : goal.returns-clause-in_company
-returns-clause-in_company c same =
+pub returns-clause-not_alone : goal.returns-clause-not_alone
+returns-clause-not_alone c same =
     found_company (texts c.args.words.now) c.in_ok-matches.matches c.in_ok-matches.ensures.found
-    (c.line_of_matches.ensures.in_company same)
+    (c.line_of_matches.ensures.not_alone same)

@@ -8,7 +8,7 @@ abbrev pub invariant-turns : goal.invariant-turns
 invariant-turns g l = record {
   runs : Running l.fn.self l.fn.input.pending (g.O.ByteSink.contents l.fn.out) (g.M.ByteSink.contents l.fn.messages) l.self l.input (g.O.ByteSink.contents l.out) (g.M.ByteSink.contents l.messages);
   out : g.O.ByteSink.failures l.out ≡ g.O.ByteSink.failures l.fn.out;
-  told : g.M.ByteSink.failures l.messages ≡ g.M.ByteSink.failures l.fn.messages;
+  reported : g.M.ByteSink.failures l.messages ≡ g.M.ByteSink.failures l.fn.messages;
 }
 
 abbrev pub decreases-turns : goal.decreases-turns

@@ -4,7 +4,7 @@ use Rattle.m4_engine.proofs.machine.Machine.take_call.Goals as goal
 
 pub returns-then-not-has_room : goal.returns-then-not-has_room
 returns-then-not-has_room c = record {
-  moves = λ before o m. refused_calls c.args.self.now c.refuse_calls.new.self c.args.call c.args.listed c.args.input.now.pending before o m (search rules) c.in_ok-refuse_calls.ensures;
+  moves = λ before o m. refused_calls c.args.self.now c.report_call_limit.new.self c.args.call c.args.listed c.args.input.now.pending before o m (search rules) c.in_ok-report_call_limit.ensures;
   ready = search rules;
   limits = search rules;
   made = search rules;
@@ -12,7 +12,7 @@ returns-then-not-has_room c = record {
 
 pub returns-then-is_deep : goal.returns-then-is_deep
 returns-then-is_deep c = record {
-  moves = λ before o m. depth_refused c.args.self.now c.count.new.self c.refuse_depth.new.self c.args.call c.args.listed c.args.input.now.pending before o m (search rules) c.count.ensures (search rules) c.in_ok-refuse_depth.ensures;
+  moves = λ before o m. depth_refused c.args.self.now c.count.new.self c.report_nesting_limit.new.self c.args.call c.args.listed c.args.input.now.pending before o m (search rules) c.count.ensures (search rules) c.in_ok-report_nesting_limit.ensures;
   ready = search rules;
   limits = search rules;
   made = search rules;

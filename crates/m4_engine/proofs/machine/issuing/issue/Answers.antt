@@ -9,6 +9,6 @@ loop-text-preserved g c = record {
   sound = search rules;
 }
 
-pub returns-in_err-put_all-clause-puts : goal.returns-in_err-put_all-clause-puts
-returns-in_err-put_all-clause-puts g c = Puts-refused c.from_residual.result _ _ _ (search rules)
+pub returns-in_err-write_all-clause-puts : goal.returns-in_err-write_all-clause-puts
+returns-in_err-write_all-clause-puts g c = Puts-refused c.from_residual.result _ _ _ (search rules)
     (issue_breaks c.args.state.now c.loop-text.state c.take_least.new.self c.in-Some.field-0-0 c.in-Some.text.items _ _ _ c.loop-text.invariant.issuing c.in-Some.ensures.some (search rules))

@@ -13,12 +13,12 @@ pub returns-in-Err-Write-clause-gives : goal.returns-in-Err-Write-clause-gives
 returns-in-Err-Write-clause-gives g c =
     let mid = c.read_saved.new.self in
     let l : IsOpen mid = gone_on _ c.args.self.now mid _ c.in_ok-read_saved.ensures.goes.0 in
-    freeze_then c.args.self.now mid c.end.new.self _ _ _ _ _ _ _ _ c.in_ok-read_saved.ensures.goes.0 c.in_ok-read_saved.ensures.none_saved c.read_saved.ensures.missed (Err c.end.result)
+    freeze_then c.args.self.now mid c.end.new.self _ _ _ _ _ _ _ _ c.in_ok-read_saved.ensures.goes.0 c.in_ok-read_saved.ensures.none_saved c.read_saved.ensures.any_missing (Err c.end.result)
     (freeze_broke mid c.end.new.self c.state.result.now c.end.result _ _ _ _ l c.in_ok-read_saved.ensures.none_saved (search rules) c.end.ensures.answer (search rules) (search rules))
 
 pub returns-clause-gives : goal.returns-clause-gives
 returns-clause-gives g c =
     let mid = c.read_saved.new.self in
     let l : IsOpen mid = gone_on _ c.args.self.now mid _ c.in_ok-read_saved.ensures.goes.0 in
-    freeze_then c.args.self.now mid c.finish_here.new.self _ _ _ _ _ _ _ _ c.in_ok-read_saved.ensures.goes.0 c.in_ok-read_saved.ensures.none_saved c.read_saved.ensures.missed (Ok tt)
+    freeze_then c.args.self.now mid c.finish_here.new.self _ _ _ _ _ _ _ _ c.in_ok-read_saved.ensures.goes.0 c.in_ok-read_saved.ensures.none_saved c.read_saved.ensures.any_missing (Ok tt)
     (froze mid c.finish_here.new.self c.state.result.now _ _ _ _ l c.in_ok-read_saved.ensures.none_saved (search rules) (search rules) (search rules) (search rules))

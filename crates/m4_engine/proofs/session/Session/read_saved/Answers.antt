@@ -3,7 +3,7 @@ use Rattle.m4_engine.proofs.Wrapping.{none_yet, one_round, all_rounds, none_is, 
 use Rattle.m4_engine.proofs.session.Session.read_saved.Goals as goal
 
 pub rounds-init : goal.rounds-init
-rounds-init g c = record { live = c.requires; runs = none_yet c.args.self.now _ _; sound = (refl, refl); missed = refl }
+rounds-init g c = record { live = c.requires; runs = none_yet c.args.self.now _ _; sound = (refl, refl); any_missing = refl }
 
 -- a round that went on was made whole
 pub rounds-smaller : goal.rounds-smaller
@@ -14,7 +14,7 @@ rounds-preserved g c = record {
   live = record { over = c.in_ok-read_round.ensures.goes.0.1; unfinished = c.in_ok-read_round.ensures.goes.0.0.unfinished };
   runs = one_round c.args.self.now c.rounds.self c.read_round.new.self _ _ _ _ _ _ c.rounds.invariant.runs c.rounds.invariant.live (search rules) c.in_ok-read_round.ensures.goes.0.0;
   sound = (c.in_ok-read_round.ensures.write.0 ∙ c.rounds.invariant.sound.0, c.in_ok-read_round.ensures.write.1 ∙ c.rounds.invariant.sound.1);
-  missed = c.in_ok-read_round.ensures.missed ∙ c.rounds.invariant.missed;
+  any_missing = c.in_ok-read_round.ensures.any_missing ∙ c.rounds.invariant.any_missing;
 }
 
 pub returns-in_err-read_round-clause-goes : goal.returns-in_err-read_round-clause-goes

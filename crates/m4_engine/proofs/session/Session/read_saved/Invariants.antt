@@ -10,7 +10,7 @@ invariant-rounds g l = record {
   live : IsOpen l.self;
   runs : Rounding l.fn.self l.self (both g.O.ByteSink.contents g.M.ByteSink.contents l.fn.out l.out l.fn.messages l.messages);
   sound : NoneFailed (both g.O.ByteSink.failures g.M.ByteSink.failures l.fn.out l.out l.fn.messages l.messages);
-  missed : l.self.missed ≡ l.fn.self.missed;
+  any_missing : l.self.any_missing ≡ l.fn.self.any_missing;
 }
 
 abbrev pub decreases-rounds : goal.decreases-rounds

@@ -25,7 +25,7 @@ returns-in-None c = (
 
 pub returns-in_ok-apply-in-Some : goal.returns-in_ok-apply-in-Some
 returns-in_ok-apply-in-Some c =
-    has_read_directive c.args.bytes.now c.in-Some.behind.now (directive_of c.in-Some.directive)
+    has_read_directive c.args.bytes.now c.in-Some.after.now (directive_of c.in-Some.directive)
     c.args.self.now c.apply.new.self c.requires.stands c.requires.versioned
     (rw c.in-Some.is at c.in_ok-next_directive.ensures)
     c.in_ok-apply-in-Some.ensures.applied c.in_ok-apply-in-Some.ensures.issued

@@ -32,24 +32,24 @@ returns-then-is_empty c =
     (named_more read c.split_at.result.0.now c.args.self.now new c.args.begun u
     (omega (arith, c.split_at.ensures.front_len, c.min.ensures)) refl c.in_ok-extend_from_slice.ensures.items refl refl h)
 
-pub returns-in_err-behind : goal.returns-in_err-behind
-returns-in_err-behind c =
-    let p = err_from_is_err_and c.from_residual-in_err-behind.result c.from_residual-in_err-behind.ensures.1 in
+pub returns-in_err-after : goal.returns-in_err-after
+returns-in_err-after c =
+    let p = err_from_is_err_and c.from_residual-in_err-after.result c.from_residual-in_err-after.ensures.1 in
     let some : c.split_at.result.1.now ≢ [] =
     some_if c.split_at.result.1.now (sym c.is_empty.ensures ∙ c.if-is_empty.false) in
     rw (p.1, p.2) (λ read h. text_refused read c.args.bytes.now c.split_at.result.0.now
-    c.split_at.result.1.now c.args.self.now h.directives (Text c.args.begun.name) c.args.begun.text.items c.args.begun.missing c.in_err-behind.field-0.0 (two_parts c.args.bytes.now c.split_at.result.0.now c.split_at.result.1.now c.min.result
+    c.split_at.result.1.now c.args.self.now h.directives (Text c.args.begun.name) c.args.begun.text.items c.args.begun.missing c.in_err-after.field-0.0 (two_parts c.args.bytes.now c.split_at.result.0.now c.split_at.result.1.now c.min.result
     c.split_at.ensures.front c.split_at.ensures.back) (all_came c.args.bytes.now c.split_at.result.0.now c.split_at.result.1.now c.args.begun.missing
     c.min.result c.split_at.ensures.front c.split_at.ensures.back c.split_at.ensures.front_len
     c.min.ensures (sym c.is_empty.ensures ∙ c.if-is_empty.false)) some
-    c.in_err-behind.ensures h.within)
+    c.in_err-after.ensures h.within)
 
 pub returns : goal.returns
 returns c = named_text c.args.bytes.now c.split_at.result.0.now c.split_at.result.1.now
-    c.in_ok-behind.behind.now c.from.result c.args.self.now (record c.args.self.now { state = c.push.new.self }) c.args.begun
+    c.in_ok-after.after.now c.from.result c.args.self.now (record c.args.self.now { state = c.push.new.self }) c.args.begun
     (two_parts c.args.bytes.now c.split_at.result.0.now c.split_at.result.1.now c.min.result
     c.split_at.ensures.front c.split_at.ensures.back) (all_came c.args.bytes.now c.split_at.result.0.now c.split_at.result.1.now c.args.begun.missing
     c.min.result c.split_at.ensures.front c.split_at.ensures.back c.split_at.ensures.front_len
-    c.min.ensures (sym c.is_empty.ensures ∙ c.if-is_empty.false)) c.in_ok-behind.ensures c.requires
+    c.min.ensures (sym c.is_empty.ensures ∙ c.if-is_empty.false)) c.in_ok-after.ensures c.requires
     (c.from.ensures ∙ c.in_ok-extend_from_slice.ensures.items)
     (ap (λ (x : State). record c.args.self.now { state = x }) c.in_ok-push.ensures.ok)

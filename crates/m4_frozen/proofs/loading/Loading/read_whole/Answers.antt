@@ -5,7 +5,7 @@ use Rattle.m4_frozen.proofs.loading.Loading.read_whole.Goals as goal
 pub loop-one-preserved : goal.loop-one-preserved
 loop-one-preserved c =
     advanced_more c.args.bytes.now c.loop-one.rest.now c.skip_lines-inside.result.1.now
-    c.in-Some.behind.now c.args.self.now c.loop-one.self c.read_one.new.self
+    c.in-Some.after.now c.args.self.now c.loop-one.self c.read_one.new.self
     c.skip_lines-inside.result.0 c.loop-one.invariant c.skip_lines-inside.ensures
     (rw c.in-Some.is at c.in-Ok.ensures)
 

@@ -2,7 +2,7 @@ use Rattle.std.specs.Int.{w32}
 use Rattle.std.proofs.lemmas.Int.{to_z-of_z}
 use Rattle.m4_state.specs.State.{AreDiversions, AreSizedDiversions}
 use Rattle.m4_state.specs.DiversionEntries.{texts_of}
-use Rattle.m4_state.proofs.TextsByNumber.{valid_behind_append, some_bytes}
+use Rattle.m4_state.proofs.TextsByNumber.{valid_after_append, some_bytes}
 use Rattle.m4_state.proofs.diversions.Diversions.append.Goals as goal
 
 -- what the map holds behind the append is in order
@@ -10,7 +10,7 @@ valid : (c : goal.After-append_in) → AreDiversions (texts_of c.append_in.new.t
 valid c =
     let ok = rw (to_z-of_z w32 c.args.number c.ranges.number) at c.append_in.ensures.ok in
     let sized = rw (to_z-of_z w32 c.args.number c.ranges.number) at c.append_in.ensures.sized in
-    valid_behind_append c.append_in.result c.args.number c.args.text.now (texts_of c.self.inside.texts.entries) (texts_of c.append_in.new.texts.entries)
+    valid_after_append c.append_in.result c.args.number c.args.text.now (texts_of c.self.inside.texts.entries) (texts_of c.append_in.new.texts.entries)
     c.requires c.ranges.number (some_bytes c.args.text.now c.is_empty.result c.is_empty.ensures c.if-is_empty.false) ok c.append_in.ensures.err sized c.self.invariant
 
 pub invariant_of-self : goal.invariant_of-self

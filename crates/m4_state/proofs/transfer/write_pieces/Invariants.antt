@@ -1,6 +1,6 @@
 use Rattle.std.proofs.Common.{◌≡◌, drop}
 use Rattle.m4_state.specs.Device.{HasPut, joined}
-use Rattle.m4_state.proofs.transfer.put_pieces.Given as goal
+use Rattle.m4_state.proofs.transfer.write_pieces.Given as goal
 
 -- the pieces that are left are the rest of the text
 abbrev pub invariant-loop-piece : goal.invariant-loop-piece

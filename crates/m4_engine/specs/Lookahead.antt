@@ -1,6 +1,6 @@
 -- Ahead: what was seen of the token at the front, before a turn takes it.
 -- Not believed: it stands between the code and `Expand`, tied to it by the turns' lemmas.
--- Words: IsMeaning, Fits, IsNamed, IsAheadOf.
+-- Words: IsMeaning, Fits, IsNamed, IsLookaheadOf.
 use Rattle.std.specs.Prelude.{◌≡◌, ◌&&◌, ◌<◌, ◌≤◌, not, Bool, true, false, ℕ, List, [], None, Some, length, take, drop}
 use Rattle.m4_state.specs.declared.definition.Def.TheVariants.{Text}
 use Rattle.m4_state.specs.State.{State, top_of}
@@ -12,11 +12,11 @@ use Rattle.m4_input.specs.Paren.{paren_in}
 use Rattle.m4_input.specs.Input.{answer_of}
 use Rattle.m4_builtins.specs.declared.place.Place.{Place}
 use Rattle.m4_builtins.specs.Subst.{subst}
-use Rattle.m4_engine.specs.declared.ahead.Meaning.{Meaning}
-use Rattle.m4_engine.specs.declared.ahead.Meaning.TheVariants as meanings
-use Rattle.m4_engine.specs.declared.ahead.Named.{Named}
-use Rattle.m4_engine.specs.declared.ahead.Ahead.{Ahead}
-use Rattle.m4_engine.specs.declared.ahead.Ahead.TheVariants as aheads
+use Rattle.m4_engine.specs.declared.lookahead.Meaning.{Meaning}
+use Rattle.m4_engine.specs.declared.lookahead.Meaning.TheVariants as meanings
+use Rattle.m4_engine.specs.declared.lookahead.Named.{Named}
+use Rattle.m4_engine.specs.declared.lookahead.Lookahead.{Lookahead}
+use Rattle.m4_engine.specs.declared.lookahead.Lookahead.TheVariants as aheads
 
 -- what a name stands for that is read at a place, where `bare` says that a text is called with no list
 abbrev pub IsMeaning : Meaning → Bool → State → List ℕ → Place → Type 0
@@ -40,8 +40,8 @@ pub record IsNamed (n : Named) (s : State) (room : Bool) (p : Pending) : Type 0 
       IsMeaning n.meaning (not n.listed && room) s (take n.len (text_of p)) (record { file = name_of p; line = line_of p })
 
 -- what was seen of the token at the front
-abbrev pub IsAheadOf : Ahead → State → Bool → Pending → Type 0
-IsAheadOf aheads.Unknown s room p = Unit {0}
-IsAheadOf (aheads.Byte b) s room p =
+abbrev pub IsLookaheadOf : Lookahead → State → Bool → Pending → Type 0
+IsLookaheadOf aheads.Unknown s room p = Unit {0}
+IsLookaheadOf (aheads.Byte b) s room p =
     (p.definition ≡ None) × (scan s.quotes s.comments false (text_of p) ≡ Found (Byte b) 1) × (0 < length (text_of p))
-IsAheadOf (aheads.Named n) s room p = IsNamed n s room p
+IsLookaheadOf (aheads.Named n) s room p = IsNamed n s room p

@@ -1,6 +1,6 @@
 use Rattle.std.proofs.Common.{◌≡◌}
 use Rattle.m4_state.specs.Device.{after_bytes}
-use Rattle.m4_state.proofs.transfer.take_all.Given as goal
+use Rattle.m4_state.proofs.transfer.read_all.Given as goal
 
 abbrev pub invariant-loop-bytes : goal.invariant-loop-bytes
 invariant-loop-bytes g l = (after_bytes l.bytes.items (g.R.ByteSource.script l.reader) ≡ g.R.ByteSource.script l.initial.reader) × (g.R.ByteSource.failures l.reader ≡ g.R.ByteSource.failures l.initial.reader)

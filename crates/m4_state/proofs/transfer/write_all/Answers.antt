@@ -1,6 +1,6 @@
 use Rattle.std.proofs.Common.{◌∙◌}
 use Rattle.m4_state.proofs.CallerLaws.{HasPut-more}
-use Rattle.m4_state.proofs.transfer.put_all.Goals as goal
+use Rattle.m4_state.proofs.transfer.write_all.Goals as goal
 
 pub loop-rest-preserved : goal.loop-rest-preserved
 loop-rest-preserved g c =

@@ -2,7 +2,7 @@ use Rattle.std.proofs.Common.{◌++◌, take, Result, Ok, Err, sym, ap, ◌∙�
 use Rattle.std.specs.Prelude.{OnErr}
 use Rattle.m4_state.specs.Device.{after_bytes}
 use Rattle.m4_state.proofs.CallerLaws.{after_bytes-append}
-use Rattle.m4_state.proofs.transfer.take_all.Goals as goal
+use Rattle.m4_state.proofs.transfer.read_all.Goals as goal
 
 on_err : {A E : Type 0} (r : Result A E) (P : Type 0) → P → OnErr r P
 on_err (Ok x) P p = tt

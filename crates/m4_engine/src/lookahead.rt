@@ -4,7 +4,7 @@ ghost use Rattle.std.specs.Prelude.{◌≡◌, ◌&&◌, not, None, Some, IfOk, 
 ghost use Rattle.m4_state.specs.State.{top_of};
 ghost use Rattle.m4_input.specs.Pending.{text_of};
 ghost use Rattle.m4_input.specs.Plain.{IsFirst, FirstLies};
-ghost use Rattle.m4_engine.specs.Ahead.{IsMeaning, IsAheadOf};
+ghost use Rattle.m4_engine.specs.Lookahead.{IsMeaning, IsLookaheadOf};
 
 use crate::turned::TurnFault;
 use m4_builtins::head::Head;
@@ -38,7 +38,7 @@ pub struct Named {
 
 /// The token at the front.
 #[derive(Debug, Drop)]
-pub enum Ahead {
+pub enum Lookahead {
     /// Nothing is known of it.
     Unknown,
     /// A byte that belongs to no other token.
@@ -78,31 +78,31 @@ impl Meaning {
 
 /// The token at the front, of which this was seen; `room` says whether the limits leave a call.
 #[inline(always)]
-pub fn ahead_of(
+pub fn lookahead_of(
     alloc: Global,
     state: &State,
     room: bool,
     first: First<'_>,
     input: &Input,
-) -> Result<Ahead, TurnFault>
+) -> Result<Lookahead, TurnFault>
     requires first { IsFirst state.now (text_of input.now.pending) first }
     requires lies { FirstLies (length (text_of input.now.pending)) first }
     requires front { input.now.pending.definition ≡ None }
-    ensures { IfOk result (λ a. IsAheadOf a state.now room input.now.pending) }
+    ensures { IfOk result (λ a. IsLookaheadOf a state.now room input.now.pending) }
 {
     match (first, input.piece()) {
-        (First::Byte(byte), _) => Ok(Ahead::Byte(byte)),
+        (First::Byte(byte), _) => Ok(Lookahead::Byte(byte)),
         (First::Called(len, listed, definition), Some(text)) => {
             let name = text.split_at(len).0;
             let place = (input.name(), input.line());
             let bare = !listed && room;
             let meaning = Meaning::of(alloc, state, bare, name, definition, place)?;
-            Ok(Ahead::Named(Named {
+            Ok(Lookahead::Named(Named {
                 len,
                 listed,
                 meaning,
             }))
         }
-        _ => Ok(Ahead::Unknown),
+        _ => Ok(Lookahead::Unknown),
     }
 }
