@@ -2,7 +2,7 @@
 use Rattle.std.proofs.Common.{◌≡◌, ◌-◌, ◌<◌, ◌≤◌, Bool, false, List, [], ◌∷◌, length, length-drop, take, drop, get_or, refl, sym, ap, ◌∙◌, arith}
 use Rattle.std.specs.Prelude.{if◌then◌else◌}
 use Rattle.std.specs.Str.{bytes_eq}
-use Rattle.std.proofs.lemmas.List.{read_all}
+use Rattle.std.proofs.lemmas.List.{take_all}
 use Rattle.m4_builtins.specs.declared.args.Arg.{Arg}
 use Rattle.m4_builtins.specs.Args.{text_of_arg, texts_of}
 use Rattle.m4_builtins.specs.Branching.{chosen}
@@ -16,7 +16,7 @@ chosen_short (x ∷ y ∷ z ∷ list) lt = absurd (omega arith)
 
 -- all that comes after the third
 after_third : (list : List Arg) → take (length list - 3) (drop 3 list) ≡ drop 3 list
-after_third list = read_all (length list - 3) (drop 3 list) (omega (arith, length-drop 3 list))
+after_third list = take_all (length list - 3) (drop 3 list) (omega (arith, length-drop 3 list))
 
 -- where the first two differ, and three or more come after the third, these choose
 chosen_on : (list others : List Arg) (x y : Arg) → others ≡ drop 3 list → 3 ≤ length others → x ≡ get_or list 0 x → y ≡ get_or list 1 y → bytes_eq (text_of_arg x) (text_of_arg y) ≡ false

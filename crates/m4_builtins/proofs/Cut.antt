@@ -1,6 +1,6 @@
 -- Cut: what `substr` gives, by the numbers that were read.
 use Rattle.std.proofs.Common.{◌≡◌, ℕ, ◌-◌, ◌<◌, ◌≤◌, ℤ, List, [], ◌∷◌, ◌++◌, append-nil, append_assoc, length, length-drop, take, drop, get_or, Option, Some, None, refl, sym, ap, ◌∙◌, arith}
-use Rattle.std.proofs.lemmas.List.{read_all}
+use Rattle.std.proofs.lemmas.List.{take_all}
 use Rattle.m4_state.specs.declared.builtin.Builtin.TheVariants.{Substr}
 use Rattle.m4_state.specs.State.{State}
 use Rattle.m4_input.specs.declared.pushed.Pushed.TheVariants as pushes
@@ -52,7 +52,7 @@ counted p s (c ∷ rest) part =
 
 -- all that comes after the second
 after_second : (list : List Arg) → take (length list - 2) (drop 2 list) ≡ drop 2 list
-after_second list = read_all (length list - 2) (drop 2 list) (omega (arith, length-drop 2 list))
+after_second list = take_all (length list - 2) (drop 2 list) (omega (arith, length-drop 2 list))
 
 module _ (p : Place) (s : State) where
   counted-none : (counts : List Arg) (part : List ℕ) → length counts < 1 → counted p s counts part ≡ expands s part

@@ -66,7 +66,8 @@ pub fn split()
 /// the sources of all of them: outputs and messages joined, the ending, the status and the frozen text of the
 /// last run, and the sum of the calls. Manual: "Fast loading of frozen state".
 pub fn chain()
-    // chains; and limits: the sum of calls, of any number of runs
+    // chains: any number of runs
+    // limits: the calls of a joint run are the sum of those of its parts
     ensures { Chain }
 {}
 
