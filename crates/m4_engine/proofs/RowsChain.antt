@@ -16,9 +16,9 @@ link text = record { prefix = false; sources = file text }
 
 -- a name is defined; its value is hidden by another, of which text is diverted; the name is restored; the
 -- diverted text is issued
-outputs : map (λ (r : RunResult). r.output) (chain usual false None (file (codes "define(`n',`1')dnl\n")) (link (codes "n pushdef(`n',`2')divert(1)n\n") ∷ link (codes "divert(0)n popdef(`n')dnl\n") ∷ link (codes "n undivert(1)end\n") ∷ [])) ≡ [] ∷ codes "1 " ∷ codes "2 " ∷ codes "1 2\nend\n" ∷ []
+four_outputs : map (λ (r : RunResult). r.output) (chain usual false None (file (codes "define(`n',`1')dnl\n")) (link (codes "n pushdef(`n',`2')divert(1)n\n") ∷ link (codes "divert(0)n popdef(`n')dnl\n") ∷ link (codes "n undivert(1)end\n") ∷ [])) ≡ [] ∷ codes "1 " ∷ codes "2 " ∷ codes "1 2\nend\n" ∷ []
 unfolding digits steps.file_at steps.version_at steps.directives_at steps.directive_at steps.pair_at steps.diversion_at steps.length_at steps.string_at
-outputs = refl
+four_outputs = refl
 
 -- one run over the four
 joint : (run usual None (Opened (codes "a.m4") (codes "define(`n',`1')dnl\n") ∷ Opened (codes "b.m4") (codes "n pushdef(`n',`2')divert(1)n\n") ∷ Opened (codes "c.m4") (codes "divert(0)n popdef(`n')dnl\n") ∷ Opened (codes "d.m4") (codes "n undivert(1)end\n") ∷ [])).output ≡ codes "1 2 1 2\nend\n"
