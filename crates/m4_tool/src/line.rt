@@ -19,38 +19,38 @@ use m4_engine::options::Options;
 use std::alloc::{AllocError, Global};
 
 const ABOUT: &str =
-    "Expands the macros of GNU M4's language, with the builtins that m4r(1) lists. Also shows what a frozen state \
-    file of GNU M4 holds, and writes it in its one canonical spelling.";
+    "Expands macros in the language of GNU M4, with the builtins that m4r(1) lists. Saves their definitions as \
+    frozen state files and starts from them, GNU M4's too; lists such files and writes their canonical text.";
 
 const USAGE: &str = "m4r [-F FILE] [-R FILE] [-L N] [--expansions=N] [-P] [FILE...]
        m4r --canon=FILE
        m4r --inspect=FILE";
 
 const AFTER_HELP: &str =
-    "The files are read in their order; `-`, or no FILE, is standard input. Output goes to standard
-output, messages to standard error. A mode, --canon or --inspect, is given without other options
-and files. The FILE of an option is a frozen state file, as `m4r -F FILE` and `m4 -F FILE` write
-it, and `-` there names a file called `-`. The FILE of -F is made when its first byte is written,
-so that -R and -F may name one file.
+    "The files are read in this order; `-`, or no FILE, is standard input. Output goes to standard
+output, messages to standard error. Use --canon or --inspect without any other option or file.
+The FILE of an option is a frozen state file, as `m4r -F FILE` and `m4 -F FILE` write it, and `-`
+there names a file called `-`. The FILE of -F is created when its first byte is written, so that
+-R and -F may name one file.
 
 Exit status:
-   0  the files were expanded, the mode did its work, or this help was asked for
-   1  the line is refused, a file cannot be opened, a limit was passed, or a file, the input
-      or the output is at fault; after a fault of the frozen file of -R nothing is read or
-      written
-  63  the frozen file is of a newer format than 1
+   0  success
+   1  an unknown option, a file that cannot be opened, unfinished input, a limit that was
+      exceeded, a damaged frozen file, a read or write error, or no memory left
+  63  a frozen file of a newer format
+   N  a macro ended the run by `m4exit`, with this code
 
 Examples:
   m4r macros.m4 page.m4 > page.html          expands a page with a library of macros
   m4r -F macros.m4f macros.m4                freezes the library
   m4r -R macros.m4f page.m4 > page.html      expands the page from the frozen library
-  m4r --inspect=macros.m4f                   lists what the frozen library holds
-  m4r --canon=macros.m4f > canonical.m4f     writes it in its one canonical spelling";
+  m4r --inspect=macros.m4f                   lists the contents of the frozen library
+  m4r --canon=macros.m4f > canonical.m4f     writes its canonical text, for cmp";
 
-// How many calls may be open where the line says nothing of it.
+// The limit of open calls, unless the line gives one.
 const USUAL_NESTING: u32 = 1024;
 
-// How many calls a run may make where the line says nothing of it.
+// The limit of all calls, unless the line gives one.
 const USUAL_CALLS: u32 = u32::MAX;
 
 /// What a command line asks for: one mode with its file, or a run over files.
@@ -289,7 +289,7 @@ fn with_modes<'a>(alloc: Global, command: Command<'a>) -> Result<Command<'a>, Al
     let inspect = path_option(
         alloc,
         "inspect",
-        "Lists what FILE holds, one line for each thing",
+        "Lists the contents of FILE, one line for each thing",
     );
     command.arg(canon)?.arg(inspect)
 }
@@ -301,15 +301,10 @@ fn with_frozen<'a>(alloc: Global, command: Command<'a>) -> Result<Command<'a>, A
     let freeze = path_option(
         alloc,
         "freeze-state",
-        "Freezes the state at the end of the run to FILE, in place of issuing the diversions",
+        "Writes the state at the end of the run to FILE, and prints no diversions",
     )
     .short('F');
-    let reload = path_option(
-        alloc,
-        "reload-state",
-        "Starts the run from the state in FILE, before the files are read",
-    )
-    .short('R');
+    let reload = path_option(alloc, "reload-state", "Starts from the state in FILE").short('R');
     command.arg(freeze)?.arg(reload)
 }
 
@@ -321,14 +316,14 @@ fn with_limits<'a>(alloc: Global, command: Command<'a>) -> Result<Command<'a>, A
         alloc,
         "nesting-limit",
         0,
-        "Ends a run with more than N calls open, one within another; 0 is no limit [default: 1024]",
+        "Allows at most N nested calls; 0 is no limit [default: 1024]",
     )
     .short('L');
     let calls = limit_option(
         alloc,
         "expansions",
         1,
-        "Ends a run that makes more than N calls [default: 4294967295]",
+        "Allows at most N calls in all [default: 4294967295]",
     );
     command.arg(nesting)?.arg(calls)
 }
@@ -341,7 +336,7 @@ fn with_prefix<'a>(alloc: Global, command: Command<'a>) -> Result<Command<'a>, A
         .long("prefix-builtins")
         .short('P')
         .action(ArgAction::SetTrue)
-        .help("Puts `m4_` in front of the name of each builtin; no effect with -R");
+        .help("Prefixes the name of each builtin with `m4_`; no effect with -R");
     command.arg(prefix)
 }
 
@@ -390,7 +385,7 @@ fn files<'a>(alloc: Global) -> Arg<'a>
     Arg::new(alloc, "files")
         .action(ArgAction::Append)
         .value_name("FILE")
-        .help("A file to be read; `-` is standard input")
+        .help("An input file; `-` is standard input")
 }
 
 // An error of `clap` that is only want of memory is told apart from a refused line.
