@@ -1,6 +1,6 @@
 changequote([, ])dnl
 changecom([<!--], [-->])dnl
-dnl The layout of a small site, as macros. It puts nothing out, so it can be frozen once:
+dnl The layout of a small site, as macros. It prints nothing, so it can be frozen once:
 dnl
 dnl     m4 -F layout.m4f layout.m4
 dnl     m4 -R layout.m4f pages.m4
