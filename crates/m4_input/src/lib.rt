@@ -12,7 +12,7 @@ mod follows;
 pub mod front;
 pub mod input;
 mod piece;
-// Only for the engine, which consumes plain tokens many at a time.
+// Public only for the engine, which consumes plain tokens many at a time.
 #[doc(hidden)]
 pub mod plain;
 pub mod pushed;
