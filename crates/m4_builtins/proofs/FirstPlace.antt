@@ -43,7 +43,7 @@ earlier p x b k occurs = record { fits = omega (arith, occurs.fits); reads = λ 
 abbrev first_by : Option ℕ → Bool → Option ℕ
 first_by rest t = elim t [ true ↦ Some 0 | false ↦ one_more rest ]
 
--- nothing stands before what is nowhere
+-- a part that occurs nowhere has no first place
 nowhere : (p x : List ℕ) → ((k : ℕ) → ¬ OccursAt x p k) → before p x ≡ None
 nowhere p [] none = refl
 nowhere p (b ∷ x) none = by (begins p (b ∷ x)) refl (nowhere p x (λ k occurs. none (suc k) (later p x b k occurs)))
@@ -52,7 +52,7 @@ nowhere p (b ∷ x) none = by (begins p (b ∷ x)) refl (nowhere p x (λ k occur
     by true is rest = absurd (none 0 (begins_occurs p (b ∷ x) is))
     by false is rest = ap one_more rest
 
--- a part that isn't empty stands first where it occurs and occurs nowhere before
+-- a part that isn't empty is first where it occurs and occurs nowhere before
 first : (p x : List ℕ) (k : ℕ) → 0 < length p → OccursAt x p k → ((j : ℕ) → j < k → ¬ OccursAt x p j) → before p x ≡ Some k
 first p [] k some occurs none = absurd (omega (arith, occurs.fits))
 first p (b ∷ x) zero some occurs none = ap (first_by (before p x)) (occurs_begins p (b ∷ x) occurs)

@@ -19,7 +19,7 @@ pub joined_step : (separator x : List ℕ) (xs : List (List ℕ)) → joined sep
 joined_step separator x [] = sym (append-nil x)
 joined_step separator x (y ∷ ys) = append_assoc x separator (joined separator (y ∷ ys))
 
--- the number of digits behind those whose number is n
+-- the number of digits after those whose number is n
 abbrev pub number_from : ℕ → List ℕ → ℕ
 number_from n digits = fold (λ m d. m * 10 + (d - digit_zero)) n digits
 
@@ -63,7 +63,7 @@ subst_skip name xs q zero y = refl
 subst_skip name xs q (suc n) [] = refl
 subst_skip name xs q (suc n) (b ∷ y) = subst_skip name xs q n y
 
--- behind a run stands a byte that ends it
+-- after a run comes a byte that ends it
 pub run_stops : (f : ℕ → Bool) (x : List ℕ) (b : ℕ) (y : List ℕ) → drop (run_length f x) x ≡ b ∷ y → f b ≡ false
 run_stops f [] b y e = absurd cc
 run_stops f (c ∷ x) b y e = by (f c) refl e (run_stops f x b y)
@@ -72,7 +72,7 @@ run_stops f (c ∷ x) b y e = by (f c) refl e (run_stops f x b y)
     by true is e later = later e
     by false is e later = let same : c ≡ b = cc in ap f (sym same) ∙ is
 
--- bytes in front of the first dollar stand for themselves
+-- bytes before the first dollar are copied
 pub subst_plain : (name : List ℕ) (xs : List (List ℕ)) (q : Delimiters) (x : List ℕ) → let n = run_length (λ b. not (b == dollar)) x in subst_from name xs q 0 x ≡ take n x ++ subst_from name xs q 0 (drop n x)
 subst_plain name xs q [] = refl
 subst_plain name xs q (b ∷ x) = by (b == dollar) refl (subst_plain name xs q x)
@@ -90,7 +90,7 @@ is_dollar b h = by (b == dollar) h
     by true h = refl
     by false h = absurd cc
 
--- a dollar stands for what is behind it
+-- a dollar is replaced as the bytes after it say
 pub subst_dollar : (name : List ℕ) (xs : List (List ℕ)) (q : Delimiters) (b : ℕ) (y : List ℕ) → not (b == dollar) ≡ false
     → let p = after_dollar name xs q y in subst_from name xs q 0 (b ∷ y) ≡ p.0 ++ subst_from name xs q 0 (drop p.1 y)
 subst_dollar name xs q b y h =
@@ -107,7 +107,7 @@ front_plain name xs q out out' x y n e f g =
     ∙ ap (λ (m : ℕ). out ++ (take m x ++ subst_from name xs q 0 (drop m x))) e
     ∙ ap (λ (z : List ℕ). out ++ z) (sym (subst_plain name xs q x))
 
--- a text's front is written, and what the dollar behind it stands for
+-- the start of a text is written, and the replacement of the dollar after it
 pub front_dollar : (name : List ℕ) (xs : List (List ℕ)) (q : Delimiters) (out mid out' x y z rest : List ℕ) (n b used : ℕ) → n ≡ run_length (λ b. not (b == dollar)) x → y ≡ drop n x → mid ≡ out ++ take n x
     → y ≡ b ∷ z → used ≡ (after_dollar name xs q z).1 → out' ≡ mid ++ (after_dollar name xs q z).0 → rest ≡ drop used z
     → out' ++ subst_from name xs q 0 rest ≡ out ++ subst_from name xs q 0 x

@@ -1,10 +1,10 @@
--- Act: what a call does to the state, and what it leaves to be done.
--- Believed. Its lemmas: `ActKeeps` (a state in order stays so, and pushes definitions in order).
+-- Act: the effect of a call on the state, and its effects that the run still has to apply.
+-- Believed. Its lemmas: `ActKeeps` (a valid state stays valid, and pushes valid definitions).
 -- Manual: "Deleting whitespace in input", "Arguments to macros", "Macro invocation"; the sections of
 -- the other builtins are named at their own definitions, a file for each chapter.
--- Words: row, act_with, goes_on, act, needs_list, given_though_few. One line a builtin, one a kind of
--- definition.
--- own: a placeholder, which stands for a builtin of another m4, expands to nothing with a warning.
+-- Words: row, act_with, goes_on, act, needs_list, given_though_few. One line for each builtin, and one for
+-- each kind of definition.
+-- own: a placeholder, which names a builtin of another m4, expands to nothing with a warning.
 -- own: with one argument `index` expands to 0, `substr` and `translit` to it, after the warning.
 use Rattle.std.specs.Prelude.{ℕ, Bool, true, false, nat_lt, List, [], ◌∷◌, Option, Some, None, length, map, codes}
 use Rattle.m4_state.specs.declared.builtin.Builtin.{Builtin}
@@ -39,7 +39,7 @@ needs_list (defs.Text x) = false
 needs_list (defs.Builtin b) = needs_args b
 needs_list (defs.Placeholder x) = false
 
--- what a builtin does with arguments that are enough
+-- the effect of a builtin with enough arguments
 abbrev pub row : Inner → Builtin → List Arg → Place → State → Acted
 row inner Define list p s = define list p s
 row inner Undefine list p s = undefine list s
@@ -71,51 +71,51 @@ row inner M4exit list p s = m4exit list p s
 row inner File list p s = file p s
 row inner Line list p s = line p s
 
--- whether a count is above the most
+-- whether a count is above the maximum
 abbrev pub is_above : Option ℕ → ℕ → Bool
 is_above None n = false
 is_above (Some most) n = nat_lt most n
 
--- the warning on arguments above the most; they are ignored
+-- the warning on arguments above the maximum; they are ignored
 abbrev pub excess_if : Bool → Place → Builtin → List ℕ
 excess_if true p b = excess p b
 excess_if false p b = []
 
--- the arguments as the builtin takes them: definitions as such, or as empty texts
+-- the arguments as the builtin accepts them: definitions as such, or as empty texts
 abbrev pub taken : Bool → List Arg → List Arg
 taken true list = list
 taken false list = map only_text list
 
--- what a call still expands to where arguments are missing
+-- the value that a call with missing arguments still expands to
 abbrev pub given_though_few : Builtin → List Arg → Option Pushed
 given_though_few Index (a ∷ []) = Some (pushes.Text (codes "0"))
 given_though_few Substr (a ∷ []) = Some (pushes.Text (text_of_arg a))
 given_though_few Translit (a ∷ []) = Some (pushes.Text (text_of_arg a))
 given_though_few b list = None
 
--- a call where arguments are missing: a warning, and nothing changes
+-- a call with missing arguments: a warning, and the state stays
 abbrev pub lacks : Builtin → List Arg → Place → State → Acted
 lacks b list p s = record {
   state = s;
   effect = record nothing { push = given_though_few b list; messages = too_few p b };
 }
 
--- a builtin's row, where `few` says that arguments are missing
+-- a builtin's row; `few` says that arguments are missing
 abbrev pub act_unless : Inner → Bool → Builtin → List Arg → Place → State → Acted
 act_unless inner true b list p s = lacks b list p s
 act_unless inner false b list p s =
     telling_first (excess_if (is_above (most_of b) (length list)) p b)
     (row inner b (taken (takes_tokens b) list) p s)
 
--- a call of a definition under a name, by what an indirect call goes on as
+-- a call of a definition under a name; `inner` continues an indirect call
 abbrev pub act_with : Inner → Def → List ℕ → List Arg → Place → State → Acted
 act_with inner (defs.Text x) name list p s = expands s (subst x name list s.quotes)
 act_with inner (defs.Builtin b) name list p s =
     act_unless inner (nat_lt (length list) (least_of b)) b list p s
 act_with inner (defs.Placeholder x) name list p s = only_warning s (unsupported p x)
 
--- what an indirect call with these arguments goes on as: a call on those after the first; without any
--- it only warns
+-- how an indirect call with these arguments continues: as a call with those after the first; without any
+-- it does nothing
 abbrev pub goes_on : List Arg → Place → State → Inner
 goes_on [] p s d name = changes s
 goes_on (a ∷ rest) p s d name = act_with (goes_on rest p s) d name rest p s

@@ -1,4 +1,4 @@
--- Acted: the state and the effect of a call, and the forms in which the builtins' rows say them.
+-- Acted: the state and the effect of a call, and the forms that the builtins' rows use for them.
 -- Believed. Words: Acted, IsPushed, nothing, changes, only_warning, gives, expands, telling_first.
 use Rattle.std.specs.Prelude.{ℕ, false, List, [], ◌++◌, Option, Some, None}
 use Rattle.m4_state.specs.Definition.{IsDefinition}
@@ -12,13 +12,13 @@ pub record Acted : Type 0 where
   pub state : State
   pub effect : Effect
 
--- a definition that is pushed is one that is in order
+-- a definition that is pushed is valid
 abbrev pub IsPushed : Option Pushed → Type 0
 IsPushed None = Unit {0}
 IsPushed (Some (pushes.Text x)) = Unit {0}
 IsPushed (Some (pushes.Definition d)) = IsDefinition d
 
--- nothing is left to be done
+-- nothing is left to do
 abbrev pub nothing : Effect
 nothing = record { push = None; messages = []; output = []; wrap = None; skip = false; exit = None }
 
@@ -38,7 +38,7 @@ gives s v = record { state = s; effect = record nothing { push = Some v } }
 abbrev pub expands : State → List ℕ → Acted
 expands s x = gives s (pushes.Text x)
 
--- with a message in front of the others
+-- with a message before the others
 abbrev pub telling_first : List ℕ → Acted → Acted
 telling_first x r =
     record { state = r.state; effect = record r.effect { messages = x ++ (r.effect).messages } }

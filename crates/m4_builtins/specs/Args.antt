@@ -1,4 +1,4 @@
--- Args: what the arguments of a call give, by their numbers.
+-- Args: the texts and definitions of a call's arguments, by their numbers.
 -- Believed. Manual: "Macro arguments". Words: IsArg, text_of_arg, text_at,
 -- texts_of, after_first, definition_of_arg, joined, with_spaces, quoted.
 use Rattle.std.specs.Prelude.{ℕ, List, [], ◌∷◌, ◌++◌, Option, Some, None, slice_get, map}
@@ -10,7 +10,7 @@ use Rattle.m4_input.specs.Ascii.{space}
 use Rattle.m4_builtins.specs.declared.args.Arg.{Arg}
 use Rattle.m4_builtins.specs.declared.args.Arg.TheVariants as args
 
--- an argument that is a definition is one that is in order
+-- a definition that is an argument is valid
 abbrev pub IsArg : Arg → Type 0
 IsArg (args.Text x) = Unit {0}
 IsArg (args.Definition d) = IsDefinition d
@@ -29,7 +29,7 @@ abbrev pub after_first : List Arg → List Arg
 after_first [] = []
 after_first (a ∷ rest) = rest
 
--- an argument of a builtin that takes no definitions
+-- an argument of a builtin that accepts no definitions
 abbrev pub only_text : Arg → Arg
 only_text a = args.Text (text_of_arg a)
 
@@ -38,12 +38,12 @@ abbrev pub definition_of_arg : Arg → Def
 definition_of_arg (args.Text x) = defs.Text x
 definition_of_arg (args.Definition d) = d
 
--- a text, or an empty one where there is none
+-- a text, or an empty one if there is none
 abbrev pub or_empty : Option (List ℕ) → List ℕ
 or_empty None = []
 or_empty (Some x) = x
 
--- the text of the argument at index n, from 0; empty where it is missing
+-- the text of the argument at index n, from 0; empty if it is missing
 abbrev pub text_at : List Arg → ℕ → List ℕ
 text_at list n = or_empty (slice_get (map text_of_arg list) n)
 

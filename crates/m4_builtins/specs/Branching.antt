@@ -1,7 +1,7 @@
 -- Branching: the builtins that choose among their arguments.
 -- Believed. Manual: "Testing if a macro is defined", "If-else construct, or multibranch", "Recursion
 -- in m4". Words: ifdef, chosen, ifelse, shift.
--- own: `ifelse` warns of one argument too many wherever two texts with no result would be left.
+-- own: `ifelse` warns of one argument too many if two texts with no result would be left.
 use Rattle.std.specs.Prelude.{ℕ, ◌%◌, ◌==◌, ◌&&◌, nat_le, Bool, true, false, List, [], ◌∷◌, Option, Some, None, length, if◌then◌else◌}
 use Rattle.std.specs.Str.{bytes_eq}
 use Rattle.m4_state.specs.declared.builtin.Builtin.TheVariants.{Ifelse}
@@ -14,7 +14,7 @@ use Rattle.m4_builtins.specs.Acted.{Acted, changes, only_warning, expands, telli
 use Rattle.m4_builtins.specs.Messages.{too_few, excess}
 use Rattle.m4_builtins.specs.Subst.{all_quoted}
 
--- `ifdef`: the second argument where the name has a definition, else the third
+-- `ifdef`: the second argument if the name has a definition, otherwise the third
 abbrev pub ifdef_by : Option Def → List Arg → List ℕ
 ifdef_by None list = text_at list 2
 ifdef_by (Some d) list = text_at list 1
@@ -22,8 +22,8 @@ ifdef_by (Some d) list = text_at list 1
 abbrev pub ifdef : List Arg → State → Acted
 ifdef list s = expands s (ifdef_by (top_of s (text_at list 0)) list)
 
--- what `ifelse` chooses among texts: the third where the first two are equal; else the fourth where
--- at most one more comes after it, or what it chooses after the first three
+-- the text that `ifelse` chooses: the third if the first two are equal; otherwise the fourth if at most
+-- one more follows it, or else the choice among those after the first three
 abbrev pub chosen : List (List ℕ) → List ℕ
 chosen [] = []
 chosen (x ∷ []) = []

@@ -1,5 +1,5 @@
--- CallHead: what a call is before its arguments.
--- Not believed: it only gives its three parts their names. Manual: "Macro invocation".
+-- CallHead: the parts of a call before its arguments.
+-- Not believed: it only names the three parts. Manual: "Macro invocation".
 use Rattle.std.specs.Prelude.{ℕ, List}
 use Rattle.m4_state.specs.declared.definition.Def.{Def}
 use Rattle.m4_builtins.specs.declared.place.Place.{Place}

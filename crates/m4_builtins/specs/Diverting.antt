@@ -1,7 +1,7 @@
--- Diverting: the builtins that divert text and bring it back.
+-- Diverting: the builtins that divert text and undivert it.
 -- Believed. Manual: "Diverting output", "Undiverting output", "Diversion numbers".
 -- Words: divert, undivert, brought_back, issued_by, divnum.
--- own: of several numbers of `undivert` each that is none is passed over with a warning.
+-- own: of several numbers of `undivert`, each invalid one is skipped with a warning.
 use Rattle.std.specs.Prelude.{ℕ, ℤ, pos, List, [], ◌∷◌, ◌++◌, Option, Some, None, map, fold, flat_map, filter_map}
 use Rattle.std.specs.Fmt.{signed_decimal}
 use Rattle.m4_state.specs.declared.builtin.Builtin.TheVariants.{Divert, Undivert}
@@ -18,7 +18,7 @@ abbrev pub diverted_if : State → Option ℤ → State
 diverted_if s None = s
 diverted_if s (Some number) = diverted s number
 
--- `divert`: the number is 0 where there is no argument
+-- `divert`: the number is 0 if there is no argument
 abbrev pub divert : List Arg → Place → State → Acted
 divert [] p s = changes (diverted s (pos 0))
 divert (a ∷ rest) p s =
@@ -28,24 +28,24 @@ divert (a ∷ rest) p s =
       effect = record nothing { messages = reading_warning p Divert r };
     }
 
--- after the bringing back of diversions, one after the other
+-- the state after diversions were undiverted, one after another
 abbrev pub brought_back : List ℤ → State → State
 brought_back numbers s = fold undiverted s numbers
 
--- the text that they give to the output
+-- the text that they add to the output
 abbrev pub issued_by : List ℤ → State → List ℕ
 issued_by [] s = []
 issued_by (number ∷ numbers) s = issued_from s number ++ issued_by numbers (undiverted s number)
 
--- diversions are brought back, with warnings
+-- diversions are undiverted, with warnings
 abbrev pub brings_back : List ℤ → List ℕ → State → Acted
 brings_back numbers warnings s = record {
   state = brought_back numbers s;
   effect = record nothing { messages = warnings; output = issued_by numbers s };
 }
 
--- the numbers of the diversions that hold text, as they rise; the current one among them stays as it
--- is where it is brought back
+-- the numbers of the diversions that contain text, in rising order; if the current one is among them,
+-- undiverting it changes nothing
 abbrev pub held_numbers : State → List ℤ
 held_numbers s = map (λ d. d.0) s.diversions
 
@@ -53,7 +53,7 @@ held_numbers s = map (λ d. d.0) s.diversions
 abbrev pub readings_of : List Arg → List Reading
 readings_of list = map (λ a. reading_of (text_of_arg a)) list
 
--- `undivert`: all diversions where there is no argument
+-- `undivert`: all diversions if there is no argument
 abbrev pub undivert : List Arg → Place → State → Acted
 undivert [] p s = brings_back (held_numbers s) [] s
 undivert (a ∷ rest) p s =

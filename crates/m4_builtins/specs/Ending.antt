@@ -23,7 +23,7 @@ m4wrap list s =
 abbrev pub exits : State → ℕ → Acted
 exits s code = record { state = s; effect = record nothing { exit = Some code } }
 
--- by a number, which may be none of the codes
+-- by a number, which may be no valid code
 abbrev pub exits_by : ℤ → Place → State → Acted
 exits_by (pos n) p s = if nat_le n 255 then exits s n else telling_first (bad_status p) (exits s 1)
 exits_by (negsuc n) p s = telling_first (bad_status p) (exits s 1)
@@ -33,7 +33,7 @@ exits_reading (Number n) p s = exits_by n p s
 exits_reading Empty p s = telling_first (empty_number p M4exit) (exits s 0)
 exits_reading NotNumeric p s = telling_first (not_numeric p M4exit) (exits s 1)
 
--- `m4exit`: the code is 0 where there is no argument
+-- `m4exit`: the code is 0 if there is no argument
 abbrev pub m4exit : List Arg → Place → State → Acted
 m4exit [] p s = exits s 0
 m4exit (a ∷ rest) p s = exits_reading (reading_of (text_of_arg a)) p s

@@ -1,8 +1,8 @@
--- Eval: the builtin that computes an expression. What an expression is, and its value, is m4_eval's.
+-- Eval: the builtin that computes an expression. m4_eval defines expressions and their values.
 -- Believed. Manual: "Evaluating integer expressions".
 -- Words: with_radix, with_width, with_value, with_digits, eval.
--- own: the radix is read first, then the width, then the expression; the first that is wrong ends the
--- call. An empty radix is 10 without a warning; an empty width is 0, an empty expression too, with one.
+-- own: the radix is read first, then the width, then the expression; the first invalid one ends the
+-- call. An empty radix is 10 without a warning; an empty width or expression is 0, with one.
 use Rattle.std.specs.Prelude.{ℕ, ℤ, pos, negsuc, List, [], ◌∷◌, Option, Some, None, slice_get, if◌then◌else◌}
 use Rattle.std.specs.List.{list_all}
 use Rattle.m4_state.specs.declared.builtin.Builtin.TheVariants.{Eval}
@@ -19,41 +19,41 @@ use Rattle.m4_builtins.specs.Acted.{Acted, only_warning, expands, telling_first}
 use Rattle.m4_builtins.specs.Messages.{empty_number, divide_by_zero, bad_expression, out_of_range}
 use Rattle.m4_builtins.specs.Numeric.{reading_of, with_number}
 
--- what is done with a radix, if a number is one
+-- continues with a radix, if the number is one
 abbrev pub if_radix : Place → State → (ℕ → Acted) → Option ℕ → Acted
 if_radix p s does (Some radix) = does radix
 if_radix p s does None = only_warning s (out_of_range p)
 
--- what is done with the radix, which is 10 where its argument is missing or empty
+-- continues with the radix, which is 10 if its argument is missing or empty
 abbrev pub with_radix : Place → State → List ℕ → (ℕ → Acted) → Acted
 with_radix p s [] does = does 10
 with_radix p s (b ∷ x) does =
     with_number p Eval s (reading_of (b ∷ x)) (λ n. if_radix p s does (radix_at n))
 
--- what is done with a width of 0 or more; a negative one is out of range
+-- continues with a width of 0 or more; a negative one is out of range
 abbrev pub if_width : Place → State → (ℕ → Acted) → ℤ → Acted
 if_width p s does (pos n) = does n
 if_width p s does (negsuc n) = only_warning s (out_of_range p)
 
--- what is done with the width, the least count of digits, which is 0 where its argument is missing
+-- continues with the width, the minimum number of digits, which is 0 if its argument is missing
 abbrev pub with_width : Place → State → Option (List ℕ) → (ℕ → Acted) → Acted
 with_width p s None does = does 0
 with_width p s (Some x) does = with_number p Eval s (reading_of x) (if_width p s does)
 
--- what is done with the value of an expression, if it has one
+-- continues with the value of an expression, if it has one
 abbrev pub if_value : Place → State → (ℤ → Acted) → Evaluated → Acted
 if_value p s does (Value n) = does n
 if_value p s does DivideByZero = only_warning s (divide_by_zero p)
 if_value p s does BadExpression = only_warning s (bad_expression p)
 
--- what is done with the value of a text, which is 0 where it is empty or white space alone
+-- continues with the value of a text, which is 0 if the text is empty or only white space
 abbrev pub with_value : Place → State → List ℕ → (ℤ → Acted) → Acted
 with_value p s x does =
     if list_all is_space x then telling_first (empty_number p Eval) (does (pos 0))
     else if_value p s does (evaluated x)
 
--- what is done with the value of the first argument, written in the radix of the second one and as wide
--- as the third one says
+-- continues with the value of the first argument, written in the radix of the second one and with the
+-- width of the third one
 abbrev pub with_digits : List Arg → Place → State → (List ℕ → Acted) → Acted
 with_digits list p s does =
     with_radix p s (text_at list 1)

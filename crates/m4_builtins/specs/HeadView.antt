@@ -1,5 +1,5 @@
--- HeadView: what the fields of a call's head stand for.
--- Not believed: it only bridges the code and specs/CallHead.antt. Words: definition_at, head_view, IsHead.
+-- HeadView: the meaning of the fields of a call's head.
+-- Not believed: it only connects the code with specs/CallHead.antt. Words: definition_at, head_view, IsHead.
 use Rattle.std.specs.Prelude.{ℕ, List, ◌+◌, ◌≤◌, take, drop, length}
 use Rattle.m4_state.specs.declared.definition.Def.{Def}
 use Rattle.m4_state.specs.declared.definition.Def.TheVariants as defs
@@ -9,7 +9,7 @@ use Rattle.m4_builtins.specs.declared.head.Kind.TheVariants as kinds
 use Rattle.m4_builtins.specs.declared.head.Head.TheInside.{Inside}
 use Rattle.m4_builtins.specs.CallHead.{CallHead}
 
--- the definition of a kind whose text is x
+-- the definition of a kind, with text x
 abbrev pub definition_at : Kind → List ℕ → Def
 definition_at kinds.Text x = defs.Text x
 definition_at (kinds.Builtin b) x = defs.Builtin b
@@ -22,7 +22,7 @@ head_view h = record {
   place = record { file = drop h.text_len (drop h.name_len h.strings.items); line = h.line };
 }
 
--- the name and the definition's text lie within the memory, and the definition is in order
+-- the name and the definition's text are inside the stored bytes, and the definition is valid
 pub record IsHead (h : Inside) : Type 0 where
   pub within : h.name_len + h.text_len ≤ length h.strings.items
   pub valid : IsDefinition (head_view h).definition

@@ -1,6 +1,6 @@
 -- Indirect: the builtins that call by a name given as an argument.
 -- Believed. Manual: "Indirect call of macros", "Indirect call of builtins". Words: Inner, indir,
--- builtin. Of each the call that it makes acts on the arguments after the first.
+-- builtin. Each makes its call with the arguments after the first.
 use Rattle.std.specs.Prelude.{ℕ, List, [], ◌∷◌, Option, Some, None}
 use Rattle.m4_state.specs.declared.builtin.Builtin.{Builtin}
 use Rattle.m4_state.specs.declared.builtin.Builtin.TheVariants.{Indir, IndirBuiltin}
@@ -14,11 +14,11 @@ use Rattle.m4_builtins.specs.declared.place.Place.{Place}
 use Rattle.m4_builtins.specs.Acted.{Acted, changes, only_warning}
 use Rattle.m4_builtins.specs.Messages.{unknown_macro, unknown_builtin, bad_name}
 
--- what an indirect call goes on as: the call of another definition, under its name
+-- how an indirect call continues: as the call of another definition, under its name
 abbrev pub Inner : Type 0
 Inner = Def → List ℕ → Acted
 
--- a call of the definition under a name, if there is one
+-- a call of the definition of a name, if there is one
 abbrev pub called_by_name : Inner → Option Def → List ℕ → Place → State → Acted
 called_by_name inner None name p s = only_warning s (unknown_macro p name)
 called_by_name inner (Some d) name p s = inner d name

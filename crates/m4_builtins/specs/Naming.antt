@@ -1,7 +1,7 @@
--- Naming: the builtins that give names definitions, take them away and give them back.
+-- Naming: the builtins that define names, delete their definitions and return them.
 -- Believed. Manual: "Defining a macro", "Deleting a macro", "Temporarily redefining macros",
 -- "Renaming macros". Words: define, undefine, pushdef, popdef, defn.
--- own: of several names `defn` gives the texts alone, and warns of each builtin among them.
+-- own: of several names `defn` returns only the texts, and warns of each builtin among them.
 use Rattle.std.specs.Prelude.{ℕ, List, [], ◌∷◌, Option, Some, None, map, flat_map, fold}
 use Rattle.m4_state.specs.declared.builtin.Builtin.TheVariants.{Define, Pushdef}
 use Rattle.m4_state.specs.declared.definition.Def.{Def}
@@ -17,32 +17,32 @@ use Rattle.m4_builtins.specs.Args.{text_of_arg, texts_of, definition_of_arg, quo
 use Rattle.m4_builtins.specs.Acted.{Acted, changes, only_warning, gives, expands, telling_first}
 use Rattle.m4_builtins.specs.Messages.{dropped, bad_name}
 
--- the second of two arguments as a definition, or the empty text where there is none
+-- the second of two arguments as a definition, or the empty text if there is none
 abbrev pub definition_in : List Arg → Def
 definition_in [] = defs.Text []
 definition_in (a ∷ rest) = definition_of_arg a
 
--- `define`: the first argument is the name, which a definition can't be
+-- `define`: the first argument is the name; it can't be a definition
 abbrev pub define : List Arg → Place → State → Acted
 define [] p s = changes s
 define (args.Text x ∷ rest) p s = changes (defined s x (definition_in rest))
 define (args.Definition d ∷ rest) p s = only_warning s (bad_name p Define)
 
--- `pushdef`: the same, on top of the definitions that the name has
+-- `pushdef`: the same, pushed onto the definitions that the name has
 abbrev pub pushdef : List Arg → Place → State → Acted
 pushdef [] p s = changes s
 pushdef (args.Text x ∷ rest) p s = changes (pushed s x (definition_in rest))
 pushdef (args.Definition d ∷ rest) p s = only_warning s (bad_name p Pushdef)
 
--- each argument in its order, as a name, changes the state
+-- each argument in order, as a name, changes the state
 abbrev pub for_each : (State → List ℕ → State) → List Arg → State → State
 for_each change list s = fold (λ t a. change t (text_of_arg a)) s list
 
--- `undefine`: all definitions of each name
+-- `undefine`: deletes all definitions of each name
 abbrev pub undefine : List Arg → State → Acted
 undefine list s = changes (for_each undefined list s)
 
--- `popdef`: the definition on top of each name's
+-- `popdef`: deletes the top definition of each name
 abbrev pub popdef : List Arg → State → Acted
 popdef list s = changes (for_each popped list s)
 
@@ -67,7 +67,7 @@ left_out p (Some (defs.Text x)) = []
 left_out p (Some (defs.Builtin b)) = dropped p
 left_out p (Some (defs.Placeholder x)) = dropped p
 
--- the definitions on top of names
+-- the top definitions of names
 abbrev pub tops_of : State → List Arg → List (Option Def)
 tops_of s list = map (top_of s) (texts_of list)
 

@@ -1,8 +1,8 @@
--- Numeric: the number that an argument stands for.
+-- Numeric: the number in an argument.
 -- Believed. Manual: "Macro arguments". Its lemma: `NumbersFit` (the number has 32 bits with its sign).
 -- Words: reading_of, number_of_reading, reading_warning, with_number.
--- own: white space before a number is skipped, after it none is; white space alone is no number; a
--- number that has no 32 bits with its sign is none.
+-- own: white space before a number is skipped, after it none is; only white space is no number; a
+-- number that does not fit in 32 bits with its sign is none.
 use Rattle.std.specs.Prelude.{ℕ, ◌-◌, ◌^◌, ◌==◌, ◌&&◌, nat_le, ℤ, pos, neg_ℤ, Bool, true, false, not, List, [], ◌∷◌, Option, Some, None, drop, length, if◌then◌else◌}
 use Rattle.m4_state.specs.declared.builtin.Builtin.{Builtin}
 use Rattle.m4_state.specs.State.{State}
@@ -38,11 +38,11 @@ abbrev pub if_it_fits : Bool → ℕ → Reading
 if_it_fits negative n =
     if nat_le n (greatest negative) then Number (signed negative n) else NotNumeric
 
--- whether these are digits alone, and one at least
+-- whether these are only digits, and at least one
 abbrev pub are_digits : List ℕ → Bool
 are_digits x = not (length x == 0) && (run_length is_digit x == length x)
 
--- the number of digits after a sign
+-- the number that the digits after a sign spell
 abbrev pub read_digits : Bool → List ℕ → Reading
 read_digits negative x =
     if are_digits x then if_it_fits negative (number_of x) else NotNumeric
@@ -56,7 +56,7 @@ read_signed (b ∷ x) =
     if b == plus then read_digits false x else read_digits false (b ∷ x)
     )
 
--- what a numeric argument is
+-- the result of reading a numeric argument
 abbrev pub reading_of : List ℕ → Reading
 reading_of [] = Empty
 reading_of (b ∷ x) = read_signed (drop (run_length is_space (b ∷ x)) (b ∷ x))
@@ -67,14 +67,14 @@ number_of_reading (Number n) = Some n
 number_of_reading Empty = Some (pos 0)
 number_of_reading NotNumeric = None
 
--- the warning on it
+-- the warning about it
 abbrev pub reading_warning : Place → Builtin → Reading → List ℕ
 reading_warning p b (Number n) = []
 reading_warning p b Empty = empty_number p b
 reading_warning p b NotNumeric = not_numeric p b
 
--- what is done with a number that was read, after the warning on an empty one; without a number there
--- is only a warning
+-- continues with a number that was read, after the warning on an empty one; without a number it only
+-- warns
 abbrev pub with_number : Place → Builtin → State → Reading → (ℤ → Acted) → Acted
 with_number p b s (Number n) does = does n
 with_number p b s Empty does = telling_first (empty_number p b) (does (pos 0))

@@ -1,7 +1,7 @@
--- Printing: the builtins that write to the messages, and those that give the place of a call.
+-- Printing: the builtins that write messages, and those that expand to the place of a call.
 -- Believed. Manual: "Displaying macro definitions", "Printing error messages", "Printing current
 -- location". Words: in_byte_order, dumpdef, errprint, file, line.
--- own: a text is shown between the current quotes, also where no quotes are needed.
+-- own: a text is shown between the current quotes, also if no quotes are needed.
 use Rattle.std.specs.Prelude.{ℕ, ◌==◌, List, [], ◌∷◌, ◌++◌, Option, Some, None, flat_map, codes, if◌then◌else◌}
 use Rattle.std.specs.Fmt.{decimal}
 use Rattle.std.specs.Ordering.{is_lt}
@@ -37,23 +37,23 @@ abbrev pub unknown_if : Place → List ℕ → Option Def → List ℕ
 unknown_if p name None = unknown_macro p name
 unknown_if p name (Some d) = []
 
--- a name in its place among names in byte order, before those that aren't below it
+-- a name inserted into names in byte order, before those that aren't below it
 abbrev pub placed : List ℕ → List (List ℕ) → List (List ℕ)
 placed name [] = name ∷ []
 placed name (other ∷ names) =
     if is_lt (byte_order other name) then other ∷ placed name names else name ∷ other ∷ names
 
--- names in byte order; one that is there twice stays there twice
+-- names in byte order; duplicates stay
 abbrev pub in_byte_order : List (List ℕ) → List (List ℕ)
 in_byte_order [] = []
 in_byte_order (name ∷ names) = placed name (in_byte_order names)
 
--- the names that `dumpdef` shows: all of them where it has no arguments
+-- the names that `dumpdef` shows: all of them if it has no arguments
 abbrev pub names_shown : List Arg → State → List (List ℕ)
 names_shown [] s = names_of s
 names_shown (a ∷ rest) s = texts_of (a ∷ rest)
 
--- the warnings on names, as they were given
+-- the warnings on names, in the given order
 abbrev pub warnings_on : List (List ℕ) → Place → State → List ℕ
 warnings_on names p s = flat_map (λ name. unknown_if p name (top_of s name)) names
 
@@ -61,7 +61,7 @@ warnings_on names p s = flat_map (λ name. unknown_if p name (top_of s name)) na
 abbrev pub lines_of : List (List ℕ) → State → List ℕ
 lines_of names s = flat_map (λ name. line_shown s.quotes name (top_of s name)) names
 
--- `dumpdef`: the warnings as the names were given, then the lines in byte order
+-- `dumpdef`: the warnings in the given order of names, then the lines in byte order
 abbrev pub dumped : List (List ℕ) → Place → State → List ℕ
 dumped names p s = warnings_on names p s ++ lines_of (in_byte_order names) s
 

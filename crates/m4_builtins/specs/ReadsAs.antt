@@ -1,16 +1,16 @@
--- ReadsAs: what the code reads from an argument, with the warnings that it adds to the messages.
--- Not believed: it only ties the code of `eval`, which reads one argument after the other, to what is
--- done with all of them.
+-- ReadsAs: the value that the code reads from an argument, with the warnings that it adds.
+-- Not believed: it only connects the code of `eval`, which reads one argument after another, with the
+-- definition, which continues with all of them.
 use Rattle.std.specs.Prelude.{◌≡◌, ℕ, List, ◌++◌, Option, Some, None}
 use Rattle.m4_state.specs.State.{State}
 use Rattle.m4_builtins.specs.Acted.{Acted, only_warning, telling_first}
 
--- what is done after warnings: with what was read, or nothing where it is missing
+-- the effect after warnings: `does` with the value that was read, or nothing without one
 abbrev pub after : {A : Type 0} → List ℕ → State → (A → Acted) → Option A → Acted
 after warnings s does None = only_warning s warnings
 after warnings s does (Some x) = telling_first warnings (does x)
 
--- the messages grew by warnings, and what is done with an argument is what is done with this answer
+-- the messages grew by warnings, and continuing with the argument is continuing with this answer
 abbrev pub ReadsAs : {A : Type 0} → (State → (A → Acted) → Acted) → Option A → List ℕ → List ℕ → Type 0
 ReadsAs {A} argument answer before now =
     (warnings : List ℕ) × (now ≡ before ++ warnings)

@@ -1,5 +1,5 @@
 -- Steps: how the code goes from one indirect call to the next in a loop.
--- Not believed: it only bridges the code and `act`.
+-- Not believed: it only connects the code with `act`.
 use Rattle.std.specs.Prelude.{◌≡◌, ◌<◌, ℕ, suc, [], Option, None, length}
 use Rattle.std.specs.List.{AllByRecursion}
 use Rattle.m4_state.specs.declared.definition.Def.TheVariants as defs
@@ -11,23 +11,23 @@ use Rattle.m4_builtins.specs.Args.{IsArg}
 use Rattle.m4_builtins.specs.Acted.{Acted}
 use Rattle.m4_builtins.specs.Act.{act}
 
--- what a call does is done, or is what a builtin does with these arguments
+-- the effect of a call is complete, or is that of a builtin with these arguments
 abbrev pub LeadsTo : Acted → Place → State → Step → Type 0
 LeadsTo acted p s (steps.Done effect) = acted ≡ record { state = s; effect = effect }
 LeadsTo acted p s (steps.On b list) =
     (acted ≡ act (defs.Builtin b) [] list.now p s) × AllByRecursion IsArg list.now
 
--- the call goes on, if it does, with fewer arguments than so many
+-- the call continues, if it does, with fewer than n arguments
 abbrev pub IsShorter : ℕ → Step → Type 0
 IsShorter n (steps.Done effect) = Unit {0}
 IsShorter n (steps.On b list) = length list.now < n
 
--- the call goes on, if it does, where any number of arguments is right
+-- the call continues, if it does, only if any number of arguments is allowed
 abbrev pub IsUnbounded : Option ℕ → Step → Type 0
 IsUnbounded most (steps.Done effect) = Unit {0}
 IsUnbounded most (steps.On b list) = most ≡ None
 
--- how many arguments a step has left, the builtin counted too
+-- the number of arguments that a step has left, with the builtin counted too
 abbrev pub left_of : Step → ℕ
 left_of (steps.Done effect) = 0
 left_of (steps.On b list) = suc (length list.now)

@@ -1,4 +1,4 @@
--- Subst: a text definition with the arguments of a call put in.
+-- Subst: a text definition with the arguments of a call substituted.
 -- Believed. Manual: "Arguments to macros", "Special arguments to macros". Words: piece, all_quoted, subst.
 -- own: `$` and the longest run of digits is one number.
 use Rattle.std.specs.Prelude.{ℕ, zero, suc, ◌+◌, ◌-◌, ◌*◌, ◌==◌, List, [], ◌∷◌, ◌++◌, length, take, fold, map, if◌then◌else◌, slice_get}
@@ -9,7 +9,7 @@ use Rattle.m4_input.specs.Token.{run_length}
 use Rattle.m4_builtins.specs.declared.args.Arg.{Arg}
 use Rattle.m4_builtins.specs.Args.{text_of_arg, or_empty, joined, quoted}
 
--- the number that digits stand for, in decimal
+-- the number that decimal digits spell
 abbrev pub number_of : List ℕ → ℕ
 number_of digits = fold (λ n d. n * 10 + (d - digit_zero)) 0 digits
 
@@ -22,11 +22,11 @@ nth_text name texts (suc n) = or_empty (slice_get texts n)
 abbrev pub with_commas : List (List ℕ) → List ℕ
 with_commas texts = joined (comma ∷ []) texts
 
--- the arguments joined by commas, each between quotes: `$@`, and what `shift` gives of the others
+-- the arguments joined by commas, each between quotes: `$@`, and `shift` for those after the first
 abbrev pub all_quoted : Delimiters → List (List ℕ) → List ℕ
 all_quoted q texts = with_commas (map (quoted q) texts)
 
--- what a `$` stands for before these bytes, and how many of them belong to it
+-- the replacement of a `$` before these bytes, and how many of them it uses
 abbrev pub after_dollar : List ℕ → List (List ℕ) → Delimiters → List ℕ → List ℕ × ℕ
 after_dollar name texts q [] = (dollar ∷ [], 0)
 after_dollar name texts q (b ∷ x) =
@@ -42,17 +42,17 @@ after_dollar name texts q (b ∷ x) =
     )
     )
 
--- what a byte stands for before these, and how many of them belong to it
+-- the replacement of a byte before these, and how many of them it uses
 abbrev pub piece : List ℕ → List (List ℕ) → Delimiters → ℕ → List ℕ → List ℕ × ℕ
 piece name texts q b x = if b == dollar then after_dollar name texts q x else (b ∷ [], 0)
 
--- the text behind its first `skip` bytes, with the arguments put in
+-- the text after its first `skip` bytes, with the arguments substituted
 abbrev pub subst_from : List ℕ → List (List ℕ) → Delimiters → ℕ → List ℕ → List ℕ
 subst_from name texts q skip [] = []
 subst_from name texts q (suc skip) (b ∷ x) = subst_from name texts q skip x
 subst_from name texts q zero (b ∷ x) =
     let p = piece name texts q b x in p.0 ++ subst_from name texts q p.1 x
 
--- a text with a call's name and arguments put in, by the current quotes
+-- a text with a call's name and arguments substituted, by the current quotes
 abbrev pub subst : List ℕ → List ℕ → List Arg → Delimiters → List ℕ
 subst text name list q = subst_from name (map text_of_arg list) q 0 text

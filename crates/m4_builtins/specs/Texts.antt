@@ -12,16 +12,16 @@ use Rattle.m4_builtins.specs.Args.{text_of_arg, text_at}
 use Rattle.m4_builtins.specs.Acted.{Acted, changes, expands}
 use Rattle.m4_builtins.specs.Numeric.{reading_of, with_number}
 
--- `len`: how many bytes
+-- `len`: the number of bytes
 abbrev pub len : List Arg → State → Acted
 len list s = expands s (decimal (length (text_at list 0)))
 
--- the first place where a text begins with a part, from 0
+-- the first place at which a text contains a part, from 0
 abbrev pub place_in : List ℕ → List ℕ → Option ℕ
 place_in text [] = Some 0
 place_in text (b ∷ part) = before (b ∷ part) text
 
--- a place, or -1 where there is none
+-- a place, or -1 if there is none
 abbrev pub place_shown : Option ℕ → List ℕ
 place_shown None = codes "-1"
 place_shown (Some n) = decimal n
@@ -30,18 +30,18 @@ place_shown (Some n) = decimal n
 abbrev pub index : List Arg → State → Acted
 index list s = expands s (place_shown (place_in (text_at list 0) (text_at list 1)))
 
--- the bytes from a place on; none where the place is negative, or where the text has ended
+-- the bytes from a place on; none if the place is negative, or after the end of the text
 abbrev pub from_place : ℤ → List ℕ → List ℕ
 from_place (pos n) x = drop n x
 from_place (negsuc n) x = []
 
--- at most so many bytes; none where the count isn't positive
+-- at most n bytes; none if the count isn't positive
 abbrev pub at_most : ℤ → List ℕ → List ℕ
 at_most (pos n) x = take n x
 at_most (negsuc n) x = []
 
--- `substr`, whose numbers are read from left to right before anything is cut; without a count the
--- whole rest
+-- `substr`, whose numbers are read from left to right before anything is cut; without a count, all of
+-- the rest
 abbrev pub substr : List Arg → Place → State → Acted
 substr [] p s = changes s
 substr (a ∷ []) p s = changes s

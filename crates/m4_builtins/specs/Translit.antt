@@ -1,7 +1,7 @@
 -- Translit: bytes replaced by others.
 -- Believed. Manual: "Translating characters". Words: run, ranges, translated, translit.
 -- own: a `-` between two bytes is a range, rising or falling, whose end may begin the next one; one
--- that is first or last stands for itself.
+-- that is first or last is a plain byte.
 use Rattle.std.specs.Prelude.{ℕ, zero, suc, ◌+◌, ◌-◌, ◌==◌, nat_lt, Bool, true, false, List, [], ◌∷◌, ◌++◌, Option, Some, None, flat_map, position, slice_get, option_to_list, if◌then◌else◌}
 use Rattle.m4_state.specs.State.{State}
 use Rattle.m4_builtins.specs.declared.args.Arg.{Arg}
@@ -9,7 +9,7 @@ use Rattle.m4_builtins.specs.Args.{text_at}
 use Rattle.m4_builtins.specs.Acted.{Acted, expands}
 use Rattle.m4_builtins.specs.Numeric.{minus}
 
--- so many bytes from b on, each 1 above the one before it, or each 1 below
+-- n bytes from b on, each 1 above the one before it, or each 1 below
 abbrev pub rising : ℕ → ℕ → List ℕ
 rising zero b = []
 rising (suc n) b = b ∷ rising n (b + 1)
@@ -28,24 +28,24 @@ abbrev pub range_by : Bool → ℕ → ℕ → ℕ → List ℕ × ℕ
 range_by true from b to = (run from to, 1)
 range_by false from b to = (b ∷ [], 0)
 
--- what a byte stands for after another or none and before these, and how many of these are its
+-- the expansion of a byte after another or none and before these, and how many of these it uses
 abbrev pub range_at : Option ℕ → ℕ → List ℕ → List ℕ × ℕ
 range_at None b x = (b ∷ [], 0)
 range_at (Some from) b [] = (b ∷ [], 0)
 range_at (Some from) b (to ∷ x) = range_by (b == minus) from b to
 
--- a text with its ranges written out, after its first `skip` bytes
+-- a text with its ranges expanded, after its first `skip` bytes
 abbrev pub ranges_after : Option ℕ → ℕ → List ℕ → List ℕ
 ranges_after before skip [] = []
 ranges_after before (suc skip) (b ∷ x) = ranges_after (Some b) skip x
 ranges_after before zero (b ∷ x) =
     let r = range_at before b x in r.0 ++ ranges_after (Some b) r.1 x
 
--- a text with its ranges written out
+-- a text with its ranges expanded
 abbrev pub ranges : List ℕ → List ℕ
 ranges x = ranges_after None 0 x
 
--- a byte whose first place among those replaced is n: the byte at that place, or nothing; a byte
+-- a byte whose first place among the replaced ones is n: the byte at that place, or nothing; a byte
 -- that isn't among them stays
 abbrev pub replaced : Option ℕ → List ℕ → ℕ → List ℕ
 replaced None to b = b ∷ []

@@ -1,4 +1,4 @@
-//! What a call does: a text expands, a builtin acts with its arguments, a placeholder only warns. Each
+//! Makes a call: a text expands, a builtin acts with its arguments, a placeholder only warns. Each
 //! builtin has one line in [`row`], and its function in the module of its chapter.
 
 ghost use Rattle.std.specs.Prelude.{◌≡◌, ◌++◌, IfOk, [], length, nat_lt};
@@ -33,9 +33,9 @@ use m4_state::definition::Def;
 use m4_state::state::State;
 use std::alloc::{AllocError, Global};
 
-/// What a call of a definition does to the state, and what it leaves to be done. A refused growth is
-/// `OutOfMemory`; it can come after the state's change. Manual: "Arguments to macros", "Deleting
-/// whitespace in input", and the sections of the other builtins, which their functions name.
+/// Makes a call of a definition: changes the state, and returns the effect that the run still has to apply.
+/// Returns `OutOfMemory` if an allocation fails, perhaps after the state changed. Manual: "Arguments to macros",
+/// "Deleting whitespace in input", and the sections of the other builtins, which their functions name.
 pub fn act(
     alloc: Global,
     def: &Def,
@@ -64,8 +64,8 @@ pub fn act(
     }
 }
 
-/// What a builtin does. With too few arguments it warns, and most do nothing else; those above its
-/// most are ignored, with a warning in front of its own.
+/// Calls a builtin. With too few arguments it warns, and most builtins do nothing else. Arguments above
+/// its maximum are ignored, with a warning before the builtin's own.
 fn act_builtin<'a>(
     alloc: Global,
     builtin: Builtin,
@@ -95,8 +95,8 @@ fn act_builtin<'a>(
     }
 }
 
-/// What a builtin does with these arguments. Where an argument is a definition and the builtin reads
-/// a text, it counts as empty.
+/// Calls a builtin with enough arguments. If an argument is a definition and the builtin reads a text, it
+/// counts as empty.
 fn row<'a>(
     alloc: Global,
     name: Builtin,
@@ -155,8 +155,8 @@ fn row<'a>(
     Ok(Step::Done(effect))
 }
 
-/// What a builtin still gives where arguments are missing: of one argument `index` finds nothing in
-/// front of it, `substr` takes all of it, and `translit` replaces no byte.
+/// Returns the expansion of a call with missing arguments: with one argument, `index` expands to 0,
+/// `substr` to all of it, and `translit` to it unchanged.
 fn given_though_few(alloc: Global, builtin: Builtin, list: &[Arg]) -> Result<Effect, AllocError>
     ensures { IfOk result (λ e. e ≡ record nothing { push = spec.given_though_few builtin list.now }) }
 {
@@ -171,7 +171,7 @@ fn given_though_few(alloc: Global, builtin: Builtin, list: &[Arg]) -> Result<Eff
     Ok(Effect::pushing(alloc, Bytes::from_slice(alloc, text)?))
 }
 
-/// Whether a count is above the most.
+/// Returns whether a count is above the maximum.
 fn is_above(most: Option<usize>, count: usize) -> bool
     ensures { result ≡ spec.is_above most count }
 {
@@ -181,7 +181,7 @@ fn is_above(most: Option<usize>, count: usize) -> bool
     }
 }
 
-/// An effect with a message in front of the others.
+/// Inserts a message before the others of an effect.
 fn telling_first(alloc: Global, message: Bytes, effect: Effect) -> Result<Effect, AllocError>
     ensures { IfOk result (λ e. e ≡ record effect { messages = message ++ effect.messages }) }
 {

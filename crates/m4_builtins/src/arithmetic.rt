@@ -1,4 +1,4 @@
-//! The builtins that count. Manual: "Decrement and increment operators".
+//! The builtins that increment and decrement. Manual: "Decrement and increment operators".
 
 ghost use Rattle.std.specs.Prelude.{◌≡◌, IfOk, Some};
 ghost use Rattle.std.specs.Fmt.{signed_decimal};
@@ -16,7 +16,7 @@ use m4_state::bytes::Bytes;
 use m4_state::state::State;
 use std::alloc::{AllocError, Global};
 
-/// Adds 1 to a number; after the greatest comes the least. Manual: "Decrement and increment
+/// Adds 1 to a number; the greatest number wraps to the least. Manual: "Decrement and increment
 /// operators".
 pub(crate) fn incr(
     alloc: Global,
@@ -35,7 +35,7 @@ pub(crate) fn incr(
     }
 }
 
-/// Subtracts 1 from a number; before the least comes the greatest. Manual: "Decrement and increment
+/// Subtracts 1 from a number; the least number wraps to the greatest. Manual: "Decrement and increment
 /// operators".
 pub(crate) fn decr(
     alloc: Global,
@@ -54,7 +54,7 @@ pub(crate) fn decr(
     }
 }
 
-/// A number is put in front of the input, with messages.
+/// Returns the effect that pushes a number, with these messages.
 fn pushing_number(alloc: Global, number: i32, messages: Bytes) -> Result<Effect, AllocError>
     ensures { IfOk result (λ e. e ≡ record nothing { push = Some (pushes.Text (signed_decimal number)); messages = messages }) }
 {

@@ -15,8 +15,8 @@ use m4_state::bytes::Bytes;
 use m4_state::state::State;
 use std::alloc::{AllocError, Global};
 
-/// Gives the second argument where the first has a definition, else the third. Manual: "Testing if a
-/// macro is defined".
+/// Expands to the second argument if the first has a definition, otherwise to the third. Manual:
+/// "Testing if a macro is defined".
 pub(crate) fn ifdef(alloc: Global, list: &[Arg], state: &State) -> Result<Effect, AllocError>
     ensures { IfOk result (λ e. spec.ifdef list.now state.now ≡ record { state = state.now; effect = e }) }
 {
@@ -27,7 +27,7 @@ pub(crate) fn ifdef(alloc: Global, list: &[Arg], state: &State) -> Result<Effect
     Ok(Effect::pushing(alloc, Bytes::from_slice(alloc, text)?))
 }
 
-/// Compares two arguments, and gives the third where they are equal; else goes on after it. Manual:
+/// Compares two arguments. Expands to the third if they are equal; otherwise continues after it. Manual:
 /// "If-else construct, or multibranch".
 pub(crate) fn ifelse(
     alloc: Global,
@@ -55,7 +55,7 @@ pub(crate) fn ifelse(
     }
 }
 
-/// The text that is chosen, of three arguments or more.
+/// Returns the text that is chosen, of three or more arguments.
 fn chosen(list: &[Arg]) -> &[u8]
     ensures { result.now ≡ spec.chosen (texts_of list.now) }
 {
@@ -72,14 +72,14 @@ fn chosen(list: &[Arg]) -> &[u8]
     &[]
 }
 
-/// Whether an argument is left over after the last two texts and their results.
+/// Returns whether an argument is left over after the last two texts and their results.
 fn has_extra(count: usize) -> bool
     ensures { result ≡ spec.has_extra count }
 {
     count >= 5 && count % 3 == 2
 }
 
-/// Gives all arguments but the first, each between quotes. Manual: "Recursion in m4".
+/// Expands to all arguments but the first, each between quotes. Manual: "Recursion in m4".
 pub(crate) fn shift(alloc: Global, list: &[Arg], state: &State) -> Result<Effect, AllocError>
     ensures { IfOk result (λ e. spec.shift list.now state.now ≡ record { state = state.now; effect = e }) }
 {

@@ -1,4 +1,4 @@
-//! The builtins that choose quotes and comment delimiters. Manual: "Changing the quote characters",
+//! The builtins that set quotes and comment delimiters. Manual: "Changing the quote characters",
 //! "Changing the comment delimiters".
 
 ghost use Rattle.std.specs.Prelude.{◌≡◌, OnOk};
@@ -11,7 +11,7 @@ use m4_state::bytes::Bytes;
 use m4_state::state::State;
 use std::alloc::Global;
 
-/// Chooses the quotes, or the default ones where there is no argument. Manual: "Changing the quote
+/// Sets the quotes, or the default ones if there is no argument. Manual: "Changing the quote
 /// characters".
 pub(crate) fn changequote(
     alloc: Global,
@@ -26,7 +26,7 @@ pub(crate) fn changequote(
     }
 }
 
-/// Chooses the quotes by copies of these texts.
+/// Sets the quotes to copies of these texts.
 fn set_quotes(
     alloc: Global,
     begin: &[u8],
@@ -41,7 +41,7 @@ fn set_quotes(
     Ok(())
 }
 
-/// Chooses the comment delimiters; none where there is no argument. Manual: "Changing the comment
+/// Sets the comment delimiters; none if there is no argument. Manual: "Changing the comment
 /// delimiters".
 pub(crate) fn changecom(alloc: Global, list: &[Arg], state: &mut State) -> Result<(), BuiltinFault>
     ensures { OnOk result (state.new ≡ spec.changecom list.now state.old) }

@@ -1,4 +1,4 @@
-//! The builtins that divert text and bring it back. Manual: "Diverting output", "Undiverting output",
+//! The builtins that divert text and undivert it. Manual: "Diverting output", "Undiverting output",
 //! "Diversion numbers".
 
 ghost use Rattle.std.specs.Prelude.{◌≡◌, ◌++◌, OnOk, IfOk, flat_map, filter_map};
@@ -17,8 +17,8 @@ use m4_state::bytes::Bytes;
 use m4_state::state::State;
 use std::alloc::{AllocError, Global};
 
-/// Chooses the diversion of a number; 0 where there is no argument. A number that is none changes
-/// nothing. Manual: "Diverting output".
+/// Selects the diversion with a number; 0 if there is no argument. An invalid number changes nothing.
+/// Manual: "Diverting output".
 pub(crate) fn divert(
     alloc: Global,
     list: &[Arg],
@@ -38,8 +38,8 @@ pub(crate) fn divert(
     Ok(Effect::telling(alloc, Bytes::from(messages)))
 }
 
-/// Brings back the diversions of these numbers, or all where there is no argument. Each number that
-/// is none is passed over. Manual: "Undiverting output".
+/// Undiverts the diversions with these numbers, or all if there is no argument. Invalid numbers are
+/// skipped. Manual: "Undiverting output".
 pub(crate) fn undivert(
     alloc: Global,
     list: &[Arg],
@@ -60,7 +60,7 @@ pub(crate) fn undivert(
     Ok(effect)
 }
 
-/// Gives the number of the current diversion. Manual: "Diversion numbers".
+/// Expands to the number of the current diversion. Manual: "Diversion numbers".
 pub(crate) fn divnum(alloc: Global, state: &State) -> Result<Effect, AllocError>
     ensures { IfOk result (λ e. spec.divnum state.now ≡ record { state = state.now; effect = e }) }
 {
@@ -69,11 +69,11 @@ pub(crate) fn divnum(alloc: Global, state: &State) -> Result<Effect, AllocError>
     Ok(Effect::pushing(alloc, text))
 }
 
-/// The numbers of the diversions that hold text, as they rise.
+/// Returns the numbers of the diversions that contain text, in rising order.
 fn held_numbers(alloc: Global, state: &State) -> Result<Vec<i32>, AllocError>
     ensures { IfOk result (λ v. v.items ≡ spec.held_numbers state.now) }
 {
-    // Its clauses say that the state is in order.
+    // Its clauses say that the state is valid.
     let _current = state.current();
     let mut numbers = Vec::new(alloc);
     let mut last = 0;
@@ -84,7 +84,7 @@ fn held_numbers(alloc: Global, state: &State) -> Result<Vec<i32>, AllocError>
     Ok(numbers)
 }
 
-/// The numbers of the arguments that have one. Adds the warnings on the others.
+/// Returns the numbers of the arguments that have one. Adds the warnings on the others.
 fn numbers_in(
     alloc: Global,
     list: &[Arg],
@@ -104,7 +104,7 @@ fn numbers_in(
     Ok(numbers)
 }
 
-/// Brings diversions back, one after the other, and adds what they give to the output.
+/// Undiverts diversions, one after another, and appends their text to the output.
 fn bring_back(numbers: &[i32], state: &mut State, output: &mut Vec<u8>) -> Result<(), BuiltinFault>
     ensures state { OnOk result (state.new ≡ spec.brought_back numbers.now state.old) }
     ensures output { OnOk result (output.new.items ≡ output.old.items ++ spec.issued_by numbers.now state.old) }

@@ -1,4 +1,4 @@
-//! What a call leaves to be done by the run, beside the state's change.
+//! The effects of a call that the run still has to apply, apart from the state's change.
 
 ghost use Rattle.std.specs.Prelude.{◌≡◌, Some, true};
 
@@ -9,15 +9,15 @@ use std::alloc::Global;
 /// The effect of a call.
 #[derive(Debug, Drop)]
 pub struct Effect {
-    /// What is put in front of the input, to be read again.
+    /// A value that is inserted before the input, to be read again.
     pub push: Option<Pushed>,
-    /// What is told on the messages.
+    /// The messages to be written.
     pub messages: Bytes,
-    /// What is written to the output at once.
+    /// The output to be written at once.
     pub output: Bytes,
-    /// A text that is read once all input is.
+    /// A text that is read after all input.
     pub wrap: Option<Bytes>,
-    /// Whether the rest of the line is dropped.
+    /// Whether the rest of the line is skipped.
     pub skip: bool,
     /// The code with which the run ends here.
     pub exit: Option<u8>,
@@ -27,7 +27,7 @@ impl Effect {
     ghost use Rattle.m4_input.specs.declared.pushed.Pushed.TheVariants as pushes;
     ghost use Rattle.m4_builtins.specs.Acted.{nothing};
 
-    /// Nothing is left to be done.
+    /// Creates an effect that leaves nothing to do.
     pub(crate) fn nothing(alloc: Global) -> Effect
         ensures { result ≡ nothing }
     {
@@ -41,7 +41,7 @@ impl Effect {
         }
     }
 
-    /// Only messages are told.
+    /// Creates an effect with only messages.
     pub(crate) fn telling(alloc: Global, messages: Bytes) -> Effect
         ensures { result ≡ record nothing { messages = messages } }
     {
@@ -50,7 +50,7 @@ impl Effect {
         effect
     }
 
-    /// A value is put in front of the input.
+    /// Creates an effect that inserts a value before the input.
     pub(crate) fn giving(alloc: Global, value: Pushed) -> Effect
         ensures { result ≡ record nothing { push = Some value } }
     {
@@ -59,14 +59,14 @@ impl Effect {
         effect
     }
 
-    /// A text is put in front of the input.
+    /// Creates an effect that inserts a text before the input.
     pub(crate) fn pushing(alloc: Global, text: Bytes) -> Effect
         ensures { result ≡ record nothing { push = Some (pushes.Text text) } }
     {
         Effect::giving(alloc, Pushed::Text(text))
     }
 
-    /// The rest of the line is dropped.
+    /// Creates an effect that skips the rest of the line.
     pub(crate) fn skipping(alloc: Global) -> Effect
         ensures { result ≡ record nothing { skip = true } }
     {
@@ -75,7 +75,7 @@ impl Effect {
         effect
     }
 
-    /// A text is saved until all input is read.
+    /// Creates an effect that saves a text until all input is read.
     pub(crate) fn wrapping(alloc: Global, text: Bytes) -> Effect
         ensures { result ≡ record nothing { wrap = Some text } }
     {
@@ -84,7 +84,7 @@ impl Effect {
         effect
     }
 
-    /// The run ends with a code.
+    /// Creates an effect that ends the run with a code.
     pub(crate) fn exiting(alloc: Global, code: u8) -> Effect
         ensures { result ≡ record nothing { exit = Some code } }
     {

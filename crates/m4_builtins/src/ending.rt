@@ -26,7 +26,7 @@ pub(crate) fn m4wrap(alloc: Global, list: &[Arg], state: &State) -> Result<Effec
     Ok(Effect::wrapping(alloc, Bytes::from(text)))
 }
 
-/// Ends the run with a code; 0 where there is no argument, and 1 with a warning where it is no code.
+/// Ends the run with a code: 0 if there is no argument, and 1 with a warning if the argument is no code.
 /// Manual: "Exiting from m4".
 pub(crate) fn m4exit(
     alloc: Global,
@@ -42,7 +42,7 @@ pub(crate) fn m4exit(
     exiting_by(alloc, reading_of(text_of(first)), place, state)
 }
 
-/// The run ends with the code that an argument was read as.
+/// Ends the run with the code that an argument was read as.
 fn exiting_by(
     alloc: Global,
     reading: Reading,

@@ -1,4 +1,4 @@
-//! The builtin that computes an expression, whose value is m4_eval's. Manual: "Evaluating integer
+//! The builtin that computes an expression; m4_eval computes its value. Manual: "Evaluating integer
 //! expressions".
 
 ghost use Rattle.std.specs.Prelude.{◌≡◌, IfOk, option_copied, option_map};
@@ -22,8 +22,8 @@ use m4_state::bytes::Bytes;
 use m4_state::state::State;
 use std::alloc::{AllocError, Global};
 
-/// Gives the value of the first argument, in the radix of the second one, with at least as many digits
-/// as the third one says. The first argument that is wrong ends the call with a warning. Manual:
+/// Expands to the value of the first argument, in the radix of the second one, with at least as many
+/// digits as the third one says. The first invalid argument ends the call with a warning. Manual:
 /// "Evaluating integer expressions".
 pub(crate) fn eval(
     alloc: Global,
@@ -43,7 +43,7 @@ pub(crate) fn eval(
     Ok(effect)
 }
 
-/// The value of the expression, written out; none where an argument is wrong. Adds the warnings to the
+/// Returns the digits of the expression's value; none if an argument is invalid. Adds the warnings to the
 /// messages.
 fn digits_in(
     alloc: Global,
@@ -65,7 +65,7 @@ fn digits_in(
     Ok(Some(in_radix(alloc, value, radix, width)?))
 }
 
-/// The radix, which is 10 where its argument is missing or empty; none where it is wrong.
+/// Returns the radix: 10 if its argument is missing or empty, none if it is invalid.
 fn radix_in(
     alloc: Global,
     text: &[u8],
@@ -87,7 +87,7 @@ fn radix_in(
     Ok(radix)
 }
 
-/// The least count of digits, which is 0 where its argument is missing; none where it is wrong.
+/// Returns the minimum number of digits: 0 if its argument is missing, none if it is invalid.
 fn width_in(
     alloc: Global,
     arg: Option<&Arg>,
@@ -111,7 +111,7 @@ fn width_in(
     }
 }
 
-/// The value of an expression, which is 0 where it is empty or white space alone; none where it has no
+/// Returns the value of an expression: 0 if it is empty or only white space, none if it has no
 /// value.
 fn value_in(
     alloc: Global,

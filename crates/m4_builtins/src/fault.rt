@@ -1,4 +1,4 @@
-//! Why a call is not done.
+//! Why a call fails.
 
 ghost use Rattle.std.specs.Prelude.{◌≡◌};
 ghost use Rattle.m4_builtins.specs.declared.fault.BuiltinFault.TheVariants.{OutOfMemory};
@@ -7,10 +7,10 @@ use m4_state::fault::StateFault;
 use std::alloc::AllocError;
 use thiserror::Error;
 
-/// A call could not be done.
+/// The fault of a call.
 #[derive(Clone, Copy, Debug, PartialEq, Eq, Error)]
 pub enum BuiltinFault {
-    /// A growth was refused.
+    /// An allocation failed.
     #[error("B1 OutOfMemory")]
     OutOfMemory,
 }

@@ -1,7 +1,7 @@
-//! What a call is before its arguments, in one piece of memory. Manual: "Macro invocation".
+//! The head of a call: its parts before its arguments, in one allocation. Manual: "Macro invocation".
 //!
-//! A call keeps its name, its definition and its place until its list ends. Calls nest, and then there
-//! are as many of these as calls are open: so a call asks for memory once, and not for each of them.
+//! A call keeps its name, its definition and its place until its list ends, and there are as many heads
+//! as open calls. One allocation contains all three parts, so each call allocates once for them.
 
 ghost use Rattle.std.specs.Prelude.{◌≡◌, ◌+◌, ◌≤◌, List, ℕ, length, take, drop, IfOk, IfSome, IfNone};
 ghost use Rattle.m4_state.specs.Definition.{IsDefinition};
@@ -16,7 +16,7 @@ use m4_state::definition::Def;
 use std::alloc::{AllocError, Global};
 use std::marker::Model;
 
-/// Which definition it is. The bytes of a text or of a placeholder's name are kept elsewhere.
+/// The kind of a definition. The bytes of a text or of a placeholder's name are stored separately.
 #[derive(Clone, Copy, Debug)]
 enum Kind {
     Text,
@@ -24,16 +24,16 @@ enum Kind {
     Placeholder,
 }
 
-/// What a call is before its arguments: its name, its definition and its place, as they were when the
-/// name was read. A definition that is changed or taken away while the list is read changes no call
-/// that is open. Manual: "Macro invocation".
+/// The head of a call: its name, its definition and its place, as they were when the name was read. If a
+/// definition is changed or deleted while the list is read, no open call changes. Manual: "Macro
+/// invocation".
 #[derive(Debug)]
 pub struct Head {
     kind: Kind,
     line: u64,
     name_len: usize,
     text_len: usize,
-    // The name, the definition's text or its name, and the file, with nothing in between.
+    // The name, the definition's text or name, and the file, with nothing in between.
     strings: Vec<u8>,
 }
 
@@ -49,7 +49,7 @@ impl Model for Head {
     ghost invariant = { IsHead };
 }
 
-// Written out, so that a caller's proof sees one call and not the drop of each field.
+// Written out so that a caller's proof contains one call, not the drop of each field.
 impl Drop for Head {
     fn drop(self) {
         let Head {
@@ -62,7 +62,7 @@ impl Drop for Head {
     }
 }
 
-/// Which definition it is, and its bytes: a builtin has none.
+/// Returns the kind of a definition, and its bytes: a builtin has none.
 fn kind_of(definition: &Def) -> (Kind, &[u8])
     ensures { definition_at result.0 result.1.now ≡ definition.now }
 {
@@ -73,7 +73,7 @@ fn kind_of(definition: &Def) -> (Kind, &[u8])
     }
 }
 
-/// So many bytes from a place on.
+/// Returns `len` bytes from a place on.
 fn part(bytes: &[u8], at: usize, len: usize) -> &[u8]
     requires { at + len ≤ length bytes.now }
     ensures { result.now ≡ take len (drop at bytes.now) }
@@ -82,7 +82,7 @@ fn part(bytes: &[u8], at: usize, len: usize) -> &[u8]
 }
 
 impl Head {
-    /// A head with copies of these.
+    /// Creates a head with copies of these parts.
     pub fn new(
         alloc: Global,
         name: &[u8],
@@ -115,14 +115,14 @@ impl Head {
         })
     }
 
-    /// The name by which the macro was called.
+    /// Returns the name by which the macro was called.
     pub fn name(&self) -> &[u8]
         ensures { result.now ≡ self.now.name }
     {
         self.strings.split_at(self.name_len).0
     }
 
-    /// The name, with no copy.
+    /// Returns the name, without a copy.
     pub fn into_name(self) -> Bytes
         ensures { result ≡ self.name }
     {
@@ -137,7 +137,7 @@ impl Head {
         Bytes::from(strings)
     }
 
-    /// The name of the file in which the call stands; empty in wrapped text.
+    /// Returns the name of the call's file; empty in wrapped text.
     pub fn file(&self) -> &[u8]
         ensures { result.now ≡ self.now.place.file }
     {
@@ -145,14 +145,14 @@ impl Head {
         after_name.split_at(self.text_len).1
     }
 
-    /// The line of the call's name; 0 in wrapped text.
+    /// Returns the line of the call's name; 0 in wrapped text.
     pub fn line(&self) -> u64
         ensures { result ≡ self.now.place.line }
     {
         self.line
     }
 
-    /// The definition, where it is a text.
+    /// Returns the text of the definition, if it is a text.
     pub fn text(&self) -> Option<&[u8]>
         ensures some { IfSome result (λ x. self.now.definition ≡ Text x.now) }
         ensures none { IfNone result ((x : List ℕ) → self.now.definition ≡ Text x → ⊥) }
@@ -163,7 +163,7 @@ impl Head {
         }
     }
 
-    /// The definition once more.
+    /// Returns a copy of the definition.
     pub fn definition(&self) -> Result<Def, AllocError>
         ensures value { IfOk result (λ d. d ≡ self.now.definition) }
         ensures valid { IfOk result IsDefinition }
@@ -182,7 +182,7 @@ impl Head {
         }
     }
 
-    /// Where the call stands.
+    /// Returns the place of the call.
     pub fn place(&self) -> Result<Place, AllocError>
         ensures { IfOk result (λ p. p ≡ self.now.place) }
     {
@@ -193,7 +193,7 @@ impl Head {
         })
     }
 
-    /// Whether the definition is recognised only with parameters.
+    /// Returns whether the definition is recognised only with parameters.
     pub fn needs_list(&self) -> bool
         ensures { result ≡ needs_list self.now.definition }
     {

@@ -1,9 +1,9 @@
 //! The builtins that call by a name given as an argument. Manual: "Indirect call of macros", "Indirect
 //! call of builtins".
 //!
-//! Of an indirect call the first argument may again be the name of one, and so on through a list of any
-//! length. So neither calls what it leads to: it answers a [`Step`], and [`crate::act::act`] goes on in a
-//! loop.
+//! The first argument of an indirect call may again name an indirect call, and so on through a list of any
+//! length. So these builtins do not make the call themselves: they return a [`Step`], and
+//! [`crate::act::act`] continues in a loop.
 
 ghost use Rattle.std.specs.Prelude.{◌≡◌, ◌<◌, ℕ, IfOk, length};
 ghost use Rattle.std.specs.List.{AllByRecursion};
@@ -25,16 +25,16 @@ use m4_state::definition::Def;
 use m4_state::state::State;
 use std::alloc::Global;
 
-/// A call that is done, or what it goes on as.
+/// A call that is finished, or the call that continues it.
 #[derive(Drop)]
 pub(crate) enum Step<'a> {
-    /// The call is done.
+    /// The call is finished.
     Done(Effect),
-    /// The call is that of a builtin with these arguments.
+    /// The call continues as that of a builtin with these arguments.
     On(Builtin, &'a [Arg]),
 }
 
-/// A call of a definition under a name: a text and a placeholder are done, a builtin is to be done.
+/// Starts a call of a definition under a name: a text or a placeholder is finished, a builtin is not.
 pub(crate) fn begin<'a>(
     alloc: Global,
     def: &Def,
@@ -60,7 +60,7 @@ pub(crate) fn begin<'a>(
     }
 }
 
-/// Calls the macro of the name that the first argument is. Manual: "Indirect call of macros".
+/// Calls the macro that the first argument names. Manual: "Indirect call of macros".
 pub(crate) fn indir<'a>(
     alloc: Global,
     list: &'a [Arg],
@@ -87,7 +87,7 @@ pub(crate) fn indir<'a>(
     }
 }
 
-/// Calls the builtin whose own name the first argument is. Manual: "Indirect call of builtins".
+/// Calls the builtin whose own name is the first argument. Manual: "Indirect call of builtins".
 pub(crate) fn builtin<'a>(
     alloc: Global,
     list: &'a [Arg],

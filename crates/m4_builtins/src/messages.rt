@@ -1,4 +1,4 @@
-//! What is told of a call, a line each. The texts are those of `specs/Messages.antt`.
+//! The messages about a call, one line each. The texts are those of `specs/Messages.antt`.
 
 ghost use Rattle.std.specs.Prelude.{◌≡◌, ◌++◌, IfOk, OnOk, codes};
 ghost use Rattle.m4_builtins.specs.Messages.{place_text, warning, error, too_few, excess, empty_number, not_numeric, unknown_macro, unknown_builtin, unsupported, dropped, bad_name, bad_status, divide_by_zero, bad_expression, out_of_range};
@@ -10,10 +10,10 @@ use m4_state::builtin::Builtin;
 use m4_state::bytes::Bytes;
 use std::alloc::{AllocError, Global};
 
-/// The line of messages that says why the run ends. A refused growth is `OutOfMemory`. Manual:
+/// Returns the line that says why the run ends. Returns `OutOfMemory` if an allocation fails. Manual:
 /// "Location within input".
 pub fn error_message(alloc: Global, place: &Place, text: &[u8]) -> Result<Bytes, BuiltinFault>
-    // exact steps: the whole line
+    // exact steps: the complete line
     ensures { IfOk result (λ b. b ≡ error place.now text.now) }
 {
     let mut line = head(alloc, place, b": ERROR: ")?;
@@ -22,10 +22,10 @@ pub fn error_message(alloc: Global, place: &Place, text: &[u8]) -> Result<Bytes,
     Ok(Bytes::from(line))
 }
 
-/// The warning that a definition was in a text, where it is left out. A refused growth is
-/// `OutOfMemory`. Manual: "Location within input".
+/// Returns the warning that a definition in a text was dropped. Returns `OutOfMemory` if an allocation
+/// fails. Manual: "Location within input".
 pub fn dropped_message(alloc: Global, place: &Place) -> Result<Bytes, BuiltinFault>
-    // exact steps: the whole line
+    // exact steps: the complete line
     ensures { IfOk result (λ b. b ≡ dropped place.now) }
 {
     let mut line = head(alloc, place, b": Warning: ")?;
@@ -34,13 +34,13 @@ pub fn dropped_message(alloc: Global, place: &Place) -> Result<Bytes, BuiltinFau
     Ok(Bytes::from(line))
 }
 
-/// The warning that a builtin was called with too few arguments.
+/// Returns the warning that a builtin was called with too few arguments.
 pub(crate) fn too_few_message(
     alloc: Global,
     place: &Place,
     builtin: Builtin,
 ) -> Result<Bytes, AllocError>
-    // exact steps: the whole line
+    // exact steps: the complete line
     ensures { IfOk result (λ b. b ≡ too_few place.now builtin) }
 {
     warning_on(
@@ -52,13 +52,13 @@ pub(crate) fn too_few_message(
     )
 }
 
-/// The warning that a builtin was called with more arguments than it reads.
+/// Returns the warning that a builtin was called with more arguments than it reads.
 pub(crate) fn excess_message(
     alloc: Global,
     place: &Place,
     builtin: Builtin,
 ) -> Result<Bytes, AllocError>
-    // exact steps: the whole line
+    // exact steps: the complete line
     ensures { IfOk result (λ b. b ≡ excess place.now builtin) }
 {
     warning_on(
@@ -70,13 +70,13 @@ pub(crate) fn excess_message(
     )
 }
 
-/// The warning that an empty argument counts as 0.
+/// Returns the warning that an empty argument counts as 0.
 pub(crate) fn empty_number_message(
     alloc: Global,
     place: &Place,
     builtin: Builtin,
 ) -> Result<Bytes, AllocError>
-    // exact steps: the whole line
+    // exact steps: the complete line
     ensures { IfOk result (λ b. b ≡ empty_number place.now builtin) }
 {
     warning_on(
@@ -88,13 +88,13 @@ pub(crate) fn empty_number_message(
     )
 }
 
-/// The warning that an argument is no number.
+/// Returns the warning that an argument is no number.
 pub(crate) fn not_numeric_message(
     alloc: Global,
     place: &Place,
     builtin: Builtin,
 ) -> Result<Bytes, AllocError>
-    // exact steps: the whole line
+    // exact steps: the complete line
     ensures { IfOk result (λ b. b ≡ not_numeric place.now builtin) }
 {
     warning_on(
@@ -106,37 +106,37 @@ pub(crate) fn not_numeric_message(
     )
 }
 
-/// The warning that no macro has a name.
+/// Returns the warning that there is no macro of this name.
 pub(crate) fn unknown_macro_message(
     alloc: Global,
     place: &Place,
     name: &[u8],
 ) -> Result<Bytes, AllocError>
-    // exact steps: the whole line
+    // exact steps: the complete line
     ensures { IfOk result (λ b. b ≡ unknown_macro place.now name.now) }
 {
     warning_on(alloc, place, b"undefined macro `", name, b"'")
 }
 
-/// The warning that no builtin has a name.
+/// Returns the warning that there is no builtin of this name.
 pub(crate) fn unknown_builtin_message(
     alloc: Global,
     place: &Place,
     name: &[u8],
 ) -> Result<Bytes, AllocError>
-    // exact steps: the whole line
+    // exact steps: the complete line
     ensures { IfOk result (λ b. b ≡ unknown_builtin place.now name.now) }
 {
     warning_on(alloc, place, b"undefined builtin `", name, b"'")
 }
 
-/// The warning that a frozen file asked for a builtin that this processor lacks.
+/// Returns the warning that a frozen file asked for a builtin that this processor lacks.
 pub(crate) fn unsupported_message(
     alloc: Global,
     place: &Place,
     name: &[u8],
 ) -> Result<Bytes, AllocError>
-    // exact steps: the whole line
+    // exact steps: the complete line
     ensures { IfOk result (λ b. b ≡ unsupported place.now name.now) }
 {
     warning_on(
@@ -148,13 +148,13 @@ pub(crate) fn unsupported_message(
     )
 }
 
-/// The warning that a definition stood where a builtin reads a name.
+/// Returns the warning that a builtin reads a name and its argument was a definition.
 pub(crate) fn bad_name_message(
     alloc: Global,
     place: &Place,
     builtin: Builtin,
 ) -> Result<Bytes, AllocError>
-    // exact steps: the whole line
+    // exact steps: the complete line
     ensures { IfOk result (λ b. b ≡ bad_name place.now builtin) }
 {
     warning_on(
@@ -166,25 +166,25 @@ pub(crate) fn bad_name_message(
     )
 }
 
-/// The warning that an expression divides by zero.
+/// Returns the warning that an expression divides by zero.
 pub(crate) fn divide_by_zero_message(alloc: Global, place: &Place) -> Result<Bytes, AllocError>
-    // exact steps: the whole line
+    // exact steps: the complete line
     ensures { IfOk result (λ b. b ≡ divide_by_zero place.now) }
 {
     warning_on(alloc, place, b"divide by zero in eval", b"", b"")
 }
 
-/// The warning that a text is no expression.
+/// Returns the warning that a text is no expression.
 pub(crate) fn bad_expression_message(alloc: Global, place: &Place) -> Result<Bytes, AllocError>
-    // exact steps: the whole line
+    // exact steps: the complete line
     ensures { IfOk result (λ b. b ≡ bad_expression place.now) }
 {
     warning_on(alloc, place, b"bad expression in eval", b"", b"")
 }
 
-/// The warning that a radix or a width is out of range.
+/// Returns the warning that a radix or a width is out of range.
 pub(crate) fn out_of_range_message(alloc: Global, place: &Place) -> Result<Bytes, AllocError>
-    // exact steps: the whole line
+    // exact steps: the complete line
     ensures { IfOk result (λ b. b ≡ out_of_range place.now) }
 {
     warning_on(
@@ -196,15 +196,15 @@ pub(crate) fn out_of_range_message(alloc: Global, place: &Place) -> Result<Bytes
     )
 }
 
-/// The warning that a code of the run's end is out of range.
+/// Returns the warning that an exit status is out of range.
 pub(crate) fn bad_status_message(alloc: Global, place: &Place) -> Result<Bytes, AllocError>
-    // exact steps: the whole line
+    // exact steps: the complete line
     ensures { IfOk result (λ b. b ≡ bad_status place.now) }
 {
     warning_on(alloc, place, b"exit status out of range", b"", b"")
 }
 
-/// A warning on what bears a name, which stands between two texts.
+/// Returns a warning that contains a name, with a text before and after it.
 fn warning_on(
     alloc: Global,
     place: &Place,
@@ -222,7 +222,7 @@ fn warning_on(
     Ok(Bytes::from(line))
 }
 
-/// The front of each message: the program, the place, and what kind of message it is.
+/// Returns the start of each message: the program, the place, and the kind of message.
 fn head(alloc: Global, place: &Place, kind: &[u8]) -> Result<Vec<u8>, AllocError>
     ensures { IfOk result (λ v. v.items ≡ codes "m4" ++ place_text place.now ++ kind.now) }
 {
@@ -232,7 +232,7 @@ fn head(alloc: Global, place: &Place, kind: &[u8]) -> Result<Vec<u8>, AllocError
     Ok(line)
 }
 
-/// Adds the file and the line, or nothing in wrapped text, whose line is 0.
+/// Appends the file and the line, or nothing in wrapped text, whose line is 0.
 fn push_place(line: &mut Vec<u8>, place: &Place) -> Result<(), AllocError>
     ensures { OnOk result (line.new.items ≡ line.old.items ++ place_text place.now) }
 {

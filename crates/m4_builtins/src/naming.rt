@@ -1,4 +1,4 @@
-//! The builtins that give names definitions, take them away and give them back. Manual: "Defining a
+//! The builtins that define names, delete their definitions and return them. Manual: "Defining a
 //! macro", "Deleting a macro", "Temporarily redefining macros", "Renaming macros".
 
 ghost use Rattle.std.specs.Prelude.{◌≡◌, ◌++◌, fold, flat_map, IfOk, OnOk, option_copied};
@@ -21,7 +21,7 @@ use m4_state::definition::Def;
 use m4_state::state::State;
 use std::alloc::{AllocError, Global};
 
-/// Gives the first argument the second as its definition. Manual: "Defining a macro".
+/// Defines the first argument, a name, as the second one. Manual: "Defining a macro".
 pub(crate) fn define(
     alloc: Global,
     list: &[Arg],
@@ -47,7 +47,7 @@ pub(crate) fn define(
     }
 }
 
-/// Puts the second argument on top of the first one's definitions. Manual: "Temporarily redefining
+/// Pushes the second argument onto the definitions of the first one. Manual: "Temporarily redefining
 /// macros".
 pub(crate) fn pushdef(
     alloc: Global,
@@ -74,7 +74,7 @@ pub(crate) fn pushdef(
     }
 }
 
-/// The first of these arguments as a definition, or the empty text where there is none.
+/// Returns the first of these arguments as a definition, or the empty text if there is none.
 fn definition_in(alloc: Global, list: &[Arg]) -> Result<Def, AllocError>
     ensures { IfOk result (λ d. d ≡ spec.definition_in list.now) }
 {
@@ -85,7 +85,7 @@ fn definition_in(alloc: Global, list: &[Arg]) -> Result<Def, AllocError>
     }
 }
 
-/// Takes all definitions of each argument away. Manual: "Deleting a macro".
+/// Deletes all definitions of each argument. Manual: "Deleting a macro".
 pub(crate) fn undefine(list: &[Arg], state: &mut State)
     ensures { state.new ≡ spec.for_each undefined list.now state.old }
 {
@@ -94,7 +94,7 @@ pub(crate) fn undefine(list: &[Arg], state: &mut State)
     }
 }
 
-/// Takes the definition on top of each argument's away. Manual: "Temporarily redefining macros".
+/// Deletes the top definition of each argument. Manual: "Temporarily redefining macros".
 pub(crate) fn popdef(list: &[Arg], state: &mut State)
     ensures { state.new ≡ spec.for_each popped list.now state.old }
 {
@@ -103,7 +103,7 @@ pub(crate) fn popdef(list: &[Arg], state: &mut State)
     }
 }
 
-/// Gives the definition of a name, or the texts of several. Manual: "Renaming macros".
+/// Expands to the definition of a name, or to the texts of several names. Manual: "Renaming macros".
 pub(crate) fn defn(
     alloc: Global,
     list: &[Arg],
@@ -129,7 +129,7 @@ pub(crate) fn defn(
     }
 }
 
-/// A text between quotes, or the builtin or placeholder itself; an empty text where there is none.
+/// Returns a text between quotes, or the builtin or placeholder itself; an empty text if there is none.
 fn definition_given(
     alloc: Global,
     def: Option<&Def>,
@@ -149,7 +149,7 @@ fn definition_given(
     }
 }
 
-/// Adds the texts of names, each between quotes, and a warning on each builtin or placeholder.
+/// Appends the texts of names, each between quotes, and a warning on each builtin or placeholder.
 fn push_texts(
     alloc: Global,
     list: &[Arg],
@@ -176,7 +176,7 @@ fn push_texts(
     Ok(())
 }
 
-/// Adds the text of a definition, or the warning that it is left out.
+/// Appends the text of a definition, or the warning that it is left out.
 fn push_text(
     alloc: Global,
     def: Option<&Def>,

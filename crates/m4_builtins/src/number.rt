@@ -1,4 +1,4 @@
-//! The number that an argument of a builtin stands for. Definitions and code share [`Reading`].
+//! The number in a builtin's argument. Definitions and code share [`Reading`].
 //! Manual: "Macro arguments", and the sections of the builtins that take numbers.
 
 ghost use Rattle.std.specs.Prelude.{◌≡◌, ◌++◌, OnOk, IfOk};
@@ -11,24 +11,24 @@ use m4_eval::blank::spaces_len;
 use m4_state::builtin::Builtin;
 use std::alloc::{AllocError, Global};
 
-/// A numeric argument, as it was read.
+/// The result of reading a numeric argument.
 #[derive(Clone, Copy, Debug, PartialEq, Eq)]
 pub enum Reading {
-    /// A number of 32 bits with its sign.
+    /// A signed number of 32 bits.
     Number(i32),
-    /// Nothing: it counts as 0, with a warning.
+    /// Empty: it counts as 0, with a warning.
     Empty,
-    /// No such number, which is warned of.
+    /// No such number; a warning is given.
     NotNumeric,
 }
 
-/// The greatest number after a `-`; the greatest without it is below.
+/// The greatest number after a `-`; without it the greatest is one less.
 const MAGNITUDE_LIMIT: usize = 0x8000_0000;
 
-/// What a numeric argument is. White space may stand in front of a number, and a sign; after it
-/// nothing may.
+/// Reads a numeric argument. White space may come before a number, and a sign; nothing may follow
+/// it.
 pub fn reading_of(text: &[u8]) -> Reading
-    // exact steps: what the text is read as
+    // exact steps: the result of reading the text
     ensures { result ≡ spec.reading_of text.now }
 {
     match text {
@@ -37,7 +37,7 @@ pub fn reading_of(text: &[u8]) -> Reading
     }
 }
 
-/// The number of an argument, if it has one. Adds the warning on it to the messages.
+/// Returns the number of an argument, if it has one. Adds the warning on it to the messages.
 pub(crate) fn number_in(
     alloc: Global,
     text: &[u8],
@@ -64,7 +64,7 @@ pub(crate) fn number_in(
     }
 }
 
-/// The number of a text that begins with a sign or with digits.
+/// Reads the number of a text that begins with a sign or with digits.
 fn read_signed(text: &[u8]) -> Reading
     ensures { result ≡ spec.read_signed text.now }
 {
@@ -76,7 +76,7 @@ fn read_signed(text: &[u8]) -> Reading
     }
 }
 
-/// The number of digits after a sign.
+/// Reads the number of the digits after a sign.
 fn read_digits(negative: bool, digits: &[u8]) -> Reading
     ensures { result ≡ spec.read_digits negative digits.now }
 {
@@ -89,14 +89,14 @@ fn read_digits(negative: bool, digits: &[u8]) -> Reading
     }
 }
 
-/// Whether these are digits alone, and one at least.
+/// Returns whether these are only digits, and at least one.
 fn are_digits(bytes: &[u8]) -> bool
     ensures { result ≡ spec.are_digits bytes.now }
 {
     !bytes.is_empty() && digits_len(bytes) == bytes.len()
 }
 
-/// A number after a sign, if it has 32 bits.
+/// Returns a number after a sign, if it has 32 bits.
 fn if_it_fits(negative: bool, n: usize) -> Reading
     ensures { result ≡ spec.if_it_fits negative n }
 {

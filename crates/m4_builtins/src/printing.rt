@@ -1,4 +1,4 @@
-//! The builtins that write to the messages, and those that give the place of a call. Manual:
+//! The builtins that write messages, and those that expand to the place of a call. Manual:
 //! "Displaying macro definitions", "Printing error messages", "Printing current location".
 
 ghost use Rattle.std.specs.Prelude.{◌≡◌, ◌++◌, IfOk, OnOk, option_copied};
@@ -18,8 +18,8 @@ use m4_state::definition::Def;
 use m4_state::state::State;
 use std::alloc::{AllocError, Global};
 
-/// Shows the definitions of its arguments, or of all names where it has none, a line each in byte order
-/// of the names. Names without a definition are warned of before. Manual: "Displaying macro
+/// Shows the definitions of its arguments, or of all names if it has none, one line each in byte order of
+/// the names. Warns of names without a definition before that. Manual: "Displaying macro
 /// definitions".
 pub(crate) fn dumpdef(
     alloc: Global,
@@ -29,7 +29,7 @@ pub(crate) fn dumpdef(
 ) -> Result<Effect, BuiltinFault>
     ensures { IfOk result (λ e. spec.dumpdef list.now place.now state.now ≡ record { state = state.now; effect = e }) }
 {
-    // All memory for names is there before the first message is made.
+    // All memory for names is allocated before the first message is made.
     let mut names = names_shown(alloc, list, state)?;
     let mut messages = Vec::new(alloc);
     push_warnings(alloc, names.as_slice(), place, state, &mut messages)?;
@@ -38,7 +38,7 @@ pub(crate) fn dumpdef(
     Ok(Effect::telling(alloc, Bytes::from(messages)))
 }
 
-/// The names that are asked for, or all.
+/// Returns the requested names, or all.
 fn names_shown(alloc: Global, list: &[Arg], state: &State) -> Result<Vec<Bytes>, BuiltinFault>
     ensures { IfOk result (λ names. names.items ≡ spec.names_shown list.now state.now) }
 {
@@ -48,7 +48,7 @@ fn names_shown(alloc: Global, list: &[Arg], state: &State) -> Result<Vec<Bytes>,
     }
 }
 
-/// Copies of the arguments' texts.
+/// Returns copies of the arguments' texts.
 fn copied_texts(alloc: Global, list: &[Arg]) -> Result<Vec<Bytes>, AllocError>
     ensures { IfOk result (λ names. names.items ≡ texts_of list.now) }
 {
@@ -59,7 +59,7 @@ fn copied_texts(alloc: Global, list: &[Arg]) -> Result<Vec<Bytes>, AllocError>
     Ok(names)
 }
 
-/// Adds the warnings on names without a definition.
+/// Appends the warnings on names without a definition.
 fn push_warnings(
     alloc: Global,
     names: &[Bytes],
@@ -76,7 +76,7 @@ fn push_warnings(
     Ok(())
 }
 
-/// Adds the warning on a name, if it has no definition.
+/// Appends the warning on a name, if it has no definition.
 fn push_warning(
     alloc: Global,
     name: &[u8],
@@ -94,7 +94,7 @@ fn push_warning(
     messages.extend_from_slice(warning.as_slice())
 }
 
-/// Adds the lines of names that have a definition.
+/// Appends the lines of names that have a definition.
 fn push_lines(names: &[Bytes], state: &State, messages: &mut Vec<u8>) -> Result<(), AllocError>
     ensures { OnOk result (messages.new.items ≡ messages.old.items ++ spec.lines_of names.now state.now) }
 {
@@ -105,7 +105,7 @@ fn push_lines(names: &[Bytes], state: &State, messages: &mut Vec<u8>) -> Result<
     Ok(())
 }
 
-/// Adds the line of a name, if it has a definition.
+/// Appends the line of a name, if it has a definition.
 fn push_line(
     name: &[u8],
     def: Option<&Def>,
@@ -125,7 +125,7 @@ fn push_line(
     Ok(())
 }
 
-/// Adds a definition as it is shown.
+/// Appends a definition as it is shown.
 fn push_shown(def: &Def, quotes: (&[u8], &[u8]), messages: &mut Vec<u8>) -> Result<(), AllocError>
     ensures { OnOk result (messages.new.items ≡ messages.old.items ++ spec.shown (pair_of quotes.entry) def.now) }
 {
@@ -136,7 +136,7 @@ fn push_shown(def: &Def, quotes: (&[u8], &[u8]), messages: &mut Vec<u8>) -> Resu
     }
 }
 
-/// Adds a name between angle brackets.
+/// Appends a name between angle brackets.
 fn push_bracketed(name: &[u8], messages: &mut Vec<u8>) -> Result<(), AllocError>
     ensures { OnOk result (messages.new.items ≡ messages.old.items ++ spec.bracketed name.now) }
 {
@@ -156,8 +156,8 @@ pub(crate) fn errprint(alloc: Global, list: &[Arg], state: &State) -> Result<Eff
     Ok(Effect::telling(alloc, Bytes::from(text)))
 }
 
-/// Gives the name of the input between quotes; an empty one in wrapped text, whose line is 0. Manual:
-/// "Printing current location".
+/// Expands to the name of the input between quotes; to an empty one in wrapped text, whose line is 0.
+/// Manual: "Printing current location".
 pub(crate) fn file(alloc: Global, place: &Place, state: &State) -> Result<Effect, AllocError>
     ensures { IfOk result (λ e. spec.file place.now state.now ≡ record { state = state.now; effect = e }) }
 {
@@ -171,7 +171,7 @@ pub(crate) fn file(alloc: Global, place: &Place, state: &State) -> Result<Effect
     Ok(Effect::pushing(alloc, Bytes::from(text)))
 }
 
-/// Gives the line of the call; 0 in wrapped text. Manual: "Printing current location".
+/// Expands to the line of the call; to 0 in wrapped text. Manual: "Printing current location".
 pub(crate) fn line(alloc: Global, place: &Place, state: &State) -> Result<Effect, AllocError>
     ensures { IfOk result (λ e. spec.line place.now state.now ≡ record { state = state.now; effect = e }) }
 {

@@ -1,4 +1,4 @@
-//! A text with the name and the arguments of a call put in: what stands behind each dollar decides.
+//! Substitution: replaces `$0`, `$1`, `$#`, `$*` and `$@` in a text by a call's name and arguments.
 
 ghost use Rattle.std.specs.Prelude.{◌≡◌, ◌==◌, ◌≤◌, ◌^◌, [], ◌∷◌, ◌++◌, IfOk, OnOk, ℕ, ◌<◌, length, map, not, decimal};
 ghost use Rattle.m4_input.specs.Ascii.{dollar, is_digit};
@@ -14,8 +14,9 @@ use itoa::Buffer;
 use m4_state::bytes::Bytes;
 use std::alloc::{AllocError, Global};
 
-/// A text with the name and the arguments of a call put in, by the current quotes. Takes time in
-/// proportion to the text and to what is put in. A refused growth is `OutOfMemory`. Manual:
+/// Returns a text with the name and the arguments of a call substituted, by the current quotes. Takes
+/// time in proportion to the text and to the inserted arguments. Returns `OutOfMemory` if an allocation
+/// fails. Manual:
 /// "Arguments to macros", "Special arguments to macros".
 pub fn substitute(
     alloc: Global,
@@ -24,7 +25,7 @@ pub fn substitute(
     list: &[Arg],
     quotes: (&[u8], &[u8]),
 ) -> Result<Bytes, BuiltinFault>
-    // exact steps: the text with the arguments put in
+    // exact steps: the text with the arguments substituted
     ensures { IfOk result (λ b. b ≡ subst text.now name.now list.now (pair_of quotes.entry)) }
 {
     let mut out = Vec::new(alloc);
@@ -35,8 +36,8 @@ pub fn substitute(
     Ok(Bytes::from(out))
 }
 
-/// Adds what stands in front of the first dollar, and what that dollar stands for. Answers what is
-/// left of the text.
+/// Appends the bytes before the first dollar, and the replacement of that dollar. Returns the rest of
+/// the text.
 fn push_front<'a>(
     out: &mut Vec<u8>,
     text: &'a [u8],
@@ -59,7 +60,7 @@ fn push_front<'a>(
     }
 }
 
-/// How many bytes stand in front of the first dollar.
+/// Counts the bytes before the first dollar.
 fn plain_len(bytes: &[u8]) -> usize
     ensures value { result ≡ run_length (λ b. not (b == dollar)) bytes.now }
     ensures within { result ≤ length bytes.now }
@@ -71,7 +72,7 @@ fn plain_len(bytes: &[u8]) -> usize
     k
 }
 
-/// Adds what a dollar stands for, and answers how many of the bytes behind it belong to it.
+/// Appends the replacement of a dollar; returns how many of the following bytes it used.
 fn push_dollar(
     out: &mut Vec<u8>,
     after: &[u8],
@@ -109,7 +110,7 @@ fn push_dollar(
     }
 }
 
-/// How many digits stand in front.
+/// Counts the digits at the start.
 pub(crate) fn digits_len(bytes: &[u8]) -> usize
     ensures value { result ≡ run_length is_digit bytes.now }
     ensures within { result ≤ length bytes.now }
@@ -121,7 +122,7 @@ pub(crate) fn digits_len(bytes: &[u8]) -> usize
     k
 }
 
-/// The number that digits stand for; none where it is above every count.
+/// Returns the number that these digits spell; none if it is greater than every count.
 pub(crate) fn number_of(digits: &[u8]) -> Option<usize>
     ensures { IsNumber result (number_of digits.now) }
 {
@@ -133,7 +134,7 @@ pub(crate) fn number_of(digits: &[u8]) -> Option<usize>
     Some(value)
 }
 
-/// Adds the argument of a number, or the name for 0. There is nothing above the count.
+/// Appends the argument with a number, or the name for 0; nothing if the number is above their count.
 fn push_numbered(
     out: &mut Vec<u8>,
     number: Option<usize>,
@@ -155,7 +156,7 @@ fn push_numbered(
     Ok(())
 }
 
-/// Adds a count in decimal.
+/// Appends a count in decimal.
 fn push_count(out: &mut Vec<u8>, count: usize) -> Result<(), AllocError>
     ensures { OnOk result (out.new.items ≡ out.old.items ++ decimal count) }
 {
@@ -163,7 +164,7 @@ fn push_count(out: &mut Vec<u8>, count: usize) -> Result<(), AllocError>
     out.extend_from_slice(buffer.format(count).as_bytes())
 }
 
-/// Adds the arguments, with a separator between any two of them.
+/// Appends the arguments, with a separator between any two of them.
 #[tactic(auto, using(crate::proofs::Joins::joined_step))]
 pub(crate) fn push_joined(out: &mut Vec<u8>, args: &[Arg], separator: u8) -> Result<(), AllocError>
     ensures { OnOk result (out.new.items ≡ out.old.items ++ joined (separator ∷ []) (texts_of args.now)) }
@@ -179,7 +180,7 @@ pub(crate) fn push_joined(out: &mut Vec<u8>, args: &[Arg], separator: u8) -> Res
     Ok(())
 }
 
-/// Adds the arguments, each between quotes, with a comma between any two of them.
+/// Appends the arguments, each between quotes, with a comma between any two of them.
 #[tactic(auto, using(crate::proofs::Joins::joined_step))]
 pub(crate) fn push_quoted(
     out: &mut Vec<u8>,
@@ -199,7 +200,7 @@ pub(crate) fn push_quoted(
     Ok(())
 }
 
-/// Adds a text between quotes.
+/// Appends a text between quotes.
 pub(crate) fn push_one_quoted(
     out: &mut Vec<u8>,
     text: &[u8],

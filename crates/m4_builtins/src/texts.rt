@@ -15,7 +15,7 @@ use m4_state::state::State;
 use memchr::memmem;
 use std::alloc::{AllocError, Global};
 
-/// Gives the count of bytes of the first argument. Manual: "Calculating length of strings".
+/// Expands to the number of bytes of the first argument. Manual: "Calculating length of strings".
 pub(crate) fn len(alloc: Global, list: &[Arg], state: &State) -> Result<Effect, AllocError>
     ensures { IfOk result (λ e. spec.len list.now state.now ≡ record { state = state.now; effect = e }) }
 {
@@ -24,8 +24,8 @@ pub(crate) fn len(alloc: Global, list: &[Arg], state: &State) -> Result<Effect, 
     Ok(Effect::pushing(alloc, text))
 }
 
-/// Gives the first place of the second argument in the first one, from 0; -1 where there is none. Takes
-/// time in proportion to both. Manual: "Searching for substrings".
+/// Expands to the first place of the second argument in the first one, from 0; to -1 if there is none.
+/// Takes time in proportion to both. Manual: "Searching for substrings".
 pub(crate) fn index(alloc: Global, list: &[Arg], state: &State) -> Result<Effect, AllocError>
     ensures { IfOk result (λ e. spec.index list.now state.now ≡ record { state = state.now; effect = e }) }
 {
@@ -37,8 +37,8 @@ pub(crate) fn index(alloc: Global, list: &[Arg], state: &State) -> Result<Effect
     Ok(Effect::pushing(alloc, text))
 }
 
-/// Gives the first argument from the place on that the second one names, and at most as many bytes as
-/// the third one says. Both numbers are read before anything is cut; the first that is none ends the
+/// Expands to the first argument from the place that the second one names, and to at most as many bytes
+/// as the third one says. Both numbers are read before anything is cut; the first invalid one ends the
 /// call. Manual: "Extracting substrings".
 pub(crate) fn substr(
     alloc: Global,
@@ -70,7 +70,7 @@ pub(crate) fn substr(
     Ok(effect)
 }
 
-/// The bytes from a place on; none where the place is negative, or where the text has ended.
+/// Returns the bytes from a place on; none if the place is negative, or after the end of the text.
 fn from_place(text: &[u8], place: i32) -> &[u8]
     ensures { result.now ≡ spec.from_place place text.now }
 {
@@ -80,7 +80,7 @@ fn from_place(text: &[u8], place: i32) -> &[u8]
     }
 }
 
-/// At most so many bytes; none where the count is negative.
+/// Returns at most `count` bytes; none if the count is negative.
 fn at_most(text: &[u8], count: i32) -> &[u8]
     ensures { result.now ≡ spec.at_most count text.now }
 {
@@ -90,14 +90,14 @@ fn at_most(text: &[u8], count: i32) -> &[u8]
     }
 }
 
-/// The first place where a text begins with a part, from 0.
+/// Returns the first place at which a text contains a part, from 0.
 fn place_in(text: &[u8], part: &[u8]) -> Option<usize>
     ensures { result ≡ spec.place_in text.now part.now }
 {
     memmem::find(text, part)
 }
 
-/// A count in decimal.
+/// Returns a count in decimal.
 fn decimal_of(alloc: Global, count: usize) -> Result<Bytes, AllocError>
     ensures { IfOk result (λ x. x ≡ decimal count) }
 {

@@ -1,7 +1,7 @@
 //! The builtin that replaces bytes by others. Manual: "Translating characters".
 //!
-//! The ranges of both lists are written out, then a table says of each byte what it becomes, and then
-//! the text is gone through once.
+//! The ranges of both lists are expanded, then a table gives the replacement of each byte, and then the
+//! text is read once.
 
 ghost use Rattle.std.specs.Prelude.{◌≡◌, ◌++◌, ◌<◌, ◌-◌, ◌+◌, ℕ, None, Some, IfOk, OnOk, get_or};
 ghost use Rattle.m4_builtins.specs.ByteTable.{Replaces};
@@ -13,11 +13,11 @@ use m4_state::bytes::Bytes;
 use m4_state::state::State;
 use std::alloc::{AllocError, Global};
 
-/// What each byte becomes, by its number; none where it is taken out.
+/// The replacement of each byte, by its number; none if it is deleted.
 type Changes = [Option<u8>; 256];
 
-/// Gives the first argument with the bytes of the second one replaced by those of the third. Takes time
-/// in proportion to the text and to the ranges as they are written out. Manual: "Translating
+/// Expands to the first argument with the bytes of the second one replaced by those of the third. Takes
+/// time in proportion to the text and to the expanded ranges. Manual: "Translating
 /// characters".
 pub(crate) fn translit(alloc: Global, list: &[Arg], state: &State) -> Result<Effect, AllocError>
     ensures { IfOk result (λ e. spec.translit list.now state.now ≡ record { state = state.now; effect = e }) }
@@ -29,7 +29,7 @@ pub(crate) fn translit(alloc: Global, list: &[Arg], state: &State) -> Result<Eff
     Ok(Effect::pushing(alloc, Bytes::from(text)))
 }
 
-/// A text with its ranges written out.
+/// Returns a text with its ranges expanded.
 fn ranges(alloc: Global, text: &[u8]) -> Result<Vec<u8>, AllocError>
     ensures { IfOk result (λ v. v.items ≡ spec.ranges text.now) }
 {
@@ -53,7 +53,7 @@ fn ranges(alloc: Global, text: &[u8]) -> Result<Vec<u8>, AllocError>
     Ok(out)
 }
 
-/// Adds the bytes from one to another, without the first.
+/// Appends the bytes from one to another, without the first.
 fn push_run(out: &mut Vec<u8>, from: u8, to: u8) -> Result<(), AllocError>
     ensures { OnOk result (out.new.items ≡ out.old.items ++ spec.run from to) }
 {
@@ -64,7 +64,7 @@ fn push_run(out: &mut Vec<u8>, from: u8, to: u8) -> Result<(), AllocError>
     }
 }
 
-/// Adds the bytes above one, up to another.
+/// Appends the bytes above one, up to another.
 fn push_rising(out: &mut Vec<u8>, from: u8, to: u8) -> Result<(), AllocError>
     ensures { OnOk result (out.new.items ≡ out.old.items ++ spec.rising (to - from) (from + 1)) }
 {
@@ -76,7 +76,7 @@ fn push_rising(out: &mut Vec<u8>, from: u8, to: u8) -> Result<(), AllocError>
     Ok(())
 }
 
-/// Adds the bytes below one, down to another.
+/// Appends the bytes below one, down to another.
 fn push_falling(out: &mut Vec<u8>, from: u8, to: u8) -> Result<(), AllocError>
     ensures { OnOk result (out.new.items ≡ out.old.items ++ spec.falling (from - to) (from - 1)) }
 {
@@ -88,8 +88,8 @@ fn push_falling(out: &mut Vec<u8>, from: u8, to: u8) -> Result<(), AllocError>
     Ok(())
 }
 
-/// What each byte becomes where some are replaced by others. Takes the last ones first, so that of two
-/// places of one byte the first is what counts.
+/// Returns the replacement of each byte, if some are replaced by others. Enters the last ones first, so
+/// that of two places of one byte the first counts.
 fn changes_of(from: &[u8], to: &[u8]) -> Changes
     ensures { Replaces result from.now to.now }
 {
@@ -102,7 +102,7 @@ fn changes_of(from: &[u8], to: &[u8]) -> Changes
     changes
 }
 
-/// Each byte stays as it is.
+/// Returns the table in which each byte stays as it is.
 fn no_changes() -> Changes
     ensures { (b : ℕ) → b < 256 → get_or result b None ≡ Some b }
 {
@@ -113,7 +113,7 @@ fn no_changes() -> Changes
     changes
 }
 
-/// A text with the bytes of one text replaced by those of another.
+/// Returns a text with the bytes of one text replaced by those of another.
 fn translated(alloc: Global, text: &[u8], from: &[u8], to: &[u8]) -> Result<Vec<u8>, AllocError>
     ensures { IfOk result (λ v. v.items ≡ spec.translated text.now from.now to.now) }
 {

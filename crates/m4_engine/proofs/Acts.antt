@@ -22,7 +22,7 @@ use Rattle.m4_engine.specs.Expansion.{Call, Limits, Expansion, Kept, Ended, read
 use Rattle.m4_engine.specs.Expand.{turn, join, effected, skip_or_push, with_acted, mode_after_call}
 use Rattle.m4_engine.specs.Engine.{Engine, so_far_of, mode_of, kept_in, outer_of, here_of, configuration, with_made, called_within, ending_in, ending_argument, with_open_call, close_in, step, Moves}
 
--- where an expansion stands behind a call that did this
+-- the state of an expansion after a call with these effects
 abbrev after : Acted → List ℕ → List ℕ → Engine → Pending → Expansion
 after a o m e p = record {
   limits = e.limits;
@@ -35,7 +35,7 @@ after a o m e p = record {
 abbrev popped : List Call → Outcome Expansion Ended → Move Expansion Kept Ended
 popped cs v = pop Expansion Kept Ended turn join (outer_of cs) v
 
--- the call is a token of what stands around it
+-- the call is a token of the argument around it
 around : (a : Acted) (o m : List ℕ) (limits : Limits) (s : State) (saved : List (List ℕ)) (n : ℕ) (cs : List Call) (output messages : List ℕ) (p p' : Pending) → let e : Engine = record { limits = limits; state = s; saved = saved; calls = n; open_calls = cs; output = output; messages = messages } in let c : Stacked Expansion Kept = record { outer = outer_of cs; here = reading p' (after a o m e p) } in c ≡ configuration o m (with_made (a.effect).messages (a.effect).output (a.effect).wrap (record e { state = a.state })) p'
 around a o m limits s saved n [] output messages p p' = rw (append_assoc o output (a.effect).output, append_assoc m messages (a.effect).messages) refl
 around a o m limits s saved n (c ∷ cs) output messages p p' = rw (append_assoc o output (a.effect).output, append_assoc m messages (a.effect).messages) refl
@@ -46,7 +46,7 @@ effect_at a o m e p = effected (a.effect).exit (a.effect).skip (a.effect).push (
 called_is : (e : Engine) (c : Call) (a : Acted) (p : Pending) (o m : List ℕ) → act c.definition c.name c.done c.place e.state ≡ a → called_within e.open_calls c (here_of o m e p) ≡ popped e.open_calls (effect_at a o m e p)
 called_is e c a p o m h = ap (λ (a : Acted). popped e.open_calls (effect_at a o m e p)) h
 
--- a call behind which the expansion goes on
+-- a call after which the expansion continues
 pub called_goes : (e e1 : Engine) (c : Call) (a : Acted) (p p' : Pending) → act c.definition c.name c.done c.place e.state ≡ a → (a.effect).exit ≡ None → e1 ≡ with_made (a.effect).messages (a.effect).output (a.effect).wrap (record e { state = a.state }) → ((s : Expansion) → s.pending ≡ p → skip_or_push (a.effect).skip (a.effect).push s ≡ Closed (reading p' s)) → (o m : List ℕ) → called_within e.open_calls c (here_of o m e p) ≡ Goes (configuration o m e1 p')
 called_goes e e1 c a p p' h x i r o m =
     called_is e c a p o m h

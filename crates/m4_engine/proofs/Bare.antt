@@ -46,7 +46,7 @@ pub called_as : (e e1 : Engine) (x y : List ℕ) (c : Call) (p p' : Pending) (r 
 called_as e e1 x y c p p' (Ok t) h d s = h c y d s
 called_as e e1 x y c p p' (Err f) h d s = tt
 
--- the same behind a call with no list, within the limits
+-- the same after a call with no list, within the limits
 pub expanded_goes : (e e2 e1 : Engine) (x : List ℕ) (p p' : Pending) (r : Result Turned TurnFault) → nat_lt e.calls (e.limits).calls ≡ true → is_deep_in e ≡ false → e2 ≡ with_one_call e → IfOk r (λ t. (k : Call) (z : List ℕ) → k.definition ≡ Text z → x ≡ substituted z k.name k.done (e2.state).quotes → Moves e1 p' t (λ o m. called_within e2.open_calls k (here_of o m e2 p))) → IfOk r (λ t. (k : Call) (z : List ℕ) → k.definition ≡ Text z → x ≡ substituted z k.name k.done (e.state).quotes → (before : Pending) → Moves e1 p' t (λ o m. step (outer_of e.open_calls) (call false k p (here_of o m e before))))
 expanded_goes e e2 e1 x p p' (Ok t) room shallow k h = λ c y d s.
     bare_goes e e2 e1 c p p' (Ok t) room shallow k (h c y d (s ∙ sym (ap (λ (d : Engine). substituted y c.name c.done (d.state).quotes) k)))

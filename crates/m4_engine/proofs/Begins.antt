@@ -15,7 +15,7 @@ nothing_begun o x = (x, record { front = []; parts = refl; holds = with_bytes-ni
 pub all_begun : (o a : Option (List ℕ)) (x : List ℕ) → a ≡ with_bytes o x → HasBegun o a x
 all_begun o a x e = ([], record { front = x; parts = sym (append-nil x); holds = e })
 
--- what was put before, and a beginning of what comes behind it
+-- the bytes written before, and a prefix of the bytes that follow them
 pub begun_after : (o a b : Option (List ℕ)) (x y more all : List ℕ) → a ≡ with_bytes o x → HasBegun a b y → all ≡ (x ++ y) ++ more → HasBegun o b all
 begun_after o a b x y more all e h f = (
   h.0 ++ more,
@@ -89,7 +89,7 @@ messages_break o a m b n k all reported l c e h = record {
     go (inl z) = inr (none_begun m b reported z h)
     go (inr s) = inl (all_begun o a (take n all) (e ∙ ap (λ j. with_bytes o (take j all)) (sym s)))
 
--- the output behind them could not
+-- the output after them could not be written
 pub own_breaks : (o a c m b : Option (List ℕ)) (n k : ℕ) (all y reported : List ℕ) → n ≤ k → a ≡ with_bytes o (take k all) → HasBegun a c y → b ≡ with_bytes m reported → IsInOrder (take n all) reported (writers o c m b)
 own_breaks o a c m b n k all y reported l e h f = record {
   output_first = inr (taken o c m b n k all (h.1).front l ((h.1).holds ∙ ap (λ z. with_bytes z (h.1).front) e ∙ with_bytes-append o (take k all) (h.1).front));

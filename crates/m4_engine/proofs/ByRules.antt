@@ -13,11 +13,11 @@ pub record Rules (S F D : Type 0) (turn : S → Turn S F D) (join : F → S → 
   pub list_halts : (s t : S) (f : F) (d : D) → turn s ≡ Opens f t → Post t (Halted d) → Post s (Halted d)
   -- the call ends the whole
   pub call_halts : (s t u : S) (f : F) (d : D) → turn s ≡ Opens f t → Post t (Closed u) → join f u ≡ Halted d → Post s (Halted d)
-  -- the level goes on behind the call
+  -- the level continues after the call
   pub joins : (s t u w : S) (f : F) (o : Outcome S D) → turn s ≡ Opens f t → Post t (Closed u) → join f u ≡ Closed w → Post w o → Post s o
 
 module _ (S F D : Type 0) (turn : S → Turn S F D) (join : F → S → Outcome S D) (spent : S → D) (size left : S → ℕ) (falls : Falls S F D turn join size left) (Post : S → Outcome S D → Type 0) (rules : Rules S F D turn join Post) where
-  -- behind a call's list
+  -- after a call's list
   after_list : (fewer : S → Outcome S D) (l : ℕ) → ((a : S) → left a < l → Post a (fewer a)) → ((a b : S) → fewer a ≡ Closed b → left b ≤ left a) → (s t : S) (f : F) → turn s ≡ Opens f t → left t < l → (o : Outcome S D) → fewer t ≡ o → Post t o → Post s (then_on (then_on o (join f)) fewer)
   after_list fewer l h keeps s t f e g (Halted d) i p = rules.list_halts s t f d e p
   after_list fewer l h keeps s t f e g (Closed u) i p =

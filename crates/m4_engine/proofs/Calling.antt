@@ -59,7 +59,7 @@ listed_goes e e1 c listed p p' before o m b f h k i =
     ∙ ap (λ (q : Pending). Goes (configuration o m (with_open_call c (with_one_call e)) q)) (sym k)
     ∙ ap (λ (x : Engine). Goes (configuration o m x p')) (sym i)
 
--- the same, where the engine behind the count has a name
+-- the same, if the engine after the count has a name
 pub depth_refused : (e e2 e1 : Engine) (c : Call) (listed : Bool) (p before : Pending) (o m : List ℕ) → nat_lt e.calls (e.limits).calls ≡ true → e2 ≡ with_one_call e → is_deep_in e2 ≡ true → e1 ≡ with_engine_message (error c.place (nested_text (e2.limits).nesting)) e2 → step (outer_of e.open_calls) (call listed c p (here_of o m e before)) ≡ Stops (Halted (record { so_far = so_far_of o m e1; reason = Ends causes.NestingLimit }))
 depth_refused e e2 e1 c listed p before o m f i h k = refused_depth e e1 c listed p before o m f (sym (ap is_deep_in i) ∙ h) (k ∙ ap (λ (x : Engine). with_engine_message (error c.place (nested_text (x.limits).nesting)) x) i)
 

@@ -211,7 +211,7 @@ module _ (z : List ℕ) (b : Bool) where
   seen_partial (Some d) q c p = refl
   seen_partial None q c p = seen_by_partial p (scan q c p.may_follow (text_of p))
 
-  -- what stands at the front isn't the end of the input
+  -- the first token isn't the end of the input
   NotEnd : Front → Type 0
   NotEnd (Taken t p) = t ≢ End
   NotEnd (Refused f n) = Unit {0}

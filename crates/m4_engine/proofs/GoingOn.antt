@@ -16,11 +16,11 @@ use Rattle.m4_engine.proofs.Begins.{begun_after}
 use Rattle.m4_engine.proofs.Growth.{Extends}
 use Rattle.m4_engine.proofs.RunsBehind.{Bp, Behind, sources_follow, rounds_after}
 
--- a progress behind what was written before
+-- a progress after the bytes that were written before
 abbrev pub after : List ℕ → List ℕ → Progress → Progress
 after o m p = record p { so_far = record p.so_far { output = o ++ (p.so_far).output; messages = m ++ (p.so_far).messages } }
 
--- the law of runs behind others, where nothing but output and messages was made before
+-- the law of runs after others, if nothing but output and messages was made before
 module _ (o m : List ℕ) (limits : Limits) where
   room : (k : ℕ) → 0 + k < limits.calls → k < limits.calls
   room k h = omega arith
@@ -58,12 +58,12 @@ written_after o m p q e =
     (rw (append-nil (o ++ (p.so_far).output), append-nil (m ++ (p.so_far).messages)) refl)
     ∙ ap (after (o ++ (p.so_far).output) (m ++ (p.so_far).messages)) (sym e)
 
--- behind more that was written
+-- after more bytes that were written
 pub after_twice : (o m a b : List ℕ) (p : Progress) → after o m (after a b p) ≡ after (o ++ a) (m ++ b) p
 after_twice o m a b p = rw (append_assoc o a (p.so_far).output, append_assoc m b (p.so_far).messages) refl
 
--- what a step makes, behind what was written before, is a beginning of the whole; where the step ends
--- the run, it is all of it
+-- the results of a step, after the bytes that were written before, are a prefix of all results; if the step
+-- ends the run, they are all of them
 pub record Within (o m : List ℕ) (p whole : Progress) : Type 0 where
   pub keeps : Extends (after o m p).so_far whole.so_far
   pub over : (h : EndReason) → p.over ≡ Some h → whole ≡ after o m p

@@ -17,12 +17,12 @@ abbrev pub made_out : Outcome Expansion Ended → RunSoFar
 made_out (Halted d) = d.so_far
 made_out (Closed t) = t.so_far
 
--- a level whose pending input has more bytes behind it, and an end
+-- a level whose pending input has more bytes after it, and an end
 abbrev pub longer_level : List ℕ → Bool → Expansion → Expansion
 longer_level z b s = record s { pending = longer z b s.pending }
 
--- how an end stands to what a longer input comes to: more is wanted, and the other goes on from what
--- was written; or both end alike, and not at the end of the input
+-- how an end relates to the outcome of a longer input: more input is needed, and the other continues after
+-- the bytes written; or both end alike, and not at the end of the input
 abbrev pub Continues : Ended → Outcome Expansion Ended → Type 0
 Continues d o = ((d.reason ≡ NeedsInput) × Extends d.so_far (made_out o)) ⊎ ((o ≡ Halted d) × (d.reason ≢ Ends causes.Done))
 

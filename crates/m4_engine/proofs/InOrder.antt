@@ -74,7 +74,7 @@ ValidOut : Outcome Expansion Ended → Type 0
 ValidOut (Halted d) = IsState (d.so_far).state
 ValidOut (Closed u) = Valid u
 
--- nothing stands in front
+-- no definition is the first token
 none_valid : ValidToken None
 unfolding ValidToken
 none_valid = tt

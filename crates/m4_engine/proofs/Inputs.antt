@@ -33,7 +33,7 @@ line_skipped None q s f h =
     let i : all_read s.pending ≡ q = cc in
     ap (λ (b : Bool). skip_all b s) f ∙ ap (λ (p : Pending). Closed (reading p s)) i
 
--- what is left behind a line
+-- the rest after a line
 line_keeps : (o : Option ℕ) (p q : Pending) → p.may_follow ≡ false → after_line_of o p ≡ Some q → (q.may_follow ≡ false) × (q.definition ≡ None) × (q.file ≡ p.file)
 line_keeps (Some n) p q f h =
     let g : consumed n p ≡ q = cc in

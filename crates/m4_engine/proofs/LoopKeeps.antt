@@ -63,7 +63,7 @@ module _ (o m : List ℕ) (calls nesting : ℕ) where
 abbrev pub turns_of : Engine → Pending → ℕ
 turns_of e p = turns_left Expansion Kept Ended turn join out_of_bound_at size_of calls_left falls (configuration [] [] e p)
 
--- what was put out is handed on
+-- the output and the messages are flushed
 still_after : (e : Engine) (p : Pending) → here_of [] [] e p ≡ B' e.output e.messages (e.limits).calls (e.limits).nesting (here_of [] [] (after_flush e) p)
 still_after e p =
     let n : 0 + e.calls ≡ e.calls = omega arith in
@@ -77,7 +77,7 @@ same_left e p =
     (alike_out e.output e.messages (e.limits).calls (e.limits).nesting)
     (outer_of e.open_calls) (here_of [] [] e p) (here_of [] [] (after_flush e) p) (still_after e p, (refl, refl))
 
--- a beginning of what was put out is handed on
+-- prefixes of the output and the messages are flushed
 some_left : (e e2 : Engine) (p : Pending) (x y : List ℕ) → e ≡ record e2 { output = x ++ e2.output; messages = y ++ e2.messages } → turns_of e2 p ≡ turns_of e p
 some_left e e2 p x y h = sym (same_left e2 p) ∙ sym (ap (λ (d : Engine). turns_of (after_flush d) p) h) ∙ same_left e p
 
@@ -94,7 +94,7 @@ move_falls e e' e2 p p' x y d h = subst (λ n. n < turns_of e p) (sym (some_left
 abbrev pub meaning_of : List ℕ → List ℕ → Engine → Pending → Outcome Expansion Ended
 meaning_of o m e p = meaning Expansion Kept Ended turn join expand (configuration o m e p)
 
--- what was handed on stands in front of the rest
+-- the flushed bytes come before the rest
 pub some_means : (e e2 : Engine) (p : Pending) (o m x y : List ℕ) → e ≡ record e2 { output = x ++ e2.output; messages = y ++ e2.messages } → meaning_of (o ++ x) (m ++ y) e2 p ≡ meaning_of o m e p
 some_means e e2 p o m x y h =
     (rw (append_assoc o x e2.output, append_assoc m y e2.messages) refl)

@@ -1,4 +1,4 @@
--- OnePass: what a beginning of an input settles stands whatever follows it.
+-- OnePass: the part that a prefix of an input settles is the same whatever follows it.
 use Rattle.std.proofs.Common.{◌≡◌, ◌≢◌, ◌⊎◌, inl, inr, ℕ, zero, suc, Bool, true, false, List, [], ◌∷◌, ◌++◌, Option, Some, None, refl, sym, ap, ◌∙◌, subst, append_assoc, append-nil}
 use Rattle.m4_engine.specs.declared.options.Options.{Options}
 use Rattle.m4_engine.specs.declared.ending.Cause.{Cause}
@@ -16,7 +16,7 @@ use Rattle.m4_engine.proofs.Growth.{Extends, made_out, longer_level, Begins}
 use Rattle.m4_engine.proofs.OnlyGrows.{extends_same, extends_more, tells, input_keeps}
 use Rattle.m4_engine.proofs.Continues.{law}
 
--- a run behind a source has what it had
+-- a run after a source has what it had
 unless_keeps : (r : RunSoFar) (o : Option EndReason) (old new : Progress) → Extends r old.so_far → Extends r new.so_far → Extends r (unless_over o old new).so_far
 unless_keeps r None old new e f = f
 unless_keeps r (Some h) old new e f = e
@@ -58,7 +58,7 @@ over_sources limits (s ∷ ss) p h e = ap (after_sources limits ss) (over_source
 pub over_wraps : (limits : Limits) (p : Progress) (h : EndReason) → p.over ≡ Some h → after_wraps limits p ≡ p
 over_wraps limits p h e = ap (λ o. next_round (rounds limits.calls limits) limits o (p.so_far).saved p) e
 
--- sources one behind the other
+-- sources in order
 pub sources_append : (limits : Limits) (ss ts : List Source) (p : Progress) → after_sources limits (ss ++ ts) p ≡ after_sources limits ts (after_sources limits ss p)
 sources_append limits [] ts p = refl
 sources_append limits (s ∷ ss) ts p = sources_append limits ss ts (after_source limits s p)
@@ -141,7 +141,7 @@ file_settled freezes any_missing saved limits later e d (inr h) =
     (subst (λ (x : Ended). AreSettled (settled_of x.so_far e.reason) (result_of freezes saved (after_wraps limits (after_input d any_missing)))) h.0
     (over_settled freezes saved limits (after_input d any_missing) e.reason f))
 
--- at a run behind the sources before
+-- in a run after the sources before
 settled_here : (freezes : Bool) (saved : List (List ℕ)) (limits : Limits) (p : Progress) (name w more : List ℕ) (later : List Source) (o : Option EndReason) → p.over ≡ o → AreSettled (settled_by o limits p.so_far name w) (result_of freezes saved (after_wraps limits (after_sources limits later (after_source limits (Opened name (w ++ more)) p))))
 settled_here freezes saved limits p name w more later (Some h) e =
     let g : after_sources limits later (after_source limits (Opened name (w ++ more)) p) ≡ p = over_sources limits (Opened name (w ++ more) ∷ later) p h e in

@@ -31,14 +31,14 @@ at_top e = record e { state = record e.state { current = pos 0 }; open_calls = [
 abbrev with_output : List ℕ → Engine → Engine
 with_output x e = record e { output = e.output ++ x }
 
--- the token at the front, where nothing stands before the text
+-- the first token, if no definition comes before the text
 pub found_at : (s : State) (p : Pending) (v : Scan) → p.definition ≡ None → p.may_follow ≡ false → scan s.quotes s.comments false (text_of p) ≡ v → token_at s.quotes s.comments p ≡ front_by p v
 found_at s p v d f e =
     ap (λ o. front_from o s.quotes s.comments p) d
     ∙ ap (λ b. front_by p (scan s.quotes s.comments b (text_of p))) f
     ∙ ap (front_by p) e
 
--- a turn puts out such a token
+-- a turn writes such a token
 plain_turn : (e : Engine) (p : Pending) (n : ℕ) → p.definition ≡ None → p.may_follow ≡ false → IsPlain e.state n (text_of p) → (o m : List ℕ) → turn (here_of o m (at_top e) p) ≡ GoOn (put_text (take n (text_of p)) (reading (consumed n p) (here_of o m (at_top e) p)))
 plain_turn e p n d f (inl h) o m =
     ap (λ v. take_front v (here_of o m (at_top e) p)) (found_at e.state p (Found (Name (take n (text_of p))) n) d f h.0)
@@ -86,7 +86,7 @@ move_reaches e e1 e2 p p1 p2 h r =
     let g : turns_of e2 p2 ≤ turns_of e1 p1 = r.turns in
     record { means = λ o m. r.means o m ∙ moved_on e e1 p p1 o m h; turns = omega arith }
 
--- what is put out for a token and for those behind it
+-- the output of a token and of those after it
 both_put : (n k : ℕ) (e : Engine) (p : Pending) → with_output (take k (text_of (consumed n p))) (with_output (take n (text_of p)) e) ≡ with_output (take (n + k) (text_of p)) e
 both_put n k e p =
     ap (λ (x : List ℕ). with_output (take k x) (with_output (take n (text_of p)) e)) (sym (drop_parts n p.pushed p.unread))

@@ -71,7 +71,7 @@ none_taken_yet script xs = pairs_same (ConsumesOnly script) (same_taken script) 
 pub all_sound : {R : Type 0} (failures : R → ℕ) (xs : List (RunSource R)) → AllPairs (is_sound failures) xs xs
 all_sound failures xs = pairs_same (is_sound failures) (sound_same failures) xs
 
--- the sources' readers behind a call that ended the run
+-- the sources' readers after a call that ended the run
 failed_by : {R : Type 0} (failures : R → ℕ) (i : ℕ) (xs ys : List (RunSource R)) (x v : RunSource R) (e : Stop) → AllPairs (is_sound failures) ys xs → drop i xs ≡ drop i ys → i < length xs → SourceFails {A = Unit} failures (Err e) (slice_index_or xs i x) v → SourcesFail {A = Unit} failures (Err e) ys (slice_set xs i v)
 failed_by failures i xs ys x v (stops.Ended causes.Read) a d l h = item_failed failures i xs ys x v d l h
 failed_by failures i xs ys x v e a d l h = pair_item (is_sound failures) i xs ys x v a d l h

@@ -1,4 +1,4 @@
--- Reading: sources read one behind the other are the definitions' sources.
+-- Reading: sources read in order are the definitions' sources.
 use Rattle.std.proofs.Common.{◌≡◌, ◌⊎◌, inl, inr, ◌<◌, ◌≤◌, ℕ, zero, suc, ◌+◌, List, [], ◌∷◌, ◌++◌, length, drop, drop-cons, map, Option, Some, refl, sym, ap, ◌∙◌, subst, arith, append-nil}
 use Rattle.std.specs.Prelude.{Result, Ok, Err, slice_set, slice_index_or}
 use Rattle.std.proofs.lemmas.List.{drop-set-lt, drop-drop}
@@ -30,7 +30,7 @@ pub record Between (ss : List Source) (i : ℕ) (s0 s : SessionState) (w : Conte
 pub none_read : (ss : List Source) (s : SessionState) (out reported : Option (List ℕ)) → Between ss 0 s s (writers out out reported reported)
 none_read ss s out reported = record { o = []; m = []; output = with_bytes-nil out; messages = with_bytes-nil reported; limits = refl; rest = refl }
 
--- behind a source, the run goes on from what was written of it
+-- after a source, the run continues from what was written of it
 source_after : (s0 s : SessionState) (o m : List ℕ) (t : Source) (ts : List Source) → s.limits ≡ s0.limits → after_sources s0.limits (t ∷ ts) (after o m (progress_of s)) ≡ after_sources s0.limits ts (after o m (after_source s.limits t (progress_of s)))
 source_after s0 s o m t ts l =
     ap (after_sources s0.limits ts)
@@ -73,7 +73,7 @@ stopped : (ss : List Source) (i j : ℕ) (s0 s s' : SessionState) (t : Source) (
 stopped ss i j s0 s s' t out0 out out' reported0 reported reported' e l b d h =
     step_stops b.o b.m _ _ (within ss i j s0 s t _ b d) s0 s s' out0 out out' reported0 reported reported' b.output b.messages l b.limits e h
 
--- which source stands at a place
+-- the source at a position
 told_at : {R : Type 0} (f : R → Option Source) (xs : List R) (ss : List Source) (i : ℕ) (x : R) (rest : List R) → map f xs ≡ map Some ss → drop i xs ≡ x ∷ rest → (t : Source) × (f x ≡ Some t) × (drop i ss ≡ t ∷ drop (suc i) ss)
 told_at f [] [] zero x rest e d = cc
 told_at f [] [] (suc i) x rest e d = cc
@@ -150,7 +150,7 @@ item_may script (suc i) (a ∷ xs) (b ∷ ys) x v (s ∷ ss) e d h =
     let k = item_may script i xs ys x v ss e d h.1 in
     record { first = (h.0, k.first); source = k.source; may = k.may; there = k.there }
 
--- what stands for the first sources
+-- the description of the first sources
 abbrev pub FirstFor : {R : Type 0} → (R → Option Script) → ℕ → List (RunSource R) → List (RunSource R) → List Source → Type 0
 FirstFor script i before after ss = (map (source_of script) before ≡ map Some ss) ⊎ may_first script i before after ss
 

@@ -102,7 +102,7 @@ string_without_end : over_a freezing (codes "`abc") ≡ record {
 unfolding digits
 string_without_end = refl
 
--- white space before an argument is dropped, behind it kept
+-- white space before an argument is dropped, after it kept
 blanks : over_a usual (codes "define(`f',`$1$1')f( a , b)\n") ≡ done (codes "a a \n") [] 2
 blanks = refl
 

@@ -45,7 +45,7 @@ cut_quote = refl
 cut_list : settled_by_a (codes "x define(`a") ≡ wanting (codes "x ")
 cut_list = refl
 
--- a line that is cut behind `dnl`
+-- a line that is cut after `dnl`
 cut_line : settled_by_a (codes "x dnl a") ≡ wanting (codes "x ")
 cut_line = refl
 

@@ -1,4 +1,4 @@
--- Running: where the loop over an input's turns stands, and what its ends say.
+-- Running: the state of the loop over an input's turns, and what its ends say.
 use Rattle.std.proofs.Common.{◌≡◌, ◌<◌, ◌≤◌, ℕ, List, [], ◌∷◌, ◌++◌, Option, refl, sym, ap, ◌∙◌, subst, append-nil, append_assoc, arith}
 use Rattle.m4_state.proofs.CallerLaws.{with_bytes-append, with_bytes-nil}
 use Rattle.m4_state.specs.Device.{with_bytes, HasBegun}
@@ -21,7 +21,7 @@ use Rattle.m4_engine.proofs.LoopKeeps.{turns_of, move_falls, meaning_of, some_me
 use Rattle.m4_engine.proofs.Passing.{passes_reaches, passes_ready, passes_limits}
 use Rattle.m4_engine.proofs.OnlyGrows.{extends_same, extends_more, whole_keeps, list_keeps}
 
--- so much was handed on of what the expansion comes to, and the machine stands where the rest of it does
+-- the bytes that were flushed are part of the expansion's result, and the machine's state gives the rest
 pub record Running (e0 : Engine) (p0 : Pending) (out0 reported0 : Option (List ℕ)) (e : Engine) (i : Held) (out reported : Option (List ℕ)) : Type 0 where
   pub o : List ℕ
   pub m : List ℕ
@@ -43,7 +43,7 @@ begins e i out reported d r = record {
   limits = refl;
 }
 
--- tokens that stand for themselves were put out at once
+-- tokens that are plain text were added to the output at once
 pub passed : (e0 e e1 : Engine) (p0 : Pending) (i i1 : Held) (out0 reported0 out reported : Option (List ℕ)) → Running e0 p0 out0 reported0 e i out reported → Passes e e1 i i1 → Running e0 p0 out0 reported0 e1 i1 out reported
 passed e0 e e1 p0 i i1 out0 reported0 out reported r h = record {
   o = r.o;
@@ -69,7 +69,7 @@ goes_on e0 e e' e2 p0 i i' out0 reported0 out reported out' reported' r h q l f 
   limits = sym (ap (λ (d : Engine). d.limits) f.held) ∙ l ∙ r.limits;
 }
 
--- between two inputs the machine stands where an input's expansion begins
+-- between two inputs the machine is at the start of an input's expansion
 idle_here : (e : Engine) (p : Pending) → IsIdle e → here_of [] [] e p ≡ expansion_of e.limits (made_before e) p
 idle_here e p d =
     ap (λ (x : List ℕ). here_of [] [] (record e { output = x }) p) d.output

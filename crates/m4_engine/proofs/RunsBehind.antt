@@ -31,7 +31,7 @@ module _ (o m : List ℕ) (c calls calls' nesting nesting' : ℕ) (room : (k : �
   abbrev Be : Ended → Ended
   Be d = record { so_far = Br d.so_far; reason = d.reason }
 
-  -- the run behind what was made before
+  -- the run after what was made before
   abbrev pub Bp : Progress → Progress
   Bp p = record { so_far = Br p.so_far; over = p.over; any_missing = p.any_missing }
 

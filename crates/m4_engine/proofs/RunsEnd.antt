@@ -38,7 +38,7 @@ use Rattle.m4_engine.proofs.CallsFall.{falls}
 abbrev IsCaused : EndReason → Type 0
 IsCaused reason = (cause : Cause) × (reason ≡ Ends cause)
 
--- whether an expansion stands outside of calls
+-- whether an expansion is outside of calls
 abbrev is_outside : Mode → Bool
 is_outside Outside = true
 is_outside (Collecting c) = false

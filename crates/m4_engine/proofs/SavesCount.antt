@@ -185,7 +185,7 @@ Post s (Closed u) = (u.limits ≡ s.limits) × Saves (limit_of s) s.so_far u.so_
 steps : (s t : Expansion) → t.limits ≡ s.limits → calls_left t ≡ limit_of s - (t.so_far).calls
 steps s t e = ap (λ (l : Limits). l.calls - (t.so_far).calls) e
 
--- a step behind which an outcome stands
+-- a step after which there is an outcome
 after_step : (s t : Expansion) (o : Outcome Expansion Ended) → t.limits ≡ s.limits → Saves (limit_of s) s.so_far t.so_far → Post t o → Post s o
 unfolding Post
 after_step s t (Halted d) e f g =
@@ -212,7 +212,7 @@ close_step s t e h =
 call_step : (s t : Expansion) → t.limits ≡ s.limits → calls_left t < calls_left s → limit_of s - (t.so_far).calls < limit_of s - (s.so_far).calls
 call_step s t e l = let m : calls_left t ≡ limit_of s - (t.so_far).calls = steps s t e in omega arith
 
--- behind a list the count has risen
+-- after a list the count has risen
 list_step : (s t u : Expansion) → t.limits ≡ s.limits → limit_of s - (t.so_far).calls < limit_of s - (s.so_far).calls → Post t (Closed u) → (u.limits ≡ s.limits) × (limit_of s - (u.so_far).calls < limit_of s - (s.so_far).calls)
 unfolding Post
 list_step s t u e h p =

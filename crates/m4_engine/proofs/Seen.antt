@@ -45,13 +45,13 @@ leaves_same e e1 h i j =
     ∙ ap (λ l. leaves_by e1.calls l (length e.open_calls)) (sym i)
     ∙ ap (leaves_by e1.calls e1.limits) (sym j)
 
--- an engine that differs in what was put out, or in an argument, sees the same
+-- an engine with other output or another argument has the same lookahead
 pub seen_same : (a : Lookahead) (e e1 : Engine) (room : Bool) (p : Pending) → room ≡ allows_call e → e1.state ≡ e.state → e1.calls ≡ e.calls → e1.limits ≡ e.limits → length e1.open_calls ≡ length e.open_calls → IsLookaheadOf a e.state room p → IsLookahead a e1 p
 seen_same a e e1 room p r s h i j k =
     subst (λ (t : State). IsLookaheadOf a t (allows_call e1) p) (sym s)
     (subst (λ (v : Bool). IsLookaheadOf a e.state v p) (r ∙ leaves_same e e1 h i j) k)
 
--- what stands behind so many bytes stands first once these were taken
+-- the token after k bytes is the first once these were consumed
 pub first_after : (s : State) (f : First) (p q : Pending) (k : ℕ) (x : List ℕ) → x ≡ text_of p → q ≡ consumed k p → IsFirst s (drop k x) f → IsFirst s (text_of q) f
 first_after s f p q k x t g v =
     subst (λ (r : Pending). IsFirst s (text_of r) f) (sym g)
@@ -74,7 +74,7 @@ name_front a e p q n h f g k =
     let r = subst (λ (v : Lookahead). IsLookahead v e p) h k in
     found_at e.state p (Found (Name (take n.len (text_of p))) n.len) r.first f r.scanned ∙ ap (Taken (Name (take n.len (text_of p)))) (sym g)
 
--- the list that was seen behind a name stands behind it
+-- the list that was recognised after a name follows it
 pub name_list : (a : Lookahead) (e : Engine) (p q : Pending) (n : Named) → a ≡ aheads.Named n → p.may_follow ≡ false → q ≡ consumed n.len p → IsLookahead a e p → paren_at (e.state).quotes (e.state).comments q ≡ answer_of n.listed
 name_list a e p q n h f g k =
     let r = subst (λ (v : Lookahead). IsLookahead v e p) h k in
@@ -83,11 +83,11 @@ name_list a e p q n h f g k =
     ∙ ap (paren_in (e.state).quotes (e.state).comments false) (sym (drop_parts n.len p.pushed p.unread))
     ∙ r.list
 
--- what a name stands for that was seen
+-- the meaning of a name that was recognised
 pub name_means : (a : Lookahead) (e : Engine) (p : Pending) (n : Named) → a ≡ aheads.Named n → IsLookahead a e p → IsMeaning n.meaning (is_bare n.listed e) e.state (take n.len (text_of p)) (record { file = name_of p; line = line_of p })
 name_means a e p n h k = let r = subst (λ (v : Lookahead). IsLookahead v e p) h k in r.meaning
 
--- a name whose meaning is known where it stands
+-- a name whose meaning is known at its place
 pub named_moves : (e e1 : Engine) (m : Meaning) (bare : Bool) (name : List ℕ) (at : Place) (p q p' : Pending) (r : Result Turned TurnFault) → at.file ≡ name_of p → q ≡ p → IsMeaning m bare e.state name at → IfOk r (λ t. (name : List ℕ) (before : Pending) → IsMeaning m bare e.state name (place_at before) → Moves e1 p' t (λ o l. step (outer_of e.open_calls) (take_name (top_of e.state name) name q (here_of o l e before)))) → IfOk r (λ t. (before : Pending) → at.line ≡ line_of before → before.file ≡ p.file → Moves e1 p' t (λ o l. step (outer_of e.open_calls) (take_name (top_of e.state name) name p (here_of o l e before))))
 named_moves e e1 m bare name at p q p' (Ok t) f g v k = λ before i j.
     moves_by e1 p' t _ _ (λ o l. ap (λ (x : Pending). step (outer_of e.open_calls) (take_name (top_of e.state name) name x (here_of o l e before))) (sym g)) (k name before (subst (λ (x : Place). IsMeaning m bare e.state name x) (place_is at before p f i j) v))

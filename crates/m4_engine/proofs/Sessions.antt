@@ -37,7 +37,7 @@ standing_of e any_missing over finished = record {
   finished = finished;
 }
 
--- the progress behind a file that ended by a cause
+-- the progress after a file that ended by a cause
 abbrev progress_with : State → List (List ℕ) → ℕ → Option EndReason → Bool → Progress
 progress_with s saved calls over any_missing = record {
   so_far = record { state = s; output = []; messages = []; saved = saved; calls = calls };
@@ -166,7 +166,7 @@ pub round_lacked : (old new : SessionState) (w : Contents) (e : Stop) → e ≡ 
 round_lacked old new w e i v o m =
     subst (λ (x : Stop). WrapsGive (round_of old) old new w (Err x)) (sym i) (lacked_by new (round_of old) w v o m, tt)
 
--- no text stands saved: there is no round
+-- no text is saved: there is no round
 pub after_is : (s : SessionState) → IsOpen s → s.saved ≡ [] → session_after_wraps s ≡ progress_of s
 after_is s l e =
     ap (λ (o : Option Cause). after_wraps s.limits (progress_of (record s { over = o }))) l.over
@@ -174,7 +174,7 @@ after_is s l e =
     ∙ sym (ap (λ (x : List (List ℕ)). progress_of (record s { over = None; saved = x })) e)
     ∙ sym (ap (λ (o : Option Cause). progress_of (record s { over = o })) l.over)
 
--- what a run puts out behind its saved texts, where none is saved
+-- the output of a run after its saved texts, if none is saved
 ended_output : (freezes : Bool) (s : SessionState) → s.over ≡ None → (result_of freezes [] (progress_of s)).output ≡ closed_output freezes (progress_of s).so_far
 ended_output freezes s e = ap (λ (o : Option Cause). (result_of freezes [] (progress_of (record s { over = o }))).output) e
 

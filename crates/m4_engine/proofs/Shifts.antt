@@ -110,7 +110,7 @@ module _ (o m : List ℕ) (c calls calls' nesting nesting' : ℕ) (room : (k : �
   enter_list_meets true k p s l = (_, refl, refl, l)
   enter_list_meets false k p s l = bare_meets _ _ (called_meets k (reading p s) (kept_of s) l)
 
-  -- an error whose text tells a limit, where the limit is the same
+  -- an error whose text contains a limit, if the limit is the same
   abbrev failed : Call → List ℕ → Cause → RunSoFar → Ended
   failed k x h r = record { so_far = with_message (error k.place x) r; reason = Ends h }
 

@@ -1,4 +1,4 @@
--- Sources: what a session's call on a source is, where the reader tells its bytes and ends.
+-- Sources: the effect of a session's call on a source, if its reader's bytes are known and the reader ends.
 use Rattle.std.proofs.Common.{◌≡◌, ◌⊎◌, inl, inr, ℕ, false, List, [], ◌++◌, Option, Some, None, refl, sym, ap, ◌∙◌, subst, append-nil}
 use Rattle.std.specs.Prelude.{Result, Ok, Err}
 use Rattle.m4_state.proofs.CallerLaws.{with_bytes-nil}
@@ -16,7 +16,7 @@ use Rattle.m4_engine.specs.Session.{SessionState, progress_of, IsOpen, Completed
 use Rattle.m4_engine.specs.Writers.{Contents, Broken}
 use Rattle.m4_engine.proofs.Begins.{nothing_begun}
 
--- a reader that tells its bytes and ends gave all of them, where it is at its end
+-- a reader whose bytes are known and that ends gave all of them, if it is at its end
 all_given : (name : List ℕ) (before after : Option Script) (x : List ℕ) (s : Source) → opened_source name before ≡ Some s → before ≡ after_bytes x after → IsAtEnd after → s ≡ Opened name x
 all_given name None after x s t g a = cc
 all_given name (Some sc) None x s t g a = cc
@@ -95,7 +95,7 @@ opened_stands script old new name before later first after w r s f b l t h =
     let k : DescribesSource script (sources.Opened name before) (sources.Opened name later) s = subst (λ x. DescribesSource script x (sources.Opened name later) s) f (subst (λ x. DescribesSource script first x s) b t) in
     opened_goes old new name (script before) (script later) w r s l (stands_suit script name before (sources.Opened name later) s k) h
 
--- an open session tells of a source that wasn't opened
+-- an open session reports a source that wasn't opened
 missing_is : (old : SessionState) (name : List ℕ) → IsOpen old → (after_source old.limits (Unopened name) (progress_of old)).so_far ≡ with_message (cannot_open name) (progress_of old).so_far
 missing_is old name l = ap (λ (o : Option Cause). (after_source old.limits (Unopened name) (record (progress_of old) { over = how_over o })).so_far) l.over
 

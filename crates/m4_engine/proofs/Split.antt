@@ -28,7 +28,7 @@ saved_by (Some h) freezes saved r any_missing = refl
 none_not_some : {A : Type 0} (x : A) (v : Option A) → v ≡ None → v ≡ Some x → ⊥
 none_not_some x v e f = cc
 
--- where the run behind its saved texts isn't over, the run before them wasn't
+-- if the run after its saved texts isn't over, the run before them wasn't
 not_over_before : (limits : Limits) (p : Progress) → (after_wraps limits p).over ≡ None → p.over ≡ None
 not_over_before limits p e = go p.over refl
   where
@@ -36,7 +36,7 @@ not_over_before limits p e = go p.over refl
     go None f = refl
     go (Some h) f = absurd (none_not_some h (after_wraps limits p).over e (ap (λ (q : Progress). q.over) (over_wraps limits p h f) ∙ f))
 
--- what stands saved where no source saved anything
+-- the saved texts, if no source saved any
 saved_here : (sources : List Source) (start : Start) (limits : Limits) (p : Progress) → p ≡ after_sources limits sources (begun start) → p.over ≡ None → saved_after sources p ≡ [] → (p.so_far).saved ≡ []
 saved_here [] (From s issued) limits p e f g = ap (λ (q : Progress). (q.so_far).saved) e
 saved_here [] (Faulty fault) limits p e f g = absurd (none_not_some (Ends (causes.Frozen fault)) p.over f (ap (λ (q : Progress). q.over) e))
@@ -108,7 +108,7 @@ output_joins : (freezes : Bool) (r q : RunSoFar) → closed_output freezes (reco
 output_joins true r q = refl
 output_joins false r q = append_assoc r.output q.output (close q.state)
 
--- ---- the texts that stand saved when the last source ended
+-- ---- the texts that were saved when the last source ended
 
 saved_after_some : (as' : List Source) (b : Source) (bs : List Source) (p : Progress) → saved_after (as' ++ b ∷ bs) p ≡ saved_unless_over p.over p.so_far
 saved_after_some [] b bs p = refl

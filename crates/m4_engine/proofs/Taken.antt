@@ -13,7 +13,7 @@ use Rattle.m4_input.specs.Input.{Held, NextGives}
 use Rattle.m4_engine.specs.Engine.{IsReady, Stays}
 use Rattle.m4_engine.proofs.Inputs.{closed_reads, none_is_front}
 
--- behind a token no definition stands in front
+-- after a token no definition comes first
 Keeps : Pending → Front → Type 0
 Keeps p (Taken t r) = (r.may_follow ≡ p.may_follow) × (r.definition ≡ None) × (r.file ≡ p.file)
 Keeps p (Refused f n) = Unit {0}

@@ -53,7 +53,7 @@ turn_unended e e1 q c what line p p1 p' (Ok u) i j h g k =
     moves_by e1 p' u _ _ (λ o m. ap (λ v. step (outer_of e.open_calls) (take_front v (here_of o m e p))) front) (k p p' (sym g))
 turn_unended e e1 q c what line p p1 p' (Err x) i j h g k = tt
 
--- a string or a comment without an end, as a closed input tells it
+-- a string or a comment without an end, as a closed input reports it
 string_at : (q c : Delimiters) (before after : Option Script) (old new : Held) (line : ℕ) → IsReady old → NextGives q c before after old new (Err (faults.EndInString line)) → (token_at q c old.pending ≡ Refused InString line) × ((new.pending).file ≡ (old.pending).file)
 string_at q c before after old new line r g =
     let e : g.1 ≡ old.pending = closed_reads before after old.pending g.0 g.1 (g.2).reads r.closed in

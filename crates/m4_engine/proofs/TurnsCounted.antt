@@ -17,7 +17,7 @@ abbrev pub counted_outcome : {S D : Type 0} → ℕ → Outcome S D → Outcome 
 counted_outcome n (Halted d) = Halted (d, n)
 counted_outcome n (Closed t) = Closed (t, n)
 
--- where the count stands in the end
+-- the count in the end
 abbrev pub count_of : {S D : Type 0} → Outcome (S × ℕ) (D × ℕ) → ℕ
 count_of (Halted d) = d.1
 count_of (Closed s) = s.1
@@ -51,7 +51,7 @@ module _ (S F D : Type 0) (turn : S → Turn S F D) (join : F → S → Outcome 
   abbrev left' : S × ℕ → ℕ
   left' s = left s.0
 
-  -- what a turn with its count tells of the turn
+  -- what a turn with its count says of the turn
   Tells : Turn S F D → ℕ → Turn (S × ℕ) F (D × ℕ) → Type 0
   Tells v n (Halt d) = (v ≡ Halt d.0) × (d.1 ≡ n)
   Tells v n (Close t) = (v ≡ Close t.0) × (t.1 ≡ n)

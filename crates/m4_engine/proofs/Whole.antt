@@ -1,4 +1,4 @@
--- Whole: what a session's calls come to, one behind the other, is the run.
+-- Whole: the effect of a session's calls, in order, is the run.
 use Rattle.std.proofs.Common.{◌≡◌, ◌⊎◌, inl, inr, ℕ, zero, suc, Bool, true, false, List, [], ◌∷◌, ◌++◌, Option, Some, None, refl, sym, ap, ◌∙◌, subst, append-nil, append_assoc}
 use Rattle.std.specs.Prelude.{OnOk, ◌||◌, Result, Ok, Err}
 use Rattle.m4_state.proofs.CallerLaws.{with_bytes-append}
@@ -111,7 +111,7 @@ rounds_missed : (n : ℕ) (limits : Limits) (p : Progress) → (rounds n limits 
 rounds_missed zero limits p = refl
 rounds_missed (suc n) limits p = round_missed (rounds n limits) limits (rounds_missed n limits) p.over (p.so_far).saved p
 
--- what is written behind what was written before
+-- the bytes written after those that were written before
 pub closed_after : (freezes : Bool) (o m : List ℕ) (r : RunSoFar) → closed_output freezes (record r { output = o ++ r.output; messages = m ++ r.messages }) ≡ o ++ closed_output freezes r
 closed_after true o m r = refl
 closed_after false o m r = append_assoc o r.output (close r.state)
@@ -124,7 +124,7 @@ result_messages : (freezes : Bool) (o m : List ℕ) (over : Option EndReason) (s
 result_messages freezes o m None saved r any_missing = refl
 result_messages freezes o m (Some h) saved r any_missing = refl
 
--- the saved texts, where there is a source or none stood saved before
+-- the saved texts, if there is a source or none was saved before
 saved_there : (limits : Limits) (ss : List Source) (p0 : Progress) → (p0.so_far).saved ≡ [] → (after_sources limits ss p0).over ≡ None → saved_after ss (after_sources limits ss p0) ≡ ((after_sources limits ss p0).so_far).saved
 saved_there limits [] p0 e o = sym e
 saved_there limits (s ∷ ss) p0 e o = ap (λ (h : Option EndReason). saved_unless_over h (after_sources limits (s ∷ ss) p0).so_far) o

@@ -1,5 +1,5 @@
--- CallView: a call of the code as the definitions' call.
--- Not believed: it only says which fields are which.
+-- CallView: a call of the code as a call of the definitions.
+-- Not believed: it only maps the fields.
 use Rattle.m4_engine.specs.declared.call.OpenCall.TheInside.{Inside}
 use Rattle.m4_engine.specs.Expansion.{Call}
 

@@ -1,5 +1,5 @@
--- Engine: a run as the machine holds it between two turns, and the steps of a turn.
--- Not believed: it stands between the code and `Expand`, tied to it by the turns' lemmas.
+-- Engine: a run between two turns, as the machine represents it, and the steps of a turn.
+-- Not believed: it connects the code with `Expand`; the turns' lemmas prove that they agree.
 use Rattle.std.specs.Fmt.{decimal}
 use Rattle.std.specs.Prelude.{◌≡◌, codes, nat_lt, not, ◌&&◌, suc, Option, Some, None, ℕ, pos, Bool, true, false, List, [], ◌∷◌, ◌++◌, length, take, ◌⊎◌, Result, Ok, IfOk, OnOk}
 use Rattle.m4_state.specs.declared.definition.Def.{Def}
@@ -26,13 +26,13 @@ use Rattle.m4_engine.specs.Expand.{turn, join, called, with_saved}
 use Rattle.std.specs.List.{AllByRecursion}
 use Rattle.m4_builtins.specs.Args.{IsArg}
 
--- the warning on dropped definitions, where some were
+-- the warning on dropped definitions, if there were any
 abbrev pub warning_if_dropped : Bool → Place → List ℕ
 warning_if_dropped true p = dropped p
 warning_if_dropped false p = []
 
--- a run as the machine holds it: the calls whose lists are open, the innermost first; and the output
--- and the messages that were not handed on yet
+-- a run as the machine represents it: the calls whose lists are open, the innermost first; and the output
+-- and the messages that were not flushed yet
 pub record Engine : Type 0 where
   pub limits : Limits
   pub state : State
@@ -42,7 +42,7 @@ pub record Engine : Type 0 where
   pub output : List ℕ
   pub messages : List ℕ
 
--- what a run has made: what was handed on, and what the machine still holds
+-- a run so far: o and m were flushed, the rest is still buffered
 abbrev pub so_far_of : List ℕ → List ℕ → Engine → RunSoFar
 so_far_of o m e = record {
   state = e.state;
@@ -57,16 +57,16 @@ abbrev pub mode_of : List Call → Mode
 mode_of [] = Outside
 mode_of (c ∷ cs) = Collecting c
 
--- what goes on behind a call that stands within these
+-- the part to continue with after a call that is nested in these
 abbrev pub kept_in : List Call → Kept
 kept_in cs = record { open_calls = length cs; mode = mode_of cs }
 
--- what goes on behind each of these
+-- the part to continue with after each of these
 abbrev pub outer_of : List Call → List Kept
 outer_of [] = []
 outer_of (c ∷ cs) = kept_in cs ∷ outer_of cs
 
--- where the expansion stands
+-- the state of the expansion
 abbrev pub here_of : List ℕ → List ℕ → Engine → Pending → Expansion
 here_of o m e p = record {
   limits = e.limits;
@@ -80,7 +80,7 @@ here_of o m e p = record {
 abbrev pub configuration : List ℕ → List ℕ → Engine → Pending → Stacked Expansion Kept
 configuration o m e p = record { outer = outer_of e.open_calls; here = here_of o m e p }
 
--- with text where it goes
+-- text added where it goes
 abbrev pub put_in : List Call → List ℕ → Engine → Engine
 put_in [] x e = record e { state = appended e.state x; output = e.output ++ issued (e.state).current x }
 put_in (c ∷ cs) x e = record e { open_calls = record c { begun = true; bytes = c.bytes ++ x } ∷ cs }
@@ -88,7 +88,7 @@ put_in (c ∷ cs) x e = record e { open_calls = record c { begun = true; bytes =
 abbrev pub with_text : List ℕ → Engine → Engine
 with_text x e = put_in e.open_calls x e
 
--- with a definition where it goes
+-- a definition added where it goes
 abbrev pub put_token_in : List Call → Def → Engine → Engine
 put_token_in [] d e = e
 put_token_in (c ∷ cs) d e = record e { open_calls = record c { begun = true; tokens = c.tokens ++ d ∷ [] } ∷ cs }
@@ -96,19 +96,19 @@ put_token_in (c ∷ cs) d e = record e { open_calls = record c { begun = true; t
 abbrev pub with_token : Def → Engine → Engine
 with_token d e = put_token_in e.open_calls d e
 
--- with a message more
+-- one more message
 abbrev pub with_engine_message : List ℕ → Engine → Engine
 with_engine_message x e = record e { messages = e.messages ++ x }
 
--- with a text more that is saved for the end
+-- one more text saved for the end
 abbrev pub saving : List ℕ → Engine → Engine
 saving x e = record e { saved = e.saved ++ x ∷ [] }
 
--- with a call more that was made
+-- one more call counted
 abbrev pub with_one_call : Engine → Engine
 with_one_call e = record e { calls = suc e.calls }
 
--- with another list open
+-- one more list open
 abbrev pub with_open_call : Call → Engine → Engine
 with_open_call c e = record e { open_calls = c ∷ e.open_calls }
 
@@ -116,13 +116,13 @@ with_open_call c e = record e { open_calls = c ∷ e.open_calls }
 abbrev pub step : List Kept → Turn Expansion Kept Ended → Move Expansion Kept Ended
 step fs v = take_turn Expansion Kept Ended turn join fs v
 
--- what a turn leaves and answers, where f is the definitions' move
+-- the machine and the result after a turn agree with f, the definitions' move
 abbrev pub Moves : Engine → Pending → Turned → (List ℕ → List ℕ → Move Expansion Kept Ended) → Type 0
 Moves e p turns.GoesOn f = (o m : List ℕ) → f o m ≡ Goes (configuration o m e p)
 Moves e p (turns.Ends cause) f =
     (o m : List ℕ) → f o m ≡ Stops (Halted (record { so_far = so_far_of o m e; reason = Ends cause }))
 
--- an input of which nothing more is asked of a reader, and at whose front no definition out of order stands
+-- an input that needs no reader any more; if a definition is its first token, it is valid
 abbrev pub IsFront : Option Def → Type 0
 IsFront None = Unit {0}
 IsFront (Some d) = IsDefinition d
@@ -132,12 +132,12 @@ pub record IsReady (i : Held) : Type 0 where
   pub closed : (i.pending).may_follow ≡ false
   pub front : IsFront (i.pending).definition
 
--- the definitions that a call has collected are in order
+-- the definitions that a call has collected are valid
 pub record IsCall (c : Call) : Type 0 where
   pub done : AllByRecursion IsArg c.done
   pub tokens : AllByRecursion IsDefinition c.tokens
 
--- the state and the effect of a call are put where they go; a call is a token of the argument around it
+-- the effects of a call are added where they go; a call is a token of the argument around it
 abbrev pub begun_in : List Call → List Call
 begun_in [] = []
 begun_in (c ∷ cs) = record c { begun = true } ∷ cs
@@ -150,21 +150,21 @@ with_made messages output wrap e = record e {
   open_calls = begun_in e.open_calls;
 }
 
--- what a call comes to, as a move, where these are open around it
+-- the outcome of a call, as a move, inside these open calls
 abbrev pub called_within : List Call → Call → Expansion → Move Expansion Kept Ended
 called_within cs c s = pop Expansion Kept Ended turn join (outer_of cs) (called c s (kept_in cs))
 
--- an input that is asked for no reader's byte stays so
+-- an input that needs no reader stays so
 pub record Stays (old new : Held) : Type 0 where
   pub ready : IsReady new
   pub file : (new.pending).file ≡ (old.pending).file
 
--- what each step of a turn wants: no reader is asked any more, and the token at the front was taken
+-- the premise of each step of a turn: no reader is needed any more, and the first token was consumed
 pub record IsTaken (i : Held) : Type 0 where
   pub ready : IsReady i
   pub taken : (i.pending).definition ≡ None
 
--- a turn ends an expansion by no fault of a frozen file, of a device or of memory
+-- a turn ends an expansion by no fault of a frozen file, of a device or of an allocation
 abbrev pub IsMade : Turned → Type 0
 IsMade (turns.Ends (causes.Frozen fault)) = ⊥
 IsMade (turns.Ends causes.Read) = ⊥
@@ -172,26 +172,26 @@ IsMade (turns.Ends causes.Write) = ⊥
 IsMade (turns.Ends causes.OutOfMemory) = ⊥
 IsMade t = Unit {0}
 
--- what each step of a turn leaves, if memory was there: the definitions' move, and the limits; it ends
--- the expansion by no fault of a device or of memory
+-- the outcome of each step of a turn, if no allocation fails: the definitions' move, and the limits; it ends
+-- the expansion by no fault of a device or of an allocation
 pub record Makes (result : Result Turned TurnFault) (old new : Engine) (to : Turned → Type 0) : Type 0 where
   pub moves : IfOk result to
   pub limits : OnOk result (new.limits ≡ old.limits)
   pub made : IfOk result IsMade
 
--- the same, and where the expansion goes on, the input is still one of which no reader is asked
+-- the same; and if the expansion continues, the input still needs no reader
 pub record Steps (result : Result Turned TurnFault) (old new : Engine) (i j : Held) (to : Turned → Type 0) : Type 0 where
   pub moves : IfOk result to
   pub ready : result ≡ Ok turns.GoesOn → Stays i j
   pub limits : OnOk result (new.limits ≡ old.limits)
   pub made : IfOk result IsMade
 
--- of the innermost call, if a list is open
+-- P of the innermost call, if a list is open
 abbrev pub IfHead : List Call → (Call → Type 0) → Type 0
 IfHead [] P = Unit {0}
 IfHead (c ∷ cs) P = P c
 
--- with an argument of the innermost call complete
+-- the innermost call with its argument complete
 abbrev pub ending_in : List Call → Engine → Engine
 ending_in [] e = e
 ending_in (c ∷ cs) e = record e {
@@ -207,18 +207,18 @@ abbrev pub close_in : List Call → Expansion → Turn Expansion Kept Ended
 close_in [] s = GoOn s
 close_in (c ∷ cs) s = Close (end_argument c s)
 
--- whether one open call more is above the limit
+-- whether one more open call exceeds the limit
 abbrev pub is_deep_in : Engine → Bool
 is_deep_in e = nat_lt 0 (e.limits).nesting && nat_lt (e.limits).nesting (suc (length e.open_calls))
 
--- what is told of a call that a limit refuses
+-- the message text for a call that a limit refuses
 abbrev pub calls_text : ℕ → List ℕ
 calls_text n = codes "more than " ++ decimal n ++ codes " calls"
 
 abbrev pub nested_text : ℕ → List ℕ
 nested_text n = codes "more than " ++ decimal n ++ codes " nested calls"
 
--- a definition that is a token is in order
+-- a definition that is a token is valid
 abbrev pub IsToken : Token → Type 0
 IsToken (Definition d) = IsDefinition d
 IsToken t = Unit {0}
@@ -227,11 +227,11 @@ IsToken t = Unit {0}
 abbrev pub moved : Stacked Expansion Kept → Move Expansion Kept Ended
 moved c = move Expansion Kept Ended turn join c
 
--- what was put out is handed on
+-- all buffers were flushed
 abbrev pub after_flush : Engine → Engine
 after_flush e = record e { output = []; messages = [] }
 
--- an engine that has made nothing
+-- a new engine
 abbrev pub engine_at : State → ℕ → ℕ → Engine
 engine_at s calls nesting = record {
   limits = record { calls = calls; nesting = nesting };
@@ -243,8 +243,8 @@ engine_at s calls nesting = record {
   messages = [];
 }
 
--- outside of calls and of diversions, with nothing in front of the text: its first tokens, which stand
--- for themselves, were put out
+-- outside of calls and of diversions, with no definition before the text: its first tokens, which are plain
+-- text, were added to the output
 pub record PassesPlain (old new : Engine) (i j : Held) : Type 0 where
   pub lens : List ℕ
   pub plain : ArePlain old.state lens (text_of i.pending)
@@ -254,7 +254,7 @@ pub record PassesPlain (old new : Engine) (i j : Held) : Type 0 where
   pub engine : new ≡ record old { output = old.output ++ take (total lens) (text_of i.pending) }
   pub input : j ≡ record i { pending = consumed (total lens) i.pending }
 
--- within a list, with nothing in front of the text: its first token is text, which the argument has
+-- in a list, with no definition before the text: its first token is text, which was added to the argument
 pub record PassesInner (old new : Engine) (i j : Held) : Type 0 where
   pub len : ℕ
   pub text : List ℕ
@@ -264,18 +264,18 @@ pub record PassesInner (old new : Engine) (i j : Held) : Type 0 where
   pub engine : new ≡ with_text text old
   pub input : j ≡ record i { pending = consumed len i.pending }
 
--- such tokens were put where they go, or nothing was done
+-- such tokens were added where they go, or nothing was done
 abbrev pub Passes : Engine → Engine → Held → Held → Type 0
 Passes old new i j = ((new ≡ old) × (j ≡ i)) ⊎ (PassesPlain old new i j ⊎ PassesInner old new i j)
 
--- whether the limits leave a call
+-- whether the limits allow a call
 abbrev pub allows_call : Engine → Bool
 allows_call e = nat_lt e.calls (e.limits).calls && not (is_deep_in e)
 
--- whether a text is called with no list, within the limits
+-- whether a text macro is called without a list, within the limits
 abbrev pub is_bare : Bool → Engine → Bool
 is_bare listed e = not listed && allows_call e
 
--- what was seen of the token at the front
+-- the lookahead is right for the next token
 abbrev pub IsLookahead : Lookahead → Engine → Pending → Type 0
 IsLookahead a e p = IsLookaheadOf a e.state (allows_call e) p

@@ -1,8 +1,8 @@
--- Expand: what the expansion of an input comes to.
--- Believed. Its law: `ExpandRules` (no bound is reached: an expansion is what its turns say).
+-- Expand: the result of expanding an input.
+-- Believed. Its law: `ExpandRules` (no bound is reached: an expansion is the result of its turns).
 -- Manual: "Macro invocation", "Macro arguments", "How m4 copies input to output".
--- A turn takes the first token. A name with a definition is a call: it is counted, its arguments
--- are collected, it is acted on, and what it gives is read again. All other tokens are text.
+-- A turn consumes the first token. A name with a definition is a call: it is counted, its arguments
+-- are collected, it is acted on, and its result is read again. All other tokens are text.
 -- Words: called, call, turn, expand.
 use Rattle.std.specs.Prelude.{ℕ, suc, ◌+◌, ◌-◌, Bool, true, false, ◌&&◌, nat_lt, List, [], ◌∷◌, ◌++◌, Option, Some, None, length, codes}
 use Rattle.std.specs.Fmt.{decimal}
@@ -28,7 +28,7 @@ use Rattle.m4_engine.specs.Nesting.{Turn, Halt, GoOn, Bare, Opens, Outcome, Halt
 use Rattle.m4_engine.specs.Expansion.{RunSoFar, Limits, Call, Mode, Outside, Collecting, Expansion, Kept, Ends, NeedsInput, OutOfBound, Ended, place_at, with_call, reading, stop, fail, put_text, put_token}
 use Rattle.m4_engine.specs.Args.{take_byte, role_of}
 
--- a value, if there is one, is put in front of what is pending
+-- a value, if there is one, is inserted before the pending input
 abbrev pub with_value : Option Pushed → Pending → Pending
 with_value None p = p
 with_value (Some v) p = with_pushed v p
@@ -38,7 +38,7 @@ abbrev pub with_saved : Option (List ℕ) → List (List ℕ) → List (List ℕ
 with_saved None saved = saved
 with_saved (Some x) saved = saved ++ x ∷ []
 
--- what a call has made
+-- the effects of a call are added
 abbrev pub with_acted : Acted → RunSoFar → RunSoFar
 with_acted a r = record r {
   state = a.state;
@@ -47,40 +47,40 @@ with_acted a r = record r {
   saved = with_saved (a.effect).wrap r.saved;
 }
 
--- no newline is pending: all is skipped, unless more may follow
+-- no newline is pending: everything is skipped, unless more may follow
 abbrev pub skip_all : Bool → Expansion → Outcome Expansion Ended
 skip_all true s = Halted (record { so_far = s.so_far; reason = NeedsInput })
 skip_all false s = Closed (reading (consumed (length (text_of s.pending)) s.pending) s)
 
--- the rest of a line of so many bytes is skipped
+-- the rest of the line is skipped: n bytes, if a newline is pending
 abbrev pub skip_line : Option ℕ → Expansion → Outcome Expansion Ended
 skip_line None s = skip_all (s.pending).may_follow s
 skip_line (Some n) s = Closed (reading (consumed n s.pending) s)
 
--- behind a call: the rest of the line is skipped, or a value is read before everything else
+-- after a call: the rest of the line is skipped, or a value is read before everything else
 abbrev pub skip_or_push : Bool → Option Pushed → Expansion → Outcome Expansion Ended
 skip_or_push true v s = skip_line (line_length (text_of s.pending)) s
 skip_or_push false v s = Closed (reading (with_value v s.pending) s)
 
--- behind a call that may end the run
+-- after a call that may end the run
 abbrev pub effected : Option ℕ → Bool → Option Pushed → Expansion → Outcome Expansion Ended
 effected (Some code) skip v s = Halted (record { so_far = s.so_far; reason = Ends (causes.Exited code) })
 effected None skip v s = skip_or_push skip v s
 
--- a call is a token: it begins the argument that it stands in
+-- a call is a token: it begins the argument around it
 abbrev pub mode_after_call : Mode → Mode
 mode_after_call Outside = Outside
 mode_after_call (Collecting c) = Collecting (record c { begun = true })
 
--- what a call does where the expansion stands at t
+-- the effect of a call that is acted on at t
 abbrev pub acted_at : Call → Expansion → Acted
 acted_at c t = act c.definition c.name c.done c.place (t.so_far).state
 
--- what goes on behind a call
+-- the part to continue with after a call
 abbrev pub kept_of : Expansion → Kept
 kept_of s = record { open_calls = s.open_calls; mode = s.mode }
 
--- behind a call that was acted on at t, where `kept` goes on
+-- after a call that was acted on at t, if `kept` is to continue
 abbrev pub after_call : Call → Expansion → Kept → Expansion
 after_call c t kept = record {
   limits = t.limits;
@@ -90,13 +90,13 @@ after_call c t kept = record {
   mode = mode_after_call kept.mode;
 }
 
--- a call is acted on at t, with the definition that it had before its arguments
+-- a call is acted on at t, with the definition that its name had before its arguments
 abbrev pub called : Call → Expansion → Kept → Outcome Expansion Ended
 called c t kept =
     effected ((acted_at c t).effect).exit ((acted_at c t).effect).skip
     ((acted_at c t).effect).push (after_call c t kept)
 
--- the list that was collected at t is complete
+-- the list that ends at t is complete
 abbrev pub join_by : Mode → Kept → Expansion → Outcome Expansion Ended
 join_by Outside kept t = Closed t
 join_by (Collecting c) kept t = called c t kept
@@ -138,11 +138,11 @@ call_unless_deep true listed c p s =
     causes.NestingLimit
 call_unless_deep false listed c p s = collect listed c p s
 
--- whether one open call more is above the limit
+-- whether one more open call exceeds the limit
 abbrev pub is_deep : Expansion → Bool
 is_deep s = nat_lt 0 (s.limits).nesting && nat_lt (s.limits).nesting (suc s.open_calls)
 
--- a call; `room` says that the limit leaves one
+-- a call; `room` says that the limit allows one
 abbrev pub call_if_room : Bool → Bool → Call → Pending → Expansion → Turn Expansion Kept Ended
 call_if_room true listed c p s = call_unless_deep (is_deep s) listed c p (with_call s)
 call_if_room false listed c p s =
@@ -163,7 +163,7 @@ take_call Unknown c p s = stop s NeedsInput
 take_call Yes c p s = call true c p s
 take_call No c p s = call_without_list (needs_list c.definition) c p s
 
--- a name, by the definition on top of it
+-- a name, by its top definition
 abbrev pub take_name : Option Def → List ℕ → Pending → Expansion → Turn Expansion Kept Ended
 take_name None name p s = GoOn (put_text name (reading p s))
 take_name (Some d) name p s =
@@ -180,7 +180,7 @@ abbrev pub take_end : Mode → Expansion → Turn Expansion Kept Ended
 take_end Outside s = stop s (Ends causes.Done)
 take_end (Collecting c) s = fail s c.place (codes "end of input in argument list") causes.EndInArguments
 
--- a token, behind which p is pending
+-- a token, after which p is pending
 abbrev pub take_token : Token → Pending → Expansion → Turn Expansion Kept Ended
 take_token (Name x) p s = take_name (top_of (s.so_far).state x) x p s
 take_token (Str x) p s = GoOn (put_text x (reading p s))
@@ -189,7 +189,7 @@ take_token (Byte b) p s = take_other s.mode b (reading p s)
 take_token (Definition d) p s = GoOn (put_token d (reading p s))
 take_token End p s = take_end s.mode s
 
--- what is told of a string or comment that has no end, and the cause
+-- the message text for a string or comment that has no end, and the cause
 abbrev pub unended_text : Unended → List ℕ
 unended_text InString = codes "end of input in string"
 unended_text InComment = codes "end of input in comment"
@@ -198,7 +198,7 @@ abbrev pub unended_cause : Unended → Cause
 unended_cause InString = causes.EndInString
 unended_cause InComment = causes.EndInComment
 
--- a turn, by what stands at the front
+-- a turn, by the result of scanning the first token
 abbrev pub take_front : Front → Expansion → Turn Expansion Kept Ended
 take_front (Taken t p) s = take_token t p s
 take_front (Refused what line) s =
@@ -210,7 +210,7 @@ take_front More s = stop s NeedsInput
 abbrev pub turn : Expansion → Turn Expansion Kept Ended
 turn s = take_front (token_at ((s.so_far).state).quotes ((s.so_far).state).comments s.pending) s
 
--- how much is pending
+-- the size of the pending input
 abbrev pub definition_size : Option Def → ℕ
 definition_size None = 0
 definition_size (Some d) = 1
@@ -221,24 +221,24 @@ pending_size p = length (text_of p) + definition_size p.definition
 abbrev pub size_of : Expansion → ℕ
 size_of s = pending_size s.pending
 
--- how many calls the limit leaves
+-- how many more calls the limit allows
 abbrev pub calls_left : Expansion → ℕ
 calls_left s = (s.limits).calls - (s.so_far).calls
 
--- where a bound runs out
+-- the ending if a bound is reached
 abbrev pub out_of_bound_at : Expansion → Ended
 out_of_bound_at s = record { so_far = s.so_far; reason = OutOfBound }
 
--- what an expansion comes to
+-- the result of an expansion
 abbrev pub expand : Expansion → Outcome Expansion Ended
 expand = expansion Expansion Kept Ended turn join out_of_bound_at size_of calls_left
 
--- an expansion that stands in no call: that it closes doesn't happen
+-- an expansion outside of calls: it never closes a list
 abbrev pub ended_of : Outcome Expansion Ended → Ended
 ended_of (Halted d) = d
 ended_of (Closed s) = out_of_bound_at s
 
--- the expansion of what is pending, outside of calls
+-- the expansion of the pending input, outside of calls
 abbrev pub expansion_of : Limits → RunSoFar → Pending → Expansion
 expansion_of limits r p = record {
   limits = limits;

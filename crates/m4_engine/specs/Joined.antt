@@ -1,4 +1,4 @@
--- Joined: runs that start from one another's frozen text, and the one run that they come to.
+-- Joined: runs that start from one another's frozen text, and the one run that equals them.
 -- Believed. Manual: "Fast loading of frozen state".
 -- Words: freezing, prefixed, Joins, Link, reloads, chain, AllCarry, all_sources, total_calls, IsLast, EndsAs, JoinsAll.
 use Rattle.std.specs.Prelude.{◌≡◌, ⊤, ℕ, zero, ◌+◌, Bool, true, List, [], ◌∷◌, ◌++◌, Option, Some, option_map, flat_map}
@@ -17,8 +17,8 @@ freezing freezes o = record o { freeze = freezes }
 abbrev pub prefixed : Bool → Options → Options
 prefixed prefix o = record o { prefix = prefix }
 
--- a joint run writes what two runs write, one after the other, and ends as the later one; the calls
--- of the two are its calls
+-- a joint run writes what two runs write, one after the other, and ends as the second; it makes the calls
+-- of both
 pub record Joins (first second joint : RunResult) : Type 0 where
   pub output : joint.output ≡ first.output ++ second.output
   pub messages : joint.messages ≡ first.messages ++ second.messages
@@ -34,7 +34,7 @@ pub record Link : Type 0 where
   pub prefix : Bool
   pub sources : List Source
 
--- what the next run starts from
+-- the frozen file from which the next run starts
 abbrev pub reloads : RunResult → Option Script
 reloads r = option_map frozen_file r.frozen
 
@@ -54,11 +54,11 @@ AllCarry o frozen sources (l ∷ ls) =
     × ((text : List ℕ) × ((run (freezing true o) frozen sources).frozen ≡ Some text))
     × AllCarry (prefixed l.prefix o) (reloads (run (freezing true o) frozen sources)) l.sources ls
 
--- the sources of all runs of a chain, in their order
+-- the sources of all runs of a chain, in order
 abbrev pub all_sources : List Source → List Link → List Source
 all_sources sources ls = sources ++ flat_map (λ (l : Link). l.sources) ls
 
--- how many calls runs make together
+-- how many calls these runs make together
 abbrev pub total_calls : List RunResult → ℕ
 total_calls [] = zero
 total_calls (r ∷ rs) = r.calls + total_calls rs
@@ -74,8 +74,8 @@ pub record EndsAs (r last : RunResult) : Type 0 where
   pub frozen : r.frozen ≡ last.frozen
   pub saved : r.saved ≡ last.saved
 
--- a joint run writes what all of some runs write, one after the other, and ends as the last one; their
--- calls are its calls
+-- a joint run writes what all these runs write, one after another, and ends as the last one; it makes the
+-- calls of all
 pub record JoinsAll (runs : List RunResult) (joint : RunResult) : Type 0 where
   pub output : joint.output ≡ flat_map (λ (r : RunResult). r.output) runs
   pub messages : joint.messages ≡ flat_map (λ (r : RunResult). r.messages) runs

@@ -25,7 +25,7 @@ use Rattle.m4_engine.specs.declared.ending.Ending.{Ending}
 use Rattle.m4_engine.specs.Writers.{Three, writers}
 use Rattle.m4_engine.specs.WholeRun.{HasFrozen, RunGives}
 
--- where the bounds are enough, an expansion is what follows its first turn, with no bound in sight
+-- if the bounds suffice, an expansion is its first turn and then the same expansion, with no bound in sight
 abbrev pub ExpansionRules : Type 0 → Type 0 → Type 0 → Type 0
 ExpansionRules S F D =
     (turn : S → Turn S F D) (join : F → S → Outcome S D) (spent : S → D) (size left : S → ℕ)
@@ -34,49 +34,49 @@ ExpansionRules S F D =
     → expansion S F D turn join spent size left s
     ≡ after S F D join (expansion S F D turn join spent size left) (expansion S F D turn join spent size left) (turn s)
 
--- x is a beginning of y, perhaps all of it
+-- x is a prefix of y, perhaps all of it
 abbrev pub IsBeginning : List ℕ → List ℕ → Type 0
 IsBeginning x y = (rest : List ℕ) × (y ≡ x ++ rest)
 
--- each expansion is what its turns say
+-- each expansion is the result of its turns
 abbrev pub ExpandRules : Type 0
 ExpandRules = (s : Expansion) → expand s ≡ after Expansion Kept Ended join expand expand (turn s)
 
--- a run after its saved texts is what its next round says, and the rounds after it, with no bound in sight
+-- a run after its saved texts is the result of its next round and of the later ones, with no bound in sight
 abbrev pub WrapsRules : Type 0
 WrapsRules =
     (limits : Limits) (p : Progress)
     → after_wraps limits p ≡ next_round (after_wraps limits) limits p.over (p.so_far).saved p
 
--- the start of each run is one, and it is the one that the definition of a run takes
+-- each run has exactly one start, and it is the one that the definition of a run uses
 abbrev pub OneStart : Type 0
 OneStart =
     (prefix : Bool) (frozen : Option Script) (start : Start)
     → IsStart prefix frozen start ↔ (start ≡ start_of prefix frozen)
 
--- frozen files that spell directives of one state and one issued text give the same run
+-- frozen files whose directives denote the same state and the same issued text give the same run
 abbrev pub SameDenotation : Type 0
 SameDenotation =
     (o : Options) (a b : List ℕ) (ds es : List Directive) (sources : List Source)
     → Spells ds a → Spells es b → denote ds ≡ denote es
     → run o (Some (frozen_file a)) sources ≡ run o (Some (frozen_file b)) sources
 
--- what a beginning settled is a beginning of what the run writes, and a run whose end it decides ends
--- so, with nothing more
+-- output and messages that a prefix of an input settled are prefixes of the run's; if the prefix decides how
+-- the run ends, the run ends so and writes nothing more
 pub record AreSettled (s : SettledSoFar) (r : RunResult) : Type 0 where
   pub output : IsBeginning s.output r.output
   pub messages : IsBeginning s.messages r.messages
   pub ending : s.reason ≢ NeedsInput → (r.reason ≡ s.reason) × (r.output ≡ s.output) × (r.messages ≡ s.messages)
 
--- what w settles stands whatever bytes follow it and whatever sources come later
+-- the part that w settles is the same whatever bytes follow it and whatever sources come later
 abbrev pub SettledBegins : Type 0
 SettledBegins =
     (o : Options) (start : Start) (before : List Source) (name w more : List ℕ) (later : List Source)
     → AreSettled (settled o start before name w)
     (run_from o start (before ++ Opened name (w ++ more) ∷ later))
 
--- Where a freezing run over `as` carries, a run from the state that it froze over `bs` joins it to
--- the run over both. That run has the same limits, and doesn't end by that of calls.
+-- If a freezing run over `as` carries, the run over both joins it to the run over `bs` from the state that it
+-- froze. The joint run has the same limits, and doesn't end by the limit of calls.
 abbrev pub SplitStates : Type 0
 SplitStates =
     (o : Options) (freezes : Bool) (start : Start) (as' bs : List Source) (text : List ℕ)
@@ -87,9 +87,9 @@ SplitStates =
     (run_from (freezing freezes o) (From (frozen_state (freezing true o) start as') []) bs)
     (run_from (freezing freezes o) start (as' ++ bs))
 
--- The same of the frozen text: from any start, fresh, prefixed or reloaded, where a freezing run over
--- `as` carries, a run from the text that it froze over `bs` joins it to the run over both. The three runs
--- have the same limits; the run that reloads may have any prefix, since a frozen file decides alone.
+-- The same for the frozen text: from any start, fresh, prefixed or reloaded, if a freezing run over `as`
+-- carries, the run over both joins it to the run over `bs` from the text that it froze. The three runs have
+-- the same limits; the run that reloads may have any prefix, since only its frozen file decides.
 abbrev pub Split : Type 0
 Split =
     (o : Options) (freezes prefix : Bool) (frozen : Option Script) (as' bs : List Source) (text : List ℕ)
@@ -100,9 +100,9 @@ Split =
     (run (prefixed prefix (freezing freezes o)) (Some (frozen_file text)) bs)
     (run (freezing freezes o) frozen (as' ++ bs))
 
--- The same of a chain of any number of runs: from any start, where each run but the last carries, and the
--- next one starts from the text that it froze, all of them are joined to one run over all their sources,
--- if that run doesn't end by the limit of calls.
+-- The same for a chain of any number of runs: from any start, if each run but the last carries, and the next
+-- one starts from the text that it froze, one run over all their sources joins all of them, if that run
+-- doesn't end by the limit of calls.
 abbrev pub Chain : Type 0
 Chain =
     (o : Options) (freezes : Bool) (frozen : Option Script) (sources : List Source) (links : List Link)
@@ -110,7 +110,7 @@ Chain =
     → (run (freezing freezes o) frozen (all_sources sources links)).reason ≢ Ends causes.ExpansionLimit
     → JoinsAll (chain o freezes frozen sources links) (run (freezing freezes o) frozen (all_sources sources links))
 
--- a run whose end the definitions decide: no device failed, and memory was there
+-- a run whose end the definitions decide: no frozen file was refused, and no device or allocation failed
 abbrev pub IsDecided : Cause → Type 0
 IsDecided (causes.Frozen fault) = ⊥
 IsDecided causes.Read = ⊥
@@ -118,7 +118,7 @@ IsDecided causes.Write = ⊥
 IsDecided causes.OutOfMemory = ⊥
 IsDecided cause = Unit {0}
 
--- what was written is what a run writes, and the ending is that run's
+-- the bytes written are those of a run, and the ending is that run's
 pub record IsOneRun (r : RunResult) (e : Ending) (w : Three (Option (List ℕ))) : Type 0 where
   pub reason : r.reason ≡ Ends e.cause
   pub status : e.status ≡ r.status
@@ -126,11 +126,11 @@ pub record IsOneRun (r : RunResult) (e : Ending) (w : Three (Option (List ℕ)))
   pub messages : (w.two).messages_new ≡ with_bytes (w.two).messages_old r.messages
   pub frozen : e.cause ≡ causes.Done → HasFrozen r.frozen w
 
--- The law `split` of two runs as they are made, by what `run` promises of each. The first freezes, reads
--- everything with status 0 and saves no text; its frozen text goes to an empty writer. The second reloads
--- what that writer then has, with the same limits, and its output and messages go after the first one's.
--- Then the writers have what one run over the sources of both writes, which ends as the second did, if
--- that run doesn't end by the limit of calls.
+-- The law `split` for two calls of `run`, by the contract of each. The first freezes, reads everything with
+-- status 0 and saves no text; its frozen text goes to an empty writer. The second reloads the bytes of that
+-- writer, with the same limits, and its output and messages follow the first one's. Then the writers contain
+-- what one run over the sources of both writes, which ends as the second did, if that run doesn't end by the
+-- limit of calls.
 abbrev pub TwoRuns : Type 0
 TwoRuns =
     (o : Options) (freezes prefix : Bool) (file : Option Script) (as' bs : List Source) (text : List ℕ)
@@ -149,7 +149,7 @@ TwoRuns =
       frozen_new = w.frozen_new;
     })
 
--- a limit of nesting that is as large, where 0 is the largest
+-- a limit of nesting that is at least as large; 0 is the largest
 abbrev pub IsAsDeep : ℕ → ℕ → Type 0
 IsAsDeep n m = (m ≡ 0) ⊎ ((0 < n) × (n ≤ m))
 
@@ -168,7 +168,7 @@ LargerCalls =
     → (run_from o start sources).reason ≢ Ends causes.ExpansionLimit
     → run_from (record o { calls = calls }) start sources ≡ run_from o start sources
 
--- each run ends by a cause: it never wants more
+-- each run ends by a cause: it never needs more input
 abbrev pub RunEnds : Type 0
 RunEnds =
     (o : Options) (start : Start) (sources : List Source)

@@ -1,5 +1,5 @@
--- Ahead: what was seen of the token at the front, before a turn takes it.
--- Not believed: it stands between the code and `Expand`, tied to it by the turns' lemmas.
+-- Ahead: the next token, as far as it was recognised before a turn consumes it.
+-- Not believed: it connects the code with `Expand`; the turns' lemmas prove that they agree.
 -- Words: IsMeaning, Fits, IsNamed, IsLookaheadOf.
 use Rattle.std.specs.Prelude.{◌≡◌, ◌&&◌, ◌<◌, ◌≤◌, not, Bool, true, false, ℕ, List, [], None, Some, length, take, drop}
 use Rattle.m4_state.specs.declared.definition.Def.TheVariants.{Text}
@@ -18,19 +18,19 @@ use Rattle.m4_engine.specs.declared.lookahead.Named.{Named}
 use Rattle.m4_engine.specs.declared.lookahead.Lookahead.{Lookahead}
 use Rattle.m4_engine.specs.declared.lookahead.Lookahead.TheVariants as aheads
 
--- what a name stands for that is read at a place, where `bare` says that a text is called with no list
+-- the meaning of a name that is read at a place; `bare` says that a text macro is called without a list
 abbrev pub IsMeaning : Meaning → Bool → State → List ℕ → Place → Type 0
 IsMeaning (meanings.Expansion x) bare s name place =
     (bare ≡ true) × (text : List ℕ) × (top_of s name ≡ Some (Text text)) × (x ≡ subst text name [] s.quotes)
 IsMeaning (meanings.Call h) bare s name place =
     (top_of s name ≡ Some h.definition) × (h.name ≡ name) × (h.place ≡ place)
 
--- what a call gives is known where it is bare
+-- the expansion of a call is known only if it is bare
 abbrev pub Fits : Meaning → Bool → Type 0
 Fits (meanings.Expansion x) bare = bare ≡ true
 Fits (meanings.Call h) bare = Unit {0}
 
--- a name with a definition that stands first, where `room` says that the limits leave a call
+-- a name with a definition is the first token; `room` says that the limits allow a call
 pub record IsNamed (n : Named) (s : State) (room : Bool) (p : Pending) : Type 0 where
   pub first : p.definition ≡ None
   pub scanned : scan s.quotes s.comments false (text_of p) ≡ Found (Name (take n.len (text_of p))) n.len
@@ -39,7 +39,7 @@ pub record IsNamed (n : Named) (s : State) (room : Bool) (p : Pending) : Type 0 
   pub meaning :
       IsMeaning n.meaning (not n.listed && room) s (take n.len (text_of p)) (record { file = name_of p; line = line_of p })
 
--- what was seen of the token at the front
+-- the lookahead is right for the next token
 abbrev pub IsLookaheadOf : Lookahead → State → Bool → Pending → Type 0
 IsLookaheadOf aheads.Unknown s room p = Unit {0}
 IsLookaheadOf (aheads.Byte b) s room p =

@@ -1,11 +1,11 @@
--- MachineView: the code's machine as the engine that the clauses speak of.
--- Not believed: it only says which fields are which.
+-- MachineView: the code's machine as the engine of the contracts.
+-- Not believed: it only maps the fields.
 use Rattle.std.specs.Prelude.{List, ◌∷◌, Option, Some, None, reverse}
 use Rattle.m4_engine.specs.declared.machine.Machine.TheInside.{Inside}
 use Rattle.m4_engine.specs.Expansion.{Call}
 use Rattle.m4_engine.specs.Engine.{Engine}
 
--- the innermost call before those around it
+-- the innermost call before the outer ones
 abbrev pub innermost_first : Option Call → List Call → List Call
 innermost_first None cs = cs
 innermost_first (Some c) cs = c ∷ cs

@@ -1,15 +1,15 @@
 -- OpenCalls: an expansion as a machine that keeps its open calls on a stack.
--- Not believed: it is tied to the nested expansion by `MachineIsNesting`.
+-- Not believed: `MachineIsNesting` proves that it agrees with the nested expansion.
 -- Words: Stacked, Move, move, resume, meaning.
 use Rattle.std.specs.Prelude.{List, [], ◌∷◌}
 use Rattle.m4_engine.specs.Nesting.{Turn, Halt, Close, GoOn, Bare, Opens, Outcome, Halted, Closed, then_on}
 
--- what is kept of the levels whose lists are open, the innermost first, and where the innermost stands
+-- the parts that are kept of the outer levels, the innermost first, and the state of the current level
 pub record Stacked (S F : Type 0) : Type 0 where
   pub outer : List F
   pub here : S
 
--- what a machine's turn comes to
+-- the outcome of one turn of the machine
 pub data Move (S F D : Type 0) : Type 0 where
   Stops : Outcome S D → Move S F D
   Goes : Stacked S F → Move S F D
@@ -37,16 +37,16 @@ module _ (S F D : Type 0) (turn : S → Turn S F D) (join : F → S → Outcome 
   abbrev pub move : Stacked S F → Move S F D
   move c = take_turn c.outer (turn c.here)
 
-  -- what follows where the open levels are these
+  -- the rest of an expansion in which these levels are open, after the innermost level's outcome
   abbrev pub resume : (S → Outcome S D) → List F → Outcome S D → Outcome S D
   resume whole [] o = o
   resume whole (f ∷ fs) o = resume whole fs (then_on (then_on o (join f)) whole)
 
-  -- what a machine comes to
+  -- the outcome of the machine
   abbrev pub meaning : (S → Outcome S D) → Stacked S F → Outcome S D
   meaning whole c = resume whole c.outer (whole c.here)
 
-  -- what a machine comes to behind a move
+  -- the outcome of the machine after a move
   abbrev pub moved_meaning : (S → Outcome S D) → Move S F D → Outcome S D
   moved_meaning whole (Stops o) = o
   moved_meaning whole (Goes c) = meaning whole c

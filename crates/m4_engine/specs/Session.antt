@@ -2,7 +2,7 @@
 -- Believed. Manual: "Command line files", "Invoking m4".
 -- Words: SessionState, progress_of, written, standing_from, fresh_session, IsOpen, ReloadGives, Completed, FileGives,
 -- MissingGives, EndGives, FinishGives, FreezeGives, BeginGives, IsBegun, ReadFails, ReloadFails, BeginFails, SparesBy, ByAnswer, WriteFails, MessageWriteFails.
--- A session is a run's progress without what was written; what is written goes to the writers.
+-- A session is a run's progress without the bytes that were written; these went to the writers.
 use Rattle.std.specs.Prelude.{◌≡◌, ◌≢◌, IfSome, ℕ, Bool, true, false, List, [], ◌∷◌, Option, Some, None, Result, Ok, Err, ◌⊎◌}
 use Rattle.m4_state.specs.State.{State, IsSized}
 use Rattle.m4_state.specs.Fresh.{fresh}
@@ -23,8 +23,8 @@ use Rattle.m4_engine.specs.File.{Opened, Unopened, Progress, file, after_source,
 use Rattle.m4_engine.specs.Wraps.{read_saved, after_wraps}
 use Rattle.m4_engine.specs.Run.{limits_of, status_of, closed_output, result_of}
 
--- a run between two calls: what it has made beside what was written; whether a source wasn't opened;
--- why it is over, if it is; and whether it was brought to its end
+-- a run between two calls: its results without the bytes that were written; whether a source wasn't opened;
+-- why it is over, if it is; and whether it was finished
 pub record SessionState : Type 0 where
   pub limits : Limits
   pub state : State
@@ -34,12 +34,12 @@ pub record SessionState : Type 0 where
   pub over : Option Cause
   pub finished : Bool
 
--- the progress of a run by its cause
+-- how a run is over, by its cause
 abbrev pub how_over : Option Cause → Option EndReason
 how_over None = None
 how_over (Some cause) = Some (Ends cause)
 
--- the run's progress, where all that it put out was written before
+-- the run's progress, if all its output and messages were written before
 abbrev pub progress_of : SessionState → Progress
 progress_of s = record {
   so_far = record { state = s.state; output = []; messages = []; saved = s.saved; calls = s.calls };
@@ -67,7 +67,7 @@ standing_from o s = record {
 abbrev pub fresh_session : Options → SessionState
 fresh_session o = standing_from o (fresh o.prefix)
 
--- the run goes on
+-- the run continues
 pub record IsOpen (s : SessionState) : Type 0 where
   pub over : s.over ≡ None
   pub unfinished : s.finished ≡ false
@@ -77,7 +77,7 @@ pub record Silent (w : Contents) : Type 0 where
   pub output : w.out_new ≡ w.out_old
   pub messages : w.messages_new ≡ w.messages_old
 
--- the call was made to its end: the run's progress is p, and all that p put out was written
+-- the call was completed: the run's progress is p, and all of p's output and messages were written
 pub record Completed (old new : SessionState) (p : Progress) (w : Contents) : Type 0 where
   pub live : IsOpen old
   pub limits : new.limits ≡ old.limits
@@ -86,24 +86,24 @@ pub record Completed (old new : SessionState) (p : Progress) (w : Contents) : Ty
   pub output : w.out_new ≡ with_bytes w.out_old (p.so_far).output
   pub messages : w.messages_new ≡ with_bytes w.messages_old (p.so_far).messages
 
--- a session that is over or finished answers so, and nothing changes
+-- a call of a session that is over or finished: nothing changes
 pub record Refused (old new : SessionState) (w : Contents) : Type 0 where
   pub closed : IsOpen old → ⊥
   pub same : new ≡ old
   pub silent : Silent w
 
--- the call broke off by this cause, which ends the run
+-- this cause interrupted the call, and ends the run
 pub record Interrupted (old new : SessionState) (cause : Cause) : Type 0 where
   pub live : IsOpen old
   pub over : new.over ≡ Some cause
 
--- a file was read, of which the reader gave x
+-- a file was read, whose reader delivered x
 abbrev pub FileDone : List ℕ → Option Script → Option Script → SessionState → SessionState → Contents → Option Cause → Type 0
 FileDone name before after old new w over =
     (x : List ℕ) × (before ≡ after_bytes x after) × IsAtEnd after
     × Completed old new (after_source old.limits (Opened name x) (progress_of old)) w × (new.over ≡ over)
 
--- a file wasn't read, or only a beginning of what it puts out was written
+-- a file wasn't read, or only prefixes of its output and messages were written
 abbrev pub FileBroke : List ℕ → Option Script → Option Script → SessionState → SessionState → Contents → Cause → Type 0
 FileBroke name before after old new w cause =
     (x : List ℕ) × (before ≡ after_bytes x after) × Interrupted old new cause
@@ -125,22 +125,22 @@ FileGives name before after old new w (Err (stops.Ended causes.OutOfMemory)) =
 FileGives name before after old new w (Err (stops.Ended cause)) =
     FileDone name before after old new w (Some cause)
 
--- by an answer: one writer failed where the run ends by a write fault, and else none did
+-- by a result: one writer failed if the run ends by a write fault, and otherwise none did
 abbrev pub ByAnswer : {A : Type 0} → Result A Stop → Type 0 → Type 0 → Type 0
 ByAnswer (Ok done) none one = none
 ByAnswer (Err stops.Finished) none one = none
 ByAnswer (Err (stops.Ended cause)) none one = ByCause cause none one
 
--- a call ends the run by a write fault where a writer failed in it
+-- a call ends the run by a write fault if a writer failed in it
 abbrev pub WriteFails : {A : Type 0} → Result A Stop → Failures → Type 0
 WriteFails answer f = ByAnswer answer (NoneFailed f) (OneFailed f)
 
--- a call ends the run by a read fault where its reader failed in it, once; else it did not fail
+-- a call ends the run by a read fault if its reader failed in it, once; otherwise it did not fail
 abbrev pub ReadFails : {A : Type 0} → Result A Stop → ℕ → ℕ → Type 0
 ReadFails (Err (stops.Ended causes.Read)) old new = new ≡ one_more old
 ReadFails result old new = new ≡ old
 
--- the same of one of a run's sources, and of all of them
+-- the same for one of a run's sources, and for all of them
 abbrev pub SourceFails : {A R : Type 0} → (R → ℕ) → Result A Stop → RunSource R → RunSource R → Type 0
 SourceFails failures (Err (stops.Ended causes.Read)) before after = HasFailed failures before after
 SourceFails failures result before after = is_sound failures before after
@@ -149,32 +149,32 @@ abbrev pub SourcesFail : {A R : Type 0} → (R → ℕ) → Result A Stop → Li
 SourcesFail failures (Err (stops.Ended causes.Read)) before after = AnyFailed failures before after
 SourcesFail failures result before after = AllPairs (is_sound failures) before after
 
--- the same of a call with one writer, which has failed so often before and behind it
+-- the same for a call with one writer, by its number of failures before and after
 abbrev pub MessageWriteFails : {A : Type 0} → Result A Stop → ℕ → ℕ → Type 0
 MessageWriteFails answer old new = ByAnswer answer (new ≡ old) (new ≡ one_more old)
 
--- the reader of a frozen file failed where the run ends by that; it did not where the run begins
+-- the reader of a frozen file failed if the run ends by that; it did not fail if the run begins
 abbrev pub ReloadFails : {A : Type 0} → Result A Stop → ℕ → ℕ → Type 0
 ReloadFails (Err (stops.Ended (causes.Frozen fault))) old new = fault.kind ≡ kinds.Read → new ≡ one_more old
 ReloadFails answer old new = new ≡ old
 
--- the same of a run's frozen file, where there is one
+-- the same for a run's frozen file, if there is one
 abbrev pub BeginFails : {A R : Type 0} → (R → ℕ) → Result A Stop → Option R → Option R → Type 0
 BeginFails failures answer None None = Unit {0}
 BeginFails failures answer (Some before) (Some after) = ReloadFails answer (failures before) (failures after)
 BeginFails failures answer before after = ⊥
 
--- by an answer: a call that ends the run by another cause than a write fault spares the frozen text
+-- by a result: a call that ends the run by another cause than a write fault writes no frozen text
 abbrev pub SparesBy : {A : Type 0} → Result A Stop → Three (Option (List ℕ)) → Type 0
 SparesBy (Ok done) w = Unit {0}
 SparesBy (Err stops.Finished) w = IsSpared w
 SparesBy (Err (stops.Ended cause)) w = Spares cause w
 
--- a state and the text that is issued with it are those that a frozen file gives
+-- this state and this issued text are those that a frozen file gives
 abbrev pub AreReloaded : Options → Option Script → State → List ℕ → Type 0
 AreReloaded o file s issued = IfSome file (λ script. IsStart o.prefix (Some script) (From s issued))
 
--- a run that starts from a frozen file: what is issued is written; a file that is refused leaves nothing
+-- a run that starts from a frozen file: its issued text is written; after a refused file nothing is written
 abbrev pub ReloadGives : Options → Option Script → Option (List ℕ) → Option (List ℕ) → Result SessionState Stop → Type 0
 ReloadGives o file out_old out_new (Ok new) =
     (s : State) × (issued : List ℕ) × AreReloaded o file s issued
@@ -187,7 +187,7 @@ ReloadGives o file out_old out_new (Err (stops.Ended causes.Write)) =
     (s : State) × (issued : List ℕ) × AreReloaded o file s issued × HasBegun out_old out_new issued
 ReloadGives o file out_old out_new (Err (stops.Ended cause)) = ⊥
 
--- the status where a run stands so
+-- how a run ends that has this cause, or none: the status depends on it
 abbrev pub how_by : Option Cause → EndReason
 how_by None = Ends causes.Done
 how_by (Some cause) = Ends cause
@@ -195,7 +195,7 @@ how_by (Some cause) = Ends cause
 abbrev pub status_at : SessionState → ℕ
 status_at s = status_of (how_by s.over) s.any_missing
 
--- the answer behind an input, by its cause
+-- the result after an input, by its cause
 abbrev pub answer_by : Cause → Result Unit Stop
 answer_by causes.Done = Ok tt
 answer_by cause = Err (stops.Ended cause)
@@ -204,7 +204,7 @@ abbrev pub over_after : Cause → Option Cause → Option Cause
 over_after causes.Done over = over
 over_after cause over = Some cause
 
--- a source that wasn't opened: it is told of
+-- a source that wasn't opened: it is reported
 abbrev pub MissingGives : List ℕ → SessionState → SessionState → Option (List ℕ) → Option (List ℕ) → Result Unit Stop → Type 0
 MissingGives name old new messages_old messages_new (Ok done) =
     IsOpen old × IsOpen new × (new.limits ≡ old.limits)
@@ -216,11 +216,11 @@ MissingGives name old new messages_old messages_new (Err (stops.Ended causes.Wri
     Interrupted old new causes.Write × HasBegun messages_old messages_new (cannot_open name)
 MissingGives name old new messages_old messages_new (Err (stops.Ended cause)) = ⊥
 
--- the run behind its saved texts
+-- the run after its saved texts
 abbrev pub session_after_wraps : SessionState → Progress
 session_after_wraps s = after_wraps s.limits (progress_of s)
 
--- the run came to its end: the saved texts were read, and the diversions were issued, unless it freezes
+-- the run was finished: the saved texts were read, and the diversions undiverted, unless it freezes
 pub record Closed (freezes : Bool) (old new : SessionState) (w : Contents) : Type 0 where
   pub live : IsOpen old
   pub finished : new.finished ≡ true
@@ -232,7 +232,7 @@ pub record Closed (freezes : Bool) (old new : SessionState) (w : Contents) : Typ
   pub output : w.out_new ≡ with_bytes w.out_old (closed_output freezes (session_after_wraps old).so_far)
   pub messages : w.messages_new ≡ with_bytes w.messages_old ((session_after_wraps old).so_far).messages
 
--- the end broke off: a beginning of what the run still puts out was written
+-- the end was interrupted: prefixes of the run's remaining output and messages were written
 pub record Unfinished (freezes : Bool) (old new : SessionState) (w : Contents) (cause : Cause) : Type 0 where
   pub live : IsOpen old
   pub over : new.over ≡ Some cause
@@ -255,19 +255,19 @@ EndGives freezes old new w (Err (stops.Ended cause)) =
 abbrev pub FinishGives : SessionState → SessionState → Contents → Result Unit Stop → Type 0
 FinishGives old new w answer = EndGives false old new w answer
 
--- the state that a run leaves after its saved texts, which is the one that it freezes
+-- the state of a run after its saved texts, which is the one that it freezes
 abbrev pub last_state : SessionState → State
 last_state s = ((session_after_wraps s).so_far).state
 
--- the frozen text was begun after all else that the run writes
+-- a prefix of the frozen text was written, after everything else that the run writes
 pub record FreezeBegan (old : SessionState) (w : Three (Option (List ℕ))) : Type 0 where
   pub ended : (session_after_wraps old).over ≡ None
   pub begun : HasBegun w.frozen_old w.frozen_new (freeze (last_state old))
   pub output : (w.two).out_new ≡ with_bytes (w.two).out_old ((session_after_wraps old).so_far).output
   pub messages : (w.two).messages_new ≡ with_bytes (w.two).messages_old ((session_after_wraps old).so_far).messages
 
--- what the writer of the frozen text has: all of it, or a beginning where a writer failed, or nothing; a
--- state that is frozen is sized
+-- the writer of the frozen text has all of it, or a prefix if a writer failed, or nothing; a frozen state
+-- is sized
 abbrev pub FrozenGives : SessionState → Three (Option (List ℕ)) → Result Unit Stop → Type 0
 FrozenGives old w (Ok done) =
     (w.frozen_new ≡ with_bytes w.frozen_old (freeze (last_state old))) × IsSized (last_state old)
@@ -278,12 +278,12 @@ FrozenGives old w (Err stop) = IsSpared w
 abbrev pub FreezeGives : SessionState → SessionState → Three (Option (List ℕ)) → Result Unit Stop → Type 0
 FreezeGives old new w answer = EndGives true old new w.two answer × FrozenGives old w answer
 
--- the end of a run, with what the writer of the frozen text has
+-- the end of a run, and the contents of the frozen text's writer
 abbrev pub CloseGives : Bool → SessionState → SessionState → Three (Option (List ℕ)) → Result Unit Stop → Type 0
 CloseGives true old new w answer = FreezeGives old new w answer
 CloseGives false old new w answer = FinishGives old new w.two answer × IsSpared w
 
--- a run begins: from a start, of which the issued text was written, or with its fault
+-- a run begins from a start, whose issued text was written, or ends with the start's fault
 abbrev pub BeginGives : Start → Options → Option (List ℕ) → Option (List ℕ) → Result SessionState Stop → Type 0
 BeginGives start o out_old out_new (Ok new) =
     (s : State) × (issued : List ℕ) × (start ≡ From s issued)
@@ -296,7 +296,7 @@ BeginGives start o out_old out_new (Err (stops.Ended causes.Write)) =
 BeginGives start o out_old out_new (Err (stops.Ended causes.OutOfMemory)) = out_new ≡ out_old
 BeginGives start o out_old out_new (Err (stops.Ended cause)) = ⊥
 
--- a run begins from some state, or ends by a frozen file, a writer or memory
+-- a run begins from some state, or is ended by a frozen file, a writer or an allocation
 abbrev pub IsBegun : Options → Result SessionState Stop → Type 0
 IsBegun o (Ok new) = (s : State) × (new ≡ standing_from o s)
 IsBegun o (Err (stops.Ended (causes.Frozen fault))) = Unit {0}
@@ -309,18 +309,18 @@ abbrev pub status_after : Stop → ℕ
 status_after stops.Finished = 0
 status_after (stops.Ended cause) = status_of (Ends cause) false
 
--- whether a text stands saved
+-- whether a text is saved
 abbrev pub is_saved : List (List ℕ) → Bool
 is_saved [] = false
 is_saved (x ∷ xs) = true
 
--- what a run puts out is written up to a beginning, and the cause ends it
+-- prefixes of a run's output and messages were written, and the cause ends it
 pub record BrokeOff (new : SessionState) (p : Progress) (w : Contents) (cause : Cause) : Type 0 where
   pub over : new.over ≡ Some cause
   pub output : HasBegun w.out_old w.out_new (p.so_far).output
   pub messages : HasBegun w.messages_old w.messages_new (p.so_far).messages
 
--- an open session that went on to this progress, or broke off on the way there
+-- an open session that reached this progress, or was interrupted on the way
 abbrev pub GoesTo : Progress → SessionState → SessionState → Contents → Result Unit Stop → Type 0
 GoesTo p old new w (Ok done) = Completed old new p w × (new.over ≡ None)
 GoesTo p old new w (Err stops.Finished) = ⊥
@@ -336,15 +336,15 @@ abbrev pub AsksNoReader : Result Unit Stop → Type 0
 AsksNoReader (Err (stops.Ended causes.Read)) = ⊥
 AsksNoReader result = Unit {0}
 
--- the same of saved texts, for which no reader is asked
+-- the same for saved texts, which need no reader
 abbrev pub WrapsGive : Progress → SessionState → SessionState → Contents → Result Unit Stop → Type 0
 WrapsGive p old new w result = GoesTo p old new w result × AsksNoReader result
 
--- what the saved texts of a run come to as one input
+-- the saved texts of a run, read as one input
 abbrev pub round_of : SessionState → Progress
 round_of s = read_saved s.limits s.saved (progress_of s)
 
--- a session that stopped is over, by the cause that is answered; else it goes on
+-- a session that stopped is over, by the returned cause; otherwise it continues
 abbrev pub IsLeft : {A : Type 0} → SessionState → Result A Stop → Type 0
 IsLeft new (Ok done) = new.over ≡ None
 IsLeft new (Err stops.Finished) = ⊥

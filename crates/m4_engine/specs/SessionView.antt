@@ -1,5 +1,5 @@
 -- SessionView: the code's session as a run between two calls.
--- Not believed: it only says which fields are which.
+-- Not believed: it only maps the fields.
 use Rattle.m4_engine.specs.declared.session.Session.TheInside.{Inside}
 use Rattle.m4_engine.specs.Session.{SessionState}
 

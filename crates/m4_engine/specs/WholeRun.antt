@@ -1,4 +1,4 @@
--- WholeRun: what a whole run writes and answers, by the definition of a run.
+-- WholeRun: the bytes that a complete run writes, and its ending, by the definition of a run.
 -- Believed. Manual: "Invoking m4", "Fast loading of frozen state".
 -- Words: wrapped_by, WroteAll, WrotePrefix, RunGives, HasFrozen, FrozenBegan, FrozenBy, NothingIsDone.
 use Rattle.std.specs.Prelude.{◌≡◌, ℕ, Bool, false, List, Option, Some, None, Result, Ok, Err, ◌⊎◌}
@@ -17,12 +17,12 @@ use Rattle.m4_engine.specs.Run.{RunResult, result_of, saved_after}
 use Rattle.m4_engine.specs.Writers.{Contents, Three, IsSpared}
 use Rattle.m4_engine.specs.Session.{is_saved}
 
--- whether text stood saved for the end, where everything was read
+-- whether text was saved for the end, if everything was read
 abbrev pub wrapped_by : Cause → List (List ℕ) → Bool
 wrapped_by causes.Done saved = is_saved saved
 wrapped_by cause saved = false
 
--- the run ended as it is defined, and all that it puts out was written
+-- the run ended as it is defined, and all its output and messages were written
 pub record WroteAll (r : RunResult) (e : Ending) (w : Contents) : Type 0 where
   pub reason : r.reason ≡ Ends e.cause
   pub status : e.status ≡ r.status
@@ -30,13 +30,13 @@ pub record WroteAll (r : RunResult) (e : Ending) (w : Contents) : Type 0 where
   pub output : w.out_new ≡ with_bytes w.out_old r.output
   pub messages : w.messages_new ≡ with_bytes w.messages_old r.messages
 
--- a device or memory failed: a beginning of what the run puts out was written
+-- a device or an allocation failed: prefixes of the run's output and messages were written
 pub record WrotePrefix (r : RunResult) (e : Ending) (w : Contents) : Type 0 where
   pub wrapped : e.wrapped ≡ false
   pub output : HasBegun w.out_old w.out_new r.output
   pub messages : HasBegun w.messages_old w.messages_new r.messages
 
--- a frozen file that was refused: it has the fault that the run's definition names, unless memory ran out
+-- a frozen file that was refused: it has the fault of the run's definition, unless an allocation failed
 abbrev pub RefusedBy : FrozenKind → RunResult → Ending → Contents → Type 0
 RefusedBy kinds.OutOfMemory r e w = WrotePrefix r e w
 RefusedBy kind r e w = WroteAll r e w
@@ -48,12 +48,12 @@ GivesBy causes.OutOfMemory r e w = WrotePrefix r e w
 GivesBy (causes.Frozen fault) r e w = RefusedBy fault.kind r e w
 GivesBy cause r e w = WroteAll r e w
 
--- the writer of the frozen text has all of it, where the run has one
+-- the writer of the frozen text has all of it, if the run has one
 abbrev pub HasFrozen : Option (List ℕ) → Three (Option (List ℕ)) → Type 0
 HasFrozen None w = IsSpared w
 HasFrozen (Some text) w = w.frozen_new ≡ with_bytes w.frozen_old text
 
--- a writer failed within the frozen text, after all else that the run writes
+-- a writer failed in the frozen text, after everything else that the run writes
 pub record FrozenBegan (r : RunResult) (w : Three (Option (List ℕ))) : Type 0 where
   pub text : List ℕ
   pub is : r.frozen ≡ Some text
@@ -61,25 +61,25 @@ pub record FrozenBegan (r : RunResult) (w : Three (Option (List ℕ))) : Type 0 
   pub output : (w.two).out_new ≡ with_bytes (w.two).out_old r.output
   pub messages : (w.two).messages_new ≡ with_bytes (w.two).messages_old r.messages
 
--- what the writer of the frozen text has, by the cause that ended the run
+-- the contents of the frozen text's writer, by the cause that ended the run
 abbrev pub FrozenBy : Cause → RunResult → Three (Option (List ℕ)) → Type 0
 FrozenBy causes.Done r w = HasFrozen r.frozen w
 FrozenBy causes.Write r w = IsSpared w ⊎ FrozenBegan r w
 FrozenBy cause r w = IsSpared w
 
--- what a run is by its definition, how it ended, and what was written
+-- a run by its definition, its ending, and the bytes written
 pub record RunGives (r : RunResult) (e : Ending) (w : Three (Option (List ℕ))) : Type 0 where
   pub gives : GivesBy e.cause r e w.two
   pub frozen : FrozenBy e.cause r w
 
--- nothing was read of a run's sources, and nothing was written
+-- no source of a run was read, and nothing was written
 pub record NothingIsDone {S : Type 0} (before after : S) (w : Three (Option (List ℕ))) : Type 0 where
   pub sources : after ≡ before
   pub output : (w.two).out_new ≡ (w.two).out_old
   pub messages : (w.two).messages_new ≡ (w.two).messages_old
   pub frozen : IsSpared w
 
--- the steps of the code: the result of a run behind its sources, and the ending by the last answer
+-- the steps of the code: the result of a run after its sources, and the ending by the last result
 abbrev pub result_after : Bool → Limits → List Source → Progress → RunResult
 result_after freezes limits ss p = result_of freezes (saved_after ss p) (after_wraps limits p)
 

@@ -1,5 +1,5 @@
--- Writers: a call's writers before and after it: the bytes that each has, and how often it failed.
--- Believed: each clause on what is written cites it. Manual: "Invoking m4".
+-- Writers: a call's writers before and after it: the bytes of each, and how often it failed.
+-- Believed: each clause on written bytes cites it. Manual: "Invoking m4".
 -- Words: Both, writers, both, Three, three, Contents, Failures, NoneFailed, OneFailed, NoneOfThree,
 -- IsSpared, OneOfThree, Spares, FailsOnce, ByCause, FailsBy, Broken.
 use Rattle.std.specs.Prelude.{◌≡◌, ℕ, List, Option, ◌⊎◌, Result, Ok, Err}
@@ -8,7 +8,7 @@ use Rattle.m4_engine.specs.declared.ending.Cause.{Cause}
 use Rattle.m4_engine.specs.declared.ending.Cause.TheVariants as causes
 use Rattle.m4_engine.specs.Expansion.{Ended}
 
--- a value of the writer of output and of the writer of messages, before a call and after it
+-- a value for the writer of output and one for the writer of messages, before a call and after it
 pub record Both (A : Type 0) : Type 0 where
   pub out_old : A
   pub out_new : A
@@ -23,12 +23,12 @@ writers out_old out_new messages_old messages_new = record {
   messages_new = messages_new;
 }
 
--- the same, taken of each writer: its contents, or its count of failures
+-- the same, computed for each writer: its contents, or its count of failures
 abbrev pub both : {O M A : Type 0} → (O → A) → (M → A) → O → O → M → M → Both A
 both of_out of_messages out_old out_new messages_old messages_new =
     writers (of_out out_old) (of_out out_new) (of_messages messages_old) (of_messages messages_new)
 
--- the bytes that the writers have, where they let them be known
+-- the bytes of the writers, if they are known
 abbrev pub Contents : Type 0
 Contents = Both (Option (List ℕ))
 
@@ -46,21 +46,21 @@ OneFailed f =
     ((f.out_new ≡ one_more f.out_old) × (f.messages_new ≡ f.messages_old))
     ⊎ ((f.out_new ≡ f.out_old) × (f.messages_new ≡ one_more f.messages_old))
 
--- a call fails where a writer failed in it
+-- a call fails if a writer failed in it
 abbrev pub FailsOnce : {A E : Type 0} → Result A E → Failures → Type 0
 FailsOnce (Ok x) f = NoneFailed f
 FailsOnce (Err e) f = OneFailed f
 
--- by a cause: one writer failed where it is a write fault, and else none did
+-- by a cause: one writer failed if it is a write fault, and otherwise none did
 abbrev pub ByCause : Cause → Type 0 → Type 0 → Type 0
 ByCause causes.Write none one = one
 ByCause cause none one = none
 
--- an expansion ends by a write fault where a writer failed in it
+-- an expansion ends by a write fault if a writer failed in it
 abbrev pub FailsBy : Cause → Failures → Type 0
 FailsBy cause f = ByCause cause (NoneFailed f) (OneFailed f)
 
--- the same values, and those of the writer of the frozen text
+-- the same values, and those for the writer of the frozen text
 pub record Three (A : Type 0) : Type 0 where
   pub two : Both A
   pub frozen_old : A
@@ -73,27 +73,27 @@ three of_frozen two frozen_old frozen_new = record {
   frozen_new = of_frozen frozen_new;
 }
 
--- of three writers none failed in the call
+-- none of three writers failed in the call
 abbrev pub NoneOfThree : Three ℕ → Type 0
 NoneOfThree f = NoneFailed f.two × (f.frozen_new ≡ f.frozen_old)
 
--- the writer of the frozen text is as it was
+-- the writer of the frozen text is unchanged
 abbrev pub IsSpared : {A : Type 0} → Three A → Type 0
 IsSpared w = w.frozen_new ≡ w.frozen_old
 
--- of three writers one failed in the call, once; where it is another, that of the frozen text got nothing
+-- one of three writers failed in the call, once; if it is another, the frozen text's writer got nothing
 abbrev pub OneOfThree : Three ℕ → Three (Option (List ℕ)) → Type 0
 OneOfThree f w =
     (OneFailed f.two × IsSpared f × IsSpared w)
     ⊎ (NoneFailed f.two × (f.frozen_new ≡ one_more f.frozen_old))
 
--- only a run that comes to its end, or a write fault, gives the writer of the frozen text anything
+-- the writer of the frozen text gets bytes only if the run reaches its end, or ends by a write fault
 abbrev pub Spares : Cause → Three (Option (List ℕ)) → Type 0
 Spares causes.Done w = Unit {0}
 Spares causes.Write w = Unit {0}
 Spares cause w = IsSpared w
 
--- the expansion broke off, and a beginning of what it puts out was written
+-- the expansion was interrupted, and prefixes of its output and messages were written
 pub record Broken (d : Ended) (w : Contents) : Type 0 where
   pub output : HasBegun w.out_old w.out_new (d.so_far).output
   pub messages : HasBegun w.messages_old w.messages_new (d.so_far).messages

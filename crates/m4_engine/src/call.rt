@@ -18,8 +18,8 @@ use m4_state::definition::Def;
 use std::alloc::{AllocError, Global};
 use std::marker::Model;
 
-/// A call before its list is closed: what it was when its name was read, the arguments that are
-/// complete, and what the next one has so far.
+/// A call whose list is not closed yet: its definition, name and place as they were when the name was read,
+/// the complete arguments, and the part of the next one that was read.
 #[derive(Debug)]
 pub struct OpenCall {
     head: Head,
@@ -43,7 +43,7 @@ impl Model for OpenCall {
     ghost invariant = { λ c. (c.parentheses ≤ length c.bytes.items) × IsCall (call_view c) };
 }
 
-// Written out, so that a caller's proof sees one call and not the drop of each field.
+// Written out so that a caller's proof contains one call, not the drop of each field.
 impl Drop for OpenCall {
     fn drop(self) {
         let OpenCall {
@@ -58,7 +58,7 @@ impl Drop for OpenCall {
 }
 
 impl OpenCall {
-    /// A call of which no argument was read yet.
+    /// Creates a call with no argument read yet.
     pub fn new(alloc: Global, head: Head) -> OpenCall
         ensures { result ≡ call_of head.definition head.name head.place }
     {
@@ -72,28 +72,28 @@ impl OpenCall {
         }
     }
 
-    /// The place of the call's name.
+    /// Returns the place of the call's name.
     pub fn place(&self) -> Result<Place, AllocError>
         ensures { IfOk result (λ p. p ≡ self.now.place) }
     {
         self.head.place()
     }
 
-    /// Whether a parenthesis is open within the argument.
+    /// Returns whether a parenthesis is open in the current argument.
     pub fn is_nested(&self) -> bool
         ensures { result ≡ nat_lt 0 self.now.parentheses }
     {
         self.parentheses > 0
     }
 
-    /// Has a token of the argument, so that white space belongs to it from now on.
+    /// Marks the argument as begun: from now on white space belongs to it.
     pub fn begin(&mut self)
         ensures { self.new ≡ record self.old { begun = true } }
     {
         self.begun = true;
     }
 
-    /// What a byte means here, where it belongs to no other token.
+    /// Returns the role of a byte that belongs to no other token.
     pub fn role(&self, byte: u8) -> Role
         ensures { result ≡ role_of byte self.now }
     {
@@ -106,7 +106,7 @@ impl OpenCall {
         }
     }
 
-    /// Adds text to the argument.
+    /// Appends text to the argument.
     pub fn put(&mut self, text: &[u8]) -> Result<(), AllocError>
         ensures { OnOk result (self.new ≡ record self.old { begun = true; bytes = self.old.bytes ++ text.now }) }
     {
@@ -114,7 +114,7 @@ impl OpenCall {
         self.bytes.extend_from_slice(text)
     }
 
-    /// Adds a definition to the argument.
+    /// Appends a definition to the argument.
     pub fn put_token(&mut self, definition: Def) -> Result<(), AllocError>
         requires { IsDefinition definition }
         ensures { OnOk result (self.new ≡ record self.old { begun = true; tokens = self.old.tokens ++ definition ∷ [] }) }
@@ -124,7 +124,7 @@ impl OpenCall {
         Ok(())
     }
 
-    /// Adds a parenthesis that opens within the argument.
+    /// Appends an opening parenthesis to the argument.
     pub fn put_opening(&mut self) -> Result<(), AllocError>
         ensures { OnOk result (self.new ≡ record self.old {
           parentheses = suc self.old.parentheses;
@@ -138,7 +138,7 @@ impl OpenCall {
         Ok(())
     }
 
-    /// Adds a parenthesis that closes one within the argument.
+    /// Appends a closing parenthesis that matches one in the argument.
     pub fn put_closing(&mut self) -> Result<(), AllocError>
         requires { 0 < self.old.parentheses }
         ensures { OnOk result (self.new ≡ record self.old {
@@ -153,7 +153,7 @@ impl OpenCall {
         Ok(())
     }
 
-    /// Whether definitions stand in the argument that it drops: one alone is the argument.
+    /// Returns whether the argument drops definitions. A single definition without text is the argument itself.
     fn drops(&self) -> bool
         ensures { dropped_if_any self.now.place self.now.bytes self.now.tokens ≡ warning_if_dropped result self.now.place }
     {
@@ -164,7 +164,7 @@ impl OpenCall {
         }
     }
 
-    /// Takes what was collected as an argument, with no copy.
+    /// Returns the collected argument without a copy, and clears it.
     #[tactic(auto, using(crate::proofs::InOrder::argument_valid))]
     fn argument(&mut self) -> Arg
         requires { self.old.parentheses ≡ 0 }
@@ -184,7 +184,7 @@ impl OpenCall {
         Arg::Text(Bytes::from(bytes))
     }
 
-    /// Ends the argument, and answers whether definitions in it were dropped.
+    /// Ends the argument; returns whether definitions in it were dropped.
     #[tactic(auto, using(crate::proofs::Calls::done_valid))]
     pub fn end_argument(&mut self) -> Result<bool, AllocError>
         requires { self.old.parentheses ≡ 0 }
@@ -198,7 +198,7 @@ impl OpenCall {
         Ok(drops)
     }
 
-    /// What a call was when its name was read, and its arguments, once its list is complete.
+    /// Splits a call with a complete list into its head and its arguments.
     pub fn into_parts(self) -> (Head, ArgList)
         ensures definition { result.0.definition ≡ self.definition }
         ensures name { result.0.name ≡ self.name }

@@ -1,7 +1,7 @@
-//! Calls, their arguments and whole runs of the macro processor, and what holds of them.
+//! Calls, their arguments and complete runs of the macro processor, and the laws that are proved of them.
 //!
-//! A [`session`] reads sources one behind the other and ends; the definitions that it follows are in
-//! `specs/`, and what is proved of these alone in [`laws`]. Manual: "Macro invocation", "Macro arguments".
+//! A [`session`] reads sources in order and then ends. It follows the definitions in `specs/`; the laws of
+//! these definitions are in [`laws`]. Manual: "Macro invocation", "Macro arguments".
 #![tactic(auto)]
 
 mod call;

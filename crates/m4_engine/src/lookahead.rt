@@ -1,4 +1,4 @@
-//! What stands at the front, where it was seen when the tokens before it were passed.
+//! The next token, as far as it was recognised when the tokens before it were passed.
 
 ghost use Rattle.std.specs.Prelude.{◌≡◌, ◌&&◌, not, None, Some, IfOk, length};
 ghost use Rattle.m4_state.specs.State.{top_of};
@@ -16,30 +16,30 @@ use m4_state::definition::Def;
 use m4_state::state::State;
 use std::alloc::Global;
 
-/// What a name with a definition stands for.
+/// The meaning of a name that has a definition.
 #[derive(Debug, Drop)]
 pub enum Meaning {
-    /// A call with no list, of a text, which gives this.
+    /// The expansion of a text macro that is called without a list.
     Expansion(Bytes),
-    /// A call that is to be made.
+    /// A call that still has to be made.
     Call(Head),
 }
 
-/// A name of so many bytes that has a definition.
+/// A name that has a definition.
 #[derive(Debug, Drop)]
 pub struct Named {
-    /// How many bytes the name has.
+    /// The name's length in bytes.
     pub len: usize,
     /// Whether an argument list follows it.
     pub listed: bool,
-    /// What it stands for.
+    /// Its meaning.
     pub meaning: Meaning,
 }
 
-/// The token at the front.
+/// The next token.
 #[derive(Debug, Drop)]
 pub enum Lookahead {
-    /// Nothing is known of it.
+    /// Nothing is known about it.
     Unknown,
     /// A byte that belongs to no other token.
     Byte(u8),
@@ -48,8 +48,8 @@ pub enum Lookahead {
 }
 
 impl Meaning {
-    /// What a name with this definition stands for, by its file and its line. Of a text that is called
-    /// with no list (`bare`) it is what the call gives, with no copy of the text.
+    /// Returns the meaning of a name with this definition, read at this file and line. For a text macro that is
+    /// called without a list (`bare`) it is the expansion, made without a copy of the text.
     #[inline(always)]
     pub fn of(
         alloc: Global,
@@ -76,7 +76,7 @@ impl Meaning {
     }
 }
 
-/// The token at the front, of which this was seen; `room` says whether the limits leave a call.
+/// Returns the lookahead for this first token; `room` says whether the limits allow a call.
 #[inline(always)]
 pub fn lookahead_of(
     alloc: Global,

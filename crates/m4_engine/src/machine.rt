@@ -1,6 +1,6 @@
-//! A run's expansion, turn by turn, with its open calls on a stack. Manual: "Macro invocation".
+//! Expands a run's inputs turn by turn, with the open calls on a stack. Manual: "Macro invocation".
 //!
-//! What a turn puts out is held until it is handed on, so that a turn asks no writer.
+//! The output and messages of a turn are buffered until they are flushed, so a turn uses no writer.
 
 ghost use Rattle.std.specs.Prelude.{◌≡◌, suc, [], OnOk, IfOk, IfSome, IfNone};
 ghost use Rattle.m4_state.specs.Definition.{IsDefinition};
@@ -25,7 +25,7 @@ use m4_state::state::State;
 use std::alloc::{AllocError, Global};
 use std::marker::Model;
 
-/// What a run has made so far, and the calls whose lists are open.
+/// The state of a run so far, its buffers, and the calls whose lists are open.
 pub struct Machine {
     alloc: Global,
     most_calls: u64,
@@ -51,7 +51,7 @@ impl Model for Machine {
     ghost invariant = { λ m. m.innermost ≡ None → m.outer.items ≡ [] };
 }
 
-// Written out, so that a caller's proof sees one call and not the drop of each field.
+// Written out so that a caller's proof contains one call, not the drop of each field.
 impl Drop for Machine {
     fn drop(self) {
         let Machine {
@@ -69,7 +69,7 @@ impl Drop for Machine {
     }
 }
 
-/// Texts in one, the last first.
+/// Joins the texts, the last one first.
 fn join_back(alloc: Global, texts: Vec<Bytes>) -> Result<Bytes, AllocError>
     ensures { IfOk result (λ x. x ≡ joined_back texts.items) }
 {
@@ -82,7 +82,7 @@ fn join_back(alloc: Global, texts: Vec<Bytes>) -> Result<Bytes, AllocError>
 }
 
 impl Machine {
-    /// A machine at rest, from a state and the limits.
+    /// Creates an idle machine from a state and the limits.
     pub fn new(alloc: Global, state: State, most_calls: u64, most_nested: u64) -> Machine
         ensures { result ≡ engine_at state most_calls most_nested }
     {
@@ -100,12 +100,12 @@ impl Machine {
         }
     }
 
-    /// The allocator of what the machine holds.
+    /// Returns the allocator of the machine's contents.
     pub fn alloc(&self) -> Global {
         self.alloc
     }
 
-    /// Puts text where it goes: into an argument, or to the output or a diversion.
+    /// Appends text to the innermost argument or, outside of calls, to the output or a diversion.
     pub fn put_text(&mut self, text: &[u8]) -> Result<(), StateFault>
         ensures { OnOk result (self.new ≡ with_text text.now self.old) }
     {
@@ -120,7 +120,7 @@ impl Machine {
         Ok(())
     }
 
-    /// Puts a definition where it goes: into an argument, or nowhere.
+    /// Appends a definition to the innermost argument. Outside of calls it is dropped.
     pub fn put_token(&mut self, definition: Def) -> Result<(), AllocError>
         requires { IsDefinition definition }
         ensures { OnOk result (self.new ≡ with_token definition self.old) }
@@ -131,14 +131,14 @@ impl Machine {
         Ok(())
     }
 
-    /// Adds a message.
+    /// Appends a message.
     pub fn add_message(&mut self, message: &[u8]) -> Result<(), AllocError>
         ensures { OnOk result (self.new ≡ with_engine_message message.now self.old) }
     {
         self.messages.extend_from_slice(message)
     }
 
-    /// Adds the message of an error.
+    /// Appends an error message.
     pub fn add_error(&mut self, place: &Place, text: &[u8]) -> Result<(), TurnFault>
         ensures { OnOk result (self.new ≡ with_engine_message (error place.now text.now) self.old) }
     {
@@ -147,7 +147,7 @@ impl Machine {
         Ok(())
     }
 
-    /// A list begins: its call becomes the innermost.
+    /// Opens a list: its call becomes the innermost.
     pub fn begin(&mut self, call: OpenCall) -> Result<(), AllocError>
         ensures { OnOk result (self.new ≡ with_open_call call self.old) }
     {
@@ -157,7 +157,7 @@ impl Machine {
         Ok(())
     }
 
-    /// The innermost list is closed: its call is taken out.
+    /// Closes the innermost list: removes its call and returns it.
     pub fn close(&mut self) -> Option<OpenCall>
         ensures some { IfSome result (λ c. self.old ≡ with_open_call c self.new) }
         ensures none { IfNone result ((self.old.open_calls ≡ []) × (self.new ≡ self.old)) }
@@ -166,7 +166,7 @@ impl Machine {
         std::mem::replace(&mut self.innermost, around)
     }
 
-    /// Saves a text to be read at the end.
+    /// Saves a text that is to be read at the end.
     pub fn save(&mut self, text: Bytes) -> Result<(), AllocError>
         ensures { OnOk result (self.new ≡ saving text self.old) }
     {
@@ -174,14 +174,14 @@ impl Machine {
         Ok(())
     }
 
-    /// Whether a text is saved to be read at the end.
+    /// Returns whether a text is saved for the end.
     pub fn has_saved(&self) -> bool
         ensures { result ≡ is_saved self.now.saved }
     {
         !self.saved.is_empty()
     }
 
-    /// Takes all saved texts, joined, the last first.
+    /// Removes all saved texts and returns them joined, the last one first.
     pub fn take_saved(&mut self) -> Result<Bytes, AllocError>
         ensures text { IfOk result (λ x. x ≡ joined_back self.old.saved) }
         ensures taken { self.new ≡ record self.old { saved = [] } }

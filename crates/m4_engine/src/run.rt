@@ -1,4 +1,4 @@
-//! A whole run: what it starts from, its sources, one after the other, and then its end.
+//! A complete run: its start, its sources in order, and its end.
 //! Manual: "Invoking m4", "Command line files", "Fast loading of frozen state".
 
 ghost use Rattle.std.specs.Prelude.{◌≡◌, ◌||◌, Bool, true, false, [], List, Option, Err, OnOk};
@@ -24,14 +24,13 @@ use crate::stop::Stop;
 use m4_state::device::{ByteSink, ByteSource};
 use std::alloc::Global;
 
-/// Runs over the sources, one after the other, from the frozen file, where there is one, or else from
-/// the fresh state. At the end it issues the diversions, or, where the options ask for it, freezes its
-/// state: what is written, and how the run ends, is what the definition of a run says.
+/// Runs over the sources in order, from the frozen file if there is one, otherwise from the fresh state. At
+/// the end it undiverts all diversions or, if the options ask for it, freezes its state. The bytes that it
+/// writes and the ending are those of the definition of a run.
 ///
-/// The ending's cause tells why the run ended. Behind a reader, a writer or memory that failed a
-/// beginning of what the run writes was written, and the status is 1. Where a frozen file is refused
-/// nothing is read or written. `freeze_to` is asked only where the options freeze and all sources were
-/// read.
+/// The cause reports why the run ended. If a reader, a writer or an allocation fails, the status is 1, and the
+/// bytes written are prefixes of the defined ones. If a frozen file is refused, no source is read and nothing
+/// is written. `freeze_to` is used only if the options freeze and all sources were read.
 pub fn run<R: ByteSource, O: ByteSink, M: ByteSink, Z: ByteSink>(
     alloc: Global,
     options: Options,
@@ -41,7 +40,7 @@ pub fn run<R: ByteSource, O: ByteSink, M: ByteSink, Z: ByteSink>(
     messages: &mut M,
     freeze_to: &mut Z,
 ) -> Ending
-    // whole run: what is written and answered is what the definition of a run says
+    // whole run: the bytes written and the ending are those of the definition of a run
     ensures gives { (file : Option Script) → TellsFrozen R.script frozen.old file
         → (ss : List Said) → DescribeSources R.script sources.old sources.new ss →
         RunGives (defined options file ss) result
@@ -49,25 +48,25 @@ pub fn run<R: ByteSource, O: ByteSink, M: ByteSink, Z: ByteSink>(
     // whole run: the status of its cause, which is 1 after a source that wasn't opened
     ensures status { (any_missing : Bool) × (result.status ≡ status_of (Ends result.cause) any_missing)
         × (result.cause ≡ Cause.Done → any_missing ≡ any_unopened sources.old) }
-    // whole run: a state that is frozen is sized
+    // whole run: a frozen state is sized
     ensures sized { (file : Option Script) → TellsFrozen R.script frozen.old file
         → (ss : List Said) → DescribeSources R.script sources.old sources.new ss →
         result.cause ≡ Cause.Done → options.freeze ≡ true → IsSized (frozen_state options (start_of options.prefix file) ss) }
-    // safe and total: a read fault comes where a reader failed in this call, and only there
+    // safe and total: a read fault is reported if a reader failed in this call, and only then
     ensures read { ReadersFailBy R.failures result.cause sources.old sources.new }
-    // safe and total: that of a frozen file comes only where its reader failed in this call
+    // safe and total: a read fault of a frozen file is reported only if its reader failed in this call
     ensures frozen_read { FrozenFailsBy R.failures result.cause frozen.old frozen.new }
-    // safe and total: a write fault comes only where a writer failed in this call
+    // safe and total: a write fault is reported only if a writer failed in this call
     ensures write { ByCause result.cause
         (NoneOfThree (three Z.failures (both O.failures M.failures out.old out.new messages.old messages.new) freeze_to.old freeze_to.new))
         (OneOfThree (three Z.failures (both O.failures M.failures out.old out.new messages.old messages.new) freeze_to.old freeze_to.new)
         (three Z.contents (both O.contents M.contents out.old out.new messages.old messages.new) freeze_to.old freeze_to.new)) }
-    // whole run: each reader gave a beginning of what it tells
+    // whole run: each reader delivered a prefix of its known bytes
     ensures taken { AllConsumeOnly R.script sources.old sources.new }
-    // faults leave beginnings: where a frozen file is refused, nothing is read or written
+    // faults leave beginnings: if a frozen file is refused, no source is read and nothing is written
     ensures refused { (fault : FrozenFault) → result.cause ≡ Cause.Frozen fault → NothingIsDone sources.old sources.new
         (three Z.contents (both O.contents M.contents out.old out.new messages.old messages.new) freeze_to.old freeze_to.new) }
-    // whole run: only a run that freezes, and came to its end, asks the writer of the frozen text
+    // whole run: only a run that freezes, and reached its end, uses the writer of the frozen text
     ensures spared { options.freeze ≡ false → freeze_to.new ≡ freeze_to.old }
     ensures spared_by { Spares result.cause
         (three Z.contents (both O.contents M.contents out.old out.new messages.old messages.new) freeze_to.old freeze_to.new) }
@@ -87,7 +86,7 @@ pub fn run<R: ByteSource, O: ByteSink, M: ByteSink, Z: ByteSink>(
     ending(session.status(), answer)
 }
 
-/// Begins a run: from the frozen file, where there is one, or else from the fresh state.
+/// Begins a run: from the frozen file if there is one, otherwise from the fresh state.
 fn begin<R: ByteSource, O: ByteSink>(
     alloc: Global,
     options: Options,
@@ -107,7 +106,7 @@ fn begin<R: ByteSource, O: ByteSink>(
     }
 }
 
-/// The ending of a run, by its status and the last answer.
+/// Returns the ending of a run, from its status and its last result.
 fn ending(status: u8, answer: Result<bool, Stop>) -> Ending
     ensures { result ≡ ending_by status answer }
 {
@@ -123,8 +122,8 @@ fn ending(status: u8, answer: Result<bool, Stop>) -> Ending
     }
 }
 
-/// Reads the sources and brings the run to its end. Answers whether text stood saved behind the last
-/// source.
+/// Reads the sources and finishes the run. Returns whether text was saved for the end when the last source
+/// ended.
 fn read_to_end<R: ByteSource, O: ByteSink, M: ByteSink, Z: ByteSink>(
     session: &mut Session,
     freezes: bool,
@@ -158,7 +157,7 @@ fn read_to_end<R: ByteSource, O: ByteSink, M: ByteSink, Z: ByteSink>(
     Ok(wrapped)
 }
 
-/// Brings the run to its end: freezes its state, or issues the diversions.
+/// Finishes the run: freezes its state, or undiverts all diversions.
 fn close<O: ByteSink, M: ByteSink, Z: ByteSink>(
     session: &mut Session,
     freezes: bool,
@@ -182,7 +181,7 @@ fn close<O: ByteSink, M: ByteSink, Z: ByteSink>(
     }
 }
 
-/// Reads a source in its turn.
+/// Reads a source, or reports it if it could not be opened.
 fn read<R: ByteSource, O: ByteSink, M: ByteSink>(
     session: &mut Session,
     source: &mut Source<R>,
@@ -212,9 +211,9 @@ fn read<R: ByteSource, O: ByteSink, M: ByteSink>(
     }
 }
 
-/// Reads the sources, one behind the other, until the run ends: what they put out, taken together, is
-/// what the definition of the sources says. `Ended` by the cause that ends the run; behind a device or
-/// memory that failed a beginning of it was written.
+/// Reads the sources in order until the run ends. Their output and messages, taken together, are those of the
+/// definition of the sources. Returns `Ended` with the cause that ends the run; if a device or an allocation
+/// failed, prefixes of them were written.
 fn read_sources<R: ByteSource, O: ByteSink, M: ByteSink>(
     session: &mut Session,
     sources: &mut [Source<R>],

@@ -1,4 +1,4 @@
-//! A run, call by call: sources one behind the other, and then its end.
+//! A run, call by call: its sources in order, and then its end.
 //! Manual: "Command line files", "Invoking m4".
 
 ghost use Rattle.std.specs.Prelude.{◌≡◌, true, false, Some, [], IfOk, IfErr, OnOk};
@@ -41,7 +41,7 @@ impl Model for Session {
     ghost invariant = { λ s. IsIdle s.machine };
 }
 
-// Written out, so that a caller's proof sees one call and not the drop of each field.
+// Written out so that a caller's proof contains one call, not the drop of each field.
 impl Drop for Session {
     fn drop(self) {
         let Session {
@@ -54,8 +54,8 @@ impl Drop for Session {
 }
 
 impl Session {
-    /// A run that starts from the fresh state, in which the builtins have the prefix that the options ask
-    /// for. `Ended(OutOfMemory)` where memory runs out.
+    /// Starts a run from the fresh state; the options choose the name prefix of the builtins. Returns
+    /// `Ended(OutOfMemory)` if an allocation fails.
     pub fn fresh(alloc: Global, options: Options) -> Result<Session, Stop>
         // session steps: the fresh state, with nothing read
         ensures fresh { IfOk result (λ s. s ≡ fresh_session options) }
@@ -67,9 +67,9 @@ impl Session {
         Ok(Session::starting(alloc, options, state))
     }
 
-    /// A run that starts from a frozen file: its state, with the text that it issues written. It is read to
-    /// its end before anything is written. `Ended(Frozen)` where the file is refused, its reader fails or
-    /// memory runs out, and then nothing was written; `Ended(Write)` after a beginning of the issued text.
+    /// Starts a run from a frozen file: loads its state and writes its issued text. The file is read to its end
+    /// before anything is written. Returns `Ended(Frozen)` if the file is refused, its reader fails or an allocation
+    /// fails; then nothing was written. Returns `Ended(Write)` after a prefix of the issued text.
     /// The options' prefix has no effect. Manual: "Fast loading of frozen state".
     pub fn reload<R: ByteSource, O: ByteSink>(
         alloc: Global,
@@ -77,11 +77,11 @@ impl Session {
         frozen: &mut R,
         out: &mut O,
     ) -> Result<Session, Stop>
-        // session steps: the start that the frozen file gives, with its issued text written
+        // session steps: the start that the frozen file defines, with its issued text written
         ensures gives { ReloadGives options (R.script frozen.old) (O.contents out.old) (O.contents out.new) result }
-        // safe and total: a read fault comes only where the reader failed in this call
+        // safe and total: a read fault is returned only if the reader failed in this call
         ensures read { ReloadFails result (R.failures frozen.old) (R.failures frozen.new) }
-        // safe and total: a write fault comes only where the writer failed in this call
+        // safe and total: a write fault is returned only if the writer failed in this call
         ensures write { MessageWriteFails result (O.failures out.old) (O.failures out.new) }
     {
         let loaded = match read_frozen(alloc, frozen) {
@@ -95,7 +95,7 @@ impl Session {
         Ok(Session::starting(alloc, options, state))
     }
 
-    /// A run that starts from this state.
+    /// Creates a session that starts from this state.
     fn starting(alloc: Global, options: Options, state: State) -> Session
         ensures { result ≡ standing_from options state }
     {
@@ -107,7 +107,7 @@ impl Session {
         }
     }
 
-    /// Whether a call still does something.
+    /// Returns whether calls still have an effect.
     fn is_open(&self) -> bool
         ensures yes { result ≡ true → IsOpen self.now }
         ensures no { result ≡ false → IsOpen self.now → ⊥ }
@@ -115,7 +115,7 @@ impl Session {
         self.over.is_none() && !self.finished
     }
 
-    /// The run ends by this cause.
+    /// Ends the run by this cause.
     pub(crate) fn end(&mut self, cause: Cause) -> Stop
         ensures answer { result ≡ Stop.Ended cause }
         ensures over { self.new ≡ record self.old { over = Some cause } }
@@ -124,15 +124,15 @@ impl Session {
         Stop::Ended(cause)
     }
 
-    /// The run came to its end.
+    /// Marks the run as finished.
     fn finish_here(&mut self)
         ensures { self.new ≡ record self.old { finished = true } }
     {
         self.finished = true;
     }
 
-    /// Reads a file to its end. `Ended(Read)` where the reader fails, and then nothing of the file was
-    /// processed; `Ended(Write)` and `Ended(OutOfMemory)` behind a beginning of what it puts out.
+    /// Reads a file to its end and expands it. Returns `Ended(Read)` if the reader fails; then nothing of the file
+    /// was expanded. `Ended(Write)` and `Ended(OutOfMemory)` follow prefixes of its output and messages.
     pub fn file<R: ByteSource, O: ByteSink, M: ByteSink>(
         &mut self,
         name: Bytes,
@@ -140,13 +140,13 @@ impl Session {
         out: &mut O,
         messages: &mut M,
     ) -> Result<(), Stop>
-        // session steps: the definition of a file, with what it puts out written
+        // session steps: the definition of a file, with its output and messages written
         ensures gives { FileGives name (R.script reader.old) (R.script reader.new) self.old self.new
             (both O.contents M.contents out.old out.new messages.old messages.new)
             result }
-        // safe and total: a read fault comes where the reader failed in this call, and only there
+        // safe and total: a read fault is returned if the reader failed in this call, and only then
         ensures read { ReadFails result (R.failures reader.old) (R.failures reader.new) }
-        // safe and total: a write fault comes only where a writer failed in this call
+        // safe and total: a write fault is returned only if a writer failed in this call
         ensures write { WriteFails result (both O.failures M.failures out.old out.new messages.old messages.new) }
         ensures any_missing { self.new.any_missing ≡ self.old.any_missing }
     {
@@ -164,7 +164,7 @@ impl Session {
         self.settle(cause)
     }
 
-    /// The answer behind an input: only its end lets the run go on.
+    /// Returns the result after an input: the run continues only if the end of the input was reached.
     fn settle(&mut self, cause: Cause) -> Result<(), Stop>
         ensures answer { result ≡ answer_by cause }
         ensures over { self.new ≡ record self.old { over = over_after cause self.old.over } }
@@ -175,8 +175,8 @@ impl Session {
         Err(self.end(cause))
     }
 
-    /// The status: of the cause that ended the run, or of its end while there is none; 1 where a source
-    /// was not opened.
+    /// Returns the exit status for the cause that ended the run or, without one, for a run that read everything.
+    /// After a source that was not opened, 0 becomes 1.
     pub fn status(&self) -> u8
         // session steps: the status so far
         ensures { result ≡ status_at self.now }
@@ -184,12 +184,12 @@ impl Session {
         self.over.unwrap_or(Cause::Done).status(self.any_missing)
     }
 
-    /// Tells of a source that could not be opened; the status will not be 0. `Ended(Write)` behind a
-    /// beginning of what is told.
+    /// Reports a source that could not be opened; the status will not be 0. Returns `Ended(Write)` after a prefix
+    /// of the message.
     pub fn missing<M: ByteSink>(&mut self, name: &[u8], messages: &mut M) -> Result<(), Stop>
         // session steps: the unopened source, with its message written
         ensures gives { MissingGives name.now self.old self.new (M.contents messages.old) (M.contents messages.new) result }
-        // safe and total: a write fault comes only where a writer failed in this call
+        // safe and total: a write fault is returned only if a writer failed in this call
         ensures write { MessageWriteFails result (M.failures messages.old) (M.failures messages.new) }
         ensures any_missing { OnOk result (self.new.any_missing ≡ true) }
     {
@@ -203,7 +203,7 @@ impl Session {
         Ok(())
     }
 
-    /// One round over the saved texts: all are taken, and read as one input that belongs to no file.
+    /// Makes one round: removes all saved texts, and reads them as one input that belongs to no file.
     fn read_round<O: ByteSink, M: ByteSink>(
         &mut self,
         out: &mut O,
@@ -245,10 +245,9 @@ impl Session {
         Ok(())
     }
 
-    /// Brings the run to its end: the saved texts are read, and then the diversions that are left are
-    /// issued, by rising number. `Ended` by the cause that ends the run within the saved texts, after
-    /// which nothing is issued; `Ended(Write)` after a beginning of what is written. Manual: "Saving text
-    /// until end of input".
+    /// Finishes the run: reads the saved texts, and then undiverts the remaining diversions by rising number.
+    /// Returns `Ended` with the cause that ends the run in the saved texts; then nothing is undiverted. Returns
+    /// `Ended(Write)` after prefixes of its output and messages. Manual: "Saving text until end of input".
     pub fn finish<O: ByteSink, M: ByteSink>(
         &mut self,
         out: &mut O,
@@ -258,7 +257,7 @@ impl Session {
         ensures gives { FinishGives self.old self.new
             (both O.contents M.contents out.old out.new messages.old messages.new)
             result }
-        // safe and total: a write fault comes only where a writer failed in this call
+        // safe and total: a write fault is returned only if a writer failed in this call
         ensures write { WriteFails result (both O.failures M.failures out.old out.new messages.old messages.new) }
     {
         if !self.is_open() {
@@ -272,9 +271,9 @@ impl Session {
         Ok(())
     }
 
-    /// Brings the run to its end and freezes it: the saved texts are read, and then the canonical text of
-    /// its state is written to `freeze_to`, in place of issuing the diversions. `Ended` by the cause that
-    /// ends the run within the saved texts, after which nothing is frozen; `Ended(Write)` after a beginning of the frozen text; `Ended(OutOfMemory)` before its first byte.
+    /// Finishes the run and freezes it: reads the saved texts, and then writes the canonical text of its state to
+    /// `freeze_to`; nothing is undiverted. Returns `Ended` with the cause that ends the run in the saved texts; then
+    /// nothing is frozen. `Ended(Write)` follows a prefix of the frozen text, `Ended(OutOfMemory)` none of it.
     /// Manual: "Fast loading of frozen state".
     pub fn freeze<O: ByteSink, M: ByteSink, Z: ByteSink>(
         &mut self,
@@ -286,7 +285,7 @@ impl Session {
         ensures gives { FreezeGives self.old self.new
             (three Z.contents (both O.contents M.contents out.old out.new messages.old messages.new) freeze_to.old freeze_to.new)
             result }
-        // safe and total: a write fault comes only where a writer failed in this call
+        // safe and total: a write fault is returned only if a writer failed in this call
         ensures write { ByAnswer result
             (NoneOfThree (three Z.failures (both O.failures M.failures out.old out.new messages.old messages.new) freeze_to.old freeze_to.new))
             (OneOfThree (three Z.failures (both O.failures M.failures out.old out.new messages.old messages.new) freeze_to.old freeze_to.new)
@@ -305,9 +304,9 @@ impl Session {
         Ok(())
     }
 
-    /// Whether a text stands saved to be read at the end.
+    /// Returns whether a text is saved for the end.
     pub fn wrapped(&self) -> bool
-        // session steps: whether one stands saved
+        // session steps: whether a text is saved
         ensures { result ≡ is_saved self.now.saved }
     {
         self.machine.has_saved()

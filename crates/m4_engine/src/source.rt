@@ -1,4 +1,4 @@
-//! What a run reads. Manual: "Command line files".
+//! The sources that a run reads. Manual: "Command line files".
 
 use m4_state::bytes::Bytes;
 

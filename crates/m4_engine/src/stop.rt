@@ -1,21 +1,21 @@
-//! Why a call of a session stops.
+//! Why a call of a session returns no success.
 
 ghost use Rattle.std.specs.Prelude.{◌≡◌};
 ghost use Rattle.m4_engine.specs.Session.{status_after};
 
 use crate::ending::Cause;
 
-/// The answer of a session's call that does not let the run go on.
+/// The error of a session's call after which the run does not continue.
 #[derive(Clone, Copy, Debug, PartialEq, Eq)]
 pub enum Stop {
     /// The run ended in this call, by this cause.
     Ended(Cause),
-    /// The run had ended before, or was brought to its end: nothing is done.
+    /// The run had ended before, or was finished: the call did nothing.
     Finished,
 }
 
 impl Stop {
-    /// The status of a run that did not begin.
+    /// Returns the status of a run that did not begin.
     pub(crate) fn status(self) -> u8
         ensures { result ≡ status_after self }
     {

@@ -1,4 +1,4 @@
-//! What a turn comes to.
+//! The outcome of one turn.
 
 ghost use Rattle.m4_input.specs.Input.{IsLasting};
 
@@ -8,19 +8,19 @@ use m4_input::fault::InputFault;
 use m4_state::fault::StateFault;
 use std::alloc::AllocError;
 
-/// How a turn ends that was made.
+/// The outcome of a turn that was completed.
 #[derive(Clone, Copy, Debug, PartialEq, Eq)]
 pub enum Turned {
-    /// The expansion goes on.
+    /// The expansion continues.
     GoesOn,
     /// The expansion ends by this cause.
     Ends(Cause),
 }
 
-/// Why a turn was not made. The run is over, and its state isn't used again.
+/// Why a turn was not completed. The run is over, and its state is not used again.
 #[derive(Clone, Copy, Debug, PartialEq, Eq)]
 pub enum TurnFault {
-    /// A growth was refused.
+    /// An allocation failed.
     OutOfMemory,
 }
 
@@ -43,8 +43,8 @@ impl From<BuiltinFault> for TurnFault {
 }
 
 impl TurnFault {
-    /// The fault of a turn by one of the input that lasts. An input that was read whole asks no reader,
-    /// so that nothing but memory can fail in it.
+    /// Returns the turn's fault for a lasting fault of the input. An input that was read to its end uses no
+    /// reader, so only an allocation can fail in it.
     pub fn of(fault: InputFault) -> TurnFault
         requires { IsLasting fault }
     {

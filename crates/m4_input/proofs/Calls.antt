@@ -1,4 +1,4 @@
--- Calls: a call that takes what stands in front asks no reader.
+-- Calls: a call that consumes a definition asks no reader.
 use Rattle.std.proofs.Common.{◌≡◌, ℕ, List, [], Option, Some, None, Ok, refl, sym, ap, ◌∙◌}
 use Rattle.std.proofs.lemmas.List.{append-nil}
 use Rattle.m4_state.specs.Device.{Script, after_bytes}

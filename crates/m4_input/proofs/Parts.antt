@@ -90,7 +90,7 @@ pushed_after t p n h e =
     ∙ ap (λ m. let u : HeldText = record { pushed = drop n t.pushed; unread = t.unread; newlines = m } in u) (sym (add-zero t.newlines))
     ∙ ap (λ m. let u : HeldText = record { pushed = drop n t.pushed; unread = drop m t.unread; newlines = t.newlines + newlines_in (take m t.unread) } in u) none
 
--- a list that is as long as what it stands in place of
+-- a list that is as long as the part that it replaces
 pub refilled : (n : ℕ) (x y : List ℕ) → length x ≡ n → take n (x ++ y) ≡ x
 refilled n x y h =
     let none : n - length x ≡ 0 = omega arith in

@@ -7,11 +7,11 @@ use Rattle.m4_input.specs.Pending.{newlines_in}
 use Rattle.m4_input.specs.Text.{HeldText, text_after}
 use Rattle.m4_input.proofs.Parts.{drop_parts, take_parts, take_long, pushed_after}
 
--- the pushed bytes and those behind them
+-- the pushed bytes and those after them
 pub piece_text : (at n : ℕ) (b : List ℕ) → drop at b ≡ take n (drop at b) ++ drop (at + n) b
 piece_text at n b = sym (take-append-drop n (drop at b)) ∙ ap (λ (x : List ℕ). take n (drop at b) ++ x) (drop-drop n at b)
 
--- the bytes behind a place are gone
+-- the bytes after a place are gone
 taken_twice : (n : ℕ) (b : List ℕ) → take n (take n b) ≡ take n b
 taken_twice zero b = refl
 taken_twice (suc n) [] = refl
@@ -108,7 +108,7 @@ file_taken b of_file at a n newlines count h k e c =
     ∙ ap (λ (x : List ℕ). let t : HeldText = record { pushed = x; unread = drop (n - length pu) (drop (at + a) b); newlines = newlines + count } in t) none
     ∙ ap (λ i. let t : HeldText = record { pushed = drop n pu; unread = drop (n - length pu) (drop (at + a) b); newlines = newlines + i } in t) (c ∙ ap newlines_in f)
 
--- text that stands apart in front is taken away, and then some of the piece
+-- text that is stored separately at the start is consumed, and then some of the piece
 pub apart_taken : (x : List ℕ) (t : HeldText) (n : ℕ) → length x ≤ n → text_after (n - length x) t ≡ text_after n (record t { pushed = x ++ t.pushed })
 apart_taken x t n h =
     let l : length (x ++ t.pushed) ≡ length x + length t.pushed = length-append x t.pushed in

@@ -10,7 +10,7 @@ use Rattle.m4_input.specs.declared.front.Mark.TheVariants.{EndQuote, BeginQuote,
 use Rattle.m4_input.specs.Pending.{one_more}
 use Rattle.m4_input.specs.Token.{begins, before, level, mark_at, mark_by}
 
--- the byte at a place, and what stands behind it
+-- the byte at a place, and the bytes after it
 pub got : (x : List ℕ) (k b : ℕ) → slice_get x k ≡ Some b → drop k x ≡ b ∷ drop (suc k) x
 got [] zero b e = cc
 got [] (suc k) b e = cc
@@ -42,7 +42,7 @@ before_step e x b h = rw (h, before) refl
 pub before_none : (e : List ℕ) → before e [] ≡ None
 before_none e = refl
 
--- a delimiter that isn't over stands in no text that is
+-- a delimiter with bytes left does not begin a text with none left
 pub begins_short : (d x : List ℕ) (i k : ℕ) → i < length d → drop k x ≡ [] → begins (drop i d) (drop k x) ≡ false
 begins_short d x i k h e = rw (drop-cons d i 0, e) refl
 
@@ -109,7 +109,7 @@ mark_up false true w e = cc
 mark_up false false true e = refl
 mark_up false false false e = cc
 
--- where a scan of a string stands
+-- the state of a scan of a string
 pub record Stands (q : Delimiters) (p : Bool) (x : List ℕ) (at : ℕ) (r : Option ℕ) (n k : ℕ) : Type 0 where
   pub after : at ≤ k
   pub within : k ≤ length x

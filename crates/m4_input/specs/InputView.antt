@@ -1,5 +1,5 @@
--- InputView: what the fields of an input stand for, and what the parts of its calls do.
--- Not believed: it only bridges the code and specs/Input.antt.
+-- InputView: the meaning of an input's fields, and the effects of the parts of its calls.
+-- Not believed: it only connects the code with specs/Input.antt.
 -- Words: view_of, IsUnread, IsHeld, unread_again, Fills, fault_of, Takes.
 use Rattle.std.specs.Prelude.{◌≡◌, ℕ, true, false, List, [], Option, Some, None, Result, Ok, Err, IfSome}
 use Rattle.m4_state.specs.Device.{Script}
@@ -14,7 +14,7 @@ use Rattle.m4_input.specs.Pending.{Pending}
 use Rattle.m4_input.specs.Input.{Held, Reads, IsLasting, Stopped, all_read}
 use Rattle.m4_input.specs.Token.{Taken, Refused, token_at}
 
--- the fields, with the text's parts
+-- the fields, with the parts of the text
 abbrev pub view_of : Inside → Held
 view_of i = record {
   pending = record {
@@ -28,16 +28,16 @@ view_of i = record {
   fault = i.fault;
 }
 
--- before the reader is read, no byte of the file is there
+-- before the reader is read, there is no byte of the file
 abbrev pub IsUnread : Pending → Type 0
 IsUnread p = (p.unread ≡ []) × (p.newlines ≡ 0)
 
--- what is true of each input
+-- the invariant of each input
 abbrev pub IsHeld : Held → Type 0
 IsHeld h =
     ((h.pending).may_follow ≡ true → IsUnread h.pending) × IfSome h.fault IsLasting
 
--- back to where no byte of the file was there
+-- back to the state in which no byte of the file was read
 abbrev pub unread_again : Held → Held
 unread_again h = record h { pending = record h.pending { unread = []; may_follow = true; newlines = 0 } }
 
@@ -50,12 +50,12 @@ Fills before after old new (Ok done) =
 Fills before after old new (Err fault) =
     (x : List ℕ) × Stopped fault before after old new x
 
--- the fault of what has no end
+-- the fault of a token without an end
 abbrev pub fault_of : Unended → ℕ → InputFault
 fault_of InString line = faults.EndInString line
 fault_of InComment line = faults.EndInComment line
 
--- the token at the front is taken, where all bytes are there
+-- the first token is consumed; the input was read to its end
 abbrev pub Takes : Delimiters → Delimiters → Held → Held → Result Token InputFault → Type 0
 Takes q c old new (Ok t) = (token_at q c old.pending ≡ Taken t new.pending) × (new.fault ≡ None)
 Takes q c old new (Err (faults.EndInString line)) =

@@ -1,5 +1,5 @@
--- PieceView: what the fields of a piece stand for.
--- Not believed: it only bridges the code and specs/Text.antt. Words: piece_view.
+-- PieceView: the meaning of a piece's fields.
+-- Not believed: it only connects the code with specs/Text.antt. Words: piece_view.
 use Rattle.std.specs.Prelude.{◌+◌, take, drop}
 use Rattle.m4_input.specs.declared.piece.Piece.TheInside.{Inside}
 use Rattle.m4_input.specs.Text.{HeldText}

@@ -1,5 +1,5 @@
--- Plain: tokens at the front of a text that stand for themselves.
--- Not believed: it only says which turns a run may take at once, by the tokens of `scan`.
+-- Plain: tokens at the start of a text that expand to themselves.
+-- Not believed: it only says which turns a run may make at once, by the tokens of `scan`.
 -- Words: IsPlain, total, ArePlain, IsPlainRun, is_inner, IsInner, IsFirst, FirstLies.
 use Rattle.std.specs.Prelude.{◌≡◌, ◌==◌, ◌||◌, ◌<◌, ◌≤◌, ℕ, ◌+◌, Bool, true, false, not, List, [], ◌∷◌, Some, None, take, drop, ◌⊎◌}
 use Rattle.m4_state.specs.State.{State, top_of}
@@ -12,38 +12,38 @@ use Rattle.m4_input.specs.Input.{answer_of}
 use Rattle.m4_input.specs.declared.plain.First.{First}
 use Rattle.m4_input.specs.declared.plain.First.TheVariants as firsts
 
--- the first token, of n bytes, is a name that has no definition, or a byte that is no other token
+-- the first token, of n bytes, is a name without a definition, or a byte that is no other token
 abbrev pub IsPlain : State → ℕ → List ℕ → Type 0
 IsPlain s n x =
     ((scan s.quotes s.comments false x ≡ Found (Name (take n x)) n) × (top_of s (take n x) ≡ None))
     ⊎ ((b : ℕ) × (scan s.quotes s.comments false x ≡ Found (Byte b) n) × (take n x ≡ b ∷ []))
 
--- the bytes of tokens of these lengths
+-- the number of bytes of tokens with these lengths
 abbrev pub total : List ℕ → ℕ
 total [] = 0
 total (n ∷ ns) = n + total ns
 
--- the first tokens, of these lengths, are such
+-- the first tokens, of these lengths, are plain
 abbrev pub ArePlain : State → List ℕ → List ℕ → Type 0
 ArePlain s [] x = Unit {0}
 ArePlain s (n ∷ ns) x = IsPlain s n x × ArePlain s ns (drop n x)
 
--- the first n bytes are such tokens
+-- the first n bytes are plain tokens
 abbrev pub IsPlainRun : State → ℕ → List ℕ → Type 0
 IsPlainRun s n x = (lens : List ℕ) × ArePlain s lens x × (total lens ≡ n)
 
--- a byte that means nothing in an argument list
+-- a byte that has no special meaning in an argument list
 abbrev pub is_inner : ℕ → Bool
 is_inner b = not ((b == open_parenthesis) || ((b == close_parenthesis) || ((b == comma) || is_space b)))
 
--- the first token, of n bytes, is text x wherever it stands in a list
+-- the first token, of n bytes, is text x everywhere in a list
 abbrev pub IsInner : State → ℕ → List ℕ → List ℕ → Type 0
 IsInner s n x y =
     (scan s.quotes s.comments false y ≡ Found (Str x) n)
     ⊎ (((scan s.quotes s.comments false y ≡ Found (Name x) n) × (top_of s x ≡ None))
     ⊎ ((b : ℕ) × (scan s.quotes s.comments false y ≡ Found (Byte b) n) × (x ≡ b ∷ []) × (is_inner b ≡ true)))
 
--- what one look tells of the first token
+-- the result of one look at the first token
 abbrev pub IsFirst : State → List ℕ → First → Type 0
 IsFirst s x (firsts.Word n) = (scan s.quotes s.comments false x ≡ Found (Name (take n x)) n) × (top_of s (take n x) ≡ None)
 IsFirst s x (firsts.Byte b) = (scan s.quotes s.comments false x ≡ Found (Byte b) 1) × (take 1 x ≡ b ∷ [])
@@ -53,7 +53,7 @@ IsFirst s x (firsts.Called n listed d) =
     × (paren_in s.quotes s.comments false (drop n x) ≡ answer_of listed)
 IsFirst s x firsts.Other = Unit {0}
 
--- it lies within a text of so many bytes
+-- the first token is inside a text of m bytes
 abbrev pub FirstLies : ℕ → First → Type 0
 FirstLies m (firsts.Word n) = (0 < n) × (n ≤ m)
 FirstLies m (firsts.Byte b) = 0 < m

@@ -1,4 +1,4 @@
-//! What follows at the front, where all bytes are there: an argument list, or the rest of a line.
+//! Tests on a text that was read completely: does an argument list follow, and how long is the line?
 //! Manual: "Macro invocation", "Deleting whitespace in input".
 
 ghost use Rattle.std.specs.Prelude.{◌≡◌, ◌≤◌, false, length, unwrap_or};
@@ -11,7 +11,7 @@ use crate::delims::Delims;
 use crate::window::Window;
 
 impl<'a> Window<'a> {
-    /// Whether the next token is a parenthesis that opens.
+    /// Returns whether the next token is an opening parenthesis.
     pub fn sees_paren(&self, delims: &Delims<'_>) -> bool
         ensures { paren_in (pair_of delims.now.quotes) (pair_of delims.now.comments) false self.now
             ≡ answer_of result }
@@ -19,7 +19,7 @@ impl<'a> Window<'a> {
         self.byte(0) == Some(b'(') && !self.opens(&delims.comments) && !self.opens(&delims.quotes)
     }
 
-    /// How many bytes the rest of the line has, with its newline; all where no newline is left.
+    /// Counts the bytes of the rest of the line, with its newline; all bytes if no newline is left.
     pub fn line_len(&self) -> usize
         ensures value { result ≡ unwrap_or (line_length self.now) (length self.now) }
         ensures within { result ≤ length self.now }

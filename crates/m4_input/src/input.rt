@@ -1,8 +1,8 @@
-//! What a run still has to read: a definition in front, pushed text, and the rest of one file.
+//! The input that a run has not read yet: at most one definition, then pushed text, then the rest of one file.
 //!
-//! A reader is read whole at the first call that needs a byte of it, and not asked again. A call
-//! that fails for want of a byte or of memory leaves what is pending as it was, and its fault is
-//! answered from then on.
+//! The first call that needs a byte of the file reads it to its end; no later call uses the reader. If the
+//! reader or an allocation fails, the pending input stays as it was, and every later call that can fail returns
+//! the same fault. `push_front` is the exception: if it runs out of memory, it may be called again.
 //!
 //! Contracts see `Held` (`specs/Input.antt`). Manual: "How m4 copies input to output".
 
@@ -24,7 +24,7 @@ use m4_state::transfer::read_all;
 use std::alloc::{AllocError, Global};
 use std::marker::Model;
 
-/// A file or wrapped text that is being read, with what calls have put in front of it.
+/// A file or wrapped text that is being read, with the values that calls pushed before it.
 pub struct Input {
     alloc: Global,
     definition: Option<Def>,
@@ -45,7 +45,7 @@ impl Model for Input {
     ghost invariant = { λ i. IsHeld (view_of i) };
 }
 
-// Written out, so that a caller's proof sees one call and not the drop of each field.
+// Written out so that a caller's proof contains one call, not the drop of each field.
 impl Drop for Input {
     fn drop(self) {
         let Input {
@@ -63,7 +63,7 @@ impl Input {
     ghost use Rattle.m4_input.specs.Input.{Held, IsLasting, unread_file, wrapped_text, with_pushed, all_read, NextGives, ParenGives, SkipGives, WholeGives, failures_after};
     ghost use Rattle.m4_input.specs.InputView.{unread_again, fault_of, Fills, Takes};
 
-    /// A file that is read from its start.
+    /// Creates the input of a file that is read from its start.
     pub fn file(alloc: Global, name: Bytes) -> Input
         ensures { result ≡ unread_file name }
     {
@@ -77,8 +77,8 @@ impl Input {
         }
     }
 
-    /// Text that was saved to be read at the end of a run. It belongs to no file, and all of it is
-    /// there: no reader is asked. Manual: "Saving text until end of input".
+    /// Creates the input of text that was saved for the end of a run. It belongs to no file, and it is
+    /// complete: no reader is used. Manual: "Saving text until end of input".
     pub fn wrapped(alloc: Global, text: Bytes) -> Input
         // exact steps: the text pending, without a file
         ensures { result ≡ wrapped_text text }
@@ -93,8 +93,8 @@ impl Input {
         }
     }
 
-    /// The line at the front, counted from 1; 0 in wrapped text. It counts the newlines of the file
-    /// that were read, and stays at its greatest value. Manual: "Location within input".
+    /// Returns the current line, counted from 1; 0 in wrapped text. It counts the newlines of the file that
+    /// were read, and stays at its greatest value. Manual: "Location within input".
     pub fn line(&self) -> u64
         ensures { result ≡ line_of self.now.pending }
     {
@@ -104,7 +104,7 @@ impl Input {
         }
     }
 
-    /// The file's name; empty in wrapped text.
+    /// Returns the file's name; empty in wrapped text.
     pub fn name(&self) -> &[u8]
         ensures { result.now ≡ name_of self.now.pending }
     {
@@ -114,8 +114,8 @@ impl Input {
         }
     }
 
-    /// The bytes that are pending, where they lie in one piece; none where a definition stands in
-    /// front of them, and perhaps where a call has pushed text.
+    /// Returns the pending bytes if they are contiguous. Returns `None` if a definition comes before them,
+    /// and perhaps if a call has pushed text.
     #[doc(hidden)]
     pub fn piece(&self) -> Option<&[u8]>
         ensures text { IfSome result (λ x. x.now ≡ text_of self.now.pending) }
@@ -127,29 +127,29 @@ impl Input {
         self.text.piece()
     }
 
-    /// Takes the first n bytes away, of an input that was read whole.
+    /// Discards the first n bytes. The input must have been read to its end.
     #[doc(hidden)]
     pub fn consume(&mut self, n: usize)
         requires closed { self.old.pending.may_follow ≡ false }
         requires within { n ≤ length (text_of self.old.pending) }
-        // exact steps: what is left behind so many bytes
+        // exact steps: the rest after n bytes
         ensures { self.new ≡ record self.old { pending = consumed n self.old.pending } }
     {
         self.definition = None;
         self.text.consume(n);
     }
 
-    /// Puts a value in front, to be read before everything else. `OutOfMemory` where a growth is
-    /// refused, and the fault that an earlier call met; the input then stays as it was. Takes time
-    /// in proportion to the value.
+    /// Inserts a value at the start, to be read before everything else. Returns `OutOfMemory` if an
+    /// allocation fails, or the fault of an earlier call; the input then stays as it was. Takes time in
+    /// proportion to the value.
     pub fn push_front(&mut self, value: Pushed) -> Result<(), InputFault>
         requires { self.old.pending.definition ≡ None }
-        // exact steps: the value in front; a refusal leaves it as it was
+        // exact steps: the value at the start; if the call fails, the input is as it was
         ensures ok { OnOk result (
             (self.new ≡ record self.old { pending = with_pushed value self.old.pending })
             × (self.old.fault ≡ None)) }
         ensures err { OnErr result (self.new ≡ self.old) }
-        // an earlier fault again, else OutOfMemory
+        // an earlier fault again, otherwise OutOfMemory
         ensures again { IfSome self.old.fault (λ f. result ≡ Err f) }
         ensures fault { self.old.fault ≡ None → IfErr result (λ f. f ≡ InputFault.OutOfMemory) }
     {
@@ -168,16 +168,16 @@ impl Input {
         }
     }
 
-    /// The token at the front, which is taken. `EndInString` and `EndInComment` where the end comes
-    /// first, and then nothing is pending; `Read` where the reader fails and `OutOfMemory` where a
-    /// growth is refused, and from then on at each call. Takes time in proportion to what it takes,
-    /// and to what the reader gives at its first call. Manual: "Lexical and syntactic conventions".
+    /// Returns the first token and consumes it. Returns `EndInString` or `EndInComment` if the input ends
+    /// first; then nothing is pending. Returns `Read` if the reader fails and `OutOfMemory` if an allocation
+    /// fails; so does each later call. Takes time in proportion to the bytes that it consumes, and at the
+    /// first call to those of the reader. Manual: "Lexical and syntactic conventions".
     pub fn next<R: ByteSource>(
         &mut self,
         reader: &mut R,
         delims: &Delims<'_>,
     ) -> Result<Token, InputFault>
-        // exact steps: the token, and what is left behind it
+        // exact steps: the token, and the rest after it
         ensures gives { NextGives (pair_of delims.now.quotes) (pair_of delims.now.comments)
             (R.script reader.old) (R.script reader.new) self.old self.new result }
         ensures counted { R.failures reader.new
@@ -198,14 +198,14 @@ impl Input {
         taken
     }
 
-    /// Whether an argument list follows: a parenthesis, with no blank before it. Nothing is taken.
-    /// `Read` and `OutOfMemory` as in `next`. Manual: "Macro invocation".
+    /// Returns whether an argument list follows: a parenthesis, with no blank before it. Consumes nothing.
+    /// Returns `Read` and `OutOfMemory` as `next` does. Manual: "Macro invocation".
     pub fn sees_paren<R: ByteSource>(
         &mut self,
         reader: &mut R,
         delims: &Delims<'_>,
     ) -> Result<bool, InputFault>
-        // exact steps: whether a list follows; nothing is taken
+        // exact steps: whether a list follows; nothing is consumed
         ensures gives { ParenGives (pair_of delims.now.quotes) (pair_of delims.now.comments)
             (R.script reader.old) (R.script reader.new) self.old self.new result }
         ensures counted { R.failures reader.new
@@ -221,10 +221,10 @@ impl Input {
         Ok(self.text.window().sees_paren(delims))
     }
 
-    /// Drops a definition and the rest of the line, with its newline; all where no newline is left.
-    /// `Read` and `OutOfMemory` as in `next`. Manual: "Deleting whitespace in input".
+    /// Discards a definition and the rest of the line, with its newline; everything if no newline is left.
+    /// Returns `Read` and `OutOfMemory` as `next` does. Manual: "Deleting whitespace in input".
     pub fn skip_line<R: ByteSource>(&mut self, reader: &mut R) -> Result<(), InputFault>
-        // exact steps: what is left behind the line
+        // exact steps: the rest after the line
         ensures gives { SkipGives
             (R.script reader.old) (R.script reader.new) self.old self.new result }
         ensures counted { R.failures reader.new
@@ -240,7 +240,7 @@ impl Input {
         Ok(())
     }
 
-    /// A fault that is answered from now on.
+    /// Records a fault that each later call returns.
     fn stop(&mut self, fault: InputFault) -> InputFault
         requires { IsLasting fault }
         ensures fault { result ≡ fault }
@@ -250,10 +250,10 @@ impl Input {
         fault
     }
 
-    /// Reads the file whole, so that no later call asks the reader. Answers `Read` where the reader
-    /// fails, `OutOfMemory` where a growth is refused, and from then on the same.
+    /// Reads the file to its end, so that no later call uses the reader. Returns `Read` if the reader fails
+    /// and `OutOfMemory` if an allocation fails; so does each later call.
     pub fn read_whole<R: ByteSource>(&mut self, reader: &mut R) -> Result<(), InputFault>
-        // exact steps: all that the reader gives
+        // exact steps: all bytes of the reader
         ensures gives { WholeGives (R.script reader.old) (R.script reader.new) self.old self.new result }
         ensures counted { R.failures reader.new ≡ failures_after self.old.fault self.new.fault (R.failures reader.old) }
     {
@@ -263,7 +263,7 @@ impl Input {
         self.fill(reader)
     }
 
-    /// Reads the reader to its end, unless that is done.
+    /// Reads the reader to its end, unless that was done.
     fn fill<R: ByteSource>(&mut self, reader: &mut R) -> Result<(), InputFault>
         requires { self.old.fault ≡ None }
         ensures gives { Fills (R.script reader.old) (R.script reader.new) self.old self.new result }
@@ -296,7 +296,7 @@ impl Input {
         self.may_follow = true;
     }
 
-    /// The fault of what has no end. All bytes are read.
+    /// Returns the fault of a token without an end. Discards all bytes.
     fn end_inside(&mut self, what: Unended) -> InputFault
         ensures fault { result ≡ fault_of what (line_of self.old.pending) }
         ensures nothing { self.new ≡ record self.old { pending = all_read self.old.pending } }
@@ -311,7 +311,7 @@ impl Input {
         }
     }
 
-    /// Takes the token at the front, where all bytes are there.
+    /// Returns the first token and consumes it; the input was read to its end.
     fn take_token(&mut self, delims: &Delims<'_>) -> Result<Token, InputFault>
         requires closed { self.old.pending.may_follow ≡ false }
         requires plain { self.old.pending.definition ≡ None }

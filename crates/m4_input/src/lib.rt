@@ -1,8 +1,8 @@
-//! What a run still has to read, and the tokens at its front.
+//! The input that a run still has to read, and its first token.
 //!
-//! An [`input::Input`] is one file, with what calls have put in front of it. `specs/Pending.antt`
-//! says what is pending, `specs/Token.antt` which token stands first, `specs/Paren.antt` whether an
-//! argument list follows, and `specs/Input.antt` what each call takes and leaves.
+//! An [`input::Input`] is one file, with the values that calls pushed before it. `specs/Pending.antt`
+//! defines the pending input, `specs/Token.antt` its first token, `specs/Paren.antt` whether an argument
+//! list follows, and `specs/Input.antt` the effect of each call.
 //! Manual: "Lexical and syntactic conventions", "How m4 copies input to output".
 #![tactic(auto)]
 
@@ -12,7 +12,7 @@ mod follows;
 pub mod front;
 pub mod input;
 mod piece;
-// For the engine alone: it takes plain tokens many at a time.
+// Public only for the engine, which consumes plain tokens many at a time.
 #[doc(hidden)]
 pub mod plain;
 pub mod pushed;

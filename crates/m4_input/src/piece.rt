@@ -1,7 +1,7 @@
-//! The bytes of one file in one piece, with text that was pushed in front of what is unread.
+//! The bytes of one file in one buffer, with pushed text before the unread bytes.
 //!
-//! The file stays where it is, and only the place up to which it is read moves on. Pushed text is
-//! put over bytes that were read, right in front of the others, where these leave room for it.
+//! The file's bytes are not moved; only the position of the next byte advances. Pushed text overwrites
+//! bytes that were read, directly before the next byte, if there is room for it.
 
 ghost use Rattle.std.specs.Prelude.{◌≡◌, ◌+◌, ◌<◌, ◌≤◌, ◌^◌, ◌++◌, [], OnOk, OnErr, true, false, length, take, drop, ◌-◌};
 ghost use Rattle.m4_input.specs.Pending.{newlines_in};
@@ -9,7 +9,7 @@ ghost use Rattle.m4_input.specs.Pending.{newlines_in};
 use std::alloc::{AllocError, Global};
 use std::marker::Model;
 
-/// Bytes of a file that were read, pushed text, and bytes that are unread.
+/// Bytes of a file that were read, pushed text, and unread bytes.
 #[derive(Drop)]
 pub struct Piece {
     bytes: Vec<u8>,
@@ -31,7 +31,7 @@ impl Model for Piece {
         × (p.newlines + (length p.bytes.items - (p.at + p.ahead)) < 2 ^ 64) };
 }
 
-/// How many newlines there are. Out of line, so that the loop has the registers for itself.
+/// Counts the newlines. Not inlined, so that the loop has the registers for itself.
 #[inline(never)]
 fn count_newlines(bytes: &[u8]) -> usize
     ensures { result ≡ newlines_in bytes.now }
@@ -43,7 +43,7 @@ fn count_newlines(bytes: &[u8]) -> usize
     count
 }
 
-/// Puts a text over what stands in front of a place.
+/// Overwrites the bytes directly before a position with a text.
 fn put_before(bytes: &mut [u8], at: usize, text: &[u8])
     requires fits { length text.now ≤ at }
     requires within { at ≤ length bytes.old }
@@ -56,7 +56,7 @@ fn put_before(bytes: &mut [u8], at: usize, text: &[u8])
 impl Piece {
     ghost use Rattle.m4_input.specs.Text.{text_in, text_after};
 
-    /// No bytes.
+    /// Creates a piece without bytes.
     pub fn new(alloc: Global) -> Piece
         ensures { result ≡ record { pushed = []; unread = []; newlines = 0 } }
     {
@@ -68,7 +68,7 @@ impl Piece {
         }
     }
 
-    /// The bytes of a file, of which none was read.
+    /// Creates a piece with the bytes of a file, none of which was read.
     pub fn of_file(bytes: Vec<u8>) -> Piece
         ensures { result ≡ record { pushed = []; unread = bytes.items; newlines = 0 } }
     {
@@ -80,7 +80,7 @@ impl Piece {
         }
     }
 
-    /// Has these bytes of a file, where none of a file are left. A refusal leaves all as it was.
+    /// Sets the bytes of a file; no unread ones may be left. If an allocation fails, nothing changes.
     pub fn set_file(&mut self, bytes: Vec<u8>) -> Result<(), AllocError>
         requires { self.old.unread ≡ [] }
         ensures ok { OnOk result (self.new
@@ -97,7 +97,7 @@ impl Piece {
         Ok(())
     }
 
-    /// Drops what is unread of the file, and counts none of its newlines.
+    /// Drops the unread bytes of the file, and sets its count of newlines to 0.
     pub fn drop_file(&mut self)
         ensures { self.new ≡ record { pushed = self.old.pushed; unread = []; newlines = 0 } }
     {
@@ -105,21 +105,21 @@ impl Piece {
         self.newlines = 0;
     }
 
-    /// How many newlines of the file were read.
+    /// Returns how many newlines of the file were read.
     pub fn newlines(&self) -> usize
         ensures { result ≡ self.now.newlines }
     {
         self.newlines
     }
 
-    /// The bytes, pushed and unread.
+    /// Returns the bytes, pushed and unread.
     pub fn rest(&self) -> &[u8]
         ensures { result.now ≡ text_in self.now }
     {
         self.bytes.split_at(self.at).1
     }
 
-    /// Puts text in front, where there is room for it, and answers whether there was.
+    /// Inserts text at the start if there is room for it; returns whether there was.
     pub fn push(&mut self, text: &[u8]) -> bool
         ensures done { result ≡ true → self.new ≡ record self.old { pushed = text.now ++ self.old.pushed } }
         ensures full { result ≡ false → self.new ≡ self.old }
@@ -134,7 +134,7 @@ impl Piece {
         true
     }
 
-    /// Takes the first n bytes away.
+    /// Discards the first n bytes.
     pub fn consume(&mut self, n: usize)
         requires { n ≤ length (text_in self.old) }
         ensures { self.new ≡ text_after n self.old }

@@ -1,5 +1,5 @@
-//! Tokens that stand for themselves: names that have no definition, and bytes that are no other
-//! token. What a run puts out for them is what it reads, so that it can take many at once.
+//! Plain tokens: names without a definition, and bytes that are no other token. A run writes them as it
+//! reads them, so it can consume many at once.
 
 ghost use Rattle.std.specs.Prelude.{◌≡◌, ◌+◌, ◌<◌, ◌≤◌, ◌∷◌, List, ℕ, true, false, IfSome, length, take, drop};
 ghost use Rattle.m4_input.specs.DelimsView.{pair_of};
@@ -16,23 +16,23 @@ use crate::window::{Window, is_letter_byte, word_len};
 use m4_state::definition::Def;
 use m4_state::state::State;
 
-/// The first token of a text, as far as one look tells it.
+/// The first token of a text, as far as one look decides it.
 #[derive(Clone, Copy, Debug)]
 pub enum First<'a> {
-    /// A name that has no definition, of so many bytes.
+    /// A name without a definition, with its length.
     Word(usize),
     /// A byte that belongs to no other token.
     Byte(u8),
-    /// A string: how many bytes its begin-quote has, its text, and the whole.
+    /// A string: the lengths of its begin-quote, of its text, and of all of it.
     Quoted(usize, usize, usize),
-    /// A name of so many bytes, whether an argument list follows it, and its definition.
+    /// A name with a definition: its length, whether an argument list follows it, and the definition.
     Called(usize, bool, &'a Def),
-    /// Any other token, or what may begin with a delimiter.
+    /// Any other token, or bytes that may begin with a delimiter.
     Other,
 }
 
-/// How many bytes at the front are tokens that stand for themselves, and what stands behind them. It
-/// looks no further behind the token that reaches `most`.
+/// Counts the bytes of the plain tokens at the start, and returns the token after them. It does not look
+/// at the token after the one that reaches `most`.
 pub fn plain_run<'a>(text: &[u8], state: &'a State, most: usize) -> (usize, First<'a>)
     // exact steps: tokens of the definition `scan`, each a name without a definition or a byte
     ensures plain { IsPlainRun state.now result.0 text.now }
@@ -52,7 +52,7 @@ pub fn plain_run<'a>(text: &[u8], state: &'a State, most: usize) -> (usize, Firs
     (len, First::Other)
 }
 
-/// The first token, where it is no string.
+/// Returns the first token; `Other` if it may be a string or a comment.
 #[inline(always)]
 fn first_token<'a>(text: &[u8], state: &'a State, delims: &Delims<'_>) -> First<'a>
     requires quotes { pair_of delims.now.quotes ≡ state.now.quotes }
@@ -77,17 +77,17 @@ fn first_token<'a>(text: &[u8], state: &'a State, delims: &Delims<'_>) -> First<
     }
 }
 
-/// Whether the first token is a parenthesis that opens.
+/// Returns whether the first token is an opening parenthesis.
 fn sees_paren(text: &[u8], delims: &Delims<'_>) -> bool
     ensures { paren_in (pair_of delims.now.quotes) (pair_of delims.now.comments) false text.now ≡ answer_of result }
 {
     Window::new(&[], text).sees_paren(delims)
 }
 
-/// The first token, where an argument list is read.
+/// Returns the first token, for use in an argument list.
 #[inline(always)]
 pub fn first_in_list<'a>(text: &[u8], state: &'a State) -> First<'a>
-    // exact steps: the token of the definition `scan`, with what is known of its name
+    // exact steps: the token of the definition `scan`, with the definition of its name
     ensures first { IsFirst state.now text.now result }
     ensures lies { FirstLies (length text.now) result }
 {
@@ -101,12 +101,11 @@ pub fn first_in_list<'a>(text: &[u8], state: &'a State) -> First<'a>
     }
 }
 
-/// A token's text and how many bytes the token has, where it is text wherever it stands in an
-/// argument list.
+/// Returns a token's text and the token's length, if it is text everywhere in an argument list.
 #[inline(always)]
 pub fn inner_text<'a>(first: &First<'_>, text: &'a [u8]) -> Option<(&'a [u8], usize)>
     requires { FirstLies (length text.now) first.now }
-    // exact steps: a string, or what stands for itself and means nothing in a list
+    // exact steps: a string, or a plain token that has no special meaning in a list
     ensures inner { IfSome result (λ t. (s : State) → IsFirst s text.now first.now → IsInner s t.1 t.0.now text.now) }
     ensures within { IfSome result (λ t. t.1 ≤ length text.now) }
 {
@@ -121,14 +120,14 @@ pub fn inner_text<'a>(first: &First<'_>, text: &'a [u8]) -> Option<(&'a [u8], us
     }
 }
 
-/// Whether a byte means nothing in an argument list.
+/// Returns whether a byte has no special meaning in an argument list.
 fn is_inner(byte: u8) -> bool
     ensures { result ≡ is_inner byte }
 {
     !matches!(byte, b'(' | b')' | b',' | b' ' | 9..=13)
 }
 
-/// The string at the front.
+/// Returns the lengths of the string at the start: of its begin-quote, of its text, and of all of it.
 #[inline(always)]
 fn string_text(text: &[u8], delims: &Delims<'_>) -> Option<(usize, usize, usize)>
     ensures string { IfSome result (λ t. scan (pair_of delims.now.quotes) (pair_of delims.now.comments) false text.now
@@ -147,7 +146,7 @@ fn string_text(text: &[u8], delims: &Delims<'_>) -> Option<(usize, usize, usize)
     }
 }
 
-/// Whether the first of two delimiters begins with this byte.
+/// Returns whether the first of two delimiters begins with this byte.
 #[inline(always)]
 fn may_begin(first: u8, pair: &(&[u8], &[u8])) -> bool
     ensures { result ≡ false → (y : List ℕ) → starts_with (pair_of pair.now) (first ∷ y) ≡ false }

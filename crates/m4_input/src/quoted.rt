@@ -1,12 +1,12 @@
-//! The end of a string whose quotes are a byte each, and a byte that ends something, in bytes that
-//! lie in one piece. Manual: "Quoted strings".
+//! Searches in contiguous bytes: for the end of a string whose quotes are one byte each, and for a byte.
+//! Manual: "Quoted strings".
 
 ghost use Rattle.std.specs.Prelude.{◌≡◌, ◌≢◌, ◌+◌, ◌≤◌, ◌∷◌, [], List, ℕ, false, IfSome, IfNone, length};
 ghost use Rattle.m4_input.specs.Token.{before, level, mark_at};
 
 use crate::front::Mark;
 
-/// The byte of a delimiter that has one alone.
+/// Returns the byte of a delimiter that has only one.
 pub fn single(delimiter: &[u8]) -> Option<u8>
     ensures some { IfSome result (λ b. delimiter.now ≡ b ∷ []) }
     ensures none { IfNone result ((b : ℕ) → delimiter.now ≢ b ∷ []) }
@@ -15,7 +15,7 @@ pub fn single(delimiter: &[u8]) -> Option<u8>
     if rest.is_empty() { Some(*first) } else { None }
 }
 
-/// What a byte is within a string.
+/// Returns the mark of a byte in a string.
 fn mark_of(byte: u8, begin: u8, end: u8) -> Mark
     ensures { (y : List ℕ) → result ≡ mark_at (record { begin = begin ∷ []; end = end ∷ [] }) false (byte ∷ y) }
 {
@@ -28,8 +28,8 @@ fn mark_of(byte: u8, begin: u8, end: u8) -> Mark
     }
 }
 
-/// How many bytes stand before the end-quote that closes the string. Out of line, so that the loop has
-/// the registers for itself.
+/// Counts the bytes before the end-quote that closes the string. Not inlined, so that the loop has the
+/// registers for itself.
 #[inline(never)]
 pub fn quoted_len(text: &[u8], begin: u8, end: u8) -> Option<usize>
     ensures value { result ≡ level (record { begin = begin ∷ []; end = end ∷ [] }) false 0 0 text.now }
@@ -54,7 +54,7 @@ pub fn quoted_len(text: &[u8], begin: u8, end: u8) -> Option<usize>
     None
 }
 
-/// How many bytes stand before the first such byte.
+/// Counts the bytes before the first such byte.
 pub fn len_before(text: &[u8], byte: u8) -> Option<usize>
     ensures value { result ≡ before (byte ∷ []) text.now }
     ensures within { IfSome result (λ n. n + 1 ≤ length text.now) }

@@ -1,8 +1,7 @@
-//! The first token of a text: what stands at its front, where that ends, and a copy of it.
+//! The first token of a text: its kind, its end, and a copy of it.
 //!
-//! Strings that stand one within another are followed by a count of those that are open, so that a
-//! string takes one pass. Where more bytes may follow (`may_follow`), what they could change is not
-//! decided. Manual: "Quoted strings", "Comments", "Names".
+//! Nested strings are counted, so that a string takes one pass. If more bytes may follow (`may_follow`),
+//! nothing is decided that they could change. Manual: "Quoted strings", "Comments", "Names".
 
 ghost use Rattle.std.specs.Prelude.{◌≡◌, ◌+◌, ◌<◌, ◌≤◌, ◌∷◌, IfSome, IfOk, IsTrue, length, drop};
 ghost use Rattle.m4_input.specs.DelimsView.{pair_of};
@@ -16,11 +15,11 @@ use crate::token::Token;
 use crate::window::{Window, is_letter_byte};
 use std::alloc::{AllocError, Global};
 
-/// A begin and an end.
+/// A begin and an end delimiter.
 type Pair<'a> = (&'a [u8], &'a [u8]);
 
 impl<'a> Window<'a> {
-    /// What stands at a place within a string.
+    /// Returns the mark at a place in a string.
     fn mark(&self, at: usize, quotes: &Pair<'_>, may_follow: bool) -> Mark
         requires { at ≤ length self.now }
         ensures value { result ≡ mark_at (pair_of quotes.now) may_follow (drop at self.now) }
@@ -38,8 +37,8 @@ impl<'a> Window<'a> {
         }
     }
 
-    /// How many bytes stand before the end-quote that closes the string. An end-quote that is empty
-    /// stands at each byte.
+    /// Counts the bytes before the end-quote that closes the string. An empty end-quote is found at each
+    /// byte.
     pub fn string_len(&self, at: usize, quotes: &Pair<'_>, may_follow: bool) -> Option<usize>
         requires within { at ≤ length self.now }
         requires begin { 0 < length quotes.now.0.now }
@@ -53,7 +52,7 @@ impl<'a> Window<'a> {
         }
     }
 
-    /// The same, place by place.
+    /// The same, byte by byte.
     fn string_len_by_steps(&self, at: usize, quotes: &Pair<'_>, may_follow: bool) -> Option<usize>
         requires within { at ≤ length self.now }
         requires begin { 0 < length quotes.now.0.now }
@@ -85,7 +84,7 @@ impl<'a> Window<'a> {
         None
     }
 
-    /// Whether a pair that is not disabled begins here.
+    /// Returns whether a pair that is enabled begins here.
     pub fn opens(&self, pair: &Pair<'_>) -> bool
         ensures value { result ≡ starts_with (pair_of pair.now) self.now }
         ensures within { IsTrue result
@@ -94,14 +93,14 @@ impl<'a> Window<'a> {
         !pair.0.is_empty() && self.starts(0, pair.0)
     }
 
-    /// Whether, with more bytes, it may turn out to begin here.
+    /// Returns whether, with more bytes, it may turn out to begin here.
     fn may_open(&self, pair: &Pair<'_>, may_follow: bool) -> bool
         ensures { result ≡ may_start (pair_of pair.now) may_follow self.now }
     {
         may_follow && !pair.0.is_empty() && self.cut(0, pair.0)
     }
 
-    /// Which kind of token begins here.
+    /// Returns the kind of token that begins here.
     pub fn kind(&self, delims: &Delims<'_>, may_follow: bool, first: u8) -> Kind
         requires { self.now ≡ first ∷ drop 1 self.now }
         ensures value { result ≡ kind_of (pair_of delims.now.quotes) (pair_of delims.now.comments)
@@ -126,7 +125,7 @@ impl<'a> Window<'a> {
         }
     }
 
-    /// The first token, and how many bytes it takes.
+    /// Returns the first token and its length.
     pub fn scan(
         &self,
         alloc: Global,
@@ -153,7 +152,7 @@ impl<'a> Window<'a> {
         }
     }
 
-    /// The name at the front.
+    /// Returns the name at the start.
     fn name(&self, alloc: Global, may_follow: bool) -> Result<Scan, AllocError>
         ensures value { IfOk result (λ s. s ≡ name_at may_follow self.now) }
         ensures within { IfOk result (λ s. LiesIn (length self.now) s) }
@@ -165,7 +164,7 @@ impl<'a> Window<'a> {
         Ok(Scan::Found(Token::Name(self.copy(alloc, 0, len)?), len))
     }
 
-    /// The comment at the front, with its delimiters.
+    /// Returns the comment at the start, with its delimiters.
     fn comment(&self, alloc: Global, pair: &Pair<'_>, may_follow: bool) -> Result<Scan, AllocError>
         requires { length pair.now.0.now ≤ length self.now }
         ensures value { IfOk result (λ s. s ≡ comment_at (pair_of pair.now) may_follow self.now) }
@@ -182,7 +181,7 @@ impl<'a> Window<'a> {
         }
     }
 
-    /// The string at the front, without its outermost quotes.
+    /// Returns the string at the start, without its outermost quotes.
     fn string(&self, alloc: Global, pair: &Pair<'_>, may_follow: bool) -> Result<Scan, AllocError>
         requires starts { length pair.now.0.now ≤ length self.now }
         requires begin { 0 < length pair.now.0.now }

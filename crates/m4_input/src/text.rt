@@ -1,8 +1,8 @@
-//! The bytes that an input holds: text that calls have pushed, and then the bytes of one file.
+//! The bytes of an input: text that calls pushed, and then the bytes of one file.
 //!
-//! Pushed text stands in one piece with the file's bytes where these leave room for it. Else it
-//! stands apart, with the last byte first, so that pushing and taking cost what it is long; and so
-//! does all that is pushed in front of it.
+//! Pushed text is contiguous with the file's bytes if these leave room for it. Otherwise it is stored
+//! separately, last byte first, and so is all text that is pushed before it. Pushing and consuming text
+//! thus take time in proportion to its length.
 
 ghost use Rattle.std.specs.Prelude.{◌≡◌, ◌≤◌, ◌++◌, [], IfSome, OnOk, OnErr, length};
 
@@ -30,7 +30,7 @@ impl Model for Text {
 impl Text {
     ghost use Rattle.m4_input.specs.Text.{text_in, text_after};
 
-    /// No bytes.
+    /// Creates a text without bytes.
     pub fn new(alloc: Global) -> Text
         ensures { result ≡ record { pushed = []; unread = []; newlines = 0 } }
     {
@@ -40,7 +40,7 @@ impl Text {
         }
     }
 
-    /// The bytes of a file, of which none was read.
+    /// Creates a text with the bytes of a file, none of which was read.
     pub fn of_file(alloc: Global, bytes: Vec<u8>) -> Text
         ensures { result ≡ record { pushed = []; unread = bytes.items; newlines = 0 } }
     {
@@ -50,7 +50,7 @@ impl Text {
         }
     }
 
-    /// Has these bytes of a file, where none of a file are left. A refusal leaves all as it was.
+    /// Sets the bytes of a file; no unread ones may be left. If an allocation fails, nothing changes.
     pub fn set_file(&mut self, bytes: Vec<u8>) -> Result<(), AllocError>
         requires { self.old.unread ≡ [] }
         ensures ok { OnOk result (self.new
@@ -60,28 +60,28 @@ impl Text {
         self.piece.set_file(bytes)
     }
 
-    /// Drops what is unread of the file, and counts none of its newlines.
+    /// Drops the unread bytes of the file, and sets its count of newlines to 0.
     pub fn drop_file(&mut self)
         ensures { self.new ≡ record { pushed = self.old.pushed; unread = []; newlines = 0 } }
     {
         self.piece.drop_file();
     }
 
-    /// How many newlines of the file were read.
+    /// Returns how many newlines of the file were read.
     pub fn newlines(&self) -> usize
         ensures { result ≡ self.now.newlines }
     {
         self.piece.newlines()
     }
 
-    /// The bytes, seen from the front.
+    /// Returns the bytes in reading order.
     pub fn window(&self) -> Window<'_>
         ensures { result ≡ text_in self.now }
     {
         Window::new(&self.pushed, self.piece.rest())
     }
 
-    /// The bytes, where they lie in one piece: no text stands apart.
+    /// Returns the bytes if they are contiguous: no text is stored separately.
     pub fn piece(&self) -> Option<&[u8]>
         ensures { IfSome result (λ x. x.now ≡ text_in self.now) }
     {
@@ -92,7 +92,7 @@ impl Text {
         }
     }
 
-    /// Puts text in front. A refusal leaves all as it was.
+    /// Inserts text at the start. If an allocation fails, nothing changes.
     pub fn push(&mut self, text: &[u8]) -> Result<(), AllocError>
         ensures ok { OnOk result
             (self.new ≡ record self.old { pushed = text.now ++ self.old.pushed }) }
@@ -107,7 +107,7 @@ impl Text {
         Ok(())
     }
 
-    /// Takes the first n bytes away.
+    /// Discards the first n bytes.
     pub fn consume(&mut self, n: usize)
         requires { n ≤ length (text_in self.old) }
         ensures { self.new ≡ text_after n self.old }

@@ -1,8 +1,8 @@
-//! The bytes that are pending, seen from the front: pushed text, whose last byte comes first, and
-//! then what is unread of the file.
+//! The pending bytes in reading order: pushed text, which is stored with its last byte first, and then
+//! the unread bytes of the file.
 //!
-//! Contracts see a window as one list of bytes, so that the tests and searches on it speak of lists
-//! alone. Only `byte` and `copy` know of the two parts.
+//! Contracts see a window as one list of bytes, so the tests and searches on it speak only of lists. Only
+//! `len`, `byte`, `tail` and `copy` use the two parts.
 
 ghost use Rattle.std.specs.Prelude.{◌≡◌, ◌+◌, ◌^◌, ◌<◌, ◌≤◌, ◌∷◌, ◌++◌, [], IfSome, IfNone, IfOk, IsTrue, length, drop, take, reverse, slice_get};
 ghost use Rattle.m4_input.specs.Ascii.{is_letter, is_name_byte};
@@ -13,7 +13,7 @@ use m4_state::bytes::Bytes;
 use std::alloc::{AllocError, Global};
 use std::marker::Model;
 
-/// Two slices, seen as one text.
+/// Two slices, read as one text.
 #[derive(Drop)]
 pub struct Window<'a> {
     pushed: &'a [u8],
@@ -30,21 +30,21 @@ impl<'a> Model for Window<'a> {
     ghost invariant = { λ w. length w.pushed.now + length w.file.now < 2 ^ 64 };
 }
 
-/// A letter of ASCII or an underscore, which begins a name.
+/// Returns whether a byte is an ASCII letter or an underscore; a name begins with one.
 pub fn is_letter_byte(b: u8) -> bool
     ensures { result ≡ is_letter b }
 {
     b.is_ascii_alphabetic() || b == b'_'
 }
 
-/// A byte that may stand within a name.
+/// Returns whether a byte may occur in a name.
 pub fn is_word_byte(b: u8) -> bool
     ensures { result ≡ is_name_byte b }
 {
     is_letter_byte(b) || b.is_ascii_digit()
 }
 
-/// How many bytes of a name stand at the front.
+/// Counts the bytes of the name at the start.
 pub fn word_len(bytes: &[u8]) -> usize
     ensures value { result ≡ run_length is_name_byte bytes.now }
     ensures within { result ≤ length bytes.now }
@@ -57,7 +57,7 @@ pub fn word_len(bytes: &[u8]) -> usize
 }
 
 impl<'a> Window<'a> {
-    /// The text of these two parts.
+    /// Creates the text of these two parts.
     pub fn new(pushed: &'a [u8], file: &'a [u8]) -> Window<'a>
         requires { length pushed.now + length file.now < 2 ^ 64 }
         ensures { result ≡ reverse pushed.now ++ file.now }
@@ -65,7 +65,7 @@ impl<'a> Window<'a> {
         Window { pushed, file }
     }
 
-    /// How many bytes there are.
+    /// Returns the number of bytes.
     pub fn len(&self) -> usize
         ensures len { result ≡ length self.now }
         ensures small { result < 2 ^ 64 }
@@ -73,7 +73,7 @@ impl<'a> Window<'a> {
         self.pushed.len() + self.file.len()
     }
 
-    /// The byte at a place, if there is one.
+    /// Returns the byte at a place, if there is one.
     #[tactic(auto, using(crate::proofs::Scans::got_some, crate::proofs::Scans::got_none))]
     pub fn byte(&self, at: usize) -> Option<u8>
         ensures value { result ≡ slice_get self.now at }
@@ -90,7 +90,7 @@ impl<'a> Window<'a> {
         }
     }
 
-    /// The bytes from a place on, where they lie in the file alone.
+    /// Returns the bytes from a place on, if all of them are in the file.
     pub fn tail(&self, at: usize) -> Option<&'a [u8]>
         requires { at ≤ length self.now }
         ensures { IfSome result (λ x. x.now ≡ drop at self.now) }
@@ -101,7 +101,7 @@ impl<'a> Window<'a> {
         Some(self.file.split_at(at - self.pushed.len()).1)
     }
 
-    /// Whether a delimiter stands at a place.
+    /// Returns whether a delimiter begins at a place.
     pub fn starts(&self, at: usize, delimiter: &[u8]) -> bool
         requires { at ≤ length self.now }
         ensures value { result ≡ begins delimiter.now (drop at self.now) }
@@ -118,7 +118,7 @@ impl<'a> Window<'a> {
         true
     }
 
-    /// Whether what is left at a place is a beginning of a delimiter, and not all of it.
+    /// Returns whether the bytes from a place on are a prefix of a delimiter, and not all of it.
     pub fn cut(&self, at: usize, delimiter: &[u8]) -> bool
         requires { at ≤ length self.now }
         ensures { result ≡ is_cut (drop at self.now) delimiter.now }
@@ -127,7 +127,7 @@ impl<'a> Window<'a> {
         self.begins(at, delimiter) && short
     }
 
-    /// Whether what is left at a place is a beginning of a delimiter.
+    /// Returns whether the bytes from a place on are a prefix of a delimiter.
     fn begins(&self, at: usize, delimiter: &[u8]) -> bool
         requires { at ≤ length self.now }
         ensures { result ≡ begins (drop at self.now) delimiter.now }
@@ -143,7 +143,7 @@ impl<'a> Window<'a> {
         k == self.len()
     }
 
-    /// How many bytes of a name stand at a place.
+    /// Counts the bytes of the name at a place.
     pub fn word_len(&self, at: usize) -> usize
         requires { at ≤ length self.now }
         ensures value { result ≡ run_length is_name_byte (drop at self.now) }
@@ -162,7 +162,7 @@ impl<'a> Window<'a> {
         k - at
     }
 
-    /// How many bytes stand before the first such delimiter.
+    /// Counts the bytes before the first such delimiter.
     pub fn find(&self, at: usize, delimiter: &[u8]) -> Option<usize>
         requires { at ≤ length self.now }
         ensures value { result ≡ before delimiter.now (drop at self.now) }
@@ -174,7 +174,7 @@ impl<'a> Window<'a> {
         }
     }
 
-    /// The same, place by place.
+    /// The same, byte by byte.
     #[tactic(auto, using(crate::proofs::Scans::before_step, crate::proofs::Scans::before_none))]
     fn find_by_steps(&self, at: usize, delimiter: &[u8]) -> Option<usize>
         requires { at ≤ length self.now }
@@ -191,7 +191,7 @@ impl<'a> Window<'a> {
         None
     }
 
-    /// The bytes at a place. One copy where they lie in the file alone.
+    /// Copies the bytes at a place, in one step if all of them are in the file.
     pub fn copy(&self, alloc: Global, at: usize, len: usize) -> Result<Bytes, AllocError>
         requires { at + len ≤ length self.now }
         ensures { IfOk result (λ b. b ≡ take len (drop at self.now)) }

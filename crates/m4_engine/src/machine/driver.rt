@@ -1,5 +1,5 @@
-//! The expansion of an input, turn by turn. Messages are handed on as they arise, and output once a
-//! block of it is held. Manual: "How m4 copies input to output".
+//! Expands an input turn by turn. Messages are flushed as they arise, and output once a block of it is
+//! buffered. Manual: "How m4 copies input to output".
 
 ghost use Rattle.std.specs.Prelude.{◌≡◌, ◌<◌, ◌≤◌, [], length, take, OnOk, OnErr};
 ghost use Rattle.m4_state.specs.Device.{with_bytes};
@@ -15,12 +15,12 @@ use m4_state::device::{ByteSink, DeviceFault};
 use m4_state::transfer::write_all;
 use std::alloc::AllocError;
 
-/// How many bytes of output are held, at most, beside those of one turn.
+/// Output is flushed once this many bytes are buffered. One turn may add more before that.
 pub(crate) const BLOCK: usize = 65536;
 
 impl Machine {
-    /// Hands on what was put out, in the order in which it arose: the output of earlier turns, which is
-    /// this long, then the messages, which are those of the last turn, and then its own output.
+    /// Flushes the buffers in the order in which they arose: the output of earlier turns, `earlier` bytes long,
+    /// then the messages of the last turn, and then its own output.
     #[tactic(auto, using(crate::proofs::Begins::nothing_begun))]
     fn flush<O: ByteSink, M: ByteSink>(
         &mut self,
@@ -38,7 +38,7 @@ impl Machine {
             (both O.contents M.contents out.old out.new messages.old messages.new)) }
         ensures counted { FailsOnce result (both O.failures M.failures out.old out.new messages.old messages.new) }
     {
-        // With no message between them the two parts of the output are one write.
+        // Without a message between them, the two parts of the output are one write.
         let first = if self.messages.is_empty() {
             self.output.len()
         } else {
@@ -53,7 +53,7 @@ impl Machine {
         Ok(())
     }
 
-    /// Hands on what was put out where a message is there, or a block of output.
+    /// Flushes the buffers if there is a message, or a block of output.
     #[tactic(auto, using(crate::proofs::Begins::some_none, crate::proofs::Begins::some_all))]
     fn flush_if_due<O: ByteSink, M: ByteSink>(
         &mut self,
@@ -78,8 +78,8 @@ impl Machine {
         Ok(())
     }
 
-    /// The expansion of an input of which nothing more is read, to its end. What it puts out is
-    /// written: messages as they arise, output in blocks and at the end.
+    /// Expands an input that was read completely, to its end. Writes messages as they arise, and output in blocks
+    /// and at the end.
     pub fn expand<O: ByteSink, M: ByteSink>(
         &mut self,
         input: &mut Input,
@@ -117,7 +117,7 @@ impl Machine {
         }
     }
 
-    /// Leaves the calls that are open and what was not handed on, before the next input.
+    /// Drops the open calls and the buffered bytes, before the next input.
     pub fn rest(&mut self)
         ensures { self.new ≡ at_rest self.old }
     {

@@ -1,4 +1,4 @@
-//! What is left at the end of a run: the diversions, or the state that is frozen. Manual: "Undiverting
+//! The end of a run: undiverts its diversions, or gives the state to freeze. Manual: "Undiverting
 //! output", "Fast loading of frozen state".
 
 ghost use Rattle.std.specs.Prelude.{◌≡◌, []};
@@ -11,7 +11,7 @@ use m4_state::state::State;
 use m4_state::transfer::write_all;
 
 impl Machine {
-    /// Writes the diversions by rising number, each one as it is taken out.
+    /// Writes the diversions by rising number, and removes each one from the state.
     pub fn issue<O: ByteSink>(&mut self, out: &mut O) -> Result<(), DeviceFault>
         ensures puts { Puts result (O.contents out.old) (O.contents out.new) (close self.old.state) }
         ensures counted { O.failures out.new ≡ count_after result (O.failures out.old) }
@@ -20,7 +20,7 @@ impl Machine {
         issue(&mut self.state, out)
     }
 
-    /// The state.
+    /// Returns the state.
     pub fn state(&self) -> &State
         ensures { result.now ≡ self.now.state }
     {
@@ -28,7 +28,7 @@ impl Machine {
     }
 }
 
-/// Writes a state's diversions by rising number, each one as it is taken out.
+/// Writes a state's diversions by rising number, and removes each one from it.
 fn issue<O: ByteSink>(state: &mut State, out: &mut O) -> Result<(), DeviceFault>
     ensures puts { Puts result (O.contents out.old) (O.contents out.new) (close state.old) }
     ensures counted { O.failures out.new ≡ count_after result (O.failures out.old) }

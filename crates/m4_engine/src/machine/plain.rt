@@ -1,5 +1,5 @@
-//! Tokens that are text, put out many at once, or into an argument with no copy in between.
-//! Manual: "How m4 copies input to output", "Macro arguments".
+//! A fast path for tokens that are text: many at once outside of calls, and one in an argument list, without
+//! an intermediate copy. Manual: "How m4 copies input to output", "Macro arguments".
 
 ghost use Rattle.std.specs.Prelude.{◌≡◌, IfOk, OnOk};
 ghost use Rattle.m4_engine.specs.Engine.{IsReady, IsLookahead, Passes, allows_call};
@@ -12,9 +12,9 @@ use m4_input::input::Input;
 use m4_input::plain::{first_in_list, inner_text, plain_run};
 
 impl Machine {
-    /// Puts the tokens at the front that are text where they go: up to a block of them, where text
-    /// goes to the output, and one of them within a list. It leaves what as many turns would leave,
-    /// and tells what it has seen behind them.
+    /// Consumes tokens at the start of the input that are text: up to a block of them if text goes to the output,
+    /// and one of them in a list. The effect is that of as many turns. Returns the lookahead for the next
+    /// token.
     #[inline(always)]
     pub fn pass_plain(&mut self, input: &mut Input) -> Result<Lookahead, TurnFault>
         requires { IsReady input.old }
@@ -38,7 +38,7 @@ impl Machine {
         Ok(lookahead)
     }
 
-    /// Puts the first token into the innermost call's argument, where it is text.
+    /// Appends the first token to the innermost call's argument, if it is text.
     #[inline(always)]
     fn pass_inner(&mut self, input: &mut Input) -> Result<Lookahead, TurnFault>
         requires { IsReady input.old }
@@ -62,7 +62,7 @@ impl Machine {
         Ok(lookahead)
     }
 
-    /// What stands at the front, within a list.
+    /// Returns the lookahead in a list.
     #[inline(always)]
     fn look_in_list(&self, room: bool, input: &Input) -> Result<Lookahead, TurnFault>
         requires { room ≡ allows_call self.now }

@@ -1,4 +1,4 @@
-//! One turn of an expansion: the first token of what is pending, and what it does.
+//! One turn of an expansion: consumes the first pending token and acts on it.
 //! Manual: "Macro invocation", "Macro arguments", "How m4 copies input to output".
 
 ghost use Rattle.std.specs.Prelude.{◌≡◌, ◌<◌, ◌&&◌, not, nat_lt, suc, List, ℕ, [], ◌∷◌, ◌++◌, None, Some, Ok, IfOk, OnOk, IfSome, true, false, length, codes};
@@ -41,12 +41,12 @@ use m4_state::bytes::Bytes;
 use m4_state::definition::Def;
 use m4_state::memory::MemSource;
 
-/// The reader of an input of which nothing more is read: no call asks it.
+/// Returns a reader for inputs that were read to their end; no call uses it.
 fn no_reader() -> MemSource<'static> {
     MemSource::new(&[], 1, false)
 }
 
-/// What is read behind a call: what follows the line, or first the value that the call pushes.
+/// Prepares the input after a call: skips the rest of the line, or else pushes the call's value.
 #[tactic(auto, using(crate::proofs::Inputs::skipped, crate::proofs::Inputs::pushed))]
 fn read_on(input: &mut Input, skip: bool, push: Option<Pushed>) -> Result<(), TurnFault>
     requires input { IsTaken input.old }
@@ -69,7 +69,7 @@ fn read_on(input: &mut Input, skip: bool, push: Option<Pushed>) -> Result<(), Tu
 }
 
 impl Machine {
-    /// The end of the input.
+    /// Acts on the end of the input.
     fn take_end(&mut self) -> Result<Turned, TurnFault>
         ensures { Makes result self.old self.new (λ t. (before p : Pending) → Moves self.new p t
             (λ o m. step (outer_of self.old.open_calls)
@@ -84,7 +84,7 @@ impl Machine {
         Ok(Turned::Ends(Cause::EndInArguments))
     }
 
-    /// Puts what a call has made where it goes, beside what it pushes and skips.
+    /// Adds the messages, the output and the saved text that a call made; `read_on` pushes and skips.
     #[inline(always)]
     fn put_effect(
         &mut self,
@@ -105,14 +105,14 @@ impl Machine {
         Ok(())
     }
 
-    /// Does what a definition does whose arguments are complete.
+    /// Makes a call whose arguments are complete.
     fn call(&mut self, call: OpenCall, input: &mut Input) -> Result<Turned, TurnFault>
         requires { IsTaken input.old }
         ensures { Steps result self.old self.new input.old input.new (λ t. Moves self.new input.new.pending t
             (λ o m. called_within self.old.open_calls call (here_of o m self.old input.old.pending))) }
     {
         let (head, list) = call.into_parts();
-        // A text is read where it lies, with no copy.
+        // The text is read in place, without a copy.
         if let Some(text) = head.text() {
             let quotes = self.state.quotes();
             let text = substitute(self.alloc, text, head.name(), list.as_slice(), quotes)?;
@@ -124,7 +124,7 @@ impl Machine {
             name: head.into_name(),
             list,
         };
-        // Its clauses say that the state is in order, so that what is pushed is.
+        // Its clauses say that the state is valid, so a pushed value is valid too.
         let _in_order = self.state.current();
         let Effect {
             push,
@@ -142,7 +142,7 @@ impl Machine {
         Ok(Turned::GoesOn)
     }
 
-    /// Ends an argument of the innermost call.
+    /// Ends the current argument of the innermost call.
     fn end_argument(&mut self) -> Result<(), TurnFault>
         requires { IfHead self.old.open_calls (λ c. c.parentheses ≡ 0) }
         ensures { OnOk result (self.new ≡ ending_argument self.old) }
@@ -158,7 +158,7 @@ impl Machine {
         Ok(())
     }
 
-    /// A byte that belongs to no other token.
+    /// Acts on a byte that belongs to no other token.
     fn take_byte(&mut self, byte: u8, input: &mut Input) -> Result<Turned, TurnFault>
         requires { IsTaken input.old }
         ensures { Steps result self.old self.new input.old input.new (λ t. Moves self.new input.new.pending t
@@ -180,7 +180,7 @@ impl Machine {
         Ok(Turned::GoesOn)
     }
 
-    /// The parenthesis that closes the innermost list: its call is made.
+    /// Acts on the parenthesis that closes the innermost list: makes its call.
     #[tactic(auto, using(crate::proofs::Acts::closing_result))]
     fn take_closing(&mut self, input: &mut Input) -> Result<Turned, TurnFault>
         requires list { IfHead self.old.open_calls (λ c. c.parentheses ≡ 0) }
@@ -196,7 +196,7 @@ impl Machine {
         self.call(call, input)
     }
 
-    /// Tells that a call is one more than a limit allows.
+    /// Adds the error that a call exceeds a limit.
     fn report_limit(&mut self, place: &Place, limit: u64, what: &[u8]) -> Result<(), TurnFault>
         ensures { OnOk result (self.new
             ≡ with_engine_message (error place.now (codes "more than " ++ decimal limit ++ what.now)) self.old) }
@@ -209,7 +209,7 @@ impl Machine {
         self.add_error(place, &text)
     }
 
-    /// Tells that there are too many calls.
+    /// Adds the error that there are too many calls.
     fn report_call_limit(&mut self, call: &OpenCall) -> Result<(), TurnFault>
         ensures { OnOk result (self.new ≡ with_engine_message (error call.now.place (calls_text self.old.limits.calls)) self.old) }
     {
@@ -217,7 +217,7 @@ impl Machine {
         self.report_limit(&place, self.most_calls, b" calls")
     }
 
-    /// Tells that too many calls are open.
+    /// Adds the error that too many calls are nested.
     fn report_nesting_limit(&mut self, call: &OpenCall) -> Result<(), TurnFault>
         ensures { OnOk result (self.new ≡ with_engine_message (error call.now.place (nested_text self.old.limits.nesting)) self.old) }
     {
@@ -225,7 +225,7 @@ impl Machine {
         self.report_limit(&place, self.most_nested, b" nested calls")
     }
 
-    /// Whether the limit leaves a call.
+    /// Returns whether the limit of calls allows one more.
     fn has_room(&self) -> bool
         ensures { result ≡ nat_lt self.now.calls self.now.limits.calls }
     {
@@ -240,7 +240,7 @@ impl Machine {
         self.calls += 1;
     }
 
-    /// Whether one open call more is above the limit.
+    /// Returns whether one more open call would exceed the limit.
     fn is_deep(&self) -> bool
         ensures { result ≡ is_deep_in self.now }
     {
@@ -249,7 +249,7 @@ impl Machine {
         self.most_nested > 0 && open as u64 >= self.most_nested
     }
 
-    /// Takes the parenthesis that begins a list. It was seen to be a token, so that it is one byte.
+    /// Consumes the parenthesis that opens a list. It was recognised as a token, so it is one byte.
     fn take_parenthesis(&self, input: &mut Input)
         requires ready { IsReady input.old }
         requires stands { paren_at self.now.state.quotes self.now.state.comments input.old.pending ≡ Answer.Yes }
@@ -259,7 +259,7 @@ impl Machine {
         input.consume(1);
     }
 
-    /// A name that is called, whose list follows or not.
+    /// Starts the call of a name; `listed` says whether its list follows.
     #[inline(always)]
     fn take_call(
         &mut self,
@@ -290,7 +290,7 @@ impl Machine {
         Ok(Turned::GoesOn)
     }
 
-    /// A name: a call, where it has a definition that is recognised here, else text.
+    /// Acts on a name: starts a call if it has a definition that is recognised here, else adds it as text.
     fn take_name(&mut self, name: Bytes, line: u64, input: &mut Input) -> Result<Turned, TurnFault>
         requires { IsTaken input.old }
         ensures { Steps result self.old self.new input.old input.new (λ t. (before : Pending) → line ≡ line_of before
@@ -324,7 +324,7 @@ impl Machine {
         )
     }
 
-    /// A name that has a definition, behind which stands what is pending.
+    /// Acts on a name that has a definition and was consumed; `input` starts after it.
     #[inline(always)]
     fn take_named(&mut self, named: Named, input: &mut Input) -> Result<Turned, TurnFault>
         requires input { IsTaken input.old }
@@ -352,14 +352,14 @@ impl Machine {
         self.take_call(call, listed, input)
     }
 
-    /// Whether the limits leave a call.
+    /// Returns whether the limits allow one more call.
     pub fn allows_call(&self) -> bool
         ensures { result ≡ allows_call self.now }
     {
         self.has_room() && !self.is_deep()
     }
 
-    /// What a call with no list gives, for a definition that is a text.
+    /// Counts a call of a text macro without a list, and pushes its expansion.
     #[inline(always)]
     fn take_expansion(&mut self, text: Bytes, input: &mut Input) -> Result<Turned, TurnFault>
         requires input { IsTaken input.old }
@@ -373,7 +373,7 @@ impl Machine {
         self.take_text(text, input)
     }
 
-    /// What a text with its arguments put in leaves: it is read before everything else.
+    /// Pushes a text with its arguments substituted: it is read before everything else.
     #[inline(always)]
     fn take_text(&mut self, text: Bytes, input: &mut Input) -> Result<Turned, TurnFault>
         requires { IsTaken input.old }
@@ -386,7 +386,7 @@ impl Machine {
         Ok(Turned::GoesOn)
     }
 
-    /// Whether an argument list follows.
+    /// Returns whether an argument list follows.
     fn sees_list(&self, input: &mut Input) -> Result<bool, TurnFault>
         requires ready { IsReady input.old }
         ensures answer { IfOk result (λ b.
@@ -399,7 +399,7 @@ impl Machine {
         }
     }
 
-    /// A token, which is taken already.
+    /// Acts on a token that was consumed.
     fn take_token(
         &mut self,
         token: Token,
@@ -423,7 +423,7 @@ impl Machine {
         Ok(Turned::GoesOn)
     }
 
-    /// A string or a comment that has no end.
+    /// Reports a string or a comment that has no end.
     fn take_unended(&mut self, what: Unended, line: u64, input: &Input) -> Result<Turned, TurnFault>
         ensures { Makes result self.old self.new (λ t. (before p : Pending) → before.file ≡ input.now.pending.file
             → Moves self.new p t (λ o m. step (outer_of self.old.open_calls)
@@ -443,7 +443,7 @@ impl Machine {
         }
     }
 
-    /// One turn: the first token of what is pending, and what it does.
+    /// Makes one turn: consumes the first pending token and acts on it.
     #[inline(always)]
     pub fn turn(&mut self, lookahead: Lookahead, input: &mut Input) -> Result<Turned, TurnFault>
         requires ready { IsReady input.old }
@@ -465,7 +465,7 @@ impl Machine {
         }
     }
 
-    /// The first token of what is pending, of which nothing is known, and what it does.
+    /// Consumes the first pending token, of which nothing is known, and acts on it.
     #[inline(never)]
     fn take_next(&mut self, line: u64, input: &mut Input) -> Result<Turned, TurnFault>
         requires ready { IsReady input.old }

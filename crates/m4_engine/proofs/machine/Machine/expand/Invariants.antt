@@ -3,7 +3,7 @@ use Rattle.m4_engine.proofs.LoopKeeps.{turns_of}
 use Rattle.m4_engine.proofs.Running.{Running}
 use Rattle.m4_engine.proofs.machine.Machine.expand.Given as goal
 
--- what was handed on, and where the machine stands; no writer failed
+-- the bytes that were flushed, and the machine's state; no writer failed
 abbrev pub invariant-turns : goal.invariant-turns
 invariant-turns g l = record {
   runs : Running l.fn.self l.fn.input.pending (g.O.ByteSink.contents l.fn.out) (g.M.ByteSink.contents l.fn.messages) l.self l.input (g.O.ByteSink.contents l.out) (g.M.ByteSink.contents l.messages);

@@ -7,7 +7,7 @@ use Rattle.m4_input.specs.InputView.{view_of}
 use Rattle.m4_input.proofs.Calls.{definition_taken}
 use Rattle.m4_input.proofs.input.Input.next.Goals as goal
 
--- a definition stood in front
+-- the first token was a definition
 pub returns-in-Some-take-clause-gives : goal.returns-in-Some-take-clause-gives
 returns-in-Some-take-clause-gives g c =
     let q = pair_of c.args.delims.now.quotes in
