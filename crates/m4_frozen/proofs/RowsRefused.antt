@@ -43,7 +43,7 @@ no_digits (b ∷ bs) h = rw (not-true (is_ascii_digit b) h) refl
 blanks_end : (before : List ℕ) → AreBlanks before → skip_blanks (before ++ []) ≡ []
 blanks_end before are = skip_blanks-append before [] are
 
--- the first byte after blanks is no blank
+-- blanks are skipped up to a byte that satisfies the test
 record IsApart (f : ℕ → Bool) (before here : List ℕ) : Type 0 where
   found : skip_blanks (before ++ here) ≡ here
   is : IsTrue (first_is f here)
