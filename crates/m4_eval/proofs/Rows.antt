@@ -1,4 +1,4 @@
--- Worked rows: what texts are worth and how values are written, each computed from the definitions.
+-- Worked rows: the values of texts, and values written in a radix, each computed from the definitions.
 -- The values come from outside the definitions: from the manual, from the language's description, and
 -- from an implementation that shares nothing with them.
 use Rattle.std.proofs.Common.{◌≡◌, [], ◌∷◌, refl, true, pos, negsuc}

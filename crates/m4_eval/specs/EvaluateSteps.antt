@@ -26,7 +26,7 @@ with_signs (Opened ∷ w) v = record { waiting = Opened ∷ w; current = Some v 
 with_signs (Prefixed s ∷ w) v = with_signs w (option_map (signed s) v)
 with_signs (Left d o ∷ w) v = record { waiting = Left d o ∷ w; current = Some v }
 
--- an operand joined with the open left operands, while their operators are not looser than a level
+-- an operand joined with the open left operands whose operators bind at least as tightly as a level
 abbrev pub joined_while : ℕ → List Frame → Option ℤ → List Frame × Option ℤ
 joined_while level [] v = ([], v)
 joined_while level (Opened ∷ w) v = (Opened ∷ w, v)
@@ -37,14 +37,14 @@ joined_while level (Left d o ∷ w) v =
       | false ↦ (Left d o ∷ w, v)
     ]
 
--- after a closing parenthesis
+-- the place after a closing parenthesis
 abbrev pub closed_place : List Frame × Option ℤ → Option Place
 closed_place ([], v) = None
 closed_place (Opened ∷ w, v) = Some (with_signs w v)
 closed_place (Prefixed s ∷ w, v) = None
 closed_place (Left d o ∷ w, v) = None
 
--- a step at a byte before an operand, and how many more bytes it reads
+-- the step at a byte before an operand, and how many more bytes it reads
 abbrev pub before_step : List Frame → ℕ → List ℕ → Option (Place × ℕ)
 before_step w b x =
     if b == open_parenthesis then Some (record { waiting = Opened ∷ w; current = None }, 0)
@@ -53,32 +53,32 @@ before_step w b x =
       | None ↦ literal_at b x >>= λ n. Some (with_signs w (Some (wrapped (pos n.0))), n.1)
     ]
 
--- an operator after an operand: open operators that are not looser are joined first
+-- the place after an operator: open operators that bind at least as tightly are joined first
 abbrev pub operated_place : Operator → List Frame × Option ℤ → Place
 operated_place o j = record { waiting = Left j.1 o ∷ j.0; current = None }
 
--- a step at a byte after an operand, and how many more bytes it reads
+-- the step at a byte after an operand, and how many more bytes it reads
 abbrev pub after_step : List Frame → Option ℤ → ℕ → List ℕ → Option (Place × ℕ)
 after_step w v b x =
     if b == close_parenthesis then (closed_place (joined_while 1 w v) >>= λ r. Some (r, 0))
     else operator_at b x >>= λ o. Some (operated_place o.0 (joined_while (level_of o.0) w v), o.1)
 
--- a step at a byte that is not white space
+-- the step at a byte that is not white space
 abbrev pub step_from : Option (Option ℤ) → List Frame → ℕ → List ℕ → Option (Place × ℕ)
 step_from None w b x = before_step w b x
 step_from (Some v) w b x = after_step w v b x
 
--- no part is open
+-- the value, if no part is open
 abbrev pub alone : List Frame × Option ℤ → Option (Option ℤ)
 alone ([], v) = Some v
 alone (f ∷ w, v) = None
 
--- at the end of the text
+-- the value at the end of the text
 abbrev pub ended : Option (Option ℤ) → List Frame → Option (Option ℤ)
 ended None w = None
 ended (Some v) w = alone (joined_while 1 w v)
 
--- from a place, over the bytes after the first `skip`
+-- the value of the bytes after the first `skip`, from a place
 abbrev pub values_from : ℕ → Place → List ℕ → Option (Option ℤ)
 values_from skip p [] = ended p.current p.waiting
 values_from (suc skip) p (b ∷ x) = values_from skip p x
@@ -88,6 +88,6 @@ values_from zero p (b ∷ x) =
       | false ↦ step_from p.current p.waiting b x >>= λ q. values_from q.1 q.0 x
     ]
 
--- the value of a text: the outer option is none if it is no expression, the inner one if a zero divides
+-- the value of a text: the outer option is none if it is not an expression, the inner one if a zero divides
 abbrev pub value_at : List ℕ → Option (Option ℤ)
 value_at text = values_from zero (record { waiting = []; current = None }) text

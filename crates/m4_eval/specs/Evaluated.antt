@@ -1,7 +1,7 @@
 -- Evaluated: the value of the text of an expression.
 -- Believed. Manual: "Evaluating integer expressions". Words: evaluated.
--- It reads the text by `ReadExpression`, and the law `ReadsExpressions` says that this finds exactly
--- the expression that the text spells.
+-- It reads the text by `ReadExpression`. By the law `ReadsExpressions` this finds exactly the
+-- expression that the text spells.
 use Rattle.std.specs.Prelude.{ℕ, ℤ, List, Option, Some, None}
 use Rattle.m4_eval.specs.declared.evaluate.Evaluated.{Evaluated}
 use Rattle.m4_eval.specs.declared.evaluate.Evaluated.TheVariants.{Value, DivideByZero, BadExpression}

@@ -1,5 +1,5 @@
--- GrammarView: the code's stack and value, as a place of the definitions.
--- Not believed: it only bridges the code and specs/EvaluateSteps.antt. Words: place, NoSign,
+-- GrammarView: the code's stack and value, seen as a place of the definitions.
+-- Not believed: it only connects the code with specs/EvaluateSteps.antt. Words: place, NoSign,
 -- NoneJoined, NotOpened, placed.
 use Rattle.std.specs.Prelude.{ℕ, ◌<◌, ℤ, List, [], ◌∷◌, Option, option_map, ⊤}
 use Rattle.m4_eval.specs.declared.frame.Frame.{Frame}
@@ -17,7 +17,7 @@ NoSign (Opened ∷ w) = ⊤
 NoSign (Prefixed s ∷ w) = ⊥
 NoSign (Left d o ∷ w) = ⊤
 
--- the innermost frame is not an operator that binds as tightly as a level
+-- the innermost frame is not an operator that binds at least as tightly as a level
 abbrev pub NoneJoined : ℕ → List Frame → Type 0
 NoneJoined level [] = ⊤
 NoneJoined level (Opened ∷ w) = ⊤
@@ -31,6 +31,6 @@ NotOpened (Opened ∷ w) = ⊥
 NotOpened (Prefixed s ∷ w) = ⊤
 NotOpened (Left d o ∷ w) = ⊤
 
--- the result of a step, with the stack that it leaves
+-- the result of a step, with the stack after it
 abbrev pub placed : List Frame → Option (Option (Option ℤ) × ℕ) → Option (Place × ℕ)
 placed w r = option_map (λ q. (place w q.0, q.1)) r

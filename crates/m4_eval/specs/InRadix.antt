@@ -15,7 +15,7 @@ abbrev pub radix_at : ℤ → Option ℕ
 radix_at (pos n) = if nat_le 2 n && nat_le n 36 then Some n else None
 radix_at (negsuc n) = None
 
--- digits after zeros, so that there are at least as many as the width
+-- the digits, with zeros before them up to the width
 abbrev pub padded : ℕ → List ℕ → List ℕ
 padded width x = replicate (width - length x) digit_zero ++ x
 

@@ -1,4 +1,4 @@
--- Laws: the grammar decides each text, its reading by bytes follows it, and what is written is read back.
+-- Laws: the grammar decides each text, the reading follows the grammar, and written digits are read back.
 -- Believed as statements, computed by `ReadExpression` and `EvaluateSteps`: the law `ReadsExpressions` and
 -- the law `ValuesAreRead` are about these two. Words: OneExpression, ReadsExpressions, RefusesOthers,
 -- ValuesAreRead, DigitsAreRead.
@@ -12,27 +12,27 @@ use Rattle.m4_eval.specs.Value.{value}
 use Rattle.m4_eval.specs.Literal.{AreDigits}
 use Rattle.m4_eval.specs.InRadix.{padded}
 
--- a text spells one expression at most
+-- a text spells at most one expression
 abbrev pub OneExpression : Type 0
 OneExpression =
     (text : List ℕ) (d e : Expression) → SpellsExpression d text → SpellsExpression e text → d ≡ e
 
--- what is read is what is spelled
+-- the reading finds exactly the expression that is spelled
 abbrev pub ReadsExpressions : Type 0
 ReadsExpressions =
     (text : List ℕ) (e : Expression) → (expression_at text ≡ Some e) ↔ SpellsExpression e text
 
--- a text is refused exactly if no expression is spelled so
+-- a text is refused exactly if it spells no expression
 abbrev pub RefusesOthers : Type 0
 RefusesOthers =
     (text : List ℕ)
     → (expression_at text ≡ None) ↔ ((e : Expression) → SpellsExpression e text → ⊥)
 
--- the value that is computed while a text is read is that of its expression
+-- the value computed while a text is read is that of its expression
 abbrev pub ValuesAreRead : Type 0
 ValuesAreRead = (text : List ℕ) → value_at text ≡ option_map value (expression_at text)
 
--- the digits that are written spell the absolute value, also after zeros
+-- the digits that are written spell the absolute value, also with zeros before them
 abbrev pub DigitsAreRead : Type 0
 DigitsAreRead =
     (radix width : ℕ) (z : ℤ) → 2 ≤ radix → radix ≤ 36 → unsigned_abs z < 2 ^ 32

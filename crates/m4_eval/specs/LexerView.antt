@@ -1,12 +1,12 @@
 -- LexerView: numbers as the code reads them, digit by digit.
--- Not believed: it only bridges the code and specs/ReadExpression.antt. Words: number_after, in_bits,
+-- Not believed: it only connects the code with specs/ReadExpression.antt. Words: number_after, in_bits,
 -- radix_said, bits_after, capped_after.
 use Rattle.std.specs.Prelude.{ℕ, ◌+◌, ◌*◌, nat_le, ◌&&◌, min, ℤ, pos, ◌+ℤ◌, ◌*ℤ◌, List, [], ◌∷◌, true, false, Option, Some, None, option_and_then, if◌then◌else◌}
 use Rattle.std.specs.Char.{digit_value, is_digit}
 use Rattle.m4_eval.specs.Value.{wrapped}
 use Rattle.m4_eval.specs.ReadExpression.{number_of}
 
--- the number of more digits, after those of n
+-- the number that more digits spell, after those of n
 abbrev pub number_after : ℕ → ℕ → List ℕ → Option ℕ
 number_after radix n [] = Some n
 number_after radix n (b ∷ x) =
@@ -35,7 +35,7 @@ radix_said said = option_and_then radix_within (number_of 10 said)
 abbrev pub next_bits : ℕ → ℤ → ℕ → ℤ
 next_bits radix v d = wrapped (v *ℤ pos radix +ℤ pos d)
 
--- the number of more digits, in 32 bits
+-- the number that more digits spell, in 32 bits
 abbrev pub bits_after : ℕ → ℤ → List ℕ → Option ℤ
 bits_after radix v [] = Some v
 bits_after radix v (b ∷ x) =

@@ -12,7 +12,7 @@ use Rattle.m4_input.specs.Ascii.{digit_zero}
 abbrev pub colon : ℕ
 colon = 58
 
--- the number of digits and letters in a radix
+-- the number that digits and letters spell in a radix
 abbrev pub number_in : ℕ → List ℕ → ℕ
 number_in radix digits = number_from_digits radix (map digit_value digits)
 
@@ -27,7 +27,7 @@ abbrev pub BeginsWithZero : List ℕ → Type 0
 BeginsWithZero [] = ⊥
 BeginsWithZero (b ∷ digits) = b ≡ digit_zero
 
--- `0r` and a radix and `:`
+-- `0r`, a radix and `:`
 pub record SaysRadix (radix : ℕ) (prefix : List ℕ) : Type 0 where
   pub mark : List ℕ
   pub digits : List ℕ

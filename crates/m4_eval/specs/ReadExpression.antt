@@ -1,4 +1,4 @@
--- ReadExpression: an expression's text read byte by byte, with its open parts on a stack.
+-- ReadExpression: reads an expression's text byte by byte, with its open parts on a stack.
 -- Not believed: the law `ReadsExpressions` ties it to SpellsExpression.
 -- Words: Frame, Reading, literal_at, operator_at, completed, joined_above, read_from, expression_at.
 use Rattle.std.specs.Prelude.{ℕ, zero, suc, ◌+◌, ◌==◌, nat_le, ◌&&◌, ◌||◌, Bool, true, false, List, [], ◌∷◌, drop, length, Option, Some, None, option_map, option_and_then, if◌then◌else◌}
@@ -32,33 +32,33 @@ abbrev pub run_of : List ℕ → List ℕ
 run_of [] = []
 run_of (b ∷ x) = if is_alphanumeric b then b ∷ run_of x else []
 
--- the number of digits of a radix
+-- the number that digits spell in a radix
 abbrev pub number_of : ℕ → List ℕ → Option ℕ
 number_of radix [] = None
 number_of radix (b ∷ x) =
     list_all (λ d. is_digit d radix) (b ∷ x) >> Some (number_in radix (b ∷ x))
 
--- a number, and how many bytes its literal has after the first
+-- a number, and the count of bytes that its literal has after the first
 abbrev pub of_length : ℕ → Option ℕ → Option (ℕ × ℕ)
 of_length len o = option_map (λ n. (n, len)) o
 
--- after `0r` and the digits of a radix
+-- the literal after `0r` and the digits of a radix
 abbrev pub after_radix : ℕ → List ℕ → List ℕ → Option (ℕ × ℕ)
 after_radix radix said [] = None
 after_radix radix said (c ∷ x) =
     (c == colon) >> ((nat_le 2 radix && nat_le radix 36)
     >> of_length (suc (suc (length said + length (run_of x)))) (number_of radix (run_of x)))
 
--- after `0r`
+-- the literal after `0r`
 abbrev pub in_stated_radix : List ℕ → Option (ℕ × ℕ)
 in_stated_radix x =
     number_of 10 (run_of x) >>= λ radix. after_radix radix (run_of x) (drop (length (run_of x)) x)
 
--- after a mark of a radix, which is one byte after the first
+-- the literal after the mark of a radix, which is one byte after the first
 abbrev pub in_marked_radix : ℕ → List ℕ → Option (ℕ × ℕ)
 in_marked_radix radix x = of_length (suc (length (run_of x))) (number_of radix (run_of x))
 
--- after a first digit
+-- the literal after its first digit
 abbrev pub in_radix_from : ℕ → ℕ → List ℕ → Option (ℕ × ℕ)
 in_radix_from radix b x = of_length (length (run_of x)) (number_of radix (b ∷ run_of x))
 
@@ -66,7 +66,7 @@ in_radix_from radix b x = of_length (length (run_of x)) (number_of radix (b ∷ 
 abbrev pub is_either : ℕ → ℕ → ℕ → Bool
 is_either b small capital = (b == small) || (b == capital)
 
--- after a zero that begins a literal
+-- the literal after a zero at its start
 abbrev pub after_zero : List ℕ → Option (ℕ × ℕ)
 after_zero [] = Some (0, 0)
 after_zero (c ∷ x) =
@@ -87,7 +87,7 @@ sign_at b =
     else (if b == 45 then Some Negative
     else (if b == 126 then Some Complement else (if b == 33 then Some Not else None)))
 
--- an operator of one byte or, if the next byte is this one, another of two
+-- an operator of one byte or, if the next byte is `second`, another one of two bytes
 abbrev pub or_two : Option Operator → ℕ → Operator → List ℕ → Option (Operator × ℕ)
 or_two one second two [] = option_map (λ o. (o, 0)) one
 or_two one second two (c ∷ x) = if c == second then Some (two, 1) else option_map (λ o. (o, 0)) one
@@ -123,7 +123,7 @@ pub data Frame : Type 0 where
   -- a left operand and its operator
   Left : Expression → Operator → Frame
 
--- a place in a text that was read so far, with its open parts, the innermost first
+-- the state of reading a text, with its open parts, the innermost first
 pub data Reading : Type 0 where
   -- before an operand
   Before : List Frame → Reading
@@ -137,7 +137,7 @@ completed (Opened ∷ w) e = After (Opened ∷ w) e
 completed (Prefixed s ∷ w) e = completed w (Signed s e)
 completed (Left d o ∷ w) e = After (Left d o ∷ w) e
 
--- an operand joined with the open left operands, while their operators are not looser than a level
+-- an operand joined with the open left operands whose operators bind at least as tightly as a level
 abbrev pub joined_above : ℕ → List Frame → Expression → List Frame × Expression
 joined_above level [] e = ([], e)
 joined_above level (Opened ∷ w) e = (Opened ∷ w, e)
@@ -148,19 +148,19 @@ joined_above level (Left d o ∷ w) e =
       | false ↦ (Left d o ∷ w, e)
     ]
 
--- after a closing parenthesis
+-- the state after a closing parenthesis
 abbrev pub closed : List Frame → Expression → Option Reading
 closed [] e = None
 closed (Opened ∷ w) e = Some (completed w (Group e))
 closed (Prefixed s ∷ w) e = None
 closed (Left d o ∷ w) e = None
 
--- at the end of the text
+-- the expression, if no part is open
 abbrev pub whole : List Frame → Expression → Option Expression
 whole [] e = Some e
 whole (f ∷ w) e = None
 
--- a step at a byte before an operand, and how many more bytes it reads
+-- the step at a byte before an operand, and how many more bytes it reads
 abbrev pub step_before : List Frame → ℕ → List ℕ → Option (Reading × ℕ)
 step_before w b x =
     if b == open_parenthesis then Some (Before (Opened ∷ w), 0)
@@ -169,28 +169,28 @@ step_before w b x =
       | None ↦ literal_at b x >>= λ n. Some (completed w (Number n.0), n.1)
     ]
 
--- an operator after an operand: open operators that are not looser are joined first
+-- the state after an operator: open operators that bind at least as tightly are joined first
 abbrev pub operated : Operator → List Frame × Expression → Reading
 operated o j = Before (Left j.1 o ∷ j.0)
 
--- a step at a byte after an operand, and how many more bytes it reads
+-- the step at a byte after an operand, and how many more bytes it reads
 abbrev pub step_after : List Frame → Expression → ℕ → List ℕ → Option (Reading × ℕ)
 step_after w e b x =
     if b == close_parenthesis
     then (closed (joined_above 1 w e).0 (joined_above 1 w e).1 >>= λ r. Some (r, 0))
     else operator_at b x >>= λ o. Some (operated o.0 (joined_above (level_of o.0) w e), o.1)
 
--- a step at a byte that is not white space
+-- the step at a byte that is not white space
 abbrev pub step : Reading → ℕ → List ℕ → Option (Reading × ℕ)
 step (Before w) b x = step_before w b x
 step (After w e) b x = step_after w e b x
 
--- at the end of the text
+-- the expression at the end of the text
 abbrev pub finished : Reading → Option Expression
 finished (Before w) = None
 finished (After w e) = whole (joined_above 1 w e).0 (joined_above 1 w e).1
 
--- from a reading, over the bytes after the first `skip`
+-- the expression of the bytes after the first `skip`, from a state
 abbrev pub read_from : ℕ → Reading → List ℕ → Option Expression
 read_from skip r [] = finished r
 read_from (suc skip) r (b ∷ x) = read_from skip r x

@@ -2,8 +2,8 @@
 -- Believed. Its law: `OneExpression` (a text spells at most one). Manual: "Evaluating integer
 -- expressions". Words: AreSpaces, SpellsAt, SpellsExpression.
 -- own: operators of one level group to the left; white space may be before each token and after the
--- last one, and in none. That the longest operator is read needs no rule: no operand begins with a
--- byte that could continue an operator.
+-- last one, but not inside a token. That the longest operator is read needs no rule: no operand begins
+-- with a byte that could continue an operator.
 use Rattle.std.specs.Prelude.{◌≡◌, ℕ, suc, ◌≤◌, List, [], ◌∷◌, ◌++◌, IsTrue}
 use Rattle.std.specs.List.{list_all}
 use Rattle.m4_input.specs.Ascii.{is_space, open_parenthesis, close_parenthesis}
@@ -14,9 +14,9 @@ use Rattle.m4_eval.specs.Expression.{Expression, Number, Group, Signed, Joined, 
 abbrev pub AreSpaces : List ℕ → Type 0
 AreSpaces bytes = IsTrue (list_all is_space bytes)
 
--- The spellings of an expression in a place where operators have to bind at least as tightly as a
--- level. The left operand of an operator is at its own level, the right one at the next: so operators
--- of one level group to the left.
+-- The spellings of an expression, if its operators have to bind at least as tightly as a level. The
+-- left operand of an operator is at the operator's own level, the right one at the next level: so
+-- operators of one level group to the left.
 abbrev pub SpellsAt : ℕ → Expression → List ℕ → Type 0
 SpellsAt level (Number n) text =
     (gap : List ℕ) × (literal : List ℕ) × AreSpaces gap × IsLiteral n literal
@@ -33,7 +33,7 @@ SpellsAt level (Joined o d e) text =
     × (level ≤ level_of o) × SpellsAt (level_of o) d left × AreSpaces gap
     × SpellsAt (suc (level_of o)) e right × (text ≡ left ++ gap ++ symbol_of o ++ right)
 
--- a whole text
+-- a complete text
 abbrev pub SpellsExpression : Expression → List ℕ → Type 0
 SpellsExpression e text =
     (front : List ℕ) × (end : List ℕ) × SpellsAt 1 e front × AreSpaces end × (text ≡ front ++ end)

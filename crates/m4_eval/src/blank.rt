@@ -25,7 +25,7 @@ pub fn spaces_len(bytes: &[u8]) -> usize
     k
 }
 
-/// Returns whether a text is empty or white space alone.
+/// Returns whether a text is empty or only white space.
 pub fn is_blank(text: &[u8]) -> bool
     ensures { result ≡ list_all ascii.is_space text.now }
 {

@@ -1,4 +1,4 @@
-//! A number written in a radix. Manual: "Evaluating integer expressions".
+//! Writes a number in a radix. Manual: "Evaluating integer expressions".
 
 ghost use Rattle.std.specs.Prelude.{◌≡◌, ◌<◌, IfOk, drop, false};
 ghost use Rattle.std.specs.Fmt.{digits, digit_glyph};
@@ -8,9 +8,9 @@ use crate::radix::Radix;
 use std::alloc::{AllocError, Global};
 
 /// Returns a value in a radix: `-` if it is negative, and the digits of its absolute value, in lower
-/// case. Zeros come before the digits until there are `width` of them; the sign is not counted.
+/// case. Zeros before the digits fill them up to `width`; the sign is not counted.
 ///
-/// Fails only if an allocation fails. Takes time and memory in proportion to the text.
+/// Fails only if an allocation fails. The time and the memory are proportional to the result.
 pub fn in_radix(
     alloc: Global,
     value: i32,

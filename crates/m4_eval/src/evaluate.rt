@@ -14,14 +14,14 @@ pub enum Evaluated {
     Value(i32),
     /// The text is an expression in which a zero divides.
     DivideByZero,
-    /// The text is no expression.
+    /// The text is not an expression.
     BadExpression,
 }
 
-/// Returns the value of an expression, or why it has none. A text of white space alone is no
+/// Returns the value of an expression, or why it has none. A text of only white space is not an
 /// expression.
 ///
-/// Fails only if an allocation fails. Takes time and memory in proportion to the text.
+/// Fails only if an allocation fails. The time and the memory are proportional to the text.
 pub fn evaluate(alloc: Global, text: &[u8]) -> Result<Evaluated, AllocError>
     // exact expressions: the value of the expression that the text spells, if it has one
     ensures value { IfOk result (λ v. v ≡ spec.evaluated text.now) }

@@ -1,8 +1,8 @@
-//! The value of an expression's text. It is read byte by byte, and its open parts are on a stack of
-//! their own: nothing recurses with the nesting of the text.
+//! The value of an expression's text. The text is read byte by byte, with its open parts on a stack:
+//! the code does not recurse with the nesting of the text.
 //!
-//! An operand is an `Option<i32>`: it has no value if a zero divides in it. A step at a byte returns
-//! the operand that it completes, if any, and how many more bytes it reads.
+//! An operand is an `Option<i32>`: `None` if a zero divides in it. The step at a byte returns the operand
+//! that it completes, if any, and how many more bytes it reads.
 //! Manual: "Evaluating integer expressions".
 
 ghost use Rattle.std.specs.Prelude.{◌≡◌, ◌∷◌, ◌≤◌, ◌<◌, ◌≢◌, reverse, IfSome, IfNone, OnOk, IfOk, Some, None, length};
@@ -33,7 +33,8 @@ fn pop_sign(waiting: &mut Vec<Frame>) -> Option<Sign>
     Some(sign)
 }
 
-/// Removes the innermost frame if it is a left operand whose operator is not looser than a level.
+/// Removes the innermost frame if it is a left operand whose operator binds at least as tightly as a
+/// level.
 fn pop_left(waiting: &mut Vec<Frame>, least: u8) -> Option<(Option<i32>, Operator)>
     ensures some { IfSome result (λ p. reverse waiting.old.items ≡ Left p.0 p.1 ∷ reverse waiting.new.items) }
     ensures tight { IfSome result (λ p. least ≤ level_of p.1) }
@@ -65,7 +66,7 @@ fn complete(waiting: &mut Vec<Frame>, operand: Option<i32>) -> Option<i32>
     value
 }
 
-/// Joins an operand with the open left operands, while their operators are not looser than a level.
+/// Joins an operand with the open left operands whose operators bind at least as tightly as a level.
 fn join_while(waiting: &mut Vec<Frame>, least: u8, operand: Option<i32>) -> Option<i32>
     ensures { (reverse waiting.new.items, result) ≡ joined_while least (reverse waiting.old.items) operand }
 {
@@ -110,7 +111,7 @@ fn read_operand(
     }
 }
 
-/// Reads a byte after an operand. Returns nothing if it is neither an operator nor a `)` that closes.
+/// Reads a byte after an operand. Returns nothing if it is neither an operator nor a closing `)`.
 fn read_operator(
     waiting: &mut Vec<Frame>,
     value: Option<i32>,
@@ -153,9 +154,9 @@ fn read_token(
     }
 }
 
-/// Returns the value of a text: nothing if it is no expression, and no value if a zero divides.
+/// Returns the value of a text: nothing if it is not an expression, and no value if a zero divides.
 ///
-/// Fails only if an allocation fails. Takes time in proportion to the text.
+/// Fails only if an allocation fails. The time is proportional to the text.
 pub(crate) fn value_of(alloc: Global, text: &[u8]) -> Result<Option<Option<i32>>, AllocError>
     ensures value { IfOk result (λ v. v ≡ value_at text.now) }
 {

@@ -42,7 +42,7 @@ pub(crate) fn sign(byte: u8) -> Option<Sign>
     }
 }
 
-/// Returns the operator that begins with a byte, and how many bytes it has after that one.
+/// Returns the operator that begins with a byte, and the number of its bytes after that one.
 pub(crate) fn operator(byte: u8, after: &[u8]) -> Option<(Operator, usize)>
     ensures value { result ≡ operator_at byte after.now }
     ensures within { IfSome result (λ o. o.1 ≤ length after.now) }
@@ -85,8 +85,8 @@ pub(crate) fn operator(byte: u8, after: &[u8]) -> Option<(Operator, usize)>
     }
 }
 
-/// Returns the number of the literal that begins with a byte, and how many bytes it has after that
-/// one. The number wraps.
+/// Returns the number of the literal that begins with a byte, and the number of its bytes after that
+/// one. The literal's number wraps.
 pub(crate) fn literal(byte: u8, after: &[u8]) -> Option<(i32, usize)>
     ensures value { result ≡ option_map (λ n. (wrapped (pos n.0), n.1)) (literal_at byte after.now) }
     ensures within { IfSome result (λ n. n.1 ≤ length after.now) }
@@ -105,7 +105,7 @@ pub(crate) fn literal(byte: u8, after: &[u8]) -> Option<(i32, usize)>
     }
 }
 
-/// Reads the digits of a radix after a first one.
+/// Reads a number that begins with a digit, in a radix.
 fn from_digit(radix: u8, first: u8, after: &[u8]) -> Option<(i32, usize)>
     requires { radix ≤ 36 }
     ensures value { result ≡ option_map in_bits (in_radix_from radix first after.now) }
@@ -119,7 +119,7 @@ fn from_digit(radix: u8, first: u8, after: &[u8]) -> Option<(i32, usize)>
     Some((go_on(i32::from(value), radix, run)?, run.len()))
 }
 
-/// Reads the digits of a radix after its mark, which is one byte after the first.
+/// Reads the digits after the mark of a radix, which is one byte after the first.
 fn marked(radix: u8, after: &[u8]) -> Option<(i32, usize)>
     requires { radix ≤ 36 }
     ensures value { result ≡ option_map in_bits (in_marked_radix radix after.now) }
@@ -129,7 +129,7 @@ fn marked(radix: u8, after: &[u8]) -> Option<(i32, usize)>
     Some((whole(radix, run)?, run.len() + 1))
 }
 
-/// Reads a radix, `:` and its digits.
+/// Reads a radix, `:`, and digits in that radix.
 fn stated(after: &[u8]) -> Option<(i32, usize)>
     ensures value { result ≡ option_map in_bits (in_stated_radix after.now) }
     ensures within { IfSome result (λ n. n.1 ≤ length after.now + 1) }
@@ -143,7 +143,7 @@ fn stated(after: &[u8]) -> Option<(i32, usize)>
     Some((whole(radix, run)?, said.len() + run.len() + 2))
 }
 
-/// Returns the radix that decimal digits spell, if they spell one.
+/// Returns the radix that decimal digits spell, if it is one.
 fn radix_of(said: &[u8]) -> Option<u8>
     ensures value { result ≡ radix_said said.now }
     ensures most { IfSome result (λ radix. radix ≤ 36) }
@@ -165,7 +165,7 @@ fn radix_of(said: &[u8]) -> Option<u8>
     Some(radix)
 }
 
-/// Returns the number of digits, if there is one at least. It wraps.
+/// Returns the number that digits spell, if there are any. It wraps.
 fn whole(radix: u8, digits: &[u8]) -> Option<i32>
     ensures { result ≡ option_map bits_of (number_of radix digits.now) }
 {
@@ -175,7 +175,7 @@ fn whole(radix: u8, digits: &[u8]) -> Option<i32>
     go_on(0, radix, digits)
 }
 
-/// Returns the number of more digits, after those of a value. It wraps.
+/// Returns the number that more digits spell after those of a value. It wraps.
 fn go_on(value: i32, radix: u8, digits: &[u8]) -> Option<i32>
     ensures { result ≡ bits_after radix value digits.now }
 {
@@ -199,7 +199,7 @@ fn add_digit(number: i32, radix: u8, digit: u8) -> i32
         .wrapping_add(i32::from(digit))
 }
 
-/// Returns the value of a digit or a letter, or 36 if a byte is neither.
+/// Returns the value of a digit or a letter, or 36 for any other byte.
 fn digit_of(byte: u8) -> u8
     ensures { result ≡ digit_value byte }
 {

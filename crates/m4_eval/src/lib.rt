@@ -1,15 +1,15 @@
 //! Integer expressions: their values, and numbers written in a radix.
 //!
 //! [`evaluate::evaluate`] reads a text and returns its value; [`digits::in_radix`] writes one.
-//! `specs/SpellsExpression.antt` says which texts are expressions, `specs/Value.antt` defines their
-//! values, and `specs/InRadix.antt` says how a value is written.
+//! `specs/SpellsExpression.antt` defines which texts are expressions, `specs/Value.antt` their values,
+//! and `specs/InRadix.antt` how a value is written.
 //! Manual: "Evaluating integer expressions".
 #![tactic(auto)]
 
 pub mod blank;
 pub mod digits;
 pub mod evaluate;
-// The auxiliary definitions share it with the code.
+// It is public for the auxiliary definitions, which use it too.
 #[doc(hidden)]
 pub mod frame;
 mod grammar;

@@ -1,4 +1,4 @@
-//! The radix of a number that is written: 2 to 36. Manual: "Evaluating integer expressions".
+//! The radix of a number to write: 2 to 36. Manual: "Evaluating integer expressions".
 
 ghost use Rattle.std.specs.Prelude.{◌≡◌, ◌≤◌, ℕ};
 ghost use Rattle.m4_eval.specs.InRadix as spec;

@@ -80,7 +80,7 @@ settled_now given fault s = rw append-nil at ((s []).is)
 firm_or_not : (b : Bool) → b ≡ true → b ≡ false → ⊥
 firm_or_not b e f = cc
 
--- A reader that failed has the fault that its bytes settle, else the failure behind them.
+-- A reader that failed has the fault that its bytes settle, otherwise its failure, after them.
 pub failed_answer_is_fault : (given : List ℕ)
     → IsFaultOfFailed given (failed_answer given (file_at given))
 failed_answer_is_fault given =

@@ -30,7 +30,7 @@ use Rattle.m4_frozen.proofs.LastPlace.{AreBelow, AreBelowFirst, AreBelowFirst-ne
 
 -- ---- the delimiters
 
--- the state behind some directives
+-- the state after some directives
 abbrev state_after : State → List Directive → State
 state_after t ds = fold with_directive t ds
 
@@ -236,7 +236,7 @@ no_text_done : (ds : List NumberedText) → AreBelowFirst int_cmp int_cmp_total 
 no_text_done [] = tt
 no_text_done (d ∷ ds) = tt
 
--- directives behind others
+-- directives after others
 then_after : (t u v : State) (ds es : List Directive) → state_after t ds ≡ u → state_after u es ≡ v
     → state_after t (ds ++ es) ≡ v
 then_after t u v ds es first second =

@@ -118,7 +118,7 @@ unknown_refused (b ∷ bs) h =
     let h8 = none_of letter_V [] b h7.1 in
     simp (h1.0, h2.0, h3.0, h4.0, h5.0, h6.0, h7.0, h8.0) refl
 
--- behind the version a row of the table is answered
+-- after the version the result is a row of the table
 pub row_refused : (kind : FrozenKind) (before here : List ℕ) → RowFits kind true before here
     → next_at (skip_lines false (before ++ here)) ≡ refused kind here
 row_refused kinds.NoVersion before here h = absurd (let k = h.0 in cc)
@@ -134,7 +134,7 @@ row_refused kinds.PrematureEnd before here h = within_refused kinds.PrematureEnd
 row_refused kinds.Read before here h = absurd h
 row_refused kinds.OutOfMemory before here h = absurd h
 
--- so it is behind directives
+-- the same after directives
 directives_refused : (kind : FrozenKind) (ds : List Directive) (front before here : List ℕ) (n : ℕ)
     → SpellsAll false ds front → RowFits kind true before here
     → length ds < n → directives_at n (front ++ (before ++ here)) ≡ refused kind here
@@ -152,7 +152,7 @@ directives_refused kind (d ∷ ds) front before here (suc n) w h lt =
       directives_refused kind ds w.2 before here n w.5 h (omega arith),
     ) refl
 
--- behind the version
+-- after the version
 after_refused : (kind : FrozenKind) (front before here : List ℕ) → IsFront true front
     → RowFits kind true before here → file_at (front ++ (before ++ here)) ≡ refused kind here
 unfolding file_at
@@ -211,7 +211,7 @@ row_refused_before kinds.PrematureEnd before here h =
 row_refused_before kinds.Read before here h = absurd h
 row_refused_before kinds.OutOfMemory before here h = absurd h
 
--- a row behind a front is answered
+-- the result is the row after a front
 file_refused : (kind : FrozenKind) (versioned : Bool) (front before here : List ℕ)
     → IsFront versioned front → RowFits kind versioned before here
     → file_at (front ++ (before ++ here)) ≡ refused kind here

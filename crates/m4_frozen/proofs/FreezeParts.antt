@@ -46,7 +46,7 @@ int_lt-irrefl x = by (int_lt x x) refl
     by true e = let less : int_cmp x x ≡ Less = less-int_lt x x e in let tie : int_cmp x x ≡ Equal = tied_itself int_cmp_total x in absurd cc
     by false e = refl
 
--- ---- the diversions one behind the other
+-- ---- the diversions in order
 
 -- where the numbers rise from above a number on, all of them lie above it
 above-below : (n m : ℤ) (ds : List NumberedText) → int_lt n m ≡ true → IsTrue (below_all int_cmp m ds) → above n ds ≡ ds
@@ -142,7 +142,7 @@ last_fits n (d ∷ ds) fits h = last_fits d.0 ds h.0.fits h.1
 
 -- ---- the whole text
 
--- a key behind the first one is another
+-- a key after the first one is another
 not_tied_to_first : (k q : List ℕ) → IsTrue (is_lt (byte_order k q)) → eq_by_cmp byte_order q k ≡ false
 not_tied_to_first k q h = ap is_eq (nat_list_cmp_total.antisymm q k) ∙ by (byte_order k q) h
   where

@@ -1,4 +1,4 @@
--- Bytes that lie between two places of a room, where more came behind them.
+-- The bytes between two places of a room, to which more were appended.
 use Rattle.std.proofs.Common.{◌≡◌, ℕ, zero, suc, ◌+◌, ◌-◌, ◌≤◌, List, [], ◌∷◌, ◌++◌, length, take, drop, refl, sym, ap, ◌∙◌, arith}
 use Rattle.std.proofs.Math.Seq.{take-add, drop-nil}
 use Rattle.std.specs.Prelude.{Result, Ok}

@@ -33,7 +33,7 @@ module _ {K X : Type 0} (R : K → K → Ordering) (o : IsTotalOrder R) where
       rw (above R o k e.0 below.0)
       (ap (λ (rest : List (K × X)). e ∷ rest) (put-missing k v es below.1))
 
-  -- once it stands there, it is found
+  -- once it is there, it is found
   pub find-last : (k : K) (v : X) (es : List (K × X)) → AreBelow es k
       → find R k (es ++ (k, v) ∷ []) ≡ Some v
   find-last k v [] below = rw (tied_itself o k) refl

@@ -11,7 +11,7 @@ use Rattle.m4_frozen.specs.Listing.{show, pair_line, definition_line, listing, s
 use Rattle.m4_frozen.specs.InspectorSteps.{two_words_line, begin_end_line, counted_line, stack_lines, names_lines, listing_text}
 use Rattle.m4_frozen.proofs.FreezeParts.{IsFoundIn, all_found}
 
--- two strings behind a word, grouped as the listing groups them
+-- two strings after a word, grouped as the listing groups them
 pub two_words_line-flat : (word first second : List ℕ) → two_words_line word first second ≡ word ++ show first ++ codes " " ++ show second ++ codes "\n"
 two_words_line-flat word first second = by word (show first) (codes " ") (show second) (codes "\n")
   where

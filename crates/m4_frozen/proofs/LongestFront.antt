@@ -1,4 +1,4 @@
--- No front is longer than one behind which a row of the table fits.
+-- No front is longer than one after which a row of the table fits.
 use Rattle.std.proofs.Common.{◌≡◌, ℕ, ◌≤◌, Bool, true, false, not, eqb, List, [], ◌∷◌, ◌++◌, length, Option, Some, Result, Ok, Err, refl, sym, ap, subst, ◌∙◌, append_assoc, arith, inl, inr}
 use Rattle.std.specs.Prelude.{IsTrue, codes}
 use Rattle.std.specs.List.{list_all}
@@ -28,7 +28,7 @@ skip_lines-le false (b ∷ bs) =
     (λ e. by_test (λ (xs : List ℕ). length xs ≤ length (b ∷ bs)) (eqb b hash) _ _
     (λ f. omega (arith, skip_lines-le true bs)) (λ f. omega arith))
 
--- behind whole lines where no line begins, no more lines fit
+-- after complete lines, if no line begins there, no more lines fit
 lines_max : (lines other tail rest : List ℕ) → AreSkippedLines lines → AreSkippedLines other
     → lines ++ tail ≡ other ++ rest → skip_lines false tail ≡ tail → length tail ≤ length rest
 lines_max lines other tail rest a b e stops =
@@ -49,7 +49,7 @@ no_next : (a : Directive × List ℕ) (e : Refusal) (r : Result (Option (Directi
     → r ≡ next a → r ≡ Err e → ⊥
 no_next a e r p q = cc
 
--- behind directives where a fault comes, no more directives fit
+-- after directives, if a fault follows, no more directives fit
 directives_max : (ds es : List Directive) (front other tail rest : List ℕ) (x : Refusal)
     → SpellsAll false ds front → SpellsAll false es other → front ++ tail ≡ other ++ rest
     → next_at (skip_lines false tail) ≡ Err x → skip_lines false tail ≡ tail
@@ -151,7 +151,7 @@ head_is a b cs bs e = cc
 tail_is : (a b : ℕ) (cs bs : List ℕ) → a ∷ cs ≡ b ∷ bs → cs ≡ bs
 tail_is a b cs bs e = cc
 
--- behind whole lines, an open line holds no other whole one
+-- after complete lines, an open line contains no other complete one
 open_max : (inside : Bool) (lines other text rest : List ℕ)
     → IsTrue (are_skipped false inside lines) → IsTrue (are_skipped false inside other)
     → IsTrue (has_no_newline text) → lines ++ hash ∷ text ≡ other ++ rest

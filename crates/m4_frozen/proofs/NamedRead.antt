@@ -58,25 +58,25 @@ has_head bytes name n rest e =
     head_says bytes name n rest (layout_at head_layout bytes) (layout_says head_layout bytes)
     (sym (head_is_layout bytes) ∙ e)
 
--- the second string of a pair, and the bytes behind its newline
+-- the second string of a pair, and the bytes after its newline
 abbrev with_rest : List ℕ → List ℕ → List ℕ → Step (List ℕ × List ℕ)
 with_rest name text rest = Ok ((name, text), rest)
 
 abbrev to_newline : List ℕ → List ℕ × List ℕ → Step (List ℕ × List ℕ)
 to_newline name t = expect_byte newline t.1 >>= with_rest name t.0
 
--- a pair behind `T` is a directive
+-- a pair after `T` is a directive
 abbrev as_directive : (List ℕ × List ℕ) × List ℕ → Step Directive
 as_directive p = Ok (Text p.0.0 p.0.1, p.1)
 
--- what is read behind the newline of a text
+-- the directives read after the newline of a text
 closed_of : (count : ℕ) (name text : List ℕ) (r : Result (List ℕ) Refusal)
     → ((((r >>= with_rest name text) >>= as_directive) >>= as_next) >>= after_next count)
     ≡ (r >>= then_all count (Text name text))
 closed_of count name text (Ok rest) = refl
 closed_of count name text (Err e) = refl
 
--- and behind the name
+-- and after the name
 opened_of : (count : ℕ) (name : List ℕ) (r : Step (List ℕ))
     → ((((r >>= to_newline name) >>= as_directive) >>= as_next) >>= after_next count)
     ≡ (r >>= then_text count (Text name) [])
@@ -99,7 +99,7 @@ text_begins line text name n e count more =
     ap (λ (xs : List ℕ). xs ++ more) k.spelled ∙ append_assoc k.one text more in
     opened count name n (line ++ more) (text ++ more) (ap pair_head_at parts ∙ k.gives (text ++ more))
 
--- what stands in a text stands in an equal one
+-- a fact about a text is true of an equal one
 as_named : (read : List ℕ) (l new : Loading) (t : NamedText) → new.begun ≡ Some (begun.Name t)
     → HasReadNamed read new t → IsRead read new
 as_named read l new t is h = subst (λ (o : Option Begun). ReadAs o read new) (sym is) h

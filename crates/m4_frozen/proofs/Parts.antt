@@ -18,7 +18,7 @@ use Rattle.m4_frozen.proofs.ByteTests.{by_test, test, eq_of, lt_of, ge_of}
 use Rattle.m4_frozen.proofs.Digits.{digits_are}
 use Rattle.m4_frozen.proofs.ReadBack.{magnitude_fits}
 
--- what a step answers: a value and the bytes behind it, or a refusal
+-- the result of a step: a value and the bytes after it, or a refusal
 abbrev pub Step : Type 0 → Type 0
 Step A = Result (A × List ℕ) Refusal
 
@@ -36,7 +36,7 @@ abbrev pub layout_at : {A : Type 0} → Layout A → List ℕ → Step A
 layout_at (Done x) bytes = Ok (x, bytes)
 layout_at (Then p after) bytes = part_at p bytes >>= λ v. layout_at (after v.0) v.1
 
--- what the answer at a part says: it stands, or a row of the table fits
+-- the meaning of the result at a part: it is correct, or a row of the table fits
 abbrev pub PartSays : (p : Part) → List ℕ → Step (Value p) → Type 0
 PartSays p bytes (Ok v) = (one : List ℕ) × IsPart p v.0 one × IsEnded p v.1 × (bytes ≡ one ++ v.1)
 PartSays p bytes (Err e) = (before : List ℕ) × (here : List ℕ) × IsWrong e.kind p before here
@@ -119,7 +119,7 @@ digits_say_of (b ∷ bs) [] (r ∷ rest) are apart is = let e : b ≡ r = cc in
 digits_say_of [] (d ∷ ds) rest are apart is = ((λ e. cc, are), apart, is)
 digits_say_of (b ∷ bs) (d ∷ ds) rest are apart is = ((λ e. cc, are), apart, is)
 
--- digits are read, or none stands there
+-- digits are read, or there is none
 pub digits_say : (bytes : List ℕ) → DigitsSay bytes (some_digits_at bytes)
 digits_say bytes = digits_say_of bytes (digits_at bytes).0 (digits_at bytes).1 (digits_are bytes)
     (has_front bytes).apart (has_front bytes).spelled
@@ -131,7 +131,7 @@ neither_first : (bytes : List ℕ) → IsTrue (no_blank bytes)
 neither_first [] h k = absurd cc
 neither_first (b ∷ bs) h k = rw (h, k) refl
 
--- no digit behind blanks
+-- no digit after blanks
 module _ (blanks rest : List ℕ) (are : AreBlanks blanks) (apart : IsTrue (no_blank rest)) where
   -- a part that needs a digit is wrong without one
   no_digit_says : (p : Part) (e : Refusal)
@@ -150,7 +150,7 @@ module _ (blanks rest : List ℕ) (are : AreBlanks blanks) (apart : IsTrue (no_b
   no_digit_says p e f g (inr h) =
       (blanks, [], subst (λ (k : FrozenKind). IsWrong k p blanks []) (sym h.0) g, rw h.1 refl, h.2)
 
-  -- a length stands, or a row fits
+  -- a length is read, or a row fits
   length_says : PartSays Length (blanks ++ rest)
       (some_digits_at rest >>= λ d. cond (ltb (value_of d.0) (2 ^ 64)) (Ok (value_of d.0, d.1))
       (refused kinds.NumberTooLarge rest))
@@ -181,7 +181,7 @@ module _ (blanks rest : List ℕ) (are : AreBlanks blanks) (apart : IsTrue (no_b
   abbrev version_part : Result (List ℕ) Refusal → Type 0
   version_part r = PartSays Version (blanks ++ rest) (r >>= λ x. Ok (tt, x))
 
-  -- the version stands, or a row fits
+  -- the version is read, or a row fits
   version_says : version_part
       (some_digits_at rest >>= λ d. cond (ltb 1 (value_of d.0)) (refused kinds.Newer rest)
       (cond (eqb (value_of d.0) 1) (Ok d.1) (refused kinds.VersionZero rest)))
@@ -227,7 +227,7 @@ module _ (blanks : List ℕ) (are : AreBlanks blanks) where
   abbrev number_part : List ℕ → Step ℤ → Type 0
   number_part rest r = PartSays Number (blanks ++ rest) r
 
-  -- its digits stand, or a row fits
+  -- its digits are read, or a row fits
   magnitude_says : (minus : Bool) (bs : List ℕ)
       → ((e : Refusal) → DigitsSay bs (Err e) → number_part (with_sign minus bs) (Err e))
       → number_part (with_sign minus bs) (magnitude_at (with_sign minus bs) minus bs)
@@ -278,7 +278,7 @@ module _ (blanks : List ℕ) (are : AreBlanks blanks) where
       )))
       f
 
-  -- no digit behind a `-`
+  -- no digit after a `-`
   after_minus : (bs : List ℕ) (e : Refusal) → DigitsSay bs (Err e)
       → number_part (minus_sign ∷ bs) (Err e)
   after_minus bs e (inl h) = (
@@ -311,14 +311,14 @@ module _ (blanks : List ℕ) (are : AreBlanks blanks) where
   )
   no_minus b bs apart other e (inr h) = absurd (let k = h.1 in cc)
 
-  -- a diversion's number stands, or a row fits
+  -- a diversion's number is read, or a row fits
   sign_says : (rest : List ℕ) → IsTrue (no_blank rest) → number_part rest (signed_at rest)
   sign_says [] apart = (blanks, [], (inl are, refl), refl, refl)
   sign_says (b ∷ bs) apart = by_test (number_part (b ∷ bs)) (eqb b minus_sign) _ _
       (λ e. rw (eq_of b minus_sign e) (magnitude_says true bs (after_minus bs)))
       (λ e. magnitude_says false (b ∷ bs) (no_minus b bs apart e))
 
-  -- a comma stands, or a row fits
+  -- a comma is read, or a row fits
   comma_says : (rest : List ℕ) → IsTrue (no_blank rest)
       → PartSays Comma (blanks ++ rest) (expect_byte comma rest >>= λ x. Ok (tt, x))
   comma_says [] apart = (blanks, [], (are, refl), refl, refl)
@@ -334,7 +334,7 @@ module _ (blanks : List ℕ) (are : AreBlanks blanks) where
       ))
       (λ e. (blanks, b ∷ bs, (are, rw (apart, e) refl), refl, refl))
 
--- a newline stands, or a row fits
+-- a newline is read, or a row fits
 newline_says : (bytes : List ℕ)
     → PartSays NewLine bytes (expect_byte newline bytes >>= λ x. Ok (tt, x))
 newline_says [] = ([], [], (refl, refl), refl, refl)
@@ -344,7 +344,7 @@ newline_says (b ∷ bs) =
     (λ e. (newline ∷ [], refl, tt, rw (eq_of b newline e) refl))
     (λ e. ([], b ∷ bs, (refl, rw e refl), refl, refl))
 
--- a string stands, or the end comes
+-- a string is read, or the end follows
 string_says : (n : ℕ) (bytes : List ℕ) → PartSays (String n) bytes (string_at n bytes)
 unfolding string_at
 string_says n bytes = by_test (PartSays (String n) bytes) (ltb (length bytes) n) _ _
@@ -356,7 +356,7 @@ string_says n bytes = by_test (PartSays (String n) bytes) (ltb (length bytes) n)
       sym (take-append-drop n bytes),
     ))
 
--- Where a part is expected it stands, or a row of the table fits.
+-- An expected part is read, or a row of the table fits.
 pub part_says : (p : Part) (bytes : List ℕ) → PartSays p bytes (part_at p bytes)
 unfolding length_at version_at
 part_says Version bytes = let s = has_blanks bytes in
@@ -374,20 +374,20 @@ part_says Comma bytes = let s = has_blanks bytes in
 part_says NewLine bytes = newline_says bytes
 part_says (String n) bytes = string_says n bytes
 
--- The parts of a layout stand one behind the other.
+-- The parts of a layout follow one another.
 abbrev pub IsSpelled : {A : Type 0} → Layout A → A → List ℕ → List ℕ → Type 0
 IsSpelled (Done x) y bytes rest = (x ≡ y) × (bytes ≡ [])
 IsSpelled (Then p after) y bytes rest =
     (v : Value p) × (one : List ℕ) × (more : List ℕ) × IsPart p v one × IsEnded p (more ++ rest)
     × (bytes ≡ one ++ more) × IsSpelled (after v) y more rest
 
--- what the answer at a layout says: its parts stand, or a row of the table fits
+-- the meaning of the result at a layout: its parts are correct, or a row of the table fits
 abbrev pub LayoutSays : {A : Type 0} → Layout A → List ℕ → Step A → Type 0
 LayoutSays l bytes (Ok v) = (one : List ℕ) × IsSpelled l v.0 one v.1 × (bytes ≡ one ++ v.1)
 LayoutSays l bytes (Err e) = (before : List ℕ) × (here : List ℕ)
     × IsWrongWithin e.kind l before here × (bytes ≡ before ++ here) × (e.bytes_left ≡ length here)
 
--- a part that stands goes before what is said of the others
+-- a correct part, then the result for the others
 after_part : {A : Type 0} (p : Part) (after : Value p → Layout A) (bytes : List ℕ) (v : Value p)
     (later : List ℕ) (r : Step A)
     → PartSays p bytes (Ok (v, later)) → LayoutSays (after v) later r

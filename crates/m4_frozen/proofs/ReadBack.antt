@@ -44,7 +44,7 @@ digit_is_no_sign d e = grind (arith, nat_tests)
 digit_is_no_blank : (d : ℕ) → is_ascii_digit d ≡ true → is_blank d ≡ false
 digit_is_no_blank d e = grind (arith, nat_tests)
 
--- digits at the front are found behind blanks
+-- digits at the start are found after blanks
 pub skip_blanks-digits : (ds rest : List ℕ) → AreDigits ds → skip_blanks (ds ++ rest) ≡ ds ++ rest
 skip_blanks-digits [] rest h = absurd (h.0 refl)
 skip_blanks-digits (d ∷ ds) rest h =
@@ -91,14 +91,14 @@ string_at-append n text rest e =
     le-ltb _ _ (omega (arith, length-append text rest)) in
     rw (long, take_at text rest n e, drop_at text rest n e) refl
 
--- what stands from the first string on, and what stands from the comma on
+-- the bytes from the first string on, and those from the comma on
 abbrev strings_of : List ℕ → List ℕ → List ℕ → List ℕ
 strings_of first second rest = first ++ (second ++ newline ∷ rest)
 
 abbrev pub comma_on : List ℕ → List ℕ → List ℕ → List ℕ
 comma_on blanks number rest = blanks ++ comma ∷ (number ++ newline ∷ rest)
 
--- what stands behind the letter of a pair, grouped as it is read
+-- the bytes after the letter of a pair, grouped as they are read
 abbrev pair_text : (letter : ℕ) (first second bytes : List ℕ) → IsPair letter first second bytes
     → List ℕ → List ℕ
 pair_text letter first second bytes p rest =
@@ -111,7 +111,7 @@ pair_bytes : (letter : ℕ) (first second bytes rest : List ℕ)
 pair_bytes letter first second bytes rest p =
     ap (λ (bs : List ℕ). bs ++ rest) p.spelled ∙ simp append_assoc
 
--- behind blanks the comma is found
+-- the comma is found after blanks
 comma_found : (blanks number rest : List ℕ) → AreBlanks blanks
     → skip_blanks (comma_on blanks number rest) ≡ comma ∷ (number ++ newline ∷ rest)
 comma_found blanks number rest are =
@@ -135,7 +135,7 @@ pair_head_at-spelled n name len first blanks second rest is number fits are m lt
       string_at-append n name rest is,
     ) refl
 
--- a pair is read behind its letter
+-- a pair is read after its letter
 pair_at-spelled : (letter : ℕ) (first second bytes rest : List ℕ)
     → (p : IsPair letter first second bytes)
     → pair_at (pair_text letter first second bytes p rest) ≡ Ok ((first, second), rest)
@@ -153,7 +153,7 @@ pair_at-spelled letter first second bytes rest p =
       string_at-append (length second) second (newline ∷ rest) refl,
     ) refl
 
--- bytes that spell a directive begin with its letter, and the directive is read behind it
+-- bytes that spell a directive begin with its letter, and the directive is read after it
 pub record IsRead (d : Directive) (bytes rest : List ℕ) : Type 0 where
   pub letter : ℕ
   pub after : List ℕ
@@ -206,7 +206,7 @@ signed_at-digits false (d ∷ ds) rest z are apart is fits =
     rw (skip_blanks-digits (d ∷ ds) rest are, no_sign)
     (magnitude_at-digits (d ∷ ds ++ rest) false (d ∷ ds) rest z are apart is fits)
 
--- what stands behind the letter of a diversion, grouped as it is read
+-- the bytes after the letter of a diversion, grouped as they are read
 abbrev diversion_text : (number : ℤ) (text bytes : List ℕ) → IsDiversion number text bytes
     → List ℕ → List ℕ
 diversion_text number text bytes p rest =
@@ -230,7 +230,7 @@ head_at-spelled number len first blanks second rest n fits are m lt =
       length_at-number len second (newline ∷ rest) m lt refl,
     ) refl
 
--- a diversion is read behind its letter
+-- a diversion is read after its letter
 diversion_at-spelled : (number : ℤ) (text bytes rest : List ℕ) → (p : IsDiversion number text bytes)
     → diversion_at (diversion_text number text bytes p rest) ≡ Ok ((number, text), rest)
 unfolding diversion_at
@@ -260,7 +260,7 @@ one_is_read (Diversion number text) bytes rest p = record {
   gives = rw (diversion_at-spelled number text bytes rest p) refl;
 }
 
--- behind whole lines a directive is read
+-- a directive is read after complete lines
 pub next_at-spelled : (d : Directive) (lines one rest : List ℕ) → AreSkippedLines lines
     → IsRead d one rest → next_at (skip_lines false (lines ++ one ++ rest)) ≡ Ok (Some (d, rest))
 next_at-spelled d lines one rest are r =

@@ -25,12 +25,12 @@ use Rattle.m4_frozen.proofs.Parts.{Step}
 use Rattle.m4_frozen.proofs.Spelled.{DirectiveSays, directive_says, StartSays, start_says_of, has_lines, HasLines, and_nots}
 use Rattle.m4_frozen.proofs.Answered.{read_is_spelled}
 
--- what is read behind no directives
+-- the reading after no directives
 with_front-nil : (r : Result (List Directive) Refusal) → r ≡ with_front [] r
 with_front-nil (Ok ds) = refl
 with_front-nil (Err e) = refl
 
--- a directive that is read goes behind those before it
+-- a directive that is read follows those before it
 pub regroup : (front : List Directive) (d : Directive) (read : Result (List Directive) Refusal)
     → with_front front (read >>= λ ds. Ok (d ∷ ds)) ≡ with_front (front ++ d ∷ []) read
 regroup front d (Ok ds) = ap (λ (xs : List Directive). Ok xs) (simp append_assoc)
@@ -67,7 +67,7 @@ has_read_lines read skipped l inside h same = record {
   };
 }
 
--- behind lines no line begins
+-- no line begins after skipped lines
 skip_twice : (inside : Bool) (bytes : List ℕ)
     → skip_lines false (skip_lines inside bytes) ≡ skip_lines inside bytes
 skip_twice false [] = refl
@@ -116,7 +116,7 @@ start_err : (bytes : List ℕ) (x : Refusal) (r : Result (List ℕ) Refusal) →
     → r ≡ Err x → StartSays bytes (Err x)
 start_err bytes x r h e = rw e at h
 
--- what stands at the front before the version
+-- the first bytes, before the version
 start_here : (bytes : List ℕ) → skip_lines false bytes ≡ bytes
     → StartSays bytes (after_version bytes)
 start_here bytes stops = rw stops at (start_says_of bytes (skip_lines false bytes) (has_lines bytes))
@@ -181,7 +181,7 @@ directive_err b bs (Err y) x h e =
     let same : y ≡ x = cc in
     subst (λ (w : Refusal). DirectiveSays b bs (Err w)) same h
 
--- what stands at the front behind the version
+-- the first bytes, after the version
 directive_here : (b : ℕ) (bs : List ℕ) → skip_lines false (b ∷ bs) ≡ b ∷ bs
     → DirectiveSays b bs (directive_at b bs)
 directive_here b bs stops =
@@ -193,7 +193,7 @@ directive_here b bs stops =
 no_lines : AreSkippedLines []
 no_lines = ([], All-nil IsSkippedLine, refl)
 
--- the state behind one more directive
+-- the state after one more directive
 pub fold-push : (s : State) (ds : List Directive) (d : Directive)
     → fold with_directive s (ds ++ d ∷ []) ≡ with_directive (fold with_directive s ds) d
 fold-push s [] d = refl
@@ -308,7 +308,7 @@ unfolding directives_at
 at_end zero lt = absurd (omega arith)
 at_end (suc n) lt = refl
 
--- a file that ends behind directives holds these
+-- a file that ends after directives contains these
 pub loads_at_end : (given : List ℕ) (l : Loading) → HasRead given l → l.versioned ≡ true
     → Loads given (record { state = l.state; issued = l.issued.items })
 loads_at_end given l h v =

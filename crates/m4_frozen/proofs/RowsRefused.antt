@@ -16,7 +16,7 @@ use Rattle.m4_frozen.proofs.ByteTests.{test, both_true}
 use Rattle.m4_frozen.proofs.Parts.{part_at, layout_at, fits_of}
 use Rattle.m4_frozen.proofs.ReadBack.{skip_blanks-append, skip_blanks-digits, some_digits_at-digits, length_at-number, version_at-number, string_at-append, signed_at-digits, digit_is_no_sign}
 
--- a part that stands is read
+-- a correct part is read
 pub part_stands : (p : Part) (v : Value p) (one rest : List ℕ) → IsPart p v one → IsEnded p rest
     → part_at p (one ++ rest) ≡ Ok (v, rest)
 part_stands Version v one rest h apart = rw (version_at-number one rest h apart) refl
@@ -39,16 +39,16 @@ no_digits : (here : List ℕ) → IsTrue (first_is (λ b. not (is_ascii_digit b)
 no_digits [] h = absurd cc
 no_digits (b ∷ bs) h = rw (not-true (is_ascii_digit b) h) refl
 
--- behind blanks is the end
+-- the end comes after blanks
 blanks_end : (before : List ℕ) → AreBlanks before → skip_blanks (before ++ []) ≡ []
 blanks_end before are = skip_blanks-append before [] are
 
--- what is found behind blanks
+-- blanks are skipped up to a byte that satisfies the test
 record IsApart (f : ℕ → Bool) (before here : List ℕ) : Type 0 where
   found : skip_blanks (before ++ here) ≡ here
   is : IsTrue (first_is f here)
 
--- what stands behind blanks is found
+-- the byte after blanks is found
 blanks_apart : (f : ℕ → Bool) (before here : List ℕ) → AreBlanks before
     → IsTrue (first_is (λ b. not (is_blank b) && f b) here) → IsApart f before here
 blanks_apart f before [] are h = absurd cc
@@ -60,7 +60,7 @@ blanks_apart f before (b ∷ bs) are h =
       is = p.1;
     }
 
--- digits behind blanks are found
+-- digits after blanks are found
 blanks_digits : (before digits rest : List ℕ) → AreBlanks before → AreDigits digits
     → skip_blanks (before ++ (digits ++ rest)) ≡ digits ++ rest
 blanks_digits before digits rest are d = skip_blanks-append before (digits ++ rest) are
@@ -89,7 +89,7 @@ zero_refused Version before here h =
     rw (d.4, blanks_digits before d.0 d.1 h.0 d.2, some_digits_at-digits d.0 d.1 d.2 d.3, d.5) refl
 zero_refused p before here h = absurd h
 
--- behind blanks and a sign
+-- after blanks and a sign
 minus_here : (before here : List ℕ) → IsMinus before
     → skip_blanks (before ++ here) ≡ minus_sign ∷ here
 minus_here before here h = rw (h.2, append_assoc h.0 (minus_sign ∷ []) here)

@@ -29,7 +29,7 @@ text_then_lines (b ∷ bs) rest h k = elim (test (eqb b newline)) [
       ∙ text_then_lines bs rest (rw e at h) k
 ]
 
--- one line, and those behind it
+-- one line, and those after it
 line_then_lines : (line rest : List ℕ) → IsSkippedLine line → IsTrue (are_skipped false false rest)
     → IsTrue (are_skipped false false (ended line ++ rest))
 line_then_lines line rest (inl h) k = rw h k
@@ -169,7 +169,7 @@ skip_lines-last bytes h = skips_last false bytes (last_pass bytes h)
 pub skip_lines-open : (line : List ℕ) → IsSkippedLine line → skip_lines false line ≡ []
 skip_lines-open line h = skips_last false line (open_line_passes line h)
 
--- one more line stands behind others
+-- one more line follows others
 pub AreSkippedLines-push : (lines line : List ℕ) → AreSkippedLines lines → IsSkippedLine line
     → AreSkippedLines (lines ++ ended line)
 AreSkippedLines-push lines line h is = (

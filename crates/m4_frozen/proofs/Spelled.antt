@@ -36,11 +36,11 @@ pub diversion_is_layout : (bytes : List ℕ)
 unfolding diversion_at
 diversion_is_layout bytes = simp bind_assoc refl
 
--- nothing, and the bytes behind it
+-- nothing, and the bytes after it
 abbrev unit_and : List ℕ → Step (Unit {0})
 unit_and x = Ok (tt, x)
 
--- the bytes behind
+-- the bytes after it
 abbrev rest_of : Unit {0} × List ℕ → Result (List ℕ) Refusal
 rest_of v = Ok v.1
 
@@ -147,7 +147,7 @@ never kind (Done x) before here f h = h
 never kind (Then p after) before here f (inl h) = f p before here h
 never kind (Then p after) before here f (inr h) = never kind (after h.0) h.2 here f h.6
 
--- a fault within a layout is one behind the letter
+-- a fault inside a layout is one after the letter
 within : (kind : FrozenKind) (letter : ℕ) (l : Layout Directive) (before here : List ℕ)
     → layout_of letter ≡ Some l → IsWrongWithin kind l before here
     → RowFits kind true (letter ∷ before) here
@@ -181,7 +181,7 @@ by_layout letter l bytes (Err x) e f h = (
   h.4,
 )
 
--- two strings are read behind a letter, or a row of the table fits
+-- two strings are read after a letter, or a row of the table fits
 pair_says : (letter : ℕ) (make : List ℕ → List ℕ → Directive) (bytes : List ℕ)
     → layout_of letter ≡ Some (pair_layout make)
     → ((a b bs : List ℕ) → IsPair letter a b bs → SpellsOne (make a b) bs)
@@ -191,7 +191,7 @@ pair_says letter make bytes is view =
     (pair_spells letter make view)
     (rw (pair_is_layout make bytes) (layout_says (pair_layout make) bytes))
 
--- a diversion is read behind its letter, or a row of the table fits
+-- a diversion is read after its letter, or a row of the table fits
 diversion_says : (bytes : List ℕ)
     → DirectiveSays letter_D bytes (diversion_at bytes >>= λ p. Ok (Diversion p.0.0 p.0.1, p.1))
 diversion_says bytes =
@@ -298,7 +298,7 @@ lines_say false (b ∷ bs) = elim (test (eqb b newline)) [
 pub has_lines : (bytes : List ℕ) → HasLines false bytes (skip_lines false bytes)
 has_lines bytes = elim (lines_say false bytes) [ inl h ↦ h | inr h ↦ absurd (let k = h.0 in cc) ]
 
--- the directives of all bytes behind the version, or the fault
+-- the directives of all bytes after the version, or the fault
 abbrev pub DirectivesSay : List ℕ → Result (List Directive) Refusal → Type 0
 DirectivesSay bytes (Ok ds) = SpellsAll true ds bytes
 DirectivesSay bytes (Err e) = (front : List ℕ) × (before : List ℕ) × (here : List ℕ)
@@ -321,12 +321,12 @@ after_one bytes lines one rest d (Err x) are h e k = (
   k.7,
 )
 
--- what is read behind a directive, if one came
+-- the directives read after a directive, if there was one
 abbrev after : ℕ → Option (Directive × List ℕ) → Result (List Directive) Refusal
 after n None = Ok []
 after n (Some d) = directives_at n d.1 >>= λ ds. Ok (d.0 ∷ ds)
 
--- fewer bytes stand behind a directive
+-- fewer bytes follow a directive
 shorter : (lines one rest bytes : List ℕ) (b : ℕ) → bytes ≡ lines ++ (b ∷ one) ++ rest
     → length rest < length bytes
 shorter lines one rest bytes b e = rw e (simp length-append (omega arith))
@@ -343,7 +343,7 @@ and_nots false false e = (refl, refl)
 and_nots true b e = absurd cc
 and_nots false true e = absurd cc
 
--- the same behind the lines
+-- the same after the lines
 directives_say_of : (n : ℕ) (bytes rest : List ℕ)
     → ((later : List ℕ) → length later < length bytes → DirectivesSay later (directives_at n later))
     → HasLines false bytes rest → DirectivesSay bytes (next_at rest >>= after n)
@@ -379,7 +379,7 @@ VersionSays bytes (Err e) = (before : List ℕ) × (here : List ℕ)
     × RowFits e.kind false (letter_V ∷ before) here × (bytes ≡ before ++ here)
     × (e.bytes_left ≡ length here)
 
--- a fault within the version is one behind `V`
+-- a fault inside the version is one after `V`
 within_version : (kind : FrozenKind) (before here : List ℕ)
     → IsWrongWithin kind version_layout before here → RowFits kind false (letter_V ∷ before) here
 within_version kinds.Newer before here h = (letter_V, before, refl, (refl, h))
@@ -399,7 +399,7 @@ within_version kinds.Read before here h = never kinds.Read version_layout before
 within_version kinds.OutOfMemory before here h = never kinds.OutOfMemory version_layout before here
     (λ p b x k. k) h
 
--- the version stands behind `V`, or a row fits
+-- the version is read after `V`, or a row fits
 version_says : (bytes : List ℕ) → VersionSays bytes (version_at bytes >>= expect_byte newline)
 version_says bytes =
     rw (version_is_layout bytes) (by_bind (LayoutSays version_layout bytes) (VersionSays bytes)
@@ -408,7 +408,7 @@ version_says bytes =
     (h1.1, h1.3, rw (h.2, h1.5, h2.5, h2.3, h2.6.1) (simp append_assoc)))
     (λ e h. (h.0, h.1, within_version e.kind h.0 h.1 h.2, h.3, h.4)))
 
--- the bytes behind the version, or the fault before
+-- the bytes after the version, or the fault before them
 abbrev pub StartSays : List ℕ → Result (List ℕ) Refusal → Type 0
 StartSays bytes (Ok rest) = (lines : List ℕ) × (number : List ℕ) × AreSkippedLines lines
     × IsNumber 1 number × (bytes ≡ lines ++ letter_V ∷ number ++ newline ∷ rest)
@@ -416,7 +416,7 @@ StartSays bytes (Err e) = (front : List ℕ) × (before : List ℕ) × (here : L
     × AreSkippedLines front × RowFits e.kind false before here × (bytes ≡ front ++ before ++ here)
     × (e.bytes_left ≡ length here)
 
--- lines and the version stand, or a row fits
+-- lines and the version are read, or a row fits
 pub start_says_of : (bytes rest : List ℕ) → HasLines false bytes rest
     → StartSays bytes (after_version rest)
 start_says_of bytes [] h = (h.0, h.1, [], passed_skipped h.0 h.2, (refl, inr (h.3, refl)), h.4, refl)

@@ -50,7 +50,7 @@ text_at-put n v ds =
     ap (λ (o : Option (List ℕ)). unwrap_or o []) (find-put int_cmp int_cmp_total n n v ds)
     ∙ rw (tied_itself int_cmp_total n) refl
 
--- two texts one behind the other are one
+-- two texts in order, joined, are one
 with_text-twice : (n : ℤ) (a b : List ℕ) (ds : List NumberedText)
     → with_text (with_text ds n a) n b ≡ with_text ds n (a ++ b)
 with_text-twice n [] b ds = refl
@@ -100,15 +100,15 @@ string_at-after n m c more e = elim (test (ltb (length more) m)) [
 abbrev in_front : List ℕ → List ℕ × List ℕ → Step (List ℕ)
 in_front c t = Ok (c ++ t.0, t.1)
 
--- a directive, and those behind it
+-- a directive, and those after it
 abbrev pub then_all : ℕ → Directive → List ℕ → Result (List Directive) Refusal
 then_all count d rest = directives_at count rest >>= λ ds. Ok (d ∷ ds)
 
--- a text whose beginning came, its newline, and what is behind it
+-- a text of which a prefix was read, its newline, and the rest
 abbrev pub then_text : ℕ → (List ℕ → Directive) → List ℕ → List ℕ × List ℕ → Result (List Directive) Refusal
 then_text count make came t = expect_byte newline t.1 >>= then_all count (make (came ++ t.0))
 
--- what is left of a text behind more of it
+-- the rest of a text after more of it was read
 text_of : (count : ℕ) (make : List ℕ → Directive) (came c : List ℕ) (r : Step (List ℕ))
     → ((r >>= in_front c) >>= then_text count make came) ≡ (r >>= then_text count make (came ++ c))
 text_of count make came c (Ok t) = rw (append_assoc came c t.0) refl
@@ -184,7 +184,7 @@ pub head_fits : (bytes : List ℕ) (z : ℤ) (n : ℕ) (rest : List ℕ) → hea
     → FitsSigned w32 z
 head_fits bytes z n rest e = (has_head bytes z n rest e).fits
 
--- a diversion's text, and the bytes behind its newline
+-- a diversion's text, and the bytes after its newline
 abbrev with_rest : ℤ → List ℕ → List ℕ → Step (ℤ × List ℕ)
 with_rest z text rest = Ok ((z, text), rest)
 
@@ -202,14 +202,14 @@ as_next d = Ok (Some d)
 abbrev pub after_next : ℕ → Option (Directive × List ℕ) → Result (List Directive) Refusal
 after_next count o = elim o [ None ↦ Ok [] | Some d ↦ then_all count d.0 d.1 ]
 
--- what is read behind the newline of a text
+-- the directives read after the newline of a text
 closed_of : (count : ℕ) (z : ℤ) (text : List ℕ) (r : Result (List ℕ) Refusal)
     → ((((r >>= with_rest z text) >>= as_directive) >>= as_next) >>= after_next count)
     ≡ (r >>= then_all count (Diversion z text))
 closed_of count z text (Ok rest) = refl
 closed_of count z text (Err e) = refl
 
--- and behind its line
+-- and after its line
 opened_of : (count : ℕ) (z : ℤ) (r : Step (List ℕ))
     → ((((r >>= to_newline z) >>= as_directive) >>= as_next) >>= after_next count)
     ≡ (r >>= then_text count (Diversion z) [])
@@ -352,7 +352,7 @@ has_read_more read bytes l new m le is i h =
 pub all_bytes : (P : List ℕ → Type 0) (bytes c after : List ℕ) → bytes ≡ c ++ after → after ≡ [] → P c → P bytes
 all_bytes P bytes c after parts none h = subst P (sym (parts ∙ rw (none, append-nil c) refl)) h
 
--- what stands behind a whole text
+-- the bytes after a complete text
 text_left-whole : (count : ℕ) (make : List ℕ → Directive) (came c after : List ℕ) (n : ℕ) → n ≡ length c
     → text_left count make came n (c ++ after)
     ≡ (expect_byte newline after >>= λ r. (directives_at count r >>= λ ds. Ok (make (came ++ c) ∷ ds)))
@@ -397,7 +397,7 @@ diverted_closed read c l new m all is i h =
     ∙ appended-twice (diverted (denote h.directives).state h.number) h.came c)
     (issued_more read c new.issued.items l m h i)
 
--- the byte that has to stand there does
+-- the expected byte is there
 newline_stands : (after rest : List ℕ) → expect_byte newline after ≡ Ok rest → after ≡ newline ∷ rest
 newline_stands [] rest e = absurd cc
 newline_stands (b ∷ bs) rest e = elim (test (eqb b newline)) [
@@ -455,7 +455,7 @@ text_refused read bytes c (b ∷ bs) l ds make came m e parts all some h w =
           ∙ rw is (let k : length (b ∷ bs) - length (b ∷ bs) ≡ 0 = omega arith in rw k refl),
     )
 
--- what is read behind a text is read behind what was read before it
+-- bytes read after a text are read after those before it
 pub text_then_whole : (Before : List ℕ → Type 0) (bytes after : List ℕ) (mid new : Loading)
     (r : Result Pause ReadStop)
     → HasReadText Before bytes mid after → Advances after mid new r
@@ -478,7 +478,7 @@ text_then_whole Before bytes after mid new (Err (stops.Refused e)) x a = λ read
     ap (λ (xs : List ℕ). read ++ xs) x.spelled ∙ sym (append_assoc read x.one after) in
     (ap file_at same ∙ p.0, ap (λ (xs : List ℕ). stays xs e) same ∙ p.1)
 
--- nothing stands behind all
+-- nothing is left after all bytes
 drop_all : (xs : List ℕ) → drop (length xs) xs ≡ []
 drop_all [] = refl
 drop_all (x ∷ xs) = drop_all xs
@@ -499,7 +499,7 @@ all_were_read Before bytes new all = λ read h. let a = all read h in record {
     short_is_open : (given : List ℕ) → stays given short ≡ false
     short_is_open given = let all : length given - 0 ≡ length given = omega arith in rw (all, drop_all given) refl
 
--- a text, and what is behind it
+-- a text, and the bytes after it
 pub text_and_after : (Before : List ℕ → Type 0) (bytes : List ℕ) (after : Option (Bor (List ℕ))) (mid new : Loading)
     (r : Result Pause ReadStop)
     → ReadsText Before bytes mid (Ok after) → ReadsBehind after mid new r → ReadsOn Before bytes new r
@@ -536,7 +536,7 @@ pub some_if : (bytes : List ℕ) → eqb (length bytes) 0 ≡ false → bytes �
 some_if [] h = λ e. cc
 some_if (b ∷ bs) h = λ e. cc
 
--- behind some bytes a text is whole
+-- after some bytes a text is complete
 pub all_came : (bytes front after : List ℕ) (m n : ℕ) → front ≡ take n bytes → after ≡ drop n bytes
     → length front ≡ n → n ≡ min m (length bytes) → eqb (length after) 0 ≡ false → m ≡ length front
 all_came bytes front after m n f b len is h =

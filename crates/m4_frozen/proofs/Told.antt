@@ -1,4 +1,4 @@
--- What is answered for the bytes that came is answered for those that the reader tells.
+-- The result for the bytes that were read is the result for the bytes of the reader's script.
 use Rattle.std.proofs.Common.{◌≡◌, ℕ, Bool, true, false, List, [], ◌++◌, Option, Some, None, refl, sym, subst, append_assoc, inl}
 use Rattle.std.specs.Prelude.{IfSome}
 use Rattle.std.proofs.lemmas.List.{append-nil}
@@ -11,7 +11,7 @@ use Rattle.m4_frozen.specs.Outcome.{IsFaultOf, Loads}
 use Rattle.m4_frozen.specs.Spells.{Spells}
 use Rattle.m4_frozen.proofs.FirstFault.{spelled_no_fault}
 
--- what holds of what is told, where nothing is told or bytes came first
+-- a fact about the script, if there is none or if bytes were read first
 by_told : (P : Script → Type 0) (at_first told : Option Script) (given : List ℕ)
     → at_first ≡ after_bytes given told
     → ((s : Script) → told ≡ Some s → P (record { bytes = given ++ s.bytes; fails = s.fails }))
@@ -32,7 +32,7 @@ settled_told at_first told given fault e h =
     by_told (λ s. IsFaultOf s.fails s.bytes fault) at_first told given e
     (λ s k. of_settled s.fails given s.bytes fault h)
 
--- what stands at the end
+-- the script at the end
 at_end : (told : Option Script) (s : Script) → IsAtEnd told → told ≡ Some s
     → (s.bytes ≡ []) × (s.fails ≡ false)
 at_end told s h e = rw e at h

@@ -73,7 +73,7 @@ short_within : (versioned : Bool) (before here : List ℕ)
 short_within true before here h = short_at_end h.3.0 h.1 here h.3.2
 short_within false before here h = short_at_end version_layout h.1 here h.3.1
 
--- a zero that is a fault stands there
+-- there is a zero that is a fault
 zero_within : {A : Type 0} (l : Layout A) (before here : List ℕ)
     → IsWrongWithin kinds.VersionZero l before here → HasDigits (λ n. n ≡ 0) here
 zero_within (Done x) before here h = absurd h
@@ -105,7 +105,7 @@ zero_value here all h =
     let none : h.1 ≡ [] = all_digits h.0 h.1 (rw h.4 at all) h.3 in
     rw (h.4, none, append-nil h.0) h.5
 
--- a 1 behind them makes them no zero
+-- with a 1 after them they are no zero
 not_zero : (here : List ℕ) → value_of (here ++ 49 ∷ []) ≡ 0 → ⊥
 not_zero here e = let k = value_from-append 0 here (49 ∷ []) in omega (arith, k)
 

@@ -1,5 +1,5 @@
--- Blocks: where a file stands whose bytes come block by block from a reader.
--- Not believed: private contracts cite it; `read_frozen` says the same of whole files.
+-- Blocks: the progress of loading a file whose bytes arrive block by block.
+-- Not believed: private contracts cite it; `read_frozen` states the same for whole files.
 -- Words: Fills, Stands, failures_after, IsUnderway.
 use Rattle.std.specs.Prelude.{◌≡◌, ℕ, ◌+◌, List, ◌++◌, length, Option, Result, Ok, Err, ◌⊎◌}
 use Rattle.m4_state.specs.Device.{Script, after_bytes, one_more, IsAtEnd, IsAtFault}
@@ -15,7 +15,7 @@ use Rattle.m4_frozen.specs.FaultAt.{FaultAt, IsSettledBy}
 use Rattle.m4_frozen.specs.Outcome.{Loads}
 use Rattle.m4_frozen.specs.Underway.{IsRead, HasPaused, EndsSo}
 
--- where a reader stands of which this is known
+-- where the reader is, by its last answer: at its end, at its fault, or anywhere
 abbrev pub Stands : Behind → Option Script → Type 0
 Stands marks.More told = Unit {0}
 Stands marks.End told = IsAtEnd told
@@ -26,18 +26,18 @@ abbrev pub failures_after : Behind → ℕ → ℕ
 failures_after marks.Failure n = one_more n
 failures_after after n = n
 
--- bytes came behind those that were there
+-- a block was read, and follows the bytes of the window
 pub record HasCome (old new : Window) (messages_old messages_new : Option Script) : Type 0 where
   pub block : List ℕ
   pub bytes : new.bytes ≡ old.bytes ++ block
   pub came : new.came ≡ old.came + length block
   pub gives : messages_old ≡ after_bytes block messages_new
 
--- so they did, and this is known of the reader
+-- a block was read, and this is known of the reader
 abbrev pub Fills : Window → Window → Option Script → Option Script → Behind → Type 0
 Fills old new messages_old messages_new after = HasCome old new messages_old messages_new × Stands after messages_new
 
--- what came was read, but for the bytes of the window
+-- all bytes that were read but those of the window are loaded
 pub record IsUnderway (at_first told : Option Script) (window : Window) (loading : Loading)
     : Type 0 where
   pub read : List ℕ
@@ -45,7 +45,7 @@ pub record IsUnderway (at_first told : Option Script) (window : Window) (loading
   pub came : window.came ≡ length (read ++ window.bytes)
   pub has_read : IsRead read loading
 
--- what is read of a window, whose bytes stand behind those that were read
+-- the result of reading a window, whose bytes follow those that are loaded
 abbrev pub ReadsWindow : Window → Loading → Loading → Result Pause FrozenFault → Type 0
 ReadsWindow window old new (Ok pause) =
     (read : List ℕ) → IsRead read old → HasPaused read window.bytes new pause
@@ -53,7 +53,7 @@ ReadsWindow window old new (Err fault) = (fault ≡ record { kind = kinds.OutOfM
     ⊎ ((read : List ℕ) → IsRead read old → window.came ≡ length (read ++ window.bytes)
     → IsSettledBy (read ++ window.bytes) fault)
 
--- what is answered where the file ends behind a window
+-- the result if the file ends after a window
 abbrev pub EndsAs : Window → Loading → Pause → Result Loaded FrozenFault → Type 0
 EndsAs window loading pause (Ok loaded) = (given : List ℕ) → EndsSo given loading pause.refusal
     → Loads given loaded

@@ -1,8 +1,8 @@
--- Denote: what a list of directives stands for: a state, and the text that is issued first.
+-- Denote: the meaning of a list of directives: a state, and the text that is issued first.
 -- Believed. Its law: `FreezeLoads` (the canonical directives of a state denote it).
 -- Manual: "Frozen file format". Words: with_directive, issued_by, denote.
--- own: the text of a `D` is added to its diversion; that of number 0 is issued, that of a negative
--- one is discarded. An `F` of a builtin that isn't in the table is a placeholder.
+-- own: the text of a `D` is added to its diversion; for number 0 it is issued, and for a negative
+-- number it is discarded. An `F` of a builtin that isn't in the table is a placeholder.
 use Rattle.std.specs.Prelude.{ℕ, zero, pos, List, [], Option, Some, None, fold}
 use Rattle.std.specs.List.{flat_map}
 use Rattle.m4_state.specs.declared.builtin.Builtin.{Builtin}
@@ -13,7 +13,7 @@ use Rattle.m4_state.specs.State.{State, empty, pushed, with_quotes, with_comment
 use Rattle.m4_frozen.specs.declared.loading.Loaded.{Loaded}
 use Rattle.m4_frozen.specs.Directive.{Directive, Quotes, Comments, Text, Builtin as NamedBuiltin, Diversion}
 
--- the builtin, or where the table has none a placeholder that keeps the name
+-- the builtin, or a placeholder that keeps the name if the table has none
 abbrev pub builtin_or_placeholder : Option Builtin → List ℕ → Def
 builtin_or_placeholder None name = defs.Placeholder name
 builtin_or_placeholder (Some builtin) name = defs.Builtin builtin
@@ -22,7 +22,7 @@ builtin_or_placeholder (Some builtin) name = defs.Builtin builtin
 abbrev pub definition_named : List ℕ → Def
 definition_named name = builtin_or_placeholder (builtin_named name) name
 
--- the state behind a directive, one row of the table each
+-- the state after a directive, one row of the table each
 abbrev pub with_directive : State → Directive → State
 with_directive s (Quotes begin end) = with_quotes s begin end
 with_directive s (Comments begin end) = with_comments s begin end
@@ -35,6 +35,6 @@ abbrev pub issued_by : Directive → List ℕ
 issued_by (Diversion (pos zero) text) = text
 issued_by d = []
 
--- the directives applied in order to the empty state, and the texts that they issue, joined
+-- applies the directives in order to the empty state, and joins the texts that they issue
 abbrev pub denote : List Directive → Loaded
 denote ds = record { state = fold with_directive empty ds; issued = flat_map issued_by ds }

@@ -5,7 +5,7 @@ use Rattle.m4_frozen.specs.declared.directive.Directive.{Directive as CodeDirect
 use Rattle.m4_frozen.specs.declared.directive.Directive.TheVariants as code
 use Rattle.m4_frozen.specs.Directive.{Directive, Quotes, Comments, Text, Builtin, Diversion}
 
--- its strings are no longer tied to a place in the file
+-- the directive without the place of its strings in the file
 abbrev pub directive_of : CodeDirective → Directive
 directive_of (code.Quotes begin end) = Quotes begin.now end.now
 directive_of (code.Comments begin end) = Comments begin.now end.now

@@ -1,4 +1,4 @@
--- The texts that the parts of the inspector put, as the code goes through a state.
+-- The texts that the parts of the inspector write, in the order of the code.
 -- Not believed: `listing` is these texts joined (proofs/ListingParts.antt).
 use Rattle.std.specs.Prelude.{ℕ, ℤ, List, [], ◌∷◌, ◌++◌, codes, decimal, length}
 use Rattle.std.specs.Fmt.{signed_decimal}
@@ -21,7 +21,7 @@ two_words_line word first second =
 abbrev pub stack_lines : List ℕ → List Def → List ℕ
 stack_lines name stack = flat_map (definition_line name) stack
 
--- the definitions of names, as the state finds them
+-- the definitions of the names, as the state contains them
 abbrev pub names_lines : State → List (List ℕ) → List ℕ
 names_lines s names = flat_map (λ name. stack_lines name (stack_of s name)) names
 
@@ -33,7 +33,7 @@ texts_lines diversions = flat_map diversion_line diversions
 abbrev pub current_line : ℤ → List ℕ
 current_line current = codes "current " ++ signed_decimal current ++ codes "\n"
 
--- what begins and what ends, behind a word with a blank
+-- a word with a blank, then the begin and the end, or that they are disabled
 abbrev pub begin_end_line : List ℕ → List ℕ → List ℕ → List ℕ
 begin_end_line word [] end = word ++ codes "none\n"
 begin_end_line word (b ∷ begin) end = two_words_line word (b ∷ begin) end
@@ -44,11 +44,11 @@ settings_lines s =
     begin_end_line (codes "quotes ") s.quotes.begin s.quotes.end
     ++ begin_end_line (codes "comments ") s.comments.begin s.comments.end
 
--- the length of a text, which ends a line
+-- the length of a text, and the end of the line
 abbrev pub length_end : List ℕ → List ℕ
 length_end text = codes " " ++ (decimal (length text) ++ codes "\n")
 
--- the length of a text, behind its name
+-- a name, then the length of its text
 abbrev pub counted_line : List ℕ → List ℕ → List ℕ
 counted_line name text = word_line (codes "text ") name ++ length_end text
 
@@ -57,6 +57,6 @@ abbrev pub diverted_lines : Loaded → List ℕ
 diverted_lines l =
     texts_lines l.state.diversions ++ (current_line l.state.current ++ issued_line l.issued)
 
--- all of it, where the names of the state are these
+-- all of it, if the names of the state are these
 abbrev pub listing_text : Loaded → List (List ℕ) → List ℕ
 listing_text l names = settings_lines l.state ++ (names_lines l.state names ++ diverted_lines l)

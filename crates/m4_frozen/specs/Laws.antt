@@ -1,6 +1,6 @@
--- Laws: what holds of the definitions alone: each file is decided, and canonical text loads as its state.
+-- Laws: facts about the definitions only: each file is decided, and canonical text loads as its state.
 -- Believed as statements; the functions of the module `laws` carry their proofs.
--- The law `TiesReaderSteps` speaks of `ReaderSteps`, which no believed statement rests on.
+-- The law `TiesReaderSteps` cites `ReaderSteps`; no other believed statement depends on that file.
 -- Words: OneReading, OneAnswer, TiesReaderSteps, FreezeLoads, CanonAgain, as_older, RefreezeOlder.
 use Rattle.std.specs.Prelude.{◌≡◌, ◌↔◌, ℕ, List, [], ◌⊎◌, Ok, Err, map, if◌then◌else◌}
 use Rattle.std.specs.Str.{bytes_eq}
@@ -18,19 +18,19 @@ use Rattle.m4_frozen.specs.Spells.{Spells}
 use Rattle.m4_frozen.specs.FaultAt.{FaultAt, IsFaultOfFailed}
 use Rattle.m4_frozen.specs.ReaderSteps.{file_at, fault_of, failed_answer}
 
--- the same bytes spell one list of directives
+-- the same bytes spell only one list of directives
 abbrev pub OneReading : Type 0
 OneReading =
     (bytes : List ℕ) (ds es : List Directive) → Spells ds bytes → Spells es bytes → ds ≡ es
 
--- the bytes are spelled by these directives alone, and have no fault
+-- the bytes are spelled by exactly these directives, and have no fault
 pub record IsOnlyRead (bytes : List ℕ) : Type 0 where
   pub directives : List Directive
   pub spelled : Spells directives bytes
   pub only : (others : List Directive) → Spells others bytes → others ≡ directives
   pub no_fault : (fault : FrozenFault) → FaultAt bytes fault → ⊥
 
--- the bytes have this fault alone, and no directives spell them
+-- the bytes have exactly this fault, and no directives spell them
 pub record IsOnlyRefused (bytes : List ℕ) : Type 0 where
   pub fault : FrozenFault
   pub is_fault : FaultAt bytes fault
@@ -41,15 +41,15 @@ pub record IsOnlyRefused (bytes : List ℕ) : Type 0 where
 abbrev pub OneAnswer : Type 0
 OneAnswer = (bytes : List ℕ) → IsOnlyRead bytes ⊎ IsOnlyRefused bytes
 
--- any bytes have one fault where the reader failed behind them
+-- any bytes have exactly one fault if the reader failed after them
 abbrev pub OneAnswerOfFailed : Type 0
 OneAnswerOfFailed =
     (given : List ℕ)
     → (fault : FrozenFault) × IsFaultOfFailed given fault
     × ((other : FrozenFault) → IsFaultOfFailed given other → other ≡ fault)
 
--- the reader's steps answer directives exactly where they are spelled, a refusal exactly where it
--- is the fault, and for a reader that failed its fault
+-- the reader's steps return directives exactly if these spell the bytes, a refusal exactly if it is
+-- the fault, and for a reader that failed its fault
 pub record AreTied (bytes : List ℕ) : Type 0 where
   pub directives : (ds : List Directive) → (file_at bytes ≡ Ok ds) ↔ Spells ds bytes
   pub fault : (f : FrozenFault)
@@ -57,42 +57,42 @@ pub record AreTied (bytes : List ℕ) : Type 0 where
   pub failed : (f : FrozenFault)
       → (f ≡ failed_answer bytes (file_at bytes)) ↔ IsFaultOfFailed bytes f
 
--- the reader's steps are tied to the definitions at all bytes
+-- the reader's steps are tied to the definitions for all bytes
 abbrev pub TiesReaderSteps : Type 0
 TiesReaderSteps = (bytes : List ℕ) → AreTied bytes
 
--- some directives are spelled by the canonical text of a state, they denote that state with nothing
--- issued, and no others are spelled by it
+-- some directives spell the canonical text of a state, they denote that state and issue nothing,
+-- and no others spell it
 pub record LoadsBack (s : State) : Type 0 where
   pub directives : List Directive
   pub spelled : Spells directives (freeze s)
   pub denoted : denote directives ≡ record { state = s; issued = [] }
   pub only : (others : List Directive) → Spells others (freeze s) → others ≡ directives
 
--- the canonical text of a state that is in order and sized loads as that state
+-- the canonical text of a state that is valid and sized loads as that state
 abbrev pub FreezeLoads : Type 0
 FreezeLoads = (s : State) → IsState s → IsSized s → LoadsBack s
 
--- so a canonical text comes back byte for byte
+-- so a canonical text that is loaded and frozen again is the same byte for byte
 abbrev pub CanonAgain : Type 0
 CanonAgain =
     (s : State) (ds : List Directive)
     → IsState s → IsSized s → Spells ds (freeze s) → freeze (denote ds).state ≡ freeze s
 
--- a definition as an older processor keeps it, whose table lacks a builtin: as a placeholder
+-- a definition in an older processor, whose table lacks a builtin: the builtin is a placeholder
 abbrev pub kept_by_older : Builtin → Def → Def
 kept_by_older lacking (defs.Text x) = defs.Text x
 kept_by_older lacking (defs.Builtin b) =
     if bytes_eq (name_of b) (name_of lacking) then defs.Placeholder (name_of b) else defs.Builtin b
 kept_by_older lacking (defs.Placeholder x) = defs.Placeholder x
 
--- a state as an older processor keeps it
+-- a state in an older processor
 abbrev pub as_older : Builtin → State → State
 as_older lacking s =
     record s { table = map (λ e. (e.0, map (kept_by_older lacking) e.1)) s.table }
 
--- states that differ only in that placeholders of a builtin's name are the builtin itself have the same
--- canonical text: so a frozen file that an older processor wrote keeps its bytes
+-- states that differ only in that placeholders of a builtin's name are the builtin itself have the
+-- same canonical text: so a frozen file that an older processor wrote keeps its bytes
 abbrev pub RefreezeOlder : Type 0
 RefreezeOlder =
     (lacking : Builtin) (s t : State) → as_older lacking s ≡ as_older lacking t → freeze s ≡ freeze t

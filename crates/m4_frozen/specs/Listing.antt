@@ -1,4 +1,4 @@
--- Listing: the inspector's lines, which tell what a frozen file holds.
+-- Listing: the inspector's lines, which list the contents of a frozen file.
 -- Believed. Words: show, listing.
 -- own: all of it; the manual has no inspector.
 use Rattle.std.specs.Prelude.{ℕ, ◌+◌, ◌/◌, ◌%◌, Bool, ◌&&◌, not, nat_le, nat_lt, ◌==◌, List, [], ◌∷◌, ◌++◌, length, codes, decimal, if◌then◌else◌}
@@ -15,7 +15,7 @@ use Rattle.m4_frozen.specs.declared.loading.Loaded.{Loaded}
 abbrev pub backslash : ℕ
 backslash = 92
 
--- whether a byte is shown as it is: it is printed, and is neither a space nor the backslash
+-- whether a byte is shown as it is: it is printable, and neither a space nor the backslash
 abbrev pub is_plain : ℕ → Bool
 is_plain b = nat_le 33 b && (nat_le b 126 && not (b == backslash))
 
@@ -28,18 +28,18 @@ abbrev pub show_byte : ℕ → List ℕ
 show_byte b =
     if is_plain b then b ∷ [] else backslash ∷ hex_digit (b / 16) ∷ hex_digit (b % 16) ∷ []
 
--- a string, whose bytes are shown one by one; the empty string is shown as `\.`
+-- a string, byte by byte; the empty string is shown as `\.`
 abbrev pub show : List ℕ → List ℕ
 show [] = codes "\\."
 show (b ∷ bytes) = flat_map show_byte (b ∷ bytes)
 
--- what begins and what ends, behind the word for it; `none` where it is disabled
+-- the word, then the begin and the end; `none` if the pair is disabled
 abbrev pub pair_line : List ℕ → List ℕ → List ℕ → List ℕ
 pair_line word [] end = word ++ codes " none\n"
 pair_line word (b ∷ begin) end =
     word ++ codes " " ++ show (b ∷ begin) ++ codes " " ++ show end ++ codes "\n"
 
--- a pair of delimiters behind its word
+-- the word for a pair of delimiters, then the pair
 abbrev pub delimiters_line : List ℕ → Delimiters → List ℕ
 delimiters_line word d = pair_line word d.begin d.end
 
@@ -57,7 +57,7 @@ abbrev pub diversion_line : Diversion → List ℕ
 diversion_line d =
     codes "diversion " ++ signed_decimal d.0 ++ codes " " ++ decimal (length d.1) ++ codes "\n"
 
--- the length of the text that loading issues, or nothing where it issues none
+-- the length of the text that loading issues, or nothing if it issues none
 abbrev pub issued_line : List ℕ → List ℕ
 issued_line [] = []
 issued_line (b ∷ issued) = codes "issued " ++ decimal (length (b ∷ issued)) ++ codes "\n"

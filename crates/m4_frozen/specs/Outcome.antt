@@ -1,4 +1,4 @@
--- Words on what a reader of frozen files answers.
+-- Predicates on the results of a reader of frozen files.
 -- Believed: they are cited by public contracts.
 -- Words: IfFault, IsFaultOf, Loads.
 use Rattle.std.specs.Prelude.{◌≡◌, ◌≢◌, ℕ, Bool, true, false, List, Result, IfErr}
@@ -10,16 +10,16 @@ use Rattle.m4_frozen.specs.Spells.{Spells}
 use Rattle.m4_frozen.specs.Denote.{denote}
 use Rattle.m4_frozen.specs.FaultAt.{FaultAt, IsFaultOfFailed}
 
--- of a fault that is not about memory
+-- a condition on a fault, unless memory ran out
 abbrev pub IfFault : {A : Type 0} → Result A FrozenFault → (FrozenFault → Type 0) → Type 0
 IfFault r P = IfErr r (λ f. f.kind ≢ kinds.OutOfMemory → P f)
 
--- the fault of bytes behind which the reader ended (`false`), or failed (`true`)
+-- the fault of bytes after which the reader ended (`false`), or failed (`true`)
 abbrev pub IsFaultOf : Bool → List ℕ → FrozenFault → Type 0
 IsFaultOf false bytes fault = FaultAt bytes fault
 IsFaultOf true bytes fault = IsFaultOfFailed bytes fault
 
--- what is loaded is what some directives denote that the bytes spell
+-- the loaded value is the meaning of some directives that spell the bytes
 pub record Loads (bytes : List ℕ) (loaded : Loaded) : Type 0 where
   pub directives : List Directive
   pub spelled : Spells directives bytes

@@ -1,5 +1,5 @@
--- Underway: what was read of a file so far, where its bytes come block by block.
--- Not believed: private contracts cite it; `read_frozen` says the same of whole files.
+-- Underway: the part of a file that was read so far, if its bytes arrive block by block.
+-- Not believed: private contracts cite it; `read_frozen` states the same for whole files.
 -- Words: Skips, HasRead, ReadsOne, PausesAt, Advances.
 use Rattle.std.specs.Prelude.{◌≡◌, ℕ, ℤ, ◌+◌, ◌-◌, ◌<◌, ◌≤◌, Bool, true, false, List, [], ◌∷◌, ◌++◌, length, drop, Option, Some, None, Result, Ok, Err, ◌⊎◌}
 use Rattle.std.specs.Borrow.{Bor}
@@ -20,28 +20,28 @@ use Rattle.m4_frozen.specs.Directive.{Directive, Text, Diversion}
 use Rattle.m4_frozen.specs.Outcome.{Loads}
 use Rattle.m4_frozen.specs.ReaderSteps.{◌>>=◌, skip_lines, string_at, expect_byte, directives_at, after_version, file_at, is_settled}
 
--- no line stands at the front, where this says whether a comment has begun
+-- no line to skip is at the start; `inside`: the bytes begin inside a comment
 abbrev pub StandsAt : Bool → List ℕ → Type 0
 StandsAt inside bytes = (bytes ≡ []) ⊎ ((inside ≡ false) × (skip_lines false bytes ≡ bytes))
 
--- lines at the front are skipped: what follows them is read as behind them
+-- lines at the start are skipped: the rest is read as if it came after them
 pub record Skips (inside : Bool) (bytes : List ℕ) (later : Bool) (rest : List ℕ) : Type 0 where
   pub skipped : List ℕ
   pub spelled : bytes ≡ skipped ++ rest
   pub same : (more : List ℕ) → skip_lines inside (skipped ++ more) ≡ skip_lines later more
   pub begins : StandsAt later rest
 
--- directives that were read, and what is read behind them
+-- the directives that were read, and the reading of the rest
 abbrev pub with_front : List Directive → Result (List Directive) Refusal
     → Result (List Directive) Refusal
 with_front front read = read >>= λ ds. Ok (front ++ ds)
 
--- what bytes are read as behind the version (`true`) or before it, where no comment has begun
+-- the reading of bytes after the version (`true`) or before it (`false`), outside a comment
 abbrev pub left_at : Bool → ℕ → List ℕ → Result (List Directive) Refusal
 left_at true count bytes = directives_at count bytes
 left_at false count bytes = after_version bytes >>= λ r. directives_at (length r + 1) r
 
--- what a file is read as that goes on with these bytes
+-- the reading of a file that continues with these bytes
 pub record GoesOn (read : List ℕ) (ds : List Directive) (versioned inside : Bool) (more : List ℕ)
     : Type 0 where
   pub count : ℕ
@@ -62,7 +62,7 @@ pub record HasAdvanced (bytes : List ℕ) (old new : Loading) (rest : List ℕ) 
   pub no_text : new.begun ≡ old.begun
   pub has_read : (read : List ℕ) → HasRead read old → HasRead (read ++ front) new
 
--- what is read behind the beginning of a directive's text, of which so many bytes are missing
+-- the reading of bytes that continue a directive's text, of which `missing` bytes are missing
 unfoldable pub text_left : ℕ → (List ℕ → Directive) → List ℕ → ℕ → List ℕ → Result (List Directive) Refusal
 text_left count make came missing bytes = do
   t ← string_at missing bytes
@@ -70,20 +70,20 @@ text_left count make came missing bytes = do
   ds ← directives_at count r
   Ok (make (came ++ t.0) ∷ ds)
 
--- what a file is read as that goes on with these bytes within a text
+-- the reading of a file that continues with these bytes inside a text
 pub record GoesOnIn (read : List ℕ) (ds : List Directive) (make : List ℕ → Directive)
     (came : List ℕ) (missing : ℕ) (more : List ℕ) : Type 0 where
   pub count : ℕ
   pub enough : length more ≤ count
   pub answer : file_at (read ++ more) ≡ with_front ds (text_left count make came missing more)
 
--- these bytes were read behind the directives, whatever follows them: the beginning of a text
+-- these bytes were read, whatever follows them: the directives, then a prefix of a text
 pub record IsWithinText (read : List ℕ) (loading : Loading) (ds : List Directive)
     (make : List ℕ → Directive) (came : List ℕ) (missing : ℕ) : Type 0 where
   pub place : (loading.versioned ≡ true) × (loading.inside ≡ false)
   pub goes_on : (more : List ℕ) → GoesOnIn read ds make came missing more
 
--- a diversion's, which goes to the state as it comes
+-- a prefix of a diversion's text, which goes to the state as it arrives
 pub record HasReadIn (read : List ℕ) (loading : Loading) (missing : ℕ) : Type 0 where
   pub directives : List Directive
   pub number : ℤ
@@ -92,14 +92,14 @@ pub record HasReadIn (read : List ℕ) (loading : Loading) (missing : ℕ) : Typ
   pub issued : loading.issued.items ≡ (denote directives).issued ++ issued_by (Diversion number came)
   pub within : IsWithinText read loading directives (Diversion number) came missing
 
--- a name's, which is kept until it is whole
+-- a prefix of a name's text, which is kept until it is complete
 pub record HasReadNamed (read : List ℕ) (loading : Loading) (text : NamedText) : Type 0 where
   pub directives : List Directive
   pub state : loading.state ≡ (denote directives).state
   pub issued : loading.issued.items ≡ (denote directives).issued
   pub within : IsWithinText read loading directives (Text text.name) text.text.items text.missing
 
--- these bytes were read, within such a text if one has begun
+-- these bytes were read; they end inside such a text if one is open
 abbrev pub ReadAs : Option Begun → List ℕ → Loading → Type 0
 ReadAs None read loading = HasRead read loading
 ReadAs (Some (begun.Diversion missing)) read loading = HasReadIn read loading missing
@@ -116,23 +116,23 @@ short = record { kind = kinds.PrematureEnd; bytes_left = 0 }
 abbrev pub stays : List ℕ → Refusal → Bool
 stays given e = is_settled e.kind (drop (length given - e.bytes_left) given)
 
--- the place of a refusal is among these bytes, at which no line stands
+-- the place of a refusal is among these bytes, which begin with no line to skip
 abbrev pub IsWithin : ReadStop → Bool → List ℕ → Type 0
 IsWithin stops.OutOfMemory inside here = Unit {0}
 IsWithin (stops.Refused e) inside here = (e.bytes_left ≤ length here) × StandsAt inside here
 
--- a text is begun that is not whole, or nothing is read
+-- a text is opened that is not complete, or nothing is read
 abbrev pub Opens : List ℕ → Loading → Loading → Result Bool StateFault → Type 0
 Opens here old new (Ok true) = (read : List ℕ) → HasRead read old → IsRead (read ++ here) new
 Opens here old new (Ok false) = new ≡ old
 Opens here old new (Err fault) = Unit {0}
 
--- the last bytes are kept, or they begin a text
+-- the last bytes are kept, or they open a text
 abbrev pub Keeps : List ℕ → Loading → Loading → ℕ → Type 0
 Keeps here old new left = ((left ≡ length here) × (new ≡ old))
     ⊎ ((left ≡ 0) × ((read : List ℕ) → HasRead read old → IsRead (read ++ here) new))
 
--- a pause where more bytes could mend a refusal, else the stop itself
+-- a pause if more bytes could remove the refusal, otherwise the stop itself
 abbrev pub PausesAt : ReadStop → List ℕ → Loading → Loading → Result Pause ReadStop → Type 0
 PausesAt stop here old new (Err stops.OutOfMemory) = Unit {0}
 PausesAt stop here old new (Err (stops.Refused e)) = (stop ≡ stops.Refused e) × (stays here e ≡ true)
@@ -140,7 +140,7 @@ PausesAt stops.OutOfMemory here old new (Ok pause) = ⊥
 PausesAt (stops.Refused e) here old new (Ok pause) =
     (pause.refusal ≡ Some e) × (stays here e ≡ false) × Keeps here old new pause.left
 
--- the version or a directive was read at the front
+-- the version or a directive was read at the start
 pub record HasReadOne (bytes : List ℕ) (old new : Loading) (after : List ℕ) : Type 0 where
   pub one : List ℕ
   pub spelled : bytes ≡ one ++ after
@@ -148,7 +148,7 @@ pub record HasReadOne (bytes : List ℕ) (old new : Loading) (after : List ℕ) 
   pub no_text : new.begun ≡ old.begun
   pub has_read : (read : List ℕ) → HasRead read old → HasRead (read ++ one) new
 
--- what stands at the front: the version or a directive; the end; or a refusal
+-- the result at the start of the bytes: the version or a directive; the end; or a refusal
 abbrev pub ReadsOne : List ℕ → Loading → Loading → Result (Option (Bor (List ℕ))) ReadStop → Type 0
 ReadsOne bytes old new (Ok (Some after)) = HasReadOne bytes old new after.now
 ReadsOne bytes old new (Ok None) = (bytes ≡ []) × (old.versioned ≡ true) × (new ≡ old)
@@ -156,12 +156,12 @@ ReadsOne bytes old new (Err stops.OutOfMemory) = Unit {0}
 ReadsOne bytes old new (Err (stops.Refused e)) = (new ≡ old) × (e.bytes_left ≤ length bytes)
     × ((read : List ℕ) → HasRead read old → file_at (read ++ bytes) ≡ Err e)
 
--- what a file is that ends behind these bytes: it is loaded, or refused where more bytes could mend it
+-- the result if the file ends after these bytes: it is loaded, or has a refusal that more could remove
 abbrev pub EndsSo : List ℕ → Loading → Option Refusal → Type 0
 EndsSo given loading None = Loads given (record { state = loading.state; issued = loading.issued.items })
 EndsSo given loading (Some e) = (file_at given ≡ Err e) × (stays given e ≡ false)
 
--- the bytes were read but for the last ones, which are no whole directive yet
+-- the bytes were read but for the last ones, which are not a complete directive yet
 pub record HasPaused (read bytes : List ℕ) (new : Loading) (pause : Pause) : Type 0 where
   pub front : List ℕ
   pub rest : List ℕ
@@ -170,18 +170,18 @@ pub record HasPaused (read bytes : List ℕ) (new : Loading) (pause : Pause) : T
   pub has_read : IsRead (read ++ front) new
   pub ends : EndsSo (read ++ bytes) new pause.refusal
 
--- what is read of more bytes, where this was read before: all that are whole, or a fault that stays
+-- the result of reading more bytes, after those before: all that is complete, or a fault that stays
 abbrev pub ReadsOn : (List ℕ → Type 0) → List ℕ → Loading → Result Pause ReadStop → Type 0
 ReadsOn Before bytes new (Ok pause) = (read : List ℕ) → Before read → HasPaused read bytes new pause
 ReadsOn Before bytes new (Err stops.OutOfMemory) = Unit {0}
 ReadsOn Before bytes new (Err (stops.Refused e)) = (read : List ℕ) → Before read
     → (file_at (read ++ bytes) ≡ Err e) × (stays (read ++ bytes) e ≡ true)
 
--- where no text is open
+-- the same, if no text is open
 abbrev pub Advances : List ℕ → Loading → Loading → Result Pause ReadStop → Type 0
 Advances bytes old new r = ReadsOn (λ read. HasRead read old) bytes new r
 
--- a text was read to its end, of which this was read before
+-- a text was read to its end; a part of it was read before
 pub record HasReadText (Before : List ℕ → Type 0) (bytes : List ℕ) (new : Loading)
     (after : List ℕ) : Type 0 where
   pub one : List ℕ
@@ -189,7 +189,7 @@ pub record HasReadText (Before : List ℕ → Type 0) (bytes : List ℕ) (new : 
   pub no_text : new.begun ≡ None
   pub has_read : (read : List ℕ) → Before read → HasRead (read ++ one) new
 
--- what is read of a text: its end, all the bytes, or a refusal
+-- the result of reading a text: its end, all the bytes, or a refusal
 abbrev pub ReadsText : (List ℕ → Type 0) → List ℕ → Loading
     → Result (Option (Bor (List ℕ))) ReadStop → Type 0
 ReadsText Before bytes new (Ok (Some after)) = HasReadText Before bytes new after.now
@@ -199,7 +199,7 @@ ReadsText Before bytes new (Err stops.OutOfMemory) = Unit {0}
 ReadsText Before bytes new (Err (stops.Refused e)) = (read : List ℕ) → Before read
     → (file_at (read ++ bytes) ≡ Err e) × (stays (read ++ bytes) e ≡ true)
 
--- what is read behind a text, where it has ended
+-- the result of reading on after a text, if it has ended
 abbrev pub ReadsBehind : Option (Bor (List ℕ)) → Loading → Loading → Result Pause ReadStop → Type 0
 ReadsBehind None old new r = (new ≡ old) × (r ≡ Ok (record { left = 0; refusal = Some short }))
 ReadsBehind (Some after) old new r = Advances after.now old new r

@@ -1,4 +1,4 @@
--- The texts that the parts of the writer put, as the code goes through a state.
+-- The texts that the parts of the writer write, in the order of the code.
 -- Not believed: `freeze` is these texts joined (proofs/FreezeParts.antt).
 use Rattle.std.specs.Prelude.{ℕ, ℤ, pos, List, [], ◌++◌}
 use Rattle.std.specs.List.{flat_map, filter}
@@ -12,7 +12,7 @@ use Rattle.m4_frozen.specs.Freeze.{same_delimiters, definition, diversion, spell
 use Rattle.m4_state.specs.Delimiters.{default_quotes, default_comments}
 use Rattle.m4_frozen.specs.Ascii.{letter_C, letter_Q}
 
--- a directive of delimiters, or nothing where they are the defaults
+-- the directive of a pair of delimiters, or nothing if it is the default
 abbrev pub delimiters_text : ℕ → Delimiters → Delimiters → List ℕ
 delimiters_text letter default d =
     if same_delimiters d default then [] else two_strings letter d.begin d.end
@@ -21,7 +21,7 @@ delimiters_text letter default d =
 abbrev pub stack_text : List ℕ → List Def → List ℕ
 stack_text name stack = flat_map (λ d. spelling (definition name d)) stack
 
--- the definitions of names, as the state finds them
+-- the definitions of the names, as the state contains them
 abbrev pub names_text : State → List (List ℕ) → List ℕ
 names_text s names = flat_map (λ name. stack_text name (stack_of s name)) names
 
@@ -33,7 +33,7 @@ above number diversions = filter (λ d. int_lt number d.0) diversions
 abbrev pub texts_text : List NumberedText → List ℕ
 texts_text diversions = flat_map (λ d. spelling (diversion d)) diversions
 
--- the directive of the current number behind those of the texts, the last of which gave this number
+-- the directive of the current number after those of the texts, the last of which set this number
 abbrev pub current_text : ℤ → ℤ → List ℕ
 current_text current last =
     if int_eq current last then [] else spelling (Diversion current [])
@@ -49,7 +49,7 @@ abbrev pub diverted_text : State → List ℕ
 diverted_text s =
     texts_text s.diversions ++ current_text s.current (last_number (pos 0) s.diversions)
 
--- all directives, where the names of the state are these
+-- all directives, if the names of the state are these
 unfoldable pub directives_text : State → List (List ℕ) → List ℕ
 directives_text s names = settings_text s ++ (names_text s names ++ diverted_text s)
 

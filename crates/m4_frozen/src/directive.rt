@@ -1,9 +1,9 @@
-//! What the lines of a frozen file say behind its version.
+//! The directives of a frozen file: the lines after its version.
 //!
 //! Contracts see a directive by `directive_of` (`specs/DirectiveView.antt`): its bytes, without
 //! their place in the file. Manual: "Frozen file format".
 
-/// A directive, whose strings lie in the file.
+/// A directive. Its strings borrow from the bytes of the file.
 #[derive(Clone, Copy, Debug, PartialEq, Eq)]
 pub enum Directive<'a> {
     /// `Q`: the quotes' begin and end.

@@ -1,8 +1,8 @@
-//! Why a frozen file was refused, and where.
+//! Why a frozen file was refused, and at which byte.
 //!
-//! While a file is read, a refusal carries how many bytes are left from its place to the end, so
-//! that no step has to count the bytes before it. Which fault a file has is `FaultAt`
-//! (`specs/FaultAt.antt`). Manual: "Frozen file format".
+//! While a file is read, a refusal counts the bytes from its place to the end of those read, so that
+//! no step has to count the bytes before it. `FaultAt` (`specs/FaultAt.antt`) defines which fault a
+//! file has. Manual: "Frozen file format".
 
 ghost use Rattle.std.specs.Prelude.{◌≡◌, length};
 ghost use Rattle.m4_frozen.specs.declared.fault.FrozenKind.TheVariants as kinds;
@@ -13,10 +13,10 @@ use m4_state::fault::StateFault;
 use std::alloc::AllocError;
 use thiserror::Error;
 
-/// What is wrong with a frozen file, or why it could not be read.
+/// The kinds of faults of a frozen file, and of failures to read it.
 #[derive(Clone, Copy, Debug, PartialEq, Eq, Error)]
 pub enum FrozenKind {
-    /// No `V` stands where the version is expected.
+    /// There is no `V` where the version is expected.
     #[error("F1 NoVersion")]
     NoVersion,
     /// The version is above 1.
@@ -25,28 +25,28 @@ pub enum FrozenKind {
     /// The version is 0.
     #[error("F3 VersionZero")]
     VersionZero,
-    /// A `V` stands behind the version.
+    /// There is a `V` after the version.
     #[error("F4 SecondVersion")]
     SecondVersion,
-    /// A byte that begins no directive stands where one is expected.
+    /// The byte where a directive is expected is not the letter of one.
     #[error("F5 UnknownDirective")]
     UnknownDirective,
-    /// No digit stands where a number is expected.
+    /// There is no digit where a number is expected.
     #[error("F6 DigitExpected")]
     DigitExpected,
     /// A length needs more than 64 bits, or a diversion's number more than 32.
     #[error("F7 NumberTooLarge")]
     NumberTooLarge,
-    /// No comma or no newline stands where one is expected.
+    /// There is no comma or no newline where one is expected.
     #[error("F8 SeparatorExpected")]
     SeparatorExpected,
-    /// The file ends within a directive.
+    /// The file ends inside a directive.
     #[error("F9 PrematureEnd")]
     PrematureEnd,
-    /// The reader failed before anything was settled.
+    /// The reader failed before the bytes settled any other fault.
     #[error("F10 Read")]
     Read,
-    /// A growth was refused.
+    /// An allocation failed.
     #[error("F11 OutOfMemory")]
     OutOfMemory,
 }
@@ -54,9 +54,9 @@ pub enum FrozenKind {
 /// The fault of a frozen file.
 #[derive(Clone, Copy, Debug, PartialEq, Eq)]
 pub struct FrozenFault {
-    /// What is wrong.
+    /// The kind of fault.
     pub kind: FrozenKind,
-    /// How many bytes stand before it; 0 where memory ran out.
+    /// The number of bytes before it; 0 if memory ran out.
     pub offset: u64,
 }
 
@@ -80,7 +80,7 @@ impl From<StateFault> for FrozenFault {
     }
 }
 
-/// Want of memory, which no byte is to blame for.
+/// Returns the fault for running out of memory. It has no place in the file.
 pub(crate) fn no_memory() -> FrozenFault
     ensures { result ≡ record { kind = kinds.OutOfMemory; offset = 0 } }
 {
@@ -90,7 +90,7 @@ pub(crate) fn no_memory() -> FrozenFault
     }
 }
 
-/// A fault, and how many bytes stand from its place to the end of the file.
+/// A fault, and the number of bytes from its place to the end of the file.
 #[derive(Clone, Copy, Debug, PartialEq, Eq)]
 pub(crate) struct Refusal {
     pub(crate) kind: FrozenKind,
@@ -131,7 +131,7 @@ impl From<Refusal> for ReadStop {
     }
 }
 
-/// A refusal at the first of these bytes, which are the last of the file.
+/// Returns a refusal at the first of these bytes, which are the last of the file.
 pub(crate) fn refused_at(kind: FrozenKind, rest: &[u8]) -> Refusal
     ensures { result ≡ record { kind = kind; bytes_left = length rest.now } }
 {
@@ -141,13 +141,13 @@ pub(crate) fn refused_at(kind: FrozenKind, rest: &[u8]) -> Refusal
     }
 }
 
-/// Why a text was not written whole.
+/// Why a text was not written completely.
 #[derive(Clone, Copy, Debug, PartialEq, Eq, Error)]
 pub enum WriteFault {
-    /// The writer failed; it holds a beginning of the text.
+    /// The writer failed. It received a prefix of the text.
     #[error("G1 Write")]
     Write,
-    /// A growth was refused, before the first byte was written.
+    /// An allocation failed before the first byte was written.
     #[error("G2 OutOfMemory")]
     OutOfMemory,
 }

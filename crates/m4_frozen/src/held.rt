@@ -1,5 +1,5 @@
-//! Bytes that came from a reader and are still needed, in one piece: the reader puts them where they
-//! are read.
+//! The bytes of a reader that are still needed, as one slice. The reader writes them directly to where
+//! they are parsed.
 
 ghost use Rattle.std.specs.Prelude.{◌≡◌, ◌+◌, ◌<◌, ◌≤◌, ◌-◌, [], length, take, drop, Ok, IfOk, OnOk, OnErr};
 ghost use Rattle.m4_frozen.specs.HeldBytes.{Takes};
@@ -9,10 +9,10 @@ use m4_state::device::{ByteSource, DeviceFault};
 use std::alloc::{AllocError, Global};
 use std::marker::Model;
 
-/// How many bytes are asked of a reader at a time.
+/// How many bytes are requested from a reader at a time.
 pub(crate) const BLOCK: usize = 32768;
 
-/// The last bytes that came, which contracts see as a list.
+/// The last bytes that were read. Contracts see them as a list.
 #[derive(Drop)]
 pub(crate) struct Held {
     room: Vec<u8>,
@@ -30,7 +30,7 @@ impl Model for Held {
     ghost invariant = { λ h. (h.start ≤ h.end) × (h.end ≤ length h.room.items) };
 }
 
-/// Moves the bytes at a place to the front.
+/// Moves `len` bytes from `start` to the start of the room.
 fn move_part(room: &mut [u8], start: usize, len: usize)
     requires { start + len ≤ length room.old }
     ensures part { take len room.new ≡ take len (drop start room.old) }
@@ -44,7 +44,7 @@ fn move_part(room: &mut [u8], start: usize, len: usize)
     }
 }
 
-/// Makes room behind a place, if there is none.
+/// Makes room after `end`, if there is none.
 fn make_room(room: &mut Vec<u8>, end: usize) -> Result<(), AllocError>
     requires { end ≤ length room.old.items }
     ensures front { take end room.new.items ≡ take end room.old.items }
@@ -57,7 +57,7 @@ fn make_room(room: &mut Vec<u8>, end: usize) -> Result<(), AllocError>
     Ok(())
 }
 
-/// Takes bytes of a reader into the room behind a place.
+/// Reads bytes from a reader into the room after `end`.
 fn take_after<R: ByteSource>(
     room: &mut Vec<u8>,
     end: usize,
@@ -79,7 +79,7 @@ fn take_after<R: ByteSource>(
 }
 
 impl Held {
-    /// No bytes.
+    /// Returns an empty buffer.
     pub(crate) fn new(alloc: Global) -> Held
         ensures { result ≡ [] }
     {
@@ -90,7 +90,7 @@ impl Held {
         }
     }
 
-    /// The bytes.
+    /// Returns the bytes.
     pub(crate) fn as_slice(&self) -> &[u8]
         ensures { result.now ≡ self.now }
     {
@@ -101,7 +101,7 @@ impl Held {
             .0
     }
 
-    /// Drops all bytes but the last ones.
+    /// Drops all bytes but the last `count`.
     pub(crate) fn keep_last(&mut self, count: usize)
         requires { count ≤ length self.old }
         ensures { self.new ≡ drop (length self.old - count) self.old }
@@ -109,7 +109,7 @@ impl Held {
         self.start = self.end - count;
     }
 
-    /// Moves the bytes to the front of the room, so that there is room behind them.
+    /// Moves the bytes to the start of the room, which frees the room after them.
     pub(crate) fn move_to_front(&mut self)
         ensures { self.new ≡ self.old }
     {
@@ -119,7 +119,7 @@ impl Held {
         self.end = len;
     }
 
-    /// Takes more bytes of a reader, behind the others.
+    /// Reads more bytes from a reader and appends them.
     pub(crate) fn take_from<R: ByteSource>(
         &mut self,
         reader: &mut R,

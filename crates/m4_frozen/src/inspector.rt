@@ -1,7 +1,7 @@
-//! The inspector's lines: what a frozen file holds, for people to read.
+//! The inspector's lines: the contents of a frozen file, for people to read.
 //!
-//! A line is put part by part, so nothing of the listing is held in memory. Want of memory can only
-//! come while the names are listed, before the first byte.
+//! A line is written part by part, so no part of the listing is buffered. Memory can run out only
+//! while the names are listed, before the first byte is written.
 
 ghost use Rattle.std.specs.Prelude.{◌≡◌, ◌<◌, OnOk, Err};
 ghost use Rattle.std.specs.List.{flat_map, list_all};
@@ -19,20 +19,20 @@ use m4_state::device::{ByteSink, DeviceFault};
 use m4_state::state::State;
 use m4_state::transfer::{write_all, write_pieces};
 
-/// Writes a line for each thing that a frozen file gave: the delimiters, the definitions, the
-/// diversions, the current number, the length of the issued text.
+/// Writes a line for each item of a frozen file: the delimiters, the definitions, the diversions,
+/// the current number, the length of the issued text.
 pub fn list<W: ByteSink>(loaded: &Loaded, writer: &mut W) -> Result<(), WriteFault>
     // exact writer: the lines, and nothing else
     ensures written { OnOk result (W.contents writer.new
         ≡ with_bytes (W.contents writer.old) (lines.listing loaded.now)) }
-    // exact writer: a write fault leaves a beginning of them
+    // exact writer: a write fault leaves a prefix of them
     ensures begun { result ≡ Err WriteFault.Write
         → HasBegun (W.contents writer.old) (W.contents writer.new) (lines.listing loaded.now) }
-    // exact writer: want of memory comes before the first byte
+    // exact writer: memory can run out only before the first byte
     ensures no_memory { result ≡ Err WriteFault.OutOfMemory
         → W.contents writer.new ≡ W.contents writer.old }
 
-    // safe and total: a write fault comes only where the writer failed in this call
+    // safe and total: a write fault is returned only if the writer failed in this call
     ensures write_fault { result ≡ Err WriteFault.Write
         → W.failures writer.new ≡ one_more (W.failures writer.old) }
     ensures unfailed { OnOk result (W.failures writer.new ≡ W.failures writer.old) }
@@ -43,7 +43,7 @@ pub fn list<W: ByteSink>(loaded: &Loaded, writer: &mut W) -> Result<(), WriteFau
     Ok(())
 }
 
-/// The delimiters, the definitions, the diversions.
+/// Writes the delimiters, the definitions and the diversions.
 fn put_listing<W: ByteSink>(
     loaded: &Loaded,
     names: &[Bytes],
@@ -58,7 +58,7 @@ fn put_listing<W: ByteSink>(
     put_diverted(loaded, writer)
 }
 
-/// Both pairs of delimiters.
+/// Writes both pairs of delimiters.
 fn put_settings<W: ByteSink>(state: &State, writer: &mut W) -> Result<(), DeviceFault>
     ensures puts { Puts result (W.contents writer.old) (W.contents writer.new) (steps.settings_lines state.now) }
     ensures counted { W.failures writer.new ≡ count_after result (W.failures writer.old) }
@@ -69,7 +69,7 @@ fn put_settings<W: ByteSink>(state: &State, writer: &mut W) -> Result<(), Device
     put_delimiters(b"comments ", begin, end, writer)
 }
 
-/// What begins and what ends, or that they are disabled.
+/// Writes the begin and the end of a pair of delimiters, or that the pair is disabled.
 fn put_delimiters<W: ByteSink>(
     word: &[u8],
     begin: &[u8],
@@ -85,7 +85,7 @@ fn put_delimiters<W: ByteSink>(
     put_two_words(word, begin, end, writer)
 }
 
-/// The definitions of the names, in their order.
+/// Writes the definitions of the names, in their order.
 fn put_names<W: ByteSink>(state: &State, names: &[Bytes], writer: &mut W) -> Result<(), DeviceFault>
     ensures puts { Puts result (W.contents writer.old) (W.contents writer.new) (steps.names_lines state.now names.now) }
     ensures counted { W.failures writer.new ≡ count_after result (W.failures writer.old) }
@@ -97,7 +97,7 @@ fn put_names<W: ByteSink>(state: &State, names: &[Bytes], writer: &mut W) -> Res
     Ok(())
 }
 
-/// The definitions of one name, the oldest first.
+/// Writes the definitions of one name, the oldest first.
 fn put_stack<W: ByteSink>(name: &[u8], stack: &[Def], writer: &mut W) -> Result<(), DeviceFault>
     ensures puts { Puts result (W.contents writer.old) (W.contents writer.new) (steps.stack_lines name.now stack.now) }
     ensures counted { W.failures writer.new ≡ count_after result (W.failures writer.old) }
@@ -108,7 +108,7 @@ fn put_stack<W: ByteSink>(name: &[u8], stack: &[Def], writer: &mut W) -> Result<
     Ok(())
 }
 
-/// What kind of definition a name has: the length of a text, or a builtin's name.
+/// Writes the kind of a definition, and the length of its text or the name of its builtin.
 fn put_definition<W: ByteSink>(
     name: &[u8],
     definition: &Def,
@@ -126,7 +126,7 @@ fn put_definition<W: ByteSink>(
     }
 }
 
-/// A name and the length of its text.
+/// Writes a name and the length of its text.
 fn put_counted<W: ByteSink>(name: &[u8], text: &[u8], writer: &mut W) -> Result<(), DeviceFault>
     ensures puts { Puts result (W.contents writer.old) (W.contents writer.new)
         (steps.counted_line name.now text.now) }
@@ -136,7 +136,7 @@ fn put_counted<W: ByteSink>(name: &[u8], text: &[u8], writer: &mut W) -> Result<
     put_length(text, writer)
 }
 
-/// The length of a text, which ends a line.
+/// Writes the length of a text, and ends the line.
 fn put_length<W: ByteSink>(text: &[u8], writer: &mut W) -> Result<(), DeviceFault>
     ensures puts { Puts result (W.contents writer.old) (W.contents writer.new) (steps.length_end text.now) }
     ensures counted { W.failures writer.new ≡ count_after result (W.failures writer.old) }
@@ -146,7 +146,7 @@ fn put_length<W: ByteSink>(text: &[u8], writer: &mut W) -> Result<(), DeviceFaul
     write_pieces(writer, &[b" ", length, b"\n"])
 }
 
-/// The diversions that hold text, the current number, and the length of the issued text.
+/// Writes the diversions that contain text, the current number, and the length of the issued text.
 fn put_diverted<W: ByteSink>(loaded: &Loaded, writer: &mut W) -> Result<(), DeviceFault>
     requires { AreDiversions loaded.now.state.diversions }
     ensures puts { Puts result (W.contents writer.old) (W.contents writer.new) (steps.diverted_lines loaded.now) }
@@ -157,7 +157,7 @@ fn put_diverted<W: ByteSink>(loaded: &Loaded, writer: &mut W) -> Result<(), Devi
     put_issued(loaded.issued.as_slice(), writer)
 }
 
-/// The diversions that hold text, by rising number.
+/// Writes the diversions that contain text, by rising number.
 fn put_texts<W: ByteSink>(state: &State, writer: &mut W) -> Result<(), DeviceFault>
     requires { AreDiversions state.now.diversions }
     ensures puts { Puts result (W.contents writer.old) (W.contents writer.new) (steps.texts_lines state.now.diversions) }
@@ -171,7 +171,7 @@ fn put_texts<W: ByteSink>(state: &State, writer: &mut W) -> Result<(), DeviceFau
     Ok(())
 }
 
-/// A diversion's number and the length of its text.
+/// Writes a diversion's number and the length of its text.
 fn put_diversion<W: ByteSink>(number: i32, text: &[u8], writer: &mut W) -> Result<(), DeviceFault>
     ensures puts { Puts result (W.contents writer.old) (W.contents writer.new) (lines.diversion_line (number, text.now)) }
     ensures counted { W.failures writer.new ≡ count_after result (W.failures writer.old) }
@@ -183,7 +183,7 @@ fn put_diversion<W: ByteSink>(number: i32, text: &[u8], writer: &mut W) -> Resul
     write_pieces(writer, &[b"diversion ", digits, b" ", length, b"\n"])
 }
 
-/// The current number.
+/// Writes the current number.
 fn put_current<W: ByteSink>(state: &State, writer: &mut W) -> Result<(), DeviceFault>
     ensures puts { Puts result (W.contents writer.old) (W.contents writer.new) (steps.current_line state.now.current) }
     ensures counted { W.failures writer.new ≡ count_after result (W.failures writer.old) }
@@ -193,7 +193,7 @@ fn put_current<W: ByteSink>(state: &State, writer: &mut W) -> Result<(), DeviceF
     write_pieces(writer, &[b"current ", digits, b"\n"])
 }
 
-/// The length of the issued text, if there is any.
+/// Writes the length of the issued text, if there is any.
 fn put_issued<W: ByteSink>(issued: &[u8], writer: &mut W) -> Result<(), DeviceFault>
     ensures puts { Puts result (W.contents writer.old) (W.contents writer.new) (lines.issued_line issued.now) }
     ensures counted { W.failures writer.new ≡ count_after result (W.failures writer.old) }
@@ -206,7 +206,7 @@ fn put_issued<W: ByteSink>(issued: &[u8], writer: &mut W) -> Result<(), DeviceFa
     write_pieces(writer, &[b"issued ", length, b"\n"])
 }
 
-/// A word and two strings.
+/// Writes a word and two strings.
 fn put_two_words<W: ByteSink>(
     word: &[u8],
     first: &[u8],
@@ -221,7 +221,7 @@ fn put_two_words<W: ByteSink>(
     write_all(writer, b"\n")
 }
 
-/// A word and a string, so that each byte of it can be seen.
+/// Writes a word and a string; every byte of the string is visible.
 fn put_word<W: ByteSink>(word: &[u8], bytes: &[u8], writer: &mut W) -> Result<(), DeviceFault>
     ensures puts { Puts result (W.contents writer.old) (W.contents writer.new) (steps.word_line word.now bytes.now) }
     ensures counted { W.failures writer.new ≡ count_after result (W.failures writer.old) }
@@ -233,8 +233,8 @@ fn put_word<W: ByteSink>(word: &[u8], bytes: &[u8], writer: &mut W) -> Result<()
     put_shown(bytes, writer)
 }
 
-/// The bytes, each as it is or as a backslash and two hexadecimal digits. Most names are shown as they
-/// are, and then they are put in one piece.
+/// Writes each byte as it is, or as a backslash and two hexadecimal digits. Most names are written
+/// as they are, in one call.
 fn put_shown<W: ByteSink>(bytes: &[u8], writer: &mut W) -> Result<(), DeviceFault>
     ensures puts { Puts result (W.contents writer.old) (W.contents writer.new) (flat_map lines.show_byte bytes.now) }
     ensures counted { W.failures writer.new ≡ count_after result (W.failures writer.old) }
@@ -245,7 +245,7 @@ fn put_shown<W: ByteSink>(bytes: &[u8], writer: &mut W) -> Result<(), DeviceFaul
     put_each(bytes, writer)
 }
 
-/// The same, byte by byte.
+/// Writes the same, byte by byte.
 fn put_each<W: ByteSink>(bytes: &[u8], writer: &mut W) -> Result<(), DeviceFault>
     ensures puts { Puts result (W.contents writer.old) (W.contents writer.new) (flat_map lines.show_byte bytes.now) }
     ensures counted { W.failures writer.new ≡ count_after result (W.failures writer.old) }
@@ -256,21 +256,21 @@ fn put_each<W: ByteSink>(bytes: &[u8], writer: &mut W) -> Result<(), DeviceFault
     Ok(())
 }
 
-/// Whether all are shown as they are.
+/// Returns whether every byte is shown as it is.
 fn are_plain(bytes: &[u8]) -> bool
     ensures { result ≡ list_all lines.is_plain bytes.now }
 {
     bytes.iter().all(|&byte| is_plain(byte))
 }
 
-/// Whether a byte is shown as it is.
+/// Returns whether a byte is shown as it is.
 fn is_plain(byte: u8) -> bool
     ensures { result ≡ lines.is_plain byte }
 {
     byte >= 33 && byte <= 126 && byte != b'\\'
 }
 
-/// One byte, as it is or as a backslash and two hexadecimal digits.
+/// Writes one byte as it is, or as a backslash and two hexadecimal digits.
 fn put_byte<W: ByteSink>(byte: u8, writer: &mut W) -> Result<(), DeviceFault>
     ensures puts { Puts result (W.contents writer.old) (W.contents writer.new) (lines.show_byte byte) }
     ensures counted { W.failures writer.new ≡ count_after result (W.failures writer.old) }
@@ -281,7 +281,7 @@ fn put_byte<W: ByteSink>(byte: u8, writer: &mut W) -> Result<(), DeviceFault>
     write_all(writer, &[b'\\', hex_digit(byte / 16), hex_digit(byte % 16)])
 }
 
-/// A digit below 16, in lower case.
+/// Returns the character of a digit below 16, in lower case.
 fn hex_digit(digit: u8) -> u8
     requires { digit < 16 }
     ensures { result ≡ lines.hex_digit digit }

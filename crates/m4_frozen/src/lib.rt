@@ -1,9 +1,9 @@
 //! Frozen files of GNU M4: read from a device, written, and listed.
 //!
-//! A frozen file is read block by block: [`reading::read_frozen`] answers the state that it holds and
-//! the text that it issues, or the first fault from the front, at its byte. What a file spells is
-//! `specs/Spells.antt`, which fault it has `specs/FaultAt.antt`; neither knows of the reader, and
-//! [`laws`] says that between them they decide each file.
+//! A frozen file is read block by block: [`reading::read_frozen`] returns its state and the text that
+//! it issues, or its first fault and the byte where that is. `specs/Spells.antt` defines which bytes are
+//! a frozen file, and `specs/FaultAt.antt` which fault other bytes have. Neither mentions the reader, and
+//! [`laws`] shows that together they decide each file.
 //! Manual: "Frozen file format", "Fast loading of frozen state".
 #![tactic(auto)]
 

@@ -1,11 +1,11 @@
-//! Empty lines and comment lines, which say nothing.
+//! Empty lines and comment lines, which are skipped.
 //!
 //! Manual: "Frozen file format".
 
 ghost use Rattle.m4_frozen.specs.Underway.{Skips};
 
-/// Whether a comment has begun behind empty lines and comment lines, and the bytes there. `inside`
-/// says that one had begun before them.
+/// Skips empty lines and comment lines. Returns whether the bytes end inside a comment, and the bytes
+/// after the lines. `inside`: the bytes begin inside a comment.
 pub(crate) fn skip_lines(inside: bool, bytes: &[u8]) -> (bool, &[u8])
     ensures { Skips inside bytes.now result.0 result.1.now }
 {

@@ -1,5 +1,5 @@
-//! A frozen file that is read as its bytes come: each directive is applied to the state as soon as it
-//! is whole. Manual: "Frozen file format".
+//! Loads a frozen file as its bytes arrive: each directive is applied to the state as soon as it was
+//! read completely. Manual: "Frozen file format".
 
 ghost use Rattle.std.specs.Prelude.{◌≡◌, ◌++◌, [], true, None, IfSome, IfOk, OnOk};
 ghost use Rattle.m4_state.specs.Definition.{IsDefinition};
@@ -22,9 +22,9 @@ use m4_state::fault::StateFault;
 use m4_state::state::State;
 use std::alloc::{AllocError, Global};
 
-/// What a frozen file gives: a state, and the text that is issued before any input is read.
+/// The result of loading a frozen file: a state, and the text to print before any input is read.
 pub struct Loaded {
-    /// The state that the directives leave.
+    /// The state after all directives.
     pub state: State,
     /// The texts that were diverted to number 0, joined.
     pub issued: Bytes,
@@ -41,7 +41,7 @@ impl Drop for Loaded {
 }
 
 impl Loaded {
-    /// The state and the issued text, each of its own.
+    /// Returns the state and the issued text as two values.
     pub fn into_parts(self) -> (State, Bytes)
         ensures { result ≡ (self.state, self.issued) }
     {
@@ -50,15 +50,15 @@ impl Loaded {
     }
 }
 
-/// What the directives that came leave, and what may come next.
+/// The result of the directives that were read, and the place that the reader has reached.
 pub(crate) struct Loading {
     state: State,
     issued: Vec<u8>,
-    /// Whether the version came.
+    /// Whether the version was read.
     versioned: bool,
-    /// Whether a comment line has begun.
+    /// Whether a comment line has begun and not ended.
     inside: bool,
-    /// The text that has begun and is not whole, if there is one.
+    /// The text of which only a part was read, if there is one.
     begun: Option<Begun>,
 }
 
@@ -75,17 +75,17 @@ impl Drop for Loading {
     }
 }
 
-/// Where more bytes are needed.
+/// Loading has used all complete directives and needs more bytes.
 #[derive(Clone, Copy, Debug)]
 pub(crate) struct Pause {
-    /// How many bytes are not read yet: the last ones.
+    /// How many of the last bytes were not used yet.
     pub(crate) left: usize,
-    /// Why the file is refused if it ends there.
+    /// Why the file is refused if it ends here.
     pub(crate) refusal: Option<Refusal>,
 }
 
 impl Loading {
-    /// Nothing came yet.
+    /// Begins to load a file, of which no byte was read.
     pub(crate) fn new(alloc: Global) -> Result<Loading, StateFault>
         ensures { IfOk result (underway.IsRead []) }
     {
@@ -98,10 +98,10 @@ impl Loading {
         })
     }
 
-    /// Reads all that is whole in the next bytes, those that were left before first.
+    /// Reads everything that is complete in these bytes, which begin with those that were left before.
     ///
-    /// A refusal stays whatever follows. A stop may leave a part of a directive applied, and no call
-    /// may follow it.
+    /// A refusal stays, whatever follows. After an error, a directive may be applied in part, and there
+    /// must be no further call.
     pub(crate) fn advance(&mut self, alloc: Global, bytes: &[u8]) -> Result<Pause, ReadStop>
         ensures { underway.ReadsOn (λ read. underway.IsRead read self.old) bytes.now self.new result }
     {
@@ -118,7 +118,7 @@ impl Loading {
         }
     }
 
-    /// Reads what stands behind a text, or pauses where that is not whole.
+    /// Reads the bytes after a text, or pauses if the text is not complete.
     fn read_after(&mut self, alloc: Global, after: Option<&[u8]>) -> Result<Pause, ReadStop>
         requires { IfSome after (λ _. self.old.begun ≡ None) }
         ensures { underway.ReadsBehind after.entry self.old self.new result }
@@ -132,7 +132,7 @@ impl Loading {
         }
     }
 
-    /// Reads all that is whole, where no text is open.
+    /// Reads everything that is complete, if no text is open.
     fn read_whole(&mut self, alloc: Global, bytes: &[u8]) -> Result<Pause, ReadStop>
         requires { self.old.begun ≡ None }
         ensures { underway.Advances bytes.now self.old self.new result }
@@ -157,8 +157,8 @@ impl Loading {
         }
     }
 
-    /// Reads the version or a directive, which no line stands before. Answers the bytes behind it,
-    /// or none where nothing is left.
+    /// Reads the version or a directive; the bytes begin with no line to skip. Returns the bytes after it,
+    /// or none if there are no bytes.
     fn read_one<'a>(&mut self, alloc: Global, bytes: &'a [u8]) -> Result<Option<&'a [u8]>, ReadStop>
         requires { underway.StandsAt self.old.inside bytes.now }
         ensures { underway.ReadsOne bytes.now self.old self.new result }
@@ -171,7 +171,7 @@ impl Loading {
         Ok(Some(after))
     }
 
-    /// Reads a directive. The version came.
+    /// Reads a directive, after the version.
     fn read_directive<'a>(
         &mut self,
         alloc: Global,
@@ -190,7 +190,7 @@ impl Loading {
         }
     }
 
-    /// A pause at these bytes, the last ones that came, unless the stop stays whatever follows them.
+    /// Pauses at these bytes, the last ones that were read, unless the stop stays whatever follows them.
     fn pause_at(&mut self, alloc: Global, stop: ReadStop, here: &[u8]) -> Result<Pause, ReadStop>
         requires { underway.IsWithin stop self.old.inside here.now }
         ensures { underway.PausesAt stop here.now self.old self.new result }
@@ -208,7 +208,7 @@ impl Loading {
         })
     }
 
-    /// Begins a text, if one stands here that, or whose newline, has not come.
+    /// Opens a text, if these bytes end inside one or before its newline.
     fn open_text(&mut self, alloc: Global, here: &[u8]) -> Result<bool, StateFault>
         requires { underway.StandsAt self.old.inside here.now }
         ensures { underway.Opens here.now self.old self.new result }
@@ -219,7 +219,7 @@ impl Loading {
         self.open_diverted(here)
     }
 
-    /// Begins the text of a name.
+    /// Opens the text of a name.
     fn open_named(&mut self, alloc: Global, here: &[u8]) -> Result<bool, StateFault>
         requires { underway.StandsAt self.old.inside here.now }
         ensures { underway.Opens here.now self.old self.new result }
@@ -242,7 +242,7 @@ impl Loading {
         Ok(true)
     }
 
-    /// Begins a diversion, whose text goes to the state as it comes.
+    /// Opens a diversion. Its text goes to the state as it arrives.
     fn open_diverted(&mut self, here: &[u8]) -> Result<bool, StateFault>
         requires { underway.StandsAt self.old.inside here.now }
         ensures { underway.Opens here.now self.old self.new result }
@@ -263,8 +263,7 @@ impl Loading {
         Ok(true)
     }
 
-    /// Reads what came of a diversion's text: up to its end, whose newline is taken too, or all of the
-    /// bytes.
+    /// Reads the rest of a diversion's text and its newline, or all of the bytes if that needs more.
     fn read_diverted<'a>(
         &mut self,
         missing: usize,
@@ -283,8 +282,8 @@ impl Loading {
         Ok(Some(after))
     }
 
-    /// Reads what came of a name's text: up to its end, whose newline is taken too, or all of the
-    /// bytes. The name has its definition once the text is whole.
+    /// Reads the rest of a name's text and its newline, or all of the bytes if that needs more. The
+    /// definition is pushed once the text is complete.
     fn read_named<'a>(
         &mut self,
         begun: NamedText,
@@ -313,7 +312,7 @@ impl Loading {
         Ok(Some(after))
     }
 
-    /// Adds text to the current diversion, or to what is issued where its number is 0.
+    /// Adds text to the current diversion, and to the issued text if the current number is 0.
     fn add(&mut self, text: &[u8]) -> Result<(), StateFault>
         ensures added { OnOk result (self.new ≡ record self.old {
           state = appended self.old.state text.now;
@@ -329,8 +328,8 @@ impl Loading {
         Ok(())
     }
 
-    /// Applies a directive: to the state, or to the text that is issued. A refusal may leave a part of
-    /// it applied: the state is then dropped.
+    /// Applies a directive to the state, or to the issued text. On an error a part of it may be applied;
+    /// the state is then dropped.
     fn apply(&mut self, alloc: Global, directive: &Directive<'_>) -> Result<(), StateFault>
         ensures applied { OnOk result (self.new ≡ record self.old {
           state = with_directive self.old.state (directive_of directive.now);
@@ -363,7 +362,7 @@ impl Loading {
         }
     }
 
-    /// What was loaded, at the end of the file.
+    /// Returns what was loaded, at the end of the file.
     pub(crate) fn loaded(self) -> Loaded
         ensures { result ≡ record { state = self.state; issued = self.issued.items } }
     {
@@ -381,7 +380,7 @@ impl Loading {
     }
 }
 
-/// The builtin of that name, or a placeholder that keeps the name.
+/// Returns the builtin of that name, or a placeholder that keeps the name.
 fn builtin_or_placeholder(alloc: Global, name: &[u8]) -> Result<Def, AllocError>
     ensures named { IfOk result (λ d. d ≡ definition_named name.now) }
     ensures valid { IfOk result IsDefinition }

@@ -1,7 +1,7 @@
-//! Numbers at the front of bytes: the version, the lengths of strings, the numbers of diversions.
+//! Numbers at the start of bytes: the version, the lengths of strings, the numbers of diversions.
 //!
-//! A number's value is judged before what follows its digits, and a number that is too large is at
-//! fault at its first digit, or at its sign. Manual: "Frozen file format".
+//! A number's value is checked before the byte that follows its digits. The fault of a number that is
+//! too large is at its first digit, or at its sign. Manual: "Frozen file format".
 
 ghost use Rattle.std.specs.Prelude.{◌≡◌, ◌<◌, ◌^◌, IsTrue, IfOk};
 ghost use Rattle.std.specs.Option.{SomeIff};
@@ -13,10 +13,10 @@ ghost use Rattle.m4_frozen.specs.StepOutcome.{Gives};
 
 use crate::fault::{FrozenKind, Refusal, refused_at};
 
-/// The magnitude of the least diversion number; the greatest number is below it.
+/// The magnitude of the least diversion number. The greatest number is one less.
 const MAGNITUDE_LIMIT: u64 = 0x8000_0000;
 
-/// The bytes behind spaces and tabs.
+/// Returns the bytes after spaces and tabs.
 pub(crate) fn skip_blanks(bytes: &[u8]) -> &[u8]
     ensures { result.now ≡ steps.skip_blanks bytes.now }
 {
@@ -28,7 +28,7 @@ pub(crate) fn skip_blanks(bytes: &[u8]) -> &[u8]
     &[]
 }
 
-/// The digits at the front, and the bytes behind them.
+/// Returns the digits at the start, and the bytes after them.
 fn digits(bytes: &[u8]) -> (&[u8], &[u8])
     ensures digits { result.0.now ≡ (steps.digits_at bytes.now).0 }
     ensures rest { result.1.now ≡ (steps.digits_at bytes.now).1 }
@@ -41,14 +41,14 @@ fn digits(bytes: &[u8]) -> (&[u8], &[u8])
     (bytes, &[])
 }
 
-/// Whether all bytes are digits.
+/// Returns whether all bytes are digits.
 pub(crate) fn are_digits(bytes: &[u8]) -> bool
     ensures { result ≡ list_all is_ascii_digit bytes.now }
 {
     bytes.iter().all(|b| b.is_ascii_digit())
 }
 
-/// The number that digits stand for, if it fits.
+/// Returns the value of the digits, if it fits.
 fn value(digits: &[u8]) -> Option<u64>
     requires { IsTrue (list_all is_ascii_digit digits.now) }
     ensures { SomeIff result (value_of digits.now < 2 ^ 64) (value_of digits.now) }
@@ -60,7 +60,7 @@ fn value(digits: &[u8]) -> Option<u64>
     Some(n)
 }
 
-/// The digits at the front, at least one, and the bytes behind them.
+/// Returns the digits at the start, at least one, and the bytes after them.
 fn some_digits(bytes: &[u8]) -> Result<(&[u8], &[u8]), Refusal>
     ensures gives { Gives (λ x. (x.0.now, x.1.now)) result (steps.some_digits_at bytes.now) }
     ensures are { IfOk result (λ x. IsTrue (list_all is_ascii_digit x.0.now)) }
@@ -75,7 +75,7 @@ fn some_digits(bytes: &[u8]) -> Result<(&[u8], &[u8]), Refusal>
     Err(refused_at(FrozenKind::DigitExpected, bytes))
 }
 
-/// The length of a string, and the bytes behind it.
+/// Reads the length of a string; returns it and the bytes after it.
 #[tactic(auto, unfolding(crate::specs::ReaderSteps::length_at))]
 pub(crate) fn length(bytes: &[u8]) -> Result<(u64, &[u8]), Refusal>
     ensures { Gives (λ x. (x.0, x.1.now)) result (steps.length_at bytes.now) }
@@ -88,7 +88,7 @@ pub(crate) fn length(bytes: &[u8]) -> Result<(u64, &[u8]), Refusal>
     }
 }
 
-/// The bytes behind the version, which is 1.
+/// Reads the version, which has to be 1; returns the bytes after it.
 #[tactic(auto, unfolding(crate::specs::ReaderSteps::version_at))]
 pub(crate) fn version(bytes: &[u8]) -> Result<&[u8], Refusal>
     ensures { Gives (λ x. x.now) result (steps.version_at bytes.now) }
@@ -102,7 +102,7 @@ pub(crate) fn version(bytes: &[u8]) -> Result<&[u8], Refusal>
     }
 }
 
-/// The number whose digits stand at the front, and which with its sign begins at `number`.
+/// Reads the digits of a number, whose sign or first digit is at the start of `number`.
 fn magnitude<'a>(number: &[u8], minus: bool, bytes: &'a [u8]) -> Result<(i32, &'a [u8]), Refusal>
     ensures { Gives (λ x. (x.0, x.1.now)) result (steps.magnitude_at number.now minus bytes.now) }
 {
@@ -114,7 +114,7 @@ fn magnitude<'a>(number: &[u8], minus: bool, bytes: &'a [u8]) -> Result<(i32, &'
     }
 }
 
-/// The number of a diversion, and the bytes behind it.
+/// Reads the number of a diversion; returns it and the bytes after it.
 pub(crate) fn signed_number(bytes: &[u8]) -> Result<(i32, &[u8]), Refusal>
     ensures { Gives (λ x. (x.0, x.1.now)) result (steps.signed_at bytes.now) }
 {

@@ -1,8 +1,8 @@
-//! The version and directives, read at the front of bytes.
+//! The version and directives, read at the start of bytes.
 //!
-//! Each step takes the bytes from its place on and gives back those behind it, and nothing is
-//! copied. A step that more bytes could make whole is refused like any other: `stays` tells the two
-//! apart. Contracts speak of the reader's own steps, `specs/ReaderSteps.antt`.
+//! Each step gets the bytes from its place on and returns those after it. Nothing is copied. A step
+//! that more bytes could complete is refused like any other; `stays` distinguishes the two. Contracts
+//! cite the reader's own steps, `specs/ReaderSteps.antt`.
 //! Manual: "Frozen file format".
 
 ghost use Rattle.std.specs.Prelude.{◌≡◌, ◌≤◌, ◌-◌, ◌∷◌, ℕ, List, length, drop, IfSome, IfNone};
@@ -16,9 +16,9 @@ use crate::fault::{FrozenKind, Refusal, refused_at};
 use crate::number::{are_digits, version};
 use crate::strings::{diversion, expect_byte, pair};
 
-/// Whether a fault of this kind stays whatever follows the bytes from its place on.
+/// Returns whether a fault of this kind stays, whatever follows the bytes from its place on.
 ///
-/// At the end more bytes may mend it, and a zero grows with more digits.
+/// At the end of the bytes more bytes may remove it, and a version 0 may get more digits.
 fn is_settled(kind: FrozenKind, here: &[u8]) -> bool
     ensures { result ≡ steps.is_settled kind here.now }
 {
@@ -28,7 +28,7 @@ fn is_settled(kind: FrozenKind, here: &[u8]) -> bool
     }
 }
 
-/// Whether a refusal stays whatever follows these bytes, the last ones that came.
+/// Returns whether a refusal stays, whatever follows these bytes, the last ones that were read.
 pub(crate) fn stays(refusal: Refusal, bytes: &[u8]) -> bool
     requires { refusal.bytes_left ≤ length bytes.now }
     ensures { result ≡ steps.is_settled refusal.kind
@@ -38,7 +38,7 @@ pub(crate) fn stays(refusal: Refusal, bytes: &[u8]) -> bool
     is_settled(refusal.kind, here)
 }
 
-/// The bytes behind the line of the version.
+/// Reads the line of the version; returns the bytes after it.
 pub(crate) fn after_version(bytes: &[u8]) -> Result<&[u8], Refusal>
     ensures { Gives (λ x. x.now) result (steps.after_version bytes.now) }
 {
@@ -49,7 +49,7 @@ pub(crate) fn after_version(bytes: &[u8]) -> Result<&[u8], Refusal>
     }
 }
 
-/// The bytes behind a letter, if it stands at the front.
+/// Returns the bytes after a letter, if they begin with it.
 pub(crate) fn line_after(letter: u8, bytes: &[u8]) -> Option<&[u8]>
     ensures some { IfSome result (λ line. bytes.now ≡ letter ∷ line.now) }
     ensures none { IfNone result ((line : List ℕ) → bytes.now ≡ letter ∷ line → ⊥) }
@@ -60,7 +60,7 @@ pub(crate) fn line_after(letter: u8, bytes: &[u8]) -> Option<&[u8]>
     }
 }
 
-/// The next directive, if one comes, and the bytes behind it.
+/// Reads the next directive, if there is one; returns it and the bytes after it.
 #[tactic(auto, unfolding(crate::specs::ReaderSteps::directive_at))]
 pub(crate) fn next_directive(bytes: &[u8]) -> Result<Option<(Directive<'_>, &[u8])>, Refusal>
     ensures { Gives (option_map (λ x. (directive_of x.0, x.1.now))) result

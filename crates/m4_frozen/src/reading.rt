@@ -1,4 +1,4 @@
-//! A frozen file read from a device, block by block.
+//! Reads a frozen file from a device, block by block.
 
 ghost use Rattle.std.specs.Prelude.{◌≡◌, IfOk, IfErr, IfSome, OnOk, List, true, false};
 ghost use Rattle.m4_state.specs.Device.{one_more};
@@ -14,28 +14,28 @@ use crate::window::{Behind, Window};
 use m4_state::device::ByteSource;
 use std::alloc::Global;
 
-/// Loads a frozen file: the state that it holds, and the text that it issues.
+/// Loads a frozen file: returns its state, and the text that it issues.
 ///
-/// A directive is applied as soon as it is whole, and its bytes are dropped then. Of a file that is
-/// refused nothing is kept, and it is read no further than to the block that settles its fault. Takes
-/// time in proportion to the bytes that came, and memory in proportion to the strings that are kept
-/// and to the longest directive, whatever lengths they state.
+/// A directive is applied as soon as it was read completely, and its bytes are then dropped. Nothing of
+/// a refused file is kept, and reading ends with the block that settles its fault. The time is
+/// proportional to the bytes read. The memory is proportional to the strings kept and the longest
+/// directive, whatever lengths are stated.
 /// Manual: "Frozen file format".
 pub fn read_frozen<R: ByteSource>(alloc: Global, reader: &mut R) -> Result<Loaded, FrozenFault>
-    // exact reader: what is loaded is what the bytes denote, and the reader ended behind them
+    // exact reader: the loaded state is what the bytes denote, and the reader ended after them
     ensures loaded { IfOk result (λ l. IfSome (R.script reader.old) (λ s.
         (s.fails ≡ false) × Loads s.bytes l)) }
-    // exact reader: whatever is spelled is loaded, unless memory runs out
+    // exact reader: bytes that spell a file are loaded, unless memory runs out
     ensures accepts { IfFault result (λ _. IfSome (R.script reader.old) (λ s.
         (ds : List Said) → Spells ds s.bytes → s.fails ≡ true)) }
 
-    // exact reader: else the first fault from the front, at its byte; for a reader that failed the
-    // one that is settled, else the failure, behind the last byte
+    // exact reader: otherwise the first fault, with its place; for a reader that failed, the fault that
+    // its bytes settle, or else its failure, after the last byte
     ensures fault { IfFault result (λ f. IfSome (R.script reader.old) (λ s.
         IsFaultOf s.fails s.bytes f)) }
     ensures no_memory { IfErr result (λ f. f.kind ≡ kinds.OutOfMemory → f.offset ≡ 0) }
 
-    // safe and total: a read fault comes only where the reader failed in this call
+    // safe and total: a read fault is returned only if the reader failed in this call
     ensures read_fault { IfErr result (λ f. f.kind ≡ kinds.Read
         → R.failures reader.new ≡ one_more (R.failures reader.old)) }
     ensures unfailed { OnOk result (R.failures reader.new ≡ R.failures reader.old) }
@@ -53,7 +53,7 @@ pub fn read_frozen<R: ByteSource>(alloc: Global, reader: &mut R) -> Result<Loade
     }
 }
 
-/// Reads what is whole in a window. A fault that is answered stays whatever follows.
+/// Reads what is complete in a window. A returned fault stays, whatever follows.
 fn read_window(alloc: Global, loading: &mut Loading, window: &Window) -> Result<Pause, FrozenFault>
     ensures { blocks.ReadsWindow window.now loading.old loading.new result }
 {
@@ -64,7 +64,7 @@ fn read_window(alloc: Global, loading: &mut Loading, window: &Window) -> Result<
     }
 }
 
-/// What is answered where the file ends.
+/// Returns the result at the end of the file.
 fn end(loading: Loading, pause: Pause, window: &Window) -> Result<Loaded, FrozenFault>
     ensures { blocks.EndsAs window.now loading pause result }
 {

@@ -1,8 +1,8 @@
-//! Counted strings at the front of bytes, with the numbers that count them.
+//! Counted strings at the start of bytes, with the numbers that count them.
 //!
-//! A string has exactly the length that is stated, and may hold any bytes, newlines and `#` too.
-//! A stated length is only compared with the bytes that are there: nothing is reserved for it.
-//! Contracts speak of the reader's own steps, `specs/ReaderSteps.antt`.
+//! A string has exactly the stated length, and may contain any bytes, also newlines and `#`. A stated
+//! length is only compared with the number of bytes: nothing is reserved for it.
+//! Contracts cite the reader's own steps, `specs/ReaderSteps.antt`.
 //! Manual: "Frozen file format".
 
 ghost use Rattle.std.specs.Prelude.{◌≡◌};
@@ -12,7 +12,7 @@ ghost use Rattle.m4_frozen.specs.StepOutcome.{Gives};
 use crate::fault::{FrozenKind, Refusal, refused_at};
 use crate::number::{length, signed_number, skip_blanks};
 
-/// The bytes behind the byte that has to stand at the front.
+/// Returns the bytes after the expected first byte.
 pub(crate) fn expect_byte(byte: u8, bytes: &[u8]) -> Result<&[u8], Refusal>
     ensures { Gives (λ x. x.now) result (steps.expect_byte byte bytes.now) }
 {
@@ -23,7 +23,7 @@ pub(crate) fn expect_byte(byte: u8, bytes: &[u8]) -> Result<&[u8], Refusal>
     }
 }
 
-/// The string of so many bytes, and the bytes behind it.
+/// Returns the string of `len` bytes, and the bytes after it.
 #[tactic(auto, unfolding(crate::specs::ReaderSteps::string_at))]
 fn string(len: u64, bytes: &[u8]) -> Result<(&[u8], &[u8]), Refusal>
     ensures { Gives (λ x. (x.0.now, x.1.now)) result (steps.string_at len bytes.now) }
@@ -35,7 +35,7 @@ fn string(len: u64, bytes: &[u8]) -> Result<(&[u8], &[u8]), Refusal>
     Ok(bytes.split_at(len))
 }
 
-/// Two lengths and the first string: it and the second one's length, and the bytes behind it.
+/// Reads two lengths and the first string; returns it, the second length and the bytes after it.
 pub(crate) fn pair_head(bytes: &[u8]) -> Result<((&[u8], u64), &[u8]), Refusal>
     ensures { Gives (λ x. ((x.0.0.now, x.0.1), x.1.now)) result (steps.pair_head_at bytes.now) }
 {
@@ -47,7 +47,7 @@ pub(crate) fn pair_head(bytes: &[u8]) -> Result<((&[u8], u64), &[u8]), Refusal>
     Ok(((first, m), rest))
 }
 
-/// Two lengths and the two strings, and the bytes behind them.
+/// Reads two lengths and both strings; returns the strings and the bytes after them.
 #[tactic(auto, unfolding(crate::specs::ReaderSteps::pair_at))]
 pub(crate) fn pair(bytes: &[u8]) -> Result<((&[u8], &[u8]), &[u8]), Refusal>
     ensures { Gives (λ x. ((x.0.0.now, x.0.1.now), x.1.now)) result (steps.pair_at bytes.now) }
@@ -58,7 +58,7 @@ pub(crate) fn pair(bytes: &[u8]) -> Result<((&[u8], &[u8]), &[u8]), Refusal>
     Ok(((first, second), rest))
 }
 
-/// The number of a diversion and the length of its text, and the bytes behind their line.
+/// Reads a diversion's number and the length of its text; returns both and the bytes after their line.
 pub(crate) fn diversion_head(bytes: &[u8]) -> Result<((i32, u64), &[u8]), Refusal>
     ensures { Gives (λ x. ((x.0.0, x.0.1), x.1.now)) result (steps.head_at bytes.now) }
 {
@@ -69,7 +69,7 @@ pub(crate) fn diversion_head(bytes: &[u8]) -> Result<((i32, u64), &[u8]), Refusa
     Ok(((number, n), rest))
 }
 
-/// The number of a diversion, a length and the string, and the bytes behind them.
+/// Reads a diversion's number, a length and the string; returns them and the bytes after them.
 #[tactic(auto, unfolding(crate::specs::ReaderSteps::diversion_at))]
 pub(crate) fn diversion(bytes: &[u8]) -> Result<((i32, &[u8]), &[u8]), Refusal>
     ensures { Gives (λ x. ((x.0.0, x.0.1.now), x.1.now)) result (steps.diversion_at bytes.now) }

@@ -1,4 +1,4 @@
-//! The bytes of a file that came and were not read yet.
+//! The bytes of a file that were read from the device and not used yet.
 
 ghost use Rattle.std.specs.Prelude.{◌≡◌, ◌+◌, ◌++◌, ◌-◌, ◌*◌, ◌^◌, ◌<◌, ◌≤◌, [], min, length, drop, IfOk, OnOk};
 ghost use Rattle.m4_frozen.specs.Blocks as blocks;
@@ -10,18 +10,18 @@ use crate::held::{BLOCK, Held};
 use m4_state::device::{ByteSource, DeviceFault};
 use std::alloc::{AllocError, Global};
 
-/// What a reader gives behind the bytes that came.
+/// What the reader returns next, as far as is known.
 #[derive(Clone, Copy, Debug, PartialEq, Eq)]
 pub(crate) enum Behind {
     /// Perhaps more bytes.
     More,
-    /// The end.
+    /// The end of the file.
     End,
-    /// Its failure.
+    /// A failure.
     Failure,
 }
 
-/// The last bytes that came, and how many came in all.
+/// The last bytes that were read, and how many were read in all.
 #[derive(Drop)]
 pub(crate) struct Window {
     bytes: Held,
@@ -29,7 +29,7 @@ pub(crate) struct Window {
 }
 
 impl Window {
-    /// Nothing came yet.
+    /// Returns an empty window: no byte was read.
     pub(crate) fn new(alloc: Global) -> Window
         ensures bytes { result.bytes ≡ [] }
         ensures came { result.came ≡ 0 }
@@ -40,15 +40,15 @@ impl Window {
         }
     }
 
-    /// The bytes.
+    /// Returns the bytes.
     pub(crate) fn bytes(&self) -> &[u8]
         ensures { result.now ≡ self.now.bytes }
     {
         self.bytes.as_slice()
     }
 
-    /// Takes more bytes, at least as many as there are, so that what is read again is no more than
-    /// what came.
+    /// Reads more bytes, at least as many as the window contains, so that the bytes parsed again are no
+    /// more than those that were read.
     pub(crate) fn fill<R: ByteSource>(&mut self, reader: &mut R) -> Result<Behind, AllocError>
         ensures takes { IfOk result (λ after. blocks.Fills self.old self.new
             (R.script reader.old) (R.script reader.new) after) }
@@ -73,7 +73,7 @@ impl Window {
         }
     }
 
-    /// Counts bytes that came.
+    /// Adds to the count of bytes that were read.
     fn count(&mut self, n: usize) -> Result<(), AllocError>
         ensures { OnOk result (self.new ≡ record self.old { came = self.old.came + n }) }
     {
@@ -81,7 +81,7 @@ impl Window {
         Ok(())
     }
 
-    /// Drops all bytes but the last ones.
+    /// Drops all bytes but the last `count`.
     pub(crate) fn keep_last(&mut self, count: usize)
         requires { count ≤ length self.old.bytes }
         ensures bytes { self.new.bytes ≡ drop (length self.old.bytes - count) self.old.bytes }
@@ -90,7 +90,7 @@ impl Window {
         self.bytes.keep_last(count);
     }
 
-    /// The fault that a refusal is, whose place is counted from the front here alone.
+    /// Returns the fault of a refusal. Only here is its place counted from the start of the file.
     pub(crate) fn fault_of(&self, refusal: Refusal) -> FrozenFault
         ensures { result ≡ record { kind = refusal.kind; offset = self.now.came - refusal.bytes_left } }
     {
@@ -100,7 +100,7 @@ impl Window {
         }
     }
 
-    /// The failure of a reader behind the bytes that it gave.
+    /// Returns the failure of a reader after the bytes that it returned.
     pub(crate) fn failure(&self) -> FrozenFault
         ensures { result ≡ record { kind = kinds.Read; offset = self.now.came } }
     {

@@ -1,7 +1,7 @@
-//! The canonical text of a state, put into a writer part by part: nothing of it is held in memory.
+//! Writes the canonical text of a state, part by part: no part of it is buffered.
 //!
-//! Want of memory can only come while the names are listed, before the first byte. A part that
-//! fails leaves a beginning of the text. Manual: "Frozen file format".
+//! Memory can run out only while the names are listed, before the first byte is written. If a write
+//! fails, the bytes written are a prefix of the text. Manual: "Frozen file format".
 
 ghost use Rattle.std.specs.Prelude.{◌≡◌, ℤ, pos, IfOk, OnOk, OnErr, [], Err};
 ghost use Rattle.m4_state.specs.Device.{with_bytes, one_more, count_after, HasBegun, Puts};
@@ -29,16 +29,16 @@ pub fn write_frozen<W: ByteSink>(state: &State, writer: &mut W) -> Result<(), Wr
     // exact writer: the canonical text, and nothing else
     ensures written { OnOk result (W.contents writer.new
         ≡ with_bytes (W.contents writer.old) (texts.freeze state.now)) }
-    // exact writer: a write fault leaves a beginning of it
+    // exact writer: a write fault leaves a prefix of it
     ensures begun { result ≡ Err WriteFault.Write
         → HasBegun (W.contents writer.old) (W.contents writer.new) (texts.freeze state.now) }
-    // exact writer: want of memory comes before the first byte
+    // exact writer: memory can run out only before the first byte
     ensures no_memory { result ≡ Err WriteFault.OutOfMemory
         → W.contents writer.new ≡ W.contents writer.old }
     // exact writer: the state is sized, so that its text loads as that state
     ensures sized { IsSized state.now }
 
-    // safe and total: a write fault comes only where the writer failed in this call
+    // safe and total: a write fault is returned only if the writer failed in this call
     ensures write_fault { result ≡ Err WriteFault.Write
         → W.failures writer.new ≡ one_more (W.failures writer.old) }
     ensures unfailed { OnOk result (W.failures writer.new ≡ W.failures writer.old) }
@@ -51,7 +51,7 @@ pub fn write_frozen<W: ByteSink>(state: &State, writer: &mut W) -> Result<(), Wr
     Ok(())
 }
 
-/// The header, the directives, the end line.
+/// Writes the header, the directives and the end line.
 fn put_frozen<W: ByteSink>(
     state: &State,
     names: &[Bytes],
@@ -66,7 +66,7 @@ fn put_frozen<W: ByteSink>(
     write_all(writer, END_LINE)
 }
 
-/// The delimiters, the definitions, the diversions.
+/// Writes the delimiters, the definitions and the diversions.
 fn put_directives<W: ByteSink>(
     state: &State,
     names: &[Bytes],
@@ -81,7 +81,7 @@ fn put_directives<W: ByteSink>(
     put_diversions(state, writer)
 }
 
-/// Both pairs of delimiters, where they are not the defaults.
+/// Writes each pair of delimiters that is not the default.
 fn put_settings<W: ByteSink>(state: &State, writer: &mut W) -> Result<(), DeviceFault>
     ensures puts { Puts result (W.contents writer.old) (W.contents writer.new) (steps.settings_text state.now) }
     ensures counted { W.failures writer.new ≡ count_after result (W.failures writer.old) }
@@ -90,7 +90,7 @@ fn put_settings<W: ByteSink>(state: &State, writer: &mut W) -> Result<(), Device
     put_delimiters(b'C', state.comments(), (b"#", b"\n"), writer)
 }
 
-/// The diversions that hold text, and the number of the current one.
+/// Writes the diversions that contain text, and the number of the current one.
 fn put_diversions<W: ByteSink>(state: &State, writer: &mut W) -> Result<(), DeviceFault>
     requires { AreDiversions state.now.diversions }
     ensures puts { Puts result (W.contents writer.old) (W.contents writer.new) (steps.diverted_text state.now) }
@@ -100,7 +100,7 @@ fn put_diversions<W: ByteSink>(state: &State, writer: &mut W) -> Result<(), Devi
     put_current(state.current(), last, writer)
 }
 
-/// Delimiters, unless they are the defaults.
+/// Writes a pair of delimiters, unless it is the default.
 fn put_delimiters<W: ByteSink>(
     letter: u8,
     pair: (&[u8], &[u8]),
@@ -121,7 +121,7 @@ fn put_delimiters<W: ByteSink>(
     put_strings(letter, begin, end, writer)
 }
 
-/// The definitions of the names, in their order.
+/// Writes the definitions of the names, in their order.
 fn put_names<W: ByteSink>(state: &State, names: &[Bytes], writer: &mut W) -> Result<(), DeviceFault>
     ensures puts { Puts result (W.contents writer.old) (W.contents writer.new) (steps.names_text state.now names.now) }
     ensures counted { W.failures writer.new ≡ count_after result (W.failures writer.old) }
@@ -133,7 +133,7 @@ fn put_names<W: ByteSink>(state: &State, names: &[Bytes], writer: &mut W) -> Res
     Ok(())
 }
 
-/// The definitions of one name, the oldest first.
+/// Writes the definitions of one name, the oldest first.
 fn put_stack<W: ByteSink>(name: &[u8], stack: &[Def], writer: &mut W) -> Result<(), DeviceFault>
     ensures puts { Puts result (W.contents writer.old) (W.contents writer.new) (steps.stack_text name.now stack.now) }
     ensures counted { W.failures writer.new ≡ count_after result (W.failures writer.old) }
@@ -144,7 +144,7 @@ fn put_stack<W: ByteSink>(name: &[u8], stack: &[Def], writer: &mut W) -> Result<
     Ok(())
 }
 
-/// The directive that pushes a definition.
+/// Writes the directive that pushes a definition.
 fn put_definition<W: ByteSink>(
     name: &[u8],
     definition: &Def,
@@ -161,7 +161,7 @@ fn put_definition<W: ByteSink>(
     }
 }
 
-/// The diversions that hold text, by rising number. Answers the number of the last one, or 0.
+/// Writes the diversions that contain text, by rising number. Returns the last one's number, or 0.
 fn put_texts<W: ByteSink>(state: &State, writer: &mut W) -> Result<i32, DeviceFault>
     requires { AreDiversions state.now.diversions }
     ensures puts { Puts result (W.contents writer.old) (W.contents writer.new) (steps.texts_text state.now.diversions) }
@@ -176,7 +176,7 @@ fn put_texts<W: ByteSink>(state: &State, writer: &mut W) -> Result<i32, DeviceFa
     Ok(last)
 }
 
-/// The current number, unless the last diversion gave it.
+/// Writes the current number, unless the last diversion has set it.
 fn put_current<W: ByteSink>(current: i32, last: i32, writer: &mut W) -> Result<(), DeviceFault>
     ensures puts { Puts result (W.contents writer.old) (W.contents writer.new) (steps.current_text current last) }
     ensures counted { W.failures writer.new ≡ count_after result (W.failures writer.old) }
@@ -187,7 +187,7 @@ fn put_current<W: ByteSink>(current: i32, last: i32, writer: &mut W) -> Result<(
     put_diversion(current, &[], writer)
 }
 
-/// A letter, two lengths and two strings.
+/// Writes a letter, two lengths and two strings.
 fn put_strings<W: ByteSink>(
     letter: u8,
     first: &[u8],
@@ -217,7 +217,7 @@ fn put_strings<W: ByteSink>(
     )
 }
 
-/// `D`, a number, a length and a text.
+/// Writes `D`, a number, a length and a text.
 fn put_diversion<W: ByteSink>(number: i32, text: &[u8], writer: &mut W) -> Result<(), DeviceFault>
     ensures puts { Puts result (W.contents writer.old) (W.contents writer.new) (texts.spelling (directives.Diversion number text.now)) }
     ensures counted { W.failures writer.new ≡ count_after result (W.failures writer.old) }

@@ -50,7 +50,7 @@ pub with_bytes-nil : (old : Option (List ℕ)) → old ≡ with_bytes old []
 with_bytes-nil None = refl
 with_bytes-nil (Some old) = ap (λ (bs : List ℕ). Some bs) (sym (append-nil old))
 
--- what a reader tells behind two texts
+-- the script of a reader after two texts
 pub after_bytes-append : (a b : List ℕ) (s : Option Script) → after_bytes a (after_bytes b s) ≡ after_bytes (a ++ b) s
 after_bytes-append a b None = refl
 after_bytes-append a b (Some s) = ap (λ (bs : List ℕ). let t : Script = record { bytes = bs; fails = s.fails } in Some t) (sym (append_assoc a b s.bytes))

@@ -83,7 +83,7 @@ names_of_keys : (ns : List (List ℕ)) → map (λ (e : List ℕ × Unit {0}). e
 names_of_keys [] = refl
 names_of_keys (n ∷ ns) = ap (λ (ms : List (List ℕ)). n ∷ ms) (names_of_keys ns)
 
--- a look-up among names tells only whether a name is there
+-- a look-up among names reports only whether a name is there
 same_units : (x y : Option (Unit {0})) → is_some x ≡ is_some y → x ≡ y
 same_units None None e = refl
 same_units None (Some y) e = absurd cc

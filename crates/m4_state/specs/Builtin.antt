@@ -1,8 +1,8 @@
 -- The table of builtins: what each is called, and how it may be called.
 -- Believed. Its lemma `builtin_named-name_of`: each builtin is found by its own name.
--- Manual: "Builtins", "Macro invocation". Words: row_of, table, builtin_named; and the columns by their
--- own: name_of, needs_args, takes_tokens, least_of, most_of. One row a builtin.
--- own: `ifelse` warns of arguments by its own rules, so that this table lets it have any number.
+-- Manual: "Builtins", "Macro invocation". Words: row_of, table, builtin_named; and the columns by their own:
+-- name_of, needs_args, takes_tokens, least_of, most_of. One row for each builtin.
+-- own: `ifelse` warns about arguments by its own rules, so this table sets no limits for it.
 use Rattle.std.specs.Prelude.{ℕ, Bool, true, false, List, [], ◌∷◌, Option, Some, None, find, codes}
 use Rattle.std.specs.Str.{bytes_eq}
 use Rattle.m4_state.specs.declared.builtin.Builtin.{Builtin}
@@ -14,11 +14,11 @@ pub record Row : Type 0 where
   pub name : List ℕ
   -- whether it is recognised only with parameters
   pub needs_args : Bool
-  -- whether a definition that is an argument is taken as such, and not as an empty text
+  -- whether a definition may be an argument; if not, it counts as an empty text
   pub takes_tokens : Bool
-  -- how many arguments it has at least
+  -- the least number of arguments
   pub least : ℕ
-  -- how many arguments it has at most; none where any number is right
+  -- the greatest number of arguments; none if there is no limit
   pub most : Option ℕ
 
 -- a row of the table, its columns in the order above
@@ -86,6 +86,6 @@ least_of b = (row_of b).least
 abbrev pub most_of : Builtin → Option ℕ
 most_of b = (row_of b).most
 
--- the builtin that bears the name
+-- the builtin of that name
 abbrev pub builtin_named : List ℕ → Option Builtin
 builtin_named name = find (λ b. bytes_eq (name_of b) name) table

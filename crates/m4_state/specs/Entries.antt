@@ -1,16 +1,16 @@
 -- The entries of the code's table, seen as pairs in byte order.
--- Not believed: it only says that entries in any order stand for one list of pairs.
+-- Not believed: it only views entries in any order as one list of pairs.
 use Rattle.std.specs.Prelude.{ℕ, List, [], ◌∷◌, Vec}
 use Rattle.std.specs.FinMap.{put}
 use Rattle.std.specs.declared.alloc.Global.{Global}
 use Rattle.m4_state.specs.declared.definition.Def.{Def}
 use Rattle.m4_state.specs.Table.{Pairs, byte_order}
 
--- a name and its definitions, as the hash table keeps them
+-- a name and its definitions, as the hash table stores them
 abbrev pub Entry : Type 0
 Entry = Vec ℕ Global × Vec Def Global
 
--- each entry put in its place
+-- each entry inserted in its place
 abbrev pub in_order : List Entry → Pairs
 in_order [] = []
 in_order (e ∷ es) = put byte_order e.0.items e.1.items (in_order es)

@@ -1,10 +1,10 @@
--- Memory: what contracts see of the devices over memory.
+-- Memory: the devices over memory, as contracts see them.
 -- Believed: the tests' readers and writers are these. Words: MemReader, script_of, MemWriter.
 use Rattle.std.specs.Prelude.{ℕ, Bool, List, drop, Option, Some}
 use Rattle.m4_state.specs.Device.{Script}
 
--- a reader: all the bytes that it was made with, how many of them it gave, at most how many it gives a
--- take, whether it fails behind the last one, and how often it has failed
+-- a reader: all the bytes that it was made with, how many of them were read, the most bytes for each
+-- take, whether it fails after the last one, and how often it has failed
 pub record MemReader : Type 0 where
   pub all : List ℕ
   pub taken : ℕ
@@ -12,11 +12,11 @@ pub record MemReader : Type 0 where
   pub fails : Bool
   pub failures : ℕ
 
--- the bytes that it still gives
+-- the bytes still to be read
 abbrev pub script_of : MemReader → Option Script
 script_of r = Some (record { bytes = drop r.taken r.all; fails = r.fails })
 
--- a writer: the bytes that it took, how many it takes in all and at most a put, and how often it has
+-- a writer: the bytes that were written, the most bytes in all and for each put, and how often it has
 -- failed
 pub record MemWriter : Type 0 where
   pub held : List ℕ

@@ -1,9 +1,9 @@
--- State: what is known between two steps of a run, as one record of lists.
+-- State: the state between two steps of a run, as one record of lists.
 -- Believed. Manual: "Defining a macro", "Temporarily redefining macros", "Changing the quote
 -- characters", "Changing the comment delimiters", "Diverting and undiverting output".
 -- Words: State, stack_of, pushed, popped, defined, undefined, with_quotes, with_comments, diverted,
 -- appended, undiverted, issued_from, IsState, IsSized.
--- A list with rising keys is the one list of its finite map: equal states are equal records.
+-- A list with rising keys is the only such list of its finite map: equal states are equal records.
 use Rattle.std.specs.Prelude.{◌≢◌, ◌<◌, ◌^◌, ◌-◌, ℕ, ℤ, pos, Bool, not, List, [], ◌∷◌, ◌++◌, length, map, Option, Some, None, IsTrue, unwrap_or, slice_get, if◌then◌else◌, FitsSigned, int_lt}
 use Rattle.std.specs.Int.{w32}
 use Rattle.std.specs.List.{AllByRecursion, filter}
@@ -48,19 +48,19 @@ stack_of s name = stack_at s.table name
 abbrev pub last_of : {A : Type 0} → List A → Option A
 last_of xs = slice_get xs (length xs - 1)
 
--- the definition on top
+-- the top definition
 abbrev pub top_of : State → List ℕ → Option Def
 top_of s name = last_of (stack_of s name)
 
--- with one definition more on top of a name's
+-- with one more definition on those of a name
 abbrev pub pushed : State → List ℕ → Def → State
 pushed s name d = record s { table = with_push s.table name d }
 
--- with another definition in place of the one on top of a name's, or the first one
+-- with another definition instead of the top one of a name, or with the first one
 abbrev pub defined : State → List ℕ → Def → State
 defined s name d = record s { table = with_top s.table name d }
 
--- without the definition on top of a name's; nothing changes where it has none
+-- without the top definition of a name; nothing changes if it has none
 abbrev pub popped : State → List ℕ → State
 popped s name = record s { table = without_top s.table name }
 
@@ -68,15 +68,15 @@ popped s name = record s { table = without_top s.table name }
 abbrev pub undefined : State → List ℕ → State
 undefined s name = record s { table = without s.table name }
 
--- with the quotes that two strings choose
+-- with the quotes of two strings
 abbrev pub with_quotes : State → List ℕ → List ℕ → State
 with_quotes s begin end = record s { quotes = chosen default_quotes begin end }
 
--- with the comment delimiters that two strings choose
+-- with the comment delimiters of two strings
 abbrev pub with_comments : State → List ℕ → List ℕ → State
 with_comments s begin end = record s { comments = chosen default_comments begin end }
 
--- the text that a diversion holds
+-- the text of a diversion
 abbrev pub text_at : List Diversion → ℤ → List ℕ
 text_at diversions number = unwrap_or (find int_cmp number diversions) []
 
@@ -87,17 +87,17 @@ diversion_of s number = text_at s.diversions number
 abbrev pub diverted : State → ℤ → State
 diverted s number = record s { current = number }
 
--- with more text in a diversion of that number; none of them holds an empty text
+-- with more text in a diversion of that number; no empty text is stored
 abbrev pub with_text : List Diversion → ℤ → List ℕ → List Diversion
 with_text diversions number [] = diversions
 with_text diversions number (b ∷ text) =
     put int_cmp number (text_at diversions number ++ b ∷ text) diversions
 
--- whether text goes to a diversion: it does where its number is positive
+-- whether text goes to a diversion: only if its number is positive
 abbrev pub holds_text : ℤ → Bool
 holds_text number = int_lt (pos 0) number
 
--- with more text in the current diversion, if it is one that holds text
+-- with more text in the current diversion, if text goes to it
 abbrev pub appended : State → List ℕ → State
 appended s text = record s {
   diversions = if holds_text s.current then with_text s.diversions s.current text else s.diversions;
@@ -107,36 +107,36 @@ appended s text = record s {
 abbrev pub without_text : List Diversion → ℤ → List Diversion
 without_text diversions number = filter (λ d. not (int_eq number d.0)) diversions
 
--- with a diversion brought back: its text leaves it and goes to the current diversion, which drops it
--- where its number isn't positive; the current diversion itself is not brought back
+-- after a diversion is undiverted: its text is removed from it and added to the current diversion, or
+-- not added if that number isn't positive; the current diversion itself is not undiverted
 abbrev pub undiverted : State → ℤ → State
 undiverted s number =
     if int_eq number s.current then s
     else appended (record s { diversions = without_text s.diversions number }) (diversion_of s number)
 
--- the text that goes to the output as a diversion is brought back: it does where the current number
--- is 0
+-- the text that goes to the output when a diversion is undiverted: all of it if the current
+-- number is 0
 abbrev pub issued_from : State → ℤ → List ℕ
 issued_from s number = if int_eq s.current (pos 0) then diversion_of s number else []
 
--- a text, or none where it is empty
+-- a text, or none if it is empty
 abbrev pub unless_empty : List ℕ → Option (List ℕ)
 unless_empty [] = None
 unless_empty (b ∷ text) = Some (b ∷ text)
 
--- the first diversion behind a number
+-- the first diversion after a number
 abbrev pub next_after : List Diversion → ℤ → Option ℤ
 next_after [] number = None
 next_after (d ∷ diversions) number =
     if int_lt number d.0 then Some d.0 else next_after diversions number
 
--- a diversion has a positive number of 32 bits and holds text
+-- a diversion has a positive number of 32 bits and a text
 pub record IsDiversion (d : Diversion) : Type 0 where
   pub positive : IsTrue (holds_text d.0)
   pub fits : FitsSigned w32 d.0
   pub some : d.1 ≢ []
 
--- the numbers rise, and each diversion is in order
+-- the numbers rise, and each diversion is valid
 pub record AreDiversions (diversions : List Diversion) : Type 0 where
   pub sorted : IsTrue (is_sorted int_cmp diversions)
   pub each : AllByRecursion IsDiversion diversions
@@ -144,8 +144,8 @@ pub record AreDiversions (diversions : List Diversion) : Type 0 where
 abbrev pub AreSizedDiversions : List Diversion → Type 0
 AreSizedDiversions diversions = AllByRecursion (λ d. length d.1 < 2 ^ 64) diversions
 
--- the invariant: of each pair of delimiters both are empty or neither is, and no placeholder bears
--- the name of a builtin
+-- the invariant: of each pair of delimiters both are empty or neither is, and the name of a
+-- placeholder is not that of a builtin
 pub record IsState (s : State) : Type 0 where
   pub table : IsTable s.table
   pub quotes : IsPaired s.quotes

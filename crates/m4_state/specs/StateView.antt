@@ -1,5 +1,5 @@
--- What the fields of the code's state stand for.
--- Not believed: it only puts the fields' values into one record.
+-- The record that the fields of the code's state mean.
+-- Not believed: it only collects the fields' values in one record.
 use Rattle.m4_state.specs.State.{State}
 use Rattle.m4_state.specs.declared.state.State.TheInside.{Inside}
 

@@ -1,7 +1,7 @@
-//! The builtins that this processor has. One that a frozen file names and that isn't among them is
-//! kept as a placeholder. Manual: "Builtins".
+//! The builtins that this processor has. If a frozen file names another builtin, it is kept as a
+//! placeholder. Manual: "Builtins".
 //!
-//! The table has one row a builtin, here and in `specs/Builtin.antt`.
+//! The table has one row for each builtin, here and in `specs/Builtin.antt`.
 
 ghost use Rattle.std.specs.Prelude.{◌≡◌};
 ghost use Rattle.m4_state.specs.Builtin.{called};
@@ -11,45 +11,45 @@ use std::marker::Model;
 /// A builtin of the table.
 #[derive(Clone, Copy, Debug, PartialEq, Eq)]
 pub enum Builtin {
-    /// Gives a name a text, or another definition. Manual: "Defining a macro".
+    /// Sets the definition of a name. Manual: "Defining a macro".
     Define,
-    /// Takes all definitions of names away. Manual: "Deleting a macro".
+    /// Removes all definitions of names. Manual: "Deleting a macro".
     Undefine,
-    /// Puts a definition on top of those of a name. Manual: "Temporarily redefining macros".
+    /// Pushes a definition on those of a name. Manual: "Temporarily redefining macros".
     Pushdef,
-    /// Takes the definition on top of each name away. Manual: "Temporarily redefining macros".
+    /// Removes the top definition of each name. Manual: "Temporarily redefining macros".
     Popdef,
-    /// Gives the definitions of names. Manual: "Renaming macros".
+    /// Expands to the definitions of names. Manual: "Renaming macros".
     Defn,
     /// Calls the macro of any name. Manual: "Indirect call of macros".
     Indir,
     /// Calls a builtin by its own name. Manual: "Indirect call of builtins".
     IndirBuiltin,
-    /// Chooses by whether a name has a definition. Manual: "Testing if a macro is defined".
+    /// Selects by whether a name has a definition. Manual: "Testing if a macro is defined".
     Ifdef,
-    /// Chooses by comparing texts. Manual: "If-else construct, or multibranch".
+    /// Selects by comparing texts. Manual: "If-else construct, or multibranch".
     Ifelse,
-    /// Gives all arguments but the first. Manual: "Recursion in m4".
+    /// Expands to all arguments but the first. Manual: "Recursion in m4".
     Shift,
-    /// Shows definitions on the messages. Manual: "Displaying macro definitions".
+    /// Prints definitions as messages. Manual: "Displaying macro definitions".
     Dumpdef,
-    /// Drops the rest of the line. Manual: "Deleting whitespace in input".
+    /// Discards the rest of the line. Manual: "Deleting whitespace in input".
     Dnl,
-    /// Chooses the quotes. Manual: "Changing the quote characters".
+    /// Sets the quotes. Manual: "Changing the quote characters".
     Changequote,
-    /// Chooses the comment delimiters. Manual: "Changing the comment delimiters".
+    /// Sets the comment delimiters. Manual: "Changing the comment delimiters".
     Changecom,
-    /// Chooses the diversion that text goes to. Manual: "Diverting output".
+    /// Sets the current diversion. Manual: "Diverting output".
     Divert,
-    /// Brings diversions back. Manual: "Undiverting output".
+    /// Undiverts diversions. Manual: "Undiverting output".
     Undivert,
-    /// Gives the number of the current diversion. Manual: "Diversion numbers".
+    /// Expands to the number of the current diversion. Manual: "Diversion numbers".
     Divnum,
-    /// Gives the length of a text. Manual: "Calculating length of strings".
+    /// Expands to the length of a text. Manual: "Calculating length of strings".
     Len,
-    /// Gives the place of a text within another. Manual: "Searching for substrings".
+    /// Expands to the place of a text inside another. Manual: "Searching for substrings".
     Index,
-    /// Gives a part of a text. Manual: "Extracting substrings".
+    /// Expands to a part of a text. Manual: "Extracting substrings".
     Substr,
     /// Replaces bytes by others. Manual: "Translating characters".
     Translit,
@@ -59,15 +59,15 @@ pub enum Builtin {
     Decr,
     /// Computes an expression. Manual: "Evaluating integer expressions".
     Eval,
-    /// Writes to the messages. Manual: "Printing error messages".
+    /// Prints a message. Manual: "Printing error messages".
     Errprint,
     /// Saves a text until all input is read. Manual: "Saving text until end of input".
     M4wrap,
     /// Ends the run. Manual: "Exiting from m4".
     M4exit,
-    /// Gives the name of the input. Manual: "Printing current location".
+    /// Expands to the name of the input. Manual: "Printing current location".
     File,
-    /// Gives the line of the call. Manual: "Printing current location".
+    /// Expands to the line of the call. Manual: "Printing current location".
     Line,
 }
 
@@ -89,7 +89,7 @@ impl Model for Row {
     ghost view = { λ r. called r.name.now r.needs_args r.takes_tokens r.least r.most };
 }
 
-/// A row of the table, its columns in the order of its fields.
+/// Returns a row of the table. The columns are in the order of its fields.
 fn called(
     name: &'static [u8],
     needs_args: bool,
@@ -111,7 +111,7 @@ fn called(
 impl Builtin {
     ghost use Rattle.m4_state.specs.Builtin.{row_of, builtin_named, name_of, needs_args, takes_tokens, least_of, most_of};
 
-    /// All of them.
+    /// All builtins.
     pub const TABLE: [Builtin; 29] = [
         Builtin::Define,
         Builtin::Undefine,
@@ -144,7 +144,7 @@ impl Builtin {
         Builtin::Line,
     ];
 
-    /// The builtin of that name, if the table has it.
+    /// Returns the builtin of that name, if the table has it.
     pub fn by_name(name: &[u8]) -> Option<Builtin>
         ensures { result ≡ builtin_named name.now }
     {
@@ -156,7 +156,7 @@ impl Builtin {
         None
     }
 
-    /// The builtin's row.
+    /// Returns the builtin's row.
     fn row(self) -> Row
         ensures { result ≡ row_of self }
     {
@@ -193,35 +193,35 @@ impl Builtin {
         }
     }
 
-    /// The builtin's own name.
+    /// Returns the builtin's own name.
     pub fn name(self) -> &'static [u8]
         ensures { result.now ≡ name_of self }
     {
         self.row().name
     }
 
-    /// Whether it is recognised only with parameters.
+    /// Returns whether the name is recognised only with parameters.
     pub fn needs_args(self) -> bool
         ensures { result ≡ needs_args self }
     {
         self.row().needs_args
     }
 
-    /// Whether a definition that is an argument is taken as such, and not as an empty text.
+    /// Returns whether a definition may be an argument; if not, it counts as an empty text.
     pub fn takes_tokens(self) -> bool
         ensures { result ≡ takes_tokens self }
     {
         self.row().takes_tokens
     }
 
-    /// How many arguments it has at least.
+    /// Returns the least number of arguments.
     pub fn least_args(self) -> usize
         ensures { result ≡ least_of self }
     {
         self.row().least
     }
 
-    /// How many arguments it has at most; none where any number is right.
+    /// Returns the greatest number of arguments; none if there is no limit.
     pub fn most_args(self) -> Option<usize>
         ensures { result ≡ most_of self }
     {

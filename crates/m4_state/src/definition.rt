@@ -1,4 +1,4 @@
-//! What a name stands for.
+//! Definitions of names.
 
 ghost use Rattle.std.specs.Prelude.{◌≡◌, IfOk};
 
@@ -9,18 +9,18 @@ use std::alloc::AllocError;
 /// A definition.
 #[derive(Debug, Drop)]
 pub enum Def {
-    /// A text, which a call expands to.
+    /// A text, to which a call expands.
     Text(Bytes),
     /// A builtin of the table.
     Builtin(Builtin),
-    /// The name of another program's builtin, which a frozen file gave.
+    /// The name of another program's builtin, from a frozen file.
     Placeholder(Bytes),
 }
 
 impl Def {
     ghost use Rattle.m4_state.specs.Definition.{length_of, IsSizedDefinition};
 
-    /// The same definition once more.
+    /// Returns a copy.
     pub fn share(&self) -> Result<Def, AllocError>
         ensures { IfOk result (λ d. d ≡ self.now) }
     {
@@ -31,7 +31,7 @@ impl Def {
         }
     }
 
-    /// How many bytes the text has, or the builtin's name.
+    /// Returns the length of the text, or of the builtin's name.
     pub fn len(&self) -> usize
         ensures len { result ≡ length_of self.now }
         ensures sized { IsSizedDefinition self.now }

@@ -5,7 +5,7 @@ ghost use Rattle.std.specs.Prelude.{◌≡◌, ◌<◌, ◌^◌, [], length, IfO
 use crate::bytes::Bytes;
 use std::alloc::{AllocError, Global};
 
-/// What begins and what ends a quoted string, or a comment. Both are empty where it is disabled.
+/// The begin and the end of a quoted string, or of a comment. Both are empty if it is disabled.
 #[derive(Debug, Drop)]
 pub struct Delimiters {
     pub begin: Bytes,
@@ -15,7 +15,7 @@ pub struct Delimiters {
 impl Delimiters {
     ghost use Rattle.m4_state.specs.Delimiters.{default_quotes, default_comments, chosen, IsPaired, IsSizedPair};
 
-    /// The quotes of a new state: a backquote and an apostrophe.
+    /// Returns the quotes of a new state: a backquote and an apostrophe.
     pub fn default_quotes(alloc: Global) -> Result<Delimiters, AllocError>
         ensures { IfOk result (λ d. d ≡ default_quotes) }
     {
@@ -25,7 +25,7 @@ impl Delimiters {
         })
     }
 
-    /// The comment delimiters of a new state: a number sign and a newline.
+    /// Returns the comment delimiters of a new state: a number sign and a newline.
     pub fn default_comments(alloc: Global) -> Result<Delimiters, AllocError>
         ensures { IfOk result (λ d. d ≡ default_comments) }
     {
@@ -35,7 +35,7 @@ impl Delimiters {
         })
     }
 
-    /// Quotes by the two strings that were given for them.
+    /// Returns quotes with this begin and end.
     pub fn chosen_quotes(alloc: Global, begin: Bytes, end: Bytes) -> Result<Delimiters, AllocError>
         ensures chosen { IfOk result (λ d. d ≡ chosen default_quotes begin end) }
         ensures valid { IfOk result (λ d. IsPaired d × IsSizedPair d) }
@@ -43,7 +43,7 @@ impl Delimiters {
         Delimiters::with_default(alloc, begin, end, b"'")
     }
 
-    /// Comment delimiters by the two strings that were given for them.
+    /// Returns comment delimiters with this begin and end.
     pub fn chosen_comments(
         alloc: Global,
         begin: Bytes,
@@ -54,7 +54,7 @@ impl Delimiters {
     {
         Delimiters::with_default(alloc, begin, end, b"\n")
     }
-    /// Delimiters by two strings, with this end where a begin has none.
+    /// Returns delimiters; if only the end is empty, it is the default end.
     fn with_default(
         alloc: Global,
         begin: Bytes,

@@ -1,28 +1,28 @@
-//! Where bytes come from and go to: a reader or a writer that is lent as `&mut`.
+//! Devices: a reader or a writer that is passed as `&mut`.
 //!
-//! A device over memory tells its bytes to contracts, and what is promised of bytes is promised
-//! under that premise. A device over std's readers and writers tells none of them. Both count their
-//! failures, so a contract can say that a read fault comes only where the reader failed.
+//! Contracts know the bytes of a device over memory, and promises about bytes are made for such devices.
+//! They know no bytes of std's readers and writers. Every device counts its failures, so a contract can
+//! state that a read fault is returned only if the reader failed.
 
 ghost use Rattle.std.specs.Prelude.{◌≡◌, ◌<◌, ◌≤◌, ℕ, List, length, take, Option, OnErr, IfOk, Ok};
 ghost use Rattle.m4_state.specs.Device.{Script, after_bytes, IsAtEnd, IsAtFault, with_bytes, count_after};
 
-/// A read or a write failed. It gave or took no byte.
+/// A read or a write failed. No byte was read or written.
 #[derive(Clone, Copy, Debug, PartialEq, Eq)]
 pub struct DeviceFault;
 
-/// A reader that is lent.
+/// A reader that is passed as `&mut`.
 pub trait ByteSource {
-    /// The bytes that it still gives, and whether it fails behind them; none where it does not tell.
+    /// The bytes still to be read, and whether a failure follows them; none if these are not known.
     ghost script: { Self → Option Script };
 
-    /// How many takes have failed.
+    /// The number of takes that have failed.
     ghost failures: { Self → ℕ };
 
-    /// More than the takes that still give bytes.
+    /// A bound above the number of takes that still return bytes.
     ghost takes_left: { Self → ℕ };
 
-    /// Puts the next bytes at the front of `buf`, and answers how many; 0 is the end.
+    /// Writes the next bytes to the start of `buf`, and returns how many; 0 is the end.
     fn take(&mut self, buf: &mut [u8]) -> Result<usize, DeviceFault>
         requires { 0 < length buf.old }
         ensures within { IfOk result (λ n. n ≤ length buf.old) }
@@ -30,28 +30,28 @@ pub trait ByteSource {
         ensures end { result ≡ Ok 0 → IsAtEnd (script self.new) }
         ensures falls { IfOk result (λ n. 0 < n → takes_left self.new < takes_left self.old) }
 
-        // a fault gives no byte
+        // a fault returns no byte
         ensures fault { OnErr result (IsAtFault (script self.old)) }
         ensures unchanged { OnErr result (script self.new ≡ script self.old) }
         ensures counted { failures self.new ≡ count_after result (failures self.old) };
 }
 
-/// A writer that is lent.
+/// A writer that is passed as `&mut`.
 pub trait ByteSink {
-    /// The bytes that it holds; none where it does not tell.
+    /// The bytes that were written; none if these are not known.
     ghost contents: { Self → Option (List ℕ) };
 
-    /// How many puts have failed.
+    /// The number of puts that have failed.
     ghost failures: { Self → ℕ };
 
-    /// Takes a beginning of the bytes that is not empty, and answers how long it is.
+    /// Writes a prefix of the bytes that is not empty, and returns its length.
     fn put(&mut self, bytes: &[u8]) -> Result<usize, DeviceFault>
         requires { 0 < length bytes.now }
         ensures within { IfOk result (λ n. n ≤ length bytes.now) }
         ensures some { IfOk result (λ n. 0 < n) }
         ensures takes { IfOk result (λ n. contents self.new ≡ with_bytes (contents self.old) (take n bytes.now)) }
 
-        // a fault takes no byte
+        // a fault writes no byte
         ensures unchanged { OnErr result (contents self.new ≡ contents self.old) }
         ensures counted { failures self.new ≡ count_after result (failures self.old) };
 }

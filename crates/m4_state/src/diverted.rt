@@ -1,4 +1,4 @@
-//! Texts by their numbers, as diversions keep them.
+//! Texts by their numbers, as diversions store them.
 
 ghost use Rattle.std.specs.Prelude.{◌≡◌, ◌<◌, ◌++◌, ◌^◌, length, IsTrue, OnOk, OnErr, option_map};
 ghost use Rattle.std.specs.Ordering.{int_cmp};
@@ -9,7 +9,7 @@ ghost use Rattle.m4_state.specs.DiversionEntries.{texts_of};
 use std::alloc::{AllocError, Global};
 use std::collections::BTreeMap;
 
-/// Adds to the text of a number. What can fail comes first, so a refusal changes nothing.
+/// Adds to the text of a number. Allocations come first, so if one fails nothing changes.
 pub fn append_in(
     alloc: Global,
     texts: &mut BTreeMap<i32, Vec<u8>>,
@@ -36,7 +36,7 @@ pub fn append_in(
     Ok(())
 }
 
-/// Takes the text of a number out, if there is one. Takes no memory.
+/// Removes the text of a number, and returns it, if there is one. Allocates nothing.
 pub fn take_in(texts: &mut BTreeMap<i32, Vec<u8>>, number: i32) -> Option<Vec<u8>>
     requires { IsTrue (is_sorted int_cmp (texts_of texts.old.entries)) }
     ensures text { option_map (λ text. text.items) result ≡ find int_cmp number (texts_of texts.old.entries) }

@@ -1,4 +1,4 @@
-//! Why a state refuses a change.
+//! Why a change of a state failed.
 
 ghost use Rattle.std.specs.Prelude.{◌≡◌};
 ghost use Rattle.m4_state.specs.declared.fault.StateFault.TheVariants.{OutOfMemory};
@@ -6,10 +6,10 @@ ghost use Rattle.m4_state.specs.declared.fault.StateFault.TheVariants.{OutOfMemo
 use std::alloc::AllocError;
 use thiserror::Error;
 
-/// A refusal of a state. It leaves the state as it was.
+/// A change of a state failed. The state is as it was.
 #[derive(Clone, Copy, Debug, PartialEq, Eq, Error)]
 pub enum StateFault {
-    /// A growth was refused.
+    /// An allocation failed.
     #[error("S1 OutOfMemory")]
     OutOfMemory,
 }

@@ -1,7 +1,7 @@
 //! The state of a macro processor: names with their definitions, delimiters, diversions; and the
-//! devices that bytes come from and go to.
+//! devices that bytes are read from and written to.
 //!
-//! Contracts see a [`state::State`] as one record of lists (`specs/State.antt`), whatever keeps it.
+//! Contracts see a [`state::State`] as one record of lists (`specs/State.antt`), however it is stored.
 #![tactic(auto)]
 
 pub mod builtin;

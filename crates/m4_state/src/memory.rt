@@ -1,5 +1,5 @@
-//! Devices over memory, which tell their bytes: a reader that gives a slice piece by piece, and a
-//! writer with a fixed room. Neither asks for memory in `take` or `put`.
+//! Devices over memory, whose bytes contracts know: a reader that returns a slice piece by piece, and
+//! a writer with a fixed room. `take` and `put` allocate nothing.
 
 ghost use Rattle.std.specs.Prelude.{◌≡◌, ◌<◌, ◌≤◌, ◌+◌, ◌-◌, [], length, take, drop, Ok, Some, IfOk, OnErr};
 ghost use Rattle.m4_state.specs.Device.{after_bytes, count_after, IsAtEnd, IsAtFault};
@@ -8,7 +8,7 @@ use crate::device::{ByteSink, ByteSource, DeviceFault};
 use std::alloc::{AllocError, Global};
 use std::marker::Model;
 
-/// Gives the bytes of a slice, at most so many a take, and then ends or fails.
+/// Returns the bytes of a slice, at most `at_most` for each take, and then ends or fails.
 #[derive(Debug, Drop)]
 pub struct MemSource<'a> {
     bytes: &'a [u8],
@@ -36,7 +36,7 @@ impl<'a> Model for MemSource<'a> {
 }
 
 impl<'a> MemSource<'a> {
-    /// A reader that gives at most `at_most` bytes a take, and behind the last one fails or ends.
+    /// Returns a reader of at most `at_most` bytes for each take. After the last byte it fails or ends.
     pub fn new(bytes: &'a [u8], at_most: usize, fails: bool) -> MemSource<'a>
         requires { 0 < at_most }
         ensures script { ⟦<MemSource<'a> as ByteSource>⟧.script result ≡ Some (record { bytes = bytes.now; fails = fails }) }
@@ -52,7 +52,7 @@ impl<'a> MemSource<'a> {
         }
     }
 
-    /// How many bytes it gave so far.
+    /// Returns how many bytes were read so far.
     pub fn taken(&self) -> usize
         ensures count { result ≡ self.now.taken }
         ensures within { result ≤ length self.now.all }
@@ -81,7 +81,7 @@ impl ByteSource for MemSource<'_> {
         ensures fault { OnErr result (IsAtFault (script_of self.old)) }
         ensures unchanged { OnErr result (script_of self.new ≡ script_of self.old) }
         ensures counted { self.new.failures ≡ count_after result self.old.failures }
-        // it gives the bytes that it was made with, one behind the other, and a fault gives none
+        // it returns the bytes that it was made with, in order, and a fault returns none
         ensures moved { IfOk result (λ n. self.new ≡ record self.old { taken = self.old.taken + n }) }
         ensures stays { OnErr result (self.new ≡ record self.old { failures = self.new.failures }) }
     {
@@ -98,7 +98,7 @@ impl ByteSource for MemSource<'_> {
     }
 }
 
-/// Holds the bytes that it took, at most so many a put, and fails once its room is full.
+/// Stores the bytes written, at most `at_most` for each put, and fails once its room is full.
 #[derive(Debug, Drop)]
 pub struct MemSink {
     held: Vec<u8>,
@@ -124,7 +124,7 @@ impl Model for MemSink {
 }
 
 impl MemSink {
-    /// A writer that takes at most `at_most` bytes a put and `room` bytes in all. The room is
+    /// Returns a writer of at most `at_most` bytes for each put and `room` bytes in all. The room is
     /// reserved here.
     pub fn new(alloc: Global, room: usize, at_most: usize) -> Result<MemSink, AllocError>
         requires { 0 < at_most }
@@ -140,7 +140,7 @@ impl MemSink {
         })
     }
 
-    /// The bytes that it took.
+    /// Returns the bytes that were written.
     pub fn written(&self) -> &[u8]
         ensures { ⟦<MemSink as ByteSink>⟧.contents self.now ≡ Some result.now }
     {

@@ -1,8 +1,8 @@
 //! The state of a run between two steps: names with stacks of definitions, both pairs of
 //! delimiters, the diversions and the number of the current one.
 //!
-//! Contracts see one record of lists (specs/State.antt), which doesn't change with what keeps it.
-//! Each call says the whole new record; a refusal leaves it unchanged.
+//! Contracts see one record of lists (specs/State.antt), however the state is stored. The contract of
+//! each call defines the complete new record; if an allocation fails, the state is unchanged.
 
 ghost use Rattle.m4_state.specs.Fresh.{fresh_name};
 ghost use Rattle.std.specs.Prelude.{◌≡◌, ◌∷◌, [], IfOk, IfSome, IfNone, OnOk, OnErr, option_copied, option_map};
@@ -27,7 +27,7 @@ pub struct State {
     current: i32,
 }
 
-/// The name that a builtin has in a fresh state.
+/// Returns the name of a builtin in a fresh state.
 fn fresh_name(alloc: Global, prefix: bool, builtin: Builtin) -> Result<Bytes, AllocError>
     ensures { IfOk result (λ name. name ≡ fresh_name prefix builtin) }
 {
@@ -69,7 +69,7 @@ impl State {
     ghost use Rattle.m4_state.specs.Fresh.{fresh, with_builtin};
     ghost use Rattle.m4_state.specs.State.{IsState, IsSized, empty, names_of, stack_of, top_of, pushed, popped, defined, undefined, with_quotes, with_comments, diverted, appended, undiverted, issued_from, unless_empty, diversion_of, next_after};
 
-    /// No names, no diversions, the default delimiters.
+    /// Returns the empty state: no names, no diversions, the default delimiters.
     pub fn empty(alloc: Global) -> Result<State, StateFault>
         // exact steps: the empty record
         ensures { IfOk result (λ s. s ≡ empty) }
@@ -84,8 +84,8 @@ impl State {
         })
     }
 
-    /// Each builtin under its name, with `m4_` in front where prefixes are asked for, and `__gnu__` and
-    /// `__unix__` as empty texts. Manual: "Invoking m4" (`--prefix-builtins`).
+    /// Returns a state with each builtin under its name, or with `prefix` under `m4_` and its name, and
+    /// `__gnu__` and `__unix__` as empty texts. Manual: "Invoking m4" (`--prefix-builtins`).
     pub fn fresh(alloc: Global, prefix: bool) -> Result<State, StateFault>
         // exact steps: the fresh record
         ensures { IfOk result (λ s. s ≡ fresh prefix) }
@@ -101,7 +101,7 @@ impl State {
         Ok(state)
     }
 
-    /// Puts a builtin on top of the definitions of its name, or of its name with the prefix.
+    /// Pushes a builtin on the definitions of its name, or of its name with the prefix.
     fn push_builtin(
         &mut self,
         alloc: Global,
@@ -114,24 +114,24 @@ impl State {
         self.push(name, Def::Builtin(builtin))
     }
 
-    /// The definitions of a name, the oldest first; none where it has none. Takes time in
-    /// proportion to the name, however many names there are.
+    /// Returns the definitions of a name, the oldest first; none if it has none. The time is
+    /// proportional to the length of the name, however many names there are.
     pub fn stack(&self, name: &[u8]) -> &[Def]
-        // exact steps: what the record has at the name
+        // exact steps: the record's definitions of the name
         ensures { result.now ≡ stack_of self.now name.now }
     {
         self.table.stack(name)
     }
 
-    /// The definition on top of a name's.
+    /// Returns the top definition of a name.
     pub fn top(&self, name: &[u8]) -> Option<&Def>
-        // exact steps: the last of what the record has at the name
+        // exact steps: the last of the record's definitions of the name
         ensures { option_copied result ≡ top_of self.now name.now }
     {
         self.stack(name).last()
     }
 
-    /// The names that have a definition, in byte order, into which they are sorted each time.
+    /// Returns the names that have a definition, in byte order. Each call sorts them.
     pub fn names(&self) -> Result<Vec<Bytes>, StateFault>
         // exact steps: the names of the record, in its order
         ensures { IfOk result (λ names. names.items ≡ names_of self.now) }
@@ -139,10 +139,10 @@ impl State {
         Ok(self.table.names()?)
     }
 
-    /// Puts a definition on top of a name's. Manual: "Temporarily redefining macros".
+    /// Pushes a definition on those of a name. Manual: "Temporarily redefining macros".
     pub fn push(&mut self, name: Bytes, def: Def) -> Result<(), StateFault>
         requires { IsDefinition def }
-        // exact steps: the whole new record; a refusal leaves it unchanged
+        // exact steps: the complete new record; if an allocation fails, it is unchanged
         ensures ok { OnOk result (self.new ≡ pushed self.old name def) }
         ensures err { OnErr result (self.new ≡ self.old) }
     {
@@ -150,10 +150,10 @@ impl State {
         Ok(())
     }
 
-    /// Replaces the definition on top of a name's, or makes the first one. Manual: "Defining a macro".
+    /// Replaces the top definition of a name, or adds the first one. Manual: "Defining a macro".
     pub fn define(&mut self, name: Bytes, def: Def) -> Result<(), StateFault>
         requires { IsDefinition def }
-        // exact steps: the whole new record; a refusal leaves it unchanged
+        // exact steps: the complete new record; if an allocation fails, it is unchanged
         ensures ok { OnOk result (self.new ≡ defined self.old name def) }
         ensures err { OnErr result (self.new ≡ self.old) }
     {
@@ -161,46 +161,45 @@ impl State {
         Ok(())
     }
 
-    /// Takes all definitions of a name away, if it has any. Takes no memory. Manual: "Deleting a
-    /// macro".
+    /// Removes all definitions of a name, if it has any. Allocates nothing. Manual: "Deleting a macro".
     pub fn undefine(&mut self, name: &[u8])
-        // exact steps: the whole new record
+        // exact steps: the complete new record
         ensures { self.new ≡ undefined self.old name.now }
     {
         self.table.undefine(name);
     }
 
-    /// Takes the definition on top of a name's away, if it has any. Takes no memory. Manual:
-    /// "Temporarily redefining macros".
+    /// Removes the top definition of a name, if it has any. Allocates nothing. Manual: "Temporarily
+    /// redefining macros".
     pub fn pop(&mut self, name: &[u8])
-        // exact steps: the whole new record
+        // exact steps: the complete new record
         ensures { self.new ≡ popped self.old name.now }
     {
         self.table.pop(name);
     }
 
-    /// The begin and the end of quotes; both are empty where they are disabled.
+    /// Returns the begin and the end of quotes; both are empty if they are disabled.
     pub fn quotes(&self) -> (&[u8], &[u8])
-        // exact steps: what the record has
+        // exact steps: the fields of the record
         ensures begin { result.0.now ≡ self.now.quotes.begin }
         ensures end { result.1.now ≡ self.now.quotes.end }
     {
         (self.quotes.begin.as_slice(), self.quotes.end.as_slice())
     }
 
-    /// The begin and the end of comments; both are empty where they are disabled.
+    /// Returns the begin and the end of comments; both are empty if they are disabled.
     pub fn comments(&self) -> (&[u8], &[u8])
-        // exact steps: what the record has
+        // exact steps: the fields of the record
         ensures begin { result.0.now ≡ self.now.comments.begin }
         ensures end { result.1.now ≡ self.now.comments.end }
     {
         (self.comments.begin.as_slice(), self.comments.end.as_slice())
     }
 
-    /// Chooses quotes: an empty begin disables them, and an empty end behind a begin is the default
-    /// one. Manual: "Changing the quote characters".
+    /// Sets the quotes. An empty begin disables them; if only the end is empty, it is the default end.
+    /// Manual: "Changing the quote characters".
     pub fn set_quotes(&mut self, begin: Bytes, end: Bytes) -> Result<(), StateFault>
-        // exact steps: the whole new record; a refusal leaves it unchanged
+        // exact steps: the complete new record; if an allocation fails, it is unchanged
         ensures ok { OnOk result (self.new ≡ with_quotes self.old begin end) }
         ensures err { OnErr result (self.new ≡ self.old) }
     {
@@ -208,9 +207,9 @@ impl State {
         Ok(())
     }
 
-    /// Chooses comment delimiters, by the same rule. Manual: "Changing the comment delimiters".
+    /// Sets the comment delimiters, by the same rule. Manual: "Changing the comment delimiters".
     pub fn set_comments(&mut self, begin: Bytes, end: Bytes) -> Result<(), StateFault>
-        // exact steps: the whole new record; a refusal leaves it unchanged
+        // exact steps: the complete new record; if an allocation fails, it is unchanged
         ensures ok { OnOk result (self.new ≡ with_comments self.old begin end) }
         ensures err { OnErr result (self.new ≡ self.old) }
     {
@@ -218,10 +217,10 @@ impl State {
         Ok(())
     }
 
-    /// The number of the current diversion. A state is in order, and no byte string in it is longer
-    /// than 2^64 - 1.
+    /// Returns the number of the current diversion. Every state is valid, and none of its byte strings is
+    /// longer than 2^64 - 1.
     pub fn current(&self) -> i32
-        // exact steps: what the record has
+        // exact steps: the field of the record
         ensures current { result ≡ self.now.current }
         ensures valid { IsState self.now }
         ensures sized { IsSized self.now }
@@ -231,15 +230,15 @@ impl State {
 
     /// Makes this diversion the current one. Manual: "Diverting output".
     pub fn divert(&mut self, number: i32)
-        // exact steps: the whole new record
+        // exact steps: the complete new record
         ensures { self.new ≡ diverted self.old number }
     {
         self.current = number;
     }
 
-    /// Adds text to the current diversion, if its number is positive; else nothing changes.
+    /// Adds text to the current diversion if its number is positive; otherwise nothing changes.
     pub fn append(&mut self, text: &[u8]) -> Result<(), StateFault>
-        // exact steps: the whole new record; a refusal leaves it unchanged
+        // exact steps: the complete new record; if an allocation fails, it is unchanged
         ensures ok { OnOk result (self.new ≡ appended self.old text.now) }
         ensures err { OnErr result (self.new ≡ self.old) }
     {
@@ -249,11 +248,11 @@ impl State {
         Ok(())
     }
 
-    /// Brings a diversion back, unless it is the current one or holds no text: its text leaves it, and
-    /// is added to the current diversion where that number is positive, handed out where it is 0, and
-    /// dropped where it is negative. Manual: "Undiverting output".
+    /// Undiverts a diversion, unless it is the current one or has no text. Its text is removed from it. The
+    /// text is added to the current diversion if that number is positive, returned if it is 0, and dropped
+    /// if it is negative. Manual: "Undiverting output".
     pub fn undivert(&mut self, number: i32) -> Result<Option<Vec<u8>>, StateFault>
-        // exact steps: the whole new record and what is handed out; a refusal leaves it unchanged
+        // exact steps: the complete new record and the result; if an allocation fails, it is unchanged
         ensures ok { OnOk result (self.new ≡ undiverted self.old number) }
         ensures issued { IfOk result (λ text. option_map (λ t. t.items) text ≡ unless_empty (issued_from self.old number)) }
         ensures err { OnErr result (self.new ≡ self.old) }
@@ -262,7 +261,7 @@ impl State {
             return Ok(None);
         }
         if self.current > 0 {
-            // What can fail comes first.
+            // Allocations come first.
             let text = Vec::from_slice(self.alloc, self.diversion(number))?;
             self.diversions.append(self.current, text.as_slice())?;
             let _taken = self.diversions.take(number);
@@ -275,23 +274,23 @@ impl State {
         Ok(taken)
     }
 
-    /// The text that a diversion holds; empty where it holds none.
+    /// Returns the text of a diversion; empty if it has none.
     pub fn diversion(&self, number: i32) -> &[u8]
-        // exact steps: what the record has at the number
+        // exact steps: the record's text of the number
         ensures { result.now ≡ diversion_of self.now number }
     {
         self.diversions.text(number)
     }
 
-    /// The least number above this one, and above 0, that holds text.
+    /// Returns the least number above this one, and above 0, that has a text.
     pub fn next_diversion(&self, number: i32) -> Option<i32>
-        // exact steps: the first number behind this one
+        // exact steps: the first number after this one
         ensures { result ≡ next_after self.now.diversions number }
     {
         self.diversions.next(number)
     }
 
-    /// Takes out the diversion of the least number, with its text.
+    /// Removes the diversion of the least number, and returns it with its text.
     pub fn take_least(&mut self) -> Option<(i32, Vec<u8>)>
         // exact steps: the first diversion, and the record without it
         ensures some { IfSome result (λ d. self.old

@@ -1,4 +1,4 @@
-//! A reader read to its end, and a whole text put into a writer.
+//! Reads a reader to its end, and writes complete texts to a writer.
 
 ghost use Rattle.std.specs.Prelude.{◌≡◌, ℕ, List, IfOk, OnErr, IfSome, MatchBool};
 ghost use Rattle.m4_state.specs.Device.{one_more, count_after, after_bytes, IsAtEnd, IsAtFault, Puts, joined};
@@ -6,17 +6,17 @@ ghost use Rattle.m4_state.specs.Device.{one_more, count_after, after_bytes, IsAt
 use crate::device::{ByteSink, ByteSource, DeviceFault};
 use std::alloc::{AllocError, Global};
 
-/// How many bytes are asked of a reader at a time.
+/// How many bytes are requested from a reader at a time.
 const BLOCK: usize = 16384;
 
-/// All that a reader gave, and whether it failed behind that or ended.
+/// All bytes of a reader, and whether a failure followed them or the end.
 #[derive(Debug, Drop)]
 pub struct Taken {
     pub bytes: Vec<u8>,
     pub failed: bool,
 }
 
-/// Reads to the end, or up to the first fault. The bytes grow as they come.
+/// Reads to the end, or up to the first fault. The buffer grows as the bytes arrive.
 pub fn read_all<R: ByteSource>(alloc: Global, reader: &mut R) -> Result<Taken, AllocError>
     ensures bytes { IfOk result (λ t. IfSome (R.script reader.old) (λ s.
         (t.bytes.items ≡ s.bytes) × (t.failed ≡ s.fails))) }
@@ -24,7 +24,7 @@ pub fn read_all<R: ByteSource>(alloc: Global, reader: &mut R) -> Result<Taken, A
         (R.failures reader.new ≡ one_more (R.failures reader.old))
         (R.failures reader.new ≡ R.failures reader.old)) }
 
-    // where the reader stands behind the call
+    // the reader after the call
     ensures given { IfOk result (λ t.
         R.script reader.old ≡ after_bytes t.bytes.items (R.script reader.new)) }
     ensures ended { IfOk result (λ t. MatchBool t.failed
@@ -55,7 +55,7 @@ pub fn read_all<R: ByteSource>(alloc: Global, reader: &mut R) -> Result<Taken, A
     }
 }
 
-/// Puts all of the bytes, or fails behind a beginning of them.
+/// Writes all of the bytes. If it fails, the bytes written are a prefix of them.
 pub fn write_all<W: ByteSink>(writer: &mut W, bytes: &[u8]) -> Result<(), DeviceFault>
     ensures puts { Puts result (W.contents writer.old) (W.contents writer.new) bytes.now }
     ensures counted { W.failures writer.new ≡ count_after result (W.failures writer.old) }
@@ -68,7 +68,7 @@ pub fn write_all<W: ByteSink>(writer: &mut W, bytes: &[u8]) -> Result<(), Device
     Ok(())
 }
 
-/// Puts the pieces one behind the other, or fails behind a beginning of them all.
+/// Writes the pieces in order. If it fails, the bytes written are a prefix of them, joined.
 pub fn write_pieces<W: ByteSink>(writer: &mut W, pieces: &[&[u8]]) -> Result<(), DeviceFault>
     ensures puts { Puts result (W.contents writer.old) (W.contents writer.new) (joined pieces.now) }
     ensures counted { W.failures writer.new ≡ count_after result (W.failures writer.old) }

@@ -5,7 +5,7 @@ use Rattle.clap.specs.Words.{Text, first_of, one_of}
 use Rattle.clap.specs.declared.error.kind.ErrorKind.TheVariants as kind
 use Rattle.m4_tool.specs.CommandLine.{asks, files_in, mode_has_others, refusals_of, rows_by}
 
--- a line of the program with these words behind its name
+-- a command line of the program with these words after its name
 abbrev line : List Text → List Text
 line words = codes "m4r" ∷ words
 

@@ -1,4 +1,4 @@
--- An error of clap, told apart from want of memory, is a refusal that the words call for.
+-- An error of clap, distinguished from running out of memory, is a refusal that the words call for.
 use Rattle.std.proofs.Common.{◌≢◌, List, inl, inr, subst, sym}
 use Rattle.clap.specs.Words.{HasKind, IsAmong, Text}
 use Rattle.clap.specs.Values.{kind_of}

@@ -1,4 +1,4 @@
--- What stands among the rows of clap, and what a line holds that was made of them.
+-- The rows of clap, and the line that is made from them.
 use Rattle.std.proofs.Common.{◌≡◌, ◌∙◌, ◌^◌, ◌<◌, ◌&&◌, ◌||◌, ℕ, Bool, List, [], ◌∷◌, Option, Some, None, Result, Ok, Err, IfOk, IsSome, ap, arith, codes, false, is_some, map, option_map, refl, string_bytes, true}
 use Rattle.std.specs.Prelude.{find, option_and_then, slice_get, unwrap_or}
 use Rattle.std.specs.Str.{bytes_eq}
@@ -16,11 +16,11 @@ is_some-map : {X Y : Type 0} (f : X → Y) (o : Option X) → is_some o ≡ is_s
 is_some-map f None = refl
 is_some-map f (Some x) = refl
 
--- what clap has found is what stands among its rows
+-- the values that clap found are those in its rows
 pub stands_found : (f : Found) (name : Text) → is_some (matched_of f name) ≡ stands name (rows_of f)
 stands_found f name = is_some-map raw_values (matched_of f name) ∙ ap is_some (raw_values-rows f name)
 
--- what does not stand has no value
+-- an option that is not given has no value
 first_unless : (name : Text) (rows : List Row) → stands name rows ≡ false → first_of name rows ≡ None
 first_unless name rows absent = go (find (λ r. bytes_eq r.id name) rows) absent
   where
@@ -29,7 +29,7 @@ first_unless name rows absent = go (find (λ r. bytes_eq r.id name) rows) absent
     go None h = refl
     go (Some r) h = cc
 
--- no files are to be read where none stands
+-- no files are read if none is given
 files_unless : (rows : List Row) → stands (codes "files") rows ≡ false → files_in rows ≡ []
 files_unless rows absent = go (all_of (codes "files") rows) absent
   where
@@ -45,7 +45,7 @@ nil_of_map : {X Y : Type 0} (f : X → Y) (xs : List X) → map f xs ≡ [] → 
 nil_of_map f [] h = refl
 nil_of_map f (x ∷ xs) h = cc
 
--- the first of two modes stands with nothing else
+-- the first of two modes is given with nothing else
 first_alone : (a b limits files : Bool) → ((a && b) || ((a || b) && (limits || files))) ≡ false → a ≡ true
     → (b ≡ false) × (files ≡ false)
 first_alone false b limits files h t = cc
@@ -63,14 +63,14 @@ second_alone false true true files h t = cc
 second_alone false true false true h t = cc
 second_alone false true false false h t = (refl, refl)
 
--- none of three stands
+-- none of three is given
 none_stand : (a b c : Bool) → (a || (b || c)) ≡ false → (a ≡ false) × ((b ≡ false) × (c ≡ false))
 none_stand true b c h = cc
 none_stand false true c h = cc
 none_stand false false true h = cc
 none_stand false false false h = (refl, (refl, refl))
 
--- a mode of the line stands among the rows
+-- a mode of the line is among the rows
 mode_stands : {X : Type 0} (f : X → Text) (file : Option X) (name : Text) (rows : List Row)
     → option_map f file ≡ first_of name rows → IsSome file → stands name rows ≡ true
 mode_stands {X = X} f file name rows is some = go (stands name rows) refl
@@ -128,7 +128,7 @@ limit_read E G least usual n None none value only =
     let bad : ◌≡◌ {A = Option ℕ} (Some n) None = none refl in cc
 limit_read E G least usual n (Some t) none value only = λ passed. (only t (Ok n) (value t refl)).1
 
--- where no number was read, or one below the least, the usual one stands for no text
+-- if no number was read, or one below the least, the limit is the usual one
 pub limit_unread : (E : Type 0) (G : List ℕ → Result ℕ E → Type 0) (least usual : ℕ) (o : Option Text) (r : Option ℕ)
     → (o ≡ None → r ≡ None) → ((t : List ℕ) → o ≡ Some t → ReadsOne G t r)
     → ((t : List ℕ) (x : Result ℕ E) → G t x → ParsesUnsigned 32 10 t x)

@@ -1,10 +1,10 @@
--- CommandLine: the words that m4r knows, and what a list of words asks for, as clap reads them.
--- Believed: `known_words` is what the program hands to clap; how clap reads words is clap's own
--- `matches_of` and `fault_of`, which proofs/Examples.antt computes for lines that are written out.
+-- CommandLine: the words that m4r knows, and the meaning of a list of words, as clap reads them.
+-- Believed: `known_words` is what the program passes to clap; how clap reads words is clap's own
+-- `matches_of` and `fault_of`, which proofs/Examples.antt computes for example lines.
 -- Manual: "Invoking m4", "Limits control", "Frozen state". Words: known_words, rows_by,
 -- refusals_of, files_in, IsLimit, asks, HoldsFound, Says, AreInRange, HasNoFiles, StandAlone, stands,
 -- stand_options, stand_files, mode_has_others, IsModeNotAlone, IsRefusal.
--- own: a mode stands alone; `--help` has no short form; `--expansions`; each option stands once.
+-- own: a mode is given alone; `--help` has no short form; `--expansions`; each option is given once.
 use Rattle.std.specs.Prelude.{◌≡◌, ◌≤◌, ◌&&◌, ◌||◌, ℕ, Bool, List, [], Option, Some, None, IsSome, true, false, codes}
 use Rattle.std.specs.Prelude.{is_some, map, option_map, string_bytes, unwrap_or}
 use Rattle.std.specs.Str.{bytes_eq}
@@ -27,11 +27,11 @@ path_word name = record (new_rule name) {
   value_names = 1;
 }
 
--- the file that is frozen to, which `-F` (70) names too
+-- the file to which a run freezes, with the short name `-F` (70)
 abbrev pub freeze_word : Rule
 freeze_word = record (path_word (codes "freeze-state")) { short = Some 70 }
 
--- the file that is reloaded, which `-R` (82) names too
+-- the file that is reloaded, with the short name `-R` (82)
 abbrev pub reload_word : Rule
 reload_word = record (path_word (codes "reload-state")) { short = Some 82 }
 
@@ -44,11 +44,11 @@ limit_word name least = record (new_rule name) {
   parser = Some (Unsigned least 4294967295);
 }
 
--- the limit of open calls, which `-L` (76) names too
+-- the limit of open calls, with the short name `-L` (76)
 abbrev pub nesting_word : Rule
 nesting_word = record (limit_word (codes "nesting-limit") 0) { short = Some 76 }
 
--- the option that asks for prefixes, which `-P` (80) names too
+-- the option for prefixes, with the short name `-P` (80)
 abbrev pub prefix_word : Rule
 prefix_word = record (new_rule (codes "prefix-builtins")) {
   short = Some 80;
@@ -56,7 +56,7 @@ prefix_word = record (new_rule (codes "prefix-builtins")) {
   action = Some SetTrue;
 }
 
--- the files, which are what is no option
+-- the files: all words that are not options
 abbrev pub file_word : Rule
 file_word = record (new_rule (codes "files")) { action = Some Append; value_names = 1 }
 
@@ -96,32 +96,32 @@ known_words = with_rule (with_rule (with_prefix (with_limits (with_frozen (with_
 abbrev pub rows_by : List Text → List Row
 rows_by words = matches_of known_words words
 
--- the kinds of refusal that clap has for the words; none where it takes them
+-- the kinds of refusal that clap has for the words; none if it accepts them
 abbrev pub refusals_of : List Text → Kinds
 refusals_of words = fault_of known_words words
 
--- the files that are to be read
+-- the files to read
 abbrev pub files_in : List Row → List Text
 files_in rows = unwrap_or (all_of (codes "files") rows) []
 
--- a limit is the usual one where no text gives it, else the number that the text writes; clap refuses
--- a text that writes no number from `least` to 4294967295
+-- a limit is the usual one if no text gives it, otherwise the number in the text; clap refuses a text
+-- without a number from `least` to 4294967295
 abbrev pub IsLimit : ℕ → ℕ → Option Text → ℕ → Type 0
 IsLimit least usual None n = n ≡ usual
 IsLimit least usual (Some text) n =
     IsUnsignedIn least 4294967295 text → n ≡ digits_value 10 (without_leading_plus text)
 
--- whether what clap found of an option without a value says that it is on the line
+-- whether the text that clap found for an option without a value means that it is given
 abbrev pub is_asked : Option Text → Bool
 is_asked None = false
 is_asked (Some text) = bytes_eq text (codes "true")
 
--- whether an option without a value is on the line
+-- whether an option without a value is given
 abbrev pub asks : Text → List Row → Bool
 asks name rows = is_asked (first_of name rows)
 
--- the line holds what clap found: the files of the modes, the frozen files, the limits, the prefixes, and
--- the files to be read; it asks for a freezing run exactly where it has a file to freeze to
+-- the line contains what clap found: the files of the modes, the frozen files, the limits, the prefixes,
+-- and the files to read; it is for a freezing run exactly if it has a file to freeze to
 pub record HoldsFound (rows : List Row) (line : Line) : Type 0 where
   pub canon : option_map string_bytes line.canon ≡ first_of (codes "canon") rows
   pub inspect : option_map string_bytes line.inspect ≡ first_of (codes "inspect") rows
@@ -133,54 +133,54 @@ pub record HoldsFound (rows : List Row) (line : Line) : Type 0 where
   pub freezes : line.options.freeze ≡ is_some line.freeze
   pub prefix : line.options.prefix ≡ asks (codes "prefix-builtins") rows
 
--- clap takes the words, and the line holds what it finds in them
+-- clap accepts the words, and the line contains what clap finds in them
 pub record Says (words : List Text) (line : Line) : Type 0 where
   pub is_taken : refusals_of words ≡ []
   pub found : HoldsFound (rows_by words) line
 
--- the limits lie in their ranges
+-- the limits are in their ranges
 pub record AreInRange (line : Line) : Type 0 where
   pub nesting : line.options.nesting ≤ 4294967295
   pub some_calls : 1 ≤ line.options.calls
   pub calls : line.options.calls ≤ 4294967295
 
--- no file is to be read, none is frozen to, and none is reloaded
+-- no file is to be read, frozen to or reloaded
 pub record HasNoFiles (line : Line) : Type 0 where
   pub freeze : line.freeze ≡ None
   pub reload : line.reload ≡ None
   pub files : line.files.items ≡ []
 
--- beside a mode there is no other one and no file
+-- with a mode there is no other mode and no file
 pub record StandAlone (line : Line) : Type 0 where
   pub canon : IsSome line.canon → (line.inspect ≡ None) × HasNoFiles line
   pub inspect : IsSome line.inspect → (line.canon ≡ None) × HasNoFiles line
 
--- a word of this name stands on the line
+-- a word of this name is given
 abbrev pub stands : Text → List Row → Bool
 stands name rows = is_some (all_of name rows)
 
--- a limit is on the line, or prefixes are asked for
+-- a limit or the option for prefixes is given
 abbrev pub stand_options : List Row → Bool
 stand_options rows = stands (codes "nesting-limit") rows || (stands (codes "expansions") rows
     || asks (codes "prefix-builtins") rows)
 
--- a frozen file or a file to be read stands on the line
+-- a frozen file or a file to read is given
 abbrev pub stand_files : List Row → Bool
 stand_files rows = stands (codes "freeze-state") rows || (stands (codes "reload-state") rows
     || stands (codes "files") rows)
 
--- a mode is beside another one, a limit, a prefix or a file
+-- a mode is given together with another mode, a limit, a prefix or a file
 abbrev pub mode_has_others : List Row → Bool
 mode_has_others rows = (stands (codes "canon") rows && stands (codes "inspect") rows)
     || ((stands (codes "canon") rows || stands (codes "inspect") rows)
     && (stand_options rows || stand_files rows))
 
--- clap takes the words, and a mode stands in company
+-- clap accepts the words, and a mode is not alone
 pub record IsModeNotAlone (words : List Text) : Type 0 where
   pub is_taken : refusals_of words ≡ []
   pub company : mode_has_others (rows_by words) ≡ true
 
--- of a refusal by clap: it is one that the words call for
+-- for a refusal by clap: it is one of those that clap has for the words
 abbrev pub IsRefusal : List Text → LineFault → Type 0
 IsRefusal words ModeNotAlone = Unit {0}
 IsRefusal words (Parse error) = IsAmong (kind_of error) (refusals_of words)

@@ -1,5 +1,5 @@
--- LineSteps: what the steps of reading a line hand to one another.
--- Not believed: `read_line` is stated in the words of CommandLine alone, and proved through these.
+-- LineSteps: the results that the steps of reading a line pass to one another.
+-- Not believed: `read_line` is stated with the words of CommandLine only, and proved through these.
 -- Manual: "Invoking m4". Words: HasRowsOf, TellsApart, IsNoRefusal.
 use Rattle.std.specs.Prelude.{◌≡◌, ◌≢◌, List, []}
 use Rattle.clap.specs.Words.{Text, found_of, rows_of}
@@ -11,18 +11,18 @@ use Rattle.m4_tool.specs.CommandLine.{refusals_of, rows_by}
 use Rattle.m4_tool.specs.declared.line.LineFault.{LineFault}
 use Rattle.m4_tool.specs.declared.line.LineFault.TheVariants.{ModeNotAlone, Parse, OutOfMemory}
 
--- an error of clap as a fault of the line: want of memory is no refusal
+-- an error of clap as a fault of the line: running out of memory is not a refusal
 abbrev pub TellsApart : Error → LineFault → Type 0
 TellsApart error ModeNotAlone = ⊥
 TellsApart error (Parse refusal) = (refusal ≡ error) × (kind_of error ≢ kind.OutOfMemory)
 TellsApart error OutOfMemory = kind_of error ≡ kind.OutOfMemory
 
--- clap takes the words, and has found what they say
+-- clap accepts the words, and has found their values
 pub record HasRowsOf (words : List Text) (matches : ArgMatches) : Type 0 where
   pub is_taken : refusals_of words ≡ []
   pub rows : rows_of (found_of matches) ≡ rows_by words
 
--- a fault that is no refusal by clap
+-- a fault that is not a refusal by clap
 abbrev pub IsNoRefusal : LineFault → Type 0
 IsNoRefusal ModeNotAlone = Unit {0}
 IsNoRefusal (Parse refusal) = ⊥

@@ -1,4 +1,4 @@
--- The lines and statuses that tell why a mode did not do its work.
+-- The messages and statuses for a mode that did not do its work.
 -- Believed. Words: line_of, status_of_fault, status_of.
 -- own: all of it; the manual has no such modes.
 use Rattle.std.specs.Prelude.{ℕ, List, [], ◌++◌, codes, decimal, Result, Ok, Err}
@@ -9,7 +9,7 @@ use Rattle.m4_frozen.specs.declared.fault.WriteFault.TheVariants as writes
 use Rattle.m4_tool.specs.declared.fault.ModeFault.{ModeFault}
 use Rattle.m4_tool.specs.declared.fault.ModeFault.TheVariants as faults
 
--- a write that failed, or memory that was refused
+-- a write that failed, or an allocation that failed
 abbrev pub fault_of_write : WriteFault → ModeFault
 fault_of_write writes.Write = faults.Write
 fault_of_write writes.OutOfMemory = faults.OutOfMemory
@@ -28,13 +28,13 @@ text_of kinds.PrematureEnd = codes "F9 PrematureEnd"
 text_of kinds.Read = codes "F10 Read"
 text_of kinds.OutOfMemory = codes "F11 OutOfMemory"
 
--- where the fault lies; a failed reader and want of memory lie nowhere in the file
+-- the place of the fault; a failed reader, or running out of memory, has no place in the file
 abbrev pub place_of : FrozenKind → ℕ → List ℕ
 place_of kinds.Read offset = []
 place_of kinds.OutOfMemory offset = []
 place_of kind offset = codes " at byte " ++ decimal offset
 
--- the line that tells the fault of a file
+-- the line that reports the fault of a file
 abbrev pub line_of : List ℕ → ModeFault → List ℕ
 line_of file (faults.Frozen f) =
     codes "m4: " ++ (file ++ (codes ": " ++ (text_of f.kind ++ (place_of f.kind f.offset ++ codes "\n"))))
@@ -52,7 +52,7 @@ abbrev pub status_of_fault : ModeFault → ℕ
 status_of_fault (faults.Frozen f) = status_of_kind f.kind
 status_of_fault fault = 1
 
--- 0 where the mode did its work
+-- 0 if the mode did its work
 abbrev pub status_of : Result (Unit {0}) ModeFault → ℕ
 status_of (Ok done) = 0
 status_of (Err fault) = status_of_fault fault

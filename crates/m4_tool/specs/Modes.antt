@@ -1,4 +1,4 @@
--- What the modes do with the bytes of a frozen file.
+-- The results of the modes for the bytes of a frozen file.
 -- Believed: public contracts cite it. Words: CanonEnds, InspectEnds, Tells, IsOfDevice, CanonRuns, InspectRuns.
 -- own: a file that would issue text has no canonical text.
 use Rattle.std.specs.Prelude.{◌≡◌, ◌≢◌, ℕ, false, List, [], Option, Result, Ok, Err, IfSome}
@@ -14,19 +14,19 @@ use Rattle.m4_tool.specs.declared.fault.ModeFault.{ModeFault}
 use Rattle.m4_tool.specs.declared.fault.ModeFault.TheVariants as faults
 use Rattle.m4_tool.specs.ModeFault.{line_of, status_of}
 
--- what a frozen file holds whose reader ended behind its bytes
+-- the loaded value of a frozen file whose reader ended after its bytes
 pub record Holds (script : Script) (loaded : Loaded) : Type 0 where
   pub ended : script.fails ≡ false
   pub loads : Loads script.bytes loaded
 
--- the file is refused for this fault, unless memory was
+-- the file is refused for this fault, unless memory ran out
 abbrev pub IsRefused : FrozenFault → Script → Type 0
 IsRefused fault script =
     fault.kind ≢ kinds.OutOfMemory → IsFaultOf script.fails script.bytes fault
 
--- how `--canon` ends, for a file that its reader tells and an output that held `old`: the canonical
--- text of what the file holds, where nothing is issued; else nothing, or where the output failed a
--- beginning of it
+-- the end of `--canon`, for a reader whose bytes the proofs know and an output with the contents `old`:
+-- the canonical text of the file, if nothing is issued; otherwise nothing, or a prefix of the text if
+-- the output failed
 abbrev pub CanonEnds : Result (Unit {0}) ModeFault → Script → Option (List ℕ) → Option (List ℕ) → Type 0
 CanonEnds (Ok done) script old new =
     (l : Loaded) × Holds script l × (l.issued ≡ []) × (new ≡ with_bytes old (freeze l.state))
@@ -37,7 +37,7 @@ CanonEnds (Err faults.Write) script old new =
     (l : Loaded) × Holds script l × (l.issued ≡ []) × HasBegun old new (freeze l.state)
 CanonEnds (Err faults.OutOfMemory) script old new = new ≡ old
 
--- how `--inspect` ends: the lines of what the file holds, whatever is issued; else the same
+-- the end of `--inspect`: the lines of the file, whatever is issued; otherwise the same
 abbrev pub InspectEnds : Result (Unit {0}) ModeFault → Script → Option (List ℕ) → Option (List ℕ) → Type 0
 InspectEnds (Ok done) script old new =
     (l : Loaded) × Holds script l × (new ≡ with_bytes old (listing l))
@@ -47,15 +47,15 @@ InspectEnds (Err faults.Write) script old new =
     (l : Loaded) × Holds script l × HasBegun old new (listing l)
 InspectEnds (Err faults.OutOfMemory) script old new = new ≡ old
 
--- what stands on the messages: nothing where the mode did its work, else the line of its fault, or
--- where the messages failed too a beginning of that line
+-- the messages: nothing if the mode did its work, otherwise the line of its fault, or a prefix of that
+-- line if the messages failed too
 abbrev pub Tells : Result (Unit {0}) ModeFault → List ℕ → Option (List ℕ) → Option (List ℕ) → ℕ → ℕ → Type 0
 Tells (Ok done) file old new failures failures' = (new ≡ old) × (failures' ≡ failures)
 Tells (Err fault) file old new failures failures' =
     (put : Result (Unit {0}) DeviceFault) × Puts put old new (line_of file fault)
     × (failures' ≡ count_after put failures)
 
--- a fault of a device comes only where that device failed in this call, by its count of failures
+-- a fault of a device occurs only if that device failed in this call, by its count of failures
 abbrev pub IsOfDevice : Result (Unit {0}) ModeFault → ℕ → ℕ → ℕ → ℕ → Type 0
 IsOfDevice (Ok done) reads reads' writes writes' = Unit {0}
 IsOfDevice (Err (faults.Frozen f)) reads reads' writes writes' =
@@ -77,12 +77,12 @@ pub record Writing : Type 0 where
   pub failures_old : ℕ
   pub failures_new : ℕ
 
--- the reader that is first `old` and then `new`, by its trait's words
+-- the reader that is first `old` and then `new`, by the functions of its trait
 abbrev pub reads : {A : Type 0} → (A → Option Script) → (A → ℕ) → A → A → Reading
 reads script failures old new =
     record { script = script old; failures_old = failures old; failures_new = failures new }
 
--- the writer that is first `old` and then `new`, by its trait's words
+-- the writer that is first `old` and then `new`, by the functions of its trait
 abbrev pub writes : {A : Type 0} → (A → Option (List ℕ)) → (A → ℕ) → A → A → Writing
 writes contents failures old new =
     record { old = contents old; new = contents new; failures_old = failures old; failures_new = failures new }
@@ -91,8 +91,8 @@ writes contents failures old new =
 abbrev Ends : Type 1
 Ends = Result (Unit {0}) ModeFault → Script → Option (List ℕ) → Option (List ℕ) → Type 0
 
--- a mode was run on this file and returned this status: there is one end that the status, the output, the
--- devices and the messages agree on
+-- a mode was run on this file and returned this status: the status, the output, the devices and the
+-- messages agree on one end
 pub record ModeRuns (Finishes : Ends) (file : List ℕ) (reader : Reading) (out told : Writing) (answer : ℕ) : Type 0 where
   pub end : Result (Unit {0}) ModeFault
   pub status : answer ≡ status_of end

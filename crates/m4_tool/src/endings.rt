@@ -1,4 +1,4 @@
-//! What is told at the end of a run.
+//! The report at the end of a run.
 
 ghost use Rattle.std.specs.Prelude.{◌≡◌, option_map};
 ghost use Rattle.m4_state.specs.Device.{Puts, count_after};
@@ -8,7 +8,7 @@ use crate::fault::ModeFault;
 use m4_engine::ending::Cause;
 use m4_state::device::{ByteSink, DeviceFault};
 
-/// Puts the line of this frozen file, where a run ended because the file was refused. Else nothing.
+/// Writes the line for this frozen file, if the run ended because the file was refused.
 pub fn put_refused<M: ByteSink>(
     cause: Cause,
     file: &[u8],
@@ -23,8 +23,8 @@ pub fn put_refused<M: ByteSink>(
     }
 }
 
-/// What is still reported of a run that ended by this cause, whose output and frozen text were flushed
-/// then or could not be. Of all other causes the run has reported itself, or [`put_refused`] does.
+/// Returns what is still to be reported for a run with this cause. `flushed`: whether its output and
+/// frozen text were flushed. The run, or [`put_refused`], has reported all other causes.
 pub fn last_fault(cause: Cause, flushed: bool) -> Option<&'static str>
     ensures { option_map (λ text. text.now) result ≡ last_fault cause flushed }
 {

@@ -1,4 +1,4 @@
-//! Why a mode did not do its work, with the line and the status that tell it.
+//! Why a mode did not do its work, with the message and the status.
 
 ghost use Rattle.std.specs.Prelude.{◌≡◌, ◌++◌, codes, decimal};
 ghost use Rattle.m4_state.specs.Device.{Puts, count_after};
@@ -10,16 +10,16 @@ use m4_frozen::fault::{FrozenFault, FrozenKind, WriteFault};
 use m4_state::device::{ByteSink, DeviceFault};
 use m4_state::transfer::{write_all, write_pieces};
 
-/// What kept a mode from its work.
+/// Why a mode did not do its work.
 #[derive(Clone, Copy, Debug, PartialEq, Eq)]
 pub enum ModeFault {
     /// The file is refused, or could not be read.
     Frozen(FrozenFault),
-    /// Loading the file would issue text, which canonical text does not say.
+    /// Loading the file would issue text, which canonical text cannot contain.
     Issues,
     /// The output could not be written.
     Write,
-    /// A growth was refused while the output was made ready.
+    /// An allocation failed before the output was written.
     OutOfMemory,
 }
 
@@ -49,7 +49,7 @@ impl From<WriteFault> for ModeFault {
 impl ModeFault {
     ghost use Rattle.m4_tool.specs.ModeFault.{status_of_fault};
 
-    /// The exit status: 63 for a newer format, else 1.
+    /// Returns the exit status: 63 for a newer format, otherwise 1.
     pub fn status(self) -> u8
         ensures { result ≡ status_of_fault self }
     {
@@ -59,7 +59,7 @@ impl ModeFault {
         }
     }
 
-    /// Puts the line that tells the fault of this file.
+    /// Writes the line that reports the fault of this file.
     pub fn report<M: ByteSink>(self, file: &[u8], messages: &mut M) -> Result<(), DeviceFault>
         ensures puts { Puts result (M.contents messages.old) (M.contents messages.new) (line_of file.now self) }
         ensures counted { M.failures messages.new ≡ count_after result (M.failures messages.old) }
@@ -73,7 +73,7 @@ impl ModeFault {
     }
 }
 
-/// Puts the line of a frozen file's fault.
+/// Writes the line for the fault of a frozen file.
 fn put_frozen_fault<M: ByteSink>(
     fault: FrozenFault,
     file: &[u8],
@@ -89,7 +89,7 @@ fn put_frozen_fault<M: ByteSink>(
     }
 }
 
-/// A file and what is wrong with it as a whole.
+/// Writes a line with a file and its fault, without a place.
 fn put_line<M: ByteSink>(file: &[u8], text: &[u8], messages: &mut M) -> Result<(), DeviceFault>
     ensures puts { Puts result (M.contents messages.old) (M.contents messages.new)
         (codes "m4: " ++ (file.now ++ (codes ": " ++ (text.now ++ codes "\n")))) }
@@ -98,7 +98,7 @@ fn put_line<M: ByteSink>(file: &[u8], text: &[u8], messages: &mut M) -> Result<(
     write_pieces(messages, &[b"m4: ", file, b": ", text, b"\n"])
 }
 
-/// A file and what is wrong with it at a byte.
+/// Writes a line with a file, its fault and the byte where it is.
 fn put_line_at<M: ByteSink>(
     file: &[u8],
     text: &[u8],
@@ -118,7 +118,7 @@ fn put_line_at<M: ByteSink>(
     )
 }
 
-/// The number and the name of a kind, as the kind itself shows them.
+/// Returns the number and the name of a kind, as the kind displays them.
 fn text_of(kind: FrozenKind) -> &'static [u8]
     ensures { result.now ≡ text_of kind }
 {

@@ -1,7 +1,6 @@
-//! The program: reads its command line, does the work that the line asks for, and reports how it went.
+//! The program: reads its command line, does the work, and reports the result.
 //!
-//! Everything that is printed for a line that cannot be followed is printed here. Manual: "Invoking
-//! m4".
+//! All messages about a line that is refused are printed here. Manual: "Invoking m4".
 
 ghost use Rattle.std.specs.Prelude.{◌≡◌, IfErr, IfOk, false, map, string_bytes};
 ghost use Rattle.clap.specs.Walk.{texts};
@@ -31,13 +30,13 @@ pub fn exit_status<E: Write + Drop>(
     }
 }
 
-// The words that the process was started with.
+// Returns the words that the process was started with.
 fn words_of_process(rt: &(impl Env + Alloc<A = Global>)) -> io::Result<Vec<String>> {
     let words = std::env::args(rt)?;
     Ok(words.collect(rt.alloc())?)
 }
 
-// Follows the line that the words spell, or says why not.
+// Follows the line of these words, or reports why it is refused.
 fn status_of_words<E: Write + Drop>(
     rt: &(impl Files + Input + Alloc<A = Global> + Print + Eprint),
     errors: E,
@@ -49,7 +48,7 @@ fn status_of_words<E: Write + Drop>(
     }
 }
 
-// The line that these words spell.
+// Returns the line of these words.
 fn line_of(alloc: Global, words: &[String]) -> Result<Line, LineFault>
     ensures says { IfOk result (Says (map string_bytes words.now)) }
     ensures in_range { IfOk result AreInRange }
@@ -62,7 +61,7 @@ fn line_of(alloc: Global, words: &[String]) -> Result<Line, LineFault>
     read_line(alloc, texts.as_slice())
 }
 
-// The same words, as `read_line` takes them.
+// Borrows the words, for `read_line`.
 fn borrowed<'a>(alloc: Global, words: &'a [String]) -> Result<Vec<&'a str>, AllocError>
     ensures { IfOk result (λ same. texts same.items ≡ map string_bytes words.now) }
 {
@@ -73,7 +72,7 @@ fn borrowed<'a>(alloc: Global, words: &'a [String]) -> Result<Vec<&'a str>, Allo
     Ok(texts)
 }
 
-// Does what the line asks for.
+// Does the work of the line.
 fn run_line<E: Write + Drop>(
     rt: &(impl Files + Input + Alloc<A = Global> + Print + Eprint),
     errors: E,
@@ -88,7 +87,7 @@ fn run_line<E: Write + Drop>(
     run_files(rt, errors, line).unwrap_or_else(|_refused| report(rt, "out of memory"))
 }
 
-// Says why a line is not followed. Help that was asked for is an answer and no fault.
+// Reports why a line is refused. Help that was requested is not a fault.
 fn report_line_fault(rt: &(impl Print + Eprint), fault: &LineFault) -> u8 {
     match fault {
         LineFault::ModeNotAlone => report(rt, "U1 a mode stands alone"),
@@ -97,7 +96,7 @@ fn report_line_fault(rt: &(impl Print + Eprint), fault: &LineFault) -> u8 {
     }
 }
 
-// The text of `clap`: help on standard output, or what it refuses on standard error.
+// Prints the text of `clap`: help on standard output, or a refusal on standard error.
 fn print_answer(rt: &(impl Print + Eprint), error: &clap::Error) -> u8 {
     if error.print(rt).is_err() {
         return report(rt, "write fault");
@@ -105,7 +104,7 @@ fn print_answer(rt: &(impl Print + Eprint), error: &clap::Error) -> u8 {
     if error.use_stderr() { FAILED } else { 0 }
 }
 
-// Says why the words of the process could not be read.
+// Reports why the words of the process could not be read.
 fn report_unread_words(rt: &impl Eprint, fault: &io::Error) -> u8
     ensures { result ≡ FAILED }
 {

@@ -1,4 +1,4 @@
-//! The file that a run freezes to, which is made as its first byte is written.
+//! The file to which a run freezes. It is created when its first byte is written.
 //! Manual: "Fast loading of frozen state".
 
 ghost use Rattle.std.specs.Prelude.{◌≡◌, None, IfOk, IfErr};
@@ -12,7 +12,7 @@ use std::fs;
 use std::io::{self, BufWriter, ErrorKind, Write};
 use std::rt::Files;
 
-/// A writer that makes its file as the first byte is written.
+/// A writer that creates its file when the first byte is written.
 #[derive(Drop)]
 struct Unmade<'a, R: Files> {
     rt: &'a R,
@@ -39,18 +39,18 @@ impl<R: Files> Write for Unmade<'_, R> {
     }
 }
 
-/// A sink over a file that is made as its first byte is written. Until then what stands under its
-/// name stays as it is, so a run that writes nothing to it leaves an old file alone, and may read it.
+/// A sink over a file that is created when its first byte is written. Until then a file of that name
+/// stays as it is: a run that writes nothing leaves an old file unchanged, and the run may read it.
 ///
-/// Bytes are written in blocks. [`LateFile::finish`] writes the last one; where the sink is let go
-/// without it, that is tried too, and nothing reports how it went.
+/// Bytes are written in blocks. [`LateFile::finish`] writes the last one. If the sink is dropped without
+/// it, the last block is written too, but a failure is not reported.
 #[derive(Drop)]
 pub struct LateFile<'a, R: Files> {
     sink: StdSink<BufWriter<Unmade<'a, R>>>,
 }
 
 impl<'a, R: Files + Alloc<A = Global>> LateFile<'a, R> {
-    /// A sink over the file of this name, which is not made yet. Takes the memory of a block.
+    /// Returns a sink over the file of this name, which is not created yet. Allocates a block.
     pub fn new(rt: &'a R, path: &'a str) -> io::Result<LateFile<'a, R>>
         ensures contents { IfOk result (λ late. ⟦<LateFile<'a, R> as ByteSink>⟧.contents late ≡ None) }
         ensures failures { IfOk result (λ late. ⟦<LateFile<'a, R> as ByteSink>⟧.failures late ≡ 0) }
@@ -69,7 +69,7 @@ impl<'a, R: Files + Alloc<A = Global>> LateFile<'a, R> {
 }
 
 impl<R: Files> LateFile<'_, R> {
-    /// Writes what is not written yet. Where nothing was ever put, no file is made.
+    /// Writes the bytes that are not written yet. If nothing was ever put, no file is created.
     pub fn finish(self) -> io::Result<()> {
         let LateFile { sink } = self;
         sink.into_inner().flush()

@@ -1,9 +1,8 @@
-//! The command line: which mode it asks for, or which files are read, from which frozen file on, to
-//! which one, and under which limits.
+//! The command line: a mode and its file, or the files to read, the frozen files, and the limits.
 //!
-//! The words are read by `clap`, which also writes the help and the text for a word that it does
-//! not know, or for a limit out of its range. What it cannot say of two words, that a mode stands
-//! alone, is decided here. Contracts see the words by `known_words` (specs/CommandLine.antt).
+//! `clap` reads the words. It also writes the help and the message about an unknown word, or about a
+//! limit out of its range. Only one rule about two words is checked here: a mode is given alone.
+//! Contracts see the words by `known_words` (specs/CommandLine.antt).
 //! Manual: "Invoking m4".
 ghost use Rattle.std.specs.Prelude.{◌≡◌, ◌≢◌, ◌≤◌, ◌<◌, ◌^◌, IfErr, IfOk, codes, false, true, is_some, map, option_map, string_bytes};
 ghost use Rattle.clap.specs.Walk.{texts};
@@ -53,31 +52,31 @@ const USUAL_NESTING: u32 = 1024;
 // The limit of all calls, unless the line gives one.
 const USUAL_CALLS: u32 = u32::MAX;
 
-/// What a command line asks for: one mode with its file, or a run over files.
+/// The content of a command line: one mode with its file, or a run over files.
 #[derive(Debug, Drop)]
 pub struct Line {
-    /// How the run is limited, whether it freezes, and whether its builtins have prefixes.
+    /// The limits of the run, whether it freezes, and whether its builtins have prefixes.
     pub options: Options,
-    /// The file that the run freezes its state to.
+    /// The file to which the run freezes its state.
     pub freeze: Option<String>,
-    /// The file that the run starts from.
+    /// The frozen file from which the run starts.
     pub reload: Option<String>,
     /// The file whose lines `--inspect` prints.
     pub inspect: Option<String>,
     /// The file whose canonical text `--canon` prints.
     pub canon: Option<String>,
-    /// The files to be read, in their order; none is standard input.
+    /// The files to read, in order; none means standard input.
     pub files: Vec<String>,
 }
 
-/// Why a command line is not followed.
+/// Why a command line is refused.
 #[derive(Debug, Drop)]
 pub enum LineFault {
-    /// A mode is beside another one, a limit, a prefix or a file.
+    /// A mode is given together with another mode, a limit, a prefix or a file.
     ModeNotAlone,
-    /// `clap` refuses the line, or answers it with help; the error has the text to print.
+    /// `clap` refuses the line, or prints help for it. The error contains the text to print.
     Parse(Error),
-    /// A growth was refused.
+    /// An allocation failed.
     OutOfMemory,
 }
 
@@ -91,19 +90,19 @@ impl From<AllocError> for LineFault {
     }
 }
 
-/// Reads the words of a command line, of which the first is the program's name.
+/// Reads the words of a command line. The first word is the program's name.
 ///
-/// Takes time and memory in proportion to the words. Which text `clap` makes for a line that it
-/// refuses is shown by tests.
+/// The time and the memory are proportional to the words. Tests show the text that `clap` makes for a
+/// line that it refuses.
 pub fn read_line(alloc: Global, words: &[&str]) -> Result<Line, LineFault>
-    // exact command line: a line that is followed says what its words say, in the ranges, and a mode
-    // stands in it alone.
+    // exact command line: an accepted line contains what its words state, with limits in their ranges
+    // and a mode only alone.
     ensures says { IfOk result (Says (texts words.now)) }
     ensures in_range { IfOk result AreInRange }
     ensures alone { IfOk result StandAlone }
 
-    // exact command line: a mode in company is refused where clap takes the words, else clap refuses
-    // them.
+    // exact command line: if clap accepts the words, only a mode that is not alone is refused; otherwise
+    // clap refuses them.
     ensures not_alone { result ≡ Err LineFault.ModeNotAlone → IsModeNotAlone (texts words.now) }
     ensures refused { IfErr result (IsRefusal (texts words.now)) }
 {
@@ -111,7 +110,7 @@ pub fn read_line(alloc: Global, words: &[&str]) -> Result<Line, LineFault>
     line_of_matches(alloc, &matches)
 }
 
-// What `clap` makes of the words.
+// Returns the matches that `clap` finds for the words.
 fn matches_of_words<'a>(alloc: Global, words: &'a [&'a str]) -> Result<ArgMatches<'a>, LineFault>
     ensures found { IfOk result (HasRowsOf (texts words.now)) }
     ensures refused { IfErr result (IsRefusal (texts words.now)) }
@@ -124,7 +123,7 @@ fn matches_of_words<'a>(alloc: Global, words: &'a [&'a str]) -> Result<ArgMatche
     }
 }
 
-// The line that the matches make, unless a mode stands in company.
+// Returns the line of the matches, unless a mode is not alone.
 fn line_of_matches(alloc: Global, matches: &ArgMatches<'_>) -> Result<Line, LineFault>
     ensures says { IfOk result (HoldsFound (rows_of (found_of matches.now))) }
     ensures in_range { IfOk result AreInRange }
@@ -153,7 +152,7 @@ fn line_of_matches(alloc: Global, matches: &ArgMatches<'_>) -> Result<Line, Line
     })
 }
 
-// Whether a mode is beside another one, a limit, a prefix or a file.
+// Returns whether a mode is given together with another mode, a limit, a prefix or a file.
 fn mode_has_others(matches: &ArgMatches<'_>) -> bool
     ensures { result ≡ mode_has_others (rows_of (found_of matches.now)) }
 {
@@ -162,7 +161,7 @@ fn mode_has_others(matches: &ArgMatches<'_>) -> bool
     (canon && inspect) || ((canon || inspect) && (stand_options(matches) || stand_files(matches)))
 }
 
-// Whether a limit is on the line, or prefixes are asked for.
+// Returns whether a limit or the option for prefixes is given.
 fn stand_options(matches: &ArgMatches<'_>) -> bool
     ensures { result ≡ stand_options (rows_of (found_of matches.now)) }
 {
@@ -171,21 +170,21 @@ fn stand_options(matches: &ArgMatches<'_>) -> bool
         || asks(matches, "prefix-builtins")
 }
 
-// Whether a frozen file or a file to be read stands on the line.
+// Returns whether a frozen file or a file to read is given.
 fn stand_files(matches: &ArgMatches<'_>) -> bool
     ensures { result ≡ stand_files (rows_of (found_of matches.now)) }
 {
     stands(matches, "freeze-state") || stands(matches, "reload-state") || stands(matches, "files")
 }
 
-// Whether a word of this name stands on the line.
+// Returns whether a word of this name is given.
 fn stands(matches: &ArgMatches<'_>, name: &str) -> bool
     ensures { result ≡ stands name.now (rows_of (found_of matches.now)) }
 {
     matches.contains_id(name)
 }
 
-// Whether an option without a value is on the line: the text of one that is not is `false`.
+// Returns whether an option without a value is given: if it is not, its text is `false`.
 fn asks(matches: &ArgMatches<'_>, name: &str) -> bool
     ensures { result ≡ asks name.now (rows_of (found_of matches.now)) }
 {
@@ -195,7 +194,7 @@ fn asks(matches: &ArgMatches<'_>, name: &str) -> bool
     }
 }
 
-// The options of the line, for a run that freezes or does not.
+// Returns the options of the line, for a run that freezes or does not.
 fn options_of(matches: &ArgMatches<'_>, freeze: bool) -> Options
     ensures nesting { IsLimit 0 1024 (one_of (codes "nesting-limit") (rows_of (found_of matches.now))) result.nesting }
     ensures calls { IsLimit 1 4294967295 (one_of (codes "expansions") (rows_of (found_of matches.now))) result.calls }
@@ -212,8 +211,8 @@ fn options_of(matches: &ArgMatches<'_>, freeze: bool) -> Options
     }
 }
 
-// The number that the line gives a limit, or the usual one. `clap` has refused a number out of the
-// range before.
+// Returns the number that the line gives for a limit, or the usual one. `clap` has already refused a
+// number out of the range.
 fn limit(matches: &ArgMatches<'_>, name: &str, least: u32, usual: u32) -> u64
     requires { least ≤ usual }
     ensures says { IsLimit least usual (one_of name.now (rows_of (found_of matches.now))) result }
@@ -225,7 +224,7 @@ fn limit(matches: &ArgMatches<'_>, name: &str, least: u32, usual: u32) -> u64
     }
 }
 
-// The file of an option, if the line has it.
+// Returns the file of an option, if the line has it.
 fn file_of(
     alloc: Global,
     matches: &ArgMatches<'_>,
@@ -240,7 +239,7 @@ fn file_of(
     }
 }
 
-// The files that are to be read.
+// Returns the files to read.
 fn files_of(alloc: Global, matches: &ArgMatches<'_>) -> Result<Vec<String>, AllocError>
     ensures { IfOk result (λ files. map string_bytes files.items
         ≡ files_in (rows_of (found_of matches.now))) }
@@ -251,7 +250,7 @@ fn files_of(alloc: Global, matches: &ArgMatches<'_>) -> Result<Vec<String>, Allo
     }
 }
 
-// The same texts as the line's own.
+// Copies the texts, so that the line owns them.
 fn copies(alloc: Global, files: &[&str]) -> Result<Vec<String>, AllocError>
     ensures { IfOk result (λ same. map string_bytes same.items ≡ texts files.now) }
 {
@@ -262,7 +261,7 @@ fn copies(alloc: Global, files: &[&str]) -> Result<Vec<String>, AllocError>
     Ok(same)
 }
 
-// The words that the program knows, for `clap`.
+// Returns the words that the program knows, for `clap`.
 fn known_command<'a>(alloc: Global) -> Result<Command<'a>, AllocError>
     ensures { IfOk result (λ command. app_of command ≡ known_words) }
 {
@@ -277,7 +276,7 @@ fn known_command<'a>(alloc: Global) -> Result<Command<'a>, AllocError>
     command.arg(files(alloc))?.arg(help)
 }
 
-// The command with the modes.
+// Adds the modes to the command.
 fn with_modes<'a>(alloc: Global, command: Command<'a>) -> Result<Command<'a>, AllocError>
     ensures { IfOk result (λ more. app_of more ≡ with_modes (app_of command.entry)) }
 {
@@ -294,7 +293,7 @@ fn with_modes<'a>(alloc: Global, command: Command<'a>) -> Result<Command<'a>, Al
     command.arg(canon)?.arg(inspect)
 }
 
-// The command with the frozen files of a run.
+// Adds the frozen files of a run to the command.
 fn with_frozen<'a>(alloc: Global, command: Command<'a>) -> Result<Command<'a>, AllocError>
     ensures { IfOk result (λ more. app_of more ≡ with_frozen (app_of command.entry)) }
 {
@@ -308,7 +307,7 @@ fn with_frozen<'a>(alloc: Global, command: Command<'a>) -> Result<Command<'a>, A
     command.arg(freeze)?.arg(reload)
 }
 
-// The command with the limits.
+// Adds the limits to the command.
 fn with_limits<'a>(alloc: Global, command: Command<'a>) -> Result<Command<'a>, AllocError>
     ensures { IfOk result (λ more. app_of more ≡ with_limits (app_of command.entry)) }
 {
@@ -328,7 +327,7 @@ fn with_limits<'a>(alloc: Global, command: Command<'a>) -> Result<Command<'a>, A
     command.arg(nesting)?.arg(calls)
 }
 
-// The command with the prefixes.
+// Adds the option for prefixes to the command.
 fn with_prefix<'a>(alloc: Global, command: Command<'a>) -> Result<Command<'a>, AllocError>
     ensures { IfOk result (λ more. app_of more ≡ with_prefix (app_of command.entry)) }
 {
@@ -340,7 +339,7 @@ fn with_prefix<'a>(alloc: Global, command: Command<'a>) -> Result<Command<'a>, A
     command.arg(prefix)
 }
 
-// The program with its texts, before its words.
+// Returns the program with its texts, before its words are added.
 fn start<'a>(alloc: Global) -> Command<'a>
     ensures { app_of result ≡ without_short_help (new_app (codes "m4r")) }
 {
@@ -351,7 +350,7 @@ fn start<'a>(alloc: Global) -> Command<'a>
         .disable_help_flag(true)
 }
 
-// An option that takes a file.
+// Returns an option with a file.
 fn path_option<'a>(alloc: Global, name: &'a str, help: &'a str) -> Arg<'a>
     ensures rule { rule_of result ≡ path_word name.now }
     ensures local { result.global ≡ false }
@@ -363,7 +362,7 @@ fn path_option<'a>(alloc: Global, name: &'a str, help: &'a str) -> Arg<'a>
         .help(help)
 }
 
-// The option of a limit, which takes a number from the least one on.
+// Returns the option of a limit, whose number is `least` or greater.
 fn limit_option<'a>(alloc: Global, name: &'a str, least: u32, help: &'a str) -> Arg<'a>
     ensures rule { rule_of result ≡ limit_word name.now least }
     ensures local { result.global ≡ false }
@@ -377,7 +376,7 @@ fn limit_option<'a>(alloc: Global, name: &'a str, least: u32, help: &'a str) -> 
         .value_parser(numbers)
 }
 
-// The files to be read, which are what is no option.
+// Returns the argument for the files to read: all words that are not options.
 fn files<'a>(alloc: Global) -> Arg<'a>
     ensures rule { rule_of result ≡ file_word }
     ensures local { result.global ≡ false }
@@ -388,7 +387,7 @@ fn files<'a>(alloc: Global) -> Arg<'a>
         .help("An input file; `-` is standard input")
 }
 
-// An error of `clap` that is only want of memory is told apart from a refused line.
+// Distinguishes an error of `clap` that memory ran out from a refused line.
 fn fault_of_parse(error: Error) -> LineFault
     ensures { TellsApart error result }
 {

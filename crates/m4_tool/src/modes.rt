@@ -1,7 +1,7 @@
 //! The modes: the canonical text of a frozen file, and the lines of the inspector.
 //!
-//! A mode reads its file whole, writes all of its output or none of it, and says on the messages why
-//! it wrote none. An output that fails may hold a beginning.
+//! A mode reads its file completely. It writes all of its output, or none of it and a message with the
+//! reason. If the output fails, a prefix may be written.
 
 ghost use Rattle.std.specs.Prelude.{◌≡◌, ℕ, IfSome};
 ghost use Rattle.m4_state.specs.Device.{Script};
@@ -17,7 +17,7 @@ use m4_state::device::{ByteSink, ByteSource};
 use std::alloc::Global;
 use std::mem::forget;
 
-/// Writes the canonical text of the state in a frozen file, and answers the exit status.
+/// Writes the canonical text of the state in a frozen file, and returns the exit status.
 pub fn canon<R: ByteSource, O: ByteSink, M: ByteSink>(
     alloc: Global,
     file: &[u8],
@@ -25,9 +25,9 @@ pub fn canon<R: ByteSource, O: ByteSink, M: ByteSink>(
     out: &mut O,
     messages: &mut M,
 ) -> u8
-    // exact writer: the canonical text of a file that is read and issues nothing, and status 0; else
+    // exact writer: the canonical text of a file that is read and issues nothing, and status 0; otherwise
     // nothing, and the line and the status of the fault
-    // safe and total: a fault of a device comes only where that device failed in this call
+    // safe and total: a fault of a device is returned only if that device failed in this call
     ensures { CanonRuns file.now (reads R.script R.failures reader.old reader.new)
         (writes O.contents O.failures out.old out.new)
         (writes M.contents M.failures messages.old messages.new) result }
@@ -36,7 +36,7 @@ pub fn canon<R: ByteSource, O: ByteSink, M: ByteSink>(
     answer(end, file, messages)
 }
 
-/// Writes the lines that tell what a frozen file holds, and answers the exit status.
+/// Writes the lines that list the contents of a frozen file, and returns the exit status.
 pub fn inspect<R: ByteSource, O: ByteSink, M: ByteSink>(
     alloc: Global,
     file: &[u8],
@@ -44,9 +44,9 @@ pub fn inspect<R: ByteSource, O: ByteSink, M: ByteSink>(
     out: &mut O,
     messages: &mut M,
 ) -> u8
-    // exact writer: the lines of a file that is read, and status 0; else nothing, and the line and the
+    // exact writer: the lines of a file that is read, and status 0; otherwise nothing, and the line and the
     // status of the fault
-    // safe and total: a fault of a device comes only where that device failed in this call
+    // safe and total: a fault of a device is returned only if that device failed in this call
     ensures { InspectRuns file.now (reads R.script R.failures reader.old reader.new)
         (writes O.contents O.failures out.old out.new)
         (writes M.contents M.failures messages.old messages.new) result }
@@ -55,7 +55,7 @@ pub fn inspect<R: ByteSource, O: ByteSink, M: ByteSink>(
     answer(end, file, messages)
 }
 
-/// The canonical text of what the reader's file holds.
+/// Writes the canonical text of the reader's file.
 fn canonicalise<R: ByteSource, O: ByteSink>(
     alloc: Global,
     reader: &mut R,
@@ -68,12 +68,12 @@ fn canonicalise<R: ByteSource, O: ByteSink>(
 {
     let loaded = read_frozen(alloc, reader)?;
     let end = write_loaded(&loaded, out);
-    // the program ends behind it, so its strings are not given back one by one
+    // the program ends after this, so the strings are not freed one by one
     forget(loaded);
     end
 }
 
-/// The canonical text of what was loaded, where that issues none.
+/// Writes the canonical text of what was loaded, if that issues no text.
 fn write_loaded<O: ByteSink>(loaded: &Loaded, out: &mut O) -> Result<(), ModeFault>
     ensures ends { (script : Script) → Holds script loaded.now
         → CanonEnds result script (O.contents out.old) (O.contents out.new) }
@@ -86,7 +86,7 @@ fn write_loaded<O: ByteSink>(loaded: &Loaded, out: &mut O) -> Result<(), ModeFau
     Ok(())
 }
 
-/// The lines that tell what the reader's file holds.
+/// Writes the lines that list the contents of the reader's file.
 fn list_file<R: ByteSource, O: ByteSink>(
     alloc: Global,
     reader: &mut R,
@@ -104,7 +104,7 @@ fn list_file<R: ByteSource, O: ByteSink>(
     Ok(listed?)
 }
 
-/// The status of an end, whose fault is said on the messages.
+/// Returns the status of an end, and prints its fault as a message.
 fn answer<M: ByteSink>(end: Result<(), ModeFault>, file: &[u8], messages: &mut M) -> u8
     ensures status { result ≡ status_of end }
     ensures tells { Tells end file.now (M.contents messages.old) (M.contents messages.new)

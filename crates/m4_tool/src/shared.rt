@@ -1,14 +1,14 @@
-//! Standard output and standard error, each of which two parts of a run write to: the run itself, and
-//! the reader of standard input, which flushes them, so that who types the input has read what came
-//! before. Where both go to one place they stand there in the order in which the run wrote them.
+//! Standard output and standard error. Two parts of a run write to them: the run itself, and the reader
+//! of standard input, which flushes them, so that a user sees all earlier output before typing. If both
+//! go to one place, their bytes appear there in the order in which the run wrote them.
 
 use std::cell::RefCell;
 use std::io::{self, ErrorKind, Read, Write};
 
-/// How many bytes of an output are kept, at most, before they are written.
+/// How many bytes of an output are buffered, at most.
 pub const BLOCK: usize = 65536;
 
-/// A writer that is shared, beside another one. A call while another one goes on is refused; none does.
+/// A writer that is shared, together with another one. A call during another one fails; there is none.
 #[derive(Drop)]
 pub struct Shared<'a, W, V> {
     cell: &'a RefCell<W>,
@@ -17,8 +17,8 @@ pub struct Shared<'a, W, V> {
 
 impl<W: Write, V: Write> Write for Shared<'_, W, V> {
     fn write(&mut self, buf: &[u8]) -> io::Result<usize> {
-        // The other one was written before. What could not be flushed stays in it, and the fault comes
-        // again at its last flush.
+        // The other writer's bytes are older. If they cannot be flushed they stay in it, and its last flush
+        // reports the fault again.
         let _flushed = flush(self.other);
         match self.cell.try_borrow_mut() {
             Ok(mut writer) => writer.write(buf),
@@ -38,7 +38,7 @@ fn flush<W: Write>(cell: &RefCell<W>) -> io::Result<()> {
     }
 }
 
-/// What a run shows: its output and its messages.
+/// The outputs of a run: standard output and the messages.
 #[derive(Drop)]
 pub struct SharedOutputs<W, E> {
     output: RefCell<W>,
@@ -46,7 +46,7 @@ pub struct SharedOutputs<W, E> {
 }
 
 impl<W, E> SharedOutputs<W, E> {
-    /// These two writers.
+    /// Shares these two writers.
     pub fn new(output: W, messages: E) -> SharedOutputs<W, E> {
         SharedOutputs {
             output: RefCell::new(output),
@@ -54,7 +54,7 @@ impl<W, E> SharedOutputs<W, E> {
         }
     }
 
-    /// The writer of the output.
+    /// Returns the writer of the output.
     pub fn output(&self) -> Shared<'_, W, E> {
         Shared {
             cell: &self.output,
@@ -62,7 +62,7 @@ impl<W, E> SharedOutputs<W, E> {
         }
     }
 
-    /// The writer of the messages.
+    /// Returns the writer of the messages.
     pub fn messages(&self) -> Shared<'_, E, W> {
         Shared {
             cell: &self.messages,
@@ -72,7 +72,7 @@ impl<W, E> SharedOutputs<W, E> {
 }
 
 impl<W: Write, E: Write> SharedOutputs<W, E> {
-    /// Flushes both, the output first, and answers whether both could be flushed.
+    /// Flushes both, the output first, and returns whether both were flushed.
     pub fn flush(&self) -> bool {
         let output = flush(&self.output).is_ok();
         let messages = flush(&self.messages).is_ok();
@@ -80,7 +80,7 @@ impl<W: Write, E: Write> SharedOutputs<W, E> {
     }
 }
 
-/// A reader that flushes what was shown before each read.
+/// A reader that flushes both outputs before each read.
 #[derive(Drop)]
 pub struct FlushBeforeRead<'a, R, W, E> {
     reader: R,
@@ -88,7 +88,7 @@ pub struct FlushBeforeRead<'a, R, W, E> {
 }
 
 impl<'a, R, W, E> FlushBeforeRead<'a, R, W, E> {
-    /// This reader, which flushes these writers.
+    /// Returns this reader, which will flush these writers.
     pub fn new(reader: R, shown: &'a SharedOutputs<W, E>) -> FlushBeforeRead<'a, R, W, E> {
         FlushBeforeRead { reader, shown }
     }
@@ -96,7 +96,7 @@ impl<'a, R, W, E> FlushBeforeRead<'a, R, W, E> {
 
 impl<R: Read, W: Write, E: Write> Read for FlushBeforeRead<'_, R, W, E> {
     fn read(&mut self, buf: &mut [u8]) -> io::Result<usize> {
-        // What could not be flushed stays in the writer, and the fault comes again at its last flush.
+        // Bytes that could not be flushed stay in the writer, and its last flush reports the fault again.
         let _flushed = self.shown.flush();
         self.reader.read(buf)
     }

@@ -1,4 +1,4 @@
-//! What a run reads: files, and standard input, which are all opened before it.
+//! The inputs of a run: files, and standard input. All are opened before the run.
 
 ghost use Rattle.std.specs.Prelude.{◌≡◌, IfOk};
 ghost use Rattle.m4_tool.specs.RunEnd.{source_name};
@@ -25,10 +25,10 @@ impl<F: Read, I: Read> Read for FileOrInput<F, I> {
     }
 }
 
-/// The word that stands for standard input on a line.
+/// The word that means standard input on a line.
 pub const INPUT: &str = "-";
 
-/// The name that messages give a file of the line.
+/// Returns the name of a file of the line, as messages print it.
 pub fn source_name(alloc: Global, file: &str) -> Result<Bytes, AllocError>
     ensures { IfOk result (λ name. name ≡ source_name file.now) }
 {

@@ -1,5 +1,5 @@
-//! Calls: what a head keeps of them, what a text gives with its arguments put in, what each builtin
-//! does, and the lines that are told.
+//! Calls: the data of a call's head, the substitution of arguments in a text, each builtin, and the
+//! lines of messages.
 //! Manual: "Macro invocation", "Arguments to macros", and the chapters of the builtins.
 
 ghost use Rattle.std.specs.Prelude.{IfOk};
@@ -32,7 +32,7 @@ enum Argument {
     Definition(Given),
 }
 
-// The argument that a row gives.
+// Makes the argument of a row.
 fn made_argument(alloc: Global, given: Argument) -> Result<Arg, AllocError>
     ensures { IfOk result IsArg }
 {
@@ -42,7 +42,7 @@ fn made_argument(alloc: Global, given: Argument) -> Result<Arg, AllocError>
     }
 }
 
-// A call of a name with these arguments.
+// Makes a call of a name with these arguments.
 fn call_of(alloc: Global, name: &[u8], given: &[Argument]) -> Result<Args, AllocError>
     ensures { IfOk result (λ a. AllByRecursion IsArg a.list) }
 {
@@ -56,7 +56,7 @@ fn call_of(alloc: Global, name: &[u8], given: &[Argument]) -> Result<Args, Alloc
     })
 }
 
-// A call of a name with these texts.
+// Makes a call of a name with these texts.
 fn text_call_of(alloc: Global, name: &[u8], texts: &[&[u8]]) -> Result<Args, AllocError>
     ensures { IfOk result (λ a. AllByRecursion IsArg a.list) }
 {
@@ -70,7 +70,7 @@ fn text_call_of(alloc: Global, name: &[u8], texts: &[&[u8]]) -> Result<Args, All
     })
 }
 
-// A line of a file.
+// Makes the place of a line in a file.
 fn place_of(alloc: Global, file: &[u8], line: u64) -> Result<Place, AllocError> {
     Ok(Place {
         file: Bytes::from_slice(alloc, file)?,
@@ -78,7 +78,7 @@ fn place_of(alloc: Global, file: &[u8], line: u64) -> Result<Place, AllocError> 
     })
 }
 
-// The arguments of a call, as they come back.
+// Returns the arguments of a call, read back.
 fn arguments(alloc: Global) -> Result<Vec<u8>, AllocError> {
     let mut report = Report::new(alloc);
     let given = [Argument::Text(b"one"), Argument::Text(b"two")];

@@ -1,4 +1,4 @@
-//! Devices that give and take a few bytes at a time, and that fail: those over memory and those over
+//! Devices that read or write a few bytes at a time, and that fail: those over memory and those over
 //! readers and writers of std.
 
 mod memory;

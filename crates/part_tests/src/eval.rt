@@ -9,7 +9,7 @@ use m4_eval::evaluate::{Evaluated, evaluate};
 use m4_eval::radix::Radix;
 use std::alloc::{AllocError, Global};
 
-// How deeply the texts are nested.
+// The depth of the nested texts.
 const DEPTH: usize = 1_000_000;
 
 // A row's name, an expression, and its value.
@@ -78,7 +78,7 @@ static SPACES: [Row; 3] = [
     ("a letter", b"\t x ", b"2, not blank"),
 ];
 
-// The value of a text, or why it has none.
+// Returns the value of a text, or why it has none.
 fn value_seen(alloc: Global, text: &[u8]) -> Result<Vec<u8>, AllocError> {
     let mut report = Report::new(alloc);
     match evaluate(alloc, text)? {
@@ -89,14 +89,14 @@ fn value_seen(alloc: Global, text: &[u8]) -> Result<Vec<u8>, AllocError> {
     report.text()
 }
 
-// A byte many times.
+// Returns a byte many times.
 fn repeated(alloc: Global, byte: (u8, usize)) -> Result<Vec<u8>, AllocError> {
     let mut bytes = Vec::new(alloc);
     bytes.resize(byte.1, byte.0)?;
     Ok(bytes)
 }
 
-// The value of a text between many bytes.
+// Returns the value of a text between many bytes.
 fn nested_seen(alloc: Global, row: &Nested) -> Result<Vec<u8>, AllocError> {
     let first = repeated(alloc, row.1)?;
     let last = repeated(alloc, row.3)?;
@@ -104,7 +104,7 @@ fn nested_seen(alloc: Global, row: &Nested) -> Result<Vec<u8>, AllocError> {
     value_seen(alloc, text.as_slice())
 }
 
-// A radix, if it is one, and a value written in it.
+// Reports a radix, if it is one, and a value written in it.
 fn written_seen(alloc: Global, row: &Written) -> Result<Vec<u8>, AllocError> {
     let mut report = Report::new(alloc);
     match Radix::new(row.2) {
@@ -118,7 +118,7 @@ fn written_seen(alloc: Global, row: &Written) -> Result<Vec<u8>, AllocError> {
     report.text()
 }
 
-// The count of the spaces at the start of a text, and whether it is blank.
+// Reports the number of spaces at the start of a text, and whether it is blank.
 fn spaces_seen(alloc: Global, text: &[u8]) -> Result<Vec<u8>, AllocError> {
     let mut report = Report::new(alloc);
     report.number(spaces_len(text) as i128);

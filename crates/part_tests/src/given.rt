@@ -1,4 +1,4 @@
-//! Definitions and byte strings as rows give them.
+//! Definitions and byte strings in rows.
 
 ghost use Rattle.std.specs.Prelude.{IfOk};
 ghost use Rattle.m4_state.specs.Definition.{IsDefinition};
@@ -13,11 +13,11 @@ use std::alloc::{AllocError, Global};
 pub enum Given {
     /// A text.
     Text(&'static [u8]),
-    /// The builtin of this name, or a placeholder where this program has none.
+    /// The builtin of this name, or a placeholder if this program has none.
     Named(&'static [u8]),
 }
 
-/// The definition that a row gives.
+/// Makes the definition of a row.
 pub fn made(alloc: Global, given: Given) -> Result<Def, AllocError>
     ensures { IfOk result IsDefinition }
 {
@@ -30,7 +30,7 @@ pub fn made(alloc: Global, given: Given) -> Result<Def, AllocError>
     }
 }
 
-/// Which definition it is, and its text or its name.
+/// Returns the kind of a definition, and its text or its name.
 pub fn told(definition: &Def) -> (&'static [u8], &[u8]) {
     match definition {
         Def::Text(text) => (b"text ", text.as_slice()),

@@ -1,4 +1,4 @@
-//! The input: the tokens of texts, what calls do to it besides, and what is seen ahead of it.
+//! The input: the tokens of texts, the other calls on an input, and the lookahead before a token.
 //! Manual: "Lexical and syntactic conventions", "Changing the quote characters", "Deleting whitespace
 //! in input", "How m4 copies input to output".
 
@@ -21,7 +21,7 @@ use m4_input::token::Token;
 use m4_state::bytes::Bytes;
 use std::alloc::{AllocError, Global};
 
-// How many bytes a reader gives at a time.
+// How many bytes a reader returns at a time.
 const BLOCKS: [usize; 4] = [1, 2, 3, 4096];
 
 // The delimiters of a new state.
@@ -36,7 +36,7 @@ const NONE: Delims<'static> = Delims {
     comments: (b"", b""),
 };
 
-// A token's kind, and its text where it is not a byte.
+// Returns a token's kind, and its text if it is not a byte.
 fn words(token: &Token) -> (&'static [u8], &[u8]) {
     match token {
         Token::Name(name) => (b"name ", name.as_slice()),
@@ -76,7 +76,7 @@ fn tell_fault(fault: InputFault, report: &mut Report) {
     report.add(b"\n");
 }
 
-// Puts text in front.
+// Pushes text back to the input.
 fn push(alloc: Global, input: &mut Input, bytes: &[u8]) -> Result<(), InputFault>
     requires { input.old.pending.definition ≡ None }
     ensures { OnOk result (input.new.pending.definition ≡ None) }

@@ -1,8 +1,8 @@
-//! Rows by hand on the parts below a run: the state of a macro processor and the devices, frozen
-//! files, the input with its tokens, expressions, and what a call does.
+//! Tests of the parts of a run: the state of a macro processor and the devices, frozen files, the
+//! input with its tokens, expressions, and calls.
 //!
-//! Each row has a name, what is done, and what is then to be seen. The expected values were worked
-//! out by hand from the manual of GNU M4 and from the frozen file format.
+//! Each row of a test has a name, the steps, and the expected report. The reports were worked out by hand
+//! from the manual of GNU M4 and from the frozen file format.
 #![tactic(auto)]
 
 #[cfg(test)]

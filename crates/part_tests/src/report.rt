@@ -1,11 +1,11 @@
-//! What is to be seen of a row, as text that is written piece by piece.
+//! The report on a row: text that is written piece by piece.
 
 use itoa::Buffer;
 use std::alloc::{AllocError, Global};
 use std::fmt;
 
-/// A report. Memory that is refused while it is written is told at its end, so that no row has to
-/// ask after each piece.
+/// A report. If an allocation fails while it is written, its end returns that, so that no row has to
+/// check after each piece.
 #[derive(Drop)]
 pub struct Report {
     text: Vec<u8>,
@@ -13,7 +13,7 @@ pub struct Report {
 }
 
 impl Report {
-    /// An empty report.
+    /// Returns an empty report.
     pub fn new(alloc: Global) -> Report {
         Report {
             text: Vec::new(alloc),
@@ -33,18 +33,18 @@ impl Report {
         self.add(Buffer::new().format(number).as_bytes());
     }
 
-    /// Adds a piece, and a count behind it.
+    /// Adds a piece, and a count after it.
     pub fn counted(&mut self, piece: &[u8], count: usize) {
         self.add(piece);
         self.number(count as i128);
     }
 
-    /// Tells that memory was refused.
+    /// Records that an allocation failed.
     pub fn refuse(&mut self) {
         self.refused = true;
     }
 
-    /// The whole text.
+    /// Returns the complete text.
     pub fn text(self) -> Result<Vec<u8>, AllocError> {
         let Report { text, refused } = self;
         if refused {
@@ -54,7 +54,7 @@ impl Report {
     }
 }
 
-/// Pieces, one behind the other.
+/// Joins pieces in order.
 pub fn joined(alloc: Global, pieces: &[&[u8]]) -> Result<Vec<u8>, AllocError> {
     let mut report = Report::new(alloc);
     for piece in pieces {
@@ -63,7 +63,7 @@ pub fn joined(alloc: Global, pieces: &[&[u8]]) -> Result<Vec<u8>, AllocError> {
     report.text()
 }
 
-/// A value as it is printed.
+/// Returns a value as it is printed.
 pub fn printed(alloc: Global, value: &impl fmt::Display) -> Result<Vec<u8>, AllocError> {
     joined(alloc, &[format!(in alloc; "{value}")?.as_bytes()])
 }

@@ -1,4 +1,4 @@
-//! How a row that failed is shown: its name, and beneath it what was expected and what came.
+//! Prints a row that failed: its name, and below it the expected and the actual report.
 
 use std::alloc::AllocError;
 use std::fmt;
@@ -20,7 +20,7 @@ impl fmt::Display for Shown<'_> {
     }
 }
 
-/// Ends the test unless the row came out as expected.
+/// Ends the test unless the report is the expected one.
 pub fn shows(
     rt: &impl Abort,
     row: impl fmt::Display + Drop,
@@ -40,7 +40,7 @@ pub fn shows(
     }
 }
 
-/// The same where what is expected was made for the row.
+/// Does the same for an expected report that was made for the row.
 pub fn agrees(
     rt: &impl Abort,
     row: impl fmt::Display + Drop,

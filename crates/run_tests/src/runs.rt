@@ -1,4 +1,4 @@
-//! Whole runs over sources in memory, and sessions call by call.
+//! Complete runs over sources in memory, and sessions call by call.
 //! Manual: "Invoking m4", "Command line files", and the chapters on macros and builtins.
 
 mod chains;

@@ -18,8 +18,8 @@ use std::io::{BufWriter, Input, Write};
 use std::rt::Files;
 use std::{fs, io};
 
-/// Runs over the files of the line, or over standard input, from its frozen file on where it has one.
-/// What the run wrote is flushed before anything more is reported.
+/// Runs over the files of the line, or over standard input; starts from its frozen file if it has one.
+/// The outputs of the run are flushed before anything more is reported.
 pub fn run_files<E: Write + Drop>(
     rt: &(impl Files + Input + Alloc<A = Global> + Print + Eprint),
     errors: E,
@@ -31,8 +31,8 @@ pub fn run_files<E: Write + Drop>(
     run_shown(rt, line, &shown)
 }
 
-// The same, with what is written shown by these writers. Where the frozen file can't be opened, that is
-// reported, and nothing else is done.
+// Does the same with these writers for its outputs. If the frozen file can't be opened, reports that
+// and does nothing else.
 fn run_shown<R: Files + Input + Alloc<A = Global> + Eprint, W: Write, E: Write>(
     rt: &R,
     line: &Line,
@@ -60,7 +60,7 @@ fn run_shown<R: Files + Input + Alloc<A = Global> + Eprint, W: Write, E: Write>(
     Ok(report_end(rt, ending, is_shown && is_frozen, reloaded, shown))
 }
 
-// The frozen file that the run starts from, opened; none where it starts afresh.
+// Opens the frozen file from which the run starts; returns none if it starts afresh.
 fn frozen_of<'a, R: Files + Input, W: Write, E: Write>(
     rt: &R,
     file: &Option<String>,
@@ -74,7 +74,7 @@ fn frozen_of<'a, R: Files + Input, W: Write, E: Write>(
     }
 }
 
-// The name of a frozen file. Where the line has none the name is empty, and no file of it is made or read.
+// Returns the name of a frozen file. If the line has none, the name is empty and never used for a file.
 fn name_of(file: &Option<String>) -> &str {
     match file {
         Some(name) => name.as_str(),
@@ -82,7 +82,7 @@ fn name_of(file: &Option<String>) -> &str {
     }
 }
 
-// The files of the line, opened in their order; standard input where there is none.
+// Opens the files of the line in order, or standard input if there is none.
 fn sources_of<'a, R: Files + Input + Alloc<A = Global>, W: Write, E: Write>(
     rt: &R,
     files: &[String],
@@ -98,12 +98,12 @@ fn sources_of<'a, R: Files + Input + Alloc<A = Global>, W: Write, E: Write>(
     Ok(sources)
 }
 
-// What a source of the run is read through.
+// The reader of a source of the run.
 type Opened<'a, R, W, E> = StdSource<
     FileOrInput<<R as Files>::File, FlushBeforeRead<'a, <R as Input>::Reader, W, E>>,
 >;
 
-// A file of the line, opened unless that fails.
+// Opens a file of the line; the result records whether that failed.
 fn opened<'a, R: Files + Input + Alloc<A = Global>, W: Write, E: Write>(
     rt: &R,
     file: &str,
@@ -124,8 +124,8 @@ fn opened<'a, R: Files + Input + Alloc<A = Global>, W: Write, E: Write>(
     }
 }
 
-// Reports what the run has not reported itself, and returns the last status. Only the status reports
-// it where it can't be shown.
+// Reports what the run has not reported itself, and returns the exit status. If the report can't be
+// printed, only the status shows it.
 fn report_end<W: Write, E: Write>(
     rt: &impl Eprint,
     ending: Ending,

@@ -1,4 +1,4 @@
-//! A mode on a file of the disk: its file is opened, and its output goes to standard output.
+//! A mode with a file on disk: opens the file, and writes to standard output.
 
 use super::reports::{report, report_unopened};
 use crate::modes;
@@ -9,12 +9,12 @@ use std::io::{BufWriter, Read, Write};
 use std::rt::Files;
 use std::{fs, io};
 
-/// The modes that a line may ask for.
+/// The modes of a command line.
 #[derive(Clone, Copy)]
 pub enum Mode {
-    /// The canonical text of a frozen file.
+    /// Prints the canonical text of a frozen file.
     Canon,
-    /// The lines that list a frozen file.
+    /// Lists a frozen file.
     Inspect,
 }
 
@@ -34,7 +34,7 @@ pub fn run_mode<E: Write + Drop>(
     }
 }
 
-// Runs a mode on an opened file. What the mode wrote is flushed before its status stands.
+// Runs a mode on an opened file. Its output is flushed before its status is returned.
 fn run_opened<F: Read + Drop, E: Write + Drop>(
     rt: &(impl Alloc<A = Global> + Print + Eprint),
     errors: E,

@@ -2,11 +2,11 @@
 
 ghost use Rattle.std.specs.Prelude.{◌≡◌};
 
-/// The status of a run that did not do what its line asked for.
+/// The status of a run that did not do the work of its line.
 pub const FAILED: u8 = 1;
 
-/// Prints one line on standard error, and returns the status of a run that failed. If standard error
-/// cannot be written either, only the status reports it.
+/// Prints one line on standard error, and returns the status of a run that failed. If the line cannot
+/// be printed either, only the status shows the failure.
 pub fn report(rt: &impl Eprint, text: &str) -> u8
     ensures { result ≡ FAILED }
 {

@@ -1,6 +1,6 @@
-//! Calls of each builtin, of a text and of a placeholder: what they leave to be done, and the state
-//! after them. Manual: "Defining a macro", "Deleting a macro", "Temporarily redefining macros", "Renaming
-//! macros", "Indirect call of builtins", "If-else construct, or multibranch", "Recursion in m4", "Deleting
+//! Calls of each builtin, of a text and of a placeholder: their effects, and the state after them.
+//! Manual: "Defining a macro", "Deleting a macro", "Temporarily redefining macros", "Renaming macros",
+//! "Indirect call of builtins", "If-else construct, or multibranch", "Recursion in m4", "Deleting
 //! whitespace in input", "Changing the quote characters", "Changing the comment delimiters".
 
 use super::{Argument, call_of, place_of, text_call_of};
@@ -14,7 +14,7 @@ use m4_input::pushed::Pushed;
 use m4_state::state::State;
 use std::alloc::{AllocError, Global};
 
-// A row's name, a builtin, its arguments, and what the call leaves to be done in an empty state.
+// A row's name, a builtin, its arguments, and the effect of the call in an empty state.
 static CALLS: [(&str, &[u8], &[&[u8]], &[u8]); 9] = [
     (
         "define with a name and a text",
@@ -62,7 +62,7 @@ static CALLS: [(&str, &[u8], &[&[u8]], &[u8]); 9] = [
     ),
 ];
 
-// What is to be seen of a call.
+// Reports a call.
 fn call_seen(alloc: Global, name: &'static [u8], texts: &[&[u8]]) -> Result<Vec<u8>, AllocError> {
     let mut report = Report::new(alloc);
     let mut state = start(alloc, false)?;
@@ -77,10 +77,10 @@ fn calls_of_builtins(rt: HostRuntime) {
     }
 }
 
-// What is done to a state, or asked of it.
+// A change of a state, or a question about it.
 #[derive(Clone, Copy)]
 enum Step {
-    // Calls a builtin with texts, and reports what is left to be done.
+    // Calls a builtin with texts, and reports the effect.
     Call(&'static [u8], &'static [&'static [u8]]),
     // Reports how many definitions a name has, and the newest.
     Look(&'static [u8]),
@@ -154,7 +154,7 @@ static DELIMITERS: [Row; 2] = [
     ),
 ];
 
-// Calls a builtin with texts, in line 1 of `a.m4`, and adds what is left to be done.
+// Calls a builtin with texts, in line 1 of `a.m4`, and adds the effect.
 fn call(
     alloc: Global,
     state: &mut State,
@@ -168,7 +168,7 @@ fn call(
     }
 }
 
-// The effect of such a call.
+// Returns the effect of such a call.
 fn acted(
     alloc: Global,
     state: &mut State,
@@ -181,7 +181,7 @@ fn acted(
     act(alloc, &definition, &args, &place, state)
 }
 
-// Adds what a call left to be done.
+// Adds the effect of a call.
 fn tell(effect: &Effect, report: &mut Report) {
     match &effect.push {
         Some(Pushed::Text(text)) => {
@@ -222,7 +222,7 @@ fn tell_pair(pair: (&[u8], &[u8]), report: &mut Report) {
     report.add(b"\n");
 }
 
-// Adds how many names there are.
+// Adds the number of names.
 fn count(state: &State, report: &mut Report) {
     match state.names() {
         Ok(names) => report.number(names.len() as i128),
@@ -231,7 +231,7 @@ fn count(state: &State, report: &mut Report) {
     report.add(b" names\n");
 }
 
-// Does a step.
+// Performs a step.
 fn do_step(alloc: Global, state: &mut State, step: Step, report: &mut Report) {
     match step {
         Step::Call(name, texts) => call(alloc, state, name, texts, report),
@@ -242,7 +242,7 @@ fn do_step(alloc: Global, state: &mut State, step: Step, report: &mut Report) {
     }
 }
 
-// A state to begin with.
+// Returns a state to start with.
 fn start(alloc: Global, fresh: bool) -> Result<State, AllocError> {
     let state = if fresh {
         State::fresh(alloc, false)
@@ -252,7 +252,7 @@ fn start(alloc: Global, fresh: bool) -> Result<State, AllocError> {
     state.map_err(|_refused| AllocError)
 }
 
-// What is to be seen of a row.
+// Reports a row.
 fn seen(alloc: Global, fresh: bool, steps: &[Step]) -> Result<Vec<u8>, AllocError> {
     let mut report = Report::new(alloc);
     let mut state = start(alloc, fresh)?;
@@ -276,8 +276,8 @@ fn delimiters_are_chosen(rt: HostRuntime) {
     }
 }
 
-// A row's name, what is called under which name, with which arguments, where, and what the call
-// leaves to be done in an empty state, and how many names.
+// A row's name, a definition and the name that it is called by, the arguments, the place, and the
+// effect of the call in an empty state with the number of names.
 type OtherRow = (
     &'static str,
     (Given, &'static [u8]),
@@ -316,7 +316,7 @@ static OTHERS: [OtherRow; 3] = [
     ),
 ];
 
-// The effect of a call of any definition.
+// Returns the effect of a call of any definition.
 fn other_acted(
     alloc: Global,
     state: &mut State,
@@ -330,7 +330,7 @@ fn other_acted(
     act(alloc, &definition, &args, &place, state)
 }
 
-// What is to be seen of such a call.
+// Reports such a call.
 fn other_seen(
     alloc: Global,
     called: (Given, &[u8]),

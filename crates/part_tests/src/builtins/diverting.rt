@@ -1,5 +1,5 @@
-//! Calls of the builtins that divert text and bring it back. Manual: "Diverting output",
-//! "Undiverting output", "Diversion numbers".
+//! Calls of the builtins that divert and undivert text. Manual: "Diverting output", "Undiverting
+//! output", "Diversion numbers".
 
 use super::{Argument, call_of, place_of};
 use crate::given::{Given, made};
@@ -12,7 +12,7 @@ use m4_input::pushed::Pushed;
 use m4_state::state::State;
 use std::alloc::{AllocError, Global};
 
-// What is done to a state.
+// A change of a state.
 #[derive(Clone, Copy)]
 enum Step {
     // Calls a builtin in line 1 of `a.m4`, and reports the text that it pushes, its output and its
@@ -22,7 +22,7 @@ enum Step {
     Add(&'static [u8]),
 }
 
-// A row's name, what is done to an empty state, and the reports.
+// A row's name, the steps from an empty state, and the reports.
 type Row = (&'static str, &'static [Step], &'static [u8]);
 
 static DIVERT: [Row; 5] = [
@@ -141,7 +141,7 @@ static UNDIVERT: [Row; 4] = [
     ),
 ];
 
-// The effect of a call.
+// Returns the effect of a call.
 fn acted(
     alloc: Global,
     state: &mut State,
@@ -154,7 +154,7 @@ fn acted(
     act(alloc, &definition, &args, &place, state)
 }
 
-// Adds what a call left to be done.
+// Adds the effect of a call.
 fn tell(effect: &Effect, report: &mut Report) {
     if let Some(Pushed::Text(text)) = &effect.push {
         report.add(b"push ");
@@ -169,7 +169,7 @@ fn tell(effect: &Effect, report: &mut Report) {
     report.add(effect.messages.as_slice());
 }
 
-// Does a step.
+// Performs a step.
 fn do_step(alloc: Global, state: &mut State, step: Step, report: &mut Report) {
     match step {
         Step::Call(name, list) => match acted(alloc, state, name, list) {
@@ -184,7 +184,7 @@ fn do_step(alloc: Global, state: &mut State, step: Step, report: &mut Report) {
     }
 }
 
-// What is to be seen of a row.
+// Reports a row.
 fn seen(alloc: Global, steps: &[Step]) -> Result<Vec<u8>, AllocError> {
     let mut report = Report::new(alloc);
     let mut state = State::empty(alloc).map_err(|_refused| AllocError)?;

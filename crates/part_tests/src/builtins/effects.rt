@@ -1,5 +1,5 @@
-//! Calls that count, write to the messages, give their place, save text or end the run, and calls
-//! with too few arguments that still give a text. Manual: "Decrement and increment operators",
+//! Calls that count, print messages, expand to their place, save text or end the run, and calls with
+//! too few arguments that still expand to a text. Manual: "Decrement and increment operators",
 //! "Printing error messages", "Printing current location", "Saving text until end of input",
 //! "Exiting from m4".
 
@@ -164,7 +164,7 @@ static FEW: [Row; 5] = [
     ),
 ];
 
-// The effect of a call in an empty state.
+// Returns the effect of a call in an empty state.
 fn acted(
     alloc: Global,
     name: &'static [u8],
@@ -186,7 +186,7 @@ fn tell_text(label: &[u8], text: &[u8], report: &mut Report) {
     report.add(b"\n");
 }
 
-// What is to be seen of a call.
+// Reports a call.
 fn seen(
     alloc: Global,
     name: &'static [u8],

@@ -1,4 +1,4 @@
-//! What a head keeps of a call: its name, its definition and its place. Manual: "Macro invocation".
+//! The head of a call: its name, its definition and its place. Manual: "Macro invocation".
 
 use crate::given::{Given, made, told};
 use crate::report::Report;
@@ -8,9 +8,9 @@ use m4_builtins::head::Head;
 use m4_state::bytes::Bytes;
 use std::alloc::{AllocError, Global};
 
-// A row's name, a call's name, its definition, its file and its line, and what a head tells of them:
-// name, file and line by themselves, file and line as a place, whether it needs a list, its text, if
-// it is one, and its definition.
+// A row's name, a call's name, its definition, its file and its line, and the data of the head: name,
+// file and line by themselves, file and line as a place, whether it needs a list, its text, if it is
+// one, and its definition.
 type Row = (
     &'static str,
     &'static [u8],
@@ -89,7 +89,7 @@ fn tell_place(head: &Head, report: &mut Report) {
     }
 }
 
-// Adds what it says of its definition.
+// Adds the data on the definition.
 fn tell_definition(head: &Head, report: &mut Report) {
     if head.needs_list() {
         report.add(b", needs a list");
@@ -109,7 +109,7 @@ fn tell_definition(head: &Head, report: &mut Report) {
     }
 }
 
-// What a head tells.
+// Reports the data of a head.
 fn kept(
     alloc: Global,
     name: &[u8],

@@ -7,7 +7,7 @@ use m4_builtins::fault::BuiltinFault;
 use m4_builtins::messages::{dropped_message, error_message};
 use std::alloc::{AllocError, Global};
 
-// A row's name, a file, a line, and how an error there and a dropped definition are told.
+// A row's name, a file, a line, and the messages for an error there and for a dropped definition.
 static ROWS: [(&str, &[u8], u64, &[u8]); 2] = [
     (
         "a line of a file",
@@ -25,7 +25,7 @@ static ROWS: [(&str, &[u8], u64, &[u8]); 2] = [
     ),
 ];
 
-// An error and a warning at a place.
+// Returns an error and a warning at a place.
 fn told(alloc: Global, file: &[u8], line: u64) -> Result<Vec<u8>, BuiltinFault> {
     let place = place_of(alloc, file, line)?;
     let error = error_message(alloc, &place, b"end of file in string")?;

@@ -5,7 +5,7 @@ use crate::shows::shows;
 use m4_builtins::number::{Reading, reading_of};
 use std::alloc::{AllocError, Global};
 
-// A row's name, an argument, and what it is read as.
+// A row's name, an argument, and the result of reading it.
 type Row = (&'static str, &'static [u8], &'static [u8]);
 
 static NUMBERS: [Row; 9] = [
@@ -47,7 +47,7 @@ static OTHERS: [Row; 12] = [
     ("the bytes beside the digits", b"/:", b"not numeric"),
 ];
 
-// What is to be seen of an argument.
+// Reports an argument.
 fn reading_seen(alloc: Global, text: &[u8]) -> Result<Vec<u8>, AllocError> {
     let mut report = Report::new(alloc);
     match reading_of(text) {

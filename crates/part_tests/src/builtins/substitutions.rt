@@ -1,4 +1,4 @@
-//! What stands behind a dollar. Manual: "Arguments to macros", "Pseudo arguments".
+//! The bytes after a dollar. Manual: "Arguments to macros", "Pseudo arguments".
 
 use super::{Argument, call_of, text_call_of};
 use crate::given::Given;
@@ -8,7 +8,7 @@ use m4_builtins::args::Args;
 use m4_builtins::substitute::substitute;
 use std::alloc::{AllocError, Global};
 
-// A row's name, a text, the arguments, and what the text gives under the name `f`.
+// A row's name, a text, the arguments, and the expansion of the text under the name `f`.
 static ROWS: [(&str, &[u8], &[&[u8]], &[u8]); 14] = [
     ("an empty text", b"", &[b"a"], b""),
     (
@@ -46,7 +46,7 @@ static ROWS: [(&str, &[u8], &[&[u8]], &[u8]); 14] = [
     ("2^64 + 1", b"$18446744073709551617!", &[b"a"], b"!"),
 ];
 
-// What a text gives.
+// Returns the expansion of a text.
 fn given(
     alloc: Global,
     text: &[u8],
@@ -65,7 +65,7 @@ fn given(
     }
 }
 
-// What a text gives with texts.
+// Returns the expansion of a text with texts as arguments.
 fn given_texts(
     alloc: Global,
     text: &[u8],
@@ -83,7 +83,7 @@ fn what_the_dollars_stand_for(rt: HostRuntime) {
     }
 }
 
-// The quotes, and what `$@` gives with two arguments.
+// The quotes, and the expansion of `$@` with two arguments.
 static QUOTES: [(&str, (&[u8], &[u8]), &[u8]); 2] = [
     ("quotes of two bytes", (b"[[", b"]]"), b"[[a]],[[b]]"),
     ("no quotes", (b"", b""), b"a,b"),
@@ -97,7 +97,7 @@ fn quotes_by_the_current_quotes(rt: HostRuntime) {
     }
 }
 
-// What a text gives with a definition.
+// Returns the expansion of a text with a definition as an argument.
 fn given_a_definition(alloc: Global) -> Result<Vec<u8>, AllocError> {
     let list = [Argument::Definition(Given::Named(b"dnl"))];
     let args = call_of(alloc, b"f", &list)?;

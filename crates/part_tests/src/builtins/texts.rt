@@ -206,7 +206,7 @@ static REPLACED: [Row; 17] = [
     ),
 ];
 
-// The effect of a call in an empty state.
+// Returns the effect of a call in an empty state.
 fn acted(alloc: Global, name: &'static [u8], texts: &[&[u8]]) -> Result<Effect, BuiltinFault> {
     let mut state = State::empty(alloc)?;
     let args = text_call_of(alloc, name, texts)?;
@@ -215,7 +215,7 @@ fn acted(alloc: Global, name: &'static [u8], texts: &[&[u8]]) -> Result<Effect, 
     act(alloc, &definition, &args, &place, &mut state)
 }
 
-// What is to be seen of a call.
+// Reports a call.
 fn seen(alloc: Global, name: &'static [u8], texts: &[&[u8]]) -> Result<Vec<u8>, AllocError> {
     let effect = acted(alloc, name, texts).map_err(|_refused| AllocError)?;
     let mut report = Report::new(alloc);

@@ -1,4 +1,4 @@
-//! A reader and a writer over memory, by however many bytes they give or take at a time.
+//! A reader and a writer over memory, for different numbers of bytes at a time.
 
 use crate::report::{Report, joined};
 use crate::shows::{agrees, shows};
@@ -10,10 +10,10 @@ use std::test::Fail;
 
 const BYTES: &[u8] = b"some bytes, of which \x00 and \xff are two";
 
-// How many bytes a device gives or takes at most.
+// The most bytes that a device reads or writes at a time.
 const SIZES: [usize; 4] = [1, 2, 7, 4096];
 
-// A row's name, whether the reader fails behind its last byte, and what is taken of it.
+// A row's name, whether the reader fails after its last byte, and the result of reading it.
 static READERS: [(&str, bool, &[u8]); 2] = [
     (
         "a reader that ends",
@@ -27,7 +27,7 @@ static READERS: [(&str, bool, &[u8]); 2] = [
     ),
 ];
 
-// All that is taken of a reader over the bytes, and how it ends.
+// Reads all of a reader over the bytes, and reports how it ends.
 fn taken_of(alloc: Global, at_most: usize, fails: bool) -> Result<Vec<u8>, AllocError> {
     let mut report = Report::new(alloc);
     let mut reader = MemSource::new(BYTES, at_most.max(1), fails);
@@ -51,7 +51,7 @@ fn all_that_is_given_is_taken(rt: HostRuntime) {
     }
 }
 
-// All that is taken of a long text.
+// Reads all of a long text.
 fn taken_of_a_long_text(alloc: Global, text: &[u8]) -> Result<Vec<u8>, AllocError> {
     let mut reader = MemSource::new(text, 4096, false);
     Ok(read_all(alloc, &mut reader)?.bytes)
@@ -65,7 +65,7 @@ fn a_long_text_is_taken(rt: HostRuntime) -> Result<(), Fail> {
     Ok(())
 }
 
-// The answers of a reader to takes of four bytes.
+// Reports the results of takes of four bytes.
 fn takes_of(alloc: Global, bytes: &[u8], fails: bool) -> Result<Vec<u8>, AllocError> {
     let mut report = Report::new(alloc);
     let mut block = [0u8; 4];
@@ -102,7 +102,7 @@ fn readers_end_and_fail_again(rt: HostRuntime) {
     );
 }
 
-// What a writer holds behind an answer.
+// Adds the contents of a writer after a result.
 fn held(
     alloc: Global,
     answer: Result<(), DeviceFault>,
@@ -115,7 +115,7 @@ fn held(
     joined(alloc, &[writer.written(), end])
 }
 
-// What comes of putting the bytes into a writer with so much room.
+// Reports writing the bytes to a writer with this much room.
 fn put_into(alloc: Global, room: usize, at_most: usize) -> Result<Vec<u8>, AllocError> {
     let mut writer = MemSink::new(alloc, room, at_most.max(1))?;
     let answer = write_all(&mut writer, BYTES);
@@ -146,14 +146,14 @@ fn all_bytes_are_put_where_there_is_room(rt: HostRuntime) {
     }
 }
 
-// What comes of putting pieces into a writer with room for nine bytes.
+// Reports writing pieces to a writer with room for nine bytes.
 fn pieces_put(alloc: Global) -> Result<Vec<u8>, AllocError> {
     let mut writer = MemSink::new(alloc, 9, 2)?;
     let answer = write_pieces(&mut writer, &[b"one", b"", b"two", b"three"]);
     held(alloc, answer, &writer)
 }
 
-// The answers of a writer with room for two bytes, and what it holds.
+// Reports the results of a writer with room for two bytes, and its contents.
 fn puts_of(alloc: Global) -> Result<Vec<u8>, AllocError> {
     let mut report = Report::new(alloc);
     let mut writer = MemSink::new(alloc, 2, 4)?;

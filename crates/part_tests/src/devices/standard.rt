@@ -1,4 +1,4 @@
-//! Devices over readers and writers of std that give or take what a script says.
+//! Devices over scripted readers and writers of std.
 
 use crate::report::Report;
 use crate::shows::shows;
@@ -9,18 +9,18 @@ use std::alloc::{AllocError, Global};
 use std::io;
 use std::io::{Read, Write};
 
-// What a call of a reader or a writer comes to.
+// The result of a call of a reader or a writer.
 #[derive(Clone, Copy)]
 enum Answer {
-    // Gives these bytes.
+    // Returns these bytes.
     Gives(&'static [u8]),
-    // Takes so many bytes at most.
+    // Writes at most this many bytes.
     Takes(usize),
     // Fails.
     Fails,
 }
 
-// A reader and writer that answers by a script, and behind it as by the script's last word.
+// A reader and writer with scripted results; the last one is repeated.
 #[derive(Drop)]
 struct Scripted {
     script: &'static [Answer],
@@ -28,7 +28,7 @@ struct Scripted {
 }
 
 impl Scripted {
-    // The next answer; the last one stays.
+    // Returns the next result; the last one stays.
     fn next(&mut self) -> Answer {
         match self.script {
             [] => Answer::Fails,
@@ -41,7 +41,7 @@ impl Scripted {
     }
 }
 
-// An error of a device.
+// Returns an error of a device.
 fn broken() -> io::Error {
     io::Error::from(io::ErrorKind::BrokenPipe)
 }
@@ -78,7 +78,7 @@ impl Write for Scripted {
     }
 }
 
-// A row's name, what a reader answers, and what is taken of it.
+// A row's name, the results of a reader, and the bytes read from it.
 static READERS: [(&str, &[Answer], &[u8]); 4] = [
     (
         "a reader that ends",
@@ -108,7 +108,7 @@ static READERS: [(&str, &[Answer], &[u8]); 4] = [
     ),
 ];
 
-// All that is taken of a reader, and how it ends.
+// Reads all of a reader, and reports how it ends.
 fn taken_of(alloc: Global, script: &'static [Answer]) -> Result<Vec<u8>, AllocError> {
     let mut report = Report::new(alloc);
     let mut reader = StdSource::new(Scripted {
@@ -132,8 +132,8 @@ fn all_is_taken_of_a_reader(rt: HostRuntime) {
     }
 }
 
-// A row's name, what a writer answers, and what comes of putting `abcdefgh` whole into it, and then
-// `ij` once: what arrived, whether the first was put, and the answer to the second.
+// A row's name, the results of a writer, and the report on writing all of `abcdefgh` to it, and then
+// `ij` once: the bytes that arrived, whether the first was written, and the result of the second.
 static WRITERS: [(&str, &[Answer], &[u8]); 5] = [
     (
         "a writer that takes all",
@@ -162,7 +162,7 @@ static WRITERS: [(&str, &[Answer], &[u8]); 5] = [
     ),
 ];
 
-// What comes of putting bytes into a writer.
+// Reports writing bytes to a writer.
 fn put_into(alloc: Global, script: &'static [Answer]) -> Result<Vec<u8>, AllocError> {
     let mut report = Report::new(alloc);
     let mut writer = StdSink::new(Scripted {

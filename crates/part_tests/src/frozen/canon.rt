@@ -1,4 +1,4 @@
-//! Files that are read and written again, in their one canonical text.
+//! Files that are read and written again, as their canonical text.
 
 use super::{BLOCK, BLOCKS, HEAD, LAST, ROOM, after_a_comment, read, tell, tell_written};
 use crate::report::{Report, joined};
@@ -10,8 +10,8 @@ use m4_state::state::State;
 use std::alloc::{AllocError, Global};
 use std::test::Fail;
 
-// A row's name, a file, what of its canonical text stands between the first two lines and the last
-// one, and the text that is issued.
+// A row's name, a file, the canonical text without its first two lines and its last one, and the text
+// that is issued.
 type Row = (&'static str, &'static [u8], &'static [u8], &'static [u8]);
 
 static ROWS: [Row; 13] = [
@@ -90,25 +90,25 @@ static ROWS: [Row; 13] = [
     ),
 ];
 
-// A canonical text that is written whole, with what stands between its first two lines and its last
-// one, and the text that is issued.
+// Returns a complete canonical text, with these bytes between its first two lines and its last one,
+// and the text that is issued.
 fn canonical(alloc: Global, between: &[u8], issued: &[u8]) -> Result<Vec<u8>, AllocError> {
     joined(alloc, &[HEAD, between, LAST, b"; written\n", issued])
 }
 
-// Adds what a writer takes of the canonical text, so many bytes at a time.
+// Adds the bytes of the canonical text that a writer receives.
 fn write(state: &State, writer: &mut MemSink, report: &mut Report) {
     let answer = write_frozen(state, writer);
     tell_written(answer, writer, report);
 }
 
-// Adds what a file holds: its canonical text, and the text that is issued.
+// Adds the content of a file: its canonical text, and the text that is issued.
 fn write_loaded(loaded: &Loaded, writer: &mut MemSink, report: &mut Report) {
     write(&loaded.state, writer, report);
     report.add(loaded.issued.as_slice());
 }
 
-// A file's bytes written again, so many bytes at a time.
+// Writes a file's bytes again, this many bytes at a time.
 fn again(alloc: Global, bytes: &[u8], block: usize) -> Result<Vec<u8>, AllocError> {
     let mut report = Report::new(alloc);
     let mut writer = MemSink::new(alloc, ROOM, block.max(1))?;
@@ -129,13 +129,13 @@ fn files_are_frozen_again(rt: HostRuntime) {
     }
 }
 
-// A file with one directive of each letter, and the canonical lines of what it holds.
+// A file with one directive of each letter, and its canonical lines.
 const EACH_LETTER: &[u8] =
     b"# c\n\nV1\nQ1,1\n[]\nC0,0\n\nT2 , 03\na\n# b\nF3,3\ndnldnl\nD1,2\nzz\nD0,2\nhi\n# e";
 
 const EACH_CANONICAL: &[u8] = b"Q1,1\n[]\nC0,0\n\nT2,3\na\n# b\nF3,3\ndnldnl\nD1,2\nzz\nD0,0\n\n";
 
-// A file behind a comment that ends so many bytes before the first block does.
+// Writes a file again after a comment that ends this many bytes before the first block does.
 fn again_later(alloc: Global, cut: usize) -> Result<Vec<u8>, AllocError> {
     let file = after_a_comment(alloc, BLOCK.saturating_sub(cut), EACH_LETTER)?;
     again(alloc, &file, 4096)
@@ -155,7 +155,7 @@ const FAILING: &[u8] = b"V1\nQ1,1\n[]\nC0,0\n\nT2,3\na\n# b\nF3,3\ndnldnl\nD2,2\
 const FAILING_CANONICAL: &[u8] =
     b"# m4 frozen state\nV1\nQ1,1\n[]\nC0,0\n\nT2,3\na\n# b\nF3,3\ndnldnl\nD2,2\nzz\nD-1,0\n\n# End of frozen state file\n";
 
-// What comes of writing a file's state twice into a writer that fails behind so many bytes.
+// Reports writing a file's state twice to a writer that fails after this many bytes.
 fn cut_short(alloc: Global, room: usize, block: usize) -> Result<Vec<u8>, AllocError> {
     let mut report = Report::new(alloc);
     let mut writer = MemSink::new(alloc, room, block.max(1))?;
@@ -169,7 +169,7 @@ fn cut_short(alloc: Global, room: usize, block: usize) -> Result<Vec<u8>, AllocE
     report.text()
 }
 
-// What is told of that: twice the same beginning, and a fault.
+// Returns the expected report: twice the same prefix and a fault.
 fn begun_twice(alloc: Global, beginning: &[u8]) -> Result<Vec<u8>, AllocError> {
     let fault = b"; write fault\n";
     joined(alloc, &[beginning, fault, beginning, fault])
@@ -186,7 +186,7 @@ fn a_writer_fails_after_each_byte(rt: HostRuntime) {
     }
 }
 
-// A definition whose text has 1,000,000 bytes.
+// Returns a definition whose text has 1,000,000 bytes.
 fn long_definition(alloc: Global) -> Result<Vec<u8>, AllocError> {
     let mut definition = Vec::from_slice(alloc, b"T1,1000000\na")?;
     definition.resize(1_000_012, b'x')?;
@@ -194,7 +194,7 @@ fn long_definition(alloc: Global) -> Result<Vec<u8>, AllocError> {
     Ok(definition)
 }
 
-// A file written again with ample room for it.
+// Writes a file again with enough room for it.
 fn long_again(alloc: Global, file: &[u8]) -> Result<Vec<u8>, AllocError> {
     let mut report = Report::new(alloc);
     let mut writer = MemSink::new(alloc, file.len(), 4096)?;

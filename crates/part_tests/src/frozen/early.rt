@@ -1,4 +1,4 @@
-//! Files that are refused early: with lengths that no memory has, and before the reader's end.
+//! Files that are refused early: with lengths larger than any memory, and before the reader's end.
 
 use super::{BLOCK, BLOCKS, after_a_comment, read, tell};
 use crate::report::Report;
@@ -7,7 +7,7 @@ use m4_frozen::reading::read_frozen;
 use m4_state::memory::MemSource;
 use std::alloc::{AllocError, Global};
 
-// A row's name, a file that states a length of 2^64 - 1, and its fault: the file's end.
+// A row's name, a file that states a length of 2^64 - 1, and its fault: the file ends too early.
 static LENGTHS: [(&str, &[u8], &[u8]); 9] = [
     (
         "a text's name",
@@ -56,7 +56,7 @@ static LENGTHS: [(&str, &[u8], &[u8]); 9] = [
     ),
 ];
 
-// How reading ends.
+// Reports how reading ends.
 fn refused(alloc: Global, bytes: &[u8], block: usize) -> Result<Vec<u8>, AllocError> {
     let mut report = Report::new(alloc);
     match read(alloc, bytes, block, false) {
@@ -75,8 +75,8 @@ fn lengths_that_no_memory_has(rt: HostRuntime) {
     }
 }
 
-// A row's name, how long a comment stands in front of `V1` and a wrong letter, and how a file of three
-// blocks that begins so ends.
+// A row's name, the length of a comment before `V1` and a wrong letter, and the result for a file of
+// three blocks that begins so.
 static BLOCKED: [(&str, usize, &[u8]); 2] = [
     (
         "a fault at the front of the first block",
@@ -90,14 +90,14 @@ static BLOCKED: [(&str, usize, &[u8]); 2] = [
     ),
 ];
 
-// A file of three blocks with a wrong letter in the first one.
+// Returns a file of three blocks with a wrong letter in the first one.
 fn three_blocks(alloc: Global, before: usize) -> Result<Vec<u8>, AllocError> {
     let mut file = after_a_comment(alloc, before, b"V1\nX\n")?;
     file.resize(3 * BLOCK, b'#')?;
     Ok(file)
 }
 
-// How reading such a file ends, and whether more than the first block was asked of the reader.
+// Reports how reading such a file ends, and whether more than the first block was read.
 fn refused_early(alloc: Global, before: usize) -> Result<Vec<u8>, AllocError> {
     let mut report = Report::new(alloc);
     let file = three_blocks(alloc, before)?;

@@ -9,7 +9,7 @@ use m4_state::memory::MemSource;
 use std::alloc::{AllocError, Global};
 use std::process::Abort;
 
-// A row's name, what came, whether the reader failed behind it, and the fault with its offset.
+// A row's name, the bytes read, whether the reader failed after them, and the fault with its offset.
 type Row = (&'static str, &'static [u8], bool, FrozenKind, usize);
 
 static ROWS: [Row; 29] = [
@@ -188,7 +188,7 @@ static ROWS: [Row; 29] = [
     ),
 ];
 
-// A fault as text.
+// Returns a fault as text.
 fn told(alloc: Global, kind: FrozenKind, offset: usize) -> Result<Vec<u8>, AllocError> {
     let mut report = Report::new(alloc);
     let offset = offset as u64;
@@ -196,7 +196,7 @@ fn told(alloc: Global, kind: FrozenKind, offset: usize) -> Result<Vec<u8>, Alloc
     report.text()
 }
 
-// How reading ends.
+// Reports how reading ends.
 fn refused(alloc: Global, bytes: &[u8], block: usize, fails: bool) -> Result<Vec<u8>, AllocError> {
     let mut report = Report::new(alloc);
     match read(alloc, bytes, block, fails) {
@@ -216,7 +216,7 @@ fn faults_are_placed(rt: HostRuntime) {
     }
 }
 
-// How reading ends of a row's bytes, where the first block ends so many bytes behind their start.
+// Reports how reading a row's bytes ends if the first block ends this many bytes after their start.
 fn refused_later(
     alloc: Global,
     bytes: &[u8],
@@ -227,7 +227,7 @@ fn refused_later(
     refused(alloc, &file, 4096, fails)
 }
 
-// Compares how reading ends where the first block ends at each byte of these.
+// Compares how reading ends if the first block ends at each of these bytes.
 fn compare_later(
     alloc: Global,
     rt: &impl Abort,
@@ -250,10 +250,10 @@ fn faults_are_placed_in_later_blocks(rt: HostRuntime) {
     }
 }
 
-// Three lines of the version and of directives, and a comment: 3, 8, 9 and 4 bytes.
+// The line of the version, two directives and a comment: 3, 8, 9 and 4 bytes.
 const CUT: &[u8] = b"V1\nT1,1\nab\nD2,3\nx\ny\n# e\n";
 
-// What is told of a beginning of `CUT` of so many bytes.
+// Returns the expected report for a prefix of `CUT`.
 fn beginning(alloc: Global, len: usize) -> Result<Vec<u8>, AllocError> {
     match len {
         0 => told(alloc, FrozenKind::NoVersion, 0),
@@ -272,7 +272,7 @@ fn a_file_is_cut_at_each_byte(rt: HostRuntime) {
     }
 }
 
-// How reading ends of a reader that fails, twice, and how many bytes it gave.
+// Reports how a reader that fails ends, twice, and how many bytes it returned.
 fn failed_twice(alloc: Global, bytes: &[u8], block: usize) -> Result<Vec<u8>, AllocError> {
     let mut report = Report::new(alloc);
     let mut reader = MemSource::new(bytes, block.max(1), true);
@@ -287,7 +287,7 @@ fn failed_twice(alloc: Global, bytes: &[u8], block: usize) -> Result<Vec<u8>, Al
     report.text()
 }
 
-// What is told of a reader that fails behind so many bytes: it fails there, and then at once.
+// Returns the expected report for a reader that fails after this many bytes: first there, then at once.
 fn failed_after(alloc: Global, len: usize) -> Result<Vec<u8>, AllocError> {
     let mut report = Report::new(alloc);
     report.counted(b"F10 Read at ", len);
@@ -327,7 +327,7 @@ static TEXTS: [(FrozenKind, &str); 11] = [
     (FrozenKind::OutOfMemory, "F11 OutOfMemory"),
 ];
 
-// The same of texts that are not written whole.
+// The same for texts that were not written completely.
 static WRITE_TEXTS: [(WriteFault, &str); 2] = [
     (WriteFault::Write, "G1 Write"),
     (WriteFault::OutOfMemory, "G2 OutOfMemory"),

@@ -1,4 +1,4 @@
-//! The inspector's lines, by writers that take a few bytes at a time or fail amid a line.
+//! The inspector's lines, with writers of a few bytes at a time, or that fail inside a line.
 
 use super::{BLOCKS, read, tell, tell_written};
 use crate::report::{Report, joined};
@@ -32,13 +32,13 @@ static ROWS: [(&str, &[u8], &[u8]); 4] = [
     ),
 ];
 
-// Adds what a writer takes of the lines.
+// Adds the bytes of the lines that a writer receives.
 fn write(loaded: &Loaded, writer: &mut MemSink, report: &mut Report) {
     let answer = list(loaded, writer);
     tell_written(answer, writer, report);
 }
 
-// The lines of a file, put into a writer with so much room, so many bytes at a time.
+// Returns the lines of a file, written this many bytes at a time to a writer with this much room.
 fn listed(alloc: Global, bytes: &[u8], room: usize, block: usize) -> Result<Vec<u8>, AllocError> {
     let mut report = Report::new(alloc);
     let mut writer = MemSink::new(alloc, room, block.max(1))?;

@@ -1,4 +1,4 @@
-//! States in their canonical text, and a state as it is loaded.
+//! States and their canonical text, and the state of a loaded file.
 
 use super::{HEAD, LAST, ROOM, read, tell, tell_written};
 use crate::report::{Report, joined};
@@ -12,19 +12,19 @@ use m4_state::memory::MemSink;
 use m4_state::state::State;
 use std::alloc::{AllocError, Global};
 
-// What is done to a state.
+// A change of a state.
 #[derive(Clone, Copy)]
 enum Step {
     // Defines a name as a text.
     Define(&'static [u8], &'static [u8]),
-    // Takes a name's definitions away.
+    // Removes a name's definitions.
     Undefine(&'static [u8]),
     // Diverts to a number, and adds a text there.
     Divert(i32, &'static [u8]),
 }
 
-// A row's name, what is done to an empty state, and what of its canonical text stands between the
-// first two lines and the last one.
+// A row's name, the steps from an empty state, and the canonical text without its first two lines and
+// its last one.
 static ROWS: [(&str, &[Step], &[u8]); 2] = [
     (
         "a text and a diversion that is not the current one",
@@ -48,7 +48,7 @@ static ROWS: [(&str, &[Step], &[u8]); 2] = [
     ),
 ];
 
-// Does a step.
+// Performs a step.
 fn do_step(alloc: Global, state: &mut State, step: Step) -> Result<(), StateFault> {
     match step {
         Step::Define(name, text) => {
@@ -67,7 +67,7 @@ fn do_step(alloc: Global, state: &mut State, step: Step) -> Result<(), StateFaul
     }
 }
 
-// The canonical text of a row's state.
+// Returns the canonical text of a row's state.
 fn frozen(alloc: Global, steps: &[Step]) -> Result<Vec<u8>, AllocError> {
     let mut report = Report::new(alloc);
     let mut state = State::empty(alloc).map_err(|_refused| AllocError)?;
@@ -90,7 +90,7 @@ fn states_are_frozen(rt: HostRuntime) {
     }
 }
 
-// Adds the quotes, how many definitions `a` has, the current diversion and the issued text.
+// Adds the quotes, the number of definitions of `a`, the current diversion and the issued text.
 fn tell_loaded(loaded: &Loaded, report: &mut Report) {
     let (begin, end) = loaded.state.quotes();
     report.add(begin);
@@ -102,7 +102,7 @@ fn tell_loaded(loaded: &Loaded, report: &mut Report) {
     report.add(loaded.issued.as_slice());
 }
 
-// What is loaded of a file.
+// Reports what is loaded from a file.
 fn loaded(alloc: Global, file: &[u8]) -> Result<Vec<u8>, AllocError> {
     let mut report = Report::new(alloc);
     match read(alloc, file, 4096, false) {

@@ -1,5 +1,5 @@
-//! What calls do to an input besides taking tokens: whether a list follows, the rest of a line, text
-//! and definitions that are put in front, lines and faults.
+//! The calls on an input besides reading tokens: whether a list follows, the rest of a line, text and
+//! definitions that are pushed back, lines and faults.
 
 ghost use Rattle.std.specs.Prelude.{◌≡◌, None, IfOk};
 
@@ -21,13 +21,13 @@ enum Call {
     Next,
     SeesParen,
     SkipLine,
-    // Reports the line, the file's name, or how many bytes the reader gave.
+    // Reports the line, the file's name, or how many bytes the reader returned.
     Line,
     Name,
     Taken,
 }
 
-// A file a.m4 with what was put in front of it, calls, and their answers.
+// A file a.m4 with texts and a definition before it, calls, and their results.
 #[derive(Drop)]
 struct Row {
     name: &'static str,
@@ -40,7 +40,7 @@ struct Row {
     want: &'static [u8],
 }
 
-// A row with the usual delimiters and nothing in front.
+// A row with the usual delimiters and nothing before the file.
 const PLAIN: Row = Row {
     name: "",
     delims: USUAL,
@@ -185,7 +185,7 @@ const STARRED: Delims<'static> = Delims {
     comments: (b"(*", b"*)"),
 };
 
-// A file a.m4 with texts in front, the last one first.
+// Returns a file a.m4 with texts before it, the last one first.
 fn with_texts(alloc: Global, name: Bytes, texts: &[&[u8]]) -> Result<Input, InputFault>
     ensures { IfOk result (λ i. i.pending.definition ≡ None) }
 {
@@ -196,7 +196,7 @@ fn with_texts(alloc: Global, name: Bytes, texts: &[&[u8]]) -> Result<Input, Inpu
     Ok(input)
 }
 
-// The same with a definition in front of them, if there is one.
+// Does the same with a definition before the texts, if there is one.
 fn input_of(alloc: Global, name: Bytes, row: &Row) -> Result<Input, InputFault> {
     let mut input = with_texts(alloc, name, row.texts)?;
     if let Some(given) = row.definition {
@@ -208,7 +208,7 @@ fn input_of(alloc: Global, name: Bytes, row: &Row) -> Result<Input, InputFault> 
     Ok(input)
 }
 
-// Makes a call, and adds its answer.
+// Makes a call, and adds its result.
 fn answer(
     input: &mut Input,
     reader: &mut MemSource<'_>,
@@ -246,7 +246,7 @@ fn tell_line(line: u64, report: &mut Report) {
     report.add(b"\n");
 }
 
-// The answers of a row's calls.
+// Returns the results of a row's calls.
 fn answers(alloc: Global, row: &Row, block: usize) -> Result<Vec<u8>, AllocError> {
     let mut report = Report::new(alloc);
     let mut reader = MemSource::new(row.file, block.max(1), row.fails);

@@ -1,4 +1,4 @@
-//! The delimiters of a state that has chosen its own.
+//! The delimiters of a state that has set its own.
 
 use crate::report::joined;
 use crate::shows::shows;
@@ -8,7 +8,7 @@ use m4_state::fault::StateFault;
 use m4_state::state::State;
 use std::alloc::{AllocError, Global};
 
-// A state with square brackets for quotes.
+// Returns a state with square brackets as quotes.
 fn bracketed(alloc: Global) -> Result<State, StateFault> {
     let mut state = State::empty(alloc)?;
     let begin = Bytes::from_slice(alloc, b"[")?;
@@ -17,7 +17,7 @@ fn bracketed(alloc: Global) -> Result<State, StateFault> {
     Ok(state)
 }
 
-// The delimiters of that state.
+// Returns the delimiters of that state.
 fn delims_of(alloc: Global) -> Result<Vec<u8>, AllocError> {
     let state = bracketed(alloc).map_err(|_refused| AllocError)?;
     let delims = Delims::of(&state);

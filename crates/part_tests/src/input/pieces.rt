@@ -1,5 +1,5 @@
-//! What is pending, where it lies in one piece: a file that was read whole, less what was taken away,
-//! with text that is put in front.
+//! The pending input as one slice: a file that was read completely, without the bytes that were removed,
+//! and with text that is pushed back.
 
 ghost use Rattle.std.specs.Prelude.{◌≡◌, None, IfOk, false};
 
@@ -12,8 +12,8 @@ use m4_state::bytes::Bytes;
 use m4_state::memory::MemSource;
 use std::alloc::{AllocError, Global};
 
-// A row's name, a file, how many bytes are taken away, what is put in front then, and what is to be
-// seen: the piece and the line at first and behind each text, and the first token at last.
+// A row's name, a file, how many bytes are removed, the texts that are then pushed back, and the
+// report: the slice and the line at first and after each text, and the first token at the end.
 type Row = (
     &'static str,
     &'static [u8],
@@ -30,7 +30,7 @@ static ROWS: [Row; 1] = [(
     b"[ab\nc] 1\n[x\nc] 2\nnone 2\nname longer\n",
 )];
 
-// A file with this text, read whole.
+// Returns a file with this text, read completely.
 fn whole(alloc: Global, name: Bytes, text: &[u8]) -> Result<Input, InputFault>
     ensures { IfOk result (λ i. i.pending.may_follow ≡ false) }
 {
@@ -39,7 +39,7 @@ fn whole(alloc: Global, name: Bytes, text: &[u8]) -> Result<Input, InputFault>
     Ok(input)
 }
 
-// Takes so many bytes away, or all where there are fewer.
+// Removes this many bytes, or all if there are fewer.
 fn take_front(input: &mut Input, n: usize)
     requires { input.old.pending.may_follow ≡ false }
     ensures { input.new.pending.definition ≡ None }
@@ -51,7 +51,7 @@ fn take_front(input: &mut Input, n: usize)
     input.consume(len);
 }
 
-// Adds the piece and the line.
+// Adds the slice and the line.
 fn tell_piece(input: &Input, report: &mut Report) {
     match input.piece() {
         Some(text) => {
@@ -65,7 +65,7 @@ fn tell_piece(input: &Input, report: &mut Report) {
     report.add(b"\n");
 }
 
-// Puts texts in front, one after the other, and adds what is then to be seen.
+// Pushes texts back, one after another, and adds the slice and the line each time.
 fn push_all(
     alloc: Global,
     input: &mut Input,
@@ -81,7 +81,7 @@ fn push_all(
     Ok(())
 }
 
-// What is to be seen of a row, as far as no call fails.
+// Adds the report on a row, up to a call that fails.
 fn see(alloc: Global, name: Bytes, row: &Row, report: &mut Report) -> Result<(), InputFault> {
     let mut input = whole(alloc, name, row.1)?;
     tell_piece(&input, report);
@@ -94,7 +94,7 @@ fn see(alloc: Global, name: Bytes, row: &Row, report: &mut Report) -> Result<(),
     Ok(())
 }
 
-// What is to be seen of a row.
+// Reports a row.
 fn pieces(alloc: Global, row: &Row) -> Result<Vec<u8>, AllocError> {
     let mut report = Report::new(alloc);
     let name = Bytes::from_slice(alloc, b"a.m4")?;

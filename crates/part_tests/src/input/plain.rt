@@ -1,5 +1,5 @@
-//! How much of a text stands for itself and what stands behind it, and which first token is text in an
-//! argument list, where `f` is defined as `x`.
+//! The plain bytes at the start of a text and the call after them; and the first token in an argument
+//! list, if that is text. `f` is defined as `x`.
 //! Manual: "How m4 copies input to output", "Macro arguments".
 
 use crate::given::told;
@@ -12,8 +12,8 @@ use m4_state::fault::StateFault;
 use m4_state::state::State;
 use std::alloc::{AllocError, Global};
 
-// A row's name, a text, how far is looked, how many of its bytes stand for themselves, and the call
-// behind them, where there is one: the name's length, whether a list follows, and the definition.
+// A row's name, a text, how far to look, how many of its bytes are plain, and the call after them, if
+// there is one: the name's length, whether a list follows, and the definition.
 type Row = (&'static str, &'static [u8], usize, &'static [u8]);
 
 static ROWS: [Row; 14] = [
@@ -58,7 +58,7 @@ static ROWS: [Row; 14] = [
     ),
 ];
 
-// A fresh state where `f` is defined.
+// Returns a fresh state in which `f` is defined.
 fn with_f(alloc: Global) -> Result<State, StateFault> {
     let mut state = State::fresh(alloc, false)?;
     let name = Bytes::from_slice(alloc, b"f")?;
@@ -66,7 +66,7 @@ fn with_f(alloc: Global) -> Result<State, StateFault> {
     Ok(state)
 }
 
-// Adds the call that a token is.
+// Adds the call of a token.
 fn tell_call(first: &First<'_>, report: &mut Report) {
     if let First::Called(len, with_list, definition) = first {
         report.counted(b", ", *len);
@@ -81,7 +81,7 @@ fn tell_call(first: &First<'_>, report: &mut Report) {
     }
 }
 
-// How many bytes of a text stand for themselves, and the call behind them.
+// Reports how many bytes of a text are plain, and the call after them.
 fn run_of(alloc: Global, text: &[u8], most: usize) -> Result<Vec<u8>, AllocError> {
     let mut report = Report::new(alloc);
     let state = with_f(alloc).map_err(|_refused| AllocError)?;
@@ -98,8 +98,8 @@ fn tokens_that_stand_for_themselves(rt: HostRuntime) {
     }
 }
 
-// A row's name, a text within a list, and its first token: the byte that it is, or its text and how
-// many bytes the token has, where it is text wherever it stands in the list.
+// A row's name, a text in a list, and its first token: its byte, or its text and how many bytes the
+// token has if it is text anywhere in the list.
 static TOKENS: [(&str, &[u8], &[u8]); 22] = [
     ("a string", b"`a b'c", b"text a b of 5"),
     ("a string within a string", b"``a'' ", b"text `a' of 5"),
@@ -125,7 +125,7 @@ static TOKENS: [(&str, &[u8], &[u8]); 22] = [
     ("the greatest byte", b"\xff", b"byte \xff, text \xff of 1"),
 ];
 
-// The first token of a text within a list.
+// Reports the first token of a text in a list.
 fn first_of(alloc: Global, text: &[u8]) -> Result<Vec<u8>, AllocError> {
     let mut report = Report::new(alloc);
     let state = with_f(alloc).map_err(|_refused| AllocError)?;

@@ -1,4 +1,4 @@
-//! Texts and their tokens, by however many bytes the reader gives.
+//! Texts and their tokens, for different numbers of bytes that the reader returns at a time.
 
 use super::{BLOCKS, NONE, USUAL, tell, tell_fault};
 use crate::report::Report;
@@ -54,7 +54,7 @@ static ROWS: [Row; 11] = [
         b"`a'#",
         b"byte `\nname a\nbyte '\nbyte #\nend",
     ),
-    // an end-quote that is empty stands at each byte
+    // an end-quote that is empty is found at every byte
     (
         "an end-quote that is empty",
         Delims {
@@ -90,7 +90,7 @@ static ROWS: [Row; 11] = [
 // More tokens than any row has.
 const MOST: usize = 20;
 
-// The tokens of a text.
+// Reports the tokens of a text.
 fn tokens_of(
     alloc: Global,
     text: &[u8],

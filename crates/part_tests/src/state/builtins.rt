@@ -8,7 +8,7 @@ use m4_state::fault::StateFault;
 use std::alloc::{AllocError, Global};
 
 // A name, and the builtin of that name: whether it is recognised only with parameters, whether it
-// takes definitions as such, and how many arguments it has at least and at most.
+// accepts definitions as arguments, and the least and the greatest number of arguments.
 static ROWS: [(&str, &[u8]); 30] = [
     ("define", b"define: parameters, definitions, 1 to 2"),
     ("undefine", b"undefine: parameters, 1 or more"),
@@ -42,7 +42,7 @@ static ROWS: [(&str, &[u8]); 30] = [
     ("format", b"none"),
 ];
 
-// What is to be seen of the builtin of a name.
+// Reports the builtin of a name.
 fn report_of(alloc: Global, name: &[u8]) -> Result<Vec<u8>, AllocError> {
     let mut report = Report::new(alloc);
     match Builtin::by_name(name) {
@@ -85,7 +85,7 @@ fn a_fault_has_a_text(rt: HostRuntime) {
     shows(&rt, "out of memory", b"S1 OutOfMemory", got);
 }
 
-// A copy of a byte string.
+// Copies a byte string.
 fn copy_of(alloc: Global, bytes: &[u8]) -> Result<Vec<u8>, AllocError> {
     let copy = Bytes::from_slice(alloc, bytes)?.share()?;
     joined(alloc, &[copy.as_slice()])

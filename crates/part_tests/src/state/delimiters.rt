@@ -1,6 +1,6 @@
-//! Quotes and comment delimiters by the two strings that are given for them: an empty begin disables
-//! them, and an empty end is the usual one. Manual: "Changing the quote characters", "Changing the
-//! comment delimiters".
+//! Quotes and comment delimiters, set by two strings: an empty begin disables them; if only the end is
+//! empty, it is the usual one. Manual: "Changing the quote characters", "Changing the comment
+//! delimiters".
 
 use crate::report::Report;
 use crate::shows::shows;
@@ -9,7 +9,7 @@ use m4_state::fault::StateFault;
 use m4_state::state::State;
 use std::alloc::{AllocError, Global};
 
-// A row's name, the two strings that are given for both pairs one after the other, and both pairs.
+// A row's name, the pairs of strings that set both pairs, in order, and both pairs.
 type Row = (
     &'static str,
     &'static [(&'static [u8], &'static [u8])],
@@ -45,7 +45,7 @@ static ROWS: [Row; 6] = [
     ),
 ];
 
-// A pair of strings.
+// Returns a pair of strings.
 fn pair(alloc: Global, begin: &[u8], end: &[u8]) -> Result<(Bytes, Bytes), AllocError> {
     Ok((
         Bytes::from_slice(alloc, begin)?,
@@ -53,7 +53,7 @@ fn pair(alloc: Global, begin: &[u8], end: &[u8]) -> Result<(Bytes, Bytes), Alloc
     ))
 }
 
-// Sets the quotes and the comments alike.
+// Sets the quotes and the comments to the same strings.
 fn set(alloc: Global, state: &mut State, begin: &[u8], end: &[u8]) -> Result<(), StateFault> {
     let (quote, unquote) = pair(alloc, begin, end)?;
     state.set_quotes(quote, unquote)?;
@@ -70,7 +70,7 @@ fn tell(name: &[u8], pair: (&[u8], &[u8]), report: &mut Report) {
     report.add(pair.1);
 }
 
-// What is to be seen of a row.
+// Reports a row.
 fn report_of(alloc: Global, pairs: &[(&[u8], &[u8])]) -> Result<Vec<u8>, AllocError> {
     let mut report = Report::new(alloc);
     let mut state = State::empty(alloc).map_err(|_refused| AllocError)?;

@@ -1,12 +1,12 @@
-//! Diversions: a positive number holds text, 0 and a negative one hold none. Manual: "Diverting
-//! output", "Undiverting output".
+//! Diversions: those with a positive number store text; 0 and negative numbers store none. Manual:
+//! "Diverting output", "Undiverting output".
 
 use crate::report::Report;
 use crate::shows::shows;
 use m4_state::state::State;
 use std::alloc::{AllocError, Global};
 
-// What is done to a state, or asked of it.
+// A change of a state, or a question about it.
 #[derive(Clone, Copy)]
 enum Step {
     // Diverts to a number, and adds a text there.
@@ -15,15 +15,15 @@ enum Step {
     Current,
     // Reports the text of a number.
     Text(i32),
-    // Reports the least number above this one that holds text.
+    // Reports the least number above this one that has a text.
     Above(i32),
-    // Takes the diversion of the least number out, and reports it.
+    // Removes the diversion of the least number, and reports it.
     TakeLeast,
-    // Brings a diversion back, and reports what is handed out.
+    // Undiverts a diversion, and reports the text that is returned.
     Undivert(i32),
 }
 
-// A row's name, what is done to an empty state, and the answers, a line for each.
+// A row's name, the steps from an empty state, and the results, a line for each.
 static ROWS: [(&str, &[Step], &[u8]); 4] = [
     (
         "an empty state",
@@ -154,7 +154,7 @@ fn tell(number: Option<i32>, report: &mut Report) {
     }
 }
 
-// Takes the least diversion out, and adds it.
+// Removes the least diversion, and adds it.
 fn take_least(state: &mut State, report: &mut Report) {
     match state.take_least() {
         Some((number, text)) => {
@@ -166,7 +166,7 @@ fn take_least(state: &mut State, report: &mut Report) {
     }
 }
 
-// Brings a diversion back, and adds what is handed out.
+// Undiverts a diversion, and adds the text that is returned.
 fn undivert(state: &mut State, number: i32, report: &mut Report) {
     match state.undivert(number) {
         Ok(Some(text)) => report.add(&text),
@@ -183,7 +183,7 @@ fn divert(state: &mut State, number: i32, text: &[u8], report: &mut Report) {
     }
 }
 
-// Does a step.
+// Performs a step.
 fn do_step(state: &mut State, step: Step, report: &mut Report) {
     match step {
         Step::Divert(number, text) => return divert(state, number, text, report),
@@ -196,7 +196,7 @@ fn do_step(state: &mut State, step: Step, report: &mut Report) {
     report.add(b"\n");
 }
 
-// What is to be seen of a row.
+// Reports a row.
 fn report_of(alloc: Global, steps: &[Step]) -> Result<Vec<u8>, AllocError> {
     let mut report = Report::new(alloc);
     let mut state = State::empty(alloc).map_err(|_refused| AllocError)?;

@@ -1,4 +1,4 @@
-//! Names and their definitions: what is done to a state, and what it then has under each name.
+//! Names and their definitions: changes of a state, and what it then has under each name.
 //! Manual: "Defining a macro", "Deleting a macro", "Temporarily redefining macros".
 
 use crate::given::{Given, made, told};
@@ -10,19 +10,19 @@ use m4_state::fault::StateFault;
 use m4_state::state::State;
 use std::alloc::{AllocError, Global};
 
-// What is done to a state.
+// A change of a state.
 #[derive(Clone, Copy)]
 enum Step {
     Push(&'static [u8], Given),
     Define(&'static [u8], Given),
     Pop(&'static [u8]),
     Undefine(&'static [u8]),
-    // Reports what is under a name.
+    // Reports the definitions of a name.
     Look(&'static [u8]),
 }
 
-// A row's name, whether the state is a fresh one or empty, what is done to it, and a report: for
-// each name its definitions from the oldest on, and the length of the newest.
+// A row's name, whether the state is a fresh one or empty, the steps, and a report: for each name its
+// definitions, the oldest first, and the length of the newest.
 type Row = (&'static str, bool, &'static [Step], &'static [u8]);
 
 static ROWS: [Row; 7] = [
@@ -153,7 +153,7 @@ fn tell(definition: Result<Def, AllocError>, report: &mut Report) {
     }
 }
 
-// Adds what is under a name: a copy of each definition, and the newest one's length.
+// Adds the definitions of a name: a copy of each, and the newest one's length.
 fn look(state: &State, name: &[u8], report: &mut Report) {
     report.add(name);
     for definition in state.stack(name) {
@@ -184,7 +184,7 @@ fn define(
     }
 }
 
-// Does a step.
+// Performs a step.
 fn do_step(alloc: Global, state: &mut State, step: Step, report: &mut Report) {
     let done = match step {
         Step::Push(name, given) => define(alloc, state, true, name, given),
@@ -207,7 +207,7 @@ fn do_step(alloc: Global, state: &mut State, step: Step, report: &mut Report) {
     }
 }
 
-// Adds what is under each name.
+// Adds the definitions of each name.
 fn look_at_all(state: &State, report: &mut Report) {
     match state.names() {
         Ok(names) => {
@@ -219,7 +219,7 @@ fn look_at_all(state: &State, report: &mut Report) {
     }
 }
 
-// A state to begin with.
+// Returns a state to start with.
 fn start(alloc: Global, fresh: bool) -> Result<State, StateFault> {
     if fresh {
         State::fresh(alloc, false)
@@ -228,7 +228,7 @@ fn start(alloc: Global, fresh: bool) -> Result<State, StateFault> {
     }
 }
 
-// What is to be seen of a row.
+// Reports a row.
 fn report_of(alloc: Global, fresh: bool, steps: &[Step]) -> Result<Vec<u8>, AllocError> {
     let mut report = Report::new(alloc);
     match start(alloc, fresh) {

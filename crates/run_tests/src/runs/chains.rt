@@ -17,11 +17,11 @@ const RESTORES: &str = "divert(0)n popdef(`n')dnl\n";
 
 const ISSUES: &str = "n undivert(1)end\n";
 
-/// How the frozen text of the second of four runs ends.
+/// The end of the frozen text of the second of four runs.
 const DIVERTED: &[u8] = b"D1,2\n2\n\n# End of frozen state file\n";
 
-/// A way to take the sources in runs: the sources of each run, and the outputs of the runs with bars between
-/// them.
+/// A way to divide the sources into runs: the sources of each run, and the outputs of the runs with bars
+/// between them.
 struct Grouping {
     name: &'static str,
     runs: &'static [&'static [&'static str]],
@@ -71,7 +71,7 @@ static GROUPINGS: [Grouping; 8] = [
     },
 ];
 
-/// A run over these sources, from what the run before it froze.
+/// Runs over these sources, from the frozen text of the run before it.
 fn next_run(
     rt: &(impl Abort + Alloc<A = Global>),
     options: Options,
@@ -90,7 +90,7 @@ fn next_run(
     Ok(run_over(rt, options, &mut frozen, &mut sources, ROOM, AT_MOST))
 }
 
-/// The outputs of the runs of a chain, with bars between them: each run but the last freezes.
+/// Returns the outputs of the runs of a chain, with bars between them: each run but the last freezes.
 fn outputs_of(
     rt: &(impl Abort + Alloc<A = Global>),
     runs: &[&[&str]],
@@ -120,7 +120,7 @@ fn chains_are_one_run(rt: HostRuntime) {
     }
 }
 
-/// The end of what the second of two runs froze, or all of it where it ends otherwise.
+/// Returns the end of the second run's frozen text, or all of it if it ends otherwise.
 fn end_of_second(rt: &(impl Abort + Alloc<A = Global>)) -> Result<Vec<u8>, AllocError> {
     let first = next_run(rt, freezing(USUAL), &None, &[DEFINES], AT_MOST)?;
     let second = next_run(rt, freezing(USUAL), &Some(first), &[DIVERTS], AT_MOST)?;

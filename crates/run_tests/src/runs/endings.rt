@@ -1,4 +1,4 @@
-//! Files that warn, or that end before what they began: output, messages and the cause.
+//! Files that warn, or that end inside something unfinished: output, messages and the cause.
 
 use super::given::{BLOCKS, USUAL, ended, seen_of_file};
 use super::report::printed_run;

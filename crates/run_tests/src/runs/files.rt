@@ -1,5 +1,5 @@
-//! Files that are read to their end without a message, and how many calls they make: with one call
-//! less the run ends early.
+//! Files that are read to their end without a message, and how many calls they make: if one call less is
+//! allowed, the run ends early.
 
 use super::given::{BLOCKS, ROOM, ended, run_file, seen_of_file};
 use super::report::{printed, printed_run};
@@ -52,7 +52,7 @@ static TOKENS: [Row; 7] = [
     ),
 ];
 
-// Calls: their arguments, and what they put in their place.
+// Calls: their arguments, and their expansions.
 static CALLS: [Row; 10] = [
     (
         "blanks in front of an argument are dropped",
@@ -170,7 +170,7 @@ static BUILTINS: [Row; 10] = [
     ),
 ];
 
-// Compares what is to be seen of a row within its calls.
+// Compares the report on a row, run with its number of calls.
 fn compare_whole(rt: &(impl Abort + Alloc<A = Global>), row: &Row) {
     let &(name, file, output, calls) = row;
     for block in BLOCKS {
@@ -179,7 +179,7 @@ fn compare_whole(rt: &(impl Abort + Alloc<A = Global>), row: &Row) {
     }
 }
 
-// Compares how a row ends within so many calls, which are too few.
+// Compares how a row ends with this limit of calls, which is too low.
 fn compare_cut(rt: &(impl Abort + Alloc<A = Global>), name: &str, file: &str, calls: u64) {
     let seen = run_file(rt, file.as_bytes(), 4096, (calls, 1024), ROOM.0);
     let want = printed(rt.alloc(), ended(1, Cause::ExpansionLimit));

@@ -12,7 +12,7 @@ use m4_state::memory::MemSource;
 use std::alloc::{AllocError, Global};
 use std::process::Abort;
 
-/// A frozen file and a file, and what a run that freezes makes of them.
+/// A frozen file and a file, and the results of a run that freezes.
 struct Loaded {
     name: &'static str,
     frozen: &'static str,
@@ -105,7 +105,7 @@ static LOADED: [Loaded; 10] = [
     },
 ];
 
-/// A frozen file, whether its reader fails after it, and the status and the fault by which the run ends.
+/// A frozen file, whether its reader fails after it, and the status and the fault of the run.
 struct Refused {
     name: &'static str,
     frozen: &'static str,
@@ -166,7 +166,7 @@ static REFUSED: [Refused; 6] = [
     },
 ];
 
-/// What is to be seen of a run, and the frozen text.
+/// Returns the report on a run, and the frozen text.
 fn printed(
     alloc: Global,
     output: &[u8],
@@ -181,7 +181,7 @@ fn printed(
     report.text()
 }
 
-/// A run from a frozen file over a file, where readers give so many bytes at a time.
+/// Runs over a file from a frozen file, with readers that return this many bytes at a time.
 fn run_from(
     rt: &(impl Abort + Alloc<A = Global>),
     options: Options,
@@ -194,7 +194,7 @@ fn run_from(
     run_over(rt, options, &mut frozen, &mut sources, ROOM, AT_MOST)
 }
 
-/// What is to be seen of such a run that freezes.
+/// Reports such a run that freezes.
 fn seen_from(
     rt: &(impl Abort + Alloc<A = Global>),
     frozen: &str,
@@ -213,7 +213,7 @@ fn seen_from(
     )
 }
 
-/// What is expected of a run from a frozen file that is loaded.
+/// Returns the expected report on a run from a frozen file that is loaded.
 fn expected_of(alloc: Global, row: &Loaded) -> Result<Vec<u8>, AllocError> {
     printed(
         alloc,
@@ -234,7 +234,7 @@ fn frozen_files_are_loaded(rt: HostRuntime) {
     }
 }
 
-/// What is expected of a run from a frozen file that is refused.
+/// Returns the expected report on a run from a frozen file that is refused.
 fn expected_of_refused(alloc: Global, row: &Refused) -> Result<Vec<u8>, AllocError> {
     let fault = FrozenFault {
         kind: row.kind,
@@ -269,8 +269,8 @@ fn a_run_that_breaks_off_freezes_nothing(rt: HostRuntime) {
     }
 }
 
-/// Two files, and the output of a run that freezes over the first and of one that goes on over the second, and
-/// issues what is diverted.
+/// Two files, and the outputs of two runs: the first freezes after the first file, the second continues
+/// with the second file and undiverts all diversions.
 struct Split {
     name: &'static str,
     first: &'static str,
@@ -347,8 +347,8 @@ static SPLITS: [Split; 11] = [
     },
 ];
 
-/// The outputs of two runs and of the one run over both files, and whether the later run and the one run
-/// freeze the same.
+/// Reports the outputs of two runs and of the single run over both files, and whether the second run and
+/// the single run freeze the same text.
 fn reported(
     first: &[u8],
     second: &[u8],
@@ -366,13 +366,13 @@ fn reported(
     report.text()
 }
 
-/// A run over the first file of a row, which freezes.
+/// Runs over the first file of a row, and freezes.
 fn first_run(rt: &(impl Abort + Alloc<A = Global>), row: &Split, block: usize) -> Seen {
     let mut sources = [opened(rt, b"a.m4", row.first.as_bytes(), block)];
     run_over(rt, freezing(USUAL), &mut None, &mut sources, ROOM, AT_MOST)
 }
 
-/// A run over both files of a row.
+/// Runs over both files of a row.
 fn joint_run(
     rt: &(impl Abort + Alloc<A = Global>),
     options: Options,
@@ -386,7 +386,7 @@ fn joint_run(
     run_over(rt, options, &mut None, &mut both, ROOM, AT_MOST)
 }
 
-/// Whether the run over both files freezes the same as the one that goes on from the frozen text.
+/// Returns whether the run over both files freezes the same text as the one that continues.
 fn freeze_alike(
     rt: &(impl Abort + Alloc<A = Global>),
     frozen: &[u8],
@@ -398,8 +398,8 @@ fn freeze_alike(
     later.frozen_text.written() == whole.frozen_text.written()
 }
 
-/// What is to be seen of two runs and of one, where the later ones issue what is diverted; and whether they
-/// freeze the same where they freeze.
+/// Reports two runs and a single run; the later ones undivert all diversions. Also reports whether they
+/// freeze the same text if they freeze.
 fn seen_split(
     rt: &(impl Abort + Alloc<A = Global>),
     row: &Split,
@@ -418,7 +418,7 @@ fn seen_split(
     )
 }
 
-/// What is expected of a row: the one run writes what the two write, and freezes what the later freezes.
+/// Returns the expected report: the single run writes what the two write, and freezes the same text.
 fn expected_split(alloc: Global, row: &Split) -> Result<Vec<u8>, AllocError> {
     let (first, second) = row.outputs;
     let mut report = Report::new(alloc);

@@ -1,4 +1,4 @@
-//! What a row gives to a run, and what is to be seen of the run.
+//! The devices and options of a run in a row, and the report on the run.
 
 use super::report::printed_run;
 use m4_engine::ending::{Cause, Ending};
@@ -10,19 +10,19 @@ use m4_state::memory::{MemSink, MemSource};
 use std::alloc::{AllocError, Global};
 use std::process::Abort;
 
-/// How many bytes a reader gives at a time.
+/// How many bytes a reader returns at a time.
 pub const BLOCKS: [usize; 4] = [1, 2, 3, 4096];
 
-/// The limits that a run has by itself: of calls, and of calls that are open.
+/// The limits of a run by default: of calls, and of calls that are open.
 pub const USUAL: (u64, u64) = (4294967295, 1024);
 
-/// Room that is ample for a row's output and for its messages.
+/// Enough room for a row's output and for its messages.
 pub const ROOM: (usize, usize) = (1024, 1024);
 
-/// How many bytes a writer takes at a time.
+/// How many bytes a writer accepts at a time.
 pub const AT_MOST: usize = 7;
 
-/// The end of a run by a cause, with nothing saved.
+/// Returns the end of a run with a cause; no text was saved.
 pub fn ended(status: u8, cause: Cause) -> Ending {
     Ending {
         status,
@@ -31,7 +31,7 @@ pub fn ended(status: u8, cause: Cause) -> Ending {
     }
 }
 
-/// The options with these limits, of a run that freezes its state.
+/// Returns the options with these limits, for a run that freezes its state.
 pub fn freezing(limits: (u64, u64)) -> Options {
     Options {
         calls: limits.0,
@@ -41,7 +41,7 @@ pub fn freezing(limits: (u64, u64)) -> Options {
     }
 }
 
-/// The options with these limits: no freezing, no prefix.
+/// Returns the options with these limits: no freezing, no prefix.
 pub fn options(limits: (u64, u64)) -> Options {
     Options {
         calls: limits.0,
@@ -51,7 +51,7 @@ pub fn options(limits: (u64, u64)) -> Options {
     }
 }
 
-/// A byte string. No memory for it ends the test.
+/// Makes a byte string. If an allocation fails, the test ends.
 pub fn bytes(rt: &(impl Abort + Alloc<A = Global>), text: &[u8]) -> Bytes {
     match Bytes::from_slice(rt.alloc(), text) {
         Ok(bytes) => bytes,
@@ -59,7 +59,8 @@ pub fn bytes(rt: &(impl Abort + Alloc<A = Global>), text: &[u8]) -> Bytes {
     }
 }
 
-/// A writer with so much room, which takes so many bytes at a time. No memory for it ends the test.
+/// Makes a writer with this much room, which accepts this many bytes at a time. If an allocation fails,
+/// the test ends.
 pub fn sink(rt: &(impl Abort + Alloc<A = Global>), room: usize, at_most: usize) -> MemSink {
     match MemSink::new(rt.alloc(), room, at_most.max(1)) {
         Ok(sink) => sink,
@@ -67,7 +68,7 @@ pub fn sink(rt: &(impl Abort + Alloc<A = Global>), room: usize, at_most: usize) 
     }
 }
 
-/// A file, whose reader gives so many bytes at a time.
+/// Makes a file whose reader returns this many bytes at a time.
 pub fn opened<'a>(
     rt: &(impl Abort + Alloc<A = Global>),
     name: &[u8],
@@ -80,7 +81,7 @@ pub fn opened<'a>(
     }
 }
 
-/// What a run wrote, and how it ended.
+/// The outputs of a run, and how it ended.
 #[derive(Drop)]
 pub struct Seen {
     pub output: MemSink,
@@ -89,8 +90,8 @@ pub struct Seen {
     pub ending: Ending,
 }
 
-/// A run over these sources, with so much room for output and for messages, where writers take so
-/// many bytes at a time.
+/// Runs over these sources, with this much room for output and for messages, and writers that accept
+/// this many bytes at a time.
 pub fn run_over<'a>(
     rt: &(impl Abort + Alloc<A = Global>),
     options: Options,
@@ -119,7 +120,7 @@ pub fn run_over<'a>(
     }
 }
 
-/// What is to be seen of a run: what it wrote and told, and how it ended.
+/// Returns the report on a run: its outputs, and how it ended.
 pub fn printed_seen(alloc: Global, seen: &Seen) -> Result<Vec<u8>, AllocError> {
     printed_run(
         alloc,
@@ -129,8 +130,8 @@ pub fn printed_seen(alloc: Global, seen: &Seen) -> Result<Vec<u8>, AllocError> {
     )
 }
 
-/// A run over one file, a.m4, whose reader gives and whose writers take so many bytes at a time, with
-/// so much room for output.
+/// Runs over one file, a.m4. The reader returns, and the writers accept, this many bytes at a time;
+/// there is this much room for output.
 pub fn run_file(
     rt: &(impl Abort + Alloc<A = Global>),
     text: &[u8],
@@ -143,7 +144,7 @@ pub fn run_file(
     run_over(rt, options(limits), &mut None, &mut sources, room, block)
 }
 
-/// What is to be seen of a run over one file.
+/// Reports a run over one file.
 pub fn seen_of_file(
     rt: &(impl Abort + Alloc<A = Global>),
     text: &str,

@@ -1,11 +1,11 @@
-//! Limits of calls, and of calls that are open one within another.
+//! Limits of calls, and of nested calls.
 
 use super::given::{BLOCKS, ended, seen_of_file};
 use super::report::printed_run;
 use super::shows::agrees;
 use m4_engine::ending::Cause;
 
-// A row's name, a file, the limits of calls and of open ones, output, messages, and the end.
+// A row's name, a file, the limits of calls and of nested calls, output, messages, and the end.
 type Row = (
     &'static str,
     &'static str,
@@ -15,10 +15,10 @@ type Row = (
     (u8, Cause),
 );
 
-// Three calls one within another, behind one that defines their name.
+// Three nested calls, after one that defines their name.
 const THREE: &str = "define(`f',`$1')f(f(f(`x')))\n";
 
-// A name that stands for itself.
+// A name that expands to itself.
 const LOOP: &str = "define(`l',`l')l\n";
 
 static ROWS: [Row; 13] = [

@@ -11,7 +11,7 @@ use m4_state::memory::MemSource;
 use std::alloc::{AllocError, Global};
 use std::process::Abort;
 
-// A row's name, the frozen file that a run starts from, a file, output and messages.
+// A row's name, the frozen file from which a run starts, a file, output and messages.
 type Row = (
     &'static str,
     Option<&'static str>,
@@ -59,13 +59,13 @@ static ROWS: [Row; 5] = [
     ),
 ];
 
-// The options with prefixes.
+// Adds the prefixes to options.
 fn prefixed(mut options: Options) -> Options {
     options.prefix = true;
     options
 }
 
-// A run with prefixes over one file.
+// Runs with prefixes over one file.
 fn run_of(
     rt: &(impl Abort + Alloc<A = Global>),
     options: Options,
@@ -88,7 +88,7 @@ fn run_of(
     )
 }
 
-// What is to be seen of it.
+// Reports such a run.
 fn seen_of(
     rt: &(impl Abort + Alloc<A = Global>),
     frozen: Option<&str>,

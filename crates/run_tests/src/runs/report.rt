@@ -1,11 +1,11 @@
-//! What is to be seen of a run, as text.
+//! The report on a run, as text.
 
 use m4_engine::ending::Ending;
 use std::alloc::{AllocError, Global};
 use std::fmt;
 
-/// A report. Memory that is refused while it is written is told at its end, so that no row has to
-/// ask after each piece.
+/// A report. If an allocation fails while it is written, its end returns that, so that no row has to
+/// check after each piece.
 #[derive(Drop)]
 pub struct Report {
     alloc: Global,
@@ -14,7 +14,7 @@ pub struct Report {
 }
 
 impl Report {
-    /// An empty report.
+    /// Returns an empty report.
     pub fn new(alloc: Global) -> Report {
         Report {
             alloc,
@@ -38,7 +38,7 @@ impl Report {
         }
     }
 
-    /// Adds what a run wrote, what it told and how it ended.
+    /// Adds the output and the messages of a run, and how it ended.
     pub fn run(&mut self, output: &[u8], messages: &[u8], ending: Ending) {
         self.add(output);
         self.add(b"|");
@@ -47,12 +47,12 @@ impl Report {
         self.print(&ending);
     }
 
-    /// Tells that memory was refused.
+    /// Records that an allocation failed.
     pub fn refuse(&mut self) {
         self.refused = true;
     }
 
-    /// The whole text.
+    /// Returns the complete text.
     pub fn text(self) -> Result<Vec<u8>, AllocError> {
         let Report {
             alloc: _,
@@ -66,14 +66,14 @@ impl Report {
     }
 }
 
-/// The end of a run as it is printed.
+/// Returns the end of a run as it is printed.
 pub fn printed(alloc: Global, ending: Ending) -> Result<Vec<u8>, AllocError> {
     let mut report = Report::new(alloc);
     report.print(&ending);
     report.text()
 }
 
-/// What a run wrote, what it told and how it ended.
+/// Returns the output and the messages of a run, and how it ended.
 pub fn printed_run(
     alloc: Global,
     output: &[u8],

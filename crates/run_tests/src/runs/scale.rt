@@ -1,4 +1,4 @@
-//! Runs over inputs that are large: long texts, results and delimiters, many arguments, many names.
+//! Runs over large inputs: long texts, results and delimiters, many arguments, many names.
 
 use super::given::{USUAL, ended, printed_seen, run_file};
 use super::report::{Report, printed_run};
@@ -10,7 +10,7 @@ use std::process::Abort;
 // Room for any row's output.
 const ROOM: usize = 1_100_000;
 
-// A text that is made: a beginning, then so many times a piece, and an end.
+// A generated text: its start, a piece with its number of repetitions, and its end.
 type Made = (&'static str, &'static str, usize, &'static str);
 
 // A row's name, its file and its output.
@@ -47,14 +47,14 @@ static ROWS: [(&str, Made, Made); 6] = [
     ),
 ];
 
-// Adds a piece so many times.
+// Adds a piece this many times.
 fn repeat(report: &mut Report, piece: &str, times: usize) {
     for _ in 0..times {
         report.add(piece.as_bytes());
     }
 }
 
-// A text that is made.
+// Makes a generated text.
 fn made(alloc: Global, (before, piece, times, after): Made) -> Result<Vec<u8>, AllocError> {
     let mut report = Report::new(alloc);
     report.add(before.as_bytes());
@@ -87,10 +87,10 @@ fn large_inputs(rt: HostRuntime) {
     }
 }
 
-// How many names are defined.
+// The number of names that are defined.
 const NAMES: u32 = 100_000;
 
-// A file that defines each name as its number, and calls three of them.
+// Returns a file that defines each name as its number, and calls three of them.
 fn many_names(alloc: Global) -> Result<Vec<u8>, AllocError> {
     let mut report = Report::new(alloc);
     for number in 0..NAMES {
@@ -104,7 +104,7 @@ fn many_names(alloc: Global) -> Result<Vec<u8>, AllocError> {
     report.text()
 }
 
-// A file whose quotes have 10,000 bytes each.
+// Returns a file whose quotes have 10,000 bytes each.
 fn long_quotes(alloc: Global) -> Result<Vec<u8>, AllocError> {
     let mut report = Report::new(alloc);
     report.add(b"changequote(");

@@ -1,4 +1,4 @@
-//! Sessions call by call: their answers, and what they wrote.
+//! Sessions call by call: their results and their outputs.
 
 use super::given::{AT_MOST, BLOCKS, ROOM, bytes, options, sink};
 use super::report::Report;
@@ -13,17 +13,17 @@ use std::process::Abort;
 enum Call {
     // Reads the file a.m4 with this text.
     File(&'static str),
-    // The same, of a reader that fails behind it.
+    // The same, with a reader that fails after it.
     Failing(&'static str),
-    // Tells of a file that isn't opened.
+    // Reports a file that isn't opened.
     Missing(&'static str),
-    // Brings the run to its end.
+    // Finishes the run.
     Finish,
-    // Reports the status, and whether text stands saved.
+    // Reports the status, and whether text is saved.
     Status,
 }
 
-// A row's name, the room for output, its calls, and what is to be seen: an answer a line, and then
+// A row's name, the room for output, its calls, and the expected report: a result a line, and then
 // output and messages.
 type Row = (&'static str, usize, &'static [Call], &'static str);
 
@@ -118,7 +118,7 @@ static ROWS: [Row; 9] = [
     ),
 ];
 
-// Reads a file whose reader gives so many bytes at a time, and may fail behind its text.
+// Reads a file whose reader returns this many bytes at a time, and may fail after its text.
 fn read(
     rt: &(impl Abort + Alloc<A = Global>),
     session: &mut Session,
@@ -133,7 +133,7 @@ fn read(
     report.print(&answer);
 }
 
-// Makes a call, and adds its answer.
+// Makes a call, and adds its result.
 fn make(
     rt: &(impl Abort + Alloc<A = Global>),
     session: &mut Session,
@@ -153,7 +153,7 @@ fn make(
     report.add(b"\n");
 }
 
-// A session that begins with a fresh state. No memory for it ends the test.
+// Starts a session with a fresh state. If an allocation fails, the test ends.
 fn started(rt: &(impl Abort + Alloc<A = Global>)) -> Session {
     match Session::fresh(rt.alloc(), options((1000, 1024))) {
         Ok(session) => session,
@@ -161,7 +161,7 @@ fn started(rt: &(impl Abort + Alloc<A = Global>)) -> Session {
     }
 }
 
-// What is to be seen of a row.
+// Reports a row.
 fn seen(
     rt: &(impl Abort + Alloc<A = Global>),
     room: usize,

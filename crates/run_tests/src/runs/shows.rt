@@ -1,10 +1,10 @@
-//! How a row that failed is shown: its name, and beneath it what was expected and what came.
+//! Prints a row that failed: its name, and below it the expected and the actual report.
 
 use std::alloc::AllocError;
 use std::process::Abort;
 
-/// Ends the test unless the row came out as expected. Bytes that are no printable text are shown by
-/// their escapes.
+/// Ends the test unless the report is the expected one. Bytes that are not printable text are printed
+/// as escapes.
 pub fn shows(rt: &impl Abort, row: &str, expected: &[u8], got: Result<Vec<u8>, AllocError>) {
     match got {
         Ok(got) => {
@@ -19,7 +19,7 @@ pub fn shows(rt: &impl Abort, row: &str, expected: &[u8], got: Result<Vec<u8>, A
     }
 }
 
-/// The same where what is expected was made for the row.
+/// Does the same for an expected report that was made for the row.
 pub fn agrees(
     rt: &impl Abort,
     row: &str,

@@ -15,9 +15,9 @@ use std::process::Abort;
 enum Given {
     // A file with this text.
     File(&'static str),
-    // One whose reader fails behind this text.
+    // A file whose reader fails after this text.
     Failing(&'static str),
-    // One of this name that isn't opened.
+    // A file of this name that isn't opened.
     Missing(&'static str),
 }
 
@@ -170,16 +170,16 @@ static ROWS: [Row; 16] = [
     ),
 ];
 
-// A file with a call that has output and a message, behind a string.
+// A file with a call that has output and a message, after a string.
 const AFTER_A_STRING: &str = "divert(1)text\ndivert`a'undivert(1,x)b\n";
 
-// One with such a call behind plain text.
+// A file with such a call after plain text.
 const AFTER_TEXT: &str = "divert(1)text\ndivert`'one undivert(1,x)b\n";
 
 // The message of these calls.
 const WARNS: &str = "m4:a.m4:2: Warning: non-numeric argument to builtin `undivert'\n";
 
-// Where the writing breaks off, everything that comes before has to be there, and nothing behind it: the
+// If a write fails, everything before it has to be written, and nothing after it. The order is: the
 // output before a call, then its messages, then its own output.
 static ORDER: [Row; 9] = [
     (
@@ -260,7 +260,7 @@ static ORDER: [Row; 9] = [
     ),
 ];
 
-// The source at a place of a row.
+// Makes the source at a place of a row.
 fn source(
     rt: &(impl Abort + Alloc<A = Global>),
     letter: u8,
@@ -282,7 +282,7 @@ fn source(
     }
 }
 
-// The sources of a row.
+// Makes the sources of a row.
 fn sources_of(
     rt: &(impl Abort + Alloc<A = Global>),
     given: &[Given],
@@ -297,7 +297,7 @@ fn sources_of(
     Ok(sources)
 }
 
-// What is to be seen of a row.
+// Reports a row.
 fn seen_of(
     rt: &(impl Abort + Alloc<A = Global>),
     given: &[Given],
@@ -309,7 +309,7 @@ fn seen_of(
     printed_seen(rt.alloc(), &seen)
 }
 
-// Compares what is to be seen of each row, at each size of a block.
+// Compares the report on each row, at each size of a block.
 fn compare(rt: &(impl Abort + Alloc<A = Global>), rows: &[Row]) {
     for &(name, sources, room, output, messages, (status, cause)) in rows {
         for block in BLOCKS {

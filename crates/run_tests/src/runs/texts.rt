@@ -1,6 +1,7 @@
-//! Runs with the builtins on texts and numbers, and those that show where the input is. Manual: "Calculating
-//! length of strings", "Searching for substrings", "Extracting substrings", "Translating characters",
-//! "Decrement and increment operators", "Evaluating integer expressions", "Printing error messages", "Printing current location".
+//! Runs with the builtins on texts and numbers, and those that print the place in the input. Manual:
+//! "Calculating length of strings", "Searching for substrings", "Extracting substrings", "Translating
+//! characters", "Decrement and increment operators", "Evaluating integer expressions", "Printing error
+//! messages", "Printing current location".
 
 use super::given::{BLOCKS, USUAL, ended, seen_of_file};
 use super::report::printed_run;
@@ -163,7 +164,7 @@ static PLACES: [Row; 5] = [
     ),
 ];
 
-// Compares what is to be seen of each row, at each size of a block.
+// Compares the report on each row, at each size of a block.
 fn compare(rt: &(impl Abort + Alloc<A = Global>), rows: &[Row]) {
     for &(name, file, output, messages) in rows {
         for block in BLOCKS {

@@ -1,5 +1,5 @@
-//! Runs that save text for the end of the input, and runs that a macro ends. Manual: "Saving text until end
-//! of input", "Exiting from m4".
+//! Runs that save text for the end of the input, and runs that a macro ends. Manual: "Saving text until
+//! end of input", "Exiting from m4".
 
 use super::given::{
     AT_MOST, BLOCKS, ROOM, Seen, USUAL, freezing, opened, options, printed_seen, run_over,
@@ -21,7 +21,7 @@ type Row = (&'static str, &'static str, &'static str, &'static str, End);
 // A run that read everything and saved text.
 const SAVED: End = (0, Cause::Done, true);
 
-// One that read everything and saved none.
+// A run that read everything and saved none.
 const NOTHING_SAVED: End = (0, Cause::Done, false);
 
 // Where saved text is read, and in which order.
@@ -149,7 +149,7 @@ static SAVES: [Row; 18] = [
     ),
 ];
 
-// Saved text that ends before what it began: nothing that was diverted is issued.
+// Saved text that ends inside something unfinished: no diverted text is undiverted.
 static BROKEN_OFF: [Row; 5] = [
     (
         "a string without an end",
@@ -188,7 +188,7 @@ static BROKEN_OFF: [Row; 5] = [
     ),
 ];
 
-// Runs that a macro ends: what is saved and what is diverted is discarded.
+// Runs that a macro ends: saved and diverted text is discarded.
 static EXITS: [Row; 15] = [
     (
         "a code",
@@ -298,7 +298,7 @@ static EXITS: [Row; 15] = [
     ),
 ];
 
-// The end of a run.
+// Makes the end of a run.
 fn ending((status, cause, wrapped): End) -> Ending {
     Ending {
         status,
@@ -307,7 +307,7 @@ fn ending((status, cause, wrapped): End) -> Ending {
     }
 }
 
-// A run over one file, a.m4.
+// Runs over one file, a.m4.
 fn run_of(
     rt: &(impl Abort + Alloc<A = Global>),
     options: Options,
@@ -318,7 +318,7 @@ fn run_of(
     run_over(rt, options, &mut None, &mut sources, ROOM, AT_MOST)
 }
 
-// Compares what is to be seen of each row, at each size of a block.
+// Compares the report on each row, at each size of a block.
 fn compare(rt: &(impl Abort + Alloc<A = Global>), rows: &[Row]) {
     for &(name, file, output, messages, end) in rows {
         for block in BLOCKS {
@@ -349,8 +349,8 @@ fn a_macro_ends_the_run(rt: HostRuntime) {
     compare(&rt, &EXITS);
 }
 
-// A row's name, a file, output, the end, and whether a run that freezes writes the frozen text of a run over
-// nothing; else it writes none.
+// A row's name, a file, output, the end, and whether a run that freezes writes the frozen text of a run
+// over nothing; otherwise it writes none.
 type Frozen = (&'static str, &'static str, &'static str, End, bool);
 
 static FREEZES: [Frozen; 7] = [
@@ -393,7 +393,7 @@ static FREEZES: [Frozen; 7] = [
     ),
 ];
 
-// What is to be seen of a run without messages, and its frozen text.
+// Returns the report on a run without messages, and its frozen text.
 fn printed_frozen(
     alloc: Global,
     output: &[u8],
@@ -407,7 +407,7 @@ fn printed_frozen(
     report.text()
 }
 
-// What is expected of a run that freezes: the frozen text of a run over nothing, or none.
+// Returns the expected report on a run that freezes: the frozen text of a run over nothing, or none.
 fn expected_frozen(
     rt: &(impl Abort + Alloc<A = Global>),
     (output, end, freezes): (&str, End, bool),
@@ -421,7 +421,7 @@ fn expected_frozen(
     printed_frozen(rt.alloc(), output, end, fresh.frozen_text.written())
 }
 
-// What is to be seen of a run that freezes.
+// Reports a run that freezes.
 fn seen_frozen(
     rt: &(impl Abort + Alloc<A = Global>),
     file: &str,
@@ -446,8 +446,8 @@ fn saved_text_is_never_frozen(rt: HostRuntime) {
     }
 }
 
-// A row's name, two files, the outputs of a run that freezes over the first and of one that goes on over the
-// second, and that of one run over both: the two don't fit together, since the first saved text.
+// A row's name, two files, the outputs of a run that freezes after the first and of one that continues
+// with the second, and the output of one run over both. These don't fit, since the first saved text.
 type Apart = (
     &'static str,
     (&'static str, &'static str),
@@ -479,7 +479,7 @@ static APART: [Apart; 3] = [
     ),
 ];
 
-// A run that goes on from a frozen text over a second file.
+// Runs over a second file, from a frozen text.
 fn run_after(
     rt: &(impl Abort + Alloc<A = Global>),
     frozen_text: &[u8],
@@ -491,7 +491,7 @@ fn run_after(
     run_over(rt, options(USUAL), &mut frozen, &mut sources, ROOM, AT_MOST)
 }
 
-// A run over two files.
+// Runs over two files.
 fn run_of_both(
     rt: &(impl Abort + Alloc<A = Global>),
     (first, second): (&str, &str),
@@ -504,7 +504,7 @@ fn run_of_both(
     run_over(rt, options(USUAL), &mut None, &mut sources, ROOM, AT_MOST)
 }
 
-// What three runs write, and whether the first of them shows that it saved text.
+// Returns the outputs of three runs, and whether the first of them reports that it saved text.
 fn printed_apart(
     alloc: Global,
     outputs: (&[u8], &[u8]),
@@ -521,7 +521,7 @@ fn printed_apart(
     report.text()
 }
 
-// What is to be seen of the three runs of a row.
+// Reports the three runs of a row.
 fn seen_apart(
     rt: &(impl Abort + Alloc<A = Global>),
     files: (&str, &str),

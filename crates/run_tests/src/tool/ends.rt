@@ -23,7 +23,7 @@ static ENDS: [(&str, Cause, bool, &str); 7] = [
     ("memory", Cause::OutOfMemory, true, "out of memory"),
 ];
 
-// Why a run ended that started from the file F, and the line of that file.
+// The cause by which a run ended that started from the frozen file F, and the line for that file.
 static REFUSED: [(&str, Cause, &str); 4] = [
     (
         "a directive",

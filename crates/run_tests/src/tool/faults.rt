@@ -1,4 +1,4 @@
-//! The line of each fault of a mode. Its number and name are those that the kind shows of itself.
+//! The line for each fault of a mode. It has the number and the name that the kind displays.
 
 use super::shows::{shows, text_of};
 use m4_frozen::fault::{FrozenFault, FrozenKind};
@@ -8,7 +8,7 @@ use std::alloc::Global;
 use std::process::Abort;
 use std::test::Fail;
 
-// A kind of fault at byte 12 of the file F, and its line. Manual of the kinds: docs/FROZEN_FILE.md.
+// A kind of fault at byte 12 of the file F, and its line. The kinds are in docs/FROZEN_FILE.md.
 static KINDS: [(FrozenKind, &str); 11] = [
     (FrozenKind::NoVersion, "m4: F: F1 NoVersion at byte 12\n"),
     (FrozenKind::Newer, "m4: F: F2 Newer at byte 12\n"),
@@ -44,7 +44,7 @@ static KINDS: [(FrozenKind, &str); 11] = [
     (FrozenKind::OutOfMemory, "m4: F: F11 OutOfMemory\n"),
 ];
 
-// Compares the line of a kind with its row, and looks in it for what the kind shows of itself.
+// Compares the line for a kind with its row, and finds in it the text that the kind displays.
 fn check_kind(
     rt: &(impl Abort + Alloc<A = Global>),
     kind: FrozenKind,

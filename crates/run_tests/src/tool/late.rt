@@ -1,4 +1,4 @@
-//! The file that a run freezes to: it is made as its first byte is written, and not before.
+//! The file to which a run freezes: it is created when its first byte is written, and not before.
 
 use super::shows::{shows, text_of};
 use m4_state::device::ByteSink;
@@ -9,7 +9,7 @@ use std::process::Abort;
 use std::rt::Files;
 use std::test::Fail;
 
-// What stands in the file of a row, by its name, once these bytes were put; it held `old` before.
+// Checks the contents of a row's file after these bytes were put; before, it contained `old`.
 fn check_file(
     rt: &(impl Abort + Files + Alloc<A = Global>),
     path: &str,
@@ -34,7 +34,7 @@ fn a_file_is_made_with_its_first_byte(rt: HostRuntime) -> Result<(), Fail> {
     check_file(&rt, "late_file_that_is_left", b"", "old")
 }
 
-// Neither a sink that is let go nor one that is only begun touches the file.
+// A sink that is created and dropped does not change the file.
 #[test]
 fn a_sink_that_is_let_go_leaves_the_old_file(rt: HostRuntime) -> Result<(), Fail> {
     let path = "late_file_that_is_let_go";
@@ -46,7 +46,7 @@ fn a_sink_that_is_let_go_leaves_the_old_file(rt: HostRuntime) -> Result<(), Fail
     Ok(())
 }
 
-// A file that can't be made is a fault of the last write.
+// If a file can't be created, the last write reports a fault.
 #[test]
 fn a_file_that_cannot_be_made_fails(rt: HostRuntime) -> Result<(), Fail> {
     let mut late = LateFile::new(&rt, ".")?;

@@ -1,4 +1,4 @@
-//! What each line asks for, by a table. The kinds of refusal are those that Rust's clap gives such words.
+//! A table of command lines and their meaning. The kinds of refusal are those of Rust's clap.
 
 use super::shows::shows;
 use m4_engine::options::Options;
@@ -7,7 +7,7 @@ use std::alloc::Global;
 use std::process::Abort;
 use std::test::Fail;
 
-// The words of a line, and what they come to: a mode with its file, or a refusal.
+// The words of a line, and the result: a mode with its file, or a refusal.
 static MODES: [(&[&str], &str); 22] = [
     (&["m4r", "--canon=state.m4f"], "canon state.m4f"),
     (&["m4r", "--inspect=state.m4f"], "inspect state.m4f"),
@@ -42,7 +42,7 @@ static MODES: [(&[&str], &str); 22] = [
     (&["m4r", "-h"], "refused: UnknownArgument"),
 ];
 
-// The same for lines with a frozen file: what it is frozen to, what it starts from, and its files.
+// The same for lines with a frozen file: the file to freeze to, the file to start from, and the files.
 static FROZEN: [(&[&str], &str); 20] = [
     (&["m4r", "-F", "s", "a.m4"], "freeze s, run [\"a.m4\"]"),
     (&["m4r", "-Fs", "a.m4"], "freeze s, run [\"a.m4\"]"),
@@ -127,7 +127,7 @@ static RUNS: [(&[&str], &str); 24] = [
     ),
 ];
 
-// What a line comes to, as the tables write it.
+// Returns the result for a line, as the tables write it.
 fn answer_of(alloc: Global, line: &Result<Line, LineFault>) -> Result<String, Fail> {
     match line {
         Ok(line) => asked_of(alloc, line),
@@ -137,7 +137,7 @@ fn answer_of(alloc: Global, line: &Result<Line, LineFault>) -> Result<String, Fa
     }
 }
 
-// What a line asks for: a mode with its file, a run with frozen files, or a run.
+// Returns the content of a line: a mode with its file, a run with frozen files, or a run.
 fn asked_of(alloc: Global, line: &Line) -> Result<String, Fail> {
     let Options {
         calls,
@@ -158,7 +158,7 @@ fn asked_of(alloc: Global, line: &Line) -> Result<String, Fail> {
     }
 }
 
-// The frozen files of a run, and the files that it reads.
+// Returns the frozen files of a run, and the files that it reads.
 fn frozen_of(
     alloc: Global,
     reload: &Option<String>,
@@ -175,7 +175,7 @@ fn frozen_of(
     }
 }
 
-// Compares what a line comes to with its row.
+// Compares the result for a line with its row.
 fn check_row(
     rt: &(impl Abort + Alloc<A = Global>),
     words: &[&str],

@@ -1,7 +1,7 @@
-//! The modes over devices in memory: what is on the output and on the messages, and the status.
+//! The modes over devices in memory: the output, the messages, and the status.
 //!
 //! The files and their texts were written by hand from the format. Each row is run with readers and
-//! writers of several sizes, since no answer may depend on them. Manual: "Frozen file format".
+//! writers of several sizes, since no result may depend on them. Manual: "Frozen file format".
 
 ghost use Rattle.std.specs.Prelude.{◌<◌};
 
@@ -12,7 +12,7 @@ use std::alloc::{AllocError, Global};
 use std::process::Abort;
 use std::test::Fail;
 
-// The canonical text that has these directives.
+// Expands to the canonical text with these directives.
 macro_rules! canonical {
     ($directives:literal) => {
         concat!("# m4 frozen state\nV1\n", $directives, "# End of frozen state file\n")
@@ -95,10 +95,10 @@ static LISTED: [(&[u8], &str); 4] = [
     ),
 ];
 
-// How many bytes a reader gives and a writer accepts at most.
+// The most bytes that a reader returns and a writer accepts at a time.
 const SIZES: [usize; 4] = [1, 2, 7, 4096];
 
-// The room of an output or of messages that does not fail.
+// Enough room for an output or for messages.
 const AMPLE: usize = 4096;
 
 #[derive(Clone, Copy)]
@@ -118,7 +118,7 @@ struct Row<'a> {
     messages: &'a str,
 }
 
-// The devices of a run: how many bytes a call of them moves at most, and how much they have room for.
+// The devices of a run: the most bytes for one call, and the room of the writers.
 #[derive(Clone, Copy)]
 struct Devices {
     at_most: usize,
@@ -126,7 +126,7 @@ struct Devices {
     messages_room: usize,
 }
 
-// A file that `--canon` writes as this text.
+// Returns a row for a file that `--canon` writes as this text.
 fn written_as<'a>(file: &'a [u8], text: &'a str) -> Row<'a> {
     Row {
         mode: Mode::Canon,
@@ -138,7 +138,7 @@ fn written_as<'a>(file: &'a [u8], text: &'a str) -> Row<'a> {
     }
 }
 
-// Runs a row with these devices, and compares what it leaves.
+// Runs a row with these devices, and compares the results.
 fn check_by(
     rt: &(impl Abort + Alloc<A = Global>),
     row: Row<'_>,
@@ -211,7 +211,7 @@ fn files_are_listed(rt: HostRuntime) -> Result<(), Fail> {
     Ok(())
 }
 
-// An output with too little room for the text has a beginning of it.
+// If an output has too little room for the text, it contains a prefix of it.
 #[test]
 fn an_output_that_fails_has_a_beginning(rt: HostRuntime) -> Result<(), Fail> {
     let (file, text) = &CANONICAL[1];
@@ -232,7 +232,7 @@ fn an_output_that_fails_has_a_beginning(rt: HostRuntime) -> Result<(), Fail> {
     Ok(())
 }
 
-// Messages with too little room have a beginning of the line, and the status is the fault's.
+// If messages have too little room, they contain a prefix of the line, and the status is the fault's.
 #[test]
 fn messages_that_fail_have_a_beginning(rt: HostRuntime) -> Result<(), Fail> {
     let row = Row {

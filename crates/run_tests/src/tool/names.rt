@@ -1,4 +1,4 @@
-//! The names that messages give the files of a line.
+//! The names of a line's files in messages.
 
 use super::shows::{shows, text_of};
 use m4_tool::sources::source_name;

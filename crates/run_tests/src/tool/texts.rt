@@ -1,4 +1,4 @@
-//! The texts of clap that a user meets: help, and the refusal of a line.
+//! The texts of clap that a user may see: help, and the refusal of a line.
 
 use m4_tool::line::{LineFault, read_line};
 use std::alloc::Global;
@@ -53,7 +53,7 @@ static TEXTS: [(&[&str], bool, &[&str]); 7] = [
     ),
 ];
 
-// Looks for the parts in the text of a line that is not followed.
+// Checks that the text of clap for a line contains the parts.
 fn check_text(
     rt: &(impl Abort + Alloc<A = Global>),
     words: &[&str],
@@ -71,7 +71,7 @@ fn check_text(
     }
 }
 
-// Looks for the parts in a text.
+// Checks that a text contains the parts.
 fn check_parts(rt: &impl Abort, text: &str, parts: &[&str]) {
     for part in parts {
         assert!(rt; text.contains(*part), "{text}\n  expected in it: {part}");

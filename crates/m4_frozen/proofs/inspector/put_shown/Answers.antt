@@ -3,7 +3,7 @@ use Rattle.m4_state.specs.Device.{Puts}
 use Rattle.m4_frozen.proofs.Plain.{shown_as_they_are}
 use Rattle.m4_frozen.proofs.inspector.put_shown.Goals as goal
 
--- the bytes stand for themselves
+-- each byte is shown as it is
 pub returns-then-are_plain-clause-puts : goal.returns-then-are_plain-clause-puts
 returns-then-are_plain-clause-puts g c =
     subst (λ (t : List ℕ). Puts c.write_all.result (g.W.ByteSink.contents c.args.writer.now) (g.W.ByteSink.contents c.write_all.new.writer) t)

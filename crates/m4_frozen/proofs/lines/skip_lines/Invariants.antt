@@ -1,4 +1,4 @@
--- What follows the bytes so far is read as behind their lines.
+-- The rest is read as if it came after the lines of the bytes so far.
 use Rattle.std.proofs.Common.{◌≡◌, List, ℕ, ◌++◌, take}
 use Rattle.m4_frozen.specs.ReaderSteps.{skip_lines}
 use Rattle.m4_frozen.proofs.lines.skip_lines.Given as goal

@@ -1,4 +1,4 @@
--- What clap has found is what stands among its rows.
+-- The values that clap found are those in its rows.
 use Rattle.std.proofs.Common.{◌∙◌, Some, ap}
 use Rattle.clap.proofs.WalkLemmas.{first_value-rows}
 use Rattle.clap.specs.Words.{found_of}

@@ -1,4 +1,4 @@
--- What clap has found is what stands among its rows.
+-- The values that clap found are those in its rows.
 use Rattle.std.proofs.Common.{◌∙◌, None, Some, ap, map, string_bytes}
 use Rattle.std.proofs.lemmas.Result.{IfOk-weaker}
 use Rattle.clap.specs.Walk.{texts}

@@ -1,4 +1,4 @@
--- clap answers a fault of the list for these words, or want of memory, which is told apart.
+-- clap returns a fault of the list for these words, or that memory ran out, which is distinguished.
 use Rattle.std.proofs.Common.{◌∙◌, ap, subst, sym}
 use Rattle.clap.specs.Words.{App, HasKind, fault_of, is_simple, is_simple_and_free, matches_of}
 use Rattle.clap.specs.Walk.{texts}

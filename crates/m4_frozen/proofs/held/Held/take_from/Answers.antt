@@ -1,4 +1,4 @@
--- What was held stays, and what the reader gave stands behind it.
+-- The buffered bytes stay, and those of the reader are appended.
 use Rattle.std.proofs.Common.{ℕ, List, ◌++◌, ◌∙◌, take, drop, ap}
 use Rattle.m4_frozen.proofs.HeldParts.{part_more, part_count, none_given}
 use Rattle.m4_frozen.proofs.held.Held.take_from.Goals as goal

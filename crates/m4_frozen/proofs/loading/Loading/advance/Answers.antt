@@ -1,4 +1,4 @@
--- The rest of a text is read, and then what is behind it.
+-- The rest of a text is read, and then the bytes after it.
 use Rattle.std.proofs.Common.{List, ℕ}
 use Rattle.m4_frozen.specs.declared.loading.Loading.{Loading}
 use Rattle.m4_frozen.specs.Underway.{HasReadIn, HasReadNamed, IsRead}

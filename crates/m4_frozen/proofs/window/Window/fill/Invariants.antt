@@ -1,4 +1,4 @@
--- What came so far stands behind what was there, and no take failed.
+-- The bytes read so far follow those of the window, and no read failed.
 use Rattle.std.proofs.Common.{◌≡◌, ◌≤◌}
 use Rattle.m4_frozen.specs.Blocks.{HasCome}
 use Rattle.m4_frozen.proofs.window.Window.fill.Given as goal

@@ -5,7 +5,7 @@ use Rattle.m4_state.specs.DiversionEntries.{texts_of}
 use Rattle.m4_state.proofs.TextsByNumber.{valid_after_append, some_bytes}
 use Rattle.m4_state.proofs.diversions.Diversions.append.Goals as goal
 
--- what the map holds behind the append is in order
+-- the map is valid after the append
 valid : (c : goal.After-append_in) → AreDiversions (texts_of c.append_in.new.texts.entries) × AreSizedDiversions (texts_of c.append_in.new.texts.entries)
 valid c =
     let ok = rw (to_z-of_z w32 c.args.number c.ranges.number) at c.append_in.ensures.ok in

@@ -9,7 +9,7 @@ use Rattle.m4_state.specs.DiversionEntries.{texts_of}
 use Rattle.m4_state.proofs.TextsByNumber.{next_after-range, first_number, first_fits}
 use Rattle.m4_state.proofs.diversions.Diversions.next.Goals as goal
 
--- the first entry behind the number has the next one
+-- the first entry after the number has the next one
 pub returns-in-Some : goal.returns-in-Some
 returns-in-Some c =
     let es : List (ℤ × Vec ℕ Global) = c.self.inside.texts.entries in
@@ -19,7 +19,7 @@ returns-in-Some c =
     let next : next_after (texts_of es) c.args.number ≡ Some c.in-Some.next.now = next_after-range c.args.number es ∙ ap first_number first in
     rw (to_z-of_z w32 c.in-Some.next.now (first_fits c.args.number es _ _ c.self.invariant.0.each first)) (sym next ∙ ap (λ (ds : List Diversion). next_after ds c.args.number) c.self.view_is)
 
--- no entry lies behind the number
+-- no entry follows the number
 pub returns-in-None : goal.returns-in-None
 returns-in-None c =
     let es : List (ℤ × Vec ℕ Global) = c.self.inside.texts.entries in
