@@ -20,7 +20,7 @@ static ROWS: [(&str, &[u8], &[&[u8]], &[u8]); 14] = [
     ("an argument twice", b"$1$1", &[b"a"], b"aa"),
     ("an argument that is missing", b"<$2>", &[b"a"], b"<>"),
     (
-        "how many, all of them, and a letter behind a dollar",
+        "how many, all of them, and a letter after a dollar",
         b"$#|$*|$2$11|$x",
         &[b"a", b"b", b""],
         b"3|a,b,|b|$x",
@@ -33,7 +33,7 @@ static ROWS: [(&str, &[u8], &[&[u8]], &[u8]); 14] = [
         b"`a',`',`$1'",
     ),
     ("no arguments", b"$#$*$@", &[], b"0"),
-    ("a dollar behind a dollar", b"$$1$", &[b"a"], b"$a$"),
+    ("a dollar after a dollar", b"$$1$", &[b"a"], b"$a$"),
     ("a dollar at the end", b"end$", &[b"a"], b"end$"),
     ("a number with a zero in front", b"$01", &[b"a"], b"a"),
     (

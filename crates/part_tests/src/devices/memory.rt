@@ -18,12 +18,12 @@ static READERS: [(&str, bool, &[u8]); 2] = [
     (
         "a reader that ends",
         false,
-        b"some bytes, of which \x00 and \xff are two; ended behind 36",
+        b"some bytes, of which \x00 and \xff are two; ended after 36",
     ),
     (
         "a reader that fails",
         true,
-        b"some bytes, of which \x00 and \xff are two; failed behind 36",
+        b"some bytes, of which \x00 and \xff are two; failed after 36",
     ),
 ];
 
@@ -34,9 +34,9 @@ fn taken_of(alloc: Global, at_most: usize, fails: bool) -> Result<Vec<u8>, Alloc
     let taken = read_all(alloc, &mut reader)?;
     report.add(&taken.bytes);
     report.add(if taken.failed {
-        b"; failed behind "
+        b"; failed after "
     } else {
-        b"; ended behind "
+        b"; ended after "
     });
     report.number(reader.taken() as i128);
     report.text()

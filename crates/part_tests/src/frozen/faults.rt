@@ -16,7 +16,7 @@ static ROWS: [Row; 29] = [
     ("an empty file", b"", false, FrozenKind::NoVersion, 0),
     ("no version", b"T0,0\n\n", false, FrozenKind::NoVersion, 0),
     (
-        "a newer version behind a comment and an empty line",
+        "a newer version after a comment and an empty line",
         b"# c\n\nV2\n",
         false,
         FrozenKind::Newer,
@@ -58,7 +58,7 @@ static ROWS: [Row; 29] = [
         3,
     ),
     (
-        "a letter behind a diversion's text",
+        "a letter after a diversion's text",
         b"V1\nD0,3\nhi\n\nX\n",
         false,
         FrozenKind::UnknownDirective,
@@ -93,7 +93,7 @@ static ROWS: [Row; 29] = [
         6,
     ),
     (
-        "the greatest length, for a text behind a name",
+        "the greatest length, for a text after a name",
         b"V1\nT1,18446744073709551615\na",
         false,
         FrozenKind::PrematureEnd,
@@ -107,14 +107,14 @@ static ROWS: [Row; 29] = [
         30,
     ),
     (
-        "a blank behind the version",
+        "a blank after the version",
         b"V1 \n",
         false,
         FrozenKind::SeparatorExpected,
         2,
     ),
     (
-        "a letter behind the version",
+        "a letter after the version",
         b"V1x",
         false,
         FrozenKind::SeparatorExpected,
@@ -135,21 +135,15 @@ static ROWS: [Row; 29] = [
         2,
     ),
     (
-        "failed behind a directive",
+        "failed after a directive",
         b"V1\nT1,1\nab\n",
         true,
         FrozenKind::Read,
         11,
     ),
     ("failed in a length", b"V1\nT1", true, FrozenKind::Read, 5),
-    (
-        "failed behind the version",
-        b"V1",
-        true,
-        FrozenKind::Read,
-        2,
-    ),
-    ("failed behind version 0", b"V0", true, FrozenKind::Read, 2),
+    ("failed after the version", b"V1", true, FrozenKind::Read, 2),
+    ("failed after version 0", b"V0", true, FrozenKind::Read, 2),
     ("failed at once", b"", true, FrozenKind::Read, 0),
     (
         "version 0 before the failure",

@@ -109,7 +109,7 @@ static ROWS: [Row; 14] = [
         ..PLAIN
     },
     Row {
-        name: "pushed text joins the bytes behind it",
+        name: "pushed text joins the bytes after it",
         texts: &[b"a"],
         file: b"b c",
         calls: &[Call::Next, Call::Next],
@@ -124,7 +124,7 @@ static ROWS: [Row; 14] = [
         ..PLAIN
     },
     Row {
-        name: "a definition stands before all text",
+        name: "a definition is before all text",
         definition: Some(Given::Named(b"dnl")),
         file: b"(",
         calls: &[Call::SeesParen, Call::Taken, Call::Next, Call::Next],

@@ -23,7 +23,7 @@ type Row = (
 );
 
 static ROWS: [Row; 1] = [(
-    "pushed text stands in one piece with the file where there is room",
+    "pushed text is contiguous with the file if there is room",
     b"ab\nc",
     3,
     &[b"x\n", b"longer "],

@@ -33,13 +33,13 @@ static TOKENS: [Row; 7] = [
         2,
     ),
     (
-        "a name behind a digit",
+        "a name after a digit",
         "define(`a',`x')1a+'(,)\n",
         "1x+'(,)\n",
         2,
     ),
     (
-        "a text joins what stands behind it, but not behind a string",
+        "a text joins the bytes after it, but not after a string",
         "define(`a',`x')define(`xy',`Z')a`'y a()y\n",
         "xy Z\n",
         5,
@@ -97,7 +97,7 @@ static CALLS: [Row; 10] = [
         4,
     ),
     (
-        "a blank behind a call that gives nothing stays",
+        "a blank after a call that gives nothing stays",
         "define(`e',`')define(`f',`[$1]')f(e x)\n",
         "[ x]\n",
         4,

@@ -41,7 +41,7 @@ static ROWS: [(&str, Made, Made); 6] = [
         ("z\n", "", 0, ""),
     ),
     (
-        "a number of 20 digits behind a dollar",
+        "a number of 20 digits after a dollar",
         ("define(`f',`<$12345678901234567890>')f(a)\n", "", 0, ""),
         ("<>\n", "", 0, ""),
     ),

@@ -51,7 +51,7 @@ static ROWS: [Row; 9] = [
         "Ok(())\nOk(())\nOk(())\n(0, false)\n<0>(1)\n|",
     ),
     (
-        "a file that isn't opened; nothing is done behind the end",
+        "a file that isn't opened; nothing is done after the end",
         1024,
         &[
             Call::Missing("nofile"),

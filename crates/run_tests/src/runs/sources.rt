@@ -239,7 +239,7 @@ static ORDER: [Row; 9] = [
         (1, Cause::Write),
     ),
     (
-        "no room for what comes behind a file that isn't opened",
+        "no room for the output after a file that isn't opened",
         &[
             Given::File("one\n"),
             Given::Missing("nofile"),
