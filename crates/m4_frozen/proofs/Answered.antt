@@ -6,16 +6,15 @@ use Rattle.std.specs.Char.{is_ascii_digit}
 use Rattle.std.proofs.lemmas.Bool.{not-true}
 use Rattle.std.proofs.lemmas.List.{append-nil, drop_at}
 use Rattle.m4_frozen.specs.declared.fault.Refusal.{Refusal}
-use Rattle.m4_frozen.specs.declared.fault.FrozenFault.{FrozenFault}
 use Rattle.m4_frozen.specs.declared.fault.FrozenKind.{FrozenKind}
 use Rattle.m4_frozen.specs.declared.fault.FrozenKind.TheVariants as kinds
 use Rattle.m4_frozen.specs.Directive.{Directive}
 use Rattle.m4_frozen.specs.Spells.{Spells}
 use Rattle.m4_frozen.specs.ReaderSteps.{file_at}
-use Rattle.m4_frozen.specs.FaultAt.{IsFault, FaultAt, IsSettledBy, IsFaultOfFailed, read_fault}
+use Rattle.m4_frozen.specs.FaultAt.{ExactFault, IsFault, FaultAt, IsSettledBy, IsFaultOfFailed, read_fault}
 use Rattle.m4_frozen.specs.ReaderSteps.{is_settled, failed_answer}
 use Rattle.m4_frozen.specs.ReaderSteps.{fault_of}
-use Rattle.m4_frozen.specs.Outcome.{IsFaultOf}
+use Rattle.m4_frozen.specs.Outcome.{HasFault}
 use Rattle.m4_frozen.specs.Laws.{OneReading, OneAnswer, OneAnswerOfFailed, TiesReaderSteps, IsOnlyRead, IsOnlyRefused}
 use Rattle.m4_frozen.proofs.ByteTests.{by_test}
 use Rattle.m4_frozen.proofs.ReadBack.{file_at-spelled, one_spelling}
@@ -48,12 +47,12 @@ refusal_is_fault e bytes h =
     fault_at bytes (fault_of bytes e) (says_err e bytes (file_at bytes) (file_says bytes) h)
 
 -- no row is a failure of the reader
-pub not_read : (bytes : List ℕ) (fault : FrozenFault) → IsFault bytes fault → fault.kind ≡ kinds.Read
+pub not_read : (bytes : List ℕ) (fault : ExactFault) → IsFault bytes fault → fault.kind ≡ kinds.Read
     → ⊥
 not_read bytes fault h e = rw e at h.fits
 
 -- the fault of the bytes is what the reader answers
-pub fault_is_refusal : (bytes : List ℕ) (fault : FrozenFault) → FaultAt bytes fault → (e : Refusal)
+pub fault_is_refusal : (bytes : List ℕ) (fault : ExactFault) → FaultAt bytes fault → (e : Refusal)
     × (file_at bytes ≡ Err e) × (fault ≡ fault_of bytes e)
 fault_is_refusal bytes fault h = fault_read bytes fault h.is
 
@@ -73,7 +72,7 @@ is_settled-true kinds.VersionZero (b ∷ bs) h = rw (h.1 refl) refl
 is_settled-true kind (b ∷ bs) h = refl
 
 -- a settled fault is the fault of the bytes
-settled_now : (given : List ℕ) (fault : FrozenFault) → IsSettledBy given fault → IsFault given fault
+settled_now : (given : List ℕ) (fault : ExactFault) → IsSettledBy given fault → IsFault given fault
 settled_now given fault s = rw append-nil at ((s []).is)
 
 -- a test doesn't come out both ways
@@ -131,7 +130,7 @@ pub failed_if_read : (given : List ℕ) (ds : List Directive) → file_at given 
 failed_if_read given ds e = rw e at (failed_answer_is_fault given)
 
 -- the bytes that a reader gave before it failed have one fault
-failed_one : (given : List ℕ) (a b : FrozenFault) → IsFaultOfFailed given a
+failed_one : (given : List ℕ) (a b : ExactFault) → IsFaultOfFailed given a
     → IsFaultOfFailed given b → a ≡ b
 failed_one given a b (inl s) (inl t) = one_fault given a b (settled_now given a s)
     (settled_now given b t)
@@ -140,17 +139,17 @@ failed_one given a b (inr s) (inl t) = absurd (s.0 b t)
 failed_one given a b (inr s) (inr t) = s.1 ∙ sym t.1
 
 -- no row is want of memory
-no_memory_row : (bytes : List ℕ) (fault : FrozenFault) → IsFault bytes fault
+no_memory_row : (bytes : List ℕ) (fault : ExactFault) → IsFault bytes fault
     → fault.kind ≡ kinds.OutOfMemory → ⊥
 no_memory_row bytes fault h e = rw e at h.fits
 
 -- no bytes are at fault for want of memory
-pub fault_has_memory : (failed : Bool) (bytes : List ℕ) (fault : FrozenFault)
-    → IsFaultOf failed bytes fault → fault.kind ≢ kinds.OutOfMemory
+pub fault_has_memory : (failed : Bool) (bytes : List ℕ) (fault : ExactFault)
+    → HasFault failed bytes fault → fault.kind ≢ kinds.OutOfMemory
 fault_has_memory false bytes fault h = no_memory_row bytes fault h.is
 fault_has_memory true bytes fault (inl s) = no_memory_row bytes fault (settled_now bytes fault s)
 fault_has_memory true bytes fault (inr s) = λ e. let k : kinds.Read ≡ kinds.OutOfMemory =
-    ap (λ (f : FrozenFault). f.kind) (sym s.1) ∙ e in cc
+    ap (λ (f : ExactFault). f.kind) (sym s.1) ∙ e in cc
 
 -- the law that bytes spell one list of directives
 pub one_reading : OneReading
@@ -177,7 +176,7 @@ one_answer = λ bytes. by_result (FileSays bytes)
 -- the law that a failed reader has one fault
 pub one_answer_of_failed : OneAnswerOfFailed
 one_answer_of_failed = λ given.
-    let fault : FrozenFault = failed_answer given (file_at given) in (
+    let fault : ExactFault = failed_answer given (file_at given) in (
       fault,
       failed_answer_is_fault given,
       λ other h. failed_one given other fault h

@@ -5,14 +5,13 @@ use Rattle.std.proofs.lemmas.Bool.{not-true}
 use Rattle.std.proofs.lemmas.List.{length-append, append-nil}
 use Rattle.m4_frozen.specs.Ascii.{newline, hash, letter_C, letter_D, letter_F, letter_Q, letter_T, letter_V}
 use Rattle.m4_frozen.specs.declared.fault.Refusal.{Refusal}
-use Rattle.m4_frozen.specs.declared.fault.FrozenFault.{FrozenFault}
 use Rattle.m4_frozen.specs.declared.fault.FrozenKind.{FrozenKind}
 use Rattle.m4_frozen.specs.declared.fault.FrozenKind.TheVariants as kinds
 use Rattle.m4_frozen.specs.Directive.{Directive, Quotes, Comments, Text, Builtin}
 use Rattle.m4_frozen.specs.Spells.{Spells, SpellsAll}
 use Rattle.m4_frozen.specs.ReaderSteps.{refused, directive_at, skip_lines, next_at, directives_at, after_version, file_at, fault_of}
 use Rattle.m4_frozen.specs.Layout.{Layout, layout_of, pair_layout, diversion_layout, version_layout, first_is}
-use Rattle.m4_frozen.specs.FaultAt.{RowFits, FitsWithin, IsFront, IsFault, is_none_of}
+use Rattle.m4_frozen.specs.FaultAt.{ExactFault, RowFits, FitsWithin, IsFront, IsFault, is_none_of}
 use Rattle.m4_frozen.proofs.SkippedLines.{skip_lines-append, skip_lines-open}
 use Rattle.m4_frozen.proofs.ByteTests.{test, both_true, eq_of}
 use Rattle.m4_frozen.proofs.ReadBack.{one_is_read, next_at-spelled, length-SpellsAll, version_at-number, file_at-spelled}
@@ -222,7 +221,7 @@ file_refused kind false front before here f h =
     refl
 
 -- The reader answers a fault of the bytes.
-pub fault_read : (bytes : List ℕ) (fault : FrozenFault) → IsFault bytes fault → (e : Refusal)
+pub fault_read : (bytes : List ℕ) (fault : ExactFault) → IsFault bytes fault → (e : Refusal)
     × (file_at bytes ≡ Err e) × (fault ≡ fault_of bytes e)
 fault_read bytes fault h =
     let e : bytes ≡ h.front ++ (h.before ++ h.here) = h.spelled
@@ -243,7 +242,7 @@ same_stop : (a b : Refusal) → stopped a ≡ stopped b → a ≡ b
 same_stop a b e = cc
 
 -- The bytes have one fault at most.
-pub one_fault : (bytes : List ℕ) (a b : FrozenFault) → IsFault bytes a → IsFault bytes b → a ≡ b
+pub one_fault : (bytes : List ℕ) (a b : ExactFault) → IsFault bytes a → IsFault bytes b → a ≡ b
 one_fault bytes a b p q =
     let r = fault_read bytes a p in
     let s = fault_read bytes b q in
@@ -255,7 +254,7 @@ not_both : (ds : List Directive) (e : Refusal) (r : Result (List Directive) Refu
 not_both ds e r p q = cc
 
 -- Bytes that spell directives have none.
-pub spelled_no_fault : (ds : List Directive) (bytes : List ℕ) (fault : FrozenFault)
+pub spelled_no_fault : (ds : List Directive) (bytes : List ℕ) (fault : ExactFault)
     → Spells ds bytes → IsFault bytes fault → ⊥
 spelled_no_fault ds bytes fault p q = let r = fault_read bytes fault q in
     not_both ds r.0 (file_at bytes) (file_at-spelled ds bytes p) r.1

@@ -5,14 +5,13 @@ use Rattle.std.specs.List.{list_all}
 use Rattle.std.proofs.lemmas.List.{length-append, append-nil}
 use Rattle.m4_frozen.specs.Ascii.{newline, hash, letter_V}
 use Rattle.m4_frozen.specs.declared.fault.Refusal.{Refusal}
-use Rattle.m4_frozen.specs.declared.fault.FrozenFault.{FrozenFault}
 use Rattle.m4_frozen.specs.declared.fault.FrozenKind.{FrozenKind}
 use Rattle.m4_frozen.specs.declared.fault.FrozenKind.TheVariants as kinds
 use Rattle.m4_frozen.specs.Directive.{Directive}
 use Rattle.m4_frozen.specs.Spells.{AreSkippedLines, SpellsAll}
 use Rattle.m4_frozen.specs.ReaderSteps.{skip_lines, next_at, after_version}
 use Rattle.m4_frozen.specs.Layout.{first_is}
-use Rattle.m4_frozen.specs.FaultAt.{RowFits, FitsWithin, IsFront, IsFault, FaultAt, IsLongest, is_none_of}
+use Rattle.m4_frozen.specs.FaultAt.{ExactFault, RowFits, FitsWithin, IsFront, IsFault, FaultAt, IsLongest, is_none_of}
 use Rattle.m4_frozen.proofs.SkippedLines.{are_skipped, skipped_pass, skip_lines-append}
 use Rattle.m4_frozen.proofs.ByteTests.{by_test, test, eq_of}
 use Rattle.m4_frozen.proofs.ReadBack.{one_is_read, next_at-spelled, version_at-number}
@@ -286,7 +285,7 @@ front_max kind false false front other before here rest f g h e =
     row_max_before kind front other before here rest f g h e
 
 -- The front of a fault is the longest.
-pub is_longest : (bytes : List ℕ) (fault : FrozenFault) → (h : IsFault bytes fault)
+pub is_longest : (bytes : List ℕ) (fault : ExactFault) → (h : IsFault bytes fault)
     → IsLongest bytes h.front
 is_longest bytes fault h = λ w other rest g e.
     let parts : h.front ++ (h.before ++ h.here) ≡ other ++ rest =
@@ -301,5 +300,5 @@ is_longest bytes fault h = λ w other rest g e.
     )
 
 -- What the reader answers is the fault.
-pub fault_at : (bytes : List ℕ) (fault : FrozenFault) → IsFault bytes fault → FaultAt bytes fault
+pub fault_at : (bytes : List ℕ) (fault : ExactFault) → IsFault bytes fault → FaultAt bytes fault
 fault_at bytes fault h = record { is = h; longest = is_longest bytes fault h }

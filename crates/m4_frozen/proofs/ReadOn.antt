@@ -368,7 +368,15 @@ paused_at_end bytes rest here old l inside read a s none v n h =
       left = refl;
       has_read = plain (read ++ bytes) new (a.no_text ∙ n) got;
       ends = loads_at_end (read ++ bytes) new got v;
+      within = tt;
     }
+
+-- the place of a refusal is among all the bytes
+left_in : (bytes rest here : List ℕ) (old l : Loading) (inside : Bool) (x : Refusal)
+    → HasAdvanced bytes old l rest → Skips l.inside rest inside here → x.bytes_left ≤ length here
+    → x.bytes_left ≤ length bytes
+left_in bytes rest here old l inside x a s le =
+    omega (arith, le, ap length a.spelled, length-append a.front rest, ap length s.spelled, length-append s.skipped here)
 
 -- more bytes are needed
 pub paused_before_end : (bytes rest here : List ℕ) (old l final : Loading) (inside : Bool)
@@ -389,6 +397,7 @@ paused_before_end bytes rest here old l final inside x pause read n a s le refus
       ap file_at parts ∙ refused read_here got,
       ap (λ (xs : List ℕ). stays xs x) parts ∙ stays_after read_here here x le ∙ unsettled,
     ) in
+    let inside_bytes : x.bytes_left ≤ length bytes = left_in bytes rest here old l inside x a s le in
     elim keeps [
       | inl k ↦ record {
         front = a.front ++ s.skipped;
@@ -397,6 +406,7 @@ paused_before_end bytes rest here old l final inside x pause read n a s le refus
         left = sym k.0;
         has_read = subst (IsRead read_here) (sym k.1) (plain read_here new (a.no_text ∙ n) got);
         ends = rw is so;
+        within = rw is inside_bytes;
       }
       | inr k ↦ record {
         front = bytes;
@@ -405,6 +415,7 @@ paused_before_end bytes rest here old l final inside x pause read n a s le refus
         left = sym k.0;
         has_read = subst (λ (xs : List ℕ). IsRead xs final) (sym parts) (k.1 read_here got);
         ends = rw is so;
+        within = rw is inside_bytes;
       }
     ]
 
@@ -414,7 +425,7 @@ pub refused_for_good : (bytes rest here : List ℕ) (old l : Loading) (inside : 
     → HasAdvanced bytes old l rest → Skips l.inside rest inside here → x.bytes_left ≤ length here
     → ((before : List ℕ) → HasRead before (record l { inside = inside }) → file_at (before ++ here) ≡ Err x)
     → stays here x ≡ true → HasRead read old
-    → (file_at (read ++ bytes) ≡ Err x) × (stays (read ++ bytes) x ≡ true)
+    → (file_at (read ++ bytes) ≡ Err x) × (stays (read ++ bytes) x ≡ true) × (x.bytes_left ≤ length bytes)
 refused_for_good bytes rest here old l inside x read a s le refused settled h =
     let new : Loading = record l { inside = inside } in
     let parts : read ++ bytes ≡ read ++ (a.front ++ s.skipped) ++ here =
@@ -424,6 +435,7 @@ refused_for_good bytes rest here old l inside x read a s le refused settled h =
     (has_read_lines (read ++ a.front) s.skipped l inside (a.has_read read h) s.same) in (
       ap file_at parts ∙ refused (read ++ (a.front ++ s.skipped)) got,
       ap (λ (xs : List ℕ). stays xs x) parts ∙ stays_after (read ++ (a.front ++ s.skipped)) here x le ∙ settled,
+      left_in bytes rest here old l inside x a s le,
     )
 
 -- a stop where one more was to be read, and what is answered for it

@@ -6,13 +6,12 @@ use Rattle.std.specs.List.{list_all}
 use Rattle.std.specs.Char.{is_ascii_digit}
 use Rattle.std.proofs.lemmas.Bool.{lt-ltb}
 use Rattle.m4_frozen.specs.Ascii.{digit_zero}
-use Rattle.m4_frozen.specs.declared.fault.FrozenFault.{FrozenFault}
 use Rattle.m4_frozen.specs.declared.fault.FrozenKind.{FrozenKind}
 use Rattle.m4_frozen.specs.declared.fault.FrozenKind.TheVariants as kinds
 use Rattle.m4_frozen.specs.Spells.{AreDigits, value_of, value_from, signed, with_sign}
 use Rattle.m4_frozen.specs.ReaderSteps.{digits_at}
 use Rattle.m4_frozen.specs.Layout.{Part, Version, Length, Number, Comma, NewLine, String, Layout, Done, Then, version_layout, IsEnded, no_digit_first, first_is, HasDigits, HasSigned, IsWrong, IsWrongWithin}
-use Rattle.m4_frozen.specs.FaultAt.{RowFits, FitsWithin, IsFault}
+use Rattle.m4_frozen.specs.FaultAt.{ExactFault, RowFits, FitsWithin, IsFault}
 use Rattle.m4_frozen.proofs.ByteTests.{both_true, lt_of}
 use Rattle.m4_frozen.proofs.Digits.{digits_are, value_from-ge}
 use Rattle.m4_frozen.proofs.ReadBack.{magnitude_fits}
@@ -215,7 +214,7 @@ row_more kinds.Read versioned before here more firm h = absurd h
 row_more kinds.OutOfMemory versioned before here more firm h = absurd h
 
 -- Whatever follows, a firm fault stays the fault.
-pub firm_stays : (bytes : List ℕ) (fault : FrozenFault) → (h : IsFault bytes fault)
+pub firm_stays : (bytes : List ℕ) (fault : ExactFault) → (h : IsFault bytes fault)
     → IsFirm fault.kind h.here → (more : List ℕ) → IsFault (bytes ++ more) fault
 firm_stays bytes fault h firm more = record {
   versioned = h.versioned;

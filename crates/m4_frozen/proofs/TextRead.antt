@@ -1,6 +1,6 @@
 -- A text that is read as its bytes come: a diversion's or a name's.
 use Rattle.std.proofs.Common.{◌≡◌, ◌≢◌, ℕ, zero, suc, ◌+◌, ◌-◌, ◌≤◌, ℤ, pos, negsuc, Bool, true, false, cond, ltb, eqb, List, [], ◌∷◌, ◌++◌, length, take, drop, min, Option, Some, None, unwrap_or, Ordering, Less, Equal, Greater, Result, Ok, Err, refl, sym, ap, subst, ◌∙◌, append_assoc, arith, inl, inr}
-use Rattle.std.specs.Prelude.{FitsSigned}
+use Rattle.std.specs.Prelude.{FitsSigned, IfSome}
 use Rattle.std.specs.Int.{w32}
 use Rattle.std.specs.Cmp.{int_cmp_total, tied_itself}
 use Rattle.std.specs.Ordering.{int_cmp}
@@ -436,10 +436,19 @@ settled_here b bs e h = elim (test (eqb b newline)) [
   | inr k ↦ (let p = rw k at h in cc)
 ]
 
+-- what is among the last bytes is among all of them
+longer_left : (left : ℕ) (bytes one after : List ℕ) → bytes ≡ one ++ after → left ≤ length after → left ≤ length bytes
+longer_left left bytes one after e le = omega (arith, le, ap length e, length-append one after)
+
+longer_within : (refusal : Option Refusal) (bytes one after : List ℕ) → bytes ≡ one ++ after
+    → IfSome refusal (λ e. e.bytes_left ≤ length after) → IfSome refusal (λ e. e.bytes_left ≤ length bytes)
+longer_within None bytes one after e h = tt
+longer_within (Some x) bytes one after e h = longer_left x.bytes_left bytes one after e h
+
 pub text_refused : (read bytes c after : List ℕ) (l : Loading) (ds : List Directive) (make : List ℕ → Directive) (came : List ℕ)
     (m : ℕ) (e : Refusal) → bytes ≡ c ++ after → m ≡ length c → after ≢ []
     → expect_byte newline after ≡ Err e → IsWithinText read l ds make came m
-    → (file_at (read ++ bytes) ≡ Err e) × (stays (read ++ bytes) e ≡ true)
+    → (file_at (read ++ bytes) ≡ Err e) × (stays (read ++ bytes) e ≡ true) × (e.bytes_left ≤ length bytes)
 text_refused read bytes c [] l ds make came m e parts all some h w = absurd (some refl)
 text_refused read bytes c (b ∷ bs) l ds make came m e parts all some h w =
     let g = w.goes_on bytes in
@@ -453,6 +462,7 @@ text_refused read bytes c (b ∷ bs) l ds make came m e parts all some h w =
       ap (λ (xs : List ℕ). stays xs e) whole
           ∙ stays_after (read ++ c) (b ∷ bs) e (rw is (omega arith))
           ∙ rw is (let k : length (b ∷ bs) - length (b ∷ bs) ≡ 0 = omega arith in rw k refl),
+      longer_left e.bytes_left bytes c (b ∷ bs) parts (rw is (omega arith)),
     )
 
 -- bytes read after a text are read after those before it
@@ -470,13 +480,14 @@ text_then_whole Before bytes after mid new (Ok pause) x a = λ read h.
       left = p.left;
       has_read = subst (λ (xs : List ℕ). IsRead xs new) (append_assoc read x.one p.front) p.has_read;
       ends = subst (λ (xs : List ℕ). EndsSo xs new pause.refusal) (sym same) p.ends;
+      within = longer_within pause.refusal bytes x.one after x.spelled p.within;
     }
 text_then_whole Before bytes after mid new (Err stops.OutOfMemory) x a = tt
 text_then_whole Before bytes after mid new (Err (stops.Refused e)) x a = λ read h.
     let p = a (read ++ x.one) (x.has_read read h) in
     let same : read ++ bytes ≡ (read ++ x.one) ++ after =
     ap (λ (xs : List ℕ). read ++ xs) x.spelled ∙ sym (append_assoc read x.one after) in
-    (ap file_at same ∙ p.0, ap (λ (xs : List ℕ). stays xs e) same ∙ p.1)
+    (ap file_at same ∙ p.0, ap (λ (xs : List ℕ). stays xs e) same ∙ p.1, longer_left e.bytes_left bytes x.one after x.spelled p.2)
 
 -- nothing is left after all bytes
 drop_all : (xs : List ℕ) → drop (length xs) xs ≡ []
@@ -494,6 +505,7 @@ all_were_read Before bytes new all = λ read h. let a = all read h in record {
   left = refl;
   has_read = a.0;
   ends = (a.1, short_is_open (read ++ bytes));
+  within = omega arith;
 }
   where
     short_is_open : (given : List ℕ) → stays given short ≡ false
@@ -512,6 +524,23 @@ pub read_on_as : (Before Since : List ℕ → Type 0) (bytes : List ℕ) (new : 
 read_on_as Before Since bytes new (Ok pause) same a = λ read h. a read (same read h)
 read_on_as Before Since bytes new (Err stops.OutOfMemory) same a = tt
 read_on_as Before Since bytes new (Err (stops.Refused e)) same a = λ read h. a read (same read h)
+
+-- a text that is refused, or memory that ran out in it
+pub text_stopped : (Before Since : List ℕ → Type 0) (bytes : List ℕ) (mid new : Loading) (stop : ReadStop)
+    → ((read : List ℕ) → Since read → Before read) → ReadsText Before bytes mid (Err stop) → ReadsOn Since bytes new (Err stop)
+text_stopped Before Since bytes mid new stops.OutOfMemory same x = tt
+text_stopped Before Since bytes mid new (stops.Refused e) same x = λ read h. x read (same read h)
+
+-- no text is open: the same was read
+pub whole_since : (read : List ℕ) (old : Loading) (o now : Option Begun) → o ≡ old.begun
+    → o ≡ None → IsRead read old → HasRead read (record old { begun = now })
+whole_since read old o now was at h =
+    let k : HasRead read old = subst (λ (x : Option Begun). ReadAs x read old) (sym was ∙ at) h in record {
+      directives = k.directives;
+      state = k.state;
+      issued = k.issued;
+      goes_on = k.goes_on;
+    }
 
 -- a diversion's text that is read on: the same was read
 pub diverted_since : (read : List ℕ) (old : Loading) (o now : Option Begun) (m : ℕ) → o ≡ old.begun

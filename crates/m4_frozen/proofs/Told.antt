@@ -3,11 +3,10 @@ use Rattle.std.proofs.Common.{◌≡◌, ℕ, Bool, true, false, List, [], ◌++
 use Rattle.std.specs.Prelude.{IfSome}
 use Rattle.std.proofs.lemmas.List.{append-nil}
 use Rattle.m4_state.specs.Device.{Script, after_bytes, IsAtEnd, IsAtFault}
-use Rattle.m4_frozen.specs.declared.fault.FrozenFault.{FrozenFault}
 use Rattle.m4_frozen.specs.declared.loading.Loaded.{Loaded}
 use Rattle.m4_frozen.specs.Directive.{Directive}
-use Rattle.m4_frozen.specs.FaultAt.{FaultAt, IsSettledBy, IsFaultOfFailed}
-use Rattle.m4_frozen.specs.Outcome.{IsFaultOf, Loads}
+use Rattle.m4_frozen.specs.FaultAt.{ExactFault, FaultAt, IsSettledBy, IsFaultOfFailed}
+use Rattle.m4_frozen.specs.Outcome.{HasFault, Loads}
 use Rattle.m4_frozen.specs.Spells.{Spells}
 use Rattle.m4_frozen.proofs.FirstFault.{spelled_no_fault}
 
@@ -20,16 +19,16 @@ by_told P at_first None given e f = subst (λ (o : Option Script). IfSome o P) (
 by_told P at_first (Some s) given e f = subst (λ (o : Option Script). IfSome o P) (sym e) (f s refl)
 
 -- the fault of bytes that settle it
-of_settled : (fails : Bool) (given more : List ℕ) (fault : FrozenFault) → IsSettledBy given fault
-    → IsFaultOf fails (given ++ more) fault
+of_settled : (fails : Bool) (given more : List ℕ) (fault : ExactFault) → IsSettledBy given fault
+    → HasFault fails (given ++ more) fault
 of_settled false given more fault h = h more
 of_settled true given more fault h = inl (λ others. rw (append_assoc given more others) (h (more ++ others)))
 
-pub settled_told : (at_first told : Option Script) (given : List ℕ) (fault : FrozenFault)
+pub settled_told : (at_first told : Option Script) (given : List ℕ) (fault : ExactFault)
     → at_first ≡ after_bytes given told → IsSettledBy given fault
-    → IfSome at_first (λ s. IsFaultOf s.fails s.bytes fault)
+    → IfSome at_first (λ s. HasFault s.fails s.bytes fault)
 settled_told at_first told given fault e h =
-    by_told (λ s. IsFaultOf s.fails s.bytes fault) at_first told given e
+    by_told (λ s. HasFault s.fails s.bytes fault) at_first told given e
     (λ s k. of_settled s.fails given s.bytes fault h)
 
 -- the script at the end
@@ -42,11 +41,11 @@ at_fault : (told : Option Script) (s : Script) → IsAtFault told → told ≡ S
 at_fault told s h e = rw e at h
 
 -- the end was reached
-pub ended_told : (at_first told : Option Script) (given : List ℕ) (fault : FrozenFault)
+pub ended_told : (at_first told : Option Script) (given : List ℕ) (fault : ExactFault)
     → at_first ≡ after_bytes given told → IsAtEnd told → FaultAt given fault
-    → IfSome at_first (λ s. IsFaultOf s.fails s.bytes fault)
+    → IfSome at_first (λ s. HasFault s.fails s.bytes fault)
 ended_told at_first told given fault e end h =
-    by_told (λ s. IsFaultOf s.fails s.bytes fault) at_first told given e
+    by_told (λ s. HasFault s.fails s.bytes fault) at_first told given e
     (λ s k. let p = at_end told s end k in rw (p.0, p.1, append-nil given) h)
 
 pub loaded_told : (at_first told : Option Script) (given : List ℕ) (loaded : Loaded)
@@ -57,21 +56,21 @@ loaded_told at_first told given loaded e end h =
     (λ s k. let p = at_end told s end k in (p.1, rw (p.0, append-nil given) h))
 
 -- the reader failed
-pub failed_told : (at_first told : Option Script) (given : List ℕ) (fault : FrozenFault)
+pub failed_told : (at_first told : Option Script) (given : List ℕ) (fault : ExactFault)
     → at_first ≡ after_bytes given told → IsAtFault told → IsFaultOfFailed given fault
-    → IfSome at_first (λ s. IsFaultOf s.fails s.bytes fault)
+    → IfSome at_first (λ s. HasFault s.fails s.bytes fault)
 failed_told at_first told given fault e end h =
-    by_told (λ s. IsFaultOf s.fails s.bytes fault) at_first told given e
+    by_told (λ s. HasFault s.fails s.bytes fault) at_first told given e
     (λ s k. let p = at_fault told s end k in rw (p.0, p.1, append-nil given) h)
 
 -- bytes that have a fault are not spelled, unless the reader failed
-not_spelled : (fails : Bool) (bytes : List ℕ) (fault : FrozenFault) (ds : List Directive)
-    → IsFaultOf fails bytes fault → Spells ds bytes → fails ≡ true
+not_spelled : (fails : Bool) (bytes : List ℕ) (fault : ExactFault) (ds : List Directive)
+    → HasFault fails bytes fault → Spells ds bytes → fails ≡ true
 not_spelled true bytes fault ds h p = refl
 not_spelled false bytes fault ds h p = absurd (spelled_no_fault ds bytes fault p h.is)
 
-pub refused_told : (at_first : Option Script) (fault : FrozenFault)
-    → IfSome at_first (λ s. IsFaultOf s.fails s.bytes fault)
+pub refused_told : (at_first : Option Script) (fault : ExactFault)
+    → IfSome at_first (λ s. HasFault s.fails s.bytes fault)
     → IfSome at_first (λ s. (ds : List Directive) → Spells ds s.bytes → s.fails ≡ true)
 refused_told None fault h = tt
 refused_told (Some s) fault h = λ ds p. not_spelled s.fails s.bytes fault ds h p

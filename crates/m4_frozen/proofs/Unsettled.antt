@@ -6,12 +6,11 @@ use Rattle.std.specs.Char.{is_ascii_digit}
 use Rattle.std.proofs.lemmas.Bool.{not-true}
 use Rattle.std.proofs.lemmas.List.{length-append, append-nil, drop_at}
 use Rattle.m4_frozen.specs.Ascii.{newline}
-use Rattle.m4_frozen.specs.declared.fault.FrozenFault.{FrozenFault}
 use Rattle.m4_frozen.specs.declared.fault.FrozenKind.{FrozenKind}
 use Rattle.m4_frozen.specs.declared.fault.FrozenKind.TheVariants as kinds
 use Rattle.m4_frozen.specs.Spells.{IsSkippedLine, AreDigits, value_of, AreSkippedLines, with_sign}
 use Rattle.m4_frozen.specs.Layout.{Part, Version, Length, Number, Comma, NewLine, Layout, Done, Then, version_layout, no_digit_first, HasDigits, IsWrong, IsWrongWithin}
-use Rattle.m4_frozen.specs.FaultAt.{RowFits, FitsWithin, IsFault, IsSettledBy}
+use Rattle.m4_frozen.specs.FaultAt.{ExactFault, RowFits, FitsWithin, IsFault, IsSettledBy}
 use Rattle.m4_frozen.proofs.SkippedLines.{AreSkippedLines-push}
 use Rattle.m4_frozen.proofs.ByteTests.{test, both_true}
 use Rattle.m4_frozen.proofs.FirstFault.{one_fault}
@@ -110,7 +109,7 @@ not_zero : (here : List ℕ) → value_of (here ++ 49 ∷ []) ≡ 0 → ⊥
 not_zero here e = let k = value_from-append 0 here (49 ∷ []) in omega (arith, k)
 
 -- A zero that digits may follow is not settled.
-zero_unsettled : (bytes : List ℕ) (fault : FrozenFault) → (h : IsFault bytes fault)
+zero_unsettled : (bytes : List ℕ) (fault : ExactFault) → (h : IsFault bytes fault)
     → fault.kind ≡ kinds.VersionZero → IsTrue (list_all is_ascii_digit h.here)
     → IsSettledBy bytes fault → ⊥
 zero_unsettled bytes fault h is all settled =
@@ -158,7 +157,7 @@ row_end kinds.Read versioned before h = absurd h
 row_end kinds.OutOfMemory versioned before h = absurd h
 
 -- where a byte is missing, one more moves the fault
-short_unsettled : (bytes : List ℕ) (fault : FrozenFault) → (h : IsFault bytes fault) → h.here ≡ []
+short_unsettled : (bytes : List ℕ) (fault : ExactFault) → (h : IsFault bytes fault) → h.here ≡ []
     → fault.kind ≡ kinds.PrematureEnd → IsSettledBy bytes fault → ⊥
 short_unsettled bytes fault h none is settled =
     let q = (settled (0 ∷ [])).is in
@@ -178,7 +177,7 @@ short_unsettled bytes fault h none is settled =
     )
 
 -- where a line is open, its newline moves the fault
-open_unsettled : (bytes : List ℕ) (fault : FrozenFault) → (h : IsFault bytes fault) → h.here ≡ []
+open_unsettled : (bytes : List ℕ) (fault : ExactFault) → (h : IsFault bytes fault) → h.here ≡ []
     → h.versioned ≡ false → IsSkippedLine h.before → IsSettledBy bytes fault → ⊥
 open_unsettled bytes fault h none first is settled =
     let lines : AreSkippedLines h.front = rw first at h.is_front in
@@ -200,7 +199,7 @@ open_unsettled bytes fault h none first is settled =
     let same = one_fault (bytes ++ newline ∷ []) fault _ (settled (newline ∷ [])).is r in
     omega (
       arith,
-      ap (λ (f : FrozenFault). f.offset) same,
+      ap (λ (f : ExactFault). f.offset) same,
       h.place,
       ap length h.spelled,
       ap length none,
@@ -209,7 +208,7 @@ open_unsettled bytes fault h none first is settled =
     )
 
 -- no fault at the end is settled
-end_unsettled : (bytes : List ℕ) (fault : FrozenFault) → (h : IsFault bytes fault) → h.here ≡ []
+end_unsettled : (bytes : List ℕ) (fault : ExactFault) → (h : IsFault bytes fault) → h.here ≡ []
     → IsSettledBy bytes fault → ⊥
 end_unsettled bytes fault h none settled =
     elim (row_end fault.kind h.versioned h.before (rw none at h.fits)) [
@@ -218,7 +217,7 @@ end_unsettled bytes fault h none settled =
     ]
 
 -- A fault of bytes is settled by them just where it is firm.
-pub settled_is_firm : (bytes : List ℕ) (fault : FrozenFault) → (h : IsFault bytes fault)
+pub settled_is_firm : (bytes : List ℕ) (fault : ExactFault) → (h : IsFault bytes fault)
     → IsSettledBy bytes fault ↔ IsFirm fault.kind h.here
 settled_is_firm bytes fault h = (
   λ settled. (

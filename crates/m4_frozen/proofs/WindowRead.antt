@@ -1,5 +1,5 @@
 -- A file that is read window by window: what goes on, and what is answered.
-use Rattle.std.proofs.Common.{◌≡◌, ◌≢◌, ℕ, ◌-◌, ◌≤◌, true, false, List, [], ◌++◌, length, drop, Option, Some, None, Result, Ok, Err, refl, sym, ap, ◌∙◌, append_assoc, arith, inl, inr}
+use Rattle.std.proofs.Common.{◌≡◌, ◌≢◌, ℕ, ◌+◌, ◌-◌, ◌≤◌, subst, true, false, List, [], ◌++◌, length, drop, Option, Some, None, Result, Ok, Err, refl, sym, ap, ◌∙◌, append_assoc, arith, inl, inr}
 use Rattle.std.specs.Prelude.{IfSome, IfOk, IfErr}
 use Rattle.std.proofs.lemmas.List.{length-append, drop_at}
 use Rattle.m4_state.specs.Device.{Script, after_bytes, IsAtEnd, IsAtFault}
@@ -13,12 +13,32 @@ use Rattle.m4_frozen.specs.declared.loading.Pause.{Pause}
 use Rattle.m4_frozen.specs.declared.window.Window.{Window}
 use Rattle.m4_frozen.specs.Blocks.{HasCome, IsUnderway, ReadsWindow, EndsAs}
 use Rattle.m4_frozen.specs.Directive.{Directive}
-use Rattle.m4_frozen.specs.FaultAt.{FaultAt, IsSettledBy, IsFaultOfFailed, read_fault}
-use Rattle.m4_frozen.specs.Outcome.{IfFault, IsFaultOf, Loads}
+use Rattle.m4_frozen.specs.FaultAt.{ExactFault, as_offset, reported, FaultAt, IsSettledBy, IsFaultOfFailed, read_fault}
+use Rattle.m4_frozen.specs.Outcome.{IfFault, HasFault, IsFaultOf, Loads}
 use Rattle.m4_frozen.specs.Spells.{Spells}
 use Rattle.m4_frozen.specs.Underway.{EndsSo}
 use Rattle.m4_frozen.proofs.Answered.{read_is_spelled, not_read, fault_has_memory, failed_unless_stays, failed_if_read}
 use Rattle.m4_frozen.proofs.Told.{settled_told, ended_told, loaded_told, failed_told, refused_told}
+
+-- ---- offsets that stay at their greatest value
+
+-- counted on from one
+pub counted_on : (n k dropped : ℕ) → dropped ≡ as_offset n → as_offset (dropped + k) ≡ as_offset (n + k)
+counted_on n k dropped e = rw e (omega arith)
+
+-- the place of a refusal whose bytes are among the last ones
+pub place_of : (read bytes : List ℕ) (left dropped : ℕ) → dropped ≡ as_offset (length read) → left ≤ length bytes
+    → as_offset (dropped + (length bytes - left)) ≡ as_offset (length (read ++ bytes) - left)
+place_of read bytes left dropped e le =
+    counted_on (length read) (length bytes - left) dropped e
+    ∙ ap as_offset (let k : length read + (length bytes - left) ≡ length (read ++ bytes) - left =
+    omega (arith, length-append read bytes) in k)
+
+-- a fault as it is reported
+as_reported : (at_first : Option Script) (f : ExactFault) → IfSome at_first (λ s. HasFault s.fails s.bytes f)
+    → IfSome at_first (λ s. IsFaultOf s.fails s.bytes (reported f))
+as_reported None f h = tt
+as_reported (Some s) f h = (f, h, refl)
 
 -- bytes came
 pub filled : (at_first told later : Option Script) (w v : Window) (l : Loading)
@@ -30,7 +50,7 @@ filled at_first told later w v l u c =
       gives = u.gives ∙ ap (after_bytes (u.read ++ w.bytes)) c.gives
           ∙ after_bytes-append (u.read ++ w.bytes) c.block later
           ∙ ap (λ (xs : List ℕ). after_bytes xs later) (sym all);
-      came = omega (arith, c.came, u.came, ap length all, length-append (u.read ++ w.bytes) c.block);
+      dropped = c.dropped ∙ u.dropped;
       has_read = u.has_read;
     }
 
@@ -45,9 +65,10 @@ left_within at_first told w old new pause u r =
 -- what was read is dropped
 pub dropped : (at_first told : Option Script) (w v : Window) (old new : Loading) (pause : Pause)
     → IsUnderway at_first told w old → ReadsWindow w old new (Ok pause)
-    → v.bytes ≡ drop (length w.bytes - pause.left) w.bytes → v.came ≡ w.came
+    → v.bytes ≡ drop (length w.bytes - pause.left) w.bytes
+    → v.dropped ≡ as_offset (w.dropped + (length w.bytes - pause.left))
     → IsUnderway at_first told v new
-dropped at_first told w v old new pause u r kept came =
+dropped at_first told w v old new pause u r kept count =
     let p = r u.read u.has_read in
     let rest : v.bytes ≡ p.rest =
     kept ∙ ap (drop (length w.bytes - pause.left)) p.spelled
@@ -58,7 +79,9 @@ dropped at_first told w v old new pause u r kept came =
     ∙ ap (λ (xs : List ℕ). u.read ++ xs) (ap (λ (xs : List ℕ). p.front ++ xs) rest ∙ sym p.spelled) in record {
       read = u.read ++ p.front;
       gives = u.gives ∙ ap (λ (xs : List ℕ). after_bytes xs told) (sym all);
-      came = came ∙ u.came ∙ ap length (sym all);
+      dropped = count ∙ counted_on (length u.read) (length w.bytes - pause.left) w.dropped u.dropped
+          ∙ ap as_offset (let k : length u.read + (length w.bytes - pause.left) ≡ length (u.read ++ p.front) =
+          omega (arith, p.left, ap length p.spelled, length-append p.front p.rest, length-append u.read p.front) in k);
       has_read = p.has_read;
     }
 
@@ -71,13 +94,13 @@ pub record Answers (at_first : Option Script) (r : Result Loaded FrozenFault) : 
   pub not_read : IfErr r (λ f. f.kind ≡ kinds.Read → ⊥)
 
 -- a fault of the bytes
-refuses : (at_first : Option Script) (f : FrozenFault)
-    → IfSome at_first (λ s. IsFaultOf s.fails s.bytes f) → f.kind ≢ kinds.OutOfMemory
-    → (f.kind ≡ kinds.Read → ⊥) → Answers at_first (Err f)
+refuses : (at_first : Option Script) (f : ExactFault)
+    → IfSome at_first (λ s. HasFault s.fails s.bytes f) → f.kind ≢ kinds.OutOfMemory
+    → (f.kind ≡ kinds.Read → ⊥) → Answers at_first (Err (reported f))
 refuses at_first f h room unread = record {
   loaded = tt;
   accepts = λ other. refused_told at_first f h;
-  fault = λ other. h;
+  fault = λ other. as_reported at_first f h;
   no_memory = λ e. absurd (room e);
   not_read = unread;
 }
@@ -98,10 +121,12 @@ pub window_refused : (at_first told : Option Script) (w : Window) (old new : Loa
 window_refused at_first told w old new f u (inl e) = rw e (lacks_memory at_first)
 window_refused at_first told w old new f u (inr h) =
     let given : List ℕ = u.read ++ w.bytes in
-    let settled : IsSettledBy given f = h u.read u.has_read u.came in
-    let now : FaultAt (given ++ []) f = settled [] in
-    refuses at_first f (settled_told at_first told given f u.gives settled)
-    (fault_has_memory false (given ++ []) f now) (not_read (given ++ []) f now.is)
+    let k = h u.read u.has_read u.dropped in
+    let settled : IsSettledBy given k.0 = k.1 in
+    let now : FaultAt (given ++ []) k.0 = settled [] in
+    subst (λ (x : FrozenFault). Answers at_first (Err x)) (sym k.2)
+    (refuses at_first k.0 (settled_told at_first told given k.0 u.gives settled)
+    (fault_has_memory false (given ++ []) k.0 now) (not_read (given ++ []) k.0 now.is))
 
 -- the end of the file
 pub window_ended : (at_first told : Option Script) (w : Window) (old new : Loading) (pause : Pause)
@@ -119,9 +144,12 @@ window_ended at_first told w old new pause (Ok l) u p end h =
     }
 window_ended at_first told w old new pause (Err f) u p end h =
     let given : List ℕ = u.read ++ w.bytes in
-    let now : FaultAt given f = h given (p u.read u.has_read).ends u.came in
-    refuses at_first f (ended_told at_first told given f u.gives end now)
-    (fault_has_memory false given f now) (not_read given f now.is)
+    let q = p u.read u.has_read in
+    let k = h u.read q.ends q.within u.dropped in
+    let now : FaultAt given k.0 = k.1 in
+    subst (λ (x : FrozenFault). Answers at_first (Err x)) (sym k.2)
+    (refuses at_first k.0 (ended_told at_first told given k.0 u.gives end now)
+    (fault_has_memory false given k.0 now) (not_read given k.0 now.is))
 
 -- what a pause says of a reader that failed
 failed_pause : (given : List ℕ) (l : Loading) (refusal : Option Refusal) → EndsSo given l refusal
@@ -133,13 +161,17 @@ failed_pause given l (Some e) h = failed_unless_stays given e h.0 h.1
 pub window_failed : (at_first told : Option Script) (w : Window) (old new : Loading) (pause : Pause)
     (f : FrozenFault)
     → IsUnderway at_first told w old → ReadsWindow w old new (Ok pause) → IsAtFault told
-    → f ≡ record { kind = kinds.Read; offset = w.came }
+    → f ≡ record { kind = kinds.Read; offset = as_offset (w.dropped + length w.bytes) }
     → IfSome at_first (λ s. IsFaultOf s.fails s.bytes f)
 window_failed at_first told w old new pause f u p end e =
     let given : List ℕ = u.read ++ w.bytes in
-    let place : f ≡ read_fault given = e ∙ ap (λ (n : ℕ). record { kind = kinds.Read; offset = n }) u.came in
-    failed_told at_first told given f u.gives end
-    (rw place (failed_pause given new pause.refusal (p u.read u.has_read).ends))
+    let place : f ≡ reported (read_fault given) =
+    e ∙ ap (λ (n : ℕ). let g : FrozenFault = record { kind = kinds.Read; offset = n } in g)
+    (counted_on (length u.read) (length w.bytes) w.dropped u.dropped
+    ∙ ap as_offset (sym (length-append u.read w.bytes))) in
+    subst (λ (x : FrozenFault). IfSome at_first (λ s. IsFaultOf s.fails s.bytes x)) (sym place)
+    (as_reported at_first (read_fault given) (failed_told at_first told given (read_fault given) u.gives end
+    (failed_pause given new pause.refusal (p u.read u.has_read).ends)))
 
 -- what is never answered
 pub never_read : (P : Type 0) (r : Result Loaded FrozenFault) → IfErr r (λ f. f.kind ≡ kinds.Read → ⊥)

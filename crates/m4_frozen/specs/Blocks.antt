@@ -1,7 +1,7 @@
 -- Blocks: the progress of loading a file whose bytes arrive block by block.
 -- Not believed: private contracts cite it; `read_frozen` states the same for whole files.
 -- Words: Fills, Stands, failures_after, IsUnderway.
-use Rattle.std.specs.Prelude.{◌≡◌, ℕ, ◌+◌, List, ◌++◌, length, Option, Result, Ok, Err, ◌⊎◌}
+use Rattle.std.specs.Prelude.{◌≡◌, ℕ, ◌≤◌, List, ◌++◌, length, Option, IfSome, Result, Ok, Err, ◌⊎◌}
 use Rattle.m4_state.specs.Device.{Script, after_bytes, one_more, IsAtEnd, IsAtFault}
 use Rattle.m4_frozen.specs.declared.fault.FrozenKind.TheVariants as kinds
 use Rattle.m4_frozen.specs.declared.fault.FrozenFault.{FrozenFault}
@@ -11,7 +11,7 @@ use Rattle.m4_frozen.specs.declared.loading.Pause.{Pause}
 use Rattle.m4_frozen.specs.declared.window.Behind.{Behind}
 use Rattle.m4_frozen.specs.declared.window.Behind.TheVariants as marks
 use Rattle.m4_frozen.specs.declared.window.Window.{Window}
-use Rattle.m4_frozen.specs.FaultAt.{FaultAt, IsSettledBy}
+use Rattle.m4_frozen.specs.FaultAt.{ExactFault, as_offset, reported, FaultAt, IsSettledBy}
 use Rattle.m4_frozen.specs.Outcome.{Loads}
 use Rattle.m4_frozen.specs.Underway.{IsRead, HasPaused, EndsSo}
 
@@ -30,7 +30,7 @@ failures_after after n = n
 pub record HasCome (old new : Window) (messages_old messages_new : Option Script) : Type 0 where
   pub block : List ℕ
   pub bytes : new.bytes ≡ old.bytes ++ block
-  pub came : new.came ≡ old.came + length block
+  pub dropped : new.dropped ≡ old.dropped
   pub gives : messages_old ≡ after_bytes block messages_new
 
 -- a block was read, and this is known of the reader
@@ -42,7 +42,7 @@ pub record IsUnderway (at_first told : Option Script) (window : Window) (loading
     : Type 0 where
   pub read : List ℕ
   pub gives : at_first ≡ after_bytes (read ++ window.bytes) told
-  pub came : window.came ≡ length (read ++ window.bytes)
+  pub dropped : window.dropped ≡ as_offset (length read)
   pub has_read : IsRead read loading
 
 -- the result of reading a window, whose bytes follow those that are loaded
@@ -50,12 +50,15 @@ abbrev pub ReadsWindow : Window → Loading → Loading → Result Pause FrozenF
 ReadsWindow window old new (Ok pause) =
     (read : List ℕ) → IsRead read old → HasPaused read window.bytes new pause
 ReadsWindow window old new (Err fault) = (fault ≡ record { kind = kinds.OutOfMemory; offset = 0 })
-    ⊎ ((read : List ℕ) → IsRead read old → window.came ≡ length (read ++ window.bytes)
-    → IsSettledBy (read ++ window.bytes) fault)
+    ⊎ ((read : List ℕ) → IsRead read old → window.dropped ≡ as_offset (length read)
+    → (exact : ExactFault) × IsSettledBy (read ++ window.bytes) exact × (fault ≡ reported exact))
 
 -- the result if the file ends after a window
 abbrev pub EndsAs : Window → Loading → Pause → Result Loaded FrozenFault → Type 0
 EndsAs window loading pause (Ok loaded) = (given : List ℕ) → EndsSo given loading pause.refusal
     → Loads given loaded
-EndsAs window loading pause (Err fault) = (given : List ℕ) → EndsSo given loading pause.refusal
-    → window.came ≡ length given → FaultAt given fault
+EndsAs window loading pause (Err fault) = (read : List ℕ)
+    → EndsSo (read ++ window.bytes) loading pause.refusal
+    → IfSome pause.refusal (λ e. e.bytes_left ≤ length window.bytes)
+    → window.dropped ≡ as_offset (length read)
+    → (exact : ExactFault) × FaultAt (read ++ window.bytes) exact × (fault ≡ reported exact)

@@ -9,13 +9,12 @@ use Rattle.m4_state.specs.declared.definition.Def.{Def}
 use Rattle.m4_state.specs.declared.definition.Def.TheVariants as defs
 use Rattle.m4_state.specs.Builtin.{name_of}
 use Rattle.m4_state.specs.State.{State, IsState, IsSized}
-use Rattle.m4_frozen.specs.declared.fault.FrozenFault.{FrozenFault}
 use Rattle.m4_frozen.specs.declared.fault.Refusal.{Refusal}
 use Rattle.m4_frozen.specs.Denote.{denote}
 use Rattle.m4_frozen.specs.Directive.{Directive}
 use Rattle.m4_frozen.specs.Freeze.{freeze}
 use Rattle.m4_frozen.specs.Spells.{Spells}
-use Rattle.m4_frozen.specs.FaultAt.{FaultAt, IsFaultOfFailed}
+use Rattle.m4_frozen.specs.FaultAt.{ExactFault, FaultAt, IsFaultOfFailed}
 use Rattle.m4_frozen.specs.ReaderSteps.{file_at, fault_of, failed_answer}
 
 -- the same bytes spell only one list of directives
@@ -28,13 +27,13 @@ pub record IsOnlyRead (bytes : List ℕ) : Type 0 where
   pub directives : List Directive
   pub spelled : Spells directives bytes
   pub only : (others : List Directive) → Spells others bytes → others ≡ directives
-  pub no_fault : (fault : FrozenFault) → FaultAt bytes fault → ⊥
+  pub no_fault : (fault : ExactFault) → FaultAt bytes fault → ⊥
 
 -- the bytes have exactly this fault, and no directives spell them
 pub record IsOnlyRefused (bytes : List ℕ) : Type 0 where
-  pub fault : FrozenFault
+  pub fault : ExactFault
   pub is_fault : FaultAt bytes fault
-  pub only : (other : FrozenFault) → FaultAt bytes other → other ≡ fault
+  pub only : (other : ExactFault) → FaultAt bytes other → other ≡ fault
   pub not_spelled : (directives : List Directive) → Spells directives bytes → ⊥
 
 -- any bytes are read in one way, or refused in one way
@@ -45,16 +44,16 @@ OneAnswer = (bytes : List ℕ) → IsOnlyRead bytes ⊎ IsOnlyRefused bytes
 abbrev pub OneAnswerOfFailed : Type 0
 OneAnswerOfFailed =
     (given : List ℕ)
-    → (fault : FrozenFault) × IsFaultOfFailed given fault
-    × ((other : FrozenFault) → IsFaultOfFailed given other → other ≡ fault)
+    → (fault : ExactFault) × IsFaultOfFailed given fault
+    × ((other : ExactFault) → IsFaultOfFailed given other → other ≡ fault)
 
 -- the reader's steps return directives exactly if these spell the bytes, a refusal exactly if it is
 -- the fault, and for a reader that failed its fault
 pub record AreTied (bytes : List ℕ) : Type 0 where
   pub directives : (ds : List Directive) → (file_at bytes ≡ Ok ds) ↔ Spells ds bytes
-  pub fault : (f : FrozenFault)
+  pub fault : (f : ExactFault)
       → ((e : Refusal) × (file_at bytes ≡ Err e) × (f ≡ fault_of bytes e)) ↔ FaultAt bytes f
-  pub failed : (f : FrozenFault)
+  pub failed : (f : ExactFault)
       → (f ≡ failed_answer bytes (file_at bytes)) ↔ IsFaultOfFailed bytes f
 
 -- the reader's steps are tied to the definitions for all bytes

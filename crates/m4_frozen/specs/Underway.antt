@@ -1,7 +1,7 @@
 -- Underway: the part of a file that was read so far, if its bytes arrive block by block.
 -- Not believed: private contracts cite it; `read_frozen` states the same for whole files.
 -- Words: Skips, HasRead, ReadsOne, PausesAt, Advances.
-use Rattle.std.specs.Prelude.{◌≡◌, ℕ, ℤ, ◌+◌, ◌-◌, ◌<◌, ◌≤◌, Bool, true, false, List, [], ◌∷◌, ◌++◌, length, drop, Option, Some, None, Result, Ok, Err, ◌⊎◌}
+use Rattle.std.specs.Prelude.{◌≡◌, ℕ, ℤ, ◌+◌, ◌-◌, ◌<◌, ◌≤◌, Bool, true, false, List, [], ◌∷◌, ◌++◌, length, drop, Option, Some, None, IfSome, Result, Ok, Err, ◌⊎◌}
 use Rattle.std.specs.Borrow.{Bor}
 use Rattle.m4_state.specs.State.{diverted, appended}
 use Rattle.m4_state.specs.declared.fault.StateFault.{StateFault}
@@ -169,13 +169,14 @@ pub record HasPaused (read bytes : List ℕ) (new : Loading) (pause : Pause) : T
   pub left : length rest ≡ pause.left
   pub has_read : IsRead (read ++ front) new
   pub ends : EndsSo (read ++ bytes) new pause.refusal
+  pub within : IfSome pause.refusal (λ e. e.bytes_left ≤ length bytes)
 
 -- the result of reading more bytes, after those before: all that is complete, or a fault that stays
 abbrev pub ReadsOn : (List ℕ → Type 0) → List ℕ → Loading → Result Pause ReadStop → Type 0
 ReadsOn Before bytes new (Ok pause) = (read : List ℕ) → Before read → HasPaused read bytes new pause
 ReadsOn Before bytes new (Err stops.OutOfMemory) = Unit {0}
 ReadsOn Before bytes new (Err (stops.Refused e)) = (read : List ℕ) → Before read
-    → (file_at (read ++ bytes) ≡ Err e) × (stays (read ++ bytes) e ≡ true)
+    → (file_at (read ++ bytes) ≡ Err e) × (stays (read ++ bytes) e ≡ true) × (e.bytes_left ≤ length bytes)
 
 -- the same, if no text is open
 abbrev pub Advances : List ℕ → Loading → Loading → Result Pause ReadStop → Type 0
@@ -197,7 +198,7 @@ ReadsText Before bytes new (Ok None) = (read : List ℕ) → Before read
     → IsRead (read ++ bytes) new × (file_at (read ++ bytes) ≡ Err short)
 ReadsText Before bytes new (Err stops.OutOfMemory) = Unit {0}
 ReadsText Before bytes new (Err (stops.Refused e)) = (read : List ℕ) → Before read
-    → (file_at (read ++ bytes) ≡ Err e) × (stays (read ++ bytes) e ≡ true)
+    → (file_at (read ++ bytes) ≡ Err e) × (stays (read ++ bytes) e ≡ true) × (e.bytes_left ≤ length bytes)
 
 -- the result of reading on after a text, if it has ended
 abbrev pub ReadsBehind : Option (Bor (List ℕ)) → Loading → Loading → Result Pause ReadStop → Type 0

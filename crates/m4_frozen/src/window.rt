@@ -1,7 +1,8 @@
 //! The bytes of a file that were read from the device and not used yet.
 
-ghost use Rattle.std.specs.Prelude.{◌≡◌, ◌+◌, ◌++◌, ◌-◌, ◌*◌, ◌^◌, ◌<◌, ◌≤◌, [], min, length, drop, IfOk, OnOk};
+ghost use Rattle.std.specs.Prelude.{◌≡◌, ◌+◌, ◌++◌, ◌-◌, ◌*◌, ◌^◌, ◌<◌, ◌≤◌, [], min, length, drop, IfOk};
 ghost use Rattle.m4_frozen.specs.Blocks as blocks;
+ghost use Rattle.m4_frozen.specs.FaultAt.{as_offset};
 ghost use Rattle.m4_frozen.specs.declared.fault.FrozenKind.TheVariants as kinds;
 ghost use Rattle.m4_frozen.specs.declared.window.Behind.TheVariants as marks;
 
@@ -21,22 +22,23 @@ pub(crate) enum Behind {
     Failure,
 }
 
-/// The last bytes that were read, and how many were read in all.
+/// The last bytes that were read, and how many were dropped before them. That count stays at its greatest
+/// value.
 #[derive(Drop)]
 pub(crate) struct Window {
     bytes: Held,
-    came: u64,
+    dropped: u64,
 }
 
 impl Window {
     /// Returns an empty window: no byte was read.
     pub(crate) fn new(alloc: Global) -> Window
         ensures bytes { result.bytes ≡ [] }
-        ensures came { result.came ≡ 0 }
+        ensures dropped { result.dropped ≡ 0 }
     {
         Window {
             bytes: Held::new(alloc),
-            came: 0,
+            dropped: 0,
         }
     }
 
@@ -64,7 +66,7 @@ impl Window {
         loop {
             match self.bytes.take_from(reader)? {
                 Ok(0) => return Ok(Behind::End),
-                Ok(n) => self.count(n)?,
+                Ok(_) => {}
                 Err(DeviceFault) => return Ok(Behind::Failure),
             }
             if self.bytes().len() >= enough {
@@ -73,40 +75,43 @@ impl Window {
         }
     }
 
-    /// Adds to the count of bytes that were read.
-    fn count(&mut self, n: usize) -> Result<(), AllocError>
-        ensures { OnOk result (self.new ≡ record self.old { came = self.old.came + n }) }
-    {
-        self.came = self.came.checked_add(n as u64).ok_or(AllocError)?;
-        Ok(())
-    }
-
     /// Drops all bytes but the last `count`.
     pub(crate) fn keep_last(&mut self, count: usize)
         requires { count ≤ length self.old.bytes }
         ensures bytes { self.new.bytes ≡ drop (length self.old.bytes - count) self.old.bytes }
-        ensures came { self.new.came ≡ self.old.came }
+        ensures dropped { self.new.dropped ≡ as_offset (self.old.dropped + (length self.old.bytes - count)) }
     {
+        self.dropped = self.offset_of(self.bytes().len() - count);
         self.bytes.keep_last(count);
+    }
+
+    /// Returns the offset of the byte after the first `count` bytes of the window.
+    fn offset_of(&self, count: usize) -> u64
+        ensures { result ≡ as_offset (self.now.dropped + count) }
+    {
+        self.dropped.saturating_add(count as u64)
     }
 
     /// Returns the fault of a refusal. Only here is its place counted from the start of the file.
     pub(crate) fn fault_of(&self, refusal: Refusal) -> FrozenFault
-        ensures { result ≡ record { kind = refusal.kind; offset = self.now.came - refusal.bytes_left } }
+        ensures { result ≡ record {
+          kind = refusal.kind;
+          offset = as_offset (self.now.dropped + (length self.now.bytes - refusal.bytes_left));
+        } }
     {
         FrozenFault {
             kind: refusal.kind,
-            offset: self.came.saturating_sub(refusal.bytes_left as u64),
+            offset: self.offset_of(self.bytes().len().saturating_sub(refusal.bytes_left)),
         }
     }
 
     /// Returns the failure of a reader after the bytes that it returned.
     pub(crate) fn failure(&self) -> FrozenFault
-        ensures { result ≡ record { kind = kinds.Read; offset = self.now.came } }
+        ensures { result ≡ record { kind = kinds.Read; offset = as_offset (self.now.dropped + length self.now.bytes) } }
     {
         FrozenFault {
             kind: FrozenKind::Read,
-            offset: self.came,
+            offset: self.offset_of(self.bytes().len()),
         }
     }
 }

@@ -1,8 +1,9 @@
 -- The rest of a text is read, and then the bytes after it.
 use Rattle.std.proofs.Common.{List, ℕ}
+use Rattle.std.proofs.lemmas.Result.{err_from_is_err_and}
 use Rattle.m4_frozen.specs.declared.loading.Loading.{Loading}
-use Rattle.m4_frozen.specs.Underway.{HasReadIn, HasReadNamed, IsRead}
-use Rattle.m4_frozen.proofs.TextRead.{read_on_as, text_and_after, diverted_since}
+use Rattle.m4_frozen.specs.Underway.{HasRead, HasReadIn, HasReadNamed, IsRead}
+use Rattle.m4_frozen.proofs.TextRead.{read_on_as, text_and_after, text_stopped, whole_since, diverted_since}
 use Rattle.m4_frozen.proofs.NamedRead.{named_since}
 use Rattle.m4_frozen.proofs.loading.Loading.advance.Goals as goal
 
@@ -25,3 +26,30 @@ returns-in_ok-after-in-Some-Name c =
     c.take.ensures.value (rw (← c.in-Some-Name.field-0-is) c.in-Some-Name.is) h)
     (text_and_after Before c.args.bytes.now c.in_ok-after-in-Some-Name.after c.read_named.new.self
     c.read_after-in-Some-Name.new.self c.read_after-in-Some-Name.result c.in_ok-after-in-Some-Name.ensures c.read_after-in-Some-Name.ensures)
+
+pub returns-in_err-after-in-Some-Diversion : goal.returns-in_err-after-in-Some-Diversion
+returns-in_err-after-in-Some-Diversion c =
+    let p = err_from_is_err_and c.from_residual.result c.from_residual.ensures.1 in
+    let mid : Loading = record c.args.self.now { begun = c.take.new.self } in
+    rw (p.1, p.2) (text_stopped (λ read. HasReadIn read mid c.in-Some-Diversion.missing) (λ read. IsRead read c.args.self.now)
+    c.args.bytes.now c.read_diverted.new.self c.read_diverted.new.self c.in_err-after-in-Some-Diversion.field-0.0
+    (λ read h. diverted_since read c.args.self.now c.take.result c.take.new.self c.in-Some-Diversion.missing
+    c.take.ensures.value (rw (← c.in-Some-Diversion.field-0-is) c.in-Some-Diversion.is) h)
+    c.in_err-after-in-Some-Diversion.ensures)
+
+pub returns-in_err-after-in-Some-Name : goal.returns-in_err-after-in-Some-Name
+returns-in_err-after-in-Some-Name c =
+    let p = err_from_is_err_and c.from_residual-in_err-after-in-Some-Name.result c.from_residual-in_err-after-in-Some-Name.ensures.1 in
+    let mid : Loading = record c.args.self.now { begun = c.take.new.self } in
+    rw (p.1, p.2) (text_stopped (λ read. HasReadNamed read mid c.in-Some-Name.text) (λ read. IsRead read c.args.self.now)
+    c.args.bytes.now c.read_named.new.self c.read_named.new.self c.in_err-after-in-Some-Name.field-0.0
+    (λ read h. named_since read c.args.self.now c.take.result c.take.new.self c.in-Some-Name.text
+    c.take.ensures.value (rw (← c.in-Some-Name.field-0-is) c.in-Some-Name.is) h)
+    c.in_err-after-in-Some-Name.ensures)
+
+pub returns-in-None : goal.returns-in-None
+returns-in-None c =
+    let mid : Loading = record c.args.self.now { begun = c.take.new.self } in
+    read_on_as (λ read. HasRead read mid) (λ read. IsRead read c.args.self.now) c.args.bytes.now c.read_whole.new.self c.read_whole.result
+    (λ read h. whole_since read c.args.self.now c.take.result c.take.new.self c.take.ensures.value c.in-None.is h)
+    c.read_whole.ensures
