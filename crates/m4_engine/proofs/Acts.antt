@@ -1,5 +1,5 @@
 -- Acts: what a call leaves is what the definitions' move leaves.
-use Rattle.std.proofs.Common.{◌≡◌, Option, Some, None, ◌++◌, length, ℕ, List, [], ◌∷◌, refl, sym, ap, ◌∙◌, subst, append_assoc}
+use Rattle.std.proofs.Common.{◌≡◌, Some, None, ◌++◌, length, ℕ, List, [], ◌∷◌, refl, sym, ap, ◌∙◌, subst, append_assoc}
 use Rattle.std.specs.List.{AllByRecursion}
 use Rattle.m4_state.specs.declared.definition.Def.{Def}
 use Rattle.m4_state.specs.State.{State, IsState}

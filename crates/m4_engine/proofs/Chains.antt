@@ -1,6 +1,6 @@
 -- Chains: a chain of runs is one run, from the last run to the first, by the law `split`.
 use Rattle.std.proofs.Common.{◌≡◌, ◌≢◌, ℕ, ◌+◌, Bool, true, List, [], ◌∷◌, ◌++◌, Option, Some, refl, sym, ap, ◌∙◌, subst, arith, append-nil}
-use Rattle.std.specs.Prelude.{option_map, flat_map}
+use Rattle.std.specs.Prelude.{option_map}
 use Rattle.m4_state.specs.Device.{Script}
 use Rattle.m4_engine.specs.declared.options.Options.{Options}
 use Rattle.m4_engine.specs.declared.ending.Cause.TheVariants as causes

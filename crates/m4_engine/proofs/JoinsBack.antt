@@ -1,5 +1,5 @@
 -- JoinsBack: texts taken from the end, one after the other, are joined the last first.
-use Rattle.std.proofs.Common.{◌≡◌, ℕ, List, [], ◌∷◌, ◌++◌, refl, sym, ap, ◌∙◌, append-nil, append_assoc}
+use Rattle.std.proofs.Common.{◌≡◌, ℕ, List, [], ◌∷◌, ◌++◌, sym, ap, ◌∙◌, append-nil, append_assoc}
 use Rattle.m4_engine.specs.Wraps.{joined_back}
 
 -- the last text comes first

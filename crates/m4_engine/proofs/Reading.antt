@@ -1,19 +1,16 @@
 -- Reading: sources read in order are the definitions' sources.
-use Rattle.std.proofs.Common.{◌≡◌, ◌⊎◌, inl, inr, ◌<◌, ◌≤◌, ℕ, zero, suc, ◌+◌, List, [], ◌∷◌, ◌++◌, length, drop, drop-cons, map, Option, Some, refl, sym, ap, ◌∙◌, subst, arith, append-nil}
+use Rattle.std.proofs.Common.{◌≡◌, ◌⊎◌, inl, inr, ◌<◌, ◌≤◌, ℕ, zero, suc, ◌+◌, List, [], ◌∷◌, ◌++◌, length, drop, drop-cons, map, Option, Some, refl, sym, ap, ◌∙◌, subst, arith}
 use Rattle.std.specs.Prelude.{Result, Ok, Err, slice_set, slice_index_or}
 use Rattle.std.proofs.lemmas.List.{drop-set-lt, drop-drop}
 use Rattle.m4_state.proofs.CallerLaws.{with_bytes-append, with_bytes-nil}
 use Rattle.m4_state.specs.Device.{Script, with_bytes}
 use Rattle.m4_engine.specs.declared.source.Source.{Source as RunSource}
 use Rattle.m4_engine.specs.RunSources.{source_of, ExtendsSource, ExtendSources, DescribeSources, DescribesSource}
-use Rattle.m4_engine.specs.declared.ending.Cause.TheVariants as causes
 use Rattle.m4_engine.specs.declared.stop.Stop.{Stop}
-use Rattle.m4_engine.specs.declared.stop.Stop.TheVariants as stops
-use Rattle.m4_engine.specs.declared.ending.Cause.{Cause}
-use Rattle.m4_engine.specs.Expansion.{Limits, Ends}
+use Rattle.m4_engine.specs.Expansion.{Limits}
 use Rattle.m4_engine.proofs.OnePass.{sources_keep, over_sources}
 use Rattle.m4_engine.specs.File.{Source, Progress, after_source, after_sources}
-use Rattle.m4_engine.specs.Session.{SessionState, progress_of, how_over, written, IsOpen, Completed, BrokeOff, GoesTo}
+use Rattle.m4_engine.specs.Session.{SessionState, progress_of, IsOpen, Completed, GoesTo}
 use Rattle.m4_engine.specs.Writers.{Contents, writers}
 use Rattle.m4_engine.proofs.GoingOn.{after, sources_after, written_after, Within, step_stops, all_made}
 use Rattle.m4_engine.proofs.Growth.{Extends}

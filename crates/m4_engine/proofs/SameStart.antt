@@ -2,11 +2,11 @@
 use Rattle.std.proofs.Common.{◌≡◌, inl, inr, ⊎_elim, ◌↔◌, ℕ, Bool, true, false, List, Option, Some, None, refl, sym, ap, ◌∙◌, subst}
 use Rattle.m4_state.specs.Device.{Script}
 use Rattle.m4_frozen.specs.declared.loading.Loaded.{Loaded}
-use Rattle.m4_frozen.specs.declared.fault.FrozenFault.{FrozenFault}
 use Rattle.m4_frozen.specs.Directive.{Directive}
 use Rattle.m4_frozen.specs.Spells.{Spells}
 use Rattle.m4_frozen.specs.Denote.{denote}
-use Rattle.m4_frozen.specs.Outcome.{IsFaultOf}
+use Rattle.m4_frozen.specs.FaultAt.{ExactFault, reported}
+use Rattle.m4_frozen.specs.Outcome.{HasFault}
 use Rattle.m4_frozen.specs.ReaderSteps.{fault_of}
 use Rattle.m4_frozen.proofs.Answered as frozen
 use Rattle.m4_engine.specs.declared.options.Options.{Options}
@@ -16,29 +16,30 @@ use Rattle.m4_engine.specs.Run.{run, run_from}
 
 -- bytes that directives spell start from what these denote
 pub start-spelled : (bytes : List ℕ) (ds : List Directive) → Spells ds bytes → start_from false bytes ≡ reloaded ds
-start-spelled bytes ds s = ap (start_by (fault_of bytes)) (((frozen.reader_steps_tied bytes).directives ds).1 s)
+start-spelled bytes ds s = ap (start_by (λ e. reported (fault_of bytes e))) (((frozen.reader_steps_tied bytes).directives ds).1 s)
 
-start-faulty : (fails : Bool) (bytes : List ℕ) (fault : FrozenFault) → IsFaultOf fails bytes fault → start_from fails bytes ≡ Faulty fault
-start-faulty false bytes fault f =
-    let k = ((frozen.reader_steps_tied bytes).fault fault).1 f in
-    ap (start_by (fault_of bytes)) k.1 ∙ ap Faulty (sym k.2)
-start-faulty true bytes fault f = ap Faulty (sym (((frozen.reader_steps_tied bytes).failed fault).1 f))
+start-faulty : (fails : Bool) (bytes : List ℕ) (exact : ExactFault) → HasFault fails bytes exact → start_from fails bytes ≡ Faulty (reported exact)
+start-faulty false bytes exact h =
+    let k = ((frozen.reader_steps_tied bytes).fault exact).1 h in
+    ap (start_by (λ e. reported (fault_of bytes e))) k.1 ∙ ap (λ (x : ExactFault). Faulty (reported x)) (sym k.2)
+start-faulty true bytes exact h = ap (λ (x : ExactFault). Faulty (reported x)) (sym (((frozen.reader_steps_tied bytes).failed exact).1 h))
 
 pub is_start : (prefix : Bool) (frozen : Option Script) (start : Start) → IsStart prefix frozen start → start ≡ start_of prefix frozen
 is_start prefix None start e = e
 is_start prefix (Some file) start (inl h) =
     h.3 ∙ sym (ap (λ (b : Bool). start_from b file.bytes) h.1 ∙ start-spelled file.bytes h.0 h.2)
-is_start prefix (Some file) start (inr h) = h.2 ∙ sym (start-faulty file.fails file.bytes h.0 h.1)
+is_start prefix (Some file) start (inr h) =
+    h.2 ∙ ap Faulty (h.1).2 ∙ sym (start-faulty file.fails file.bytes (h.1).0 (h.1).1)
 
 starts_from : (prefix fails : Bool) (bytes : List ℕ) → IsStart prefix (Some (record { bytes = bytes; fails = fails })) (start_from fails bytes)
 starts_from prefix false bytes =
     ⊎_elim
     (λ r. inl (r.directives, refl, r.spelled, start-spelled bytes r.directives r.spelled))
-    (λ r. inr (r.fault, r.is_fault, start-faulty false bytes r.fault r.is_fault))
+    (λ r. inr (reported r.fault, (r.fault, r.is_fault, refl), start-faulty false bytes r.fault r.is_fault))
     (frozen.one_answer bytes)
 starts_from prefix true bytes =
     let k = frozen.one_answer_of_failed bytes in
-    inr (k.0, k.1, start-faulty true bytes k.0 k.1)
+    inr (reported k.0, (k.0, k.1, refl), start-faulty true bytes k.0 k.1)
 
 pub starts_so : (prefix : Bool) (frozen : Option Script) → IsStart prefix frozen (start_of prefix frozen)
 starts_so prefix None = refl

@@ -2,7 +2,7 @@
 -- Believed as statements; the functions of the module `laws` carry their proofs.
 -- Words: ExpansionRules, ExpandRules, WrapsRules, OneStart, SameDenotation, SettledBegins, SplitStates, Split, Chain, IsDecided,
 -- IsOneRun, TwoRuns, LargerNesting, LargerCalls, RunEnds.
-use Rattle.std.specs.Prelude.{◌≡◌, ◌≢◌, ◌↔◌, ◌⊎◌, ℕ, ◌+◌, ◌<◌, ◌≤◌, Bool, true, false, List, [], ◌∷◌, ◌++◌, Option, Some}
+use Rattle.std.specs.Prelude.{◌≡◌, ◌≢◌, ◌↔◌, ◌⊎◌, ℕ, ◌<◌, ◌≤◌, Bool, true, false, List, [], ◌∷◌, ◌++◌, Option, Some}
 use Rattle.m4_state.specs.Device.{Script, with_bytes}
 use Rattle.m4_state.specs.State.{IsSized}
 use Rattle.m4_frozen.specs.Directive.{Directive}

@@ -1,4 +1,4 @@
--- Ahead: the next token, as far as it was recognised before a turn consumes it.
+-- Lookahead: the next token, as far as it was recognised before a turn consumes it.
 -- Not believed: it connects the code with `Expand`; the turns' lemmas prove that they agree.
 -- Words: IsMeaning, Fits, IsNamed, IsLookaheadOf.
 use Rattle.std.specs.Prelude.{◌≡◌, ◌&&◌, ◌<◌, ◌≤◌, not, Bool, true, false, ℕ, List, [], None, Some, length, take, drop}

@@ -1,5 +1,5 @@
 use Rattle.std.proofs.Common.{rules, refl, ◌∙◌}
-use Rattle.m4_engine.proofs.Wrapping.{none_yet, one_round, all_rounds, none_is, round_stops, fewer_rounds}
+use Rattle.m4_engine.proofs.Wrapping.{none_yet, one_round, all_rounds, round_stops, fewer_rounds}
 use Rattle.m4_engine.proofs.session.Session.read_saved.Goals as goal
 
 pub rounds-init : goal.rounds-init
