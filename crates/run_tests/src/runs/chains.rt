@@ -126,11 +126,11 @@ fn end_of_second(rt: &(impl Abort + Alloc<A = Global>)) -> Result<Vec<u8>, Alloc
     let second = next_run(rt, freezing(USUAL), &Some(first), &[DIVERTS], AT_MOST)?;
     let text = second.frozen_text.written();
     let mut report = Report::new(rt.alloc());
-    report.add(if text.ends_with(DIVERTED) {
-        DIVERTED
+    if text.ends_with(DIVERTED) {
+        report.add(DIVERTED);
     } else {
-        text
-    });
+        report.add(text);
+    }
     report.text()
 }
 
