@@ -1,6 +1,4 @@
--- Worked rows: the values of texts, and values written in a radix, each computed from the definitions.
--- The values come from outside the definitions: from the manual, from the language's description, and
--- from an implementation that shares nothing with them.
+-- Worked rows, computed. The values are those of the manual or of a program that shares nothing with the definitions.
 use Rattle.std.proofs.Common.{◌≡◌, [], ◌∷◌, refl, true, pos, negsuc}
 use Rattle.std.specs.Prelude.{codes, None}
 use Rattle.std.specs.List.{list_all}
@@ -16,8 +14,6 @@ use Rattle.m4_eval.specs.Evaluated.{evaluated}
 use Rattle.m4_eval.specs.InRadix.{radix_at, in_radix}
 use Rattle.m4_eval.proofs.Read.{whole_is_spelled}
 use Rattle.m4_eval.proofs.Tied.{others_refused}
-
--- The worked rows.
 
 pub product_before_sum : evaluated (codes "2+3*4") ≡ Value (pos 14)
 unfolding int_wrap
