@@ -22,7 +22,7 @@ use Rattle.m4_builtins.specs.declared.number.Reading.{Reading}
 use Rattle.m4_builtins.specs.declared.number.Reading.TheVariants.{Number, Empty, NotNumeric}
 use Rattle.m4_builtins.specs.declared.place.Place.{Place}
 use Rattle.m4_builtins.specs.Args.{IsArg, text_of_arg, texts_of, definition_of_arg, text_at}
-use Rattle.m4_builtins.specs.Acted.{Acted, IsPushed, expands, telling_first}
+use Rattle.m4_builtins.specs.Acted.{Acted, IsPushed, expands, warning_first}
 use Rattle.m4_builtins.specs.Numeric.{reading_of, number_of_reading, with_number}
 use Rattle.m4_builtins.specs.Naming.{define, pushdef, for_each, definition_in, definition_given, defn}
 use Rattle.m4_builtins.specs.Branching.{ifelse}
@@ -147,7 +147,7 @@ module _ (p : Place) where
   with_value_is : (x : List ℕ) (does : ℤ → Acted) (s : State) → IsState s → ((n : ℤ) → IsActed (does n)) → IsActed (with_value p s x does)
   with_value_is x does s h each = by (list_all is_space x)
     where
-      by : (b : Bool) → IsActed (if b then telling_first (empty_number p Eval) (does (pos 0)) else if_value p s does (evaluated x))
+      by : (b : Bool) → IsActed (if b then warning_first (empty_number p Eval) (does (pos 0)) else if_value p s does (evaluated x))
       by true = record { state = (each (pos 0)).state; push = (each (pos 0)).push }
       by false = value_is does s (evaluated x) h each
 
@@ -166,7 +166,7 @@ module _ (p : Place) where
   exits_by_is : (n : ℤ) (s : State) → IsState s → IsActed (exits_by n p s)
   exits_by_is (pos n) s h = by (nat_le n 255)
     where
-      by : (b : Bool) → IsActed (if b then exits s n else telling_first (bad_status p) (exits s 1))
+      by : (b : Bool) → IsActed (if b then exits s n else warning_first (bad_status p) (exits s 1))
       by true = record { state = h; push = tt }
       by false = record { state = h; push = tt }
   exits_by_is (negsuc n) s h = record { state = h; push = tt }

@@ -8,7 +8,7 @@ use Rattle.m4_builtins.specs.declared.args.Arg.{Arg}
 use Rattle.m4_builtins.specs.declared.effect.Effect.{Effect}
 use Rattle.m4_builtins.specs.declared.place.Place.{Place}
 use Rattle.m4_builtins.specs.Args.{text_of_arg}
-use Rattle.m4_builtins.specs.Acted.{Acted, nothing, only_warning, expands, telling_first}
+use Rattle.m4_builtins.specs.Acted.{Acted, nothing, only_warning, expands, warning_first}
 use Rattle.m4_builtins.specs.Numeric.{reading_of, number_of_reading, reading_warning, with_number}
 use Rattle.m4_builtins.specs.Texts.{substr, from_place, at_most}
 use Rattle.m4_builtins.proofs.WithNumber.{with_number-some, with_number-none}
@@ -26,22 +26,22 @@ read_of o r x a is read same =
     sym is ∙ read ∙ ap (λ (y : List ℕ). number_of_reading (reading_of y)) same
 
 -- and the messages with the warning on it
-pub told_of : (p : Place) (old new messages x : List ℕ) (a : Arg) → old ≡ messages → new ≡ old ++ reading_warning p Substr (reading_of x) → x ≡ text_of_arg a → new ≡ messages ++ warning_on p a
-told_of p old new messages x a was told same =
-    told ∙ (λ i. was i ++ reading_warning p Substr (reading_of (same i)))
+pub warned_of : (p : Place) (old new messages x : List ℕ) (a : Arg) → old ≡ messages → new ≡ old ++ reading_warning p Substr (reading_of x) → x ≡ text_of_arg a → new ≡ messages ++ warning_on p a
+warned_of p old new messages x a was warned same =
+    warned ∙ (λ i. was i ++ reading_warning p Substr (reading_of (same i)))
 
 -- the state stays, and an effect is left
 abbrev pub leaves : State → Effect → Acted
 leaves s e = record { state = s; effect = e }
 
 -- what is left where a text is pushed, and messages are added at the end
-pub pushed_with : (s : State) (r : Acted) (e : Effect) (messages warnings text part : List ℕ) → r ≡ telling_first warnings (expands s part)
+pub pushed_with : (s : State) (r : Acted) (e : Effect) (messages warnings text part : List ℕ) → r ≡ warning_first warnings (expands s part)
     → e ≡ record nothing { push = Some (pushes.Text text) } → text ≡ part → messages ≡ warnings
     → r ≡ leaves s (record e { messages = messages })
-pushed_with s r e messages warnings text part gives effect same told =
+pushed_with s r e messages warnings text part gives effect same warned =
     gives
     ∙ ap (λ (x : List ℕ). leaves s (record nothing { push = Some (pushes.Text part); messages = x })) (append-nil warnings)
-    ∙ (λ i. leaves s (record nothing { push = Some (pushes.Text (sym same i)); messages = sym told i }))
+    ∙ (λ i. leaves s (record nothing { push = Some (pushes.Text (sym same i)); messages = sym warned i }))
     ∙ ap (λ (f : Effect). leaves s (record f { messages = messages })) (sym effect)
 
 -- a part of a text, by the arguments after its place
@@ -60,7 +60,7 @@ module _ (p : Place) (s : State) where
   counted-none (c ∷ rest) part none = absurd (omega arith)
 
   counted-some : (counts : List Arg) (c : Arg) (count : ℤ) (part : List ℕ) → 1 ≤ length counts → c ≡ get_or counts 0 c → Some count ≡ number_of c
-      → counted p s counts part ≡ telling_first (warning_on p c) (expands s (at_most count part))
+      → counted p s counts part ≡ warning_first (warning_on p c) (expands s (at_most count part))
   counted-some [] c count part some is number = absurd (omega arith)
   counted-some (d ∷ rest) c count part some is number =
       ap (λ (a : Arg). counted p s (a ∷ rest) part) (sym is)
@@ -96,26 +96,26 @@ module _ (p : Place) (s : State) (list counts : List Arg) (a b : Arg) (le : 2 �
       ∙ with_number-none p Substr s (λ from. counted p s counts (from_place from (text_of_arg a))) (reading_of (text_of_arg b)) number
 
   module _ (from : ℤ) (place : Some from ≡ number_of b) where
-    by_count : substr list p s ≡ telling_first (warning_on p b) (counted p s counts (from_place from (text_of_arg a)))
+    by_count : substr list p s ≡ warning_first (warning_on p b) (counted p s counts (from_place from (text_of_arg a)))
     by_count =
         by_place
         ∙ with_number-some p Substr s (λ from. counted p s counts (from_place from (text_of_arg a))) (reading_of (text_of_arg b)) from place
 
     -- there is no count
-    pub substr-rest : length counts < 1 → substr list p s ≡ telling_first (warning_on p b) (expands s (from_place from (text_of_arg a)))
+    pub substr-rest : length counts < 1 → substr list p s ≡ warning_first (warning_on p b) (expands s (from_place from (text_of_arg a)))
     substr-rest none =
-        by_count ∙ ap (telling_first (warning_on p b)) (counted-none p s counts (from_place from (text_of_arg a)) none)
+        by_count ∙ ap (warning_first (warning_on p b)) (counted-none p s counts (from_place from (text_of_arg a)) none)
 
     -- the count is no number
     pub substr-no_count : (c : Arg) → 1 ≤ length counts → c ≡ get_or counts 0 c → None ≡ number_of c
-        → substr list p s ≡ telling_first (warning_on p b) (only_warning s (warning_on p c))
+        → substr list p s ≡ warning_first (warning_on p b) (only_warning s (warning_on p c))
     substr-no_count c some third number =
-        by_count ∙ ap (telling_first (warning_on p b)) (counted-bad p s counts c (from_place from (text_of_arg a)) some third number)
+        by_count ∙ ap (warning_first (warning_on p b)) (counted-bad p s counts c (from_place from (text_of_arg a)) some third number)
 
     -- both are numbers
     pub substr-counted : (c : Arg) (count : ℤ) → 1 ≤ length counts → c ≡ get_or counts 0 c → Some count ≡ number_of c
-        → substr list p s ≡ telling_first (warning_on p b ++ warning_on p c) (expands s (at_most count (from_place from (text_of_arg a))))
+        → substr list p s ≡ warning_first (warning_on p b ++ warning_on p c) (expands s (at_most count (from_place from (text_of_arg a))))
     substr-counted c count some third number =
         by_count
-        ∙ ap (telling_first (warning_on p b)) (counted-some p s counts c count (from_place from (text_of_arg a)) some third number)
+        ∙ ap (warning_first (warning_on p b)) (counted-some p s counts c count (from_place from (text_of_arg a)) some third number)
         ∙ ap (λ (x : List ℕ). leaves s (record nothing { push = Some (pushes.Text (at_most count (from_place from (text_of_arg a)))); messages = x })) (sym (append_assoc (warning_on p b) (warning_on p c) []))

@@ -49,10 +49,10 @@ module _ (p : Place) where
   -- a text that is not empty is read as a number, and that as a radix
   pub radix_read : (text : List ℕ) (n : ℤ) (before between now : List ℕ) → text ≢ [] → Some n ≡ number_of_reading (reading_of text) → between ≡ before ++ reading_warning p Eval (reading_of text)
       → ReadsAs (radix_of_number n) (radix_at n) between now → ReadsAs (λ s. with_radix p s text) (radix_at n) before now
-  radix_read [] n before between now some e told after_it = absurd (some refl)
-  radix_read (b ∷ x) n before between now some e told after_it =
+  radix_read [] n before between now some e warned after_it = absurd (some refl)
+  radix_read (b ∷ x) n before between now some e warned after_it =
       reads_on (λ s. with_number p Eval s (reading_of (b ∷ x))) radix_of_number n (radix_at n) before between now
-      (reads_number p Eval (reading_of (b ∷ x)) (Some n) before between e told) after_it
+      (reads_number p Eval (reading_of (b ∷ x)) (Some n) before between e warned) after_it
 
   -- the three of them, and the digits
   module _ (list : List Arg) where

@@ -5,7 +5,7 @@ use Rattle.m4_state.specs.declared.builtin.Builtin.{Builtin}
 use Rattle.m4_state.specs.State.{State}
 use Rattle.m4_builtins.specs.declared.number.Reading.{Reading}
 use Rattle.m4_builtins.specs.declared.place.Place.{Place}
-use Rattle.m4_builtins.specs.Acted.{Acted, only_warning, telling_first}
+use Rattle.m4_builtins.specs.Acted.{Acted, only_warning, warning_first}
 use Rattle.m4_builtins.specs.Numeric.{number_of_reading, reading_warning, with_number}
 use Rattle.m4_builtins.specs.ReadsAs.{after, ReadsAs}
 use Rattle.m4_builtins.proofs.WithNumber.{with_number-some, with_number-none}
@@ -15,7 +15,7 @@ abbrev first_and : Acted → List ℕ → Acted
 first_and r messages = record { state = r.state; effect = record r.effect { messages = messages } }
 
 -- warnings one after the other
-both : {A : Type 0} (v w : List ℕ) (s : State) (does : A → Acted) (o : Option A) → telling_first v (after w s does o) ≡ after (v ++ w) s does o
+both : {A : Type 0} (v w : List ℕ) (s : State) (does : A → Acted) (o : Option A) → warning_first v (after w s does o) ≡ after (v ++ w) s does o
 both v w s does None = refl
 both v w s does (Some x) = ap (first_and (does x)) (sym (append_assoc v w ((does x).effect).messages))
 
@@ -28,7 +28,7 @@ pub reads_wrong : {A : Type 0} (warning before now : List ℕ) → now ≡ befor
 reads_wrong warning before now grown = (warning, grown, (λ s does. refl))
 
 -- a value, after a warning
-pub reads_warned : {A : Type 0} (x : A) (warning before now : List ℕ) → now ≡ before ++ warning → ReadsAs (λ s does. telling_first warning (does x)) (Some x) before now
+pub reads_warned : {A : Type 0} (x : A) (warning before now : List ℕ) → now ≡ before ++ warning → ReadsAs (λ s does. warning_first warning (does x)) (Some x) before now
 reads_warned x warning before now grown = (warning, grown, (λ s does. refl))
 
 -- what comes first is wrong, and nothing is read after it
@@ -42,7 +42,7 @@ pub reads_on : {A B : Type 0} (first : State → (A → Acted) → Acted) (next 
 reads_on first next x o before between now (v, grown, same) (w, grown_2, same_2) = (
   v ++ w,
   grown_2 ∙ ap (λ (m : List ℕ). m ++ w) grown ∙ append_assoc before v w,
-  (λ s does. same s (λ y. next y s does) ∙ ap (telling_first v) (same_2 s does) ∙ both v w s does o),
+  (λ s does. same s (λ y. next y s does) ∙ ap (warning_first v) (same_2 s does) ∙ both v w s does o),
 )
 
 -- a number, as it was read

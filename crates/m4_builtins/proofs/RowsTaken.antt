@@ -15,7 +15,7 @@ use Rattle.m4_builtins.specs.declared.effect.Effect.{Effect}
 use Rattle.m4_builtins.specs.declared.number.Reading.{Reading}
 use Rattle.m4_builtins.specs.declared.place.Place.{Place}
 use Rattle.m4_builtins.specs.Args.{text_of_arg, texts_of, only_text, text_at, or_empty, with_spaces}
-use Rattle.m4_builtins.specs.Acted.{Acted, nothing, changes, only_warning, expands, telling_first}
+use Rattle.m4_builtins.specs.Acted.{Acted, nothing, changes, only_warning, expands, warning_first}
 use Rattle.m4_builtins.specs.Messages.{excess}
 use Rattle.m4_builtins.specs.Numeric.{reading_of, number_of_reading, reading_warning, with_number}
 use Rattle.m4_builtins.specs.Subst.{all_quoted}
@@ -53,7 +53,7 @@ changequote_taken (a ∷ rest) s = ap (λ (end : List ℕ). with_quotes s (text_
 -- several names of `defn`
 abbrev several : Place → State → List (List ℕ) → Acted
 several p s names =
-    telling_first (flat_map (left_out p) (map (top_of s) names))
+    warning_first (flat_map (left_out p) (map (top_of s) names))
     (expands s (flat_map (text_given s.quotes) (map (top_of s) names)))
 
 defn_taken : (list : List Arg) (p : Place) (s : State) → defn (map only_text list) p s ≡ defn list p s
@@ -79,7 +79,7 @@ ifelse_taken [] p s = refl
 ifelse_taken (a ∷ []) p s = refl
 ifelse_taken (a ∷ b ∷ []) p s = refl
 ifelse_taken (a ∷ b ∷ c ∷ rest) p s = λ i.
-    telling_first (extra_warning p (has_extra (suc (suc (suc (length_taken rest i))))))
+    warning_first (extra_warning p (has_extra (suc (suc (suc (length_taken rest i))))))
     (expands s (chosen (text_of_arg a ∷ text_of_arg b ∷ text_of_arg c ∷ texts_taken rest i)))
 
 shift_taken : (list : List Arg) (s : State) → shift (map only_text list) s ≡ shift list s
@@ -152,19 +152,19 @@ pub acts_plainly : (inner : Inner) (b : Builtin) (list : List Arg) (p : Place) (
     → act_unless inner (nat_lt (length list) (least_of b)) b list p s ≡ row inner b list p s
 acts_plainly inner b list p s enough is =
     ap (λ (few : Bool). act_unless inner few b list p s) enough
-    ∙ ap (λ (r : Acted). telling_first (excess_if (is_above (most_of b) (length list)) p b) r) (row_taken inner b list p s)
-    ∙ ap (λ (more : Bool). telling_first (excess_if more p b) (row inner b list p s)) is
+    ∙ ap (λ (r : Acted). warning_first (excess_if (is_above (most_of b) (length list)) p b) r) (row_taken inner b list p s)
+    ∙ ap (λ (more : Bool). warning_first (excess_if more p b) (row inner b list p s)) is
 
 module _ (inner : Inner) (b : Builtin) (list : List Arg) (p : Place) (s t : State) (e : Effect) (enough : nat_lt (length list) (least_of b) ≡ false) (does : row inner b list p s ≡ record { state = t; effect = e }) where
-  acts : (above : Bool) → is_above (most_of b) (length list) ≡ above → act_unless inner (nat_lt (length list) (least_of b)) b list p s ≡ telling_first (excess_if above p b) (record { state = t; effect = e })
+  acts : (above : Bool) → is_above (most_of b) (length list) ≡ above → act_unless inner (nat_lt (length list) (least_of b)) b list p s ≡ warning_first (excess_if above p b) (record { state = t; effect = e })
   acts above is =
       ap (λ (few : Bool). act_unless inner few b list p s) enough
-      ∙ ap (λ (r : Acted). telling_first (excess_if (is_above (most_of b) (length list)) p b) r) (row_taken inner b list p s ∙ does)
-      ∙ ap (λ (more : Bool). telling_first (excess_if more p b) (record { state = t; effect = e })) is
+      ∙ ap (λ (r : Acted). warning_first (excess_if (is_above (most_of b) (length list)) p b) r) (row_taken inner b list p s ∙ does)
+      ∙ ap (λ (more : Bool). warning_first (excess_if more p b) (record { state = t; effect = e })) is
 
   -- arguments above the most
   pub acts_warning : (message : List ℕ) (f : Effect) → is_above (most_of b) (length list) ≡ true → message ≡ excess p b → f ≡ record e { messages = message ++ e.messages }
       → act_unless inner (nat_lt (length list) (least_of b)) b list p s ≡ record { state = t; effect = f }
-  acts_warning message f is told made =
-      acts true is ∙ ap (λ (x : List ℕ). telling_first x (record { state = t; effect = e })) (sym told)
+  acts_warning message f is warned made =
+      acts true is ∙ ap (λ (x : List ℕ). warning_first x (record { state = t; effect = e })) (sym warned)
       ∙ ap (λ (g : Effect). let r : Acted = record { state = t; effect = g } in r) (sym made)

@@ -8,19 +8,19 @@ use Rattle.m4_input.specs.declared.pushed.Pushed.TheVariants as pushes
 use Rattle.m4_builtins.specs.declared.number.Reading.{Reading}
 use Rattle.m4_builtins.specs.declared.number.Reading.TheVariants.{Number, Empty, NotNumeric}
 use Rattle.m4_builtins.specs.declared.place.Place.{Place}
-use Rattle.m4_builtins.specs.Acted.{Acted, nothing, only_warning, expands, telling_first}
+use Rattle.m4_builtins.specs.Acted.{Acted, nothing, only_warning, expands, warning_first}
 use Rattle.m4_builtins.specs.Numeric.{number_of_reading, reading_warning, with_number}
 
 -- a call that expands to a text, with messages
-abbrev pub expands_telling : State → List ℕ → List ℕ → Acted
-expands_telling s x messages = record { state = s; effect = record nothing { push = Some (pushes.Text x); messages = messages } }
+abbrev pub expands_with_messages : State → List ℕ → List ℕ → Acted
+expands_with_messages s x messages = record { state = s; effect = record nothing { push = Some (pushes.Text x); messages = messages } }
 
 module _ (p : Place) (b : Builtin) (s : State) where
   module _ (does : ℤ → Acted) where
     -- by the number that was read, if there is one
     abbrev by_number : Option ℤ → Reading → Acted
     by_number None r = only_warning s (reading_warning p b r)
-    by_number (Some n) r = telling_first (reading_warning p b r) (does n)
+    by_number (Some n) r = warning_first (reading_warning p b r) (does n)
 
     by_reading : (r : Reading) → with_number p b s r does ≡ by_number (number_of_reading r) r
     by_reading (Number n) = refl
@@ -28,7 +28,7 @@ module _ (p : Place) (b : Builtin) (s : State) where
     by_reading NotNumeric = refl
 
     -- with the number that was read
-    pub with_number-some : (r : Reading) (n : ℤ) → Some n ≡ number_of_reading r → with_number p b s r does ≡ telling_first (reading_warning p b r) (does n)
+    pub with_number-some : (r : Reading) (n : ℤ) → Some n ≡ number_of_reading r → with_number p b s r does ≡ warning_first (reading_warning p b r) (does n)
     with_number-some r n e = by_reading r ∙ ap (λ (o : Option ℤ). by_number o r) (sym e)
 
     -- without a number
@@ -37,7 +37,7 @@ module _ (p : Place) (b : Builtin) (s : State) where
 
   -- with the number that was read, where the call expands to a text
   pub with_number-expands : (text : ℤ → List ℕ) (r : Reading) (n : ℤ) (messages : List ℕ) → Some n ≡ number_of_reading r → messages ≡ reading_warning p b r
-      → with_number p b s r (λ m. expands s (text m)) ≡ expands_telling s (text n) messages
-  with_number-expands text r n messages e told =
+      → with_number p b s r (λ m. expands s (text m)) ≡ expands_with_messages s (text n) messages
+  with_number-expands text r n messages e warned =
       with_number-some (λ m. expands s (text m)) r n e
-      ∙ ap (λ (x : List ℕ). expands_telling s (text n) x) (append-nil (reading_warning p b r) ∙ sym told)
+      ∙ ap (λ (x : List ℕ). expands_with_messages s (text n) x) (append-nil (reading_warning p b r) ∙ sym warned)

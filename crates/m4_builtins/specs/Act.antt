@@ -17,7 +17,7 @@ use Rattle.m4_input.specs.declared.pushed.Pushed.{Pushed}
 use Rattle.m4_input.specs.declared.pushed.Pushed.TheVariants as pushes
 use Rattle.m4_builtins.specs.declared.args.Arg.{Arg}
 use Rattle.m4_builtins.specs.declared.place.Place.{Place}
-pub use Rattle.m4_builtins.specs.Acted.{Acted, IsPushed, nothing, changes, only_warning, gives, expands, telling_first}
+pub use Rattle.m4_builtins.specs.Acted.{Acted, IsPushed, nothing, changes, only_warning, gives, expands, warning_first}
 use Rattle.m4_builtins.specs.Args.{text_of_arg, only_text}
 use Rattle.m4_builtins.specs.Arithmetic.{incr, decr}
 use Rattle.m4_builtins.specs.Branching.{ifdef, ifelse, shift}
@@ -104,7 +104,7 @@ lacks b list p s = record {
 abbrev pub act_unless : Inner → Bool → Builtin → List Arg → Place → State → Acted
 act_unless inner true b list p s = lacks b list p s
 act_unless inner false b list p s =
-    telling_first (excess_if (is_above (most_of b) (length list)) p b)
+    warning_first (excess_if (is_above (most_of b) (length list)) p b)
     (row inner b (taken (takes_tokens b) list) p s)
 
 -- a call of a definition under a name; `inner` continues an indirect call

@@ -1,5 +1,5 @@
 -- Acted: the state and the effect of a call, and the forms that the builtins' rows use for them.
--- Believed. Words: Acted, IsPushed, nothing, changes, only_warning, gives, expands, telling_first.
+-- Believed. Words: Acted, IsPushed, nothing, changes, only_warning, gives, expands, warning_first.
 use Rattle.std.specs.Prelude.{ℕ, false, List, [], ◌++◌, Option, Some, None}
 use Rattle.m4_state.specs.Definition.{IsDefinition}
 use Rattle.m4_state.specs.State.{State}
@@ -39,6 +39,6 @@ abbrev pub expands : State → List ℕ → Acted
 expands s x = gives s (pushes.Text x)
 
 -- with a message before the others
-abbrev pub telling_first : List ℕ → Acted → Acted
-telling_first x r =
+abbrev pub warning_first : List ℕ → Acted → Acted
+warning_first x r =
     record { state = r.state; effect = record r.effect { messages = x ++ (r.effect).messages } }

@@ -10,7 +10,7 @@ use Rattle.m4_state.specs.State.{State, top_of}
 use Rattle.m4_builtins.specs.declared.args.Arg.{Arg}
 use Rattle.m4_builtins.specs.declared.place.Place.{Place}
 use Rattle.m4_builtins.specs.Args.{texts_of, after_first, text_at}
-use Rattle.m4_builtins.specs.Acted.{Acted, changes, only_warning, expands, telling_first}
+use Rattle.m4_builtins.specs.Acted.{Acted, changes, only_warning, expands, warning_first}
 use Rattle.m4_builtins.specs.Messages.{too_few, excess}
 use Rattle.m4_builtins.specs.Subst.{all_quoted}
 
@@ -48,7 +48,7 @@ ifelse [] p s = changes s
 ifelse (a ∷ []) p s = changes s
 ifelse (a ∷ b ∷ []) p s = only_warning s (too_few p Ifelse)
 ifelse (a ∷ b ∷ c ∷ rest) p s =
-    telling_first (extra_warning p (has_extra (length (a ∷ b ∷ c ∷ rest))))
+    warning_first (extra_warning p (has_extra (length (a ∷ b ∷ c ∷ rest))))
     (expands s (chosen (texts_of (a ∷ b ∷ c ∷ rest))))
 
 -- `shift`: all arguments but the first, each between quotes

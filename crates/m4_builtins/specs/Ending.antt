@@ -10,7 +10,7 @@ use Rattle.m4_builtins.specs.declared.number.Reading.{Reading}
 use Rattle.m4_builtins.specs.declared.number.Reading.TheVariants.{Number, Empty, NotNumeric}
 use Rattle.m4_builtins.specs.declared.place.Place.{Place}
 use Rattle.m4_builtins.specs.Args.{text_of_arg, texts_of, with_spaces}
-use Rattle.m4_builtins.specs.Acted.{Acted, nothing, telling_first}
+use Rattle.m4_builtins.specs.Acted.{Acted, nothing, warning_first}
 use Rattle.m4_builtins.specs.Messages.{empty_number, not_numeric, bad_status}
 use Rattle.m4_builtins.specs.Numeric.{reading_of}
 
@@ -25,13 +25,13 @@ exits s code = record { state = s; effect = record nothing { exit = Some code } 
 
 -- by a number, which may be no valid code
 abbrev pub exits_by : ℤ → Place → State → Acted
-exits_by (pos n) p s = if nat_le n 255 then exits s n else telling_first (bad_status p) (exits s 1)
-exits_by (negsuc n) p s = telling_first (bad_status p) (exits s 1)
+exits_by (pos n) p s = if nat_le n 255 then exits s n else warning_first (bad_status p) (exits s 1)
+exits_by (negsuc n) p s = warning_first (bad_status p) (exits s 1)
 
 abbrev pub exits_reading : Reading → Place → State → Acted
 exits_reading (Number n) p s = exits_by n p s
-exits_reading Empty p s = telling_first (empty_number p M4exit) (exits s 0)
-exits_reading NotNumeric p s = telling_first (not_numeric p M4exit) (exits s 1)
+exits_reading Empty p s = warning_first (empty_number p M4exit) (exits s 0)
+exits_reading NotNumeric p s = warning_first (not_numeric p M4exit) (exits s 1)
 
 -- `m4exit`: the code is 0 if there is no argument
 abbrev pub m4exit : List Arg → Place → State → Acted

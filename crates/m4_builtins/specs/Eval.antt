@@ -15,7 +15,7 @@ use Rattle.m4_eval.specs.InRadix.{radix_at, in_radix}
 use Rattle.m4_builtins.specs.declared.args.Arg.{Arg}
 use Rattle.m4_builtins.specs.declared.place.Place.{Place}
 use Rattle.m4_builtins.specs.Args.{texts_of, text_at}
-use Rattle.m4_builtins.specs.Acted.{Acted, only_warning, expands, telling_first}
+use Rattle.m4_builtins.specs.Acted.{Acted, only_warning, expands, warning_first}
 use Rattle.m4_builtins.specs.Messages.{empty_number, divide_by_zero, bad_expression, out_of_range}
 use Rattle.m4_builtins.specs.Numeric.{reading_of, with_number}
 
@@ -49,7 +49,7 @@ if_value p s does BadExpression = only_warning s (bad_expression p)
 -- continues with the value of a text, which is 0 if the text is empty or only white space
 abbrev pub with_value : Place → State → List ℕ → (ℤ → Acted) → Acted
 with_value p s x does =
-    if list_all is_space x then telling_first (empty_number p Eval) (does (pos 0))
+    if list_all is_space x then warning_first (empty_number p Eval) (does (pos 0))
     else if_value p s does (evaluated x)
 
 -- continues with the value of the first argument, written in the radix of the second one and with the

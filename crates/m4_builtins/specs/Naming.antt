@@ -14,7 +14,7 @@ use Rattle.m4_builtins.specs.declared.args.Arg.{Arg}
 use Rattle.m4_builtins.specs.declared.args.Arg.TheVariants as args
 use Rattle.m4_builtins.specs.declared.place.Place.{Place}
 use Rattle.m4_builtins.specs.Args.{text_of_arg, texts_of, definition_of_arg, quoted}
-use Rattle.m4_builtins.specs.Acted.{Acted, changes, only_warning, gives, expands, telling_first}
+use Rattle.m4_builtins.specs.Acted.{Acted, changes, only_warning, gives, expands, warning_first}
 use Rattle.m4_builtins.specs.Messages.{dropped, bad_name}
 
 -- the second of two arguments as a definition, or the empty text if there is none
@@ -76,5 +76,5 @@ abbrev pub defn : List Arg → Place → State → Acted
 defn [] p s = changes s
 defn (a ∷ []) p s = gives s (definition_given s.quotes (top_of s (text_of_arg a)))
 defn (a ∷ b ∷ rest) p s =
-    telling_first (flat_map (left_out p) (tops_of s (a ∷ b ∷ rest)))
+    warning_first (flat_map (left_out p) (tops_of s (a ∷ b ∷ rest)))
     (expands s (flat_map (text_given s.quotes) (tops_of s (a ∷ b ∷ rest))))

@@ -11,7 +11,7 @@ use Rattle.m4_input.specs.Token.{run_length}
 use Rattle.m4_builtins.specs.declared.number.Reading.{Reading}
 use Rattle.m4_builtins.specs.declared.number.Reading.TheVariants.{Number, Empty, NotNumeric}
 use Rattle.m4_builtins.specs.declared.place.Place.{Place}
-use Rattle.m4_builtins.specs.Acted.{Acted, only_warning, telling_first}
+use Rattle.m4_builtins.specs.Acted.{Acted, only_warning, warning_first}
 use Rattle.m4_builtins.specs.Messages.{empty_number, not_numeric}
 use Rattle.m4_builtins.specs.Subst.{number_of}
 
@@ -77,5 +77,5 @@ reading_warning p b NotNumeric = not_numeric p b
 -- warns
 abbrev pub with_number : Place → Builtin → State → Reading → (ℤ → Acted) → Acted
 with_number p b s (Number n) does = does n
-with_number p b s Empty does = telling_first (empty_number p b) (does (pos 0))
+with_number p b s Empty does = warning_first (empty_number p b) (does (pos 0))
 with_number p b s NotNumeric does = only_warning s (not_numeric p b)

@@ -89,7 +89,7 @@ fn act_builtin<'a>(
     match step {
         Step::Done(effect) => {
             let warning = excess_message(alloc, place, builtin)?;
-            Ok(Step::Done(telling_first(alloc, warning, effect)?))
+            Ok(Step::Done(warning_first(alloc, warning, effect)?))
         }
         Step::On(..) => Ok(step),
     }
@@ -182,7 +182,7 @@ fn is_above(most: Option<usize>, count: usize) -> bool
 }
 
 /// Inserts a message before the others of an effect.
-fn telling_first(alloc: Global, message: Bytes, effect: Effect) -> Result<Effect, AllocError>
+fn warning_first(alloc: Global, message: Bytes, effect: Effect) -> Result<Effect, AllocError>
     ensures { IfOk result (λ e. e ≡ record effect { messages = message ++ effect.messages }) }
 {
     let mut effect = effect;

@@ -31,7 +31,7 @@ pub(crate) fn incr(
     let text = text_at(list, 0);
     match number_in(alloc, text, place, Builtin::Incr, &mut messages)? {
         Some(number) => pushing_number(alloc, number.wrapping_add(1), Bytes::from(messages)),
-        None => Ok(Effect::telling(alloc, Bytes::from(messages))),
+        None => Ok(Effect::with_messages(alloc, Bytes::from(messages))),
     }
 }
 
@@ -50,7 +50,7 @@ pub(crate) fn decr(
     let text = text_at(list, 0);
     match number_in(alloc, text, place, Builtin::Decr, &mut messages)? {
         Some(number) => pushing_number(alloc, number.wrapping_sub(1), Bytes::from(messages)),
-        None => Ok(Effect::telling(alloc, Bytes::from(messages))),
+        None => Ok(Effect::with_messages(alloc, Bytes::from(messages))),
     }
 }
 

@@ -42,7 +42,7 @@ pub(crate) fn ifelse(
         [] | [_] => Ok(Effect::nothing(alloc)),
         [_, _] => {
             let warning = too_few_message(alloc, place, Builtin::Ifelse)?;
-            Ok(Effect::telling(alloc, warning))
+            Ok(Effect::with_messages(alloc, warning))
         }
         [..] => {
             let text = Bytes::from_slice(alloc, chosen(list))?;

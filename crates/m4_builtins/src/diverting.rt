@@ -35,7 +35,7 @@ pub(crate) fn divert(
     if let Some(number) = number_in(alloc, text_of(first), place, Builtin::Divert, &mut messages)? {
         state.divert(number);
     }
-    Ok(Effect::telling(alloc, Bytes::from(messages)))
+    Ok(Effect::with_messages(alloc, Bytes::from(messages)))
 }
 
 /// Undiverts the diversions with these numbers, or all if there is no argument. Invalid numbers are
@@ -55,7 +55,7 @@ pub(crate) fn undivert(
     };
     let mut output = Vec::new(alloc);
     bring_back(numbers.as_slice(), state, &mut output)?;
-    let mut effect = Effect::telling(alloc, Bytes::from(messages));
+    let mut effect = Effect::with_messages(alloc, Bytes::from(messages));
     effect.output = Bytes::from(output);
     Ok(effect)
 }
@@ -92,7 +92,7 @@ fn numbers_in(
     messages: &mut Vec<u8>,
 ) -> Result<Vec<i32>, AllocError>
     ensures numbers { IfOk result (λ v. v.items ≡ filter_map number_of_reading (spec.readings_of list.now)) }
-    ensures told { OnOk result (messages.new.items
+    ensures warns { OnOk result (messages.new.items
         ≡ messages.old.items ++ flat_map (reading_warning place.now builtins.Undivert) (spec.readings_of list.now)) }
 {
     let mut numbers = Vec::new(alloc);

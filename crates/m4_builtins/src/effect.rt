@@ -42,7 +42,7 @@ impl Effect {
     }
 
     /// Creates an effect with only messages.
-    pub(crate) fn telling(alloc: Global, messages: Bytes) -> Effect
+    pub(crate) fn with_messages(alloc: Global, messages: Bytes) -> Effect
         ensures { result ≡ record nothing { messages = messages } }
     {
         let mut effect = Effect::nothing(alloc);

@@ -55,7 +55,7 @@ pub(crate) fn begin<'a>(
         Def::Builtin(builtin) => Ok(Step::On(*builtin, list)),
         Def::Placeholder(other) => {
             let warning = unsupported_message(alloc, place, other.as_slice())?;
-            Ok(Step::Done(Effect::telling(alloc, warning)))
+            Ok(Step::Done(Effect::with_messages(alloc, warning)))
         }
     }
 }
@@ -76,13 +76,13 @@ pub(crate) fn indir<'a>(
     };
     let Arg::Text(name) = first else {
         let warning = bad_name_message(alloc, place, Builtin::Indir)?;
-        return Ok(Step::Done(Effect::telling(alloc, warning)));
+        return Ok(Step::Done(Effect::with_messages(alloc, warning)));
     };
     match state.top(name.as_slice()) {
         Some(def) => begin(alloc, def, name.as_slice(), rest, place, state),
         None => {
             let warning = unknown_macro_message(alloc, place, name.as_slice())?;
-            Ok(Step::Done(Effect::telling(alloc, warning)))
+            Ok(Step::Done(Effect::with_messages(alloc, warning)))
         }
     }
 }
@@ -103,13 +103,13 @@ pub(crate) fn builtin<'a>(
     };
     let Arg::Text(name) = first else {
         let warning = bad_name_message(alloc, place, Builtin::IndirBuiltin)?;
-        return Ok(Step::Done(Effect::telling(alloc, warning)));
+        return Ok(Step::Done(Effect::with_messages(alloc, warning)));
     };
     match Builtin::by_name(name.as_slice()) {
         Some(builtin) => Ok(Step::On(builtin, rest)),
         None => {
             let warning = unknown_builtin_message(alloc, place, name.as_slice())?;
-            Ok(Step::Done(Effect::telling(alloc, warning)))
+            Ok(Step::Done(Effect::with_messages(alloc, warning)))
         }
     }
 }

@@ -42,7 +42,7 @@ pub(crate) fn define(
         }
         Arg::Definition(_) => {
             let warning = bad_name_message(alloc, place, Builtin::Define)?;
-            Ok(Effect::telling(alloc, warning))
+            Ok(Effect::with_messages(alloc, warning))
         }
     }
 }
@@ -69,7 +69,7 @@ pub(crate) fn pushdef(
         }
         Arg::Definition(_) => {
             let warning = bad_name_message(alloc, place, Builtin::Pushdef)?;
-            Ok(Effect::telling(alloc, warning))
+            Ok(Effect::with_messages(alloc, warning))
         }
     }
 }

@@ -46,7 +46,7 @@ pub(crate) fn number_in(
     messages: &mut Vec<u8>,
 ) -> Result<Option<i32>, AllocError>
     ensures number { IfOk result (λ n. n ≡ spec.number_of_reading (spec.reading_of text.now)) }
-    ensures told { OnOk result (messages.new.items
+    ensures warns { OnOk result (messages.new.items
         ≡ messages.old.items ++ spec.reading_warning place.now builtin (spec.reading_of text.now)) }
 {
     match reading_of(text) {

@@ -35,7 +35,7 @@ pub(crate) fn dumpdef(
     push_warnings(alloc, names.as_slice(), place, state, &mut messages)?;
     names.sort_unstable_by(|a, b| a.as_slice().cmp(b.as_slice()));
     push_lines(names.as_slice(), state, &mut messages)?;
-    Ok(Effect::telling(alloc, Bytes::from(messages)))
+    Ok(Effect::with_messages(alloc, Bytes::from(messages)))
 }
 
 /// Returns the requested names, or all.
@@ -153,7 +153,7 @@ pub(crate) fn errprint(alloc: Global, list: &[Arg], state: &State) -> Result<Eff
     let _ = state;
     let mut text = Vec::new(alloc);
     push_joined(&mut text, list, b' ')?;
-    Ok(Effect::telling(alloc, Bytes::from(text)))
+    Ok(Effect::with_messages(alloc, Bytes::from(text)))
 }
 
 /// Expands to the name of the input between quotes; to an empty one in wrapped text, whose line is 0.

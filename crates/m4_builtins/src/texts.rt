@@ -55,13 +55,13 @@ pub(crate) fn substr(
     let mut messages = Vec::new(alloc);
     let number = number_in(alloc, text_of(from), place, Builtin::Substr, &mut messages)?;
     let Some(from) = number else {
-        return Ok(Effect::telling(alloc, Bytes::from(messages)));
+        return Ok(Effect::with_messages(alloc, Bytes::from(messages)));
     };
     let mut part = from_place(text_of(text), from);
     if let [count, ..] = counts {
         let number = number_in(alloc, text_of(count), place, Builtin::Substr, &mut messages)?;
         let Some(count) = number else {
-            return Ok(Effect::telling(alloc, Bytes::from(messages)));
+            return Ok(Effect::with_messages(alloc, Bytes::from(messages)));
         };
         part = at_most(part, count);
     }

@@ -14,7 +14,7 @@ use Rattle.m4_engine.specs.Session.{SessionState, progress_of, how_over, written
 use Rattle.m4_engine.specs.Writers.{Contents, writers}
 use Rattle.m4_engine.proofs.Begins.{begun_after}
 use Rattle.m4_engine.proofs.Growth.{Extends}
-use Rattle.m4_engine.proofs.RunsBehind.{Bp, Behind, sources_follow, rounds_after}
+use Rattle.m4_engine.proofs.RunsAfter.{Bp, Prefixed, sources_follow, rounds_after}
 
 -- a progress after the bytes that were written before
 abbrev pub after : List ℕ → List ℕ → Progress → Progress
@@ -33,10 +33,10 @@ module _ (o m : List ℕ) (limits : Limits) where
       let n : 0 + (q.so_far).calls ≡ (q.so_far).calls = omega arith in
       ap (λ (k : ℕ). record (after o m q) { so_far = record (after o m q).so_far { calls = k } }) n
 
-  abbrev Behind' : Progress → Progress → Type 0
-  Behind' = Behind o m 0 limits.calls limits.calls limits.nesting limits.nesting room (λ k h. h) (λ h. ⊥) (inr (refl, refl)) (inr refl) (λ h x. absurd x)
+  abbrev Prefixed' : Progress → Progress → Type 0
+  Prefixed' = Prefixed o m 0 limits.calls limits.calls limits.nesting limits.nesting room (λ k h. h) (λ h. ⊥) (inr (refl, refl)) (inr refl) (λ h x. absurd x)
 
-  same : (p q : Progress) → Behind' p q → p ≡ after o m q
+  same : (p q : Progress) → Prefixed' p q → p ≡ after o m q
   same p q (inl h) = absurd h.2
   same p q (inr e) = e ∙ B_is q
 

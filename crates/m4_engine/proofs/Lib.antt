@@ -14,7 +14,7 @@ pub mod RowsBuiltins
 pub mod RowsFrozen
 pub mod RowsChain
 pub mod Shifts
-pub mod RunsBehind
+pub mod RunsAfter
 pub mod Split
 pub mod SavesCount
 pub mod Rounds

@@ -13,7 +13,7 @@ use Rattle.m4_engine.specs.Laws.{IsAsDeep}
 use Rattle.m4_engine.proofs.OnePass.{over_wraps}
 use Rattle.m4_engine.proofs.Rounds.{Complete, wraps_complete, more_rounds}
 use Rattle.m4_engine.proofs.Shifts.{after_record}
-use Rattle.m4_engine.proofs.RunsBehind.{Behind, sources_follow, rounds_after}
+use Rattle.m4_engine.proofs.RunsAfter.{Prefixed, sources_follow, rounds_after}
 
 complete_moved : (p q : Progress) → p ≡ q → Complete p → Complete q
 complete_moved p q e c = subst (λ (x : Progress). Complete x) e c
@@ -36,7 +36,7 @@ module _ (calls calls' nesting nesting' : ℕ) (room : (k : ℕ) → 0 + k < cal
   large = record { calls = calls'; nesting = nesting' }
 
   abbrev Beside : Progress → Progress → Type 0
-  Beside = Behind [] [] 0 calls calls' nesting nesting' room depth Limit at_calls at_nesting ends
+  Beside = Prefixed [] [] 0 calls calls' nesting nesting' room depth Limit at_calls at_nesting ends
 
   beside_same : (p q : Progress) → Beside p q → ((h : EndReason) × (p.over ≡ Some h) × Limit h) ⊎ (p ≡ q)
   beside_same p q (inl h) = inl h

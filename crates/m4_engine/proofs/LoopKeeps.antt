@@ -31,10 +31,10 @@ module _ (o m : List ℕ) (calls nesting : ℕ) where
   MeetsOut' = MeetsOut o m 0 calls calls nesting nesting (room_same calls) (λ k h. h) (λ h. ⊥) (inr (refl, refl)) (inr refl)
 
   -- s is t with these in front
-  abbrev Behind : Expansion → Expansion → Type 0
-  Behind s t = (s ≡ B' t) × HasLimits' t
+  abbrev Prefixed : Expansion → Expansion → Type 0
+  Prefixed s t = (s ≡ B' t) × HasLimits' t
 
-  alike_of : (v w : Turn Expansion Kept Ended) → Meets' v w → AlikeTurns Expansion Kept Ended Behind v w
+  alike_of : (v w : Turn Expansion Kept Ended) → Meets' v w → AlikeTurns Expansion Kept Ended Prefixed v w
   unfolding Meets AlikeTurns
   alike_of (Halt d) w (inl h) = absurd h
   alike_of (Halt d) w (inr h) = (h.0, h.1)
@@ -43,20 +43,20 @@ module _ (o m : List ℕ) (calls nesting : ℕ) where
   alike_of (Bare u) w h = (h.0, h.1, (h.2, h.3))
   alike_of (Opens f u) w h = (h.0, h.1, (h.2, h.3))
 
-  alike_out_of : (v w : Outcome Expansion Ended) → MeetsOut' v w → AlikeOuts Expansion Kept Ended Behind v w
+  alike_out_of : (v w : Outcome Expansion Ended) → MeetsOut' v w → AlikeOuts Expansion Kept Ended Prefixed v w
   unfolding MeetsOut AlikeOuts
   alike_out_of (Halted d) w (inl h) = absurd h
   alike_out_of (Halted d) w (inr h) = (h.0, h.1)
   alike_out_of (Closed u) w h = (h.0, h.1, (h.2, h.3))
 
-  alike : (s t : Expansion) → Behind s t → AlikeTurns Expansion Kept Ended Behind (turn s) (turn t)
+  alike : (s t : Expansion) → Prefixed s t → AlikeTurns Expansion Kept Ended Prefixed (turn s) (turn t)
   alike s t r =
-      subst (λ (x : Expansion). AlikeTurns Expansion Kept Ended Behind (turn x) (turn t)) (sym r.0)
+      subst (λ (x : Expansion). AlikeTurns Expansion Kept Ended Prefixed (turn x) (turn t)) (sym r.0)
       (alike_of (turn (B' t)) (turn t) (turn_meets o m 0 calls calls nesting nesting (room_same calls) (λ k h. h) (λ h. ⊥) (inr (refl, refl)) (inr refl) t r.1))
 
-  alike_out : (f : Kept) (u w : Expansion) → Behind u w → AlikeOuts Expansion Kept Ended Behind (join f u) (join f w)
+  alike_out : (f : Kept) (u w : Expansion) → Prefixed u w → AlikeOuts Expansion Kept Ended Prefixed (join f u) (join f w)
   alike_out f u w r =
-      subst (λ (x : Expansion). AlikeOuts Expansion Kept Ended Behind (join f x) (join f w)) (sym r.0)
+      subst (λ (x : Expansion). AlikeOuts Expansion Kept Ended Prefixed (join f x) (join f w)) (sym r.0)
       (alike_out_of (join f (B' w)) (join f w) (join_meets o m 0 calls calls nesting nesting (room_same calls) (λ k h. h) (λ h. ⊥) (inr (refl, refl)) (inr refl) w.mode f w r.1))
 
 -- how many turns a machine still has
@@ -72,7 +72,7 @@ still_after e p =
 same_left : (e : Engine) (p : Pending) → turns_of (after_flush e) p ≡ turns_of e p
 same_left e p =
     same_turns Expansion Kept Ended turn join out_of_bound_at size_of calls_left falls
-    (Behind e.output e.messages (e.limits).calls (e.limits).nesting)
+    (Prefixed e.output e.messages (e.limits).calls (e.limits).nesting)
     (alike e.output e.messages (e.limits).calls (e.limits).nesting)
     (alike_out e.output e.messages (e.limits).calls (e.limits).nesting)
     (outer_of e.open_calls) (here_of [] [] e p) (here_of [] [] (after_flush e) p) (still_after e p, (refl, refl))

@@ -71,26 +71,26 @@ stopped ss i j s0 s s' t out0 out out' reported0 reported reported' e l b d h =
     step_stops b.o b.m _ _ (within ss i j s0 s t _ b d) s0 s s' out0 out out' reported0 reported reported' b.output b.messages l b.limits e h
 
 -- the source at a position
-told_at : {R : Type 0} (f : R → Option Source) (xs : List R) (ss : List Source) (i : ℕ) (x : R) (rest : List R) → map f xs ≡ map Some ss → drop i xs ≡ x ∷ rest → (t : Source) × (f x ≡ Some t) × (drop i ss ≡ t ∷ drop (suc i) ss)
-told_at f [] [] zero x rest e d = cc
-told_at f [] [] (suc i) x rest e d = cc
-told_at f [] (s ∷ ss) i x rest e d = cc
-told_at f (y ∷ xs) [] i x rest e d = cc
-told_at f (y ∷ xs) (s ∷ ss) zero x rest e d =
+reported_at : {R : Type 0} (f : R → Option Source) (xs : List R) (ss : List Source) (i : ℕ) (x : R) (rest : List R) → map f xs ≡ map Some ss → drop i xs ≡ x ∷ rest → (t : Source) × (f x ≡ Some t) × (drop i ss ≡ t ∷ drop (suc i) ss)
+reported_at f [] [] zero x rest e d = cc
+reported_at f [] [] (suc i) x rest e d = cc
+reported_at f [] (s ∷ ss) i x rest e d = cc
+reported_at f (y ∷ xs) [] i x rest e d = cc
+reported_at f (y ∷ xs) (s ∷ ss) zero x rest e d =
     let h : f y ≡ Some s = cc in
     let k : y ≡ x = cc in
     (s, sym (ap f k) ∙ h, refl)
-told_at f (y ∷ xs) (s ∷ ss) (suc i) x rest e d =
+reported_at f (y ∷ xs) (s ∷ ss) (suc i) x rest e d =
     let h : map f xs ≡ map Some ss = cc in
-    told_at f xs ss i x rest h d
+    reported_at f xs ss i x rest h d
 
-none_told : {R : Type 0} (f : R → Option Source) (xs : List R) (ss : List Source) (i : ℕ) → map f xs ≡ map Some ss → length xs ≤ i → drop i ss ≡ []
-none_told f [] [] zero e l = refl
-none_told f [] [] (suc i) e l = refl
-none_told f [] (s ∷ ss) i e l = cc
-none_told f (y ∷ xs) [] i e l = cc
-none_told f (y ∷ xs) (s ∷ ss) zero e l = absurd (omega arith)
-none_told f (y ∷ xs) (s ∷ ss) (suc i) e l = let h : map f xs ≡ map Some ss = cc in none_told f xs ss i h (omega arith)
+none_reported : {R : Type 0} (f : R → Option Source) (xs : List R) (ss : List Source) (i : ℕ) → map f xs ≡ map Some ss → length xs ≤ i → drop i ss ≡ []
+none_reported f [] [] zero e l = refl
+none_reported f [] [] (suc i) e l = refl
+none_reported f [] (s ∷ ss) i e l = cc
+none_reported f (y ∷ xs) [] i e l = cc
+none_reported f (y ∷ xs) (s ∷ ss) zero e l = absurd (omega arith)
+none_reported f (y ∷ xs) (s ∷ ss) (suc i) e l = let h : map f xs ≡ map Some ss = cc in none_reported f xs ss i h (omega arith)
 
 -- the rest is as it was
 pub rest_kept : {R : Type 0} (xs ys : List R) (i : ℕ) (v : R) → drop i xs ≡ drop i ys → drop (i + 1) (slice_set xs i v) ≡ drop (i + 1) ys
@@ -156,25 +156,25 @@ first_for script i xs ys ss (inl t) = inl t
 first_for script i xs ys ss (inr m) = inr (first_of_all script xs ys ss i m)
 
 pub none_left : {R : Type 0} (script : R → Option Script) (xs ys : List (RunSource R)) (ss : List Source) (i : ℕ) → DescribeSources script xs ys ss → length xs ≤ i → drop i ss ≡ []
-none_left script xs ys ss i (inl t) l = none_told (source_of script) xs ss i t l
+none_left script xs ys ss i (inl t) l = none_reported (source_of script) xs ss i t l
 none_left script xs ys ss i (inr m) l = none_may script xs ys ss i m l
 
 -- the source at a place, and what the definitions have there
 pub record Item {R : Type 0} (script : R → Option Script) (i : ℕ) (xs ys : List (RunSource R)) (x v : RunSource R) (ss : List Source) : Type 0 where
   pub first : FirstFor script i ys xs ss
   pub source : Source
-  pub stands : DescribesSource script x v source
+  pub describes : DescribesSource script x v source
   pub there : drop i ss ≡ source ∷ drop (i + 1) ss
 
 pub item : {R : Type 0} (script : R → Option Script) (i : ℕ) (xs ys : List (RunSource R)) (x v : RunSource R) (ss : List Source) → drop i xs ≡ drop i ys → i < length xs → FirstFor script (i + 1) ys (slice_set xs i v) ss → Item script i xs ys (slice_index_or xs i x) v ss
 item script i xs ys x v ss d l (inl t) =
-    let k = told_at (source_of script) ys ss i (slice_index_or xs i x) (drop (suc i) xs) t (sym d ∙ drop-cons xs i x l) in
+    let k = reported_at (source_of script) ys ss i (slice_index_or xs i x) (drop (suc i) xs) t (sym d ∙ drop-cons xs i x l) in
     let n : suc i ≡ i + 1 = omega arith in
-    record { first = inl t; source = k.0; stands = inl k.1; there = k.2 ∙ ap (λ (j : ℕ). k.0 ∷ drop j ss) n }
+    record { first = inl t; source = k.0; describes = inl k.1; there = k.2 ∙ ap (λ (j : ℕ). k.0 ∷ drop j ss) n }
 item script i xs ys x v ss d l (inr m) =
     let n : i + 1 ≡ suc i = omega arith in
     let k = item_may script i xs ys (slice_index_or xs i x) v ss d (drop-cons xs i x l) (subst (λ (j : ℕ). may_first script j ys (slice_set xs i v) ss) n m) in
-    record { first = inr k.first; source = k.source; stands = inr k.may; there = k.there ∙ ap (λ (j : ℕ). k.source ∷ drop j ss) (sym n) }
+    record { first = inr k.first; source = k.source; describes = inr k.may; there = k.there ∙ ap (λ (j : ℕ). k.source ∷ drop j ss) (sym n) }
 
 pub stopped_so : (ss : List Source) (i j : ℕ) (s0 s s' : SessionState) (t : Source) (out0 out out' reported0 reported reported' : Option (List ℕ)) (e : Stop) (q r : Result Unit Stop) → q ≡ Err e → r ≡ Err e → IsOpen s0 → Between ss i s0 s (writers out0 out reported0 reported) → drop i ss ≡ t ∷ drop j ss → GoesTo (after_source s.limits t (progress_of s)) s s' (writers out out' reported reported') q → GoesTo (after_sources s0.limits ss (progress_of s0)) s0 s' (writers out0 out' reported0 reported') r
 stopped_so ss i j s0 s s' t out0 out out' reported0 reported reported' e q r f g l b d h =

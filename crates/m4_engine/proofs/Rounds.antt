@@ -5,7 +5,7 @@ use Rattle.m4_engine.specs.File.{Progress}
 use Rattle.m4_engine.specs.Wraps.{read_saved, next_round, rounds, after_wraps, joined_back, wrapped_pending}
 use Rattle.m4_engine.specs.Laws.{WrapsRules}
 use Rattle.m4_engine.proofs.SavesCount.{input_saves}
-use Rattle.m4_engine.proofs.RunsBehind.{over_rounds}
+use Rattle.m4_engine.proofs.RunsAfter.{over_rounds}
 
 -- no round is left: the run is over, or no text is saved
 abbrev pub Complete : Progress → Type 0

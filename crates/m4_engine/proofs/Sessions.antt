@@ -26,8 +26,8 @@ pub whole_file : (name x : List ℕ) (before after : Option Script) (p : Pending
 whole_file name x before after p r e = r.in_hand ∙ ap (λ (b : Bool). longer x b (unread_file name).pending) e
 
 -- the session as the machine and the rest of it give it
-abbrev standing_of : Engine → Bool → Option Cause → Bool → SessionState
-standing_of e any_missing over finished = record {
+abbrev session_of : Engine → Bool → Option Cause → Bool → SessionState
+session_of e any_missing over finished = record {
   limits = e.limits;
   state = e.state;
   saved = e.saved;
@@ -45,7 +45,7 @@ progress_with s saved calls over any_missing = record {
   any_missing = any_missing;
 }
 
-progress_after : (new : Engine) (any_missing : Bool) (over : Option Cause) (cause : Cause) (d : Ended) → d.reason ≡ Ends cause → new.state ≡ (d.so_far).state → new.saved ≡ (d.so_far).saved → new.calls ≡ (d.so_far).calls → how_over over ≡ over_by cause → progress_of (standing_of new any_missing over false) ≡ written (after_input d any_missing)
+progress_after : (new : Engine) (any_missing : Bool) (over : Option Cause) (cause : Cause) (d : Ended) → d.reason ≡ Ends cause → new.state ≡ (d.so_far).state → new.saved ≡ (d.so_far).saved → new.calls ≡ (d.so_far).calls → how_over over ≡ over_by cause → progress_of (session_of new any_missing over false) ≡ written (after_input d any_missing)
 progress_after new any_missing over cause d h s v n o =
     ap (λ (x : State). progress_with x new.saved new.calls (how_over over) any_missing) s
     ∙ ap (λ (x : List (List ℕ)). progress_with (d.so_far).state x new.calls (how_over over) any_missing) v
@@ -53,7 +53,7 @@ progress_after new any_missing over cause d h s v n o =
     ∙ ap (λ (x : Option EndReason). progress_with (d.so_far).state (d.so_far).saved (d.so_far).calls x any_missing) (o ∙ sym (ap over_of h))
 
 -- an input was read to an end
-input_done : (old : SessionState) (e0 e1 : Engine) (any_missing : Bool) (over : Option Cause) (cause : Cause) (d : Ended) (w : Contents) → IsOpen old → e0.limits ≡ old.limits → Expanded e0 e1 d cause w → how_over over ≡ over_by cause → Completed old (standing_of (at_rest e1) any_missing over false) (after_input d any_missing) w
+input_done : (old : SessionState) (e0 e1 : Engine) (any_missing : Bool) (over : Option Cause) (cause : Cause) (d : Ended) (w : Contents) → IsOpen old → e0.limits ≡ old.limits → Expanded e0 e1 d cause w → how_over over ≡ over_by cause → Completed old (session_of (at_rest e1) any_missing over false) (after_input d any_missing) w
 input_done old e0 e1 any_missing over cause d w l e k o = record {
   live = l;
   limits = k.limits ∙ e;
@@ -64,17 +64,17 @@ input_done old e0 e1 any_missing over cause d w l e k o = record {
 }
 
 -- a file was read to an end
-file_done : (e0 e1 : Engine) (any_missing : Bool) (name x : List ℕ) (over : Option Cause) (cause : Cause) (before after : Option Script) (p : Pending) (w : Contents) → before ≡ after_bytes x after → IsAtEnd after → p ≡ file_pending name x false → Expanded e0 e1 (input_expansion e0 p) cause w → how_over over ≡ over_by cause → FileDone name before after (standing_of e0 any_missing None false) (standing_of (at_rest e1) any_missing over false) w over
+file_done : (e0 e1 : Engine) (any_missing : Bool) (name x : List ℕ) (over : Option Cause) (cause : Cause) (before after : Option Script) (p : Pending) (w : Contents) → before ≡ after_bytes x after → IsAtEnd after → p ≡ file_pending name x false → Expanded e0 e1 (input_expansion e0 p) cause w → how_over over ≡ over_by cause → FileDone name before after (session_of e0 any_missing None false) (session_of (at_rest e1) any_missing over false) w over
 file_done e0 e1 any_missing name x over cause before after p w g a e d o = (
   x,
   g,
   a,
-  input_done (standing_of e0 any_missing None false) e0 e1 any_missing over cause (input_expansion e0 (file_pending name x false)) w (record { over = refl; unfinished = refl }) refl (subst (λ (p : Pending). Expanded e0 e1 (input_expansion e0 p) cause w) e d) o,
+  input_done (session_of e0 any_missing None false) e0 e1 any_missing over cause (input_expansion e0 (file_pending name x false)) w (record { over = refl; unfinished = refl }) refl (subst (λ (p : Pending). Expanded e0 e1 (input_expansion e0 p) cause w) e d) o,
   refl,
 )
 
 -- a file broke off
-file_broke : (e0 e1 : Engine) (any_missing : Bool) (name x : List ℕ) (cause : Cause) (before after : Option Script) (p : Pending) (w : Contents) → before ≡ after_bytes x after → IsAtEnd after → p ≡ file_pending name x false → Broken (input_expansion e0 p) w → FileBroke name before after (standing_of e0 any_missing None false) (standing_of (at_rest e1) any_missing (Some cause) false) w cause
+file_broke : (e0 e1 : Engine) (any_missing : Bool) (name x : List ℕ) (cause : Cause) (before after : Option Script) (p : Pending) (w : Contents) → before ≡ after_bytes x after → IsAtEnd after → p ≡ file_pending name x false → Broken (input_expansion e0 p) w → FileBroke name before after (session_of e0 any_missing None false) (session_of (at_rest e1) any_missing (Some cause) false) w cause
 file_broke e0 e1 any_missing name x cause before after p w g a e d = (
   x,
   g,
@@ -82,7 +82,7 @@ file_broke e0 e1 any_missing name x cause before after p w g a e d = (
   inr (a, subst (λ (p : Pending). Broken (input_expansion e0 p) w) e d),
 )
 
-by_cause : (e0 e1 : Engine) (any_missing : Bool) (name x : List ℕ) (cause : Cause) (before after : Option Script) (p : Pending) (w : Contents) → before ≡ after_bytes x after → IsAtEnd after → p ≡ file_pending name x false → Expands e0 e1 p w cause → EndsInput cause → FileGives name before after (standing_of e0 any_missing None false) (standing_of (at_rest e1) any_missing (over_after cause None) false) w (answer_by cause)
+by_cause : (e0 e1 : Engine) (any_missing : Bool) (name x : List ℕ) (cause : Cause) (before after : Option Script) (p : Pending) (w : Contents) → before ≡ after_bytes x after → IsAtEnd after → p ≡ file_pending name x false → Expands e0 e1 p w cause → EndsInput cause → FileGives name before after (session_of e0 any_missing None false) (session_of (at_rest e1) any_missing (over_after cause None) false) w (answer_by cause)
 by_cause e0 e1 any_missing name x causes.Done before after p w g a e d u = file_done e0 e1 any_missing name x None causes.Done before after p w g a e d refl
 by_cause e0 e1 any_missing name x (causes.Exited n) before after p w g a e d u = file_done e0 e1 any_missing name x (Some (causes.Exited n)) (causes.Exited n) before after p w g a e d refl
 by_cause e0 e1 any_missing name x causes.EndInString before after p w g a e d u = file_done e0 e1 any_missing name x (Some causes.EndInString) causes.EndInString before after p w g a e d refl
@@ -96,28 +96,28 @@ by_cause e0 e1 any_missing name x causes.Write before after p w g a e d u = file
 by_cause e0 e1 any_missing name x causes.OutOfMemory before after p w g a e d u = file_broke e0 e1 any_missing name x causes.OutOfMemory before after p w g a e d
 
 -- a session that goes on
-open_is : (old : SessionState) (e0 : Engine) (any_missing : Bool) (over : Option Cause) (finished : Bool) → old ≡ standing_of e0 any_missing over finished → IsOpen old → (over ≡ None) × (finished ≡ false)
+open_is : (old : SessionState) (e0 : Engine) (any_missing : Bool) (over : Option Cause) (finished : Bool) → old ≡ session_of e0 any_missing over finished → IsOpen old → (over ≡ None) × (finished ≡ false)
 open_is old e0 any_missing over finished o l = (sym (ap (λ (s : SessionState). s.over) o) ∙ l.over, sym (ap (λ (s : SessionState). s.finished) o) ∙ l.unfinished)
 
 -- a session before an input and after it, and the answer, as the clause of the call has them
 module _ (To : SessionState → SessionState → Result Unit Stop → Type 0) (old new : SessionState) (e0 e1 e2 : Engine) (any_missing : Bool) (over : Option Cause) (finished : Bool) (cause : Cause) (result : Result Unit Stop) where
-  as_it_stands : old ≡ standing_of e0 any_missing over finished → IsOpen old → e2 ≡ at_rest e1 → new ≡ standing_of e2 any_missing (over_after cause over) finished → result ≡ answer_by cause → To (standing_of e0 any_missing None false) (standing_of (at_rest e1) any_missing (over_after cause None) false) (answer_by cause) → To old new result
-  as_it_stands o l z v r g =
+  unchanged_session : old ≡ session_of e0 any_missing over finished → IsOpen old → e2 ≡ at_rest e1 → new ≡ session_of e2 any_missing (over_after cause over) finished → result ≡ answer_by cause → To (session_of e0 any_missing None false) (session_of (at_rest e1) any_missing (over_after cause None) false) (answer_by cause) → To old new result
+  unchanged_session o l z v r g =
       let k = open_is old e0 any_missing over finished o l in
-      let o' : old ≡ standing_of e0 any_missing None false = o ∙ ap (λ x. standing_of e0 any_missing x finished) k.0 ∙ ap (λ x. standing_of e0 any_missing None x) k.1 in
-      let v' : new ≡ standing_of (at_rest e1) any_missing (over_after cause None) false =
-      v ∙ ap (λ (x : Engine). standing_of x any_missing (over_after cause over) finished) z ∙ ap (λ x. standing_of (at_rest e1) any_missing (over_after cause x) finished) k.0 ∙ ap (λ x. standing_of (at_rest e1) any_missing (over_after cause None) x) k.1 in
+      let o' : old ≡ session_of e0 any_missing None false = o ∙ ap (λ x. session_of e0 any_missing x finished) k.0 ∙ ap (λ x. session_of e0 any_missing None x) k.1 in
+      let v' : new ≡ session_of (at_rest e1) any_missing (over_after cause None) false =
+      v ∙ ap (λ (x : Engine). session_of x any_missing (over_after cause over) finished) z ∙ ap (λ x. session_of (at_rest e1) any_missing (over_after cause x) finished) k.0 ∙ ap (λ x. session_of (at_rest e1) any_missing (over_after cause None) x) k.1 in
       subst (λ (x : SessionState). To x new result) (sym o')
-      (subst (λ (x : SessionState). To (standing_of e0 any_missing None false) x result) (sym v')
-      (subst (To (standing_of e0 any_missing None false) (standing_of (at_rest e1) any_missing (over_after cause None) false)) (sym r) g))
+      (subst (λ (x : SessionState). To (session_of e0 any_missing None false) x result) (sym v')
+      (subst (To (session_of e0 any_missing None false) (session_of (at_rest e1) any_missing (over_after cause None) false)) (sym r) g))
 
 -- a file that was read whole
-pub file_gives : (old new : SessionState) (e0 e1 e2 : Engine) (any_missing : Bool) (over : Option Cause) (finished : Bool) (name : List ℕ) (i0 i : Held) (before after : Option Script) (w : Contents) (cause : Cause) (result : Result Unit Stop) → old ≡ standing_of e0 any_missing over finished → IsOpen old → i0 ≡ unread_file name → WholeGives before after i0 i (Ok tt) → Expands e0 e1 i.pending w cause → EndsInput cause → e2 ≡ at_rest e1 → new ≡ standing_of e2 any_missing (over_after cause over) finished → result ≡ answer_by cause → FileGives name before after old new w result
+pub file_gives : (old new : SessionState) (e0 e1 e2 : Engine) (any_missing : Bool) (over : Option Cause) (finished : Bool) (name : List ℕ) (i0 i : Held) (before after : Option Script) (w : Contents) (cause : Cause) (result : Result Unit Stop) → old ≡ session_of e0 any_missing over finished → IsOpen old → i0 ≡ unread_file name → WholeGives before after i0 i (Ok tt) → Expands e0 e1 i.pending w cause → EndsInput cause → e2 ≡ at_rest e1 → new ≡ session_of e2 any_missing (over_after cause over) finished → result ≡ answer_by cause → FileGives name before after old new w result
 file_gives old new e0 e1 e2 any_missing over finished name i0 i before after w cause result o l n h d u z v r =
     let k = subst (λ (i0 : Held). WholeGives before after i0 i (Ok tt)) n h in
     let p : i.pending ≡ file_pending name k.0 false = whole_file name k.0 before after i.pending k.1 k.2 in
     let g = by_cause e0 e1 any_missing name k.0 cause before after i.pending w (k.1).given ((k.1).at_end refl k.2) p d u in
-    as_it_stands (λ a b x. FileGives name before after a b w x) old new e0 e1 e2 any_missing over finished cause result o l z v r g
+    unchanged_session (λ a b x. FileGives name before after a b w x) old new e0 e1 e2 any_missing over finished cause result o l z v r g
 
 -- a round over saved texts
 module _ (old : SessionState) (e0 e1 : Engine) (any_missing : Bool) (p : Pending) (w : Contents) (l : IsOpen old) (e : e0.limits ≡ old.limits) where
@@ -125,12 +125,12 @@ module _ (old : SessionState) (e0 e1 : Engine) (any_missing : Bool) (p : Pending
   d = input_expansion e0 p
 
   abbrev To : Cause → Type 0
-  To cause = WrapsGive (after_input d any_missing) old (standing_of (at_rest e1) any_missing (over_after cause None) false) w (answer_by cause)
+  To cause = WrapsGive (after_input d any_missing) old (session_of (at_rest e1) any_missing (over_after cause None) false) w (answer_by cause)
 
-  ends_by : (cause : Cause) → Expanded e0 e1 d cause w → how_over (Some cause) ≡ over_by cause → Completed old (standing_of (at_rest e1) any_missing (Some cause) false) (after_input d any_missing) w × (Some cause ≡ Some cause)
+  ends_by : (cause : Cause) → Expanded e0 e1 d cause w → how_over (Some cause) ≡ over_by cause → Completed old (session_of (at_rest e1) any_missing (Some cause) false) (after_input d any_missing) w × (Some cause ≡ Some cause)
   ends_by cause k o = (input_done old e0 e1 any_missing (Some cause) cause d w l e k o, refl)
 
-  breaks_by : (cause : Cause) → Broken d w → BrokeOff (standing_of (at_rest e1) any_missing (Some cause) false) (after_input d any_missing) w cause
+  breaks_by : (cause : Cause) → Broken d w → BrokeOff (session_of (at_rest e1) any_missing (Some cause) false) (after_input d any_missing) w cause
   breaks_by cause k = record { over = refl; output = k.output; messages = k.messages }
 
   round_by : (cause : Cause) → Expands e0 e1 p w cause → EndsInput cause → To cause
@@ -146,13 +146,13 @@ module _ (old : SessionState) (e0 e1 : Engine) (any_missing : Bool) (p : Pending
   round_by causes.Write k u = (breaks_by causes.Write k, tt)
   round_by causes.OutOfMemory k u = (breaks_by causes.OutOfMemory k, tt)
 
-pub round_gives : (old new : SessionState) (e0 ea e1 e2 : Engine) (any_missing : Bool) (over : Option Cause) (finished : Bool) (x : List ℕ) (i : Held) (w : Contents) (cause : Cause) (result : Result Unit Stop) → old ≡ standing_of e0 any_missing over finished → IsOpen old → ea ≡ record e0 { saved = [] } → x ≡ joined_back e0.saved → i ≡ wrapped_text x → Expands ea e1 i.pending w cause → EndsInput cause → e2 ≡ at_rest e1 → new ≡ standing_of e2 any_missing (over_after cause over) finished → result ≡ answer_by cause → WrapsGive (round_of old) old new w result
+pub round_gives : (old new : SessionState) (e0 ea e1 e2 : Engine) (any_missing : Bool) (over : Option Cause) (finished : Bool) (x : List ℕ) (i : Held) (w : Contents) (cause : Cause) (result : Result Unit Stop) → old ≡ session_of e0 any_missing over finished → IsOpen old → ea ≡ record e0 { saved = [] } → x ≡ joined_back e0.saved → i ≡ wrapped_text x → Expands ea e1 i.pending w cause → EndsInput cause → e2 ≡ at_rest e1 → new ≡ session_of e2 any_missing (over_after cause over) finished → result ≡ answer_by cause → WrapsGive (round_of old) old new w result
 round_gives old new e0 ea e1 e2 any_missing over finished x i w cause result o l a j n d u z v r =
     let taken : Engine = record e0 { saved = [] } in
     let p : Pending = wrapped_pending (joined_back e0.saved) in
     let k : Expands taken e1 p w cause = subst (λ (y : Engine). Expands y e1 p w cause) a (subst (λ (y : Pending). Expands ea e1 y w cause) (ap (λ (h : Held). h.pending) n ∙ ap wrapped_pending j) d) in
-    as_it_stands (λ a b y. WrapsGive (round_of a) a b w y) old new e0 e1 e2 any_missing over finished cause result o l z v r
-    (round_by (standing_of e0 any_missing None false) taken e1 any_missing p w (record { over = refl; unfinished = refl }) refl cause k u)
+    unchanged_session (λ a b y. WrapsGive (round_of a) a b w y) old new e0 e1 e2 any_missing over finished cause result o l z v r
+    (round_by (session_of e0 any_missing None false) taken e1 any_missing p w (record { over = refl; unfinished = refl }) refl cause k u)
 
 -- a round whose text could not be made
 lacked_by : (new : SessionState) (p : Progress) (w : Contents) → new.over ≡ Some causes.OutOfMemory → w.out_new ≡ w.out_old → w.messages_new ≡ w.messages_old → BrokeOff new p w causes.OutOfMemory

@@ -62,8 +62,8 @@ module _ (o m : List ℕ) (c calls calls' nesting nesting' : ℕ) (room : (k : �
   text_after : (x : List ℕ) (s : Expansion) → put_text x (B s) ≡ B (put_text x s)
   text_after x s = ap (λ (y : List ℕ). record (B (put_text x s)) { so_far = record (B (put_text x s)).so_far { output = y } }) (append_assoc o (s.so_far).output _)
 
-  told_after : (x : List ℕ) (r : RunSoFar) → record (after_record o m c r) { messages = (m ++ r.messages) ++ x } ≡ after_record o m c (record r { messages = r.messages ++ x })
-  told_after x r = ap (λ (y : List ℕ). record (after_record o m c r) { messages = y }) (append_assoc m r.messages x)
+  reported_after : (x : List ℕ) (r : RunSoFar) → record (after_record o m c r) { messages = (m ++ r.messages) ++ x } ≡ after_record o m c (record r { messages = r.messages ++ x })
+  reported_after x r = ap (λ (y : List ℕ). record (after_record o m c r) { messages = y }) (append_assoc m r.messages x)
 
   count_follows : (s : Expansion) → with_call (B s) ≡ B (with_call s)
   count_follows s = ap (λ (n : ℕ). record (B s) { so_far = record (B s).so_far { calls = n } }) (let e : suc (c + (s.so_far).calls) ≡ c + suc (s.so_far).calls = omega arith in e)
@@ -122,7 +122,7 @@ module _ (o m : List ℕ) (c calls calls' nesting nesting' : ℕ) (room : (k : �
     failed k y h r,
     refl,
     ap (λ (z : List ℕ). failed k z h (after_record o m c r)) e
-        ∙ ap (λ (q : RunSoFar). let d : Ended = record { so_far = q; reason = Ends h } in d) (told_after (error k.place y) r),
+        ∙ ap (λ (q : RunSoFar). let d : Ended = record { so_far = q; reason = Ends h } in d) (reported_after (error k.place y) r),
   )
 
   enter_meets : (deep deep' listed : Bool) (k : Call) (p : Pending) (s : Expansion) → (deep ≡ false → deep' ≡ false) → (deep ≡ true → nesting ≡ nesting' → deep' ≡ true) → HasLimits s → Meets (call_unless_deep deep listed k p (B s)) (call_unless_deep deep' listed k p s)
@@ -184,7 +184,7 @@ module _ (o m : List ℕ) (c calls calls' nesting nesting' : ℕ) (room : (k : �
   on_name_meets (Some d) x p s l = on_answer_meets (paren_at ((s.so_far).state).quotes ((s.so_far).state).comments p) (call_of d x (place_at s.pending)) p s l
 
   ended : (k : Call) (s : Expansion) → end_argument k (B s) ≡ B (end_argument k s)
-  ended k s = ap (λ r. record (B s) { so_far = r; mode = Collecting (with_argument k) }) (told_after (dropped_if_any k.place k.bytes k.tokens) s.so_far)
+  ended k s = ap (λ r. record (B s) { so_far = r; mode = Collecting (with_argument k) }) (reported_after (dropped_if_any k.place k.bytes k.tokens) s.so_far)
 
   on_closing_meets : (n b : ℕ) (k : Call) (s : Expansion) → HasLimits s → Meets (take_closing n b k (B s)) (take_closing n b k s)
   unfolding Meets
@@ -207,7 +207,7 @@ module _ (o m : List ℕ) (c calls calls' nesting nesting' : ℕ) (room : (k : �
   on_end_meets : (h : Mode) (s : Expansion) → HasLimits s → Meets (take_end h (B s)) (take_end h s)
   unfolding Meets
   on_end_meets Outside s l = inr (_, refl, refl)
-  on_end_meets (Collecting k) s l = inr (_, refl, ap (λ (r : RunSoFar). let d : Ended = record { so_far = r; reason = Ends causes.EndInArguments } in d) (told_after _ s.so_far))
+  on_end_meets (Collecting k) s l = inr (_, refl, ap (λ (r : RunSoFar). let d : Ended = record { so_far = r; reason = Ends causes.EndInArguments } in d) (reported_after _ s.so_far))
 
   on_token_meets : (t : Token) (p : Pending) (s : Expansion) → HasLimits s → Meets (take_token t p (B s)) (take_token t p s)
   unfolding Meets
@@ -221,7 +221,7 @@ module _ (o m : List ℕ) (c calls calls' nesting nesting' : ℕ) (room : (k : �
   on_seen_meets : (v : Front) (s : Expansion) → HasLimits s → Meets (take_front v (B s)) (take_front v s)
   unfolding Meets
   on_seen_meets (Taken t p) s l = on_token_meets t p s l
-  on_seen_meets (Refused f n) s l = inr (_, refl, ap (λ (r : RunSoFar). let d : Ended = record { so_far = r; reason = Ends (unended_cause f) } in d) (told_after _ s.so_far))
+  on_seen_meets (Refused f n) s l = inr (_, refl, ap (λ (r : RunSoFar). let d : Ended = record { so_far = r; reason = Ends (unended_cause f) } in d) (reported_after _ s.so_far))
   on_seen_meets More s l = inr (_, refl, refl)
 
   pub turn_meets : (s : Expansion) → HasLimits s → Meets (turn (B s)) (turn s)

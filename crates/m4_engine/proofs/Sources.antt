@@ -44,9 +44,9 @@ may_suit name (Some b) (Some e) (Opened n bytes) m x g a =
     let z : bytes ≡ x = k.begins ∙ ap (λ y. k.taken ++ y) (k.ended a.0 a.1) ∙ append-nil k.taken ∙ t in
     ap (λ y. Opened y bytes) m.0 ∙ ap (Opened name) z
 
-stands_suit : {R : Type 0} (script : R → Option Script) (name : List ℕ) (r : R) (after : RunSource R) (s : Source) → DescribesSource script (sources.Opened name r) after s → Suits name (script r) (script_of script after) s
-stands_suit script name r after s (inl t) = λ x g a. all_given name (script r) (script_of script after) x s t g a
-stands_suit script name r after s (inr m) = may_suit name (script r) (script_of script after) s m
+described_suit : {R : Type 0} (script : R → Option Script) (name : List ℕ) (r : R) (after : RunSource R) (s : Source) → DescribesSource script (sources.Opened name r) after s → Suits name (script r) (script_of script after) s
+described_suit script name r after s (inl t) = λ x g a. all_given name (script r) (script_of script after) x s t g a
+described_suit script name r after s (inr m) = may_suit name (script r) (script_of script after) s m
 
 done_goes : (old new : SessionState) (name : List ℕ) (before after : Option Script) (w : Contents) (s : Source) (over : Option Cause) → Suits name before after s → FileDone name before after old new w over → Completed old new (after_source old.limits s (progress_of old)) w × (new.over ≡ over)
 done_goes old new name before after w s over t h =
@@ -90,10 +90,10 @@ opened_goes old new name before after w (Err (stops.Ended causes.ExpansionLimit)
 opened_goes old new name before after w (Err (stops.Ended causes.NestingLimit)) s l t h = done_goes old new name before after w s (Some causes.NestingLimit) t h
 opened_goes old new name before after w (Err (stops.Ended (causes.Frozen f))) s l t h = absurd h
 
-pub opened_stands : {R : Type 0} (script : R → Option Script) (old new : SessionState) (name : List ℕ) (before later : R) (first after : RunSource R) (w : Contents) (r : Result Unit Stop) (s : Source) → first ≡ sources.Opened name before → after ≡ sources.Opened name later → IsOpen old → DescribesSource script first after s → FileGives name (script before) (script later) old new w r → GoesTo (after_source old.limits s (progress_of old)) old new w r
-opened_stands script old new name before later first after w r s f b l t h =
+pub opened_described : {R : Type 0} (script : R → Option Script) (old new : SessionState) (name : List ℕ) (before later : R) (first after : RunSource R) (w : Contents) (r : Result Unit Stop) (s : Source) → first ≡ sources.Opened name before → after ≡ sources.Opened name later → IsOpen old → DescribesSource script first after s → FileGives name (script before) (script later) old new w r → GoesTo (after_source old.limits s (progress_of old)) old new w r
+opened_described script old new name before later first after w r s f b l t h =
     let k : DescribesSource script (sources.Opened name before) (sources.Opened name later) s = subst (λ x. DescribesSource script x (sources.Opened name later) s) f (subst (λ x. DescribesSource script first x s) b t) in
-    opened_goes old new name (script before) (script later) w r s l (stands_suit script name before (sources.Opened name later) s k) h
+    opened_goes old new name (script before) (script later) w r s l (described_suit script name before (sources.Opened name later) s k) h
 
 -- an open session reports a source that wasn't opened
 missing_is : (old : SessionState) (name : List ℕ) → IsOpen old → (after_source old.limits (Unopened name) (progress_of old)).so_far ≡ with_message (cannot_open name) (progress_of old).so_far
@@ -138,8 +138,8 @@ unopened_is : {R : Type 0} (script : R → Option Script) (name : List ℕ) (aft
 unopened_is script name after s (inl t) = let e : Unopened name ≡ s = cc in e
 unopened_is script name after s (inr m) = sym m
 
-pub unopened_stands : {R : Type 0} (script : R → Option Script) (old new : SessionState) (name : List ℕ) (first after : RunSource R) (w : Contents) (r : Result Unit Stop) (s : Source) → first ≡ sources.Unopened name → IsOpen old → DescribesSource script first after s → w.out_new ≡ w.out_old → MissingGives name old new w.messages_old w.messages_new r → GoesTo (after_source old.limits s (progress_of old)) old new w r
-unopened_stands script old new name first after w r s f l t o h =
+pub unopened_described : {R : Type 0} (script : R → Option Script) (old new : SessionState) (name : List ℕ) (first after : RunSource R) (w : Contents) (r : Result Unit Stop) (s : Source) → first ≡ sources.Unopened name → IsOpen old → DescribesSource script first after s → w.out_new ≡ w.out_old → MissingGives name old new w.messages_old w.messages_new r → GoesTo (after_source old.limits s (progress_of old)) old new w r
+unopened_described script old new name first after w r s f l t o h =
     let k : DescribesSource script (sources.Unopened name) after s = subst (λ x. DescribesSource script x after s) f t in
     subst (λ (s : Source). GoesTo (after_source old.limits s (progress_of old)) old new w r) (unopened_is script name after s k) (missing_goes old new name w r l o h)
 

@@ -14,7 +14,7 @@ use Rattle.m4_engine.specs.Joined.{freezing, Joins}
 use Rattle.m4_engine.proofs.OnePass.{over_wraps, sources_append}
 use Rattle.m4_engine.proofs.Limits.{over_how}
 use Rattle.m4_engine.proofs.Shifts.{after_record}
-use Rattle.m4_engine.proofs.RunsBehind.{Bp, Behind, sources_follow, rounds_after}
+use Rattle.m4_engine.proofs.RunsAfter.{Bp, Prefixed, sources_follow, rounds_after}
 
 -- a run that froze is not over, and froze its state
 pub frozen_by : (v : Option EndReason) (saved : List (List ℕ)) (r : RunSoFar) (any_missing : Bool) (text : List ℕ) → (result_by v true saved r any_missing).frozen ≡ Some text → (v ≡ None) × (text ≡ freeze r.state)
@@ -72,8 +72,8 @@ module _ (limits : Limits) where
   fewer : (c k : ℕ) → c + k < limits.calls → k < limits.calls
   fewer c k h = omega arith
 
-  abbrev BehindRun : RunSoFar → Progress → Progress → Type 0
-  BehindRun r = Behind r.output r.messages r.calls limits.calls limits.calls limits.nesting limits.nesting (fewer r.calls) (λ k e. e) Excused (inl excused) (inr refl) ends
+  abbrev PrefixedRun : RunSoFar → Progress → Progress → Type 0
+  PrefixedRun r = Prefixed r.output r.messages r.calls limits.calls limits.calls limits.nesting limits.nesting (fewer r.calls) (λ k e. e) Excused (inl excused) (inr refl) ends
 
   abbrev Bp' : RunSoFar → Progress → Progress
   Bp' r = Bp r.output r.messages r.calls limits.calls limits.calls limits.nesting limits.nesting (fewer r.calls) (λ k e. e) Excused (inl excused) (inr refl) ends
@@ -88,12 +88,12 @@ module _ (limits : Limits) where
       ∙ ap (λ (x : List ℕ). let q : Progress = record { so_far = record p.so_far { saved = []; output = (p.so_far).output ++ []; messages = x }; over = None; any_missing = false } in q) (sym (append-nil (p.so_far).messages))
       ∙ ap (λ (n : ℕ). let q : Progress = record { so_far = record p.so_far { saved = []; output = (p.so_far).output ++ []; messages = (p.so_far).messages ++ []; calls = n }; over = None; any_missing = false } in q) (let h : (p.so_far).calls ≡ (p.so_far).calls + 0 = omega arith in h)
 
-  sources_alone : (bs : List Source) (p : Progress) → p.over ≡ None → (p.so_far).saved ≡ [] → p.any_missing ≡ false → BehindRun p.so_far (after_sources limits bs p) (after_sources limits bs (begun (From (p.so_far).state [])))
+  sources_alone : (bs : List Source) (p : Progress) → p.over ≡ None → (p.so_far).saved ≡ [] → p.any_missing ≡ false → PrefixedRun p.so_far (after_sources limits bs p) (after_sources limits bs (begun (From (p.so_far).state [])))
   sources_alone bs p e f g =
       let r : RunSoFar = p.so_far in
       sources_follow r.output r.messages r.calls limits.calls limits.calls limits.nesting limits.nesting (fewer r.calls) (λ k e. e) Excused (inl excused) (inr refl) ends bs p (begun (From r.state [])) (inr (goes_on p e f g))
 
-  sources_go_on : (bs : List Source) (p : Progress) → p.over ≡ None → (p.so_far).saved ≡ [] → p.any_missing ≡ false → BehindRun p.so_far (after_wraps limits (after_sources limits bs p)) (after_wraps limits (after_sources limits bs (begun (From (p.so_far).state []))))
+  sources_go_on : (bs : List Source) (p : Progress) → p.over ≡ None → (p.so_far).saved ≡ [] → p.any_missing ≡ false → PrefixedRun p.so_far (after_wraps limits (after_sources limits bs p)) (after_wraps limits (after_sources limits bs (begun (From (p.so_far).state []))))
   sources_go_on bs p e f g =
       let r : RunSoFar = p.so_far in
       rounds_after r.output r.messages r.calls limits.calls limits.calls limits.nesting limits.nesting (fewer r.calls) (λ k e. e) Excused (inl excused) (inr refl) ends (suc limits.calls)
@@ -119,7 +119,7 @@ saved_of_both limits r None q = refl
 saved_of_both limits r (Some h) q = refl
 
 -- a joint run's are those of the run that goes on
-same_saved : (limits : Limits) (freezes : Bool) (as' bs : List Source) (saved : List (List ℕ)) (r : RunSoFar) (p q : Progress) → saved_after as' p ≡ [] → BehindRun limits r (after_sources limits bs p) (after_sources limits bs q) → (result_of freezes saved (after_wraps limits (after_sources limits bs p))).reason ≢ Ends causes.ExpansionLimit → saved_after (as' ++ bs) (after_sources limits bs p) ≡ saved_after bs (after_sources limits bs q)
+same_saved : (limits : Limits) (freezes : Bool) (as' bs : List Source) (saved : List (List ℕ)) (r : RunSoFar) (p q : Progress) → saved_after as' p ≡ [] → PrefixedRun limits r (after_sources limits bs p) (after_sources limits bs q) → (result_of freezes saved (after_wraps limits (after_sources limits bs p))).reason ≢ Ends causes.ExpansionLimit → saved_after (as' ++ bs) (after_sources limits bs p) ≡ saved_after bs (after_sources limits bs q)
 same_saved limits freezes as' [] saved r p q nothing after n = ap (λ (x : List Source). saved_after x p) (append-nil as') ∙ nothing
 same_saved limits freezes as' (b ∷ bs) saved r p q nothing (inl h) n =
     let j : Progress = after_sources limits (b ∷ bs) p in
@@ -137,7 +137,7 @@ unfolding first_result
 results_join freezes saved saved' saved'' r None q any_missing same = record { output = output_joins freezes r q; messages = refl; reason = refl; status = refl; frozen = refl; calls = refl; saved = same }
 results_join freezes saved saved' saved'' r (Some h) q any_missing same = record { output = refl; messages = refl; reason = refl; status = refl; frozen = refl; calls = refl; saved = same }
 
-joined_results : (limits : Limits) (freezes : Bool) (saved saved' saved'' : List (List ℕ)) (r : RunSoFar) (j b : Progress) → BehindRun limits r j b → saved'' ≡ saved' → (result_of freezes saved'' j).reason ≢ Ends causes.ExpansionLimit → Joins (first_result saved r) (result_of freezes saved' b) (result_of freezes saved'' j)
+joined_results : (limits : Limits) (freezes : Bool) (saved saved' saved'' : List (List ℕ)) (r : RunSoFar) (j b : Progress) → PrefixedRun limits r j b → saved'' ≡ saved' → (result_of freezes saved'' j).reason ≢ Ends causes.ExpansionLimit → Joins (first_result saved r) (result_of freezes saved' b) (result_of freezes saved'' j)
 joined_results limits freezes saved saved' saved'' r j b (inl h) same n = absurd (n (over_how j.over h.0 freezes saved'' j.so_far j.any_missing h.1 ∙ opened limits h.0 h.2))
 joined_results limits freezes saved saved' saved'' r j b (inr e) same n =
     subst (λ (x : Progress). Joins (first_result saved r) (result_of freezes saved' b) (result_of freezes saved'' x)) (sym e)

@@ -23,8 +23,8 @@ use Rattle.m4_engine.specs.File.{Source, Progress, after_sources}
 use Rattle.m4_engine.specs.Start.{Start, From, Faulty, start_of, begun}
 use Rattle.m4_engine.specs.Wraps.{after_wraps}
 use Rattle.m4_engine.specs.Run.{RunResult, limits_of, result_by, result_of, saved_after, saved_unless_over, status_of, run_from}
-use Rattle.m4_engine.specs.Session.{SessionState, progress_of, standing_from, fresh_session, AreReloaded, ReloadGives, BeginGives, IsBegun, IsOpen, IsLeft, EndGives, CloseGives, ReloadFails, BeginFails, ByAnswer, MessageWriteFails, SparesBy, status_after}
-use Rattle.m4_engine.specs.RunSources.{AllPairs, is_sound, ReadersFailBy, TellsFrozen, frozen_fails, FrozenFailsBy}
+use Rattle.m4_engine.specs.Session.{SessionState, progress_of, session_from, fresh_session, AreReloaded, ReloadGives, BeginGives, IsBegun, IsOpen, IsLeft, EndGives, CloseGives, ReloadFails, BeginFails, ByAnswer, MessageWriteFails, SparesBy, status_after}
+use Rattle.m4_engine.specs.RunSources.{AllPairs, is_sound, ReadersFailBy, DescribesFrozen, frozen_fails, FrozenFailsBy}
 use Rattle.m4_engine.specs.WholeRun.{WroteAll, WrotePrefix, GivesBy, RefusedBy, HasFrozen, FrozenBegan, FrozenBy, RunGives, NothingIsDone, result_after, ending_by}
 use Rattle.m4_engine.specs.Writers.{Contents, Three, writers, ByCause, NoneOfThree, OneOfThree, IsSpared, Spares}
 use Rattle.m4_engine.proofs.Begins.{nothing_begun, begun_after}
@@ -39,7 +39,7 @@ abbrev issuing : List ℕ → RunResult → RunResult
 issuing x r = record r { output = x ++ r.output }
 
 -- a run's progress after what its start issues
-begun_is : (o : Options) (s : State) (x : List ℕ) → begun (From s x) ≡ after x [] (progress_of (standing_from o s))
+begun_is : (o : Options) (s : State) (x : List ℕ) → begun (From s x) ≡ after x [] (progress_of (session_from o s))
 begun_is o s x = ap (λ y. begun (From s y)) (sym (append-nil x))
 
 saved_same : (ss : List Source) (x : List ℕ) (p : Progress) → saved_after ss (after x [] p) ≡ saved_after ss p
@@ -56,10 +56,10 @@ result_by_after None freezes saved x r any_missing =
 result_by_after (Some h) freezes saved x r any_missing = refl
 
 -- a run from a start is the run from its state, after what is issued
-pub run_after : (o : Options) (s : State) (x : List ℕ) (ss : List Source) → run_from o (From s x) ss ≡ issuing x (result_after o.freeze (limits_of o) ss (after_sources (limits_of o) ss (progress_of (standing_from o s))))
+pub run_after : (o : Options) (s : State) (x : List ℕ) (ss : List Source) → run_from o (From s x) ss ≡ issuing x (result_after o.freeze (limits_of o) ss (after_sources (limits_of o) ss (progress_of (session_from o s))))
 run_after o s x ss =
     let limits : Limits = limits_of o in
-    let q : Progress = progress_of (standing_from o s) in
+    let q : Progress = progress_of (session_from o s) in
     let p : Progress = after_sources limits ss q in
     let e : after_sources limits ss (begun (From s x)) ≡ after x [] p = ap (after_sources limits ss) (begun_is o s x) ∙ sources_after x [] limits ss q in
     ap (λ (y : Progress). result_of o.freeze (saved_after ss y) (after_wraps limits y)) e
@@ -156,7 +156,7 @@ begun_gives o start ss s st d x out0 out1 out2 reported reported' frozen frozen'
     let k = subst (BeginGives start o out0 out1) i b in
     let v : Three (Option (List ℕ)) = record { two = writers out1 out2 reported reported'; frozen_old = frozen; frozen_new = frozen' } in
     let w : Three (Option (List ℕ)) = record { two = writers out0 out2 reported reported'; frozen_old = frozen; frozen_new = frozen' } in
-    let r : RunResult = result_after o.freeze (limits_of o) ss (after_sources (limits_of o) ss (progress_of (standing_from o k.0))) in
+    let r : RunResult = result_after o.freeze (limits_of o) ss (after_sources (limits_of o) ss (progress_of (session_from o k.0))) in
     let g : RunGives r x v = subst (λ (y : SessionState). RunGives (result_after o.freeze y.limits ss (after_sources y.limits ss (progress_of y))) x v) k.3 h in
     let n : run_from o start ss ≡ issuing k.1 r = ap (λ (y : Start). run_from o y ss) k.2 ∙ run_after o k.0 k.1 ss in
     subst (λ (y : Ending). RunGives (run_from o start ss) y w) (sym j)
@@ -168,12 +168,12 @@ pub begun_sized : (o : Options) (start : Start) (ss : List Source) (s : SessionS
 begun_sized o start ss s st out0 out1 i b h =
     let k = subst (BeginGives start o out0 out1) i b in
     let limits : Limits = limits_of o in
-    let p : Progress = after_sources limits ss (progress_of (standing_from o k.0)) in
+    let p : Progress = after_sources limits ss (progress_of (session_from o k.0)) in
     let g : IsSized ((after_wraps limits p).so_far).state = subst (λ (y : SessionState). IsSized ((after_wraps y.limits (after_sources y.limits ss (progress_of y))).so_far).state) k.3 h in
     let e : after_wraps limits (after_sources limits ss (begun start)) ≡ after k.1 [] (after_wraps limits p) =
     ap (λ (y : Start). after_wraps limits (after_sources limits ss (begun y))) k.2
     ∙ ap (λ (y : Progress). after_wraps limits (after_sources limits ss y)) (begun_is o k.0 k.1)
-    ∙ ap (after_wraps limits) (sources_after k.1 [] limits ss (progress_of (standing_from o k.0)))
+    ∙ ap (after_wraps limits) (sources_after k.1 [] limits ss (progress_of (session_from o k.0)))
     ∙ wraps_after k.1 [] limits p in
     subst (λ (y : Progress). IsSized (y.so_far).state) (sym e) g
 
@@ -209,7 +209,7 @@ fell_silent r d out out' reported w i = record {
 
 fell_issuing : (o : Options) (start : Start) (ss : List Source) (d : Ending) (out out' reported : Option (List ℕ)) (s : State) (x : List ℕ) → d.wrapped ≡ false → start ≡ From s x → HasBegun out out' x → WrotePrefix (run_from o start ss) d (writers out out' reported reported)
 fell_issuing o start ss d out out' reported s x w e h =
-    let r : RunResult = result_after o.freeze (limits_of o) ss (after_sources (limits_of o) ss (progress_of (standing_from o s))) in
+    let r : RunResult = result_after o.freeze (limits_of o) ss (after_sources (limits_of o) ss (progress_of (session_from o s))) in
     subst (λ (y : RunResult). WrotePrefix y d (writers out out' reported reported)) (sym (ap (λ (y : Start). run_from o y ss) e ∙ run_after o s x ss)) (record {
       wrapped = w;
       output = begun_longer out out' x (x ++ r.output) h (r.output, refl);
@@ -446,9 +446,9 @@ reload_by o script out out' (Err (stops.Ended (causes.Frozen fault))) h = (h.0, 
 reload_by o script out out' (Err (stops.Ended causes.Write)) h = (h.0, h.1, sym (is_start o.prefix (Some script) (From h.0 h.1) h.2), h.3)
 reload_by o script out out' (Err (stops.Ended causes.OutOfMemory)) h = absurd h
 
-pub reload_begins : {R : Type 0} (tells : R → Option Script) (reader : R) (frozen : Option R) (o : Options) (file : Option Script) (out out' : Option (List ℕ)) (st : Result SessionState Stop) → frozen ≡ Some reader → TellsFrozen tells frozen file → ReloadGives o (tells reader) out out' st → BeginGives (start_of o.prefix file) o out out' st
+pub reload_begins : {R : Type 0} (tells : R → Option Script) (reader : R) (frozen : Option R) (o : Options) (file : Option Script) (out out' : Option (List ℕ)) (st : Result SessionState Stop) → frozen ≡ Some reader → DescribesFrozen tells frozen file → ReloadGives o (tells reader) out out' st → BeginGives (start_of o.prefix file) o out out' st
 reload_begins tells reader frozen o file out out' st i t h =
-    let k = subst (λ (y : Option _). TellsFrozen tells y file) i t in
+    let k = subst (λ (y : Option _). DescribesFrozen tells y file) i t in
     subst (λ (y : Option Script). BeginGives (start_of o.prefix y) o out out' st) (sym k.2)
     (reload_by o k.0 out out' st (subst (λ (y : Option Script). ReloadGives o y out out' st) k.1 h))
 
@@ -475,9 +475,9 @@ fresh_by : (o : Options) (out : Option (List ℕ)) (st : Result SessionState Sto
 fresh_by o out (Ok s) f e = (fresh o.prefix, [], refl, f, with_bytes-nil out)
 fresh_by o out (Err x) f e = subst (λ (y : Stop). BeginGives (start_of o.prefix None) o out out (Err y)) (sym e) refl
 
-pub fresh_begins : {R : Type 0} (tells : R → Option Script) (frozen : Option R) (o : Options) (file : Option Script) (out : Option (List ℕ)) (st : Result SessionState Stop) → frozen ≡ None → TellsFrozen tells frozen file → IfOk st (λ s. s ≡ fresh_session o) → IfErr st (λ e. e ≡ stops.Ended causes.OutOfMemory) → BeginGives (start_of o.prefix file) o out out st
+pub fresh_begins : {R : Type 0} (tells : R → Option Script) (frozen : Option R) (o : Options) (file : Option Script) (out : Option (List ℕ)) (st : Result SessionState Stop) → frozen ≡ None → DescribesFrozen tells frozen file → IfOk st (λ s. s ≡ fresh_session o) → IfErr st (λ e. e ≡ stops.Ended causes.OutOfMemory) → BeginGives (start_of o.prefix file) o out out st
 fresh_begins tells frozen o file out st i t f e =
-    let k : file ≡ None = subst (λ (y : Option _). TellsFrozen tells y file) i t in
+    let k : file ≡ None = subst (λ (y : Option _). DescribesFrozen tells y file) i t in
     subst (λ (y : Option Script). BeginGives (start_of o.prefix y) o out out st) (sym k) (fresh_by o out st f e)
 
 pub fresh_begun : (o : Options) (st : Result SessionState Stop) → IfOk st (λ s. s ≡ fresh_session o) → IfErr st (λ e. e ≡ stops.Ended causes.OutOfMemory) → IsBegun o st

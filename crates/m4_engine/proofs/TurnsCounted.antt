@@ -52,45 +52,45 @@ module _ (S F D : Type 0) (turn : S → Turn S F D) (join : F → S → Outcome 
   left' s = left s.0
 
   -- what a turn with its count says of the turn
-  Tells : Turn S F D → ℕ → Turn (S × ℕ) F (D × ℕ) → Type 0
-  Tells v n (Halt d) = (v ≡ Halt d.0) × (d.1 ≡ n)
-  Tells v n (Close t) = (v ≡ Close t.0) × (t.1 ≡ n)
-  Tells v n (GoOn t) = (v ≡ GoOn t.0) × (t.1 ≡ n)
-  Tells v n (Bare t) = (v ≡ Bare t.0) × (t.1 ≡ n)
-  Tells v n (Opens f t) = (v ≡ Opens f t.0) × (t.1 ≡ n)
+  Counts : Turn S F D → ℕ → Turn (S × ℕ) F (D × ℕ) → Type 0
+  Counts v n (Halt d) = (v ≡ Halt d.0) × (d.1 ≡ n)
+  Counts v n (Close t) = (v ≡ Close t.0) × (t.1 ≡ n)
+  Counts v n (GoOn t) = (v ≡ GoOn t.0) × (t.1 ≡ n)
+  Counts v n (Bare t) = (v ≡ Bare t.0) × (t.1 ≡ n)
+  Counts v n (Opens f t) = (v ≡ Opens f t.0) × (t.1 ≡ n)
 
-  tells : (n : ℕ) (v : Turn S F D) → Tells v n (counted_turn n v)
-  unfolding Tells
-  tells n (Halt d) = (refl, refl)
-  tells n (Close t) = (refl, refl)
-  tells n (GoOn t) = (refl, refl)
-  tells n (Bare t) = (refl, refl)
-  tells n (Opens f t) = (refl, refl)
+  counts_it : (n : ℕ) (v : Turn S F D) → Counts v n (counted_turn n v)
+  unfolding Counts
+  counts_it n (Halt d) = (refl, refl)
+  counts_it n (Close t) = (refl, refl)
+  counts_it n (GoOn t) = (refl, refl)
+  counts_it n (Bare t) = (refl, refl)
+  counts_it n (Opens f t) = (refl, refl)
 
-  TellsOut : Outcome S D → ℕ → Outcome (S × ℕ) (D × ℕ) → Type 0
-  TellsOut v n (Halted d) = (v ≡ Halted d.0) × (d.1 ≡ n)
-  TellsOut v n (Closed t) = (v ≡ Closed t.0) × (t.1 ≡ n)
+  ReportsOut : Outcome S D → ℕ → Outcome (S × ℕ) (D × ℕ) → Type 0
+  ReportsOut v n (Halted d) = (v ≡ Halted d.0) × (d.1 ≡ n)
+  ReportsOut v n (Closed t) = (v ≡ Closed t.0) × (t.1 ≡ n)
 
-  tells_out : (n : ℕ) (v : Outcome S D) → TellsOut v n (counted_outcome n v)
-  unfolding TellsOut
-  tells_out n (Halted d) = (refl, refl)
-  tells_out n (Closed t) = (refl, refl)
+  reports_out : (n : ℕ) (v : Outcome S D) → ReportsOut v n (counted_outcome n v)
+  unfolding ReportsOut
+  reports_out n (Halted d) = (refl, refl)
+  reports_out n (Closed t) = (refl, refl)
 
-  reported : (s : S × ℕ) (v : Turn (S × ℕ) F (D × ℕ)) → turn' s ≡ v → Tells (turn s.0) (suc s.1) v
-  reported s v e = subst (Tells (turn s.0) (suc s.1)) e (tells (suc s.1) (turn s.0))
+  reported : (s : S × ℕ) (v : Turn (S × ℕ) F (D × ℕ)) → turn' s ≡ v → Counts (turn s.0) (suc s.1) v
+  reported s v e = subst (Counts (turn s.0) (suc s.1)) e (counts_it (suc s.1) (turn s.0))
 
-  told_out : (f : F) (t : S × ℕ) (v : Outcome (S × ℕ) (D × ℕ)) → join' f t ≡ v → TellsOut (join f t.0) t.1 v
-  told_out f t v e = subst (TellsOut (join f t.0) t.1) e (tells_out t.1 (join f t.0))
+  reported_out : (f : F) (t : S × ℕ) (v : Outcome (S × ℕ) (D × ℕ)) → join' f t ≡ v → ReportsOut (join f t.0) t.1 v
+  reported_out f t v e = subst (ReportsOut (join f t.0) t.1) e (reports_out t.1 (join f t.0))
 
   pub falls' : Falls (S × ℕ) F (D × ℕ) turn' join' size' left'
-  unfolding Tells TellsOut
+  unfolding Counts ReportsOut
   falls' = record {
     shorter = λ s t e. falls.shorter s.0 t.0 (reported s (GoOn t) e).0;
     go_on = λ s t e. falls.go_on s.0 t.0 (reported s (GoOn t) e).0;
     close = λ s t e. falls.close s.0 t.0 (reported s (Close t) e).0;
     bare = λ s t e. falls.bare s.0 t.0 (reported s (Bare t) e).0;
     opens = λ s t f e. falls.opens s.0 t.0 f (reported s (Opens f t) e).0;
-    joins = λ f t u e. falls.joins f t.0 u.0 (told_out f t (Closed u) e).0;
+    joins = λ f t u e. falls.joins f t.0 u.0 (reported_out f t (Closed u) e).0;
   }
 
   abbrev whole' : S × ℕ → Outcome (S × ℕ) (D × ℕ)
@@ -107,7 +107,7 @@ module _ (S F D : Type 0) (turn : S → Turn S F D) (join : F → S → Outcome 
   add_suc a b c k e f = omega arith
 
   pub shifted : (k : ℕ) → Follows (S × ℕ) F (D × ℕ) turn' join' whole' (Later k) (λ f g. g ≡ f) (LaterEnd k)
-  unfolding Tells TellsOut
+  unfolding Counts ReportsOut
   shifted k = record {
     halt = λ s t d r e. let h = reported s (Halt d) e in
         expansion_is (S × ℕ) F (D × ℕ) turn' join' spent' size' left' falls' t
@@ -117,10 +117,10 @@ module _ (S F D : Type 0) (turn : S → Turn S F D) (join : F → S → Outcome 
     go_on = λ s t u r e. let h = reported s (GoOn u) e in ((u.0, suc t.1), ap (counted_turn (suc t.1)) (ap turn r.0 ∙ h.0), (refl, add_suc t.1 s.1 u.1 k r.1 h.1));
     bare = λ s t u r e. let h = reported s (Bare u) e in ((u.0, suc t.1), ap (counted_turn (suc t.1)) (ap turn r.0 ∙ h.0), (refl, add_suc t.1 s.1 u.1 k r.1 h.1));
     opens = λ s t u f r e. let h = reported s (Opens f u) e in (f, (u.0, suc t.1), ap (counted_turn (suc t.1)) (ap turn r.0 ∙ h.0), refl, (refl, add_suc t.1 s.1 u.1 k r.1 h.1));
-    join_halt = λ f g u w d r q e. let h = told_out f u (Halted d) e in
+    join_halt = λ f g u w d r q e. let h = reported_out f u (Halted d) e in
         ap (λ o. then_on o whole') (ap (counted_outcome w.1) (ap (λ (a : F). join a w.0) r ∙ ap (join f) q.0 ∙ h.0))
         ∙ ap (λ (n : ℕ). Halted (d.0, n)) (q.1 ∙ ap (λ n. n + k) (sym h.1));
-    joins = λ f g u w v r q e. let h = told_out f u (Closed v) e in
+    joins = λ f g u w v r q e. let h = reported_out f u (Closed v) e in
         ((v.0, w.1), ap (counted_outcome w.1) (ap (λ (a : F). join a w.0) r ∙ ap (join f) q.0 ∙ h.0), (refl, q.1 ∙ ap (λ n. n + k) (sym h.1)));
     later = λ d o f q. ap (λ p. then_on (then_on p (join' f)) whole') q;
   }
@@ -210,7 +210,7 @@ module _ (S F D : Type 0) (turn : S → Turn S F D) (join : F → S → Outcome 
     met_out f g u w v q r e = subst (λ (a : F). AlikeOuts S F D R v (join a w.0)) (sym q) (subst (λ x. AlikeOuts S F D R x (join f w.0)) e (alike_out f u.0 w.0 r.0))
 
     beside : Follows (S × ℕ) F (D × ℕ) turn' join' whole' R' (λ f g. g ≡ f) Q'
-    unfolding Tells TellsOut AlikeTurns AlikeOuts
+    unfolding Counts ReportsOut AlikeTurns AlikeOuts
     beside = record {
       halt = λ s t d r e.
           let h = reported s (Halt d) e in
@@ -225,10 +225,10 @@ module _ (S F D : Type 0) (turn : S → Turn S F D) (join : F → S → Outcome 
       bare = λ s t u r e. let h = reported s (Bare u) e in let k = met s t (Bare u.0) r h.0 in ((k.0, suc t.1), ap (counted_turn (suc t.1)) k.1, (k.2, ap suc r.1 ∙ sym h.1));
       opens = λ s t u f r e. let h = reported s (Opens f u) e in let k = met s t (Opens f u.0) r h.0 in (f, (k.0, suc t.1), ap (counted_turn (suc t.1)) k.1, refl, (k.2, ap suc r.1 ∙ sym h.1));
       join_halt = λ f g u w d q r e.
-          let h = told_out f u (Halted d) e in
+          let h = reported_out f u (Halted d) e in
           let k = met_out f g u w (Halted d.0) q r h.0 in
           (k.0, ap (λ o. then_on o whole') (ap (counted_outcome w.1) k.1) ∙ ap (λ (n : ℕ). Halted (k.0, n)) (r.1 ∙ sym h.1));
-      joins = λ f g u w v q r e. let h = told_out f u (Closed v) e in let k = met_out f g u w (Closed v.0) q r h.0 in ((k.0, w.1), ap (counted_outcome w.1) k.1, (k.2, r.1 ∙ sym h.1));
+      joins = λ f g u w v q r e. let h = reported_out f u (Closed v) e in let k = met_out f g u w (Closed v.0) q r h.0 in ((k.0, w.1), ap (counted_outcome w.1) k.1, (k.2, r.1 ∙ sym h.1));
       later = λ d o f q. (q.0, ap (λ p. then_on (then_on p (join' f)) whole') q.1);
     }
 

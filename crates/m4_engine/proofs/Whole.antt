@@ -133,12 +133,12 @@ unfrozen : (over : Option EndReason) (saved : List (List ℕ)) (r : RunSoFar) (a
 unfrozen None saved r any_missing = refl
 unfrozen (Some h) saved r any_missing = refl
 
-module _ (freezes : Bool) (limits : Limits) (ss : List Source) (p : Progress) (old mid new : SessionState) (out0 out1 out2 reported0 told1 told2 : Option (List ℕ)) (l : old.limits ≡ limits) (f : Completed old mid p (writers out0 out1 reported0 told1)) (live : mid.over ≡ None) where
+module _ (freezes : Bool) (limits : Limits) (ss : List Source) (p : Progress) (old mid new : SessionState) (out0 out1 out2 reported0 reported1 reported2 : Option (List ℕ)) (l : old.limits ≡ limits) (f : Completed old mid p (writers out0 out1 reported0 reported1)) (live : mid.over ≡ None) where
   abbrev W : Contents
-  W = writers out0 out2 reported0 told2
+  W = writers out0 out2 reported0 reported2
 
   abbrev V : Contents
-  V = writers out1 out2 told1 told2
+  V = writers out1 out2 reported1 reported2
 
   abbrev B : Progress
   B = session_after_wraps mid
@@ -179,7 +179,7 @@ module _ (freezes : Bool) (limits : Limits) (ss : List Source) (p : Progress) (o
         wrapped = v;
         output = begun_after out0 out1 out2 (p.so_far).output (result_of freezes [] B).output [] _ f.output u.output
             (ap (λ (r : RunResult). r.output) q ∙ result_output freezes (p.so_far).output (p.so_far).messages B.over (saved_after ss p) B.so_far B.any_missing ∙ sym (append-nil _));
-        messages = begun_after reported0 told1 told2 (p.so_far).messages (B.so_far).messages [] _ f.messages u.messages
+        messages = begun_after reported0 reported1 reported2 (p.so_far).messages (B.so_far).messages [] _ f.messages u.messages
             (ap (λ (r : RunResult). r.messages) q ∙ result_messages freezes (p.so_far).output (p.so_far).messages B.over (saved_after ss p) B.so_far B.any_missing ∙ sym (append-nil _));
       }
 
@@ -323,21 +323,21 @@ early_so freezes ss p old new w e q r f g l k h =
       frozen = spared_early (result_after freezes old.limits ss p) (status_at new) e w new (subst (IsLeft new) f l) k;
     })
 
-pub late_so : (freezes : Bool) (limits : Limits) (ss : List Source) (p : Progress) (old mid new : SessionState) (out0 out1 out2 reported0 told1 told2 frozen frozen' : Option (List ℕ)) → old.limits ≡ limits → GoesTo p old mid (writers out0 out1 reported0 told1) (Ok tt) → (e : Stop) (q : Result Unit Stop) (r : Result Bool Stop) → q ≡ Err e → r ≡ Err e → IsOpen mid → CloseGives freezes mid new (record { two = writers out1 out2 told1 told2; frozen_old = frozen; frozen_new = frozen' }) q → RunGives (result_after freezes limits ss p) (ending_by (status_at new) r) (record { two = writers out0 out2 reported0 told2; frozen_old = frozen; frozen_new = frozen' })
-late_so freezes limits ss p old mid new out0 out1 out2 reported0 told1 told2 frozen frozen' l f e q r i j o h =
-    let v : Three (Option (List ℕ)) = record { two = writers out1 out2 told1 told2; frozen_old = frozen; frozen_new = frozen' } in
-    subst (λ (x : Result Bool Stop). RunGives (result_after freezes limits ss p) (ending_by (status_at new) x) (record { two = writers out0 out2 reported0 told2; frozen_old = frozen; frozen_new = frozen' })) (sym j)
-    (late_by freezes limits ss p old mid new out0 out1 out2 reported0 told1 told2 l f.0 f.1 frozen frozen' freezes refl e o (subst (CloseGives freezes mid new v) i h))
+pub late_so : (freezes : Bool) (limits : Limits) (ss : List Source) (p : Progress) (old mid new : SessionState) (out0 out1 out2 reported0 reported1 reported2 frozen frozen' : Option (List ℕ)) → old.limits ≡ limits → GoesTo p old mid (writers out0 out1 reported0 reported1) (Ok tt) → (e : Stop) (q : Result Unit Stop) (r : Result Bool Stop) → q ≡ Err e → r ≡ Err e → IsOpen mid → CloseGives freezes mid new (record { two = writers out1 out2 reported1 reported2; frozen_old = frozen; frozen_new = frozen' }) q → RunGives (result_after freezes limits ss p) (ending_by (status_at new) r) (record { two = writers out0 out2 reported0 reported2; frozen_old = frozen; frozen_new = frozen' })
+late_so freezes limits ss p old mid new out0 out1 out2 reported0 reported1 reported2 frozen frozen' l f e q r i j o h =
+    let v : Three (Option (List ℕ)) = record { two = writers out1 out2 reported1 reported2; frozen_old = frozen; frozen_new = frozen' } in
+    subst (λ (x : Result Bool Stop). RunGives (result_after freezes limits ss p) (ending_by (status_at new) x) (record { two = writers out0 out2 reported0 reported2; frozen_old = frozen; frozen_new = frozen' })) (sym j)
+    (late_by freezes limits ss p old mid new out0 out1 out2 reported0 reported1 reported2 l f.0 f.1 frozen frozen' freezes refl e o (subst (CloseGives freezes mid new v) i h))
 
-pub well_so : (freezes : Bool) (limits : Limits) (ss : List Source) (old mid new : SessionState) (out0 out1 out2 reported0 told1 told2 frozen frozen' : Option (List ℕ)) → old.limits ≡ limits → GoesTo (after_sources limits ss (progress_of old)) old mid (writers out0 out1 reported0 told1) (Ok tt) → old.saved ≡ [] → (wrapped : Bool) → wrapped ≡ is_saved mid.saved → CloseGives freezes mid new (record { two = writers out1 out2 told1 told2; frozen_old = frozen; frozen_new = frozen' }) (Ok tt) → RunGives (result_after freezes limits ss (after_sources limits ss (progress_of old))) (ending_by (status_at new) (Ok wrapped)) (record { two = writers out0 out2 reported0 told2; frozen_old = frozen; frozen_new = frozen' })
-well_so freezes limits ss old mid new out0 out1 out2 reported0 told1 told2 frozen frozen' l f e wrapped v c =
+pub well_so : (freezes : Bool) (limits : Limits) (ss : List Source) (old mid new : SessionState) (out0 out1 out2 reported0 reported1 reported2 frozen frozen' : Option (List ℕ)) → old.limits ≡ limits → GoesTo (after_sources limits ss (progress_of old)) old mid (writers out0 out1 reported0 reported1) (Ok tt) → old.saved ≡ [] → (wrapped : Bool) → wrapped ≡ is_saved mid.saved → CloseGives freezes mid new (record { two = writers out1 out2 reported1 reported2; frozen_old = frozen; frozen_new = frozen' }) (Ok tt) → RunGives (result_after freezes limits ss (after_sources limits ss (progress_of old))) (ending_by (status_at new) (Ok wrapped)) (record { two = writers out0 out2 reported0 reported2; frozen_old = frozen; frozen_new = frozen' })
+well_so freezes limits ss old mid new out0 out1 out2 reported0 reported1 reported2 frozen frozen' l f e wrapped v c =
     let p : Progress = after_sources limits ss (progress_of old) in
     let o : p.over ≡ None = ap (λ (x : Progress). x.over) (sym (f.0).progress) ∙ ap how_over f.1 in
-    well_by freezes limits ss p old mid new out0 out1 out2 reported0 told1 told2 l f.0 f.1 frozen frozen' freezes refl wrapped v (saved_there limits ss (progress_of old) e o) c
+    well_by freezes limits ss p old mid new out0 out1 out2 reported0 reported1 reported2 l f.0 f.1 frozen frozen' freezes refl wrapped v (saved_there limits ss (progress_of old) e o) c
 
-pub sized_so : (freezes : Bool) (limits : Limits) (ss : List Source) (p : Progress) (old mid new : SessionState) (out0 out1 out2 reported0 told1 told2 frozen frozen' : Option (List ℕ)) → old.limits ≡ limits → GoesTo p old mid (writers out0 out1 reported0 told1) (Ok tt) → CloseGives freezes mid new (record { two = writers out1 out2 told1 told2; frozen_old = frozen; frozen_new = frozen' }) (Ok tt) → freezes ≡ true → IsSized ((after_wraps limits p).so_far).state
-sized_so freezes limits ss p old mid new out0 out1 out2 reported0 told1 told2 frozen frozen' l f c t =
-    sized_by freezes limits ss p old mid new out0 out1 out2 reported0 told1 told2 l f.0 f.1 frozen frozen' freezes c t
+pub sized_so : (freezes : Bool) (limits : Limits) (ss : List Source) (p : Progress) (old mid new : SessionState) (out0 out1 out2 reported0 reported1 reported2 frozen frozen' : Option (List ℕ)) → old.limits ≡ limits → GoesTo p old mid (writers out0 out1 reported0 reported1) (Ok tt) → CloseGives freezes mid new (record { two = writers out1 out2 reported1 reported2; frozen_old = frozen; frozen_new = frozen' }) (Ok tt) → freezes ≡ true → IsSized ((after_wraps limits p).so_far).state
+sized_so freezes limits ss p old mid new out0 out1 out2 reported0 reported1 reported2 frozen frozen' l f c t =
+    sized_by freezes limits ss p old mid new out0 out1 out2 reported0 reported1 reported2 l f.0 f.1 frozen frozen' freezes c t
 
 -- a session that is over isn't at its end
 not_done : (new : SessionState) (cause : Cause) → IsLeft {A = Bool} new (Err (stops.Ended cause)) → cause ≡ causes.Done → ⊥

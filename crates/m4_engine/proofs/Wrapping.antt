@@ -137,12 +137,12 @@ result_open : (freezes : Bool) (p : Progress) → p.over ≡ None → (result_of
 result_open freezes p e = ap (λ (v : Option EndReason). (result_by v freezes [] p.so_far p.any_missing).output) e
 
 -- the run came to its last saved text
-module _ (freezes : Bool) (old mid new : SessionState) (out0 out1 out2 reported0 told1 told2 : Option (List ℕ)) (f : Completed old mid (session_after_wraps old) (writers out0 out1 reported0 told1)) (v : mid.over ≡ None) (none : mid.saved ≡ []) (any_missing : mid.any_missing ≡ old.any_missing) where
+module _ (freezes : Bool) (old mid new : SessionState) (out0 out1 out2 reported0 reported1 reported2 : Option (List ℕ)) (f : Completed old mid (session_after_wraps old) (writers out0 out1 reported0 reported1)) (v : mid.over ≡ None) (none : mid.saved ≡ []) (any_missing : mid.any_missing ≡ old.any_missing) where
   abbrev P : Progress
   P = session_after_wraps old
 
   abbrev Whole : Contents
-  Whole = writers out0 out2 reported0 told2
+  Whole = writers out0 out2 reported0 reported2
 
   mid_open : IsOpen mid
   mid_open = record { over = v; unfinished = f.unfinished }
@@ -157,10 +157,10 @@ module _ (freezes : Bool) (old mid new : SessionState) (out0 out1 out2 reported0
   out_parts : (x y : List ℕ) → out2 ≡ with_bytes out1 x → (P.so_far).output ++ x ≡ y → out2 ≡ with_bytes out0 y
   out_parts x y e h = e ∙ ap (λ o. with_bytes o x) f.output ∙ with_bytes-append out0 (P.so_far).output x ∙ ap (with_bytes out0) h
 
-  told_parts : told2 ≡ with_bytes told1 [] → told2 ≡ with_bytes reported0 (P.so_far).messages
-  told_parts e = e ∙ ap (λ o. with_bytes o []) f.messages ∙ with_bytes-append reported0 (P.so_far).messages [] ∙ ap (with_bytes reported0) (append-nil (P.so_far).messages)
+  reported_parts : reported2 ≡ with_bytes reported1 [] → reported2 ≡ with_bytes reported0 (P.so_far).messages
+  reported_parts e = e ∙ ap (λ o. with_bytes o []) f.messages ∙ with_bytes-append reported0 (P.so_far).messages [] ∙ ap (with_bytes reported0) (append-nil (P.so_far).messages)
 
-  closed_then : Closed freezes mid new (writers out1 out2 told1 told2) → Closed freezes old new Whole
+  closed_then : Closed freezes mid new (writers out1 out2 reported1 reported2) → Closed freezes old new Whole
   closed_then k = record {
     live = f.live;
     finished = k.finished;
@@ -170,32 +170,32 @@ module _ (freezes : Bool) (old mid new : SessionState) (out0 out1 out2 reported0
     calls = k.calls ∙ ap (λ (p : Progress). (p.so_far).calls) mid_is;
     ended = goes_on;
     output = out_parts (closed_output freezes (written P).so_far) _ (k.output ∙ ap (λ (p : Progress). with_bytes out1 (closed_output freezes p.so_far)) mid_is) (closed_parts freezes P);
-    messages = told_parts (k.messages ∙ ap (λ (p : Progress). with_bytes told1 (p.so_far).messages) mid_is);
+    messages = reported_parts (k.messages ∙ ap (λ (p : Progress). with_bytes reported1 (p.so_far).messages) mid_is);
   }
 
-  unfinished_then : (cause : Cause) → Unfinished freezes mid new (writers out1 out2 told1 told2) cause → Unfinished freezes old new Whole cause
+  unfinished_then : (cause : Cause) → Unfinished freezes mid new (writers out1 out2 reported1 reported2) cause → Unfinished freezes old new Whole cause
   unfinished_then cause k = record {
     live = f.live;
     over = k.over;
     output = begun_after out0 out1 out2 (P.so_far).output (closed_output freezes (written P).so_far) [] _ f.output
         (subst (HasBegun out1 out2) (ap (λ (p : Progress). (result_of freezes [] p).output) mid_is ∙ result_open freezes (written P) goes_on) k.output)
         (result_open freezes P goes_on ∙ sym (closed_parts freezes P) ∙ sym (append-nil ((P.so_far).output ++ closed_output freezes (written P).so_far)));
-    messages = begun_after reported0 told1 told2 (P.so_far).messages [] [] _ f.messages
-        (subst (λ (p : Progress). HasBegun told1 told2 (p.so_far).messages) mid_is k.messages)
+    messages = begun_after reported0 reported1 reported2 (P.so_far).messages [] [] _ f.messages
+        (subst (λ (p : Progress). HasBegun reported1 reported2 (p.so_far).messages) mid_is k.messages)
         (sym (append-nil (P.so_far).messages) ∙ sym (append-nil ((P.so_far).messages ++ [])));
   }
 
-  filed_then : Completed mid new (session_after_wraps mid) (writers out1 out2 told1 told2) → Completed old new P Whole
+  filed_then : Completed mid new (session_after_wraps mid) (writers out1 out2 reported1 reported2) → Completed old new P Whole
   filed_then k = record {
     live = f.live;
     limits = k.limits ∙ f.limits;
     unfinished = k.unfinished;
     progress = k.progress ∙ ap written mid_is;
     output = out_parts [] _ (k.output ∙ ap (λ (p : Progress). with_bytes out1 (p.so_far).output) mid_is) (append-nil (P.so_far).output);
-    messages = told_parts (k.messages ∙ ap (λ (p : Progress). with_bytes told1 (p.so_far).messages) mid_is);
+    messages = reported_parts (k.messages ∙ ap (λ (p : Progress). with_bytes reported1 (p.so_far).messages) mid_is);
   }
 
-  pub end_then : (r : Result Unit Stop) → EndGives freezes mid new (writers out1 out2 told1 told2) r → EndGives freezes old new Whole r
+  pub end_then : (r : Result Unit Stop) → EndGives freezes mid new (writers out1 out2 reported1 reported2) r → EndGives freezes old new Whole r
   end_then (Ok done) k = closed_then k
   end_then (Err stops.Finished) k = absurd ((k.closed) mid_open)
   end_then (Err (stops.Ended causes.Done)) k = k
@@ -215,7 +215,7 @@ module _ (freezes : Bool) (old mid new : SessionState) (out0 out1 out2 reported0
   state_is = ap (λ (p : Progress). (p.so_far).state) mid_is
 
   abbrev later : Option (List ℕ) → Option (List ℕ) → Three (Option (List ℕ))
-  later frozen frozen' = record { two = writers out1 out2 told1 told2; frozen_old = frozen; frozen_new = frozen' }
+  later frozen frozen' = record { two = writers out1 out2 reported1 reported2; frozen_old = frozen; frozen_new = frozen' }
 
   abbrev all_of : Option (List ℕ) → Option (List ℕ) → Three (Option (List ℕ))
   all_of frozen frozen' = record { two = Whole; frozen_old = frozen; frozen_new = frozen' }
@@ -225,7 +225,7 @@ module _ (freezes : Bool) (old mid new : SessionState) (out0 out1 out2 reported0
     ended = goes_on;
     begun = subst (λ s. HasBegun frozen frozen' (freeze s)) state_is k.begun;
     output = out_parts [] _ (k.output ∙ ap (λ (p : Progress). with_bytes out1 (p.so_far).output) mid_is) (append-nil (P.so_far).output);
-    messages = told_parts (k.messages ∙ ap (λ (p : Progress). with_bytes told1 (p.so_far).messages) mid_is);
+    messages = reported_parts (k.messages ∙ ap (λ (p : Progress). with_bytes reported1 (p.so_far).messages) mid_is);
   }
 
   frozen_then : (frozen frozen' : Option (List ℕ)) (r : Result Unit Stop) → FrozenGives mid (later frozen frozen') r → FrozenGives old (all_of frozen frozen') r
@@ -245,15 +245,15 @@ module _ (freezes : Bool) (old mid new : SessionState) (out0 out1 out2 reported0
   frozen_then frozen frozen' (Err (stops.Ended causes.NestingLimit)) k = k
 
 -- a run's end that freezes, after the saved texts
-pub freeze_then : (old mid new : SessionState) (out0 out1 out2 reported0 told1 told2 frozen frozen' : Option (List ℕ)) → GoesTo (session_after_wraps old) old mid (writers out0 out1 reported0 told1) (Ok tt) → mid.saved ≡ [] → mid.any_missing ≡ old.any_missing → (r : Result Unit Stop) → FreezeGives mid new (record { two = writers out1 out2 told1 told2; frozen_old = frozen; frozen_new = frozen' }) r → FreezeGives old new (record { two = writers out0 out2 reported0 told2; frozen_old = frozen; frozen_new = frozen' }) r
-freeze_then old mid new out0 out1 out2 reported0 told1 told2 frozen frozen' g none any_missing r k = (
-  end_then true old mid new out0 out1 out2 reported0 told1 told2 g.0 g.1 none any_missing r k.0,
-  frozen_then true old mid new out0 out1 out2 reported0 told1 told2 g.0 g.1 none any_missing frozen frozen' r k.1,
+pub freeze_then : (old mid new : SessionState) (out0 out1 out2 reported0 reported1 reported2 frozen frozen' : Option (List ℕ)) → GoesTo (session_after_wraps old) old mid (writers out0 out1 reported0 reported1) (Ok tt) → mid.saved ≡ [] → mid.any_missing ≡ old.any_missing → (r : Result Unit Stop) → FreezeGives mid new (record { two = writers out1 out2 reported1 reported2; frozen_old = frozen; frozen_new = frozen' }) r → FreezeGives old new (record { two = writers out0 out2 reported0 reported2; frozen_old = frozen; frozen_new = frozen' }) r
+freeze_then old mid new out0 out1 out2 reported0 reported1 reported2 frozen frozen' g none any_missing r k = (
+  end_then true old mid new out0 out1 out2 reported0 reported1 reported2 g.0 g.1 none any_missing r k.0,
+  frozen_then true old mid new out0 out1 out2 reported0 reported1 reported2 g.0 g.1 none any_missing frozen frozen' r k.1,
 )
 
-pub finish_then : (old mid new : SessionState) (out0 out1 out2 reported0 told1 told2 : Option (List ℕ)) → GoesTo (session_after_wraps old) old mid (writers out0 out1 reported0 told1) (Ok tt) → mid.saved ≡ [] → mid.any_missing ≡ old.any_missing → (r : Result Unit Stop) → FinishGives mid new (writers out1 out2 told1 told2) r → FinishGives old new (writers out0 out2 reported0 told2) r
-finish_then old mid new out0 out1 out2 reported0 told1 told2 g none any_missing r k =
-    end_then false old mid new out0 out1 out2 reported0 told1 told2 g.0 g.1 none any_missing r k
+pub finish_then : (old mid new : SessionState) (out0 out1 out2 reported0 reported1 reported2 : Option (List ℕ)) → GoesTo (session_after_wraps old) old mid (writers out0 out1 reported0 reported1) (Ok tt) → mid.saved ≡ [] → mid.any_missing ≡ old.any_missing → (r : Result Unit Stop) → FinishGives mid new (writers out1 out2 reported1 reported2) r → FinishGives old new (writers out0 out2 reported0 reported2) r
+finish_then old mid new out0 out1 out2 reported0 reported1 reported2 g none any_missing r k =
+    end_then false old mid new out0 out1 out2 reported0 reported1 reported2 g.0 g.1 none any_missing r k
 
 -- the run still goes on
 pub gone_on : (p : Progress) (old mid : SessionState) (w : Contents) → GoesTo p old mid w (Ok tt) → IsOpen mid

@@ -1,6 +1,7 @@
 -- Expands: the effect of an input's expansion on the machine and the writers.
 -- Not believed: it connects the machine with `Session`, which says the same of a source.
--- Manual: "How m4 copies input to output". Words: made_before, input_expansion, Expanded, Expands, EndsInput, FlushesPrefix, IsInOrder, IsIdle.
+-- Manual: "How m4 copies input to output".
+-- Words: made_before, input_expansion, Expanded, Expands, EndsInput, FlushesPrefix, IsInOrder, IsIdle.
 use Rattle.std.specs.Prelude.{◌≡◌, ℕ, List, [], ◌++◌, ◌⊎◌}
 use Rattle.m4_state.specs.Device.{with_bytes, HasBegun}
 use Rattle.m4_input.specs.Pending.{Pending}

@@ -1,6 +1,6 @@
 -- RunSources: the definitions' sources for those of a run, by the bytes that their readers deliver.
 -- Believed. Manual: "Command line files". Words: source_of, ExtendsRead, ExtendsSource, DescribeSources, any_unopened,
--- AllPairs, AnyFailed, is_sound, ReadersFailBy, AllConsumeOnly, TellsFrozen, FrozenFailsBy.
+-- AllPairs, AnyFailed, is_sound, ReadersFailBy, AllConsumeOnly, DescribesFrozen, FrozenFailsBy.
 use Rattle.std.specs.Prelude.{◌≡◌, ℕ, Bool, true, false, List, [], ◌∷◌, ◌++◌, map, Option, Some, None, ◌⊎◌, ◌||◌}
 use Rattle.m4_state.specs.Device.{Script, after_bytes, one_more}
 use Rattle.m4_frozen.specs.declared.fault.FrozenKind.TheVariants as kinds
@@ -115,9 +115,9 @@ abbrev pub AllConsumeOnly : {R : Type 0} → (R → Option Script) → List (Run
 AllConsumeOnly script before after = AllPairs (ConsumesOnly script) before after
 
 -- the script of a frozen file's reader; none if a run has no frozen file
-abbrev pub TellsFrozen : {R : Type 0} → (R → Option Script) → Option R → Option Script → Type 0
-TellsFrozen script None file = file ≡ None
-TellsFrozen script (Some reader) file = (s : Script) × (script reader ≡ Some s) × (file ≡ Some s)
+abbrev pub DescribesFrozen : {R : Type 0} → (R → Option Script) → Option R → Option Script → Type 0
+DescribesFrozen script None file = file ≡ None
+DescribesFrozen script (Some reader) file = (s : Script) × (script reader ≡ Some s) × (file ≡ Some s)
 
 -- if a run ends by a read fault of its frozen file, its reader failed, once; if the file was loaded, the
 -- reader didn't fail

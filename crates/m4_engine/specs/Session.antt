@@ -1,6 +1,6 @@
 -- Session: a run between two of its calls, and what each call does to it.
 -- Believed. Manual: "Command line files", "Invoking m4".
--- Words: SessionState, progress_of, written, standing_from, fresh_session, IsOpen, ReloadGives, Completed, FileGives,
+-- Words: SessionState, progress_of, written, session_from, fresh_session, IsOpen, ReloadGives, Completed, FileGives,
 -- MissingGives, EndGives, FinishGives, FreezeGives, BeginGives, IsBegun, ReadFails, ReloadFails, BeginFails, SparesBy, ByAnswer, WriteFails, MessageWriteFails.
 -- A session is a run's progress without the bytes that were written; these went to the writers.
 use Rattle.std.specs.Prelude.{◌≡◌, ◌≢◌, IfSome, ℕ, Bool, true, false, List, [], ◌∷◌, Option, Some, None, Result, Ok, Err, ◌⊎◌}
@@ -52,8 +52,8 @@ abbrev pub written : Progress → Progress
 written p = record p { so_far = record p.so_far { output = []; messages = [] } }
 
 -- a run that starts from a state
-abbrev pub standing_from : Options → State → SessionState
-standing_from o s = record {
+abbrev pub session_from : Options → State → SessionState
+session_from o s = record {
   limits = limits_of o;
   state = s;
   saved = [];
@@ -65,7 +65,7 @@ standing_from o s = record {
 
 -- a run that starts from the fresh state
 abbrev pub fresh_session : Options → SessionState
-fresh_session o = standing_from o (fresh o.prefix)
+fresh_session o = session_from o (fresh o.prefix)
 
 -- the run continues
 pub record IsOpen (s : SessionState) : Type 0 where
@@ -178,7 +178,7 @@ AreReloaded o file s issued = IfSome file (λ script. IsStart o.prefix (Some scr
 abbrev pub ReloadGives : Options → Option Script → Option (List ℕ) → Option (List ℕ) → Result SessionState Stop → Type 0
 ReloadGives o file out_old out_new (Ok new) =
     (s : State) × (issued : List ℕ) × AreReloaded o file s issued
-    × (new ≡ standing_from o s) × (out_new ≡ with_bytes out_old issued)
+    × (new ≡ session_from o s) × (out_new ≡ with_bytes out_old issued)
 ReloadGives o file out_old out_new (Err stops.Finished) = ⊥
 ReloadGives o file out_old out_new (Err (stops.Ended (causes.Frozen fault))) =
     (out_new ≡ out_old) × IfSome file (λ script.
@@ -287,7 +287,7 @@ CloseGives false old new w answer = FinishGives old new w.two answer × IsSpared
 abbrev pub BeginGives : Start → Options → Option (List ℕ) → Option (List ℕ) → Result SessionState Stop → Type 0
 BeginGives start o out_old out_new (Ok new) =
     (s : State) × (issued : List ℕ) × (start ≡ From s issued)
-    × (new ≡ standing_from o s) × (out_new ≡ with_bytes out_old issued)
+    × (new ≡ session_from o s) × (out_new ≡ with_bytes out_old issued)
 BeginGives start o out_old out_new (Err stops.Finished) = ⊥
 BeginGives start o out_old out_new (Err (stops.Ended (causes.Frozen fault))) =
     (out_new ≡ out_old) × (fault.kind ≢ kinds.OutOfMemory → start ≡ Faulty fault)
@@ -298,7 +298,7 @@ BeginGives start o out_old out_new (Err (stops.Ended cause)) = ⊥
 
 -- a run begins from some state, or is ended by a frozen file, a writer or an allocation
 abbrev pub IsBegun : Options → Result SessionState Stop → Type 0
-IsBegun o (Ok new) = (s : State) × (new ≡ standing_from o s)
+IsBegun o (Ok new) = (s : State) × (new ≡ session_from o s)
 IsBegun o (Err (stops.Ended (causes.Frozen fault))) = Unit {0}
 IsBegun o (Err (stops.Ended causes.Write)) = Unit {0}
 IsBegun o (Err (stops.Ended causes.OutOfMemory)) = Unit {0}

@@ -12,7 +12,7 @@ ghost use Rattle.m4_engine.specs.Wraps.{after_wraps};
 ghost use Rattle.m4_engine.specs.Run.{run as defined, status_of};
 ghost use Rattle.m4_engine.specs.Expansion.{Ends};
 ghost use Rattle.m4_engine.specs.Writers.{both, three, ByCause, NoneOfThree, OneOfThree, Spares};
-ghost use Rattle.m4_engine.specs.RunSources.{DescribeSources, DescribesSource, ReadersFailBy, TellsFrozen, FrozenFailsBy, any_unopened, is_unopened, AllConsumeOnly, ConsumesOnly};
+ghost use Rattle.m4_engine.specs.RunSources.{DescribeSources, DescribesSource, ReadersFailBy, DescribesFrozen, FrozenFailsBy, any_unopened, is_unopened, AllConsumeOnly, ConsumesOnly};
 ghost use Rattle.m4_engine.specs.Session.{IsOpen, IsLeft, GoesTo, BeginGives, BeginFails, IsBegun, CloseGives, ByAnswer, WriteFails, MessageWriteFails, SourceFails, SourcesFail, SparesBy, progress_of, status_at};
 ghost use Rattle.m4_engine.specs.WholeRun.{RunGives, NothingIsDone, result_after, ending_by};
 
@@ -41,7 +41,7 @@ pub fn run<R: ByteSource, O: ByteSink, M: ByteSink, Z: ByteSink>(
     freeze_to: &mut Z,
 ) -> Ending
     // whole run: the bytes written and the ending are those of the definition of a run
-    ensures gives { (file : Option Script) → TellsFrozen R.script frozen.old file
+    ensures gives { (file : Option Script) → DescribesFrozen R.script frozen.old file
         → (ss : List Said) → DescribeSources R.script sources.old sources.new ss →
         RunGives (defined options file ss) result
         (three Z.contents (both O.contents M.contents out.old out.new messages.old messages.new) freeze_to.old freeze_to.new) }
@@ -49,7 +49,7 @@ pub fn run<R: ByteSource, O: ByteSink, M: ByteSink, Z: ByteSink>(
     ensures status { (any_missing : Bool) × (result.status ≡ status_of (Ends result.cause) any_missing)
         × (result.cause ≡ Cause.Done → any_missing ≡ any_unopened sources.old) }
     // whole run: a frozen state is sized
-    ensures sized { (file : Option Script) → TellsFrozen R.script frozen.old file
+    ensures sized { (file : Option Script) → DescribesFrozen R.script frozen.old file
         → (ss : List Said) → DescribeSources R.script sources.old sources.new ss →
         result.cause ≡ Cause.Done → options.freeze ≡ true → IsSized (frozen_state options (start_of options.prefix file) ss) }
     // safe and total: a read fault is reported if a reader failed in this call, and only then
@@ -93,7 +93,7 @@ fn begin<R: ByteSource, O: ByteSink>(
     frozen: &mut Option<R>,
     out: &mut O,
 ) -> Result<Session, Stop>
-    ensures begins { (file : Option Script) → TellsFrozen R.script frozen.old file
+    ensures begins { (file : Option Script) → DescribesFrozen R.script frozen.old file
         → BeginGives (start_of options.prefix file) options (O.contents out.old) (O.contents out.new) result }
     ensures begun { IsBegun options result }
     ensures refused { (fault : FrozenFault) → result ≡ Err (Stop.Ended (Cause.Frozen fault)) → O.contents out.new ≡ O.contents out.old }

@@ -3,7 +3,7 @@
 
 ghost use Rattle.std.specs.Prelude.{◌≡◌, true, false, Some, [], IfOk, IfErr, OnOk};
 ghost use Rattle.m4_engine.specs.Writers.{both, three, NoneOfThree, OneOfThree};
-ghost use Rattle.m4_engine.specs.Session.{SessionState, IsOpen, answer_by, over_after, standing_from, fresh_session, ReloadGives, FileGives, MissingGives, FinishGives, FreezeGives, ReadFails, ReloadFails, ByAnswer, WriteFails, MessageWriteFails, WrapsGive, session_after_wraps, round_of, is_saved, status_at};
+ghost use Rattle.m4_engine.specs.Session.{SessionState, IsOpen, answer_by, over_after, session_from, fresh_session, ReloadGives, FileGives, MissingGives, FinishGives, FreezeGives, ReadFails, ReloadFails, ByAnswer, WriteFails, MessageWriteFails, WrapsGive, session_after_wraps, round_of, is_saved, status_at};
 
 use crate::ending::Cause;
 use crate::machine::Machine;
@@ -97,7 +97,7 @@ impl Session {
 
     /// Creates a session that starts from this state.
     fn starting(alloc: Global, options: Options, state: State) -> Session
-        ensures { result ≡ standing_from options state }
+        ensures { result ≡ session_from options state }
     {
         Session {
             machine: Machine::new(alloc, state, options.calls, options.nesting),

@@ -92,11 +92,11 @@ abbrev with_names : State → Pairs → State
 with_names t table = record t { table = table }
 
 -- each name that is done is below this one
-abbrev IsBehind : Pairs → List ℕ → Type 0
-IsBehind done name = AreBelow byte_order nat_list_cmp_total done name
+abbrev IsPrefixed : Pairs → List ℕ → Type 0
+IsPrefixed done name = AreBelow byte_order nat_list_cmp_total done name
 
 -- the first definition of a name
-first_push : (done : Pairs) (name : List ℕ) (d : Def) → IsBehind done name
+first_push : (done : Pairs) (name : List ℕ) (d : Def) → IsPrefixed done name
     → with_push done name d ≡ done ++ (name, d ∷ []) ∷ []
 first_push done name d after =
     ap (λ (found : Option (List Def)). put byte_order name (unwrap_or found [] ++ d ∷ []) done)
@@ -104,7 +104,7 @@ first_push done name d after =
     ∙ put-missing byte_order nat_list_cmp_total name (d ∷ []) done after
 
 -- one more on top of those that the name has
-next_push : (done : Pairs) (name : List ℕ) (front : List Def) (d : Def) → IsBehind done name
+next_push : (done : Pairs) (name : List ℕ) (front : List Def) (d : Def) → IsPrefixed done name
     → with_push (done ++ (name, front) ∷ []) name d ≡ done ++ (name, front ++ d ∷ []) ∷ []
 next_push done name front d after =
     let table : Pairs = done ++ (name, front) ∷ [] in
@@ -113,7 +113,7 @@ next_push done name front d after =
     ∙ put-last byte_order nat_list_cmp_total name front (front ++ d ∷ []) done after
 
 more_denoted : (t : State) (done : Pairs) (name : List ℕ) (front stack : List Def)
-    → IsBehind done name → AllByRecursion IsDefinition stack
+    → IsPrefixed done name → AllByRecursion IsDefinition stack
     → state_after (with_names t (done ++ (name, front) ∷ [])) (map (definition name) stack)
     ≡ with_names t (done ++ (name, front ++ stack) ∷ [])
 more_denoted t done name front [] after valid =
@@ -130,7 +130,7 @@ more_denoted t done name front (d ∷ stack) after valid =
     (append_assoc front (d ∷ []) stack)
 
 stack_denoted : (t : State) (done : Pairs) (name : List ℕ) (stack : List Def)
-    → stack ≢ [] → AllByRecursion IsDefinition stack → IsBehind done name
+    → stack ≢ [] → AllByRecursion IsDefinition stack → IsPrefixed done name
     → state_after (with_names t done) (map (definition name) stack)
     ≡ with_names t (done ++ (name, stack) ∷ [])
 stack_denoted t done name [] some valid after = absurd (some refl)

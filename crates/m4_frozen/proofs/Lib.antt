@@ -14,7 +14,7 @@ pub mod Answered
 pub mod ReadOn
 pub mod HeldParts
 pub mod TextRead
-pub mod Told
+pub mod Remaining
 pub mod WindowRead
 pub mod Examples
 pub mod FreezeParts

@@ -13,7 +13,7 @@ use Rattle.m4_frozen.specs.Denote.{denote}
 use Rattle.m4_frozen.specs.Directive.{Directive, Text}
 use Rattle.m4_frozen.specs.Layout.{Length, Comma, NewLine, String, Layout, Done, Then}
 use Rattle.m4_frozen.specs.ReaderSteps.{◌>>=◌, string_at, expect_byte, pair_head_at, pair_at, directive_at, directives_at, file_at}
-use Rattle.m4_frozen.specs.Underway.{StandsAt, text_left, HasRead, HasReadNamed, HasReadText, ReadAs, IsRead, short}
+use Rattle.m4_frozen.specs.Underway.{IsAtDirective, text_left, HasRead, HasReadNamed, HasReadText, ReadAs, IsRead, short}
 use Rattle.m4_frozen.proofs.ReadBack.{pair_head_at-spelled, comma_on}
 use Rattle.m4_frozen.proofs.Parts.{Step, layout_at, LayoutSays, layout_says}
 use Rattle.m4_frozen.proofs.Spelled.{bind_assoc}
@@ -106,7 +106,7 @@ as_named read l new t is h = subst (λ (o : Option Begun). ReadAs o read new) (s
 
 -- a name's text was begun
 pub named_opened : (read line text : List ℕ) (t : NamedText) (n : ℕ) (l new : Loading)
-    → StandsAt l.inside (letter_T ∷ line) → l.versioned ≡ true
+    → IsAtDirective l.inside (letter_T ∷ line) → l.versioned ≡ true
     → pair_head_at line ≡ Ok ((t.name, n), text) → length text ≤ n
     → t.text.items ≡ text → t.missing ≡ n - length text
     → new ≡ record l { begun = Some (begun.Name t) }

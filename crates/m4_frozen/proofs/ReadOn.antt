@@ -18,7 +18,7 @@ use Rattle.m4_frozen.specs.Outcome.{Loads}
 use Rattle.m4_frozen.specs.Spells.{IsSkippedLine, AreSkippedLines}
 use Rattle.m4_frozen.specs.ReaderSteps.{◌>>=◌, skip_lines, next_at, directive_at, directives_at, after_version, file_at, is_settled}
 use Rattle.m4_frozen.proofs.ByteTests.{test}
-use Rattle.m4_frozen.specs.Underway.{StandsAt, Skips, with_front, left_at, HasRead, ReadAs, IsRead, HasReadOne, HasAdvanced, HasPaused, Keeps, ReadsOne, IsWithin, PausesAt, Advances, EndsSo, stays}
+use Rattle.m4_frozen.specs.Underway.{IsAtDirective, Skips, with_front, left_at, HasRead, ReadAs, IsRead, HasReadOne, HasAdvanced, HasPaused, Keeps, ReadsOne, IsWithin, PausesAt, Advances, EndsSo, stays}
 use Rattle.m4_frozen.proofs.SkippedLines.{skip_lines-append}
 use Rattle.m4_frozen.proofs.ReadBack.{one_is_read, next_at-spelled, version_at-number}
 use Rattle.m4_frozen.proofs.Parts.{Step}
@@ -93,7 +93,7 @@ directives_at-skip (suc n) bytes = rw (skip_twice false bytes) refl
 
 -- where no line begins, none is skipped
 pub at_letter : (inside : Bool) (bytes : List ℕ)
-    → StandsAt inside bytes
+    → IsAtDirective inside bytes
     → skip_lines inside bytes ≡ bytes
 at_letter true [] h = refl
 at_letter false [] h = refl
@@ -121,9 +121,9 @@ start_here : (bytes : List ℕ) → skip_lines false bytes ≡ bytes
     → StartSays bytes (after_version bytes)
 start_here bytes stops = rw stops at (start_says_of bytes (skip_lines false bytes) (has_lines bytes))
 
-version_stands : (bytes after : List ℕ) → skip_lines false bytes ≡ bytes
+version_given : (bytes after : List ℕ) → skip_lines false bytes ≡ bytes
     → after_version bytes ≡ Ok after → Versioned bytes after
-version_stands bytes after stops e =
+version_given bytes after stops e =
     let h = start_ok bytes after (after_version bytes) (start_here bytes stops) e in record {
       one = h.0 ++ letter_V ∷ h.1 ++ newline ∷ [];
       spelled = h.4 ∙ simp append_assoc;
@@ -140,12 +140,12 @@ version_stands bytes after stops e =
 
 -- the version was read
 pub has_read_version : (bytes after : List ℕ) (l : Loading)
-    → StandsAt l.inside bytes
+    → IsAtDirective l.inside bytes
     → l.versioned ≡ false → after_version bytes ≡ Ok after
     → HasReadOne bytes l (record l { versioned = true }) after
 has_read_version bytes after l (inl none) v e = absurd (let k = rw none at e in cc)
 has_read_version bytes after l (inr at) v e =
-    let s = version_stands bytes after at.1 e in record {
+    let s = version_given bytes after at.1 e in record {
       one = s.one;
       spelled = s.spelled;
       some = s.some;
@@ -212,7 +212,7 @@ one_more (suc n) front d bytes later lt h =
 
 -- a directive was read
 pub has_read_directive : (bytes after : List ℕ) (d : Directive) (l new : Loading)
-    → StandsAt l.inside bytes
+    → IsAtDirective l.inside bytes
     → l.versioned ≡ true → next_at bytes ≡ Ok (Some (d, after))
     → new ≡ record l { state = with_directive l.state d; issued = new.issued }
     → new.issued.items ≡ l.issued.items ++ issued_by d
@@ -250,7 +250,7 @@ has_read_directive (b ∷ bs) after d l new (inr at) v e s i =
 
 -- a refusal at the version is the file's
 pub version_refused : (read bytes : List ℕ) (x : Refusal) (l : Loading)
-    → StandsAt l.inside bytes
+    → IsAtDirective l.inside bytes
     → l.versioned ≡ false → after_version bytes ≡ Err x → HasRead read l
     → file_at (read ++ bytes) ≡ Err x
 version_refused read bytes x l at v e h =
@@ -266,7 +266,7 @@ refused_at_once (suc n) bytes x lt stops e = rw (stops, e) refl
 
 -- a refusal at a directive is the file's
 pub directive_refused : (read bytes : List ℕ) (x : Refusal) (l : Loading)
-    → StandsAt l.inside bytes
+    → IsAtDirective l.inside bytes
     → l.versioned ≡ true → next_at bytes ≡ Err x → HasRead read l
     → file_at (read ++ bytes) ≡ Err x
 directive_refused read [] x l at v e h = absurd cc
@@ -278,14 +278,14 @@ directive_refused read (b ∷ bs) x l (inr at) v e h =
 
 -- the place of a refusal is among the bytes
 pub version_left : (bytes : List ℕ) (x : Refusal) (inside : Bool)
-    → StandsAt inside bytes
+    → IsAtDirective inside bytes
     → after_version bytes ≡ Err x → x.bytes_left ≤ length bytes
 version_left bytes x inside at e =
     let h = start_err bytes x (after_version bytes) (start_here bytes (at_letter false bytes (elim at [ inl n ↦ inl n | inr a ↦ inr (refl, a.1) ]))) e in
     omega (arith, h.6, ap length h.5, length-append (h.0 ++ h.1) h.2)
 
 pub directive_left : (bytes : List ℕ) (x : Refusal) (inside : Bool)
-    → StandsAt inside bytes
+    → IsAtDirective inside bytes
     → next_at bytes ≡ Err x → x.bytes_left ≤ length bytes
 directive_left [] x inside at e = absurd cc
 directive_left (b ∷ bs) x inside (inl none) e = absurd cc
@@ -455,7 +455,7 @@ advance_stopped bytes rest here old l new final inside (stops.Refused x) (Ok pau
 
 -- so the place of its refusal is among the bytes
 pub stop_within : (here : List ℕ) (l new : Loading) (inside : Bool) (stop : ReadStop)
-    → StandsAt inside here
+    → IsAtDirective inside here
     → ReadsOne here (record l { inside = inside }) new (Err stop) → IsWithin stop new.inside here
 stop_within here l new inside stops.OutOfMemory at o = tt
 stop_within here l new inside (stops.Refused x) at o =

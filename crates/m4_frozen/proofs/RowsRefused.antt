@@ -17,21 +17,21 @@ use Rattle.m4_frozen.proofs.Parts.{part_at, layout_at, fits_of}
 use Rattle.m4_frozen.proofs.ReadBack.{skip_blanks-append, skip_blanks-digits, some_digits_at-digits, length_at-number, version_at-number, string_at-append, signed_at-digits, digit_is_no_sign}
 
 -- a correct part is read
-pub part_stands : (p : Part) (v : Value p) (one rest : List ℕ) → IsPart p v one → IsEnded p rest
+pub part_described : (p : Part) (v : Value p) (one rest : List ℕ) → IsPart p v one → IsEnded p rest
     → part_at p (one ++ rest) ≡ Ok (v, rest)
-part_stands Version v one rest h apart = rw (version_at-number one rest h apart) refl
-part_stands Length n one rest h apart = length_at-number n one rest h.0 h.1 apart
-part_stands Number z one rest h apart =
+part_described Version v one rest h apart = rw (version_at-number one rest h apart) refl
+part_described Length n one rest h apart = length_at-number n one rest h.0 h.1 apart
+part_described Number z one rest h apart =
     let n = h.0 in
     let start : skip_blanks (one ++ rest) ≡ skip_blanks (with_sign n.minus n.digits ++ rest) =
     ap (λ (bs : List ℕ). skip_blanks (bs ++ rest)) n.spelled
     ∙ ap skip_blanks (append_assoc n.blanks (with_sign n.minus n.digits) rest)
     ∙ skip_blanks-append n.blanks (with_sign n.minus n.digits ++ rest) n.are_blanks in
     rw start (signed_at-digits n.minus n.digits rest z n.are_digits apart n.value h.1)
-part_stands Comma v one rest h apart =
+part_described Comma v one rest h apart =
     rw (h.2, append_assoc h.0 (comma ∷ []) rest, skip_blanks-append h.0 (comma ∷ rest) h.1) refl
-part_stands NewLine v one rest h apart = rw h refl
-part_stands (String n) text one rest h apart = rw h.0 (string_at-append n text rest h.1)
+part_described NewLine v one rest h apart = rw h refl
+part_described (String n) text one rest h apart = rw h.0 (string_at-append n text rest h.1)
 
 -- no digit comes first
 no_digits : (here : List ℕ) → IsTrue (first_is (λ b. not (is_ascii_digit b)) here)
@@ -211,5 +211,5 @@ layout_refused kind (Then p after) before here (inl h) =
     rw (part_refused kind p before here h) refl
 layout_refused kind (Then p after) before here (inr h) =
     let parts : before ++ here ≡ h.1 ++ (h.2 ++ here) = rw h.5 (append_assoc h.1 h.2 here) in
-    rw (parts, part_stands p h.0 h.1 (h.2 ++ here) h.3 h.4)
+    rw (parts, part_described p h.0 h.1 (h.2 ++ here) h.3 h.4)
     (layout_refused kind (after h.0) h.2 here h.6)

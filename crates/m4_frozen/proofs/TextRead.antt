@@ -24,7 +24,7 @@ use Rattle.m4_frozen.specs.Directive.{Directive, Diversion}
 use Rattle.m4_frozen.specs.Layout.{Length, Number, Comma, NewLine, Layout, Done, Then}
 use Rattle.m4_frozen.specs.ReaderSteps.{◌>>=◌, string_at, expect_byte, head_at, diversion_at, directive_at, directives_at, file_at}
 use Rattle.std.specs.Borrow.{Bor}
-use Rattle.m4_frozen.specs.Underway.{StandsAt, with_front, text_left, HasRead, HasReadIn, IsWithinText, HasReadText, ReadsText, ReadsBehind, ReadAs, IsRead, Advances, EndsSo, ReadsOn, short, stays}
+use Rattle.m4_frozen.specs.Underway.{IsAtDirective, with_front, text_left, HasRead, HasReadIn, IsWithinText, HasReadText, ReadsText, ReadsRest, ReadAs, IsRead, Advances, EndsSo, ReadsOn, short, stays}
 use Rattle.m4_frozen.proofs.ByteTests.{test, lt_of, ge_of, eq_of}
 use Rattle.m4_frozen.proofs.ReadBack.{head_at-spelled, comma_on}
 use Rattle.m4_frozen.proofs.Parts.{Step, layout_at, LayoutSays, layout_says}
@@ -259,7 +259,7 @@ diversion_begins line text z n e count more =
 
 -- a diversion was begun
 pub has_read_opened : (read line text : List ℕ) (z : ℤ) (n : ℕ) (l new : Loading)
-    → StandsAt l.inside (letter_D ∷ line) → l.versioned ≡ true
+    → IsAtDirective l.inside (letter_D ∷ line) → l.versioned ≡ true
     → head_at line ≡ Ok ((z, n), text) → length text ≤ n
     → new ≡ record l {
       state = appended (diverted l.state z) text;
@@ -398,9 +398,9 @@ diverted_closed read c l new m all is i h =
     (issued_more read c new.issued.items l m h i)
 
 -- the expected byte is there
-newline_stands : (after rest : List ℕ) → expect_byte newline after ≡ Ok rest → after ≡ newline ∷ rest
-newline_stands [] rest e = absurd cc
-newline_stands (b ∷ bs) rest e = elim (test (eqb b newline)) [
+newline_kept : (after rest : List ℕ) → expect_byte newline after ≡ Ok rest → after ≡ newline ∷ rest
+newline_kept [] rest e = absurd cc
+newline_kept (b ∷ bs) rest e = elim (test (eqb b newline)) [
   | inl k ↦ (let q : bs ≡ rest = (let p = rw k at e in cc) in rw (eq_of b newline k, q) refl)
   | inr k ↦ absurd (let p = rw k at e in cc)
 ]
@@ -412,7 +412,7 @@ pub text_ends : (Before : List ℕ → Type 0) (bytes c after rest : List ℕ) (
     → HasReadText Before bytes new rest
 text_ends Before bytes c after rest new parts e none closed = record {
   one = c ++ newline ∷ [];
-  spelled = parts ∙ ap (λ (xs : List ℕ). c ++ xs) (newline_stands after rest e)
+  spelled = parts ∙ ap (λ (xs : List ℕ). c ++ xs) (newline_kept after rest e)
       ∙ sym (append_assoc c (newline ∷ []) rest);
   no_text = none;
   has_read = closed;
@@ -514,7 +514,7 @@ all_were_read Before bytes new all = λ read h. let a = all read h in record {
 -- a text, and the bytes after it
 pub text_and_after : (Before : List ℕ → Type 0) (bytes : List ℕ) (after : Option (Bor (List ℕ))) (mid new : Loading)
     (r : Result Pause ReadStop)
-    → ReadsText Before bytes mid (Ok after) → ReadsBehind after mid new r → ReadsOn Before bytes new r
+    → ReadsText Before bytes mid (Ok after) → ReadsRest after mid new r → ReadsOn Before bytes new r
 text_and_after Before bytes None mid new r x b = rw (b.1, b.0) (all_were_read Before bytes mid x)
 text_and_after Before bytes (Some after) mid new r x b = text_then_whole Before bytes after.now mid new r x b
 

@@ -18,7 +18,7 @@ use Rattle.m4_frozen.specs.Outcome.{IfFault, HasFault, IsFaultOf, Loads}
 use Rattle.m4_frozen.specs.Spells.{Spells}
 use Rattle.m4_frozen.specs.Underway.{EndsSo}
 use Rattle.m4_frozen.proofs.Answered.{read_is_spelled, not_read, fault_has_memory, failed_unless_stays, failed_if_read}
-use Rattle.m4_frozen.proofs.Told.{settled_told, ended_told, loaded_told, failed_told, refused_told}
+use Rattle.m4_frozen.proofs.Remaining.{settled_of_reader, ended_of_reader, loaded_of_reader, failed_of_reader, refused_reported}
 
 -- ---- offsets that stay at their greatest value
 
@@ -41,9 +41,9 @@ as_reported None f h = tt
 as_reported (Some s) f h = (f, h, refl)
 
 -- bytes came
-pub filled : (at_first told later : Option Script) (w v : Window) (l : Loading)
-    → IsUnderway at_first told w l → HasCome w v told later → IsUnderway at_first later v l
-filled at_first told later w v l u c =
+pub filled : (at_first remaining later : Option Script) (w v : Window) (l : Loading)
+    → IsUnderway at_first remaining w l → HasCome w v remaining later → IsUnderway at_first later v l
+filled at_first remaining later w v l u c =
     let all : u.read ++ v.bytes ≡ (u.read ++ w.bytes) ++ c.block =
     ap (λ (xs : List ℕ). u.read ++ xs) c.bytes ∙ sym (append_assoc u.read w.bytes c.block) in record {
       read = u.read;
@@ -55,20 +55,20 @@ filled at_first told later w v l u c =
     }
 
 -- what is left is among the bytes
-pub left_within : (at_first told : Option Script) (w : Window) (old new : Loading) (pause : Pause)
-    → IsUnderway at_first told w old → ReadsWindow w old new (Ok pause)
+pub left_within : (at_first remaining : Option Script) (w : Window) (old new : Loading) (pause : Pause)
+    → IsUnderway at_first remaining w old → ReadsWindow w old new (Ok pause)
     → pause.left ≤ length w.bytes
-left_within at_first told w old new pause u r =
+left_within at_first remaining w old new pause u r =
     let p = r u.read u.has_read in
     omega (arith, p.left, ap length p.spelled, length-append p.front p.rest)
 
 -- what was read is dropped
-pub dropped : (at_first told : Option Script) (w v : Window) (old new : Loading) (pause : Pause)
-    → IsUnderway at_first told w old → ReadsWindow w old new (Ok pause)
+pub dropped : (at_first remaining : Option Script) (w v : Window) (old new : Loading) (pause : Pause)
+    → IsUnderway at_first remaining w old → ReadsWindow w old new (Ok pause)
     → v.bytes ≡ drop (length w.bytes - pause.left) w.bytes
     → v.dropped ≡ as_offset (w.dropped + (length w.bytes - pause.left))
-    → IsUnderway at_first told v new
-dropped at_first told w v old new pause u r kept count =
+    → IsUnderway at_first remaining v new
+dropped at_first remaining w v old new pause u r kept count =
     let p = r u.read u.has_read in
     let rest : v.bytes ≡ p.rest =
     kept ∙ ap (drop (length w.bytes - pause.left)) p.spelled
@@ -78,7 +78,7 @@ dropped at_first told w v old new pause u r kept count =
     append_assoc u.read p.front v.bytes
     ∙ ap (λ (xs : List ℕ). u.read ++ xs) (ap (λ (xs : List ℕ). p.front ++ xs) rest ∙ sym p.spelled) in record {
       read = u.read ++ p.front;
-      gives = u.gives ∙ ap (λ (xs : List ℕ). after_bytes xs told) (sym all);
+      gives = u.gives ∙ ap (λ (xs : List ℕ). after_bytes xs remaining) (sym all);
       dropped = count ∙ counted_on (length u.read) (length w.bytes - pause.left) w.dropped u.dropped
           ∙ ap as_offset (let k : length u.read + (length w.bytes - pause.left) ≡ length (u.read ++ p.front) =
           omega (arith, p.left, ap length p.spelled, length-append p.front p.rest, length-append u.read p.front) in k);
@@ -99,7 +99,7 @@ refuses : (at_first : Option Script) (f : ExactFault)
     → (f.kind ≡ kinds.Read → ⊥) → Answers at_first (Err (reported f))
 refuses at_first f h room unread = record {
   loaded = tt;
-  accepts = λ other. refused_told at_first f h;
+  accepts = λ other. refused_reported at_first f h;
   fault = λ other. as_reported at_first f h;
   no_memory = λ e. absurd (room e);
   not_read = unread;
@@ -116,39 +116,39 @@ lacks_memory at_first = record {
 }
 
 -- a fault of a window
-pub window_refused : (at_first told : Option Script) (w : Window) (old new : Loading) (f : FrozenFault)
-    → IsUnderway at_first told w old → ReadsWindow w old new (Err f) → Answers at_first (Err f)
-window_refused at_first told w old new f u (inl e) = rw e (lacks_memory at_first)
-window_refused at_first told w old new f u (inr h) =
+pub window_refused : (at_first remaining : Option Script) (w : Window) (old new : Loading) (f : FrozenFault)
+    → IsUnderway at_first remaining w old → ReadsWindow w old new (Err f) → Answers at_first (Err f)
+window_refused at_first remaining w old new f u (inl e) = rw e (lacks_memory at_first)
+window_refused at_first remaining w old new f u (inr h) =
     let given : List ℕ = u.read ++ w.bytes in
     let k = h u.read u.has_read u.dropped in
     let settled : IsSettledBy given k.0 = k.1 in
     let now : FaultAt (given ++ []) k.0 = settled [] in
     subst (λ (x : FrozenFault). Answers at_first (Err x)) (sym k.2)
-    (refuses at_first k.0 (settled_told at_first told given k.0 u.gives settled)
+    (refuses at_first k.0 (settled_of_reader at_first remaining given k.0 u.gives settled)
     (fault_has_memory false (given ++ []) k.0 now) (not_read (given ++ []) k.0 now.is))
 
 -- the end of the file
-pub window_ended : (at_first told : Option Script) (w : Window) (old new : Loading) (pause : Pause)
+pub window_ended : (at_first remaining : Option Script) (w : Window) (old new : Loading) (pause : Pause)
     (r : Result Loaded FrozenFault)
-    → IsUnderway at_first told w old → ReadsWindow w old new (Ok pause) → IsAtEnd told
+    → IsUnderway at_first remaining w old → ReadsWindow w old new (Ok pause) → IsAtEnd remaining
     → EndsAs w new pause r → Answers at_first r
-window_ended at_first told w old new pause (Ok l) u p end h =
+window_ended at_first remaining w old new pause (Ok l) u p end h =
     let given : List ℕ = u.read ++ w.bytes in
     let ends = (p u.read u.has_read).ends in record {
-      loaded = loaded_told at_first told given l u.gives end (h given ends);
+      loaded = loaded_of_reader at_first remaining given l u.gives end (h given ends);
       accepts = tt;
       fault = tt;
       no_memory = tt;
       not_read = tt;
     }
-window_ended at_first told w old new pause (Err f) u p end h =
+window_ended at_first remaining w old new pause (Err f) u p end h =
     let given : List ℕ = u.read ++ w.bytes in
     let q = p u.read u.has_read in
     let k = h u.read q.ends q.within u.dropped in
     let now : FaultAt given k.0 = k.1 in
     subst (λ (x : FrozenFault). Answers at_first (Err x)) (sym k.2)
-    (refuses at_first k.0 (ended_told at_first told given k.0 u.gives end now)
+    (refuses at_first k.0 (ended_of_reader at_first remaining given k.0 u.gives end now)
     (fault_has_memory false given k.0 now) (not_read given k.0 now.is))
 
 -- what a pause says of a reader that failed
@@ -158,19 +158,19 @@ failed_pause given l None h = failed_if_read given h.directives ((read_is_spelle
 failed_pause given l (Some e) h = failed_unless_stays given e h.0 h.1
 
 -- the reader failed
-pub window_failed : (at_first told : Option Script) (w : Window) (old new : Loading) (pause : Pause)
+pub window_failed : (at_first remaining : Option Script) (w : Window) (old new : Loading) (pause : Pause)
     (f : FrozenFault)
-    → IsUnderway at_first told w old → ReadsWindow w old new (Ok pause) → IsAtFault told
+    → IsUnderway at_first remaining w old → ReadsWindow w old new (Ok pause) → IsAtFault remaining
     → f ≡ record { kind = kinds.Read; offset = as_offset (w.dropped + length w.bytes) }
     → IfSome at_first (λ s. IsFaultOf s.fails s.bytes f)
-window_failed at_first told w old new pause f u p end e =
+window_failed at_first remaining w old new pause f u p end e =
     let given : List ℕ = u.read ++ w.bytes in
     let place : f ≡ reported (read_fault given) =
     e ∙ ap (λ (n : ℕ). let g : FrozenFault = record { kind = kinds.Read; offset = n } in g)
     (counted_on (length u.read) (length w.bytes) w.dropped u.dropped
     ∙ ap as_offset (sym (length-append u.read w.bytes))) in
     subst (λ (x : FrozenFault). IfSome at_first (λ s. IsFaultOf s.fails s.bytes x)) (sym place)
-    (as_reported at_first (read_fault given) (failed_told at_first told given (read_fault given) u.gives end
+    (as_reported at_first (read_fault given) (failed_of_reader at_first remaining given (read_fault given) u.gives end
     (failed_pause given new pause.refusal (p u.read u.has_read).ends)))
 
 -- what is never answered

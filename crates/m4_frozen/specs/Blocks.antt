@@ -1,6 +1,6 @@
 -- Blocks: the progress of loading a file whose bytes arrive block by block.
 -- Not believed: private contracts cite it; `read_frozen` states the same for whole files.
--- Words: Fills, Stands, failures_after, IsUnderway.
+-- Words: Fills, MatchesScript, failures_after, IsUnderway.
 use Rattle.std.specs.Prelude.{◌≡◌, ℕ, ◌≤◌, List, ◌++◌, length, Option, IfSome, Result, Ok, Err, ◌⊎◌}
 use Rattle.m4_state.specs.Device.{Script, after_bytes, one_more, IsAtEnd, IsAtFault}
 use Rattle.m4_frozen.specs.declared.fault.FrozenKind.TheVariants as kinds
@@ -8,21 +8,21 @@ use Rattle.m4_frozen.specs.declared.fault.FrozenFault.{FrozenFault}
 use Rattle.m4_frozen.specs.declared.loading.Loaded.{Loaded}
 use Rattle.m4_frozen.specs.declared.loading.Loading.{Loading}
 use Rattle.m4_frozen.specs.declared.loading.Pause.{Pause}
-use Rattle.m4_frozen.specs.declared.window.Behind.{Behind}
-use Rattle.m4_frozen.specs.declared.window.Behind.TheVariants as marks
+use Rattle.m4_frozen.specs.declared.window.BlockRead.{BlockRead}
+use Rattle.m4_frozen.specs.declared.window.BlockRead.TheVariants as marks
 use Rattle.m4_frozen.specs.declared.window.Window.{Window}
 use Rattle.m4_frozen.specs.FaultAt.{ExactFault, as_offset, reported, FaultAt, IsSettledBy}
 use Rattle.m4_frozen.specs.Outcome.{Loads}
 use Rattle.m4_frozen.specs.Underway.{IsRead, HasPaused, EndsSo}
 
 -- where the reader is, by its last answer: at its end, at its fault, or anywhere
-abbrev pub Stands : Behind → Option Script → Type 0
-Stands marks.More told = Unit {0}
-Stands marks.End told = IsAtEnd told
-Stands marks.Failure told = IsAtFault told
+abbrev pub MatchesScript : BlockRead → Option Script → Type 0
+MatchesScript marks.More remaining = Unit {0}
+MatchesScript marks.End remaining = IsAtEnd remaining
+MatchesScript marks.Failure remaining = IsAtFault remaining
 
 -- the count of its failures
-abbrev pub failures_after : Behind → ℕ → ℕ
+abbrev pub failures_after : BlockRead → ℕ → ℕ
 failures_after marks.Failure n = one_more n
 failures_after after n = n
 
@@ -34,14 +34,14 @@ pub record HasCome (old new : Window) (messages_old messages_new : Option Script
   pub gives : messages_old ≡ after_bytes block messages_new
 
 -- a block was read, and this is known of the reader
-abbrev pub Fills : Window → Window → Option Script → Option Script → Behind → Type 0
-Fills old new messages_old messages_new after = HasCome old new messages_old messages_new × Stands after messages_new
+abbrev pub Fills : Window → Window → Option Script → Option Script → BlockRead → Type 0
+Fills old new messages_old messages_new after = HasCome old new messages_old messages_new × MatchesScript after messages_new
 
 -- all bytes that were read but those of the window are loaded
-pub record IsUnderway (at_first told : Option Script) (window : Window) (loading : Loading)
+pub record IsUnderway (at_first remaining : Option Script) (window : Window) (loading : Loading)
     : Type 0 where
   pub read : List ℕ
-  pub gives : at_first ≡ after_bytes (read ++ window.bytes) told
+  pub gives : at_first ≡ after_bytes (read ++ window.bytes) remaining
   pub dropped : window.dropped ≡ as_offset (length read)
   pub has_read : IsRead read loading
 

@@ -21,15 +21,15 @@ use Rattle.m4_frozen.specs.Outcome.{Loads}
 use Rattle.m4_frozen.specs.ReaderSteps.{◌>>=◌, skip_lines, string_at, expect_byte, directives_at, after_version, file_at, is_settled}
 
 -- no line to skip is at the start; `inside`: the bytes begin inside a comment
-abbrev pub StandsAt : Bool → List ℕ → Type 0
-StandsAt inside bytes = (bytes ≡ []) ⊎ ((inside ≡ false) × (skip_lines false bytes ≡ bytes))
+abbrev pub IsAtDirective : Bool → List ℕ → Type 0
+IsAtDirective inside bytes = (bytes ≡ []) ⊎ ((inside ≡ false) × (skip_lines false bytes ≡ bytes))
 
 -- lines at the start are skipped: the rest is read as if it came after them
 pub record Skips (inside : Bool) (bytes : List ℕ) (later : Bool) (rest : List ℕ) : Type 0 where
   pub skipped : List ℕ
   pub spelled : bytes ≡ skipped ++ rest
   pub same : (more : List ℕ) → skip_lines inside (skipped ++ more) ≡ skip_lines later more
-  pub begins : StandsAt later rest
+  pub begins : IsAtDirective later rest
 
 -- the directives that were read, and the reading of the rest
 abbrev pub with_front : List Directive → Result (List Directive) Refusal
@@ -119,7 +119,7 @@ stays given e = is_settled e.kind (drop (length given - e.bytes_left) given)
 -- the place of a refusal is among these bytes, which begin with no line to skip
 abbrev pub IsWithin : ReadStop → Bool → List ℕ → Type 0
 IsWithin stops.OutOfMemory inside here = Unit {0}
-IsWithin (stops.Refused e) inside here = (e.bytes_left ≤ length here) × StandsAt inside here
+IsWithin (stops.Refused e) inside here = (e.bytes_left ≤ length here) × IsAtDirective inside here
 
 -- a text is opened that is not complete, or nothing is read
 abbrev pub Opens : List ℕ → Loading → Loading → Result Bool StateFault → Type 0
@@ -201,6 +201,6 @@ ReadsText Before bytes new (Err (stops.Refused e)) = (read : List ℕ) → Befor
     → (file_at (read ++ bytes) ≡ Err e) × (stays (read ++ bytes) e ≡ true) × (e.bytes_left ≤ length bytes)
 
 -- the result of reading on after a text, if it has ended
-abbrev pub ReadsBehind : Option (Bor (List ℕ)) → Loading → Loading → Result Pause ReadStop → Type 0
-ReadsBehind None old new r = (new ≡ old) × (r ≡ Ok (record { left = 0; refusal = Some short }))
-ReadsBehind (Some after) old new r = Advances after.now old new r
+abbrev pub ReadsRest : Option (Bor (List ℕ)) → Loading → Loading → Result Pause ReadStop → Type 0
+ReadsRest None old new r = (new ≡ old) × (r ≡ Ok (record { left = 0; refusal = Some short }))
+ReadsRest (Some after) old new r = Advances after.now old new r

@@ -121,7 +121,7 @@ impl Loading {
     /// Reads the bytes after a text, or pauses if the text is not complete.
     fn read_after(&mut self, alloc: Global, after: Option<&[u8]>) -> Result<Pause, ReadStop>
         requires { IfSome after (λ _. self.old.begun ≡ None) }
-        ensures { underway.ReadsBehind after.entry self.old self.new result }
+        ensures { underway.ReadsRest after.entry self.old self.new result }
     {
         match after {
             Some(after) => self.read_whole(alloc, after),
@@ -160,7 +160,7 @@ impl Loading {
     /// Reads the version or a directive; the bytes begin with no line to skip. Returns the bytes after it,
     /// or none if there are no bytes.
     fn read_one<'a>(&mut self, alloc: Global, bytes: &'a [u8]) -> Result<Option<&'a [u8]>, ReadStop>
-        requires { underway.StandsAt self.old.inside bytes.now }
+        requires { underway.IsAtDirective self.old.inside bytes.now }
         ensures { underway.ReadsOne bytes.now self.old self.new result }
     {
         if self.versioned {
@@ -177,7 +177,7 @@ impl Loading {
         alloc: Global,
         bytes: &'a [u8],
     ) -> Result<Option<&'a [u8]>, ReadStop>
-        requires stands { underway.StandsAt self.old.inside bytes.now }
+        requires at_directive { underway.IsAtDirective self.old.inside bytes.now }
         requires versioned { self.old.versioned ≡ true }
         ensures { underway.ReadsOne bytes.now self.old self.new result }
     {
@@ -210,7 +210,7 @@ impl Loading {
 
     /// Opens a text, if these bytes end inside one or before its newline.
     fn open_text(&mut self, alloc: Global, here: &[u8]) -> Result<bool, StateFault>
-        requires { underway.StandsAt self.old.inside here.now }
+        requires { underway.IsAtDirective self.old.inside here.now }
         ensures { underway.Opens here.now self.old self.new result }
     {
         if self.open_named(alloc, here)? {
@@ -221,7 +221,7 @@ impl Loading {
 
     /// Opens the text of a name.
     fn open_named(&mut self, alloc: Global, here: &[u8]) -> Result<bool, StateFault>
-        requires { underway.StandsAt self.old.inside here.now }
+        requires { underway.IsAtDirective self.old.inside here.now }
         ensures { underway.Opens here.now self.old self.new result }
     {
         let Some(line) = line_after(b'T', here) else {
@@ -244,7 +244,7 @@ impl Loading {
 
     /// Opens a diversion. Its text goes to the state as it arrives.
     fn open_diverted(&mut self, here: &[u8]) -> Result<bool, StateFault>
-        requires { underway.StandsAt self.old.inside here.now }
+        requires { underway.IsAtDirective self.old.inside here.now }
         ensures { underway.Opens here.now self.old self.new result }
     {
         let Some(line) = line_after(b'D', here) else {

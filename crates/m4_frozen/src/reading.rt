@@ -10,7 +10,7 @@ ghost use Rattle.m4_frozen.specs.declared.fault.FrozenKind.TheVariants as kinds;
 
 use crate::fault::{FrozenFault, ReadStop, no_memory};
 use crate::loading::{Loaded, Loading, Pause};
-use crate::window::{Behind, Window};
+use crate::window::{BlockRead, Window};
 use m4_state::device::ByteSource;
 use std::alloc::Global;
 
@@ -46,9 +46,9 @@ pub fn read_frozen<R: ByteSource>(alloc: Global, reader: &mut R) -> Result<Loade
         let after = window.fill(reader)?;
         let pause = read_window(alloc, &mut loading, &window)?;
         match after {
-            Behind::More => window.keep_last(pause.left),
-            Behind::End => return end(loading, pause, &window),
-            Behind::Failure => return Err(window.failure()),
+            BlockRead::More => window.keep_last(pause.left),
+            BlockRead::End => return end(loading, pause, &window),
+            BlockRead::Failure => return Err(window.failure()),
         }
     }
 }

@@ -4,7 +4,7 @@ ghost use Rattle.std.specs.Prelude.{◌≡◌, ◌+◌, ◌++◌, ◌-◌, ◌*�
 ghost use Rattle.m4_frozen.specs.Blocks as blocks;
 ghost use Rattle.m4_frozen.specs.FaultAt.{as_offset};
 ghost use Rattle.m4_frozen.specs.declared.fault.FrozenKind.TheVariants as kinds;
-ghost use Rattle.m4_frozen.specs.declared.window.Behind.TheVariants as marks;
+ghost use Rattle.m4_frozen.specs.declared.window.BlockRead.TheVariants as marks;
 
 use crate::fault::{FrozenFault, FrozenKind, Refusal};
 use crate::held::{BLOCK, Held};
@@ -13,7 +13,7 @@ use std::alloc::{AllocError, Global};
 
 /// What the reader returns next, as far as is known.
 #[derive(Clone, Copy, Debug, PartialEq, Eq)]
-pub(crate) enum Behind {
+pub(crate) enum BlockRead {
     /// Perhaps more bytes.
     More,
     /// The end of the file.
@@ -51,7 +51,7 @@ impl Window {
 
     /// Reads more bytes, at least as many as the window contains, so that the bytes parsed again are no
     /// more than those that were read.
-    pub(crate) fn fill<R: ByteSource>(&mut self, reader: &mut R) -> Result<Behind, AllocError>
+    pub(crate) fn fill<R: ByteSource>(&mut self, reader: &mut R) -> Result<BlockRead, AllocError>
         ensures takes { IfOk result (λ after. blocks.Fills self.old self.new
             (R.script reader.old) (R.script reader.new) after) }
         ensures counted { IfOk result (λ after. R.failures reader.new
@@ -65,12 +65,12 @@ impl Window {
         self.bytes.move_to_front();
         loop {
             match self.bytes.take_from(reader)? {
-                Ok(0) => return Ok(Behind::End),
+                Ok(0) => return Ok(BlockRead::End),
                 Ok(_) => {}
-                Err(DeviceFault) => return Ok(Behind::Failure),
+                Err(DeviceFault) => return Ok(BlockRead::Failure),
             }
             if self.bytes().len() >= enough {
-                return Ok(Behind::More);
+                return Ok(BlockRead::More);
             }
         }
     }

@@ -110,13 +110,13 @@ mark_up false false true e = refl
 mark_up false false false e = cc
 
 -- the state of a scan of a string
-pub record Stands (q : Delimiters) (p : Bool) (x : List ℕ) (at : ℕ) (r : Option ℕ) (n k : ℕ) : Type 0 where
+pub record ScannedTo (q : Delimiters) (p : Bool) (x : List ℕ) (at : ℕ) (r : Option ℕ) (n k : ℕ) : Type 0 where
   pub after : at ≤ k
   pub within : k ≤ length x
   pub low : n ≤ k - at
   pub same : further (k - at) (level q p n 0 (drop k x)) ≡ r
 
-moved_on : (q : Delimiters) (p : Bool) (x : List ℕ) (at : ℕ) (r : Option ℕ) (n k b m d : ℕ) → Stands q p x at r n k → drop k x ≡ b ∷ drop (k + 1) x → 0 < d → d ≤ length (drop k x) → m ≤ suc n → level q p n 0 (b ∷ drop (k + 1) x) ≡ one_more (level q p m (d - 1) (drop (k + 1) x)) → Stands q p x at r m (k + d)
+moved_on : (q : Delimiters) (p : Bool) (x : List ℕ) (at : ℕ) (r : Option ℕ) (n k b m d : ℕ) → ScannedTo q p x at r n k → drop k x ≡ b ∷ drop (k + 1) x → 0 < d → d ≤ length (drop k x) → m ≤ suc n → level q p n 0 (b ∷ drop (k + 1) x) ≡ one_more (level q p m (d - 1) (drop (k + 1) x)) → ScannedTo q p x at r m (k + d)
 moved_on q p x at r n k b m d s e pos fits low is =
     let len : length (drop k x) ≡ length x - k = length-drop k x in
     let a : at ≤ k = s.after in
@@ -133,25 +133,25 @@ moved_on q p x at r n k b m d s e pos fits low is =
       same = sym (further_further (k - at) d (k + d - at) (level q p m 0 (drop (k + d) x)) (omega arith)) ∙ ap (further (k - at)) (sym f) ∙ s.same;
     }
 
-pub moved_down : (q : Delimiters) (p : Bool) (x : List ℕ) (at : ℕ) (r : Option ℕ) (n k b : ℕ) → Stands q p x at r n k → drop k x ≡ b ∷ drop (k + 1) x → 0 < length q.end → EndQuote ≡ mark_at q p (drop k x) → (n ≡ 0 → ⊥) → Stands q p x at r (n - 1) (k + length q.end)
+pub moved_down : (q : Delimiters) (p : Bool) (x : List ℕ) (at : ℕ) (r : Option ℕ) (n k b : ℕ) → ScannedTo q p x at r n k → drop k x ≡ b ∷ drop (k + 1) x → 0 < length q.end → EndQuote ≡ mark_at q p (drop k x) → (n ≡ 0 → ⊥) → ScannedTo q p x at r (n - 1) (k + length q.end)
 moved_down q p x at r zero k b s e pos h ne = absurd (ne refl)
 moved_down q p x at r (suc n) k b s e pos h ne =
     let one : suc n - 1 ≡ n = omega arith in
-    subst (λ m. Stands q p x at r m (k + length q.end)) (sym one)
+    subst (λ m. ScannedTo q p x at r m (k + length q.end)) (sym one)
     (moved_on q p x at r (suc n) k b n (length q.end) s e pos (begins_length q.end (drop k x) (mark_down _ _ _ h)) (omega arith) (level_at q p (suc n) b (drop (k + 1) x) EndQuote (ap (mark_at q p) (sym e) ∙ sym h)))
 
-pub moved_up : (q : Delimiters) (p : Bool) (x : List ℕ) (at : ℕ) (r : Option ℕ) (n k b : ℕ) → Stands q p x at r n k → drop k x ≡ b ∷ drop (k + 1) x → 0 < length q.begin → BeginQuote ≡ mark_at q p (drop k x) → Stands q p x at r (n + 1) (k + length q.begin)
+pub moved_up : (q : Delimiters) (p : Bool) (x : List ℕ) (at : ℕ) (r : Option ℕ) (n k b : ℕ) → ScannedTo q p x at r n k → drop k x ≡ b ∷ drop (k + 1) x → 0 < length q.begin → BeginQuote ≡ mark_at q p (drop k x) → ScannedTo q p x at r (n + 1) (k + length q.begin)
 moved_up q p x at r n k b s e pos h =
     let one : n + 1 ≡ suc n = omega arith in
-    subst (λ m. Stands q p x at r m (k + length q.begin)) (sym one)
+    subst (λ m. ScannedTo q p x at r m (k + length q.begin)) (sym one)
     (moved_on q p x at r n k b (suc n) (length q.begin) s e pos (begins_length q.begin (drop k x) (mark_up _ _ _ h)) (omega arith) (level_at q p n b (drop (k + 1) x) BeginQuote (ap (mark_at q p) (sym e) ∙ sym h)))
 
-pub moved_past : (q : Delimiters) (p : Bool) (x : List ℕ) (at : ℕ) (r : Option ℕ) (n k b : ℕ) → Stands q p x at r n k → drop k x ≡ b ∷ drop (k + 1) x → PlainByte ≡ mark_at q p (b ∷ drop (k + 1) x) → Stands q p x at r n (k + 1)
+pub moved_past : (q : Delimiters) (p : Bool) (x : List ℕ) (at : ℕ) (r : Option ℕ) (n k b : ℕ) → ScannedTo q p x at r n k → drop k x ≡ b ∷ drop (k + 1) x → PlainByte ≡ mark_at q p (b ∷ drop (k + 1) x) → ScannedTo q p x at r n (k + 1)
 moved_past q p x at r n k b s e h =
     let fits : 1 ≤ length (drop k x) = subst (λ (y : List ℕ). 1 ≤ length y) (sym e) (omega arith) in
     moved_on q p x at r n k b n 1 s e (omega arith) fits (omega arith) (level_at q p n b (drop (k + 1) x) PlainByte (sym h))
 
-pub ended_here : (q : Delimiters) (p : Bool) (x : List ℕ) (r : Option ℕ) (k b : ℕ) → Stands q p x 0 r 0 k → drop k x ≡ b ∷ drop (k + 1) x → EndQuote ≡ mark_at q p (b ∷ drop (k + 1) x) → Some k ≡ r
+pub ended_here : (q : Delimiters) (p : Bool) (x : List ℕ) (r : Option ℕ) (k b : ℕ) → ScannedTo q p x 0 r 0 k → drop k x ≡ b ∷ drop (k + 1) x → EndQuote ≡ mark_at q p (b ∷ drop (k + 1) x) → Some k ≡ r
 ended_here q p x r k b s e h =
     let here : level q p 0 0 (drop k x) ≡ Some 0 = ap (level q p 0 0) e ∙ level_at q p 0 b (drop (k + 1) x) EndQuote (sym h) in
     let far : k ≡ k - 0 + 0 = omega arith in
@@ -163,7 +163,7 @@ at_place x k b d h e =
     let l : k < length x = grind (arith, nat_tests) in
     rw (drop-cons x k d l, sym e, add-one) refl
 
-pub cut_here : (q : Delimiters) (p : Bool) (x : List ℕ) (r : Option ℕ) (n k b : ℕ) → Stands q p x 0 r n k → drop k x ≡ b ∷ drop (k + 1) x → CutQuote ≡ mark_at q p (b ∷ drop (k + 1) x) → None ≡ r
+pub cut_here : (q : Delimiters) (p : Bool) (x : List ℕ) (r : Option ℕ) (n k b : ℕ) → ScannedTo q p x 0 r n k → drop k x ≡ b ∷ drop (k + 1) x → CutQuote ≡ mark_at q p (b ∷ drop (k + 1) x) → None ≡ r
 cut_here q p x r n k b s e h =
     let here : level q p n 0 (drop k x) ≡ None = ap (level q p n 0) e ∙ level_at q p n b (drop (k + 1) x) CutQuote (sym h) in
     ap (further (k - 0)) (sym here) ∙ s.same

@@ -7,7 +7,7 @@ use Rattle.clap.proofs.WalkLemmas.{raw_values-rows}
 use Rattle.clap.specs.Matches.{ReadsOne}
 use Rattle.clap.specs.Words.{Row, Text, all_of, first_of, matched_of, raw_values, rows_of}
 use Rattle.clap.specs.declared.parser.matches.Found.{Found}
-use Rattle.m4_tool.specs.CommandLine.{HasNoFiles, HoldsFound, IsLimit, StandAlone, files_in, mode_has_others, stand_files, stand_options, stands}
+use Rattle.m4_tool.specs.CommandLine.{HasNoFiles, HoldsFound, IsLimit, ModeIsAlone, files_in, mode_has_others, has_files, has_options, is_given}
 use Rattle.m4_tool.specs.declared.line.Line.{Line}
 use Rattle.m4_tool.specs.declared.line.LineFault.{LineFault}
 
@@ -17,11 +17,11 @@ is_some-map f None = refl
 is_some-map f (Some x) = refl
 
 -- the values that clap found are those in its rows
-pub stands_found : (f : Found) (name : Text) → is_some (matched_of f name) ≡ stands name (rows_of f)
-stands_found f name = is_some-map raw_values (matched_of f name) ∙ ap is_some (raw_values-rows f name)
+pub found_described : (f : Found) (name : Text) → is_some (matched_of f name) ≡ is_given name (rows_of f)
+found_described f name = is_some-map raw_values (matched_of f name) ∙ ap is_some (raw_values-rows f name)
 
 -- an option that is not given has no value
-first_unless : (name : Text) (rows : List Row) → stands name rows ≡ false → first_of name rows ≡ None
+first_unless : (name : Text) (rows : List Row) → is_given name rows ≡ false → first_of name rows ≡ None
 first_unless name rows absent = go (find (λ r. bytes_eq r.id name) rows) absent
   where
     go : (o : Option Row) → is_some (option_map (λ (r : Row). r.values) o) ≡ false
@@ -30,7 +30,7 @@ first_unless name rows absent = go (find (λ r. bytes_eq r.id name) rows) absent
     go (Some r) h = cc
 
 -- no files are read if none is given
-files_unless : (rows : List Row) → stands (codes "files") rows ≡ false → files_in rows ≡ []
+files_unless : (rows : List Row) → is_given (codes "files") rows ≡ false → files_in rows ≡ []
 files_unless rows absent = go (all_of (codes "files") rows) absent
   where
     go : (o : Option (List Text)) → is_some o ≡ false → unwrap_or o [] ≡ []
@@ -64,51 +64,51 @@ second_alone false true false true h t = cc
 second_alone false true false false h t = (refl, refl)
 
 -- none of three is given
-none_stand : (a b c : Bool) → (a || (b || c)) ≡ false → (a ≡ false) × ((b ≡ false) × (c ≡ false))
-none_stand true b c h = cc
-none_stand false true c h = cc
-none_stand false false true h = cc
-none_stand false false false h = (refl, (refl, refl))
+none_described : (a b c : Bool) → (a || (b || c)) ≡ false → (a ≡ false) × ((b ≡ false) × (c ≡ false))
+none_described true b c h = cc
+none_described false true c h = cc
+none_described false false true h = cc
+none_described false false false h = (refl, (refl, refl))
 
 -- a mode of the line is among the rows
-mode_stands : {X : Type 0} (f : X → Text) (file : Option X) (name : Text) (rows : List Row)
-    → option_map f file ≡ first_of name rows → IsSome file → stands name rows ≡ true
-mode_stands {X = X} f file name rows is some = go (stands name rows) refl
+mode_kept : {X : Type 0} (f : X → Text) (file : Option X) (name : Text) (rows : List Row)
+    → option_map f file ≡ first_of name rows → IsSome file → is_given name rows ≡ true
+mode_kept {X = X} f file name rows is some = go (is_given name rows) refl
   where
     gone : (o : Option X) → IsSome o → o ≡ None → ⊥
     gone None h e = cc
     gone (Some x) h e = cc
 
-    go : (b : Bool) → stands name rows ≡ b → b ≡ true
+    go : (b : Bool) → is_given name rows ≡ b → b ≡ true
     go true e = refl
     go false e = absurd (gone file some (none_of_map f file (is ∙ first_unless name rows e)))
 
 -- a line of rows with no files has none
-no_files : (rows : List Row) (line : Line) → HoldsFound rows line → stand_files rows ≡ false
+no_files : (rows : List Row) (line : Line) → HoldsFound rows line → has_files rows ≡ false
     → HasNoFiles line
 no_files rows line holds absent =
-    let each = none_stand (stands (codes "freeze-state") rows) (stands (codes "reload-state") rows)
-    (stands (codes "files") rows) absent in record {
+    let each = none_described (is_given (codes "freeze-state") rows) (is_given (codes "reload-state") rows)
+    (is_given (codes "files") rows) absent in record {
       freeze = none_of_map string_bytes line.freeze (holds.freeze ∙ first_unless (codes "freeze-state") rows each.0);
       reload = none_of_map string_bytes line.reload (holds.reload ∙ first_unless (codes "reload-state") rows each.1.0);
       files = nil_of_map string_bytes line.files.items (holds.files ∙ files_unless rows each.1.1);
     }
 
 -- a mode of a line with no company has none in the line
-pub stand_alone : (rows : List Row) (line : Line) → HoldsFound rows line → mode_has_others rows ≡ false
-    → StandAlone line
-stand_alone rows line holds alone = record {
+pub mode_is_alone : (rows : List Row) (line : Line) → HoldsFound rows line → mode_has_others rows ≡ false
+    → ModeIsAlone line
+mode_is_alone rows line holds alone = record {
   canon = λ some.
-      let others = first_alone (stands (codes "canon") rows) (stands (codes "inspect") rows)
-      (stand_options rows) (stand_files rows)
-      alone (mode_stands string_bytes line.canon (codes "canon") rows holds.canon some) in (
+      let others = first_alone (is_given (codes "canon") rows) (is_given (codes "inspect") rows)
+      (has_options rows) (has_files rows)
+      alone (mode_kept string_bytes line.canon (codes "canon") rows holds.canon some) in (
         none_of_map string_bytes line.inspect (holds.inspect ∙ first_unless (codes "inspect") rows others.0),
         no_files rows line holds others.1,
       );
   inspect = λ some.
-      let others = second_alone (stands (codes "canon") rows) (stands (codes "inspect") rows)
-      (stand_options rows) (stand_files rows)
-      alone (mode_stands string_bytes line.inspect (codes "inspect") rows holds.inspect some) in (
+      let others = second_alone (is_given (codes "canon") rows) (is_given (codes "inspect") rows)
+      (has_options rows) (has_files rows)
+      alone (mode_kept string_bytes line.inspect (codes "inspect") rows holds.inspect some) in (
         none_of_map string_bytes line.canon (holds.canon ∙ first_unless (codes "canon") rows others.0),
         no_files rows line holds others.1,
       );
@@ -116,8 +116,8 @@ stand_alone rows line holds alone = record {
 
 -- and so of a line that was made
 pub made_alone : (rows : List Row) (r : Result Line LineFault) → IfOk r (HoldsFound rows)
-    → IfOk r (λ _. mode_has_others rows ≡ false) → IfOk r StandAlone
-made_alone rows (Ok line) holds alone = stand_alone rows line holds alone
+    → IfOk r (λ _. mode_has_others rows ≡ false) → IfOk r ModeIsAlone
+made_alone rows (Ok line) holds alone = mode_is_alone rows line holds alone
 made_alone rows (Err fault) holds alone = tt
 
 -- the number that was read of the text of a limit, where it is at least the least one

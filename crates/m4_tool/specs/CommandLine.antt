@@ -2,8 +2,8 @@
 -- Believed: `known_words` is what the program passes to clap; how clap reads words is clap's own
 -- `matches_of` and `fault_of`, which proofs/Examples.antt computes for example lines.
 -- Manual: "Invoking m4", "Limits control", "Frozen state". Words: known_words, rows_by,
--- refusals_of, files_in, IsLimit, asks, HoldsFound, Says, AreInRange, HasNoFiles, StandAlone, stands,
--- stand_options, stand_files, mode_has_others, IsModeNotAlone, IsRefusal.
+-- refusals_of, files_in, IsLimit, asks, HoldsFound, Says, AreInRange, HasNoFiles, ModeIsAlone, stands,
+-- has_options, has_files, mode_has_others, IsModeNotAlone, IsRefusal.
 -- own: a mode is given alone; `--help` has no short form; `--expansions`; each option is given once.
 use Rattle.std.specs.Prelude.{◌≡◌, ◌≤◌, ◌&&◌, ◌||◌, ℕ, Bool, List, [], Option, Some, None, IsSome, true, false, codes}
 use Rattle.std.specs.Prelude.{is_some, map, option_map, string_bytes, unwrap_or}
@@ -151,29 +151,29 @@ pub record HasNoFiles (line : Line) : Type 0 where
   pub files : line.files.items ≡ []
 
 -- with a mode there is no other mode and no file
-pub record StandAlone (line : Line) : Type 0 where
+pub record ModeIsAlone (line : Line) : Type 0 where
   pub canon : IsSome line.canon → (line.inspect ≡ None) × HasNoFiles line
   pub inspect : IsSome line.inspect → (line.canon ≡ None) × HasNoFiles line
 
 -- a word of this name is given
-abbrev pub stands : Text → List Row → Bool
-stands name rows = is_some (all_of name rows)
+abbrev pub is_given : Text → List Row → Bool
+is_given name rows = is_some (all_of name rows)
 
 -- a limit or the option for prefixes is given
-abbrev pub stand_options : List Row → Bool
-stand_options rows = stands (codes "nesting-limit") rows || (stands (codes "expansions") rows
+abbrev pub has_options : List Row → Bool
+has_options rows = is_given (codes "nesting-limit") rows || (is_given (codes "expansions") rows
     || asks (codes "prefix-builtins") rows)
 
 -- a frozen file or a file to read is given
-abbrev pub stand_files : List Row → Bool
-stand_files rows = stands (codes "freeze-state") rows || (stands (codes "reload-state") rows
-    || stands (codes "files") rows)
+abbrev pub has_files : List Row → Bool
+has_files rows = is_given (codes "freeze-state") rows || (is_given (codes "reload-state") rows
+    || is_given (codes "files") rows)
 
 -- a mode is given together with another mode, a limit, a prefix or a file
 abbrev pub mode_has_others : List Row → Bool
-mode_has_others rows = (stands (codes "canon") rows && stands (codes "inspect") rows)
-    || ((stands (codes "canon") rows || stands (codes "inspect") rows)
-    && (stand_options rows || stand_files rows))
+mode_has_others rows = (is_given (codes "canon") rows && is_given (codes "inspect") rows)
+    || ((is_given (codes "canon") rows || is_given (codes "inspect") rows)
+    && (has_options rows || has_files rows))
 
 -- clap accepts the words, and a mode is not alone
 pub record IsModeNotAlone (words : List Text) : Type 0 where

@@ -1,5 +1,5 @@
 -- The results of the modes for the bytes of a frozen file.
--- Believed: public contracts cite it. Words: CanonEnds, InspectEnds, Tells, IsOfDevice, CanonRuns, InspectRuns.
+-- Believed: public contracts cite it. Words: CanonEnds, InspectEnds, ReportsFault, IsOfDevice, CanonRuns, InspectRuns.
 -- own: a file that would issue text has no canonical text.
 use Rattle.std.specs.Prelude.{◌≡◌, ◌≢◌, ℕ, false, List, [], Option, Result, Ok, Err, IfSome}
 use Rattle.m4_state.specs.Device.{Script, with_bytes, count_after, one_more, HasBegun, Puts}
@@ -49,9 +49,9 @@ InspectEnds (Err faults.OutOfMemory) script old new = new ≡ old
 
 -- the messages: nothing if the mode did its work, otherwise the line of its fault, or a prefix of that
 -- line if the messages failed too
-abbrev pub Tells : Result (Unit {0}) ModeFault → List ℕ → Option (List ℕ) → Option (List ℕ) → ℕ → ℕ → Type 0
-Tells (Ok done) file old new failures failures' = (new ≡ old) × (failures' ≡ failures)
-Tells (Err fault) file old new failures failures' =
+abbrev pub ReportsFault : Result (Unit {0}) ModeFault → List ℕ → Option (List ℕ) → Option (List ℕ) → ℕ → ℕ → Type 0
+ReportsFault (Ok done) file old new failures failures' = (new ≡ old) × (failures' ≡ failures)
+ReportsFault (Err fault) file old new failures failures' =
     (put : Result (Unit {0}) DeviceFault) × Puts put old new (line_of file fault)
     × (failures' ≡ count_after put failures)
 
@@ -93,12 +93,12 @@ Ends = Result (Unit {0}) ModeFault → Script → Option (List ℕ) → Option (
 
 -- a mode was run on this file and returned this status: the status, the output, the devices and the
 -- messages agree on one end
-pub record ModeRuns (Finishes : Ends) (file : List ℕ) (reader : Reading) (out told : Writing) (answer : ℕ) : Type 0 where
+pub record ModeRuns (Finishes : Ends) (file : List ℕ) (reader : Reading) (out errors : Writing) (answer : ℕ) : Type 0 where
   pub end : Result (Unit {0}) ModeFault
   pub status : answer ≡ status_of end
   pub output : IfSome reader.script (λ script. Finishes end script out.old out.new)
   pub device : IsOfDevice end reader.failures_old reader.failures_new out.failures_old out.failures_new
-  pub messages : Tells end file told.old told.new told.failures_old told.failures_new
+  pub messages : ReportsFault end file errors.old errors.new errors.failures_old errors.failures_new
 
 -- `--canon` was run on this file
 abbrev pub CanonRuns : List ℕ → Reading → Writing → Writing → ℕ → Type 0

@@ -4,7 +4,7 @@
 
 ghost use Rattle.std.specs.Prelude.{◌≡◌, IfErr, IfOk, false, map, string_bytes};
 ghost use Rattle.clap.specs.Walk.{texts};
-ghost use Rattle.m4_tool.specs.CommandLine.{AreInRange, IsModeNotAlone, IsRefusal, Says, StandAlone};
+ghost use Rattle.m4_tool.specs.CommandLine.{AreInRange, IsModeNotAlone, IsRefusal, Says, ModeIsAlone};
 
 mod files;
 mod frozen;
@@ -52,7 +52,7 @@ fn status_of_words<E: Write + Drop>(
 fn line_of(alloc: Global, words: &[String]) -> Result<Line, LineFault>
     ensures says { IfOk result (Says (map string_bytes words.now)) }
     ensures in_range { IfOk result AreInRange }
-    ensures alone { IfOk result StandAlone }
+    ensures alone { IfOk result ModeIsAlone }
     ensures not_alone { result ≡ Err LineFault.ModeNotAlone
         → IsModeNotAlone (map string_bytes words.now) }
     ensures refused { IfErr result (IsRefusal (map string_bytes words.now)) }

@@ -7,9 +7,9 @@
 ghost use Rattle.std.specs.Prelude.{◌≡◌, ◌≢◌, ◌≤◌, ◌<◌, ◌^◌, IfErr, IfOk, codes, false, true, is_some, map, option_map, string_bytes};
 ghost use Rattle.clap.specs.Walk.{texts};
 ghost use Rattle.clap.specs.Words.{app_of, first_of, found_of, new_app, one_of, rows_of, rule_of};
-ghost use Rattle.m4_tool.specs.CommandLine.{AreInRange, HoldsFound, IsLimit, IsModeNotAlone, IsRefusal, Says, StandAlone};
-ghost use Rattle.m4_tool.specs.CommandLine.{file_word, files_in, mode_has_others, known_words, limit_word, path_word, stand_files, stand_options, asks, stands, with_frozen, with_limits, with_modes, with_prefix, without_short_help};
-ghost use Rattle.m4_tool.specs.LineSteps.{HasRowsOf, IsNoRefusal, TellsApart};
+ghost use Rattle.m4_tool.specs.CommandLine.{AreInRange, HoldsFound, IsLimit, IsModeNotAlone, IsRefusal, Says, ModeIsAlone};
+ghost use Rattle.m4_tool.specs.CommandLine.{file_word, files_in, mode_has_others, known_words, limit_word, path_word, has_files, has_options, asks, is_given, with_frozen, with_limits, with_modes, with_prefix, without_short_help};
+ghost use Rattle.m4_tool.specs.LineSteps.{HasRowsOf, IsNoRefusal, ClassifiesError};
 
 use clap::builder::ValueParser;
 use clap::error::ErrorKind;
@@ -99,7 +99,7 @@ pub fn read_line(alloc: Global, words: &[&str]) -> Result<Line, LineFault>
     // and a mode only alone.
     ensures says { IfOk result (Says (texts words.now)) }
     ensures in_range { IfOk result AreInRange }
-    ensures alone { IfOk result StandAlone }
+    ensures alone { IfOk result ModeIsAlone }
 
     // exact command line: if clap accepts the words, only a mode that is not alone is refused; otherwise
     // clap refuses them.
@@ -156,30 +156,32 @@ fn line_of_matches(alloc: Global, matches: &ArgMatches<'_>) -> Result<Line, Line
 fn mode_has_others(matches: &ArgMatches<'_>) -> bool
     ensures { result ≡ mode_has_others (rows_of (found_of matches.now)) }
 {
-    let canon = stands(matches, "canon");
-    let inspect = stands(matches, "inspect");
-    (canon && inspect) || ((canon || inspect) && (stand_options(matches) || stand_files(matches)))
+    let canon = is_given(matches, "canon");
+    let inspect = is_given(matches, "inspect");
+    (canon && inspect) || ((canon || inspect) && (has_options(matches) || has_files(matches)))
 }
 
 // Returns whether a limit or the option for prefixes is given.
-fn stand_options(matches: &ArgMatches<'_>) -> bool
-    ensures { result ≡ stand_options (rows_of (found_of matches.now)) }
+fn has_options(matches: &ArgMatches<'_>) -> bool
+    ensures { result ≡ has_options (rows_of (found_of matches.now)) }
 {
-    stands(matches, "nesting-limit")
-        || stands(matches, "expansions")
+    is_given(matches, "nesting-limit")
+        || is_given(matches, "expansions")
         || asks(matches, "prefix-builtins")
 }
 
 // Returns whether a frozen file or a file to read is given.
-fn stand_files(matches: &ArgMatches<'_>) -> bool
-    ensures { result ≡ stand_files (rows_of (found_of matches.now)) }
+fn has_files(matches: &ArgMatches<'_>) -> bool
+    ensures { result ≡ has_files (rows_of (found_of matches.now)) }
 {
-    stands(matches, "freeze-state") || stands(matches, "reload-state") || stands(matches, "files")
+    is_given(matches, "freeze-state")
+        || is_given(matches, "reload-state")
+        || is_given(matches, "files")
 }
 
 // Returns whether a word of this name is given.
-fn stands(matches: &ArgMatches<'_>, name: &str) -> bool
-    ensures { result ≡ stands name.now (rows_of (found_of matches.now)) }
+fn is_given(matches: &ArgMatches<'_>, name: &str) -> bool
+    ensures { result ≡ is_given name.now (rows_of (found_of matches.now)) }
 {
     matches.contains_id(name)
 }
@@ -389,7 +391,7 @@ fn files<'a>(alloc: Global) -> Arg<'a>
 
 // Distinguishes an error of `clap` that memory ran out from a refused line.
 fn fault_of_parse(error: Error) -> LineFault
-    ensures { TellsApart error result }
+    ensures { ClassifiesError error result }
 {
     if error.kind() == ErrorKind::OutOfMemory {
         LineFault::OutOfMemory

@@ -6,7 +6,7 @@
 ghost use Rattle.std.specs.Prelude.{◌≡◌, ℕ, IfSome};
 ghost use Rattle.m4_state.specs.Device.{Script};
 ghost use Rattle.m4_tool.specs.ModeFault.{status_of};
-ghost use Rattle.m4_tool.specs.Modes.{CanonEnds, CanonRuns, Holds, InspectEnds, InspectRuns, IsOfDevice, Tells, reads, writes};
+ghost use Rattle.m4_tool.specs.Modes.{CanonEnds, CanonRuns, Holds, InspectEnds, InspectRuns, IsOfDevice, ReportsFault, reads, writes};
 
 use crate::fault::ModeFault;
 use m4_frozen::inspector::list;
@@ -107,7 +107,7 @@ fn list_file<R: ByteSource, O: ByteSink>(
 /// Returns the status of an end, and prints its fault as a message.
 fn answer<M: ByteSink>(end: Result<(), ModeFault>, file: &[u8], messages: &mut M) -> u8
     ensures status { result ≡ status_of end }
-    ensures tells { Tells end file.now (M.contents messages.old) (M.contents messages.new)
+    ensures reports { ReportsFault end file.now (M.contents messages.old) (M.contents messages.new)
         (M.failures messages.old) (M.failures messages.new) }
 {
     match end {

@@ -46,7 +46,7 @@ fn after_a_comment(alloc: Global, before: usize, bytes: &[u8]) -> Result<Vec<u8>
 }
 
 // Adds a fault and its place.
-fn tell(alloc: Global, fault: FrozenFault, report: &mut Report) {
+fn describe(alloc: Global, fault: FrozenFault, report: &mut Report) {
     match printed(alloc, &fault.kind) {
         Ok(text) => report.add(&text),
         Err(AllocError) => report.refuse(),
@@ -56,7 +56,7 @@ fn tell(alloc: Global, fault: FrozenFault, report: &mut Report) {
 }
 
 // Adds the bytes that a writer received, and whether all were written.
-fn tell_written(answer: Result<(), WriteFault>, writer: &MemSink, report: &mut Report) {
+fn describe_written(answer: Result<(), WriteFault>, writer: &MemSink, report: &mut Report) {
     report.add(writer.written());
     report.add(match answer {
         Ok(()) => b"; written\n",

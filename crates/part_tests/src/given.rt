@@ -31,7 +31,7 @@ pub fn made(alloc: Global, given: Given) -> Result<Def, AllocError>
 }
 
 /// Returns the kind of a definition, and its text or its name.
-pub fn told(definition: &Def) -> (&'static [u8], &[u8]) {
+pub fn kind_and_text(definition: &Def) -> (&'static [u8], &[u8]) {
     match definition {
         Def::Text(text) => (b"text ", text.as_slice()),
         Def::Builtin(builtin) => (b"builtin ", builtin.name()),

@@ -10,7 +10,7 @@ mod pieces;
 mod plain;
 mod tokens;
 
-use crate::given::told;
+use crate::given::kind_and_text;
 use crate::report::{Report, printed};
 use crate::shows::shows;
 use m4_input::delims::Delims;
@@ -43,13 +43,13 @@ fn words(token: &Token) -> (&'static [u8], &[u8]) {
         Token::Str(string) => (b"string ", string.as_slice()),
         Token::Comment(comment) => (b"comment ", comment.as_slice()),
         Token::Byte(_) => (b"byte ", b""),
-        Token::Definition(definition) => told(definition),
+        Token::Definition(definition) => kind_and_text(definition),
         Token::End => (b"end", b""),
     }
 }
 
 // Adds a token: its kind and its text.
-fn tell(token: &Token, report: &mut Report) {
+fn describe(token: &Token, report: &mut Report) {
     let (kind, text) = words(token);
     report.add(kind);
     report.add(text);
@@ -60,7 +60,7 @@ fn tell(token: &Token, report: &mut Report) {
 }
 
 // Adds a fault, with the line that it names.
-fn tell_fault(fault: InputFault, report: &mut Report) {
+fn describe_fault(fault: InputFault, report: &mut Report) {
     match fault {
         InputFault::EndInString { line } => report.counted(
             b"end in string of line ",

@@ -252,7 +252,7 @@ impl Machine {
     /// Consumes the parenthesis that opens a list. It was recognised as a token, so it is one byte.
     fn take_parenthesis(&self, input: &mut Input)
         requires ready { IsReady input.old }
-        requires stands { paren_at self.now.state.quotes self.now.state.comments input.old.pending ≡ Answer.Yes }
+        requires paren_follows { paren_at self.now.state.quotes self.now.state.comments input.old.pending ≡ Answer.Yes }
         ensures taken { input.new.pending ≡ consumed 1 input.old.pending }
         ensures ready { Stays input.old input.new }
     {

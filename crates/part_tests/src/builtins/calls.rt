@@ -4,7 +4,7 @@
 //! whitespace in input", "Changing the quote characters", "Changing the comment delimiters".
 
 use super::{Argument, call_of, place_of, text_call_of};
-use crate::given::{Given, made, told};
+use crate::given::{Given, kind_and_text, made};
 use crate::report::Report;
 use crate::shows::shows;
 use m4_builtins::act::act;
@@ -163,7 +163,7 @@ fn call(
     report: &mut Report,
 ) {
     match acted(alloc, state, name, texts) {
-        Ok(effect) => tell(&effect, report),
+        Ok(effect) => describe(&effect, report),
         Err(BuiltinFault::OutOfMemory) => report.refuse(),
     }
 }
@@ -182,7 +182,7 @@ fn acted(
 }
 
 // Adds the effect of a call.
-fn tell(effect: &Effect, report: &mut Report) {
+fn describe(effect: &Effect, report: &mut Report) {
     match &effect.push {
         Some(Pushed::Text(text)) => {
             report.add(b"push ");
@@ -206,7 +206,7 @@ fn look(state: &State, name: &[u8], report: &mut Report) {
     report.add(name);
     report.counted(b": ", state.stack(name).len());
     if let Some(definition) = state.top(name) {
-        let (kind, text) = told(definition);
+        let (kind, text) = kind_and_text(definition);
         report.add(b", ");
         report.add(kind);
         report.add(text);
@@ -215,7 +215,7 @@ fn look(state: &State, name: &[u8], report: &mut Report) {
 }
 
 // Adds a pair of delimiters.
-fn tell_pair(pair: (&[u8], &[u8]), report: &mut Report) {
+fn describe_pair(pair: (&[u8], &[u8]), report: &mut Report) {
     report.add(pair.0);
     report.add(b" and ");
     report.add(pair.1);
@@ -237,8 +237,8 @@ fn do_step(alloc: Global, state: &mut State, step: Step, report: &mut Report) {
         Step::Call(name, texts) => call(alloc, state, name, texts, report),
         Step::Look(name) => look(state, name, report),
         Step::Count => count(state, report),
-        Step::Quotes => tell_pair(state.quotes(), report),
-        Step::Comments => tell_pair(state.comments(), report),
+        Step::Quotes => describe_pair(state.quotes(), report),
+        Step::Comments => describe_pair(state.comments(), report),
     }
 }
 
@@ -340,7 +340,7 @@ fn other_seen(
     let mut report = Report::new(alloc);
     let mut state = start(alloc, false)?;
     match other_acted(alloc, &mut state, called, list, place) {
-        Ok(effect) => tell(&effect, &mut report),
+        Ok(effect) => describe(&effect, &mut report),
         Err(BuiltinFault::OutOfMemory) => report.refuse(),
     }
     count(&state, &mut report);

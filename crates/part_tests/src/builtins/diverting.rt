@@ -155,7 +155,7 @@ fn acted(
 }
 
 // Adds the effect of a call.
-fn tell(effect: &Effect, report: &mut Report) {
+fn describe(effect: &Effect, report: &mut Report) {
     if let Some(Pushed::Text(text)) = &effect.push {
         report.add(b"push ");
         report.add(text.as_slice());
@@ -173,7 +173,7 @@ fn tell(effect: &Effect, report: &mut Report) {
 fn do_step(alloc: Global, state: &mut State, step: Step, report: &mut Report) {
     match step {
         Step::Call(name, list) => match acted(alloc, state, name, list) {
-            Ok(effect) => tell(&effect, report),
+            Ok(effect) => describe(&effect, report),
             Err(BuiltinFault::OutOfMemory) => report.refuse(),
         },
         Step::Add(text) => {

@@ -180,7 +180,7 @@ fn acted(
 }
 
 // Adds a line for a text.
-fn tell_text(label: &[u8], text: &[u8], report: &mut Report) {
+fn describe_text(label: &[u8], text: &[u8], report: &mut Report) {
     report.add(label);
     report.add(text);
     report.add(b"\n");
@@ -197,11 +197,11 @@ fn seen(
     let effect = acted(alloc, name, list, file, line).map_err(|_refused| AllocError)?;
     let mut report = Report::new(alloc);
     if let Some(Pushed::Text(text)) = &effect.push {
-        tell_text(b"push ", text.as_slice(), &mut report);
+        describe_text(b"push ", text.as_slice(), &mut report);
     }
     report.add(effect.messages.as_slice());
     if let Some(text) = &effect.wrap {
-        tell_text(b"wrap ", text.as_slice(), &mut report);
+        describe_text(b"wrap ", text.as_slice(), &mut report);
     }
     if let Some(code) = effect.exit {
         report.add(b"exit ");

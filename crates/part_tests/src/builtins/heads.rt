@@ -1,6 +1,6 @@
 //! The head of a call: its name, its definition and its place. Manual: "Macro invocation".
 
-use crate::given::{Given, made, told};
+use crate::given::{Given, kind_and_text, made};
 use crate::report::Report;
 use crate::shows::shows;
 use m4_builtins::args::{Arg, ArgList};
@@ -72,7 +72,7 @@ static ROWS: [Row; 7] = [
 ];
 
 // Adds the name and the place.
-fn tell_place(head: &Head, report: &mut Report) {
+fn describe_place(head: &Head, report: &mut Report) {
     report.add(head.name());
     report.add(b" ");
     report.add(head.file());
@@ -90,7 +90,7 @@ fn tell_place(head: &Head, report: &mut Report) {
 }
 
 // Adds the data on the definition.
-fn tell_definition(head: &Head, report: &mut Report) {
+fn describe_definition(head: &Head, report: &mut Report) {
     if head.needs_list() {
         report.add(b", needs a list");
     }
@@ -100,7 +100,7 @@ fn tell_definition(head: &Head, report: &mut Report) {
     }
     match head.definition() {
         Ok(definition) => {
-            let (kind, text) = told(&definition);
+            let (kind, text) = kind_and_text(&definition);
             report.add(b", ");
             report.add(kind);
             report.add(text);
@@ -119,8 +119,8 @@ fn kept(
     let mut report = Report::new(alloc);
     let definition = made(alloc, given)?;
     let head = Head::new(alloc, name, &definition, place.0, place.1)?;
-    tell_place(&head, &mut report);
-    tell_definition(&head, &mut report);
+    describe_place(&head, &mut report);
+    describe_definition(&head, &mut report);
     report.text()
 }
 

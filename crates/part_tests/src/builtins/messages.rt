@@ -26,7 +26,7 @@ static ROWS: [(&str, &[u8], u64, &[u8]); 2] = [
 ];
 
 // Returns an error and a warning at a place.
-fn told(alloc: Global, file: &[u8], line: u64) -> Result<Vec<u8>, BuiltinFault> {
+fn message_at(alloc: Global, file: &[u8], line: u64) -> Result<Vec<u8>, BuiltinFault> {
     let place = place_of(alloc, file, line)?;
     let error = error_message(alloc, &place, b"end of file in string")?;
     let warning = dropped_message(alloc, &place)?;
@@ -36,7 +36,7 @@ fn told(alloc: Global, file: &[u8], line: u64) -> Result<Vec<u8>, BuiltinFault> 
 #[test]
 fn messages_tell_their_place(rt: HostRuntime) {
     for &(name, file, line, want) in &ROWS {
-        let got = told(rt.alloc(), file, line).map_err(|_refused| AllocError);
+        let got = message_at(rt.alloc(), file, line).map_err(|_refused| AllocError);
         shows(&rt, name, want, got);
     }
 }

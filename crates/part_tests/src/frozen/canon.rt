@@ -1,6 +1,6 @@
 //! Files that are read and written again, as their canonical text.
 
-use super::{BLOCK, BLOCKS, HEAD, LAST, ROOM, after_a_comment, read, tell, tell_written};
+use super::{BLOCK, BLOCKS, HEAD, LAST, ROOM, after_a_comment, describe, describe_written, read};
 use crate::report::{Report, joined};
 use crate::shows::agrees;
 use m4_frozen::loading::Loaded;
@@ -99,7 +99,7 @@ fn canonical(alloc: Global, between: &[u8], issued: &[u8]) -> Result<Vec<u8>, Al
 // Adds the bytes of the canonical text that a writer receives.
 fn write(state: &State, writer: &mut MemSink, report: &mut Report) {
     let answer = write_frozen(state, writer);
-    tell_written(answer, writer, report);
+    describe_written(answer, writer, report);
 }
 
 // Adds the content of a file: its canonical text, and the text that is issued.
@@ -114,7 +114,7 @@ fn again(alloc: Global, bytes: &[u8], block: usize) -> Result<Vec<u8>, AllocErro
     let mut writer = MemSink::new(alloc, ROOM, block.max(1))?;
     match read(alloc, bytes, block, false) {
         Ok(loaded) => write_loaded(&loaded, &mut writer, &mut report),
-        Err(fault) => tell(alloc, fault, &mut report),
+        Err(fault) => describe(alloc, fault, &mut report),
     }
     report.text()
 }
@@ -164,7 +164,7 @@ fn cut_short(alloc: Global, room: usize, block: usize) -> Result<Vec<u8>, AllocE
             write(&loaded.state, &mut writer, &mut report);
             write(&loaded.state, &mut writer, &mut report);
         }
-        Err(fault) => tell(alloc, fault, &mut report),
+        Err(fault) => describe(alloc, fault, &mut report),
     }
     report.text()
 }
@@ -200,7 +200,7 @@ fn long_again(alloc: Global, file: &[u8]) -> Result<Vec<u8>, AllocError> {
     let mut writer = MemSink::new(alloc, file.len(), 4096)?;
     match read(alloc, file, 4096, false) {
         Ok(loaded) => write_loaded(&loaded, &mut writer, &mut report),
-        Err(fault) => tell(alloc, fault, &mut report),
+        Err(fault) => describe(alloc, fault, &mut report),
     }
     report.text()
 }

@@ -1,6 +1,6 @@
 //! Files that are refused early: with lengths larger than any memory, and before the reader's end.
 
-use super::{BLOCK, BLOCKS, after_a_comment, read, tell};
+use super::{BLOCK, BLOCKS, after_a_comment, describe, read};
 use crate::report::Report;
 use crate::shows::shows;
 use m4_frozen::reading::read_frozen;
@@ -61,7 +61,7 @@ fn refused(alloc: Global, bytes: &[u8], block: usize) -> Result<Vec<u8>, AllocEr
     let mut report = Report::new(alloc);
     match read(alloc, bytes, block, false) {
         Ok(_loaded) => report.add(b"loaded"),
-        Err(fault) => tell(alloc, fault, &mut report),
+        Err(fault) => describe(alloc, fault, &mut report),
     }
     report.text()
 }
@@ -104,7 +104,7 @@ fn refused_early(alloc: Global, before: usize) -> Result<Vec<u8>, AllocError> {
     let mut reader = MemSource::new(&file, 4096, false);
     match read_frozen(alloc, &mut reader) {
         Ok(_loaded) => report.add(b"loaded"),
-        Err(fault) => tell(alloc, fault, &mut report),
+        Err(fault) => describe(alloc, fault, &mut report),
     }
     if reader.taken() <= BLOCK {
         report.add(b" within the first block");

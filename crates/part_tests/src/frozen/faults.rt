@@ -1,6 +1,6 @@
 //! Files that are refused: each fault with the offset of its byte.
 
-use super::{BLOCK, BLOCKS, after_a_comment, read, tell};
+use super::{BLOCK, BLOCKS, after_a_comment, describe, read};
 use crate::report::{Report, printed};
 use crate::shows::{agrees, shows};
 use m4_frozen::fault::{FrozenFault, FrozenKind, WriteFault};
@@ -183,10 +183,10 @@ static ROWS: [Row; 29] = [
 ];
 
 // Returns a fault as text.
-fn told(alloc: Global, kind: FrozenKind, offset: usize) -> Result<Vec<u8>, AllocError> {
+fn fault_text(alloc: Global, kind: FrozenKind, offset: usize) -> Result<Vec<u8>, AllocError> {
     let mut report = Report::new(alloc);
     let offset = offset as u64;
-    tell(alloc, FrozenFault { kind, offset }, &mut report);
+    describe(alloc, FrozenFault { kind, offset }, &mut report);
     report.text()
 }
 
@@ -195,7 +195,7 @@ fn refused(alloc: Global, bytes: &[u8], block: usize, fails: bool) -> Result<Vec
     let mut report = Report::new(alloc);
     match read(alloc, bytes, block, fails) {
         Ok(_loaded) => report.add(b"loaded"),
-        Err(fault) => tell(alloc, fault, &mut report),
+        Err(fault) => describe(alloc, fault, &mut report),
     }
     report.text()
 }
@@ -204,7 +204,7 @@ fn refused(alloc: Global, bytes: &[u8], block: usize, fails: bool) -> Result<Vec
 fn faults_are_placed(rt: HostRuntime) {
     for &(name, bytes, fails, kind, offset) in &ROWS {
         for block in BLOCKS {
-            let want = told(rt.alloc(), kind, offset);
+            let want = fault_text(rt.alloc(), kind, offset);
             agrees(&rt, name, want, refused(rt.alloc(), bytes, block, fails));
         }
     }
@@ -232,7 +232,7 @@ fn compare_later(
 ) {
     for cut in 0..=bytes.len() {
         let offset = BLOCK.saturating_sub(cut).saturating_add(fault.1);
-        let want = told(alloc, fault.0, offset);
+        let want = fault_text(alloc, fault.0, offset);
         agrees(rt, name, want, refused_later(alloc, bytes, cut, fails));
     }
 }
@@ -250,9 +250,9 @@ const CUT: &[u8] = b"V1\nT1,1\nab\nD2,3\nx\ny\n# e\n";
 // Returns the expected report for a prefix of `CUT`.
 fn beginning(alloc: Global, len: usize) -> Result<Vec<u8>, AllocError> {
     match len {
-        0 => told(alloc, FrozenKind::NoVersion, 0),
+        0 => fault_text(alloc, FrozenKind::NoVersion, 0),
         3 | 11 | 20..=24 => Vec::from_slice(alloc, b"loaded"),
-        _ => told(alloc, FrozenKind::PrematureEnd, len),
+        _ => fault_text(alloc, FrozenKind::PrematureEnd, len),
     }
 }
 
@@ -273,7 +273,7 @@ fn failed_twice(alloc: Global, bytes: &[u8], block: usize) -> Result<Vec<u8>, Al
     for _ in 0..2 {
         match read_frozen(alloc, &mut reader) {
             Ok(_loaded) => report.add(b"loaded"),
-            Err(fault) => tell(alloc, fault, &mut report),
+            Err(fault) => describe(alloc, fault, &mut report),
         }
         report.counted(b" of ", reader.taken());
         report.add(b"\n");

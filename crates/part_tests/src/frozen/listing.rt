@@ -1,6 +1,6 @@
 //! The inspector's lines, with writers of a few bytes at a time, or that fail inside a line.
 
-use super::{BLOCKS, read, tell, tell_written};
+use super::{BLOCKS, describe, describe_written, read};
 use crate::report::{Report, joined};
 use crate::shows::agrees;
 use m4_frozen::inspector::list;
@@ -35,7 +35,7 @@ static ROWS: [(&str, &[u8], &[u8]); 4] = [
 // Adds the bytes of the lines that a writer receives.
 fn write(loaded: &Loaded, writer: &mut MemSink, report: &mut Report) {
     let answer = list(loaded, writer);
-    tell_written(answer, writer, report);
+    describe_written(answer, writer, report);
 }
 
 // Returns the lines of a file, written this many bytes at a time to a writer with this much room.
@@ -44,7 +44,7 @@ fn listed(alloc: Global, bytes: &[u8], room: usize, block: usize) -> Result<Vec<
     let mut writer = MemSink::new(alloc, room, block.max(1))?;
     match read(alloc, bytes, block, false) {
         Ok(loaded) => write(&loaded, &mut writer, &mut report),
-        Err(fault) => tell(alloc, fault, &mut report),
+        Err(fault) => describe(alloc, fault, &mut report),
     }
     report.text()
 }

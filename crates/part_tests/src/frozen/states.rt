@@ -1,6 +1,6 @@
 //! States and their canonical text, and the state of a loaded file.
 
-use super::{HEAD, LAST, ROOM, read, tell, tell_written};
+use super::{HEAD, LAST, ROOM, describe, describe_written, read};
 use crate::report::{Report, joined};
 use crate::shows::{agrees, shows};
 use m4_frozen::loading::Loaded;
@@ -78,7 +78,7 @@ fn frozen(alloc: Global, steps: &[Step]) -> Result<Vec<u8>, AllocError> {
     }
     let mut writer = MemSink::new(alloc, ROOM, 4096)?;
     let answer = write_frozen(&state, &mut writer);
-    tell_written(answer, &writer, &mut report);
+    describe_written(answer, &writer, &mut report);
     report.text()
 }
 
@@ -91,7 +91,7 @@ fn states_are_frozen(rt: HostRuntime) {
 }
 
 // Adds the quotes, the number of definitions of `a`, the current diversion and the issued text.
-fn tell_loaded(loaded: &Loaded, report: &mut Report) {
+fn describe_loaded(loaded: &Loaded, report: &mut Report) {
     let (begin, end) = loaded.state.quotes();
     report.add(begin);
     report.add(end);
@@ -106,8 +106,8 @@ fn tell_loaded(loaded: &Loaded, report: &mut Report) {
 fn loaded(alloc: Global, file: &[u8]) -> Result<Vec<u8>, AllocError> {
     let mut report = Report::new(alloc);
     match read(alloc, file, 4096, false) {
-        Ok(loaded) => tell_loaded(&loaded, &mut report),
-        Err(fault) => tell(alloc, fault, &mut report),
+        Ok(loaded) => describe_loaded(&loaded, &mut report),
+        Err(fault) => describe(alloc, fault, &mut report),
     }
     report.text()
 }

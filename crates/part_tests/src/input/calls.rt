@@ -3,7 +3,7 @@
 
 ghost use Rattle.std.specs.Prelude.{◌≡◌, None, IfOk};
 
-use super::{BLOCKS, USUAL, push, tell, tell_fault};
+use super::{BLOCKS, USUAL, describe, describe_fault, push};
 use crate::given::{Given, made};
 use crate::report::Report;
 use crate::shows::shows;
@@ -217,7 +217,7 @@ fn answer(
     report: &mut Report,
 ) -> Result<(), InputFault> {
     match call {
-        Call::Next => tell(&input.next(reader, delims)?, report),
+        Call::Next => describe(&input.next(reader, delims)?, report),
         Call::SeesParen => report.add(if input.sees_paren(reader, delims)? {
             b"list\n"
         } else {
@@ -227,7 +227,7 @@ fn answer(
             input.skip_line(reader)?;
             report.add(b"skipped\n");
         }
-        Call::Line => tell_line(input.line(), report),
+        Call::Line => describe_line(input.line(), report),
         Call::Name => {
             report.add(input.name());
             report.add(b"\n");
@@ -241,7 +241,7 @@ fn answer(
 }
 
 // Adds a line's number.
-fn tell_line(line: u64, report: &mut Report) {
+fn describe_line(line: u64, report: &mut Report) {
     report.counted(b"line ", line as usize);
     report.add(b"\n");
 }
@@ -254,7 +254,7 @@ fn answers(alloc: Global, row: &Row, block: usize) -> Result<Vec<u8>, AllocError
     let mut input = input_of(alloc, name, row).map_err(|_refused| AllocError)?;
     for call in row.calls {
         if let Err(fault) = answer(&mut input, &mut reader, &row.delims, *call, &mut report) {
-            tell_fault(fault, &mut report);
+            describe_fault(fault, &mut report);
         }
     }
     report.text()

@@ -3,7 +3,7 @@
 
 ghost use Rattle.std.specs.Prelude.{◌≡◌, None, IfOk, false};
 
-use super::{USUAL, push, tell};
+use super::{USUAL, describe, push};
 use crate::report::Report;
 use crate::shows::shows;
 use m4_input::fault::InputFault;
@@ -52,7 +52,7 @@ fn take_front(input: &mut Input, n: usize)
 }
 
 // Adds the slice and the line.
-fn tell_piece(input: &Input, report: &mut Report) {
+fn describe_piece(input: &Input, report: &mut Report) {
     match input.piece() {
         Some(text) => {
             report.add(b"[");
@@ -76,7 +76,7 @@ fn push_all(
 {
     for text in texts {
         push(alloc, input, text)?;
-        tell_piece(input, report);
+        describe_piece(input, report);
     }
     Ok(())
 }
@@ -84,10 +84,10 @@ fn push_all(
 // Adds the report on a row, up to a call that fails.
 fn see(alloc: Global, name: Bytes, row: &Row, report: &mut Report) -> Result<(), InputFault> {
     let mut input = whole(alloc, name, row.1)?;
-    tell_piece(&input, report);
+    describe_piece(&input, report);
     take_front(&mut input, row.2);
     push_all(alloc, &mut input, row.3, report)?;
-    tell(
+    describe(
         &input.next(&mut MemSource::new(b"", 1, false), &USUAL)?,
         report,
     );

@@ -2,7 +2,7 @@
 //! list, if that is text. `f` is defined as `x`.
 //! Manual: "How m4 copies input to output", "Macro arguments".
 
-use crate::given::told;
+use crate::given::kind_and_text;
 use crate::report::Report;
 use crate::shows::shows;
 use m4_input::plain::{First, first_in_list, inner_text, plain_run};
@@ -67,7 +67,7 @@ fn with_f(alloc: Global) -> Result<State, StateFault> {
 }
 
 // Adds the call of a token.
-fn tell_call(first: &First<'_>, report: &mut Report) {
+fn describe_call(first: &First<'_>, report: &mut Report) {
     if let First::Called(len, with_list, definition) = first {
         report.counted(b", ", *len);
         report.add(if *with_list {
@@ -75,7 +75,7 @@ fn tell_call(first: &First<'_>, report: &mut Report) {
         } else {
             b" bytes: "
         });
-        let (kind, text) = told(definition);
+        let (kind, text) = kind_and_text(definition);
         report.add(kind);
         report.add(text);
     }
@@ -87,7 +87,7 @@ fn run_of(alloc: Global, text: &[u8], most: usize) -> Result<Vec<u8>, AllocError
     let state = with_f(alloc).map_err(|_refused| AllocError)?;
     let (len, first) = plain_run(text, &state, most);
     report.number(len as i128);
-    tell_call(&first, &mut report);
+    describe_call(&first, &mut report);
     report.text()
 }
 

@@ -1,6 +1,6 @@
 //! Texts and their tokens, for different numbers of bytes that the reader returns at a time.
 
-use super::{BLOCKS, NONE, USUAL, tell, tell_fault};
+use super::{BLOCKS, NONE, USUAL, describe, describe_fault};
 use crate::report::Report;
 use crate::shows::shows;
 use m4_input::delims::Delims;
@@ -28,7 +28,7 @@ static ROWS: [Row; 11] = [
     ),
     ("an empty text ends", USUAL, b"", b"end"),
     (
-        "quotes stand one within another",
+        "quotes are nested",
         USUAL,
         b"`a `b' # c'd`'",
         b"string a `b' # c\nname d\nstring \nend",
@@ -106,8 +106,8 @@ fn tokens_of(
                 report.add(b"end");
                 break;
             }
-            Ok(token) => tell(&token, &mut report),
-            Err(fault) => tell_fault(fault, &mut report),
+            Ok(token) => describe(&token, &mut report),
+            Err(fault) => describe_fault(fault, &mut report),
         }
     }
     report.text()

@@ -46,14 +46,14 @@ static ROWS: [(&str, &[u8]); 30] = [
 fn report_of(alloc: Global, name: &[u8]) -> Result<Vec<u8>, AllocError> {
     let mut report = Report::new(alloc);
     match Builtin::by_name(name) {
-        Some(builtin) => tell(builtin, &mut report),
+        Some(builtin) => describe(builtin, &mut report),
         None => report.add(b"none"),
     }
     report.text()
 }
 
 // Adds the columns of a builtin.
-fn tell(builtin: Builtin, report: &mut Report) {
+fn describe(builtin: Builtin, report: &mut Report) {
     report.add(builtin.name());
     report.add(b": ");
     if builtin.needs_args() {

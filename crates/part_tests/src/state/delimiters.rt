@@ -62,7 +62,7 @@ fn set(alloc: Global, state: &mut State, begin: &[u8], end: &[u8]) -> Result<(),
 }
 
 // Adds a pair with its name.
-fn tell(name: &[u8], pair: (&[u8], &[u8]), report: &mut Report) {
+fn describe(name: &[u8], pair: (&[u8], &[u8]), report: &mut Report) {
     report.add(name);
     report.add(b" ");
     report.add(pair.0);
@@ -79,8 +79,8 @@ fn report_of(alloc: Global, pairs: &[(&[u8], &[u8])]) -> Result<Vec<u8>, AllocEr
             report.refuse();
         }
     }
-    tell(b"quotes", state.quotes(), &mut report);
-    tell(b"\ncomments", state.comments(), &mut report);
+    describe(b"quotes", state.quotes(), &mut report);
+    describe(b"\ncomments", state.comments(), &mut report);
     report.text()
 }
 

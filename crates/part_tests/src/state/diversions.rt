@@ -147,7 +147,7 @@ static BROUGHT_BACK: [(&str, &[Step], &[u8]); 6] = [
 ];
 
 // Adds a number, or that there is none.
-fn tell(number: Option<i32>, report: &mut Report) {
+fn describe(number: Option<i32>, report: &mut Report) {
     match number {
         Some(number) => report.number(number as i128),
         None => report.add(b"none"),
@@ -187,9 +187,9 @@ fn divert(state: &mut State, number: i32, text: &[u8], report: &mut Report) {
 fn do_step(state: &mut State, step: Step, report: &mut Report) {
     match step {
         Step::Divert(number, text) => return divert(state, number, text, report),
-        Step::Current => tell(Some(state.current()), report),
+        Step::Current => describe(Some(state.current()), report),
         Step::Text(number) => report.add(state.diversion(number)),
-        Step::Above(number) => tell(state.next_diversion(number), report),
+        Step::Above(number) => describe(state.next_diversion(number), report),
         Step::TakeLeast => take_least(state, report),
         Step::Undivert(number) => undivert(state, number, report),
     }

@@ -1,7 +1,7 @@
 //! Names and their definitions: changes of a state, and what it then has under each name.
 //! Manual: "Defining a macro", "Deleting a macro", "Temporarily redefining macros".
 
-use crate::given::{Given, made, told};
+use crate::given::{Given, kind_and_text, made};
 use crate::report::Report;
 use crate::shows::shows;
 use m4_state::bytes::Bytes;
@@ -142,10 +142,10 @@ static ROWS: [Row; 7] = [
 ];
 
 // Adds a definition.
-fn tell(definition: Result<Def, AllocError>, report: &mut Report) {
+fn describe(definition: Result<Def, AllocError>, report: &mut Report) {
     match definition {
         Ok(definition) => {
-            let (kind, text) = told(&definition);
+            let (kind, text) = kind_and_text(&definition);
             report.add(kind);
             report.add(text);
         }
@@ -158,7 +158,7 @@ fn look(state: &State, name: &[u8], report: &mut Report) {
     report.add(name);
     for definition in state.stack(name) {
         report.add(b", ");
-        tell(definition.share(), report);
+        describe(definition.share(), report);
     }
     if let Some(top) = state.top(name) {
         report.add(b"; ");

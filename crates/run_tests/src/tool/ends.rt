@@ -46,7 +46,7 @@ static REFUSED: [(&str, Cause, &str); 4] = [
 ];
 
 #[test]
-fn refused_files_are_told(rt: HostRuntime) -> Result<(), Fail> {
+fn refused_files_are_reported(rt: HostRuntime) -> Result<(), Fail> {
     for (row, cause, want) in &REFUSED {
         let mut messages = MemSink::new(rt.alloc(), 100, 7)?;
         let put = put_refused(*cause, b"F", &mut messages);

@@ -149,14 +149,14 @@ fn check_by(
     let alloc = rt.alloc();
     let mut reader = MemSource::new(row.file, devices.at_most, row.fails);
     let mut out = MemSink::new(alloc, devices.out_room, devices.at_most)?;
-    let mut told = MemSink::new(alloc, devices.messages_room, devices.at_most)?;
+    let mut errors = MemSink::new(alloc, devices.messages_room, devices.at_most)?;
     let status = match row.mode {
-        Mode::Canon => canon(alloc, b"F", &mut reader, &mut out, &mut told),
-        Mode::Inspect => inspect(alloc, b"F", &mut reader, &mut out, &mut told),
+        Mode::Canon => canon(alloc, b"F", &mut reader, &mut out, &mut errors),
+        Mode::Inspect => inspect(alloc, b"F", &mut reader, &mut out, &mut errors),
     };
     let name = text_of(row.file);
     shows(rt, name, row.output, text_of(out.written()));
-    shows(rt, name, row.messages, text_of(told.written()));
+    shows(rt, name, row.messages, text_of(errors.written()));
     assert_eq!(rt; status, row.status, "{name}");
     Ok(())
 }

@@ -9,5 +9,5 @@ use Rattle.m4_builtins.proofs.diverting.numbers_in.Given as goal
 abbrev pub invariant-loop-arg : goal.invariant-loop-arg
 invariant-loop-arg l = record {
   numbers : l.numbers.items ++ filter_map number_of_reading (readings_of (drop l.arg-index l.list)) ≡ filter_map number_of_reading (readings_of l.list);
-  told : l.messages.items ++ flat_map (reading_warning l.place Undivert) (readings_of (drop l.arg-index l.list)) ≡ l.fn.messages.items ++ flat_map (reading_warning l.place Undivert) (readings_of l.list);
+  warned : l.messages.items ++ flat_map (reading_warning l.place Undivert) (readings_of (drop l.arg-index l.list)) ≡ l.fn.messages.items ++ flat_map (reading_warning l.place Undivert) (readings_of l.list);
 }

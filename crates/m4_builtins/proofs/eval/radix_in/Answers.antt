@@ -21,11 +21,11 @@ returns c =
     let radix : c.new-radix.result ≡ radix_at n = rw (to_z-of_z w32 n fits) at c.new-radix.ensures.radix in
     let some : text ≢ [] = search rules in
     let read : Some n ≡ number_of_reading (reading_of text) = search rules in
-    let told : c.number_in.new.messages.items ≡ c.args.messages.now.items ++ reading_warning p Eval (reading_of text) = c.in_ok-number.ensures.told in
+    let warned : c.number_in.new.messages.items ≡ c.args.messages.now.items ++ reading_warning p Eval (reading_of text) = c.in_ok-number.ensures.warns in
     let after_it : ReadsAs (radix_of_number p n) (radix_at n) c.number_in.new.messages.items c.if-is_none.messages.items =
     elim c.if-is_none.branch [
       | then-is_none+in_ok-out_of_range_message+in_ok-extend_from_slice w ↦ radix_lost p _ _ (radix_at n) (search rules) (search rules)
       | else-is_none w ↦ radix_kept p _ _ (radix_at n) (search rules) (search rules)
     ] in
     subst (λ o. ReadsAs (λ s. with_radix p s text) o c.args.messages.now.items c.if-is_none.messages.items) (sym radix)
-    (radix_read p text n c.args.messages.now.items c.number_in.new.messages.items c.if-is_none.messages.items some read told after_it)
+    (radix_read p text n c.args.messages.now.items c.number_in.new.messages.items c.if-is_none.messages.items some read warned after_it)

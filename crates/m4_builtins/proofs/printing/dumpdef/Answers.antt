@@ -21,4 +21,4 @@ returns c =
     let second : c.push_lines.new.messages.items ≡ c.push_warnings.new.messages.items ++ lines_of c.sort_unstable_by.new.self.items s = search rules in
     let messages : c.from.result ≡ dumped (names_shown c.args.list.now s) p s =
     c.from.ensures ∙ second ∙ (λ i. first i ++ lines_of (ordered i) s) ∙ ap (λ (ns : List (List ℕ)). dumped ns p s) c.in_ok-names.ensures in
-    ap (λ (x : List ℕ). only_warning s x) (sym messages) ∙ ap (λ (e : Effect). let r : Acted = record { state = s; effect = e } in r) (sym c.telling.ensures)
+    ap (λ (x : List ℕ). only_warning s x) (sym messages) ∙ ap (λ (e : Effect). let r : Acted = record { state = s; effect = e } in r) (sym c.with_messages.ensures)

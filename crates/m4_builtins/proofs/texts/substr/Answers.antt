@@ -5,7 +5,7 @@ use Rattle.std.proofs.lemmas.Int.{to_z-of_z}
 use Rattle.m4_builtins.specs.Acted.{only_warning}
 use Rattle.m4_builtins.specs.Args.{text_of_arg}
 use Rattle.m4_builtins.specs.Texts.{from_place, at_most}
-use Rattle.m4_builtins.proofs.Cut.{leaves, pushed_with, number_of, warning_on, read_of, told_of, substr-no_place, substr-no_count, substr-rest, substr-counted}
+use Rattle.m4_builtins.proofs.Cut.{leaves, pushed_with, number_of, warning_on, read_of, warned_of, substr-no_place, substr-no_count, substr-rest, substr-counted}
 use Rattle.m4_builtins.proofs.texts.substr.Goals as goal
 use Rattle.m4_builtins.proofs.texts.substr.Goals.{in_default-counts, in-len1-up+in_ok-number-2+in-Some-number}
 
@@ -18,10 +18,10 @@ returns-in_default-number c =
     let a = c.text-item.result in
     let b = c.from-item.result in
     let number : None ≡ number_of b = read_of _ _ _ b c.in_default-number.is c.in_ok-number.ensures.number c.text_of.ensures in
-    let told : c.number_in.new.messages.items ≡ warning_on p b = told_of p _ _ [] _ b c.new-messages.ensures.items c.in_ok-number.ensures.told c.text_of.ensures in
+    let warned : c.number_in.new.messages.items ≡ warning_on p b = warned_of p _ _ [] _ b c.new-messages.ensures.items c.in_ok-number.ensures.warns c.text_of.ensures in
     substr-no_place p s list (take (length list - 2) (drop 2 list)) a b c.in-len2-up.len_at_least c.text-item.is c.from-item.is refl number
-    ∙ ap (only_warning s) (sym (c.from.ensures ∙ told))
-    ∙ ap (leaves s) (sym c.telling.ensures)
+    ∙ ap (only_warning s) (sym (c.from.ensures ∙ warned))
+    ∙ ap (leaves s) (sym c.with_messages.ensures)
 
 -- the count is no number
 pub returns-in_default-number-2 : goal.returns-in_default-number-2
@@ -33,12 +33,12 @@ returns-in_default-number-2 c =
     let b = c.from-item.result in
     let d = c.count-item.result in
     let number : Some c.in-Some.from ≡ number_of b = read_of _ _ _ b c.in-Some.is c.in_ok-number.ensures.number c.text_of.ensures in
-    let told : c.number_in.new.messages.items ≡ warning_on p b = told_of p _ _ [] _ b c.new-messages.ensures.items c.in_ok-number.ensures.told c.text_of.ensures in
+    let warned : c.number_in.new.messages.items ≡ warning_on p b = warned_of p _ _ [] _ b c.new-messages.ensures.items c.in_ok-number.ensures.warns c.text_of.ensures in
     let number_2 : None ≡ number_of d = read_of _ _ _ d c.in_default-number-2.is c.in_ok-number-2.ensures.number c.text_of-in-len1-up.ensures in
-    let told_2 : c.number_in-in-len1-up.new.messages.items ≡ warning_on p b ++ warning_on p d = told_of p _ _ (warning_on p b) _ d told c.in_ok-number-2.ensures.told c.text_of-in-len1-up.ensures in
+    let warned_2 : c.number_in-in-len1-up.new.messages.items ≡ warning_on p b ++ warning_on p d = warned_of p _ _ (warning_on p b) _ d warned c.in_ok-number-2.ensures.warns c.text_of-in-len1-up.ensures in
     substr-no_count p s list (take (length list - 2) (drop 2 list)) a b c.in-len2-up.len_at_least c.text-item.is c.from-item.is refl c.in-Some.from number d c.in-len1-up.len_at_least c.count-item.is number_2
-    ∙ ap (only_warning s) (sym (c.from-in_default-number-2.ensures ∙ told_2))
-    ∙ ap (leaves s) (sym c.telling-in_default-number-2.ensures)
+    ∙ ap (only_warning s) (sym (c.from-in_default-number-2.ensures ∙ warned_2))
+    ∙ ap (leaves s) (sym c.with_messages-in_default-number-2.ensures)
 
 -- there is no count, or it is a number
 pub returns : goal.returns
@@ -52,7 +52,7 @@ returns c =
     let fits : FitsSigned w32 from = search rules in
     let cut : c.from_place-part.result.now ≡ from_place from c.text_of-2.result.now = rw (to_z-of_z w32 from fits) at c.from_place-part.ensures in
     let number : Some from ≡ number_of b = read_of _ _ _ b c.in-Some.is c.in_ok-number.ensures.number c.text_of.ensures in
-    let told : c.number_in.new.messages.items ≡ warning_on p b = told_of p _ _ [] _ b c.new-messages.ensures.items c.in_ok-number.ensures.told c.text_of.ensures in
+    let warned : c.number_in.new.messages.items ≡ warning_on p b = warned_of p _ _ [] _ b c.new-messages.ensures.items c.in_ok-number.ensures.warns c.text_of.ensures in
     let counts = take (length list - 2) (drop 2 list) in
     elim c.if-counts-lt1.branch [
       | in_default-counts w ↦
@@ -60,17 +60,17 @@ returns c =
           (substr-rest p s list counts a b c.in-len2-up.len_at_least c.text-item.is c.from-item.is refl from number w.in_default-counts.len_below)
           c.pushing-effect.ensures
           (c.in_ok-from_slice.ensures ∙ ap (λ v. v.now) w.part-is ∙ cut ∙ ap (from_place from) c.text_of-2.ensures)
-          (c.from-2.ensures ∙ ap (λ v. v.items) w.messages-is ∙ told)
+          (c.from-2.ensures ∙ ap (λ v. v.items) w.messages-is ∙ warned)
       | in-len1-up+in_ok-number-2+in-Some-number w ↦
           let d = w.count-item.result in
           let count = w.in-Some-number.count in
           let fits_2 : FitsSigned w32 count = search rules in
           let cut_2 : w.at_most-part.result.now ≡ at_most count c.from_place-part.result.now = rw (to_z-of_z w32 count fits_2) at w.at_most-part.ensures in
           let number_2 : Some count ≡ number_of d = read_of _ _ _ d w.in-Some-number.is w.in_ok-number-2.ensures.number w.text_of-in-len1-up.ensures in
-          let told_2 : w.number_in-in-len1-up.new.messages.items ≡ warning_on p b ++ warning_on p d = told_of p _ _ (warning_on p b) _ d told w.in_ok-number-2.ensures.told w.text_of-in-len1-up.ensures in
+          let warned_2 : w.number_in-in-len1-up.new.messages.items ≡ warning_on p b ++ warning_on p d = warned_of p _ _ (warning_on p b) _ d warned w.in_ok-number-2.ensures.warns w.text_of-in-len1-up.ensures in
           pushed_with s _ c.pushing-effect.result c.from-2.result (warning_on p b ++ warning_on p d) c.in_ok-from_slice.field-0 (at_most count (from_place from (text_of_arg a)))
           (substr-counted p s list counts a b c.in-len2-up.len_at_least c.text-item.is c.from-item.is refl from number d count w.in-len1-up.len_at_least w.count-item.is number_2)
           c.pushing-effect.ensures
           (c.in_ok-from_slice.ensures ∙ ap (λ v. v.now) w.part-is ∙ cut_2 ∙ ap (at_most count) (cut ∙ ap (from_place from) c.text_of-2.ensures))
-          (c.from-2.ensures ∙ ap (λ v. v.items) w.messages-is ∙ told_2)
+          (c.from-2.ensures ∙ ap (λ v. v.items) w.messages-is ∙ warned_2)
     ]

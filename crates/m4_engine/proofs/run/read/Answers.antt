@@ -1,16 +1,16 @@
 use Rattle.std.proofs.Common.{rules, refl}
 use Rattle.m4_engine.proofs.Readers.{source_fails}
-use Rattle.m4_engine.proofs.Sources.{opened_stands, unopened_stands, unread_goes}
+use Rattle.m4_engine.proofs.Sources.{opened_described, unopened_described, unread_goes}
 use Rattle.m4_engine.proofs.run.read.Goals as goal
 
 pub returns-in_default-clause-goes : goal.returns-in_default-clause-goes
 returns-in_default-clause-goes g c = λ s e. unread_goes c.args.session.now c.end.new.self _ _ c.end.result c.end.ensures.answer (search rules) refl refl
 
 pub returns-in-Ok-clause-goes : goal.returns-in-Ok-clause-goes
-returns-in-Ok-clause-goes g c = λ s e. opened_stands g.R.ByteSource.script c.args.session.now c.file.new.self c.in-Ok.name c.in-Opened.reader c.file.new.reader _ _ _ c.file.result s (search rules) (search rules) c.requires e c.file.ensures.gives
+returns-in-Ok-clause-goes g c = λ s e. opened_described g.R.ByteSource.script c.args.session.now c.file.new.self c.in-Ok.name c.in-Opened.reader c.file.new.reader _ _ _ c.file.result s (search rules) (search rules) c.requires e c.file.ensures.gives
 
 pub returns-in-Unopened-clause-goes : goal.returns-in-Unopened-clause-goes
-returns-in-Unopened-clause-goes g c = λ s e. unopened_stands g.R.ByteSource.script c.args.session.now c.missing.new.self c.as_slice.result.now _ _ _ c.missing.result s (search rules) c.requires e refl c.missing.ensures.gives
+returns-in-Unopened-clause-goes g c = λ s e. unopened_described g.R.ByteSource.script c.args.session.now c.missing.new.self c.as_slice.result.now _ _ _ c.missing.result s (search rules) c.requires e refl c.missing.ensures.gives
 
 pub returns-in-Ok-clause-read : goal.returns-in-Ok-clause-read
 returns-in-Ok-clause-read g c = source_fails g.R.ByteSource.failures c.in-Opened.name c.in-Opened.name c.in-Opened.reader c.file.new.reader _ _ c.file.result (search rules) (search rules) c.file.ensures.read

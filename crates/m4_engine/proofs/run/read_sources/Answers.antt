@@ -23,7 +23,7 @@ sources-preserved g c = (
   pair_item (ConsumesOnly g.R.ByteSource.script) c.sources.source-index c.sources.sources c.args.sources.now c.source-item.result c.read.new.source c.sources.invariant.3 c.sources.invariant.1 (search rules) c.in_ok-read.ensures.taken,
   λ ss e.
       let t = item g.R.ByteSource.script c.sources.source-index c.sources.sources c.args.sources.now c.source-item.result c.read.new.source ss c.sources.invariant.1 (search rules) e in
-      one_read ss c.sources.source-index (c.sources.source-index + 1) c.args.session.now c.sources.session c.read.new.session t.source _ _ _ _ _ _ (c.sources.invariant.4 ss t.first) t.there (c.in_ok-read.ensures.goes t.source t.stands).0,
+      one_read ss c.sources.source-index (c.sources.source-index + 1) c.args.session.now c.sources.session c.read.new.session t.source _ _ _ _ _ _ (c.sources.invariant.4 ss t.first) t.there (c.in_ok-read.ensures.goes t.source t.describes).0,
   pair_item (is_sound g.R.ByteSource.failures) c.sources.source-index c.sources.sources c.args.sources.now c.source-item.result c.read.new.source c.sources.invariant.5 c.sources.invariant.1 (search rules) c.in_ok-read.ensures.read,
   missed_on c.sources.source-index c.sources.sources c.args.sources.now c.source-item.result c.sources.session.any_missing c.read.new.session.any_missing _ c.sources.invariant.1 (search rules) c.in_ok-read.ensures.any_missing c.sources.invariant.6,
 )
@@ -31,7 +31,7 @@ sources-preserved g c = (
 pub returns-in_err-read-clause-goes : goal.returns-in_err-read-clause-goes
 returns-in_err-read-clause-goes g c = λ ss e.
     let t = item g.R.ByteSource.script c.sources.source-index c.sources.sources c.args.sources.now c.source-item.result c.read.new.source ss c.sources.invariant.1 (search rules) (first_for g.R.ByteSource.script (c.sources.source-index + 1) c.args.sources.now _ ss e) in
-    stopped_so ss c.sources.source-index (c.sources.source-index + 1) c.args.session.now c.sources.session c.read.new.session t.source _ _ _ _ _ _ c.in_err-read.field-0.0 c.read.result c.from_residual.result (search rules) (search rules) c.requires (c.sources.invariant.4 ss t.first) t.there (c.read.ensures.goes t.source t.stands)
+    stopped_so ss c.sources.source-index (c.sources.source-index + 1) c.args.session.now c.sources.session c.read.new.session t.source _ _ _ _ _ _ c.in_err-read.field-0.0 c.read.result c.from_residual.result (search rules) (search rules) c.requires (c.sources.invariant.4 ss t.first) t.there (c.read.ensures.goes t.source t.describes)
 
 pub returns-clause-goes : goal.returns-clause-goes
 returns-clause-goes g c = λ ss e.

@@ -3,14 +3,14 @@ use Rattle.std.proofs.Common.{◌≡◌, ◌∷◌, ◌-◌, true, length, Some,
 use Rattle.m4_frozen.specs.declared.begun.Begun.TheVariants as begun
 use Rattle.m4_frozen.specs.declared.begun.NamedText.{NamedText}
 use Rattle.m4_frozen.specs.ReaderSteps.{pair_head_at}
-use Rattle.m4_frozen.specs.Underway.{StandsAt}
+use Rattle.m4_frozen.specs.Underway.{IsAtDirective}
 use Rattle.m4_frozen.proofs.NamedRead.{named_opened}
 use Rattle.m4_frozen.proofs.loading.Loading.open_named.Goals as goal
 
 pub returns : goal.returns
 returns c = λ read h.
     let versioned : c.args.self.now.versioned ≡ true = search rules in
-    let at : StandsAt c.args.self.now.inside (84 ∷ c.in-Some.line.now) = rw c.in-Some.ensures.some at c.requires in
+    let at : IsAtDirective c.args.self.now.inside (84 ∷ c.in-Some.line.now) = rw c.in-Some.ensures.some at c.requires in
     let t : NamedText = record {
       name = c.in_ok-from_slice.field-0;
       text = c.in_ok-from_slice-2.field-0;

@@ -11,9 +11,9 @@ returns-in_err-next_directive c =
     rw (p.1, p.2) (
       refl,
       directive_left c.args.bytes.now c.in_err-next_directive.field-0.0 c.args.self.now.inside
-          c.requires.stands c.in_err-next_directive.ensures,
+          c.requires.at_directive c.in_err-next_directive.ensures,
       λ read h. directive_refused read c.args.bytes.now c.in_err-next_directive.field-0.0
-          c.args.self.now c.requires.stands c.requires.versioned c.in_err-next_directive.ensures h,
+          c.args.self.now c.requires.at_directive c.requires.versioned c.in_err-next_directive.ensures h,
     )
 
 pub returns-in-None : goal.returns-in-None
@@ -26,6 +26,6 @@ returns-in-None c = (
 pub returns-in_ok-apply-in-Some : goal.returns-in_ok-apply-in-Some
 returns-in_ok-apply-in-Some c =
     has_read_directive c.args.bytes.now c.in-Some.after.now (directive_of c.in-Some.directive)
-    c.args.self.now c.apply.new.self c.requires.stands c.requires.versioned
+    c.args.self.now c.apply.new.self c.requires.at_directive c.requires.versioned
     (rw c.in-Some.is at c.in_ok-next_directive.ensures)
     c.in_ok-apply-in-Some.ensures.applied c.in_ok-apply-in-Some.ensures.issued

@@ -26,8 +26,8 @@ returns-then-self-gt0-clause-ok c =
     let appended_text : c.append.new.self ≡ with_text s.diversions s.current c.as_slice.result.now = search rules in
     let same_text : c.as_slice.result.now ≡ c.diversion.result.now = search rules in
     let rest = rw (to_z-of_z w32 n c.ranges.number) at c.take-taken.ensures.rest in
-    let told = rw (to_z-of_z w32 n c.ranges.number) at c.diversion.ensures in
-    let text : c.diversion.result.now ≡ diversion_of s n = told ∙ ap (λ (t : State). diversion_of t n) (sym c.self.view_is) in
+    let found = rw (to_z-of_z w32 n c.ranges.number) at c.diversion.ensures in
+    let text : c.diversion.result.now ≡ diversion_of s n = found ∙ ap (λ (t : State). diversion_of t n) (sym c.self.view_is) in
     let left : c.take-taken.new.self ≡ without_text (with_text s.diversions s.current c.diversion.result.now) n =
     rest ∙ ap (λ (ds : List Diversion). without_text ds n) (appended_text ∙ ap (λ (x : List ℕ). with_text s.diversions s.current x) same_text) in
     ap (λ (ds : List Diversion). let t : State = record s { diversions = ds } in t)
