@@ -52,15 +52,15 @@ module _ (S F D : Type 0) (turn : S → Turn S F D) (join : F → S → Outcome 
   left' s = left s.0
 
   -- what a turn with its count says of the turn
-  Counts : Turn S F D → ℕ → Turn (S × ℕ) F (D × ℕ) → Type 0
-  Counts v n (Halt d) = (v ≡ Halt d.0) × (d.1 ≡ n)
-  Counts v n (Close t) = (v ≡ Close t.0) × (t.1 ≡ n)
-  Counts v n (GoOn t) = (v ≡ GoOn t.0) × (t.1 ≡ n)
-  Counts v n (Bare t) = (v ≡ Bare t.0) × (t.1 ≡ n)
-  Counts v n (Opens f t) = (v ≡ Opens f t.0) × (t.1 ≡ n)
+  CountsTurn : Turn S F D → ℕ → Turn (S × ℕ) F (D × ℕ) → Type 0
+  CountsTurn v n (Halt d) = (v ≡ Halt d.0) × (d.1 ≡ n)
+  CountsTurn v n (Close t) = (v ≡ Close t.0) × (t.1 ≡ n)
+  CountsTurn v n (GoOn t) = (v ≡ GoOn t.0) × (t.1 ≡ n)
+  CountsTurn v n (Bare t) = (v ≡ Bare t.0) × (t.1 ≡ n)
+  CountsTurn v n (Opens f t) = (v ≡ Opens f t.0) × (t.1 ≡ n)
 
-  counts_it : (n : ℕ) (v : Turn S F D) → Counts v n (counted_turn n v)
-  unfolding Counts
+  counts_it : (n : ℕ) (v : Turn S F D) → CountsTurn v n (counted_turn n v)
+  unfolding CountsTurn
   counts_it n (Halt d) = (refl, refl)
   counts_it n (Close t) = (refl, refl)
   counts_it n (GoOn t) = (refl, refl)
@@ -76,14 +76,14 @@ module _ (S F D : Type 0) (turn : S → Turn S F D) (join : F → S → Outcome 
   reports_out n (Halted d) = (refl, refl)
   reports_out n (Closed t) = (refl, refl)
 
-  reported : (s : S × ℕ) (v : Turn (S × ℕ) F (D × ℕ)) → turn' s ≡ v → Counts (turn s.0) (suc s.1) v
-  reported s v e = subst (Counts (turn s.0) (suc s.1)) e (counts_it (suc s.1) (turn s.0))
+  reported : (s : S × ℕ) (v : Turn (S × ℕ) F (D × ℕ)) → turn' s ≡ v → CountsTurn (turn s.0) (suc s.1) v
+  reported s v e = subst (CountsTurn (turn s.0) (suc s.1)) e (counts_it (suc s.1) (turn s.0))
 
   reported_out : (f : F) (t : S × ℕ) (v : Outcome (S × ℕ) (D × ℕ)) → join' f t ≡ v → ReportsOut (join f t.0) t.1 v
   reported_out f t v e = subst (ReportsOut (join f t.0) t.1) e (reports_out t.1 (join f t.0))
 
   pub falls' : Falls (S × ℕ) F (D × ℕ) turn' join' size' left'
-  unfolding Counts ReportsOut
+  unfolding CountsTurn ReportsOut
   falls' = record {
     shorter = λ s t e. falls.shorter s.0 t.0 (reported s (GoOn t) e).0;
     go_on = λ s t e. falls.go_on s.0 t.0 (reported s (GoOn t) e).0;
@@ -107,7 +107,7 @@ module _ (S F D : Type 0) (turn : S → Turn S F D) (join : F → S → Outcome 
   add_suc a b c k e f = omega arith
 
   pub shifted : (k : ℕ) → Follows (S × ℕ) F (D × ℕ) turn' join' whole' (Later k) (λ f g. g ≡ f) (LaterEnd k)
-  unfolding Counts ReportsOut
+  unfolding CountsTurn ReportsOut
   shifted k = record {
     halt = λ s t d r e. let h = reported s (Halt d) e in
         expansion_is (S × ℕ) F (D × ℕ) turn' join' spent' size' left' falls' t
@@ -210,7 +210,7 @@ module _ (S F D : Type 0) (turn : S → Turn S F D) (join : F → S → Outcome 
     met_out f g u w v q r e = subst (λ (a : F). AlikeOuts S F D R v (join a w.0)) (sym q) (subst (λ x. AlikeOuts S F D R x (join f w.0)) e (alike_out f u.0 w.0 r.0))
 
     beside : Follows (S × ℕ) F (D × ℕ) turn' join' whole' R' (λ f g. g ≡ f) Q'
-    unfolding Counts ReportsOut AlikeTurns AlikeOuts
+    unfolding CountsTurn ReportsOut AlikeTurns AlikeOuts
     beside = record {
       halt = λ s t d r e.
           let h = reported s (Halt d) e in

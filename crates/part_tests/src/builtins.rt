@@ -78,18 +78,21 @@ fn place_of(alloc: Global, file: &[u8], line: u64) -> Result<Place, AllocError> 
     })
 }
 
-// Returns the arguments of a call, read back.
-fn arguments(alloc: Global) -> Result<Vec<u8>, AllocError> {
-    let mut report = Report::new(alloc);
-    let given = [Argument::Text(b"one"), Argument::Text(b"two")];
-    let args = call_of(alloc, b"f", &given)?;
+// Adds the arguments of a call.
+fn describe_arguments(args: &Args, report: &mut Report) {
     for arg in args.list.as_slice() {
         match arg {
-            Arg::Text(text) => report.add(text.as_slice()),
-            Arg::Definition(_) => report.add(b"a definition"),
+            Arg::Text(text) => report.pair(text.as_slice(), b"; "),
+            Arg::Definition(_) => report.add(b"a definition; "),
         }
-        report.add(b"; ");
     }
+}
+
+// Returns the arguments of a call, read back.
+fn arguments(alloc: Global) -> Result<Vec<u8>, AllocError> {
+    let args = text_call_of(alloc, b"f", &[b"one", b"two"])?;
+    let mut report = Report::new(alloc);
+    describe_arguments(&args, &mut report);
     report.text()
 }
 

@@ -82,7 +82,7 @@ static SPACES: [Row; 3] = [
 fn value_seen(alloc: Global, text: &[u8]) -> Result<Vec<u8>, AllocError> {
     let mut report = Report::new(alloc);
     match evaluate(alloc, text)? {
-        Evaluated::Value(value) => report.number(value as i128),
+        Evaluated::Value(value) => report.number(value),
         Evaluated::DivideByZero => report.add(b"divide by zero"),
         Evaluated::BadExpression => report.add(b"bad expression"),
     }
@@ -109,7 +109,7 @@ fn written_seen(alloc: Global, row: &Written) -> Result<Vec<u8>, AllocError> {
     let mut report = Report::new(alloc);
     match Radix::new(row.2) {
         Some(radix) => {
-            report.number(radix.value() as i128);
+            report.number(radix.value());
             report.add(b": ");
             report.add(in_radix(alloc, row.1, radix, row.3)?.as_slice());
         }
@@ -121,7 +121,7 @@ fn written_seen(alloc: Global, row: &Written) -> Result<Vec<u8>, AllocError> {
 // Reports the number of spaces at the start of a text, and whether it is blank.
 fn spaces_seen(alloc: Global, text: &[u8]) -> Result<Vec<u8>, AllocError> {
     let mut report = Report::new(alloc);
-    report.number(spaces_len(text) as i128);
+    report.number(spaces_len(text));
     report.add(if is_blank(text) {
         b", blank"
     } else {

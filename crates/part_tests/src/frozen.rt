@@ -52,7 +52,7 @@ fn describe(alloc: Global, fault: FrozenFault, report: &mut Report) {
         Err(AllocError) => report.refuse(),
     }
     report.add(b" at ");
-    report.number(fault.offset as i128);
+    report.number(fault.offset);
 }
 
 // Adds the bytes that a writer received, and whether all were written.

@@ -3,6 +3,7 @@
 ghost use Rattle.std.specs.Prelude.{IfOk};
 ghost use Rattle.m4_state.specs.Definition.{IsDefinition};
 
+use crate::report::Report;
 use m4_state::builtin::Builtin;
 use m4_state::bytes::Bytes;
 use m4_state::definition::Def;
@@ -30,11 +31,11 @@ pub fn made(alloc: Global, given: Given) -> Result<Def, AllocError>
     }
 }
 
-/// Returns the kind of a definition, and its text or its name.
-pub fn kind_and_text(definition: &Def) -> (&'static [u8], &[u8]) {
+/// Adds the kind of a definition, and its text or its name.
+pub fn describe_definition(definition: &Def, report: &mut Report) {
     match definition {
-        Def::Text(text) => (b"text ", text.as_slice()),
-        Def::Builtin(builtin) => (b"builtin ", builtin.name()),
-        Def::Placeholder(name) => (b"placeholder ", name.as_slice()),
+        Def::Text(text) => report.pair(b"text ", text.as_slice()),
+        Def::Builtin(builtin) => report.pair(b"builtin ", builtin.name()),
+        Def::Placeholder(name) => report.pair(b"placeholder ", name.as_slice()),
     }
 }

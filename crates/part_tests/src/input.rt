@@ -10,7 +10,7 @@ mod pieces;
 mod plain;
 mod tokens;
 
-use crate::given::kind_and_text;
+use crate::given::describe_definition;
 use crate::report::{Report, printed};
 use crate::shows::shows;
 use m4_input::delims::Delims;
@@ -36,25 +36,15 @@ const NONE: Delims<'static> = Delims {
     comments: (b"", b""),
 };
 
-// Returns a token's kind, and its text if it is not a byte.
-fn words(token: &Token) -> (&'static [u8], &[u8]) {
-    match token {
-        Token::Name(name) => (b"name ", name.as_slice()),
-        Token::Str(string) => (b"string ", string.as_slice()),
-        Token::Comment(comment) => (b"comment ", comment.as_slice()),
-        Token::Byte(_) => (b"byte ", b""),
-        Token::Definition(definition) => kind_and_text(definition),
-        Token::End => (b"end", b""),
-    }
-}
-
 // Adds a token: its kind and its text.
 fn describe(token: &Token, report: &mut Report) {
-    let (kind, text) = words(token);
-    report.add(kind);
-    report.add(text);
-    if let Token::Byte(byte) = token {
-        report.add(&[*byte]);
+    match token {
+        Token::Name(name) => report.pair(b"name ", name.as_slice()),
+        Token::Str(string) => report.pair(b"string ", string.as_slice()),
+        Token::Comment(comment) => report.pair(b"comment ", comment.as_slice()),
+        Token::Byte(byte) => report.pair(b"byte ", &[*byte]),
+        Token::Definition(definition) => describe_definition(definition, report),
+        Token::End => report.add(b"end"),
     }
     report.add(b"\n");
 }

@@ -1,6 +1,6 @@
 //! The report on a row: text that is written piece by piece.
 
-use itoa::Buffer;
+use itoa::{Buffer, Integer};
 use std::alloc::{AllocError, Global};
 use std::fmt;
 
@@ -28,15 +28,21 @@ impl Report {
         }
     }
 
+    /// Adds two pieces.
+    pub fn pair(&mut self, first: &[u8], second: &[u8]) {
+        self.add(first);
+        self.add(second);
+    }
+
     /// Adds a number.
-    pub fn number(&mut self, number: i128) {
+    pub fn number(&mut self, number: impl Integer) {
         self.add(Buffer::new().format(number).as_bytes());
     }
 
     /// Adds a piece, and a count after it.
     pub fn counted(&mut self, piece: &[u8], count: usize) {
         self.add(piece);
-        self.number(count as i128);
+        self.number(count);
     }
 
     /// Records that an allocation failed.

@@ -4,7 +4,7 @@
 //! whitespace in input", "Changing the quote characters", "Changing the comment delimiters".
 
 use super::{Argument, call_of, place_of, text_call_of};
-use crate::given::{Given, kind_and_text, made};
+use crate::given::{Given, describe_definition, made};
 use crate::report::Report;
 use crate::shows::shows;
 use m4_builtins::act::act;
@@ -175,9 +175,9 @@ fn acted(
     name: &'static [u8],
     texts: &[&[u8]],
 ) -> Result<Effect, BuiltinFault> {
-    let args = text_call_of(alloc, name, texts)?;
-    let place = place_of(alloc, b"a.m4", 1)?;
     let definition = made(alloc, Given::Named(name))?;
+    let place = place_of(alloc, b"a.m4", 1)?;
+    let args = text_call_of(alloc, name, texts)?;
     act(alloc, &definition, &args, &place, state)
 }
 
@@ -206,10 +206,8 @@ fn look(state: &State, name: &[u8], report: &mut Report) {
     report.add(name);
     report.counted(b": ", state.stack(name).len());
     if let Some(definition) = state.top(name) {
-        let (kind, text) = kind_and_text(definition);
         report.add(b", ");
-        report.add(kind);
-        report.add(text);
+        describe_definition(definition, report);
     }
     report.add(b"\n");
 }
@@ -225,7 +223,7 @@ fn describe_pair(pair: (&[u8], &[u8]), report: &mut Report) {
 // Adds the number of names.
 fn count(state: &State, report: &mut Report) {
     match state.names() {
-        Ok(names) => report.number(names.len() as i128),
+        Ok(names) => report.number(names.len()),
         Err(_refused) => report.refuse(),
     }
     report.add(b" names\n");

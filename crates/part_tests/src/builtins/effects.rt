@@ -186,6 +186,32 @@ fn describe_text(label: &[u8], text: &[u8], report: &mut Report) {
     report.add(b"\n");
 }
 
+// Adds the text that is pushed, if there is one.
+fn describe_push(effect: &Effect, report: &mut Report) {
+    if let Some(Pushed::Text(text)) = &effect.push {
+        describe_text(b"push ", text.as_slice(), report);
+    }
+}
+
+// Adds what is left for the end of the run: a saved text, or an exit code.
+fn describe_end(effect: &Effect, report: &mut Report) {
+    if let Some(text) = &effect.wrap {
+        describe_text(b"wrap ", text.as_slice(), report);
+    }
+    if let Some(code) = effect.exit {
+        report.add(b"exit ");
+        report.number(code);
+        report.add(b"\n");
+    }
+}
+
+// Adds an effect.
+fn describe(effect: &Effect, report: &mut Report) {
+    describe_push(effect, report);
+    report.add(effect.messages.as_slice());
+    describe_end(effect, report);
+}
+
 // Reports a call.
 fn seen(
     alloc: Global,
@@ -194,19 +220,10 @@ fn seen(
     file: &[u8],
     line: u64,
 ) -> Result<Vec<u8>, AllocError> {
-    let effect = acted(alloc, name, list, file, line).map_err(|_refused| AllocError)?;
     let mut report = Report::new(alloc);
-    if let Some(Pushed::Text(text)) = &effect.push {
-        describe_text(b"push ", text.as_slice(), &mut report);
-    }
-    report.add(effect.messages.as_slice());
-    if let Some(text) = &effect.wrap {
-        describe_text(b"wrap ", text.as_slice(), &mut report);
-    }
-    if let Some(code) = effect.exit {
-        report.add(b"exit ");
-        report.number(code as i128);
-        report.add(b"\n");
+    match acted(alloc, name, list, file, line) {
+        Ok(effect) => describe(&effect, &mut report),
+        Err(BuiltinFault::OutOfMemory) => report.refuse(),
     }
     report.text()
 }

@@ -1,6 +1,6 @@
 //! The head of a call: its name, its definition and its place. Manual: "Macro invocation".
 
-use crate::given::{Given, kind_and_text, made};
+use crate::given::{Given, describe_definition, made};
 use crate::report::Report;
 use crate::shows::shows;
 use m4_builtins::args::{Arg, ArgList};
@@ -77,20 +77,20 @@ fn describe_place(head: &Head, report: &mut Report) {
     report.add(b" ");
     report.add(head.file());
     report.add(b":");
-    report.number(head.line() as i128);
+    report.number(head.line());
     match head.place() {
         Ok(place) => {
             report.add(b" ");
             report.add(place.file.as_slice());
             report.add(b":");
-            report.number(place.line as i128);
+            report.number(place.line);
         }
         Err(AllocError) => report.refuse(),
     }
 }
 
 // Adds the data on the definition.
-fn describe_definition(head: &Head, report: &mut Report) {
+fn describe_macro(head: &Head, report: &mut Report) {
     if head.needs_list() {
         report.add(b", needs a list");
     }
@@ -100,10 +100,8 @@ fn describe_definition(head: &Head, report: &mut Report) {
     }
     match head.definition() {
         Ok(definition) => {
-            let (kind, text) = kind_and_text(&definition);
             report.add(b", ");
-            report.add(kind);
-            report.add(text);
+            describe_definition(&definition, report);
         }
         Err(AllocError) => report.refuse(),
     }
@@ -120,7 +118,7 @@ fn kept(
     let definition = made(alloc, given)?;
     let head = Head::new(alloc, name, &definition, place.0, place.1)?;
     describe_place(&head, &mut report);
-    describe_definition(&head, &mut report);
+    describe_macro(&head, &mut report);
     report.text()
 }
 

@@ -34,7 +34,7 @@ fn message_at(alloc: Global, file: &[u8], line: u64) -> Result<Vec<u8>, BuiltinF
 }
 
 #[test]
-fn messages_tell_their_place(rt: HostRuntime) {
+fn messages_name_their_place(rt: HostRuntime) {
     for &(name, file, line, want) in &ROWS {
         let got = message_at(rt.alloc(), file, line).map_err(|_refused| AllocError);
         shows(&rt, name, want, got);

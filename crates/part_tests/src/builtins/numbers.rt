@@ -51,7 +51,7 @@ static OTHERS: [Row; 12] = [
 fn reading_seen(alloc: Global, text: &[u8]) -> Result<Vec<u8>, AllocError> {
     let mut report = Report::new(alloc);
     match reading_of(text) {
-        Reading::Number(number) => report.number(number as i128),
+        Reading::Number(number) => report.number(number),
         Reading::Empty => report.add(b"empty"),
         Reading::NotNumeric => report.add(b"not numeric"),
     }

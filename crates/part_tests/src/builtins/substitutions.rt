@@ -76,7 +76,7 @@ fn given_texts(
 }
 
 #[test]
-fn what_the_dollars_stand_for(rt: HostRuntime) {
+fn dollars_are_replaced(rt: HostRuntime) {
     for &(name, text, texts, want) in &ROWS {
         let got = given_texts(rt.alloc(), text, texts, (b"`", b"'"));
         shows(&rt, name, want, got);

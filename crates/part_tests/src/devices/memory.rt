@@ -38,7 +38,7 @@ fn taken_of(alloc: Global, at_most: usize, fails: bool) -> Result<Vec<u8>, Alloc
     } else {
         b"; ended after "
     });
-    report.number(reader.taken() as i128);
+    report.number(reader.taken());
     report.text()
 }
 
@@ -72,7 +72,7 @@ fn takes_of(alloc: Global, bytes: &[u8], fails: bool) -> Result<Vec<u8>, AllocEr
     let mut reader = MemSource::new(bytes, 4, fails);
     for _ in 0..3 {
         match reader.take(&mut block) {
-            Ok(n) => report.number(n as i128),
+            Ok(n) => report.number(n),
             Err(DeviceFault) => report.add(b"fault"),
         }
         report.add(b" ");
@@ -159,7 +159,7 @@ fn puts_of(alloc: Global) -> Result<Vec<u8>, AllocError> {
     let mut writer = MemSink::new(alloc, 2, 4)?;
     for bytes in [b"abc".as_slice(), b"c"] {
         match writer.put(bytes) {
-            Ok(n) => report.number(n as i128),
+            Ok(n) => report.number(n),
             Err(DeviceFault) => report.add(b" fault "),
         }
     }

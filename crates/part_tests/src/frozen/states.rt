@@ -97,7 +97,7 @@ fn describe_loaded(loaded: &Loaded, report: &mut Report) {
     report.add(end);
     report.counted(b"; a ", loaded.state.stack(b"a").len());
     report.add(b"; current ");
-    report.number(loaded.state.current() as i128);
+    report.number(loaded.state.current());
     report.add(b"; issued ");
     report.add(loaded.issued.as_slice());
 }

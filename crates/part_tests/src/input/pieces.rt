@@ -61,7 +61,7 @@ fn describe_piece(input: &Input, report: &mut Report) {
         }
         None => report.add(b"none "),
     }
-    report.number(input.line() as i128);
+    report.number(input.line());
     report.add(b"\n");
 }
 

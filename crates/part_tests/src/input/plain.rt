@@ -2,7 +2,7 @@
 //! list, if that is text. `f` is defined as `x`.
 //! Manual: "How m4 copies input to output", "Macro arguments".
 
-use crate::given::kind_and_text;
+use crate::given::describe_definition;
 use crate::report::Report;
 use crate::shows::shows;
 use m4_input::plain::{First, first_in_list, inner_text, plain_run};
@@ -75,9 +75,7 @@ fn describe_call(first: &First<'_>, report: &mut Report) {
         } else {
             b" bytes: "
         });
-        let (kind, text) = kind_and_text(definition);
-        report.add(kind);
-        report.add(text);
+        describe_definition(definition, report);
     }
 }
 
@@ -86,13 +84,13 @@ fn run_of(alloc: Global, text: &[u8], most: usize) -> Result<Vec<u8>, AllocError
     let mut report = Report::new(alloc);
     let state = with_f(alloc).map_err(|_refused| AllocError)?;
     let (len, first) = plain_run(text, &state, most);
-    report.number(len as i128);
+    report.number(len);
     describe_call(&first, &mut report);
     report.text()
 }
 
 #[test]
-fn tokens_that_stand_for_themselves(rt: HostRuntime) {
+fn plain_tokens(rt: HostRuntime) {
     for &(name, text, most, want) in &ROWS {
         shows(&rt, name, want, run_of(rt.alloc(), text, most));
     }

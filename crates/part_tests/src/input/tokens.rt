@@ -90,6 +90,24 @@ static ROWS: [Row; 11] = [
 // More tokens than any row has.
 const MOST: usize = 20;
 
+// Adds the next token, and returns whether there may be more.
+fn goes_on(
+    input: &mut Input,
+    reader: &mut MemSource<'_>,
+    delims: &Delims<'_>,
+    report: &mut Report,
+) -> bool {
+    match input.next(reader, delims) {
+        Ok(Token::End) => {
+            report.add(b"end");
+            return false;
+        }
+        Ok(token) => describe(&token, report),
+        Err(fault) => describe_fault(fault, report),
+    }
+    true
+}
+
 // Reports the tokens of a text.
 fn tokens_of(
     alloc: Global,
@@ -101,13 +119,8 @@ fn tokens_of(
     let mut reader = MemSource::new(text, block.max(1), false);
     let mut input = Input::file(alloc, Bytes::from_slice(alloc, b"a.m4")?);
     for _ in 0..MOST {
-        match input.next(&mut reader, delims) {
-            Ok(Token::End) => {
-                report.add(b"end");
-                break;
-            }
-            Ok(token) => describe(&token, &mut report),
-            Err(fault) => describe_fault(fault, &mut report),
+        if !goes_on(&mut input, &mut reader, delims, &mut report) {
+            break;
         }
     }
     report.text()

@@ -62,11 +62,11 @@ fn describe(builtin: Builtin, report: &mut Report) {
     if builtin.takes_tokens() {
         report.add(b"definitions, ");
     }
-    report.number(builtin.least_args() as i128);
+    report.number(builtin.least_args());
     match builtin.most_args() {
         Some(most) => {
             report.add(b" to ");
-            report.number(most as i128);
+            report.number(most);
         }
         None => report.add(b" or more"),
     }

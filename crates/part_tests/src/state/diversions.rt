@@ -149,7 +149,7 @@ static BROUGHT_BACK: [(&str, &[Step], &[u8]); 6] = [
 // Adds a number, or that there is none.
 fn describe(number: Option<i32>, report: &mut Report) {
     match number {
-        Some(number) => report.number(number as i128),
+        Some(number) => report.number(number),
         None => report.add(b"none"),
     }
 }
@@ -158,7 +158,7 @@ fn describe(number: Option<i32>, report: &mut Report) {
 fn take_least(state: &mut State, report: &mut Report) {
     match state.take_least() {
         Some((number, text)) => {
-            report.number(number as i128);
+            report.number(number);
             report.add(b" ");
             report.add(&text);
         }

@@ -1,7 +1,7 @@
 //! Names and their definitions: changes of a state, and what it then has under each name.
 //! Manual: "Defining a macro", "Deleting a macro", "Temporarily redefining macros".
 
-use crate::given::{Given, kind_and_text, made};
+use crate::given::{Given, describe_definition, made};
 use crate::report::Report;
 use crate::shows::shows;
 use m4_state::bytes::Bytes;
@@ -144,11 +144,7 @@ static ROWS: [Row; 7] = [
 // Adds a definition.
 fn describe(definition: Result<Def, AllocError>, report: &mut Report) {
     match definition {
-        Ok(definition) => {
-            let (kind, text) = kind_and_text(&definition);
-            report.add(kind);
-            report.add(text);
-        }
+        Ok(definition) => describe_definition(&definition, report),
         Err(AllocError) => report.refuse(),
     }
 }
@@ -162,7 +158,7 @@ fn look(state: &State, name: &[u8], report: &mut Report) {
     }
     if let Some(top) = state.top(name) {
         report.add(b"; ");
-        report.number(top.len() as i128);
+        report.number(top.len());
     }
     report.add(b"\n");
 }

@@ -197,7 +197,7 @@ fn compare(rt: &(impl Abort + Alloc<A = Global>), rows: &[Row]) {
 }
 
 #[test]
-fn tokens_are_taken_as_they_stand(rt: HostRuntime) {
+fn plain_tokens_are_copied(rt: HostRuntime) {
     compare(&rt, &TOKENS);
 }
 

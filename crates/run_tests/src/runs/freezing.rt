@@ -1,8 +1,6 @@
 //! Runs that start from a frozen file, and runs that freeze their state.
 
-use super::given::{
-    AT_MOST, BLOCKS, ROOM, Seen, USUAL, ended, freezing, opened, options, run_over,
-};
+use super::given::{AT_MOST, BLOCKS, ROOM, Seen, USUAL, ended, files, freezing, options, run_over};
 use super::report::Report;
 use super::shows::agrees;
 use m4_engine::ending::{Cause, Ending};
@@ -190,7 +188,7 @@ fn run_from(
     block: usize,
 ) -> Seen {
     let mut frozen = Some(MemSource::new(frozen.0, block.max(1), frozen.1));
-    let mut sources = [opened(rt, b"b.m4", file.as_bytes(), block)];
+    let mut sources = files(rt, &[(b"b.m4", file.as_bytes())], block);
     run_over(rt, options, &mut frozen, &mut sources, ROOM, AT_MOST)
 }
 
@@ -368,7 +366,7 @@ fn reported(
 
 /// Runs over the first file of a row, and freezes.
 fn first_run(rt: &(impl Abort + Alloc<A = Global>), row: &Split, block: usize) -> Seen {
-    let mut sources = [opened(rt, b"a.m4", row.first.as_bytes(), block)];
+    let mut sources = files(rt, &[(b"a.m4", row.first.as_bytes())], block);
     run_over(rt, freezing(USUAL), &mut None, &mut sources, ROOM, AT_MOST)
 }
 
@@ -379,10 +377,11 @@ fn joint_run(
     row: &Split,
     block: usize,
 ) -> Seen {
-    let mut both = [
-        opened(rt, b"a.m4", row.first.as_bytes(), block),
-        opened(rt, b"b.m4", row.second.as_bytes(), block),
+    let texts: [(&[u8], &[u8]); 2] = [
+        (b"a.m4", row.first.as_bytes()),
+        (b"b.m4", row.second.as_bytes()),
     ];
+    let mut both = files(rt, &texts, block);
     run_over(rt, options, &mut None, &mut both, ROOM, AT_MOST)
 }
 

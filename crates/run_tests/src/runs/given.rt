@@ -81,6 +81,21 @@ pub fn opened<'a>(
     }
 }
 
+/// Makes files with these names and texts, as `opened` does.
+pub fn files<'a>(
+    rt: &(impl Abort + Alloc<A = Global>),
+    files: &[(&[u8], &'a [u8])],
+    block: usize,
+) -> Vec<Source<MemSource<'a>>> {
+    let mut sources = Vec::new(rt.alloc());
+    for &(name, text) in files {
+        if sources.push(opened(rt, name, text, block)).is_err() {
+            panic!(rt; "out of memory");
+        }
+    }
+    sources
+}
+
 /// The outputs of a run, and how it ended.
 #[derive(Drop)]
 pub struct Seen {
@@ -139,7 +154,7 @@ pub fn run_file(
     limits: (u64, u64),
     room: usize,
 ) -> Seen {
-    let mut sources = [opened(rt, b"a.m4", text, block)];
+    let mut sources = files(rt, &[(b"a.m4", text)], block);
     let room = (room, ROOM.1);
     run_over(rt, options(limits), &mut None, &mut sources, room, block)
 }

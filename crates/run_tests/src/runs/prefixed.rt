@@ -1,8 +1,6 @@
 //! Runs whose builtins have names with a prefix. Manual: "Invoking m4" (`--prefix-builtins`).
 
-use super::given::{
-    AT_MOST, BLOCKS, ROOM, Seen, USUAL, ended, freezing, opened, options, run_over,
-};
+use super::given::{AT_MOST, BLOCKS, ROOM, Seen, USUAL, ended, files, freezing, options, run_over};
 use super::report::printed_run;
 use super::shows::agrees;
 use m4_engine::ending::Cause;
@@ -77,7 +75,7 @@ fn run_of(
         Some(text) => Some(MemSource::new(text.as_bytes(), block.max(1), false)),
         None => None,
     };
-    let mut sources = [opened(rt, b"a.m4", file.as_bytes(), block)];
+    let mut sources = files(rt, &[(b"a.m4", file.as_bytes())], block);
     run_over(
         rt,
         prefixed(options),

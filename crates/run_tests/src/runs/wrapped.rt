@@ -2,7 +2,7 @@
 //! end of input", "Exiting from m4".
 
 use super::given::{
-    AT_MOST, BLOCKS, ROOM, Seen, USUAL, freezing, opened, options, printed_seen, run_over,
+    AT_MOST, BLOCKS, ROOM, Seen, USUAL, files, freezing, options, printed_seen, run_over,
 };
 use super::report::{Report, printed_run};
 use super::shows::agrees;
@@ -314,7 +314,7 @@ fn run_of(
     file: &str,
     block: usize,
 ) -> Seen {
-    let mut sources = [opened(rt, b"a.m4", file.as_bytes(), block)];
+    let mut sources = files(rt, &[(b"a.m4", file.as_bytes())], block);
     run_over(rt, options, &mut None, &mut sources, ROOM, AT_MOST)
 }
 
@@ -487,7 +487,7 @@ fn run_after(
     block: usize,
 ) -> Seen {
     let mut frozen = Some(MemSource::new(frozen_text, block.max(1), false));
-    let mut sources = [opened(rt, b"b.m4", file.as_bytes(), block)];
+    let mut sources = files(rt, &[(b"b.m4", file.as_bytes())], block);
     run_over(rt, options(USUAL), &mut frozen, &mut sources, ROOM, AT_MOST)
 }
 
@@ -497,10 +497,8 @@ fn run_of_both(
     (first, second): (&str, &str),
     block: usize,
 ) -> Seen {
-    let mut sources = [
-        opened(rt, b"a.m4", first.as_bytes(), block),
-        opened(rt, b"b.m4", second.as_bytes(), block),
-    ];
+    let texts: [(&[u8], &[u8]); 2] = [(b"a.m4", first.as_bytes()), (b"b.m4", second.as_bytes())];
+    let mut sources = files(rt, &texts, block);
     run_over(rt, options(USUAL), &mut None, &mut sources, ROOM, AT_MOST)
 }
 

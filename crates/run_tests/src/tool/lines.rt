@@ -17,15 +17,15 @@ static MODES: [(&[&str], &str); 22] = [
     (&["m4r", "--canon", "-"], "canon -"),
     (&["m4r", "--canon="], "canon "),
     (&["m4r", "--canon=--inspect=b"], "canon --inspect=b"),
-    (&["m4r", "--canon=a", "--inspect=b"], "a mode in company"),
-    (&["m4r", "--inspect=b", "--canon=a"], "a mode in company"),
-    (&["m4r", "--canon=a", "b"], "a mode in company"),
-    (&["m4r", "--canon", "a", "b"], "a mode in company"),
-    (&["m4r", "--inspect=a", "-"], "a mode in company"),
-    (&["m4r", "--canon=a", "-L2"], "a mode in company"),
+    (&["m4r", "--canon=a", "--inspect=b"], "a mode not alone"),
+    (&["m4r", "--inspect=b", "--canon=a"], "a mode not alone"),
+    (&["m4r", "--canon=a", "b"], "a mode not alone"),
+    (&["m4r", "--canon", "a", "b"], "a mode not alone"),
+    (&["m4r", "--inspect=a", "-"], "a mode not alone"),
+    (&["m4r", "--canon=a", "-L2"], "a mode not alone"),
     (
         &["m4r", "--expansions=9", "--inspect=a"],
-        "a mode in company",
+        "a mode not alone",
     ),
     (&["m4r", "--nope"], "refused: UnknownArgument"),
     (
@@ -44,24 +44,54 @@ static MODES: [(&[&str], &str); 22] = [
 
 // The same for lines with a frozen file: the file to freeze to, the file to start from, and the files.
 static FROZEN: [(&[&str], &str); 20] = [
-    (&["m4r", "-F", "s", "a.m4"], "freeze s, run [\"a.m4\"]"),
-    (&["m4r", "-Fs", "a.m4"], "freeze s, run [\"a.m4\"]"),
-    (&["m4r", "a.m4", "-F", "s"], "freeze s, run [\"a.m4\"]"),
-    (&["m4r", "--freeze-state=s"], "freeze s, run []"),
-    (&["m4r", "--freeze-state", "s"], "freeze s, run []"),
-    (&["m4r", "-F", "-"], "freeze -, run []"),
-    (&["m4r", "-F-"], "freeze -, run []"),
-    (&["m4r", "--freeze-state="], "freeze , run []"),
-    (&["m4r", "-R", "s", "b.m4"], "reload s, run [\"b.m4\"]"),
-    (&["m4r", "--reload-state=s"], "reload s, run []"),
-    (&["m4r", "-R", "-", "-"], "reload -, run [\"-\"]"),
-    (&["m4r", "-R", "s", "-F", "s"], "reload s, freeze s, run []"),
+    (
+        &["m4r", "-F", "s", "a.m4"],
+        "from None to Some(\"s\"), run [\"a.m4\"]",
+    ),
+    (
+        &["m4r", "-Fs", "a.m4"],
+        "from None to Some(\"s\"), run [\"a.m4\"]",
+    ),
+    (
+        &["m4r", "a.m4", "-F", "s"],
+        "from None to Some(\"s\"), run [\"a.m4\"]",
+    ),
+    (
+        &["m4r", "--freeze-state=s"],
+        "from None to Some(\"s\"), run []",
+    ),
+    (
+        &["m4r", "--freeze-state", "s"],
+        "from None to Some(\"s\"), run []",
+    ),
+    (&["m4r", "-F", "-"], "from None to Some(\"-\"), run []"),
+    (&["m4r", "-F-"], "from None to Some(\"-\"), run []"),
+    (
+        &["m4r", "--freeze-state="],
+        "from None to Some(\"\"), run []",
+    ),
+    (
+        &["m4r", "-R", "s", "b.m4"],
+        "from Some(\"s\") to None, run [\"b.m4\"]",
+    ),
+    (
+        &["m4r", "--reload-state=s"],
+        "from Some(\"s\") to None, run []",
+    ),
+    (
+        &["m4r", "-R", "-", "-"],
+        "from Some(\"-\") to None, run [\"-\"]",
+    ),
+    (
+        &["m4r", "-R", "s", "-F", "s"],
+        "from Some(\"s\") to Some(\"s\"), run []",
+    ),
     (
         &["m4r", "-F", "t", "a", "-R", "s"],
-        "reload s, freeze t, run [\"a\"]",
+        "from Some(\"s\") to Some(\"t\"), run [\"a\"]",
     ),
-    (&["m4r", "-F", "s", "--canon=a"], "a mode in company"),
-    (&["m4r", "--inspect=a", "-R", "s"], "a mode in company"),
+    (&["m4r", "-F", "s", "--canon=a"], "a mode not alone"),
+    (&["m4r", "--inspect=a", "-R", "s"], "a mode not alone"),
     (&["m4r", "-F", "s", "-F", "s"], "refused: ArgumentConflict"),
     (
         &["m4r", "-R", "s", "--reload-state=t"],
@@ -131,7 +161,7 @@ static RUNS: [(&[&str], &str); 24] = [
 fn answer_of(alloc: Global, line: &Result<Line, LineFault>) -> Result<String, Fail> {
     match line {
         Ok(line) => asked_of(alloc, line),
-        Err(LineFault::ModeNotAlone) => Ok(String::from_str(alloc, "a mode in company")?),
+        Err(LineFault::ModeNotAlone) => Ok(String::from_str(alloc, "a mode not alone")?),
         Err(LineFault::OutOfMemory) => Ok(String::from_str(alloc, "out of memory")?),
         Err(LineFault::Parse(error)) => Ok(format!(in alloc; "refused: {:?}", error.kind())?),
     }
@@ -165,14 +195,7 @@ fn frozen_of(
     freeze: &Option<String>,
     files: &Vec<String>,
 ) -> Result<String, Fail> {
-    match (reload, freeze) {
-        (Some(from), Some(to)) => Ok(format!(in alloc;
-            "reload {from}, freeze {to}, run {files:?}"
-        )?),
-        (Some(from), None) => Ok(format!(in alloc; "reload {from}, run {files:?}")?),
-        (None, Some(to)) => Ok(format!(in alloc; "freeze {to}, run {files:?}")?),
-        (None, None) => Ok(format!(in alloc; "run {files:?}")?),
-    }
+    Ok(format!(in alloc; "from {reload:?} to {freeze:?}, run {files:?}")?)
 }
 
 // Compares the result for a line with its row.
