@@ -11,7 +11,7 @@ use Rattle.m4_input.specs.declared.front.Scan.TheVariants.{Found, Broken, NeedsM
 use Rattle.m4_input.specs.declared.front.Unended.{Unended}
 use Rattle.m4_input.specs.declared.front.Answer.{Answer}
 use Rattle.m4_input.specs.declared.front.Answer.TheVariants.{Yes, No, Unknown}
-use Rattle.m4_input.specs.Pending.{Pending, text_of, consumed, line_length, one_more, newlines_in}
+use Rattle.m4_input.specs.Pending.{Pending, text_of, counted, consumed, line_length, one_more, newlines_in}
 use Rattle.m4_input.specs.Token.{scan, Front, Taken, Refused, More, front_by, front_from, token_at}
 use Rattle.m4_input.specs.Paren.{paren_in, paren_from, paren_at}
 use Rattle.m4_state.specs.State.{top_of}
@@ -42,8 +42,8 @@ module _ (z : List ℕ) (b : Bool) where
       let a : length (text_of p) ≡ length p.pushed + length p.unread = length-append p.pushed p.unread in
       let d : drop (n - length p.pushed) (p.unread ++ z) ≡ drop (n - length p.pushed) p.unread ++ z = drop-append-le (n - length p.pushed) p.unread z (omega arith) in
       let t : take (n - length p.pushed) (p.unread ++ z) ≡ take (n - length p.pushed) p.unread = take-append-le (n - length p.pushed) p.unread z (omega arith) in
-      ap (λ (x : List ℕ). record p { definition = None; pushed = drop n p.pushed; unread = x; may_follow = b; newlines = p.newlines + newlines_in (take (n - length p.pushed) (p.unread ++ z)) }) d
-      ∙ ap (λ (x : List ℕ). record p { definition = None; pushed = drop n p.pushed; unread = drop (n - length p.pushed) p.unread ++ z; may_follow = b; newlines = p.newlines + newlines_in x }) t
+      ap (λ (x : List ℕ). record p { definition = None; pushed = drop n p.pushed; unread = x; may_follow = b; newlines = counted p.newlines (newlines_in (take (n - length p.pushed) (p.unread ++ z))) }) d
+      ∙ ap (λ (x : List ℕ). record p { definition = None; pushed = drop n p.pushed; unread = drop (n - length p.pushed) p.unread ++ z; may_follow = b; newlines = counted p.newlines (newlines_in x) }) t
 
   longer_seen : Front → Front
   longer_seen (Taken t p) = Taken t (longer z b p)

@@ -3,7 +3,7 @@ use Rattle.std.proofs.Common.{◌≡◌, ℕ, zero, suc, ◌+◌, ◌-◌, ◌�
 use Rattle.std.proofs.Math.ListN.{drop_of_length-le}
 use Rattle.std.proofs.Math.Seq.{drop-append_seam}
 use Rattle.std.proofs.lemmas.List.{take-append-drop, drop-drop, length-take}
-use Rattle.m4_input.specs.Pending.{newlines_in}
+use Rattle.m4_input.specs.Pending.{counted, newlines_in}
 use Rattle.m4_input.specs.Text.{HeldText, text_after}
 use Rattle.m4_input.proofs.Parts.{drop_parts, take_parts, take_long, pushed_after}
 
@@ -96,17 +96,17 @@ file_read pu un a n l h =
     ap (drop a) (take_parts n pu un ∙ ap (λ (z : List ℕ). z ++ take (n - length pu) un) (take_long n pu (omega arith)))
     ∙ seam_at a pu (take (n - length pu) un) l
 
-pub file_taken : (b of_file : List ℕ) (at a n newlines count : ℕ) → a ≤ n → at + a ≤ length b → of_file ≡ drop a (take n (take a (drop at b) ++ drop (at + a) b)) → count ≡ newlines_in of_file → piece_of b (at + n) 0 (newlines + count) ≡ text_after n (piece_of b at a newlines)
+pub file_taken : (b of_file : List ℕ) (at a n newlines count : ℕ) → a ≤ n → at + a ≤ length b → of_file ≡ drop a (take n (take a (drop at b) ++ drop (at + a) b)) → count ≡ newlines_in of_file → piece_of b (at + n) 0 (counted newlines count) ≡ text_after n (piece_of b at a newlines)
 file_taken b of_file at a n newlines count h k e c =
     let pu = take a (drop at b) in
     let l : length pu ≡ a = pushed_length at a b k in
     let f : of_file ≡ take (n - length pu) (drop (at + a) b) = e ∙ file_read pu (drop (at + a) b) a n l h in
     let none : [] ≡ drop n pu = sym (drop_of_length-le pu (omega arith)) in
     let m : (at + n) + 0 ≡ (at + a) + (n - length pu) = omega arith in
-    ap (λ i. let t : HeldText = record { pushed = []; unread = drop i b; newlines = newlines + count } in t) m
-    ∙ ap (λ (x : List ℕ). let t : HeldText = record { pushed = []; unread = x; newlines = newlines + count } in t) (sym (drop-drop (n - length pu) (at + a) b))
-    ∙ ap (λ (x : List ℕ). let t : HeldText = record { pushed = x; unread = drop (n - length pu) (drop (at + a) b); newlines = newlines + count } in t) none
-    ∙ ap (λ i. let t : HeldText = record { pushed = drop n pu; unread = drop (n - length pu) (drop (at + a) b); newlines = newlines + i } in t) (c ∙ ap newlines_in f)
+    ap (λ i. let t : HeldText = record { pushed = []; unread = drop i b; newlines = counted newlines count } in t) m
+    ∙ ap (λ (x : List ℕ). let t : HeldText = record { pushed = []; unread = x; newlines = counted newlines count } in t) (sym (drop-drop (n - length pu) (at + a) b))
+    ∙ ap (λ (x : List ℕ). let t : HeldText = record { pushed = x; unread = drop (n - length pu) (drop (at + a) b); newlines = counted newlines count } in t) none
+    ∙ ap (λ i. let t : HeldText = record { pushed = drop n pu; unread = drop (n - length pu) (drop (at + a) b); newlines = counted newlines i } in t) (c ∙ ap newlines_in f)
 
 -- text that is stored separately at the start is consumed, and then some of the piece
 pub apart_taken : (x : List ℕ) (t : HeldText) (n : ℕ) → length x ≤ n → text_after (n - length x) t ≡ text_after n (record t { pushed = x ++ t.pushed })
@@ -115,8 +115,8 @@ apart_taken x t n h =
     let m : (n - length x) - length t.pushed ≡ n - length (x ++ t.pushed) = omega arith in
     let p : drop (n - length x) t.pushed ≡ drop n (x ++ t.pushed) =
     sym (drop_parts n x t.pushed ∙ ap (λ (z : List ℕ). z ++ drop (n - length x) t.pushed) (drop_of_length-le x (omega arith))) in
-    ap (λ i. let u : HeldText = record { pushed = drop (n - length x) t.pushed; unread = drop i t.unread; newlines = t.newlines + newlines_in (take i t.unread) } in u) m
-    ∙ ap (λ (z : List ℕ). let u : HeldText = record { pushed = z; unread = drop (n - length (x ++ t.pushed)) t.unread; newlines = t.newlines + newlines_in (take (n - length (x ++ t.pushed)) t.unread) } in u) p
+    ap (λ i. let u : HeldText = record { pushed = drop (n - length x) t.pushed; unread = drop i t.unread; newlines = counted t.newlines (newlines_in (take i t.unread)) } in u) m
+    ∙ ap (λ (z : List ℕ). let u : HeldText = record { pushed = z; unread = drop (n - length (x ++ t.pushed)) t.unread; newlines = counted t.newlines (newlines_in (take (n - length (x ++ t.pushed)) t.unread)) } in u) p
 
 pub apart_left : (x y : List ℕ) (n : ℕ) → n ≤ length x → drop n x ++ y ≡ drop n (x ++ y)
 apart_left x y n h =

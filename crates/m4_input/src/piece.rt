@@ -19,7 +19,7 @@ pub struct Piece {
 }
 
 impl Model for Piece {
-    ghost use Rattle.std.specs.Prelude.{◌≤◌, ◌<◌, ◌+◌, ◌-◌, ◌^◌, length};
+    ghost use Rattle.std.specs.Prelude.{◌≤◌, ◌+◌, length};
     ghost use Rattle.m4_input.specs.Text.{HeldText};
     ghost use Rattle.m4_input.specs.PieceView.{piece_view};
 
@@ -27,8 +27,7 @@ impl Model for Piece {
 
     ghost view = { piece_view };
 
-    ghost invariant = { λ p. (p.at + p.ahead ≤ length p.bytes.items)
-        × (p.newlines + (length p.bytes.items - (p.at + p.ahead)) < 2 ^ 64) };
+    ghost invariant = { λ p. p.at + p.ahead ≤ length p.bytes.items };
 }
 
 /// Counts the newlines. Not inlined, so that the loop has the registers for itself.
@@ -144,7 +143,7 @@ impl Piece {
             self.at += n;
         } else {
             let of_file = self.rest().split_at(n).0.split_at(self.ahead).1;
-            self.newlines += count_newlines(of_file);
+            self.newlines = self.newlines.saturating_add(count_newlines(of_file));
             self.ahead = 0;
             self.at += n;
         }
