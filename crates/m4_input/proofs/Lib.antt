@@ -4,5 +4,6 @@ pub mod Scans
 pub mod Parts
 pub mod Lines
 pub mod Calls
+pub mod Blocks
 pub mod PlainRuns
 pub mod Pieces

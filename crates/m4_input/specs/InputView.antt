@@ -1,6 +1,6 @@
 -- InputView: the meaning of an input's fields, and the effects of the parts of its calls.
 -- Not believed: it only connects the code with specs/Input.antt.
--- Words: view_of, IsUnread, IsHeld, unread_again, Fills, fault_of, Takes.
+-- Words: view_of, IsHeld, Fills, fault_of, Takes.
 use Rattle.std.specs.Prelude.{◌≡◌, ℕ, true, false, List, [], Option, Some, None, Result, Ok, Err, IfSome}
 use Rattle.m4_state.specs.Device.{Script}
 use Rattle.m4_state.specs.declared.delimiters.Delimiters.{Delimiters}
@@ -28,25 +28,15 @@ view_of i = record {
   fault = i.fault;
 }
 
--- before the reader is read, there is no byte of the file
-abbrev pub IsUnread : Pending → Type 0
-IsUnread p = (p.unread ≡ []) × (p.newlines ≡ 0)
-
 -- the invariant of each input
 abbrev pub IsHeld : Held → Type 0
-IsHeld h =
-    ((h.pending).may_follow ≡ true → IsUnread h.pending) × IfSome h.fault IsLasting
-
--- back to the state in which no byte of the file was read
-abbrev pub unread_again : Held → Held
-unread_again h = record h { pending = record h.pending { unread = []; may_follow = true; newlines = 0 } }
+IsHeld h = IfSome h.fault IsLasting
 
 -- the reader is read to its end, or the call stopped
 abbrev pub Fills : Option Script → Option Script → Held → Held → Result Unit InputFault → Type 0
 Fills before after old new (Ok done) =
     (x : List ℕ) × Reads before after old.pending x new.pending
     × ((new.pending).may_follow ≡ false) × (new.fault ≡ None)
-    × ((old.pending).may_follow ≡ true → IsUnread old.pending)
 Fills before after old new (Err fault) =
     (x : List ℕ) × Stopped fault before after old new x
 

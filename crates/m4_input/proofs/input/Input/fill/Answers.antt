@@ -1,0 +1,8 @@
+use Rattle.std.proofs.Common.{◌≡◌, List, ℕ, [], refl, sym, ap, ◌∙◌, true}
+use Rattle.m4_input.proofs.Blocks.{none_read, block_read, block_follows, block_stops}
+use Rattle.m4_input.specs.InputView.{Fills}
+use Rattle.m4_input.proofs.input.Input.fill.Goals as goal
+
+pub blocks-2-init : goal.blocks-2-init
+blocks-2-init g c =
+    (([], none_read (g.R.ByteSource.script c.args.reader.now) c.args.self.now (ap (λ h. (h.pending).may_follow) (sym c.self.view_is) ∙ c.if-not-self.false) c.requires), refl)
