@@ -1,5 +1,5 @@
 -- Blocks: what an input has in hand of its file, and what it asks its reader for.
--- Believed. Manual: "How m4 copies input to output". Words: block, BlockGives,
+-- Believed. Manual: "How m4 copies input to output". Words: BlockGives,
 -- LooksAt, ListGives, LineGives.
 use Rattle.std.specs.Prelude.{◌≡◌, ◌≤◌, nat_lt, ℕ, Bool, true, false, List, [], Option, Some, None, Result, Ok, Err, length, drop}
 use Rattle.m4_state.specs.Device.{Script, after_bytes, IsAtEnd, IsAtFault}
@@ -11,11 +11,7 @@ use Rattle.m4_input.specs.declared.front.Scan.{Scan}
 use Rattle.m4_input.specs.Pending.{Pending, text_of}
 use Rattle.m4_input.specs.Token.{scan}
 use Rattle.m4_input.specs.Paren.{paren_in}
-use Rattle.m4_input.specs.Input.{Held, longer, after_line, all_read}
-
--- how many bytes a reader is asked for at once, at most
-abbrev pub block : ℕ
-block = 4096
+use Rattle.m4_input.specs.Input.{Held, longer, block, after_line, all_read}
 
 -- one question to the reader: a block of its bytes comes after those in hand, or its end was met and the
 -- input is closed; the answer says whether bytes came. If it fails, no byte is lost

@@ -7,7 +7,7 @@ use Rattle.m4_input.specs.declared.fault.InputFault.{InputFault}
 use Rattle.m4_input.specs.declared.fault.InputFault.TheVariants as faults
 use Rattle.m4_input.specs.declared.front.Scan.{Scan}
 use Rattle.m4_input.specs.declared.front.Scan.TheVariants.{Found, Broken, NeedsMore}
-use Rattle.m4_input.specs.Blocks.{block}
+use Rattle.m4_input.specs.Input.{block}
 use Rattle.m4_input.specs.Pending.{counted, newlines_in}
 
 -- pushed text, then the unread bytes of a file; and the number of newlines of the file that were read

@@ -1,9 +1,9 @@
 //! The input that a run has not read yet: at most one definition, then pushed text, then the rest of one file.
 //!
-//! The first call that needs a byte of the file reads it to its end; no later call uses the reader. `more`
-//! reads one block. If the reader or an allocation fails, nothing is consumed, and every later call that can
-//! fail returns the same fault. `push_front` is the exception: if it runs out of memory, it may be called
-//! again.
+//! The file is read in blocks. `more` asks the reader for one. `next`, `sees_paren` and `skip_line` ask only
+//! while the bytes in hand do not decide what they return. If the reader or an allocation fails, what was read
+//! is still in hand, but for what `skip_line` has skipped, and every later call that can fail returns the same
+//! fault. `push_front` is the exception: if it runs out of memory, it may be called again.
 //!
 //! Contracts see `Held` (`specs/Input.antt`). Manual: "How m4 copies input to output".
 
@@ -63,7 +63,7 @@ impl Input {
     ghost use Rattle.m4_input.specs.Input.{Held, IsLasting, unread_file, wrapped_text, with_pushed, all_read, NextGives, ParenGives, SkipGives, WholeGives, failures_after};
     ghost use Rattle.m4_input.specs.Blocks.{BlockGives, LooksAt, ListGives, LineGives};
     ghost use Rattle.m4_input.specs.Text.{LiesIn};
-    ghost use Rattle.m4_input.specs.InputView.{fault_of, Fills, Takes};
+    ghost use Rattle.m4_input.specs.InputView.{fault_of, Fills};
 
     /// Creates the input of a file that is read from its start.
     pub fn file(alloc: Global, name: Bytes) -> Input
@@ -185,14 +185,15 @@ impl Input {
 
     /// Returns the first token and consumes it. Returns `EndInString` or `EndInComment` if the input ends
     /// first; then nothing is pending. Returns `Read` if the reader fails and `OutOfMemory` if an allocation
-    /// fails; so does each later call. Takes time in proportion to the bytes that it consumes, and at the
-    /// first call to those of the reader. Manual: "Lexical and syntactic conventions".
+    /// fails; so does each later call. Takes time in proportion to the bytes that it consumes; but a token that
+    /// is read in several blocks is looked at again after each of them. Manual: "Lexical and syntactic
+    /// conventions".
     pub fn next<R: ByteSource>(
         &mut self,
         reader: &mut R,
         delims: &Delims<'_>,
     ) -> Result<Token, InputFault>
-        // exact steps: the token, and the rest after it
+        // exact steps: the token, and the rest after it; the reader was asked only where the token was open
         ensures gives { NextGives (pair_of delims.now.quotes) (pair_of delims.now.comments)
             (R.script reader.old) (R.script reader.new) self.old self.new result }
         ensures counted { R.failures reader.new
@@ -204,8 +205,18 @@ impl Input {
         if let Some(def) = self.definition.take() {
             return Ok(Token::Definition(def));
         }
-        self.fill(reader)?;
-        self.take_token(delims)
+        'blocks: loop {
+            match self.look(delims)? {
+                Scan::Found(token, len) => {
+                    self.consume(len);
+                    return Ok(token);
+                }
+                Scan::Broken(what) => return Err(self.end_inside(what)),
+                Scan::NeedsMore => {
+                    let _came = self.more(reader)?;
+                }
+            }
+        }
     }
 
     /// Returns whether an argument list follows: a parenthesis, with no blank before it. Consumes nothing.
@@ -215,7 +226,7 @@ impl Input {
         reader: &mut R,
         delims: &Delims<'_>,
     ) -> Result<bool, InputFault>
-        // exact steps: whether a list follows; nothing is consumed
+        // exact steps: whether a list follows; the reader was asked only where that was open
         ensures gives { ParenGives (pair_of delims.now.quotes) (pair_of delims.now.comments)
             (R.script reader.old) (R.script reader.new) self.old self.new result }
         ensures counted { R.failures reader.new
@@ -227,14 +238,21 @@ impl Input {
         if self.definition.is_some() {
             return Ok(false);
         }
-        self.fill(reader)?;
-        Ok(self.text.window().sees_paren(delims))
+        'blocks: loop {
+            match self.list_after(0, delims) {
+                Answer::Yes => return Ok(true),
+                Answer::No => return Ok(false),
+                Answer::Unknown => {
+                    let _came = self.more(reader)?;
+                }
+            }
+        }
     }
 
-    /// Discards a definition and the rest of the line, with its newline; everything if no newline is left.
-    /// Returns `Read` and `OutOfMemory` as `next` does. Manual: "Deleting whitespace in input".
+    /// Discards a definition and the rest of the line, with its newline; everything if no newline is left. Keeps
+    /// no byte of the line. Returns `Read` and `OutOfMemory` as `next` does. Manual: "Deleting whitespace in input".
     pub fn skip_line<R: ByteSource>(&mut self, reader: &mut R) -> Result<(), InputFault>
-        // exact steps: the rest after the line
+        // exact steps: the rest after the line; the reader was asked only where the line went on
         ensures gives { SkipGives
             (R.script reader.old) (R.script reader.new) self.old self.new result }
         ensures counted { R.failures reader.new
@@ -243,9 +261,12 @@ impl Input {
         if let Some(fault) = self.fault {
             return Err(fault);
         }
-        self.fill(reader)?;
-        let _found = self.skip_in_hand();
-        Ok(())
+        'blocks: loop {
+            if self.skip_in_hand() {
+                return Ok(());
+            }
+            let _came = self.more(reader)?;
+        }
     }
 
     /// Asks the reader once: a block of at most 4,096 bytes comes after the bytes in hand, or the reader is at
@@ -373,25 +394,6 @@ impl Input {
         match what {
             Unended::InString => InputFault::EndInString { line },
             Unended::InComment => InputFault::EndInComment { line },
-        }
-    }
-
-    /// Returns the first token and consumes it; the input was read to its end.
-    fn take_token(&mut self, delims: &Delims<'_>) -> Result<Token, InputFault>
-        requires closed { self.old.pending.may_follow ≡ false }
-        requires plain { self.old.pending.definition ≡ None }
-        requires sound { self.old.fault ≡ None }
-        ensures { Takes (pair_of delims.now.quotes) (pair_of delims.now.comments)
-            self.old self.new result }
-    {
-        match self.text.window().scan(self.alloc, delims, false) {
-            Err(AllocError) => Err(self.stop(InputFault::OutOfMemory)),
-            Ok(Scan::Found(token, len)) => {
-                self.text.consume(len);
-                Ok(token)
-            }
-            Ok(Scan::Broken(what)) => Err(self.end_inside(what)),
-            Ok(Scan::NeedsMore) => unreachable!(),
         }
     }
 }

@@ -7,7 +7,7 @@
 //! its bytes takes time in proportion to the file.
 
 ghost use Rattle.std.specs.Prelude.{◌≡◌, ◌+◌, ◌<◌, ◌≤◌, ◌++◌, [], OnOk, OnErr, IfOk, Ok, true, false, length, take, drop, vec_len, vec_capacity, ◌-◌};
-ghost use Rattle.m4_input.specs.Blocks.{block};
+ghost use Rattle.m4_input.specs.Input.{block};
 ghost use Rattle.m4_input.specs.Pending.{newlines_in};
 
 use crate::fault::InputFault;

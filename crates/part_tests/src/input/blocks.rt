@@ -25,6 +25,10 @@ enum Step {
     List(usize),
     // Skips the rest of the line as far as it is in hand.
     Skip,
+    // The calls that ask by themselves: the first token, whether a list follows, the rest of the line.
+    Next,
+    SeesParen,
+    SkipLine,
     // Asks until the first token is decided.
     Decide,
     // The bytes in hand, the line, and how many bytes the reader returned.
@@ -70,7 +74,7 @@ const STARRED: Delims<'static> = Delims {
     comments: (b"(*", b"*)"),
 };
 
-static ROWS: [Row; 18] = [
+static ROWS: [Row; 24] = [
     Row {
         name: "a block is in hand, and then the end",
         file: b"abc",
@@ -263,6 +267,71 @@ static ROWS: [Row; 18] = [
         want: b"needs more\nmore\nneeds more\n2: name ab\ntaken 2\n",
         ..PLAIN
     },
+    Row {
+        name: "a name is read up to the byte after it",
+        file: b"foo bar",
+        block: 1,
+        steps: &[Step::Next, Step::Taken, Step::Next, Step::Taken],
+        want: b"name foo\ntaken 4\nbyte  \ntaken 4\n",
+        ..PLAIN
+    },
+    Row {
+        name: "a parenthesis in hand decides that a list follows",
+        file: b"f(x",
+        block: 1,
+        steps: &[Step::Next, Step::SeesParen, Step::Taken],
+        want: b"name f\nlist\ntaken 2\n",
+        ..PLAIN
+    },
+    Row {
+        name: "a parenthesis that may begin a comment needs the byte after it",
+        delims: STARRED,
+        file: b"f(x y",
+        block: 1,
+        steps: &[Step::Next, Step::SeesParen, Step::Taken],
+        want: b"name f\nlist\ntaken 3\n",
+        ..PLAIN
+    },
+    Row {
+        name: "a line is read up to the block with its newline",
+        file: b"foo\nbar\nbaz",
+        block: 2,
+        steps: &[
+            Step::SkipLine,
+            Step::Taken,
+            Step::Hand,
+            Step::Line,
+            Step::Next,
+            Step::Taken,
+        ],
+        want: b"skipped\ntaken 4\n[]\nline 2\nname bar\ntaken 8\n",
+        ..PLAIN
+    },
+    Row {
+        name: "a reader fails within a token, which stays in hand",
+        file: b"ab",
+        block: 1,
+        fails: true,
+        steps: &[
+            Step::Next,
+            Step::Hand,
+            Step::Next,
+            Step::SeesParen,
+            Step::SkipLine,
+            Step::Taken,
+        ],
+        want: b"read fault\n[ab]\nread fault\nread fault\nread fault\ntaken 2\n",
+        ..PLAIN
+    },
+    Row {
+        name: "a reader fails within a line, which was skipped",
+        file: b"ab",
+        block: 1,
+        fails: true,
+        steps: &[Step::SkipLine, Step::Hand, Step::Next, Step::Line],
+        want: b"read fault\n[]\nread fault\nline 1\n",
+        ..PLAIN
+    },
 ];
 
 // Adds what the bytes in hand decide of the first token: its length, and the token.
@@ -360,6 +429,16 @@ fn answer(
         } else {
             b"part of the line\n"
         }),
+        Step::Next => describe(&input.next(reader, delims)?, report),
+        Step::SeesParen => report.add(if input.sees_paren(reader, delims)? {
+            b"list\n"
+        } else {
+            b"no list\n"
+        }),
+        Step::SkipLine => {
+            input.skip_line(reader)?;
+            report.add(b"skipped\n");
+        }
         Step::Hand => describe_hand(input, report),
         Step::Line => {
             report.counted(b"line ", input.line() as usize);

@@ -1,6 +1,5 @@
-use Rattle.std.proofs.Common.{◌≡◌, List, ℕ, [], refl, sym, ap, ◌∙◌, true}
-use Rattle.m4_input.proofs.Blocks.{none_read, block_read, block_follows, block_stops}
-use Rattle.m4_input.specs.InputView.{Fills}
+use Rattle.std.proofs.Common.{[], refl, sym, ap, ◌∙◌}
+use Rattle.m4_input.proofs.Blocks.{none_read}
 use Rattle.m4_input.proofs.input.Input.fill.Goals as goal
 
 pub blocks-2-init : goal.blocks-2-init
