@@ -11,7 +11,7 @@ use Rattle.m4_input.specs.declared.front.Scan.TheVariants.{Found, Broken, NeedsM
 use Rattle.m4_input.specs.declared.front.Unended.{Unended}
 use Rattle.m4_input.specs.declared.front.Answer.{Answer}
 use Rattle.m4_input.specs.declared.front.Answer.TheVariants.{Yes, No, Unknown}
-use Rattle.m4_input.specs.Pending.{Pending, text_of, consumed, line_length, one_more, newlines_in}
+use Rattle.m4_input.specs.Pending.{Pending, text_of, counted, consumed, line_length, one_more, newlines_in}
 use Rattle.m4_input.specs.Token.{scan, Front, Taken, Refused, More, front_by, front_from, token_at}
 use Rattle.m4_input.specs.Paren.{paren_in, paren_from, paren_at}
 use Rattle.m4_state.specs.State.{top_of}
@@ -28,23 +28,13 @@ use Rattle.m4_engine.specs.Args.{role_of, take_closing, take_byte}
 use Rattle.m4_engine.specs.Expand.{with_value, skip_all, skip_line, skip_or_push, effected, acted_at, kept_of, after_call, called, join_by, join, call_of, bare, collect, call_unless_deep, is_deep, call_if_room, call_without_list, take_call, take_name, take_other, take_token, take_front, unended_cause, turn, size_of, calls_left, out_of_bound_at, expand}
 use Rattle.m4_engine.proofs.Growth.{Extends, made_out, longer_level, Continues, Begins}
 use Rattle.m4_input.specs.declared.front.Unended.TheVariants.{InString, InComment}
+use Rattle.m4_input.proofs.Consumed.{text_longer, consumed_longer}
 use Rattle.m4_input.proofs.OpenEnd.{NoEnd, scan_no_end, scan_stays, scan_fits, paren_in_stays, one_more_is}
 use Rattle.m4_engine.proofs.Beside.{Follows, Fits, expansion_fits}
 use Rattle.m4_engine.proofs.CallsFall.{falls, expand_is}
 use Rattle.m4_engine.proofs.OnlyGrows.{extends_more, made, bare_made, skipped_keeps, on_answer_keeps, on_seen_keeps, whole_keeps, then_keeps, list_keeps, turn_goes}
 
 module _ (z : List ℕ) (b : Bool) where
-  text-longer : (p : Pending) → text_of (longer z b p) ≡ text_of p ++ z
-  text-longer p = sym (append_assoc p.pushed p.unread z)
-
-  consumed-longer : (n : ℕ) (p : Pending) → n ≤ length (text_of p) → consumed n (longer z b p) ≡ longer z b (consumed n p)
-  consumed-longer n p h =
-      let a : length (text_of p) ≡ length p.pushed + length p.unread = length-append p.pushed p.unread in
-      let d : drop (n - length p.pushed) (p.unread ++ z) ≡ drop (n - length p.pushed) p.unread ++ z = drop-append-le (n - length p.pushed) p.unread z (omega arith) in
-      let t : take (n - length p.pushed) (p.unread ++ z) ≡ take (n - length p.pushed) p.unread = take-append-le (n - length p.pushed) p.unread z (omega arith) in
-      ap (λ (x : List ℕ). record p { definition = None; pushed = drop n p.pushed; unread = x; may_follow = b; newlines = p.newlines + newlines_in (take (n - length p.pushed) (p.unread ++ z)) }) d
-      ∙ ap (λ (x : List ℕ). record p { definition = None; pushed = drop n p.pushed; unread = drop (n - length p.pushed) p.unread ++ z; may_follow = b; newlines = p.newlines + newlines_in x }) t
-
   longer_seen : Front → Front
   longer_seen (Taken t p) = Taken t (longer z b p)
   longer_seen (Refused f n) = Refused f n
@@ -57,7 +47,7 @@ module _ (z : List ℕ) (b : Bool) where
   seen_by_stays : (p : Pending) (v w : Scan) → ((t : Token) (n : ℕ) → v ≡ Found t n → n ≤ length (text_of p)) → (v ≡ NeedsMore) ⊎ (w ≡ v) → SeenStays (front_by p v) (front_by (longer z b p) w)
   unfolding SeenStays longer_seen
   seen_by_stays p v w h (inl e) = inl (ap (front_by p) e)
-  seen_by_stays p (Found t n) w h (inr e) = inr (ap (front_by (longer z b p)) e ∙ ap (Taken t) (consumed-longer n p (h t n refl)))
+  seen_by_stays p (Found t n) w h (inr e) = inr (ap (front_by (longer z b p)) e ∙ ap (Taken t) (consumed_longer z b n p (h t n refl)))
   seen_by_stays p (Broken f) w h (inr e) = inr (ap (front_by (longer z b p)) e)
   seen_by_stays p NeedsMore w h (inr e) = inl refl
 
@@ -66,14 +56,14 @@ module _ (z : List ℕ) (b : Bool) where
   seen_stays (Some d) q c p e = inr refl
   seen_stays None q c p e =
       let P : Bool → Type 0 = λ v. SeenStays (front_by p (scan q c v (text_of p))) (front_from None q c (longer z b p)) in
-      subst P (sym e) (subst (λ x. SeenStays (front_by p (scan q c true (text_of p))) (front_by (longer z b p) (scan q c b x))) (sym (text-longer p))
+      subst P (sym e) (subst (λ x. SeenStays (front_by p (scan q c true (text_of p))) (front_by (longer z b p) (scan q c b x))) (sym (text_longer z b p))
       (seen_by_stays p _ _ (λ t n f. scan_fits q c (text_of p) t n f) (scan_stays q c b (text_of p) z)))
 
   paren_stays : (o : Option Def) (q c : Delimiters) (p : Pending) → p.may_follow ≡ true → (paren_from o q c p ≡ Unknown) ⊎ (paren_from o q c (longer z b p) ≡ paren_from o q c p)
   paren_stays (Some d) q c p e = inr refl
   paren_stays None q c p e =
       let P : Bool → Type 0 = λ v. (paren_in q c v (text_of p) ≡ Unknown) ⊎ (paren_in q c b (text_of (longer z b p)) ≡ paren_in q c v (text_of p)) in
-      subst P (sym e) (subst (λ x. (paren_in q c true (text_of p) ≡ Unknown) ⊎ (paren_in q c b x ≡ paren_in q c true (text_of p))) (sym (text-longer p)) (paren_in_stays q c b (text_of p) z))
+      subst P (sym e) (subst (λ x. (paren_in q c true (text_of p) ≡ Unknown) ⊎ (paren_in q c b x ≡ paren_in q c true (text_of p))) (sym (text_longer z b p)) (paren_in_stays q c b (text_of p) z))
 
   -- what the turns of a level and of the longer one have to do with one another
   abbrev Meets : Turn Expansion Kept Ended → Turn Expansion Kept Ended → Type 0
@@ -96,7 +86,7 @@ module _ (z : List ℕ) (b : Bool) where
       subst P (sym h) (inl (refl, skipped_keeps o' (L s)))
   skipped_meets (Some n) o' s h f =
       let k = f n refl in
-      (ap (λ o. skip_line o (L s)) k.0 ∙ ap (λ p. Closed (reading p (L s))) (consumed-longer n s.pending k.1), h)
+      (ap (λ o. skip_line o (L s)) k.0 ∙ ap (λ p. Closed (reading p (L s))) (consumed_longer z b n s.pending k.1), h)
 
   line_stays : (x : List ℕ) (n : ℕ) → line_length x ≡ Some n → (line_length (x ++ z) ≡ Some n) × (n ≤ length x)
   line_stays [] n e = cc
@@ -117,7 +107,7 @@ module _ (z : List ℕ) (b : Bool) where
   pushed_partial (Some (pushes.Definition d)) p = refl
 
   pushed_meets : (skip : Bool) (v : Option Pushed) (s : Expansion) → (s.pending).may_follow ≡ true → MeetsOut (skip_or_push skip v s) (skip_or_push skip v (L s))
-  pushed_meets true v s h = skipped_meets (line_length (text_of s.pending)) _ s h (λ n e. let k = line_stays (text_of s.pending) n e in (ap line_length (text-longer s.pending) ∙ k.0, k.1))
+  pushed_meets true v s h = skipped_meets (line_length (text_of s.pending)) _ s h (λ n e. let k = line_stays (text_of s.pending) n e in (ap line_length (text_longer z b s.pending) ∙ k.0, k.1))
   pushed_meets false v s h = (ap (λ p. Closed (reading p (L s))) (pushed_same v s.pending), pushed_partial v s.pending ∙ h)
 
   effected_meets : (n : Option ℕ) (skip : Bool) (v : Option Pushed) (s : Expansion) → (s.pending).may_follow ≡ true → MeetsOut (effected n skip v s) (effected n skip v (L s))
@@ -133,7 +123,7 @@ module _ (z : List ℕ) (b : Bool) where
   bare_meets (Closed u) o' h = (ap bare h.0, h.1)
 
   enter_list_meets : (listed : Bool) (c : Call) (p : Pending) (s : Expansion) → p.may_follow ≡ true → (listed ≡ true → 0 < length (text_of p)) → Meets (collect listed c p s) (collect listed c (longer z b p) (L s))
-  enter_list_meets true c p s h g = (ap (λ q. Opens (kept_of s) (record s { pending = q; open_calls = suc s.open_calls; mode = Collecting c })) (consumed-longer 1 p (g refl)), h)
+  enter_list_meets true c p s h g = (ap (λ q. Opens (kept_of s) (record s { pending = q; open_calls = suc s.open_calls; mode = Collecting c })) (consumed_longer z b 1 p (g refl)), h)
   enter_list_meets false c p s h g = bare_meets (called c (reading p s) (kept_of s)) (called c (L (reading p s)) (kept_of s)) (called_meets c (reading p s) (kept_of s) h)
 
   enter_meets : (deep listed : Bool) (c : Call) (p : Pending) (s : Expansion) → p.may_follow ≡ true → (listed ≡ true → 0 < length (text_of p)) → Meets (call_unless_deep deep listed c p s) (call_unless_deep deep listed c (longer z b p) (L s))

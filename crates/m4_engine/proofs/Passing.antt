@@ -8,12 +8,13 @@ use Rattle.m4_state.specs.State.{State}
 use Rattle.m4_input.specs.declared.front.Scan.{Scan}
 use Rattle.m4_input.specs.declared.token.Token.TheVariants.{Name, Str, Byte}
 use Rattle.m4_input.specs.declared.front.Scan.TheVariants.{Found}
-use Rattle.m4_input.specs.Pending.{Pending, text_of, consumed, newlines_in}
+use Rattle.m4_input.specs.Pending.{Pending, text_of, counted, consumed, newlines_in}
 use Rattle.m4_input.specs.Token.{front_by, front_from, scan, token_at}
 use Rattle.m4_input.specs.Ascii.{is_space}
 use Rattle.m4_input.specs.Plain.{IsPlain, total, ArePlain, is_inner, IsInner}
 use Rattle.m4_input.specs.Input.{Held}
-use Rattle.m4_input.proofs.Parts.{drop_parts, newlines_further}
+use Rattle.m4_input.proofs.Consumed.{consumed_twice}
+use Rattle.m4_input.proofs.Parts.{drop_parts, counted_none}
 use Rattle.m4_engine.specs.declared.turned.Turned.TheVariants as turns
 use Rattle.m4_engine.specs.Nesting.{Turn, GoOn}
 use Rattle.m4_engine.specs.OpenCalls.{take_turn}
@@ -55,22 +56,9 @@ plain_moves e p n d f h = λ o m.
 consumed_none : (p : Pending) → p.definition ≡ None → consumed 0 p ≡ p
 consumed_none p d =
     let none : 0 - length p.pushed ≡ 0 = omega arith in
-    ap (λ m. let q : Pending = record p { definition = None; unread = drop m p.unread; newlines = p.newlines + newlines_in (take m p.unread) } in q) none
-    ∙ ap (λ m. let q : Pending = record p { definition = None; newlines = m } in q) (add-zero p.newlines)
+    ap (λ m. let q : Pending = record p { definition = None; unread = drop m p.unread; newlines = counted p.newlines (newlines_in (take m p.unread)) } in q) none
+    ∙ ap (λ m. let q : Pending = record p { definition = None; newlines = m } in q) (counted_none p.newlines)
     ∙ ap (λ (o : Option Def). let q : Pending = record p { definition = o } in q) (sym d)
-
-consumed_twice : (n k : ℕ) (p : Pending) → consumed k (consumed n p) ≡ consumed (n + k) p
-consumed_twice n k p =
-    let a = n - length p.pushed in
-    let b = k - length (drop n p.pushed) in
-    let long : length (drop n p.pushed) ≡ length p.pushed - n = length-drop n p.pushed in
-    let both : a + b ≡ (n + k) - length p.pushed = omega arith in
-    let further : newlines_in (take (a + b) p.unread) ≡ newlines_in (take a p.unread) + newlines_in (take b (drop a p.unread)) = newlines_further p.unread a b in
-    let count : (p.newlines + newlines_in (take a p.unread)) + newlines_in (take b (drop a p.unread)) ≡ p.newlines + newlines_in (take (a + b) p.unread) = omega arith in
-    ap (λ (x : List ℕ). let q : Pending = record p { definition = None; pushed = x; unread = drop b (drop a p.unread); newlines = (p.newlines + newlines_in (take a p.unread)) + newlines_in (take b (drop a p.unread)) } in q) (drop-drop k n p.pushed)
-    ∙ ap (λ (x : List ℕ). let q : Pending = record p { definition = None; pushed = drop (n + k) p.pushed; unread = x; newlines = (p.newlines + newlines_in (take a p.unread)) + newlines_in (take b (drop a p.unread)) } in q) (drop-drop b a p.unread)
-    ∙ ap (λ m. let q : Pending = record p { definition = None; pushed = drop (n + k) p.pushed; unread = drop (a + b) p.unread; newlines = m } in q) count
-    ∙ ap (λ m. let q : Pending = record p { definition = None; pushed = drop (n + k) p.pushed; unread = drop m p.unread; newlines = p.newlines + newlines_in (take m p.unread) } in q) both
 
 -- the rest of an expansion is the same, in no more turns
 pub record Reaches (e : Engine) (p : Pending) (e1 : Engine) (p1 : Pending) : Type 0 where

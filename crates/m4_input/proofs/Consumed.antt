@@ -1,5 +1,6 @@
 -- Consumed: a token takes at least a byte, and leaves less of the text.
-use Rattle.std.proofs.Common.{◌≡◌, ◌≢◌, Option, ℕ, ◌+◌, ◌-◌, ◌<◌, Bool, true, false, cond, ◌&&◌, List, [], ◌∷◌, length, drop, Some, None, refl, arith, length-append, length-drop}
+use Rattle.std.proofs.Common.{◌≡◌, ◌≢◌, Option, ℕ, ◌+◌, ◌-◌, ◌<◌, Bool, true, false, cond, ◌&&◌, List, [], ◌∷◌, ◌++◌, ◌≤◌, length, take, drop, Some, None, refl, sym, ap, ◌∙◌, arith, length-append, length-drop, append_assoc}
+use Rattle.std.proofs.lemmas.List.{take-append-le, drop-append-le, drop-drop}
 use Rattle.std.proofs.lemmas.Bool.Decides.{nat_tests}
 use Rattle.m4_state.specs.declared.definition.Def.{Def}
 use Rattle.m4_state.specs.declared.delimiters.Delimiters.{Delimiters}
@@ -11,7 +12,9 @@ use Rattle.m4_input.specs.declared.front.Unended.{Unended}
 use Rattle.m4_input.specs.declared.front.Kind.{Kind}
 use Rattle.m4_input.specs.declared.front.Kind.TheVariants.{CommentHere, NameHere, StringHere, ByteHere, Undecided}
 use Rattle.m4_input.specs.Ascii.{is_letter, is_name_byte}
-use Rattle.m4_input.specs.Pending.{Pending, text_of, consumed}
+use Rattle.m4_input.specs.Pending.{Pending, text_of, counted, newlines_in, consumed}
+use Rattle.m4_input.specs.Input.{longer}
+use Rattle.m4_input.proofs.Parts.{counted_twice, newlines_further}
 use Rattle.m4_input.specs.Token.{begins, is_enabled, run_length, before, level, unended, comment_found, name_unless, string_found, kind_by, kind_of, scan_kind, scan}
 
 pub text-consumed : (n : ℕ) (p : Pending) → length (text_of (consumed n p)) ≡ length (text_of p) - n
@@ -21,6 +24,33 @@ text-consumed n p =
     let c : length (drop n p.pushed) ≡ length p.pushed - n = length-drop n p.pushed in
     let d : length (drop (n - length p.pushed) p.unread) ≡ length p.unread - (n - length p.pushed) = length-drop (n - length p.pushed) p.unread in
     omega arith
+
+-- with more bytes of the file
+pub text_longer : (z : List ℕ) (b : Bool) (p : Pending) → text_of (longer z b p) ≡ text_of p ++ z
+text_longer z b p = sym (append_assoc p.pushed p.unread z)
+
+pub consumed_longer : (z : List ℕ) (b : Bool) (n : ℕ) (p : Pending) → n ≤ length (text_of p) → consumed n (longer z b p) ≡ longer z b (consumed n p)
+consumed_longer z b n p h =
+    let a : length (text_of p) ≡ length p.pushed + length p.unread = length-append p.pushed p.unread in
+    let d : drop (n - length p.pushed) (p.unread ++ z) ≡ drop (n - length p.pushed) p.unread ++ z = drop-append-le (n - length p.pushed) p.unread z (omega arith) in
+    let t : take (n - length p.pushed) (p.unread ++ z) ≡ take (n - length p.pushed) p.unread = take-append-le (n - length p.pushed) p.unread z (omega arith) in
+    ap (λ (x : List ℕ). record p { definition = None; pushed = drop n p.pushed; unread = x; may_follow = b; newlines = counted p.newlines (newlines_in (take (n - length p.pushed) (p.unread ++ z))) }) d
+    ∙ ap (λ (x : List ℕ). record p { definition = None; pushed = drop n p.pushed; unread = drop (n - length p.pushed) p.unread ++ z; may_follow = b; newlines = counted p.newlines (newlines_in x) }) t
+
+-- in two steps
+pub consumed_twice : (n k : ℕ) (p : Pending) → consumed k (consumed n p) ≡ consumed (n + k) p
+consumed_twice n k p =
+    let a = n - length p.pushed in
+    let b = k - length (drop n p.pushed) in
+    let long : length (drop n p.pushed) ≡ length p.pushed - n = length-drop n p.pushed in
+    let both : a + b ≡ (n + k) - length p.pushed = omega arith in
+    let further : newlines_in (take (a + b) p.unread) ≡ newlines_in (take a p.unread) + newlines_in (take b (drop a p.unread)) = newlines_further p.unread a b in
+    let count : counted (counted p.newlines (newlines_in (take a p.unread))) (newlines_in (take b (drop a p.unread))) ≡ counted p.newlines (newlines_in (take (a + b) p.unread)) =
+    counted_twice p.newlines (newlines_in (take a p.unread)) (newlines_in (take b (drop a p.unread))) ∙ ap (counted p.newlines) (sym further) in
+    ap (λ (x : List ℕ). let q : Pending = record p { definition = None; pushed = x; unread = drop b (drop a p.unread); newlines = counted (counted p.newlines (newlines_in (take a p.unread))) (newlines_in (take b (drop a p.unread))) } in q) (drop-drop k n p.pushed)
+    ∙ ap (λ (x : List ℕ). let q : Pending = record p { definition = None; pushed = drop (n + k) p.pushed; unread = x; newlines = counted (counted p.newlines (newlines_in (take a p.unread))) (newlines_in (take b (drop a p.unread))) } in q) (drop-drop b a p.unread)
+    ∙ ap (λ m. let q : Pending = record p { definition = None; pushed = drop (n + k) p.pushed; unread = drop (a + b) p.unread; newlines = m } in q) count
+    ∙ ap (λ m. let q : Pending = record p { definition = None; pushed = drop (n + k) p.pushed; unread = drop m p.unread; newlines = counted p.newlines (newlines_in (take m p.unread)) } in q) both
 
 -- a text that isn't empty gives a token of reading least a byte, but for the end
 unfoldable pub HasBytes : Scan → Type 0

@@ -4,5 +4,7 @@ pub mod Scans
 pub mod Parts
 pub mod Lines
 pub mod Calls
+pub mod Decided
+pub mod Blocks
 pub mod PlainRuns
 pub mod Pieces

@@ -1,9 +1,15 @@
 -- Lines: the rest of a line is found by its newline.
-use Rattle.std.proofs.Common.{◌≡◌, ℕ, ◌+◌, Bool, true, false, List, [], ◌∷◌, length, Option, Some, None, refl, sym, ap, ◌∙◌, arith, add-one}
-use Rattle.std.specs.Prelude.{◌==◌, unwrap_or}
+use Rattle.std.proofs.Common.{◌≡◌, ℕ, suc, ◌+◌, ◌-◌, Bool, true, false, List, [], ◌∷◌, ◌++◌, length, take, drop, Option, Some, None, refl, sym, ap, ◌∙◌, arith, add-one, length-append}
+use Rattle.std.proofs.Math.ListN.{drop_of_length-le}
+use Rattle.std.specs.Prelude.{◌==◌, not}
 use Rattle.std.proofs.lemmas.Bool.Decides.{nat_tests}
 use Rattle.m4_input.specs.Ascii.{newline}
-use Rattle.m4_input.specs.Pending.{one_more, line_length}
+use Rattle.m4_input.specs.Pending.{Pending, text_of, counted, newlines_in, consumed, one_more, line_length}
+use Rattle.m4_input.specs.Input.{Held, longer, all_read, all_read_if_ended, after_line_of, after_line}
+use Rattle.m4_input.specs.Blocks.{LineGives}
+use Rattle.m4_input.proofs.Consumed.{text_longer, consumed_longer, consumed_twice}
+use Rattle.m4_input.proofs.Parts.{take_long}
+use Rattle.m4_input.proofs.Scans.{further}
 use Rattle.m4_input.specs.Token.{begins, before}
 
 abbrev line_on : Bool → Option ℕ → Option ℕ
@@ -34,8 +40,89 @@ line_found (b ∷ x) =
     ∙ ap (λ v. one_more (before_on v (before (newline ∷ []) x))) (same_test b x)
     ∙ ap one_more (sym (before_is (newline ∷ []) b x))
 
-pub line_some : (x : List ℕ) (n : ℕ) → Some n ≡ before (newline ∷ []) x → n + 1 ≡ unwrap_or (line_length x) (length x)
-line_some x n e = add-one n ∙ ap (λ (o : Option ℕ). unwrap_or o (length x)) (ap one_more e ∙ sym (line_found x))
+pub line_some : (x : List ℕ) (n : ℕ) → Some n ≡ before (newline ∷ []) x → Some (n + 1) ≡ line_length x
+line_some x n e = ap Some (add-one n) ∙ ap one_more e ∙ sym (line_found x)
 
-pub line_none : (x : List ℕ) → None ≡ before (newline ∷ []) x → length x ≡ unwrap_or (line_length x) (length x)
-line_none x e = ap (λ (o : Option ℕ). unwrap_or o (length x)) (ap one_more e ∙ sym (line_found x))
+pub line_none : (x : List ℕ) → None ≡ before (newline ∷ []) x → None ≡ line_length x
+line_none x e = ap one_more e ∙ sym (line_found x)
+
+-- the rest of a line is dropped as far as it is in hand
+pub line_dropped : (old new : Held) (n : ℕ) → line_length (text_of old.pending) ≡ Some n → new ≡ record old { pending = consumed n old.pending } → LineGives old new true
+line_dropped old new n e f = (
+  ap (λ (o : Option ℕ). after_line_of o old.pending) e ∙ ap (λ (h : Held). Some h.pending) (sym f),
+  ap (λ (h : Held). h.fault) f,
+)
+
+pub all_dropped : (old new : Held) (v : Bool) → (old.pending).may_follow ≡ v → line_length (text_of old.pending) ≡ None → new ≡ record old { pending = all_read old.pending } → LineGives old new (not v)
+all_dropped old new true m e f = (
+  ap (λ (o : Option ℕ). after_line_of o old.pending) e ∙ ap (λ (b : Bool). all_read_if_ended b old.pending) m,
+  f,
+)
+all_dropped old new false m e f = (
+  ap (λ (o : Option ℕ). after_line_of o old.pending) e ∙ ap (λ (b : Bool). all_read_if_ended b old.pending) m ∙ ap (λ (h : Held). Some h.pending) (sym f),
+  ap (λ (h : Held). h.fault) f,
+)
+
+-- everything is consumed
+all_read_is : (p : Pending) → all_read p ≡ record p { definition = None; pushed = []; unread = []; newlines = counted p.newlines (newlines_in p.unread) }
+all_read_is p =
+    let l : length (text_of p) ≡ length p.pushed + length p.unread = length-append p.pushed p.unread in
+    let m : length (text_of p) - length p.pushed ≡ length p.unread = omega arith in
+    ap (λ (x : List ℕ). let q : Pending = record p { definition = None; pushed = x; unread = drop (length (text_of p) - length p.pushed) p.unread; newlines = counted p.newlines (newlines_in (take (length (text_of p) - length p.pushed) p.unread)) } in q) (drop_of_length-le p.pushed (omega arith))
+    ∙ ap (λ (n : ℕ). let q : Pending = record p { definition = None; pushed = []; unread = drop n p.unread; newlines = counted p.newlines (newlines_in (take n p.unread)) } in q) m
+    ∙ ap (λ (x : List ℕ). let q : Pending = record p { definition = None; pushed = []; unread = x; newlines = counted p.newlines (newlines_in (take (length p.unread) p.unread)) } in q) (drop_of_length-le p.unread (omega arith))
+    ∙ ap (λ (x : List ℕ). let q : Pending = record p { definition = None; pushed = []; unread = []; newlines = counted p.newlines (newlines_in x) } in q) (take_long (length p.unread) p.unread (omega arith))
+
+-- the bytes of a block after those that were dropped
+module _ (y : List ℕ) (b : Bool) (p : Pending) where
+  text_dropped : text_of (longer y b (all_read p)) ≡ y
+  text_dropped = ap (λ (q : Pending). text_of (longer y b q)) (all_read_is p)
+
+  consumed_dropped : (n : ℕ) → consumed n (longer y b (all_read p)) ≡ consumed (length (text_of p) + n) (longer y b p)
+  consumed_dropped n =
+      ap (consumed n) (sym (consumed_longer y b (length (text_of p)) p (omega arith)))
+      ∙ consumed_twice (length (text_of p)) n (longer y b p)
+
+  text_all : length (text_of (longer y b p)) ≡ length (text_of p) + length y
+  text_all = ap length (text_longer y b p) ∙ length-append (text_of p) y
+
+  pub rest_dropped : all_read (longer y b p) ≡ all_read (longer y b (all_read p))
+  rest_dropped =
+      ap (λ (n : ℕ). consumed n (longer y b p)) text_all
+      ∙ sym (consumed_dropped (length y))
+      ∙ ap (λ (x : List ℕ). consumed (length x) (longer y b (all_read p))) (sym text_dropped)
+
+  line_by : (o : Option ℕ) (v : Bool) → b ≡ v → after_line_of (further (length (text_of p)) o) (longer y b p) ≡ after_line_of o (longer y b (all_read p))
+  line_by (Some n) v e = ap Some (sym (consumed_dropped n))
+  line_by None true e = ap (λ (w : Bool). all_read_if_ended w (longer y b p)) e ∙ sym (ap (λ (w : Bool). all_read_if_ended w (longer y b (all_read p))) e)
+  line_by None false e = ap (λ (w : Bool). all_read_if_ended w (longer y b p)) e ∙ ap Some rest_dropped ∙ sym (ap (λ (w : Bool). all_read_if_ended w (longer y b (all_read p))) e)
+
+none_more : (o : Option ℕ) → one_more o ≡ None → o ≡ None
+none_more None e = refl
+none_more (Some n) e = cc
+
+further_zero : (o : Option ℕ) → o ≡ further 0 o
+further_zero None = refl
+further_zero (Some n) = ap Some (omega arith)
+
+further_one : (n : ℕ) (o : Option ℕ) → one_more (further n o) ≡ further (suc n) o
+further_one n None = refl
+further_one n (Some m) = ap Some (omega arith)
+
+goes_by : (v : Bool) (x y : List ℕ) → line_on v (line_length x) ≡ None → (line_length x ≡ None → line_length (x ++ y) ≡ further (length x) (line_length y)) → line_on v (line_length (x ++ y)) ≡ further (suc (length x)) (line_length y)
+goes_by true x y f h = cc
+goes_by false x y f h = ap one_more (h (none_more (line_length x) f)) ∙ further_one (length x) (line_length y)
+
+-- a line goes on after bytes without a newline
+line_goes_on : (x y : List ℕ) → line_length x ≡ None → line_length (x ++ y) ≡ further (length x) (line_length y)
+line_goes_on [] y e = further_zero (line_length y)
+line_goes_on (b ∷ x) y e =
+    let f : line_on (b == newline) (line_length x) ≡ None = sym (line_is b x) ∙ e in
+    line_is b (x ++ y) ∙ goes_by (b == newline) x y f (λ g. line_goes_on x y g)
+
+pub line_after_block : (y : List ℕ) (b : Bool) (p : Pending) → line_length (text_of p) ≡ None → after_line (longer y b p) ≡ after_line (longer y b (all_read p))
+line_after_block y b p e =
+    ap (λ (x : List ℕ). after_line_of (line_length x) (longer y b p)) (text_longer y b p)
+    ∙ ap (λ (o : Option ℕ). after_line_of o (longer y b p)) (line_goes_on (text_of p) y e)
+    ∙ line_by y b p (line_length y) b refl
+    ∙ ap (λ (x : List ℕ). after_line_of (line_length x) (longer y b (all_read p))) (sym (text_dropped y b p))

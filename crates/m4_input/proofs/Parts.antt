@@ -1,11 +1,11 @@
 -- Parts: a text of two parts, of which the first is kept with its last byte first.
-use Rattle.std.proofs.Common.{◌≡◌, ℕ, zero, suc, ◌+◌, ◌-◌, ◌<◌, ◌≤◌, List, [], ◌∷◌, ◌++◌, length, take, drop, refl, sym, ap, ◌∙◌, arith, length-drop, min, add-zero}
+use Rattle.std.proofs.Common.{◌≡◌, ℕ, zero, suc, ◌+◌, ◌-◌, ◌<◌, ◌≤◌, List, [], ◌∷◌, ◌++◌, length, take, drop, refl, sym, ap, ◌∙◌, arith, length-drop, min}
 use Rattle.std.proofs.Math.ListN.{drop_of_length-le}
 use Rattle.std.proofs.Math.Seq.{drop-append_seam, take-append_seam, take-add}
-use Rattle.m4_input.specs.Pending.{newlines_in}
+use Rattle.m4_input.specs.Pending.{counted, newlines_in}
 use Rattle.std.proofs.lemmas.List.{take-append-drop, reverse-append, length-reverse, append-nil}
 use Rattle.std.proofs.lemmas.List.Sums.{sum_by-append}
-use Rattle.std.specs.Prelude.{reverse, cond, ◌==◌}
+use Rattle.std.specs.Prelude.{reverse, cond, ◌==◌, ◌^◌}
 use Rattle.m4_input.specs.Ascii.{newline}
 use Rattle.m4_input.specs.Text.{HeldText, text_after}
 
@@ -82,13 +82,23 @@ newlines_append x y = sum_by-append (λ b. cond (b == newline) 1 0) x y
 pub newlines_further : (x : List ℕ) (at n : ℕ) → newlines_in (take (at + n) x) ≡ newlines_in (take at x) + newlines_in (take n (drop at x))
 newlines_further x at n = ap newlines_in (take-add at n x) ∙ newlines_append (take at x) (take n (drop at x))
 
+-- counting in two steps
+pub counted_none : (n : ℕ) → counted n 0 ≡ n
+counted_none n = omega arith
+
+pub counted_twice : (n a b : ℕ) → counted (counted n a) b ≡ counted n (a + b)
+counted_twice n a b = omega arith
+
+pub counted_is : (n a : ℕ) → n < 2 ^ 64 → min (n + a) (2 ^ 64 - 1) ≡ counted n a
+counted_is n a h = omega arith
+
 -- what is left where all that is taken was pushed
 pub pushed_after : (t : HeldText) (p : List ℕ) (n : ℕ) → n ≤ length t.pushed → p ≡ drop n t.pushed → record t { pushed = p } ≡ text_after n t
 pushed_after t p n h e =
     let none : 0 ≡ n - length t.pushed = omega arith in
     ap (λ (q : List ℕ). let u : HeldText = record { pushed = q; unread = t.unread; newlines = t.newlines } in u) e
-    ∙ ap (λ m. let u : HeldText = record { pushed = drop n t.pushed; unread = t.unread; newlines = m } in u) (sym (add-zero t.newlines))
-    ∙ ap (λ m. let u : HeldText = record { pushed = drop n t.pushed; unread = drop m t.unread; newlines = t.newlines + newlines_in (take m t.unread) } in u) none
+    ∙ ap (λ m. let u : HeldText = record { pushed = drop n t.pushed; unread = t.unread; newlines = m } in u) (sym (counted_none t.newlines))
+    ∙ ap (λ m. let u : HeldText = record { pushed = drop n t.pushed; unread = drop m t.unread; newlines = counted t.newlines (newlines_in (take m t.unread)) } in u) none
 
 -- a list that is as long as the part that it replaces
 pub refilled : (n : ℕ) (x y : List ℕ) → length x ≡ n → take n (x ++ y) ≡ x

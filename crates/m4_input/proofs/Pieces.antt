@@ -1,31 +1,15 @@
 -- Pieces: bytes of a file, of which some were read, and pushed text before those that were not.
-use Rattle.std.proofs.Common.{◌≡◌, ℕ, zero, suc, ◌+◌, ◌-◌, ◌≤◌, List, [], ◌∷◌, ◌++◌, length, take, drop, refl, sym, ap, ◌∙◌, arith, length-append, length-drop}
+use Rattle.std.proofs.Common.{◌≡◌, ℕ, zero, suc, ◌+◌, ◌-◌, ◌≤◌, List, [], ◌∷◌, ◌++◌, length, take, drop, refl, sym, ap, ◌∙◌, arith, length-append, append_assoc, length-drop}
 use Rattle.std.proofs.Math.ListN.{drop_of_length-le}
 use Rattle.std.proofs.Math.Seq.{drop-append_seam}
-use Rattle.std.proofs.lemmas.List.{take-append-drop, drop-drop, length-take}
-use Rattle.m4_input.specs.Pending.{newlines_in}
+use Rattle.std.proofs.lemmas.List.{take-append-drop, drop-drop, length-take, take-append-le, drop-append-le}
+use Rattle.m4_input.specs.Pending.{counted, newlines_in}
 use Rattle.m4_input.specs.Text.{HeldText, text_after}
-use Rattle.m4_input.proofs.Parts.{drop_parts, take_parts, take_long, pushed_after}
+use Rattle.m4_input.proofs.Parts.{drop_parts, take_parts, take_long, pushed_after, refilled}
 
 -- the pushed bytes and those after them
 pub piece_text : (at n : ℕ) (b : List ℕ) → drop at b ≡ take n (drop at b) ++ drop (at + n) b
 piece_text at n b = sym (take-append-drop n (drop at b)) ∙ ap (λ (x : List ℕ). take n (drop at b) ++ x) (drop-drop n at b)
-
--- the bytes after a place are gone
-taken_twice : (n : ℕ) (b : List ℕ) → take n (take n b) ≡ take n b
-taken_twice zero b = refl
-taken_twice (suc n) [] = refl
-taken_twice (suc n) (x ∷ b) = ap (λ (y : List ℕ). x ∷ y) (taken_twice n b)
-
-pub still_pushed : (at n : ℕ) (b : List ℕ) → take n (drop at (take (at + n) b)) ≡ take n (drop at b)
-still_pushed zero n b = let e : 0 + n ≡ n = omega arith in ap (λ m. take n (take m b)) e ∙ taken_twice n b
-still_pushed (suc at) n [] = let e : suc at + n ≡ suc (at + n) = omega arith in ap (λ m. take n (drop (suc at) (take m []))) e
-still_pushed (suc at) n (x ∷ b) = let e : suc at + n ≡ suc (at + n) = omega arith in ap (λ m. take n (drop (suc at) (take m (x ∷ b)))) e ∙ still_pushed at n b
-
-pub none_after : (n : ℕ) (b : List ℕ) → drop n (take n b) ≡ []
-none_after zero b = refl
-none_after (suc n) [] = refl
-none_after (suc n) (x ∷ b) = none_after n b
 
 seam_at : (n : ℕ) (x y : List ℕ) → length x ≡ n → drop n (x ++ y) ≡ y
 seam_at n x y e = ap (λ m. drop m (x ++ y)) (sym e) ∙ drop-append_seam x y
@@ -63,11 +47,19 @@ pushed_over b text new at n newlines h k e =
     ∙ ap (λ (x : List ℕ). let t : HeldText = record { pushed = x; unread = drop ((at - length text) + (n + length text)) new; newlines = newlines } in t) (over_pushed text (drop at b) n)
     ∙ ap (λ (x : List ℕ). let t : HeldText = record { pushed = text ++ take n (drop at b); unread = x; newlines = newlines } in t) u
 
-pub file_dropped : (b new : List ℕ) (at n : ℕ) → new ≡ take (at + n) b → piece_of new at n 0 ≡ record { pushed = take n (drop at b); unread = []; newlines = 0 }
-file_dropped b new at n e =
-    ap (λ (x : List ℕ). piece_of x at n 0) e
-    ∙ ap (λ (x : List ℕ). let t : HeldText = record { pushed = x; unread = drop (at + n) (take (at + n) b); newlines = 0 } in t) (still_pushed at n b)
-    ∙ ap (λ (x : List ℕ). let t : HeldText = record { pushed = take n (drop at b); unread = x; newlines = 0 } in t) (none_after (at + n) b)
+-- the bytes from a place on are elsewhere
+pub piece_moved : (b b1 : List ℕ) (at at1 n newlines : ℕ) → drop at1 b1 ≡ drop at b → piece_of b1 at1 n newlines ≡ piece_of b at n newlines
+piece_moved b b1 at at1 n newlines e =
+    ap (λ (x : List ℕ). let t : HeldText = record { pushed = take n x; unread = drop (at1 + n) b1; newlines = newlines } in t) e
+    ∙ ap (λ (x : List ℕ). let t : HeldText = record { pushed = take n (drop at b); unread = x; newlines = newlines } in t) (sym (drop-drop n at1 b1) ∙ ap (drop n) e ∙ drop-drop n at b)
+
+-- with more bytes at the end
+pub piece_more : (b more : List ℕ) (at n newlines : ℕ) → at + n ≤ length b → piece_of (b ++ more) at n newlines ≡ record { pushed = take n (drop at b); unread = drop (at + n) b ++ more; newlines = newlines }
+piece_more b more at n newlines h =
+    let l : length (drop at b) ≡ length b - at = length-drop at b in
+    ap (λ (x : List ℕ). let t : HeldText = record { pushed = take n x; unread = drop (at + n) (b ++ more); newlines = newlines } in t) (drop-append-le at b more (omega arith))
+    ∙ ap (λ (x : List ℕ). let t : HeldText = record { pushed = x; unread = drop (at + n) (b ++ more); newlines = newlines } in t) (take-append-le n (drop at b) more (omega arith))
+    ∙ ap (λ (x : List ℕ). let t : HeldText = record { pushed = take n (drop at b); unread = x; newlines = newlines } in t) (drop-append-le (at + n) b more h)
 
 none_taken : (m : ℕ) → take m [] ≡ (let x : List ℕ = [] in x)
 none_taken zero = refl
@@ -79,6 +71,24 @@ take_further a zero x h = let e : a - 0 ≡ a = omega arith in ap (λ m. take m 
 take_further zero (suc n) x h = absurd (omega arith)
 take_further (suc a) (suc n) [] h = none_taken (suc a - suc n)
 take_further (suc a) (suc n) (b ∷ x) h = let e : suc a - suc n ≡ a - n = omega arith in ap (λ m. take m (drop n x)) e ∙ take_further a n x (omega arith)
+
+-- bytes that were moved to a place before them
+pub moved_to : (b front front1 rest new more : List ℕ) (at room cap : ℕ) → front ≡ take at b → rest ≡ drop at b → length front ≡ at → room + length rest ≤ at → front1 ≡ take ((room + length rest) - length rest) front ++ (rest ++ drop (room + length rest) front) → length (front1 ++ rest) ≡ cap → new ≡ take (room + length rest) (take cap ((front1 ++ rest) ++ more)) → drop room new ≡ drop at b
+moved_to b front front1 rest new more at room cap f r l h e c n =
+    let m : (room + length rest) - length rest ≡ room = omega arith in
+    let k : (room + length rest) - room ≡ length rest = omega arith in
+    let p : List ℕ = take room front in
+    let pl : length p ≡ room = omega (arith, length-take room front) in
+    let tail : List ℕ = drop (room + length rest) front in
+    let e1 : front1 ≡ p ++ (rest ++ tail) = e ∙ ap (λ (i : ℕ). take i front ++ (rest ++ tail)) m in
+    ap (drop room) (n ∙ ap (take (room + length rest)) (refilled cap (front1 ++ rest) more c))
+    ∙ sym (take_further (room + length rest) room (front1 ++ rest) (omega arith))
+    ∙ ap (λ (i : ℕ). take i (drop room (front1 ++ rest))) k
+    ∙ ap (λ (x : List ℕ). take (length rest) (drop room (x ++ rest))) e1
+    ∙ ap (λ (x : List ℕ). take (length rest) (drop room x)) (append_assoc p (rest ++ tail) rest)
+    ∙ ap (take (length rest)) (seam_at room p ((rest ++ tail) ++ rest) pl ∙ append_assoc rest tail rest)
+    ∙ refilled (length rest) rest (tail ++ rest) refl
+    ∙ r
 
 pushed_length : (at a : ℕ) (b : List ℕ) → at + a ≤ length b → length (take a (drop at b)) ≡ a
 pushed_length at a b h = omega (arith, length-take a (drop at b), length-drop at b)
@@ -96,17 +106,17 @@ file_read pu un a n l h =
     ap (drop a) (take_parts n pu un ∙ ap (λ (z : List ℕ). z ++ take (n - length pu) un) (take_long n pu (omega arith)))
     ∙ seam_at a pu (take (n - length pu) un) l
 
-pub file_taken : (b of_file : List ℕ) (at a n newlines count : ℕ) → a ≤ n → at + a ≤ length b → of_file ≡ drop a (take n (take a (drop at b) ++ drop (at + a) b)) → count ≡ newlines_in of_file → piece_of b (at + n) 0 (newlines + count) ≡ text_after n (piece_of b at a newlines)
+pub file_taken : (b of_file : List ℕ) (at a n newlines count : ℕ) → a ≤ n → at + a ≤ length b → of_file ≡ drop a (take n (take a (drop at b) ++ drop (at + a) b)) → count ≡ newlines_in of_file → piece_of b (at + n) 0 (counted newlines count) ≡ text_after n (piece_of b at a newlines)
 file_taken b of_file at a n newlines count h k e c =
     let pu = take a (drop at b) in
     let l : length pu ≡ a = pushed_length at a b k in
     let f : of_file ≡ take (n - length pu) (drop (at + a) b) = e ∙ file_read pu (drop (at + a) b) a n l h in
     let none : [] ≡ drop n pu = sym (drop_of_length-le pu (omega arith)) in
     let m : (at + n) + 0 ≡ (at + a) + (n - length pu) = omega arith in
-    ap (λ i. let t : HeldText = record { pushed = []; unread = drop i b; newlines = newlines + count } in t) m
-    ∙ ap (λ (x : List ℕ). let t : HeldText = record { pushed = []; unread = x; newlines = newlines + count } in t) (sym (drop-drop (n - length pu) (at + a) b))
-    ∙ ap (λ (x : List ℕ). let t : HeldText = record { pushed = x; unread = drop (n - length pu) (drop (at + a) b); newlines = newlines + count } in t) none
-    ∙ ap (λ i. let t : HeldText = record { pushed = drop n pu; unread = drop (n - length pu) (drop (at + a) b); newlines = newlines + i } in t) (c ∙ ap newlines_in f)
+    ap (λ i. let t : HeldText = record { pushed = []; unread = drop i b; newlines = counted newlines count } in t) m
+    ∙ ap (λ (x : List ℕ). let t : HeldText = record { pushed = []; unread = x; newlines = counted newlines count } in t) (sym (drop-drop (n - length pu) (at + a) b))
+    ∙ ap (λ (x : List ℕ). let t : HeldText = record { pushed = x; unread = drop (n - length pu) (drop (at + a) b); newlines = counted newlines count } in t) none
+    ∙ ap (λ i. let t : HeldText = record { pushed = drop n pu; unread = drop (n - length pu) (drop (at + a) b); newlines = counted newlines i } in t) (c ∙ ap newlines_in f)
 
 -- text that is stored separately at the start is consumed, and then some of the piece
 pub apart_taken : (x : List ℕ) (t : HeldText) (n : ℕ) → length x ≤ n → text_after (n - length x) t ≡ text_after n (record t { pushed = x ++ t.pushed })
@@ -115,8 +125,8 @@ apart_taken x t n h =
     let m : (n - length x) - length t.pushed ≡ n - length (x ++ t.pushed) = omega arith in
     let p : drop (n - length x) t.pushed ≡ drop n (x ++ t.pushed) =
     sym (drop_parts n x t.pushed ∙ ap (λ (z : List ℕ). z ++ drop (n - length x) t.pushed) (drop_of_length-le x (omega arith))) in
-    ap (λ i. let u : HeldText = record { pushed = drop (n - length x) t.pushed; unread = drop i t.unread; newlines = t.newlines + newlines_in (take i t.unread) } in u) m
-    ∙ ap (λ (z : List ℕ). let u : HeldText = record { pushed = z; unread = drop (n - length (x ++ t.pushed)) t.unread; newlines = t.newlines + newlines_in (take (n - length (x ++ t.pushed)) t.unread) } in u) p
+    ap (λ i. let u : HeldText = record { pushed = drop (n - length x) t.pushed; unread = drop i t.unread; newlines = counted t.newlines (newlines_in (take i t.unread)) } in u) m
+    ∙ ap (λ (z : List ℕ). let u : HeldText = record { pushed = z; unread = drop (n - length (x ++ t.pushed)) t.unread; newlines = counted t.newlines (newlines_in (take (n - length (x ++ t.pushed)) t.unread)) } in u) p
 
 pub apart_left : (x y : List ℕ) (n : ℕ) → n ≤ length x → drop n x ++ y ≡ drop n (x ++ y)
 apart_left x y n h =

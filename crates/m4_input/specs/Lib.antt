@@ -5,6 +5,7 @@ pub mod Token
 pub mod Plain
 pub mod Paren
 pub mod Input
+pub mod Blocks
 pub mod Text
 pub mod PieceView
 pub mod TextView

@@ -1,17 +1,22 @@
-//! Tests on a text that was read completely: does an argument list follow, and how long is the line?
+//! Tests on a text: does an argument list follow, and how long is the line?
 //! Manual: "Macro invocation", "Deleting whitespace in input".
 
-ghost use Rattle.std.specs.Prelude.{◌≡◌, ◌≤◌, false, length, unwrap_or};
+ghost use Rattle.std.specs.Prelude.{◌≡◌, ◌≤◌, true, false, IfSome, length, drop};
 ghost use Rattle.m4_input.specs.DelimsView.{pair_of};
 ghost use Rattle.m4_input.specs.Input.{answer_of};
 ghost use Rattle.m4_input.specs.Paren.{paren_in};
 ghost use Rattle.m4_input.specs.Pending.{line_length};
+ghost use Rattle.m4_input.specs.Token.{starts_with, may_start};
 
 use crate::delims::Delims;
+use crate::front::Answer;
 use crate::window::Window;
 
+/// A begin and an end delimiter.
+type Pair<'a> = (&'a [u8], &'a [u8]);
+
 impl<'a> Window<'a> {
-    /// Returns whether the next token is an opening parenthesis.
+    /// Returns whether the next token is an opening parenthesis; all bytes were read.
     pub fn sees_paren(&self, delims: &Delims<'_>) -> bool
         ensures { paren_in (pair_of delims.now.quotes) (pair_of delims.now.comments) false self.now
             ≡ answer_of result }
@@ -19,15 +24,55 @@ impl<'a> Window<'a> {
         self.byte(0) == Some(b'(') && !self.opens(&delims.comments) && !self.opens(&delims.quotes)
     }
 
-    /// Counts the bytes of the rest of the line, with its newline; all bytes if no newline is left.
-    pub fn line_len(&self) -> usize
-        ensures value { result ≡ unwrap_or (line_length self.now) (length self.now) }
-        ensures within { result ≤ length self.now }
+    /// Returns whether the token at a place is an opening parenthesis; `Unknown` if more bytes may follow
+    /// that decide it.
+    pub fn list_at(&self, at: usize, delims: &Delims<'_>, may_follow: bool) -> Answer
+        requires { at ≤ length self.now }
+        ensures { paren_in (pair_of delims.now.quotes) (pair_of delims.now.comments) may_follow
+            (drop at self.now) ≡ result }
+    {
+        match self.byte(at) {
+            Some(b'(') => {}
+            Some(_) => return Answer::No,
+            None if may_follow => return Answer::Unknown,
+            None => return Answer::No,
+        }
+        let comments = &delims.comments;
+        let quotes = &delims.quotes;
+        if self.opens_at(at, comments) || self.opens_at(at, quotes) {
+            Answer::No
+        } else if may_follow && (self.may_open_at(at, comments) || self.may_open_at(at, quotes)) {
+            Answer::Unknown
+        } else {
+            Answer::Yes
+        }
+    }
+
+    /// Returns whether a pair that is enabled begins at a place.
+    fn opens_at(&self, at: usize, pair: &Pair<'_>) -> bool
+        requires { at ≤ length self.now }
+        ensures { result ≡ starts_with (pair_of pair.now) (drop at self.now) }
+    {
+        !pair.0.is_empty() && self.starts(at, pair.0)
+    }
+
+    /// Returns whether, with more bytes, it may turn out to begin there.
+    fn may_open_at(&self, at: usize, pair: &Pair<'_>) -> bool
+        requires { at ≤ length self.now }
+        ensures { result ≡ may_start (pair_of pair.now) true (drop at self.now) }
+    {
+        !pair.0.is_empty() && self.cut(at, pair.0)
+    }
+
+    /// Counts the bytes of the rest of the line, with its newline; `None` if no newline is left.
+    pub fn line_len(&self) -> Option<usize>
+        ensures value { result ≡ line_length self.now }
+        ensures within { IfSome result (λ n. n ≤ length self.now) }
     {
         let _small = self.len();
         match self.find(0, b"\n") {
-            Some(n) => n + 1,
-            None => self.len(),
+            Some(n) => Some(n + 1),
+            None => None,
         }
     }
 }

@@ -1,26 +1,26 @@
 //! The input that a run has not read yet: at most one definition, then pushed text, then the rest of one file.
 //!
-//! The first call that needs a byte of the file reads it to its end; no later call uses the reader. If the
-//! reader or an allocation fails, the pending input stays as it was, and every later call that can fail returns
-//! the same fault. `push_front` is the exception: if it runs out of memory, it may be called again.
+//! The file is read in blocks. `more` asks the reader for one. `next`, `sees_paren` and `skip_line` ask only
+//! while the bytes in hand do not decide what they return. If the reader or an allocation fails, what was read
+//! is still in hand, but for what `skip_line` has skipped, and every later call that can fail returns the same
+//! fault. `push_front` is the exception: if it runs out of memory, it may be called again.
 //!
 //! Contracts see `Held` (`specs/Input.antt`). Manual: "How m4 copies input to output".
 
-ghost use Rattle.std.specs.Prelude.{◌≡◌, ◌≤◌, Some, None, OnOk, OnErr, IfErr, IfSome, Err, true, false, length};
+ghost use Rattle.std.specs.Prelude.{◌≡◌, ◌<◌, ◌≤◌, Some, None, OnOk, OnErr, IfOk, IfErr, IfSome, Ok, Err, true, false, length};
 ghost use Rattle.m4_state.specs.Device.{Script};
 ghost use Rattle.m4_input.specs.DelimsView.{pair_of};
 ghost use Rattle.m4_input.specs.Pending.{consumed, line_of, name_of, text_of};
 
 use crate::delims::Delims;
 use crate::fault::InputFault;
-use crate::front::{Scan, Unended};
+use crate::front::{Answer, Scan, Unended};
 use crate::pushed::Pushed;
 use crate::text::Text;
 use crate::token::Token;
 use m4_state::bytes::Bytes;
 use m4_state::definition::Def;
 use m4_state::device::ByteSource;
-use m4_state::transfer::read_all;
 use std::alloc::{AllocError, Global};
 use std::marker::Model;
 
@@ -61,7 +61,9 @@ impl Drop for Input {
 
 impl Input {
     ghost use Rattle.m4_input.specs.Input.{Held, IsLasting, unread_file, wrapped_text, with_pushed, all_read, NextGives, ParenGives, SkipGives, WholeGives, failures_after};
-    ghost use Rattle.m4_input.specs.InputView.{unread_again, fault_of, Fills, Takes};
+    ghost use Rattle.m4_input.specs.Blocks.{BlockGives, LooksAt, ListGives, LineGives};
+    ghost use Rattle.m4_input.specs.Text.{LiesIn};
+    ghost use Rattle.m4_input.specs.InputView.{fault_of, Fills};
 
     /// Creates the input of a file that is read from its start.
     pub fn file(alloc: Global, name: Bytes) -> Input
@@ -114,6 +116,20 @@ impl Input {
         }
     }
 
+    /// Returns whether bytes of the file may follow those in hand: the reader has not ended yet.
+    pub fn may_follow(&self) -> bool
+        ensures { result ≡ self.now.pending.may_follow }
+    {
+        self.may_follow
+    }
+
+    /// Returns the fault that each later call returns, if one of these was met.
+    pub fn fault(&self) -> Option<InputFault>
+        ensures { result ≡ self.now.fault }
+    {
+        self.fault
+    }
+
     /// Returns the pending bytes if they are contiguous. Returns `None` if a definition comes before them,
     /// and perhaps if a call has pushed text.
     #[doc(hidden)]
@@ -127,10 +143,9 @@ impl Input {
         self.text.piece()
     }
 
-    /// Discards the first n bytes. The input must have been read to its end.
+    /// Discards a definition and the first n bytes.
     #[doc(hidden)]
     pub fn consume(&mut self, n: usize)
-        requires closed { self.old.pending.may_follow ≡ false }
         requires within { n ≤ length (text_of self.old.pending) }
         // exact steps: the rest after n bytes
         ensures { self.new ≡ record self.old { pending = consumed n self.old.pending } }
@@ -170,14 +185,15 @@ impl Input {
 
     /// Returns the first token and consumes it. Returns `EndInString` or `EndInComment` if the input ends
     /// first; then nothing is pending. Returns `Read` if the reader fails and `OutOfMemory` if an allocation
-    /// fails; so does each later call. Takes time in proportion to the bytes that it consumes, and at the
-    /// first call to those of the reader. Manual: "Lexical and syntactic conventions".
+    /// fails; so does each later call. Takes time in proportion to the bytes that it consumes; but a token that
+    /// is read in several blocks is looked at again after each of them. Manual: "Lexical and syntactic
+    /// conventions".
     pub fn next<R: ByteSource>(
         &mut self,
         reader: &mut R,
         delims: &Delims<'_>,
     ) -> Result<Token, InputFault>
-        // exact steps: the token, and the rest after it
+        // exact steps: the token, and the rest after it; the reader was asked only where the token was open
         ensures gives { NextGives (pair_of delims.now.quotes) (pair_of delims.now.comments)
             (R.script reader.old) (R.script reader.new) self.old self.new result }
         ensures counted { R.failures reader.new
@@ -189,13 +205,18 @@ impl Input {
         if let Some(def) = self.definition.take() {
             return Ok(Token::Definition(def));
         }
-        let was_unread = self.may_follow;
-        self.fill(reader)?;
-        let taken = self.take_token(delims);
-        if was_unread && self.fault.is_some() {
-            self.forget_file();
+        'blocks: loop {
+            match self.look(delims)? {
+                Scan::Found(token, len) => {
+                    self.consume(len);
+                    return Ok(token);
+                }
+                Scan::Broken(what) => return Err(self.end_inside(what)),
+                Scan::NeedsMore => {
+                    let _came = self.more(reader)?;
+                }
+            }
         }
-        taken
     }
 
     /// Returns whether an argument list follows: a parenthesis, with no blank before it. Consumes nothing.
@@ -205,7 +226,7 @@ impl Input {
         reader: &mut R,
         delims: &Delims<'_>,
     ) -> Result<bool, InputFault>
-        // exact steps: whether a list follows; nothing is consumed
+        // exact steps: whether a list follows; the reader was asked only where that was open
         ensures gives { ParenGives (pair_of delims.now.quotes) (pair_of delims.now.comments)
             (R.script reader.old) (R.script reader.new) self.old self.new result }
         ensures counted { R.failures reader.new
@@ -217,14 +238,21 @@ impl Input {
         if self.definition.is_some() {
             return Ok(false);
         }
-        self.fill(reader)?;
-        Ok(self.text.window().sees_paren(delims))
+        'blocks: loop {
+            match self.list_after(0, delims) {
+                Answer::Yes => return Ok(true),
+                Answer::No => return Ok(false),
+                Answer::Unknown => {
+                    let _came = self.more(reader)?;
+                }
+            }
+        }
     }
 
-    /// Discards a definition and the rest of the line, with its newline; everything if no newline is left.
-    /// Returns `Read` and `OutOfMemory` as `next` does. Manual: "Deleting whitespace in input".
+    /// Discards a definition and the rest of the line, with its newline; everything if no newline is left. Keeps
+    /// no byte of the line. Returns `Read` and `OutOfMemory` as `next` does. Manual: "Deleting whitespace in input".
     pub fn skip_line<R: ByteSource>(&mut self, reader: &mut R) -> Result<(), InputFault>
-        // exact steps: the rest after the line
+        // exact steps: the rest after the line; the reader was asked only where the line went on
         ensures gives { SkipGives
             (R.script reader.old) (R.script reader.new) self.old self.new result }
         ensures counted { R.failures reader.new
@@ -233,11 +261,87 @@ impl Input {
         if let Some(fault) = self.fault {
             return Err(fault);
         }
-        self.fill(reader)?;
-        let len = self.text.window().line_len();
-        self.definition = None;
-        self.text.consume(len);
-        Ok(())
+        'blocks: loop {
+            if self.skip_in_hand() {
+                return Ok(());
+            }
+            let _came = self.more(reader)?;
+        }
+    }
+
+    /// Asks the reader once: a block of at most 4,096 bytes comes after the bytes in hand, or the reader is at
+    /// its end and the input is closed. Returns whether bytes came. Returns `Read` if the reader fails and
+    /// `OutOfMemory` if an allocation fails; no byte is lost then, and each later call returns the fault.
+    pub fn more<R: ByteSource>(&mut self, reader: &mut R) -> Result<bool, InputFault>
+        requires open { self.old.pending.may_follow ≡ true }
+        requires sound { self.old.fault ≡ None }
+        // exact steps: a block of the reader after the bytes in hand, or its end
+        ensures gives { BlockGives (R.script reader.old) (R.script reader.new) self.old self.new result }
+        // bytes come only so many times
+        ensures falls { result ≡ Ok true → R.takes_left reader.new < R.takes_left reader.old }
+        ensures counted { R.failures reader.new
+            ≡ failures_after self.old.fault self.new.fault (R.failures reader.old) }
+    {
+        match self.text.take_block(reader) {
+            Ok(came) => {
+                self.may_follow = came;
+                Ok(came)
+            }
+            Err(fault) => Err(self.stop(fault)),
+        }
+    }
+
+    /// Returns the first token of the bytes in hand, without a definition that comes before them; `NeedsMore`
+    /// if bytes that may follow can change it. Consumes nothing. Returns `OutOfMemory` if an allocation fails;
+    /// so does each later call. Manual: "Lexical and syntactic conventions".
+    pub fn look(&mut self, delims: &Delims<'_>) -> Result<Scan, InputFault>
+        requires { self.old.fault ≡ None }
+        // exact steps: the first token of the bytes in hand
+        ensures gives { LooksAt (pair_of delims.now.quotes) (pair_of delims.now.comments)
+            self.old self.new result }
+        ensures within { IfOk result (λ found. LiesIn (length (text_of self.old.pending)) found) }
+    {
+        match self.text.window().scan(self.alloc, delims, self.may_follow) {
+            Ok(found) => Ok(found),
+            Err(AllocError) => Err(self.stop(InputFault::OutOfMemory)),
+        }
+    }
+
+    /// Returns whether an argument list follows the first n bytes in hand; `Unknown` if bytes that may follow
+    /// decide it. Consumes nothing. Manual: "Macro invocation".
+    pub fn list_after(&self, n: usize, delims: &Delims<'_>) -> Answer
+        requires { n ≤ length (text_of self.now.pending) }
+        // exact steps: whether a list follows, by the bytes in hand
+        ensures { ListGives (pair_of delims.now.quotes) (pair_of delims.now.comments) n self.now.pending result }
+    {
+        self.text.window().list_at(n, delims, self.may_follow)
+    }
+
+    /// Discards a definition and the rest of the line as far as it is in hand. Returns whether that was all of
+    /// it: its newline was found, or the input is closed. Otherwise all bytes in hand are discarded, and more of
+    /// the line may follow. Manual: "Deleting whitespace in input".
+    pub fn skip_in_hand(&mut self) -> bool
+        // exact steps: the rest after the line, or after all bytes in hand
+        ensures { LineGives self.old self.new result }
+    {
+        match self.text.window().line_len() {
+            Some(len) => {
+                self.consume(len);
+                true
+            }
+            None => {
+                self.drop_all();
+                !self.may_follow
+            }
+        }
+    }
+
+    /// Discards a definition and all bytes in hand.
+    fn drop_all(&mut self)
+        ensures { self.new ≡ record self.old { pending = all_read self.old.pending } }
+    {
+        let len = self.text.window().len();
+        self.consume(len);
     }
 
     /// Records a fault that each later call returns.
@@ -273,27 +377,11 @@ impl Input {
         if !self.may_follow {
             return Ok(());
         }
-        match read_all(self.alloc, reader) {
-            Err(AllocError) => Err(self.stop(InputFault::OutOfMemory)),
-            Ok(taken) => {
-                if taken.failed {
-                    return Err(self.stop(InputFault::Read));
-                }
-                if let Err(AllocError) = self.text.set_file(taken.bytes) {
-                    return Err(self.stop(InputFault::OutOfMemory));
-                }
-                self.may_follow = false;
-                Ok(())
+        'blocks: loop {
+            if !self.more(reader)? {
+                return Ok(());
             }
         }
-    }
-
-    /// Drops the file's bytes, as if the reader had not been read.
-    fn forget_file(&mut self)
-        ensures { self.new ≡ unread_again self.old }
-    {
-        self.text.drop_file();
-        self.may_follow = true;
     }
 
     /// Returns the fault of a token without an end. Discards all bytes.
@@ -302,31 +390,10 @@ impl Input {
         ensures nothing { self.new ≡ record self.old { pending = all_read self.old.pending } }
     {
         let line = self.line();
-        let len = self.text.window().len();
-        self.definition = None;
-        self.text.consume(len);
+        self.drop_all();
         match what {
             Unended::InString => InputFault::EndInString { line },
             Unended::InComment => InputFault::EndInComment { line },
-        }
-    }
-
-    /// Returns the first token and consumes it; the input was read to its end.
-    fn take_token(&mut self, delims: &Delims<'_>) -> Result<Token, InputFault>
-        requires closed { self.old.pending.may_follow ≡ false }
-        requires plain { self.old.pending.definition ≡ None }
-        requires sound { self.old.fault ≡ None }
-        ensures { Takes (pair_of delims.now.quotes) (pair_of delims.now.comments)
-            self.old self.new result }
-    {
-        match self.text.window().scan(self.alloc, delims, false) {
-            Err(AllocError) => Err(self.stop(InputFault::OutOfMemory)),
-            Ok(Scan::Found(token, len)) => {
-                self.text.consume(len);
-                Ok(token)
-            }
-            Ok(Scan::Broken(what)) => Err(self.end_inside(what)),
-            Ok(Scan::NeedsMore) => unreachable!(),
         }
     }
 }

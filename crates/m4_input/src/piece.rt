@@ -1,13 +1,25 @@
 //! The bytes of one file in one buffer, with pushed text before the unread bytes.
 //!
-//! The file's bytes are not moved; only the position of the next byte advances. Pushed text overwrites
-//! bytes that were read, directly before the next byte, if there is room for it.
+//! The position of the next byte advances over the file's bytes. Pushed text overwrites bytes that were
+//! read, directly before the next byte, if there is room for it. A block of the file is appended. If the
+//! buffer is full, and more bytes were read than are left, the buffer is not grown: the bytes that are
+//! left are moved to the front of it, with room before them for pushed text. So reading a file and moving
+//! its bytes takes time in proportion to the file.
 
-ghost use Rattle.std.specs.Prelude.{◌≡◌, ◌+◌, ◌<◌, ◌≤◌, ◌^◌, ◌++◌, [], OnOk, OnErr, true, false, length, take, drop, ◌-◌};
+ghost use Rattle.std.specs.Prelude.{◌≡◌, ◌+◌, ◌<◌, ◌≤◌, ◌++◌, [], OnOk, OnErr, IfOk, Ok, true, false, length, take, drop, vec_len, vec_capacity, ◌-◌};
+ghost use Rattle.m4_input.specs.Input.{block};
 ghost use Rattle.m4_input.specs.Pending.{newlines_in};
 
+use crate::fault::InputFault;
+use m4_state::device::{ByteSource, DeviceFault};
 use std::alloc::{AllocError, Global};
 use std::marker::Model;
+
+/// How many bytes a reader is asked for at a time.
+const BLOCK: usize = 4096;
+
+/// How many bytes stay free before the bytes that are left when these are moved to the front.
+const ROOM: usize = 32768;
 
 /// Bytes of a file that were read, pushed text, and unread bytes.
 #[derive(Drop)]
@@ -19,7 +31,7 @@ pub struct Piece {
 }
 
 impl Model for Piece {
-    ghost use Rattle.std.specs.Prelude.{◌≤◌, ◌<◌, ◌+◌, ◌-◌, ◌^◌, length};
+    ghost use Rattle.std.specs.Prelude.{◌≤◌, ◌+◌, length};
     ghost use Rattle.m4_input.specs.Text.{HeldText};
     ghost use Rattle.m4_input.specs.PieceView.{piece_view};
 
@@ -27,8 +39,7 @@ impl Model for Piece {
 
     ghost view = { piece_view };
 
-    ghost invariant = { λ p. (p.at + p.ahead ≤ length p.bytes.items)
-        × (p.newlines + (length p.bytes.items - (p.at + p.ahead)) < 2 ^ 64) };
+    ghost invariant = { λ p. p.at + p.ahead ≤ length p.bytes.items };
 }
 
 /// Counts the newlines. Not inlined, so that the loop has the registers for itself.
@@ -53,8 +64,51 @@ fn put_before(bytes: &mut [u8], at: usize, text: &[u8])
     bytes[from..at].copy_from_slice(text);
 }
 
+/// Moves the bytes from a position on towards the front, with `ROOM` bytes before them.
+fn move_to_front(bytes: &mut Vec<u8>, at: usize)
+    requires within { at ≤ vec_len bytes.old }
+    requires fits { 32768 + (vec_len bytes.old - at) ≤ at }
+    ensures same { drop 32768 bytes.new.items ≡ drop at bytes.old.items }
+    ensures len { vec_len bytes.new ≡ 32768 + (vec_len bytes.old - at) }
+    ensures capacity { vec_capacity bytes.new ≡ vec_capacity bytes.old }
+{
+    let (front, rest) = bytes.split_at_mut(at);
+    let len = rest.len();
+    put_before(front, ROOM + len, rest);
+    bytes.truncate(ROOM + len);
+}
+
+/// Makes room for a block at the end. Returns where the bytes from a position on are then.
+fn make_room(bytes: &mut Vec<u8>, at: usize) -> Result<usize, AllocError>
+    requires { at ≤ vec_len bytes.old }
+    ensures within { IfOk result (λ n. n ≤ vec_len bytes.new) }
+    ensures same { IfOk result (λ n. drop n bytes.new.items ≡ drop at bytes.old.items) }
+    ensures room { OnOk result (vec_len bytes.new + block ≤ vec_capacity bytes.new) }
+    ensures err { OnErr result (bytes.new.items ≡ bytes.old.items) }
+{
+    let len = bytes.len();
+    let is_full = bytes.capacity() < len.saturating_add(BLOCK);
+    if is_full && at >= (len - at).saturating_add(ROOM + BLOCK) {
+        move_to_front(bytes, at);
+        return Ok(ROOM);
+    }
+    bytes.reserve(BLOCK)?;
+    Ok(at)
+}
+
+/// Appends bytes for which there is room.
+fn append(bytes: &mut Vec<u8>, more: &[u8])
+    requires { vec_len bytes.old + length more.now ≤ vec_capacity bytes.old }
+    ensures { bytes.new.items ≡ bytes.old.items ++ more.now }
+{
+    match bytes.extend_from_slice(more) {
+        Ok(()) => {}
+        Err(AllocError) => unreachable!(),
+    }
+}
+
 impl Piece {
-    ghost use Rattle.m4_input.specs.Text.{text_in, text_after};
+    ghost use Rattle.m4_input.specs.Text.{text_in, text_after, TakesBlock, failures_by};
 
     /// Creates a piece without bytes.
     pub fn new(alloc: Global) -> Piece
@@ -80,29 +134,25 @@ impl Piece {
         }
     }
 
-    /// Sets the bytes of a file; no unread ones may be left. If an allocation fails, nothing changes.
-    pub fn set_file(&mut self, bytes: Vec<u8>) -> Result<(), AllocError>
-        requires { self.old.unread ≡ [] }
-        ensures ok { OnOk result (self.new
-            ≡ record { pushed = self.old.pushed; unread = bytes.items; newlines = 0 }) }
-        ensures err { OnErr result (self.new ≡ self.old) }
+    /// Asks a reader once: a block of its bytes is appended to the unread ones, or it is at its end. Returns
+    /// whether bytes came. If the reader or an allocation fails, nothing changes.
+    pub fn take_block<R: ByteSource>(&mut self, reader: &mut R) -> Result<bool, InputFault>
+        ensures gives { TakesBlock (R.script reader.old) (R.script reader.new) self.old self.new result }
+        ensures falls { result ≡ Ok true → R.takes_left reader.new < R.takes_left reader.old }
+        ensures counted { R.failures reader.new ≡ failures_by result (R.failures reader.old) }
     {
-        if self.ahead > 0 {
-            self.bytes.extend_from_slice(&bytes)?;
-        } else {
-            self.bytes = bytes;
-            self.at = 0;
+        match make_room(&mut self.bytes, self.at) {
+            Ok(at) => self.at = at,
+            Err(AllocError) => return Err(InputFault::OutOfMemory),
         }
-        self.newlines = 0;
-        Ok(())
-    }
-
-    /// Drops the unread bytes of the file, and sets its count of newlines to 0.
-    pub fn drop_file(&mut self)
-        ensures { self.new ≡ record { pushed = self.old.pushed; unread = []; newlines = 0 } }
-    {
-        self.bytes.truncate(self.at + self.ahead);
-        self.newlines = 0;
+        let mut block = [0u8; BLOCK];
+        match reader.take(&mut block) {
+            Ok(n) => {
+                append(&mut self.bytes, &block[..n]);
+                Ok(n > 0)
+            }
+            Err(DeviceFault) => Err(InputFault::Read),
+        }
     }
 
     /// Returns how many newlines of the file were read.
@@ -144,7 +194,7 @@ impl Piece {
             self.at += n;
         } else {
             let of_file = self.rest().split_at(n).0.split_at(self.ahead).1;
-            self.newlines += count_newlines(of_file);
+            self.newlines = self.newlines.saturating_add(count_newlines(of_file));
             self.ahead = 0;
             self.at += n;
         }

@@ -4,10 +4,12 @@
 //! separately, last byte first, and so is all text that is pushed before it. Pushing and consuming text
 //! thus take time in proportion to its length.
 
-ghost use Rattle.std.specs.Prelude.{◌≡◌, ◌≤◌, ◌++◌, [], IfSome, OnOk, OnErr, length};
+ghost use Rattle.std.specs.Prelude.{◌≡◌, ◌<◌, ◌≤◌, ◌++◌, [], IfSome, OnOk, OnErr, Ok, true, length};
 
+use crate::fault::InputFault;
 use crate::piece::Piece;
 use crate::window::Window;
+use m4_state::device::ByteSource;
 use std::alloc::{AllocError, Global};
 use std::marker::Model;
 
@@ -28,7 +30,7 @@ impl Model for Text {
 }
 
 impl Text {
-    ghost use Rattle.m4_input.specs.Text.{text_in, text_after};
+    ghost use Rattle.m4_input.specs.Text.{text_in, text_after, TakesBlock, failures_by};
 
     /// Creates a text without bytes.
     pub fn new(alloc: Global) -> Text
@@ -50,21 +52,14 @@ impl Text {
         }
     }
 
-    /// Sets the bytes of a file; no unread ones may be left. If an allocation fails, nothing changes.
-    pub fn set_file(&mut self, bytes: Vec<u8>) -> Result<(), AllocError>
-        requires { self.old.unread ≡ [] }
-        ensures ok { OnOk result (self.new
-            ≡ record { pushed = self.old.pushed; unread = bytes.items; newlines = 0 }) }
-        ensures err { OnErr result (self.new ≡ self.old) }
+    /// Asks a reader once: a block of its bytes is appended to the unread ones, or it is at its end. Returns
+    /// whether bytes came. If the reader or an allocation fails, nothing changes.
+    pub fn take_block<R: ByteSource>(&mut self, reader: &mut R) -> Result<bool, InputFault>
+        ensures gives { TakesBlock (R.script reader.old) (R.script reader.new) self.old self.new result }
+        ensures falls { result ≡ Ok true → R.takes_left reader.new < R.takes_left reader.old }
+        ensures counted { R.failures reader.new ≡ failures_by result (R.failures reader.old) }
     {
-        self.piece.set_file(bytes)
-    }
-
-    /// Drops the unread bytes of the file, and sets its count of newlines to 0.
-    pub fn drop_file(&mut self)
-        ensures { self.new ≡ record { pushed = self.old.pushed; unread = []; newlines = 0 } }
-    {
-        self.piece.drop_file();
+        self.piece.take_block(reader)
     }
 
     /// Returns how many newlines of the file were read.

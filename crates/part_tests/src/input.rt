@@ -4,6 +4,7 @@
 
 ghost use Rattle.std.specs.Prelude.{◌≡◌, None, OnOk};
 
+mod blocks;
 mod calls;
 mod delims;
 mod pieces;

@@ -1,0 +1,12 @@
+use Rattle.std.proofs.Common.{◌≡◌, List, ℕ}
+use Rattle.m4_input.specs.Pending.{Pending}
+use Rattle.m4_input.proofs.Blocks.{HasSkipped, blocks_left}
+use Rattle.m4_input.proofs.input.Input.skip_line.Given as goal
+
+abbrev pub invariant-blocks-2 : goal.invariant-blocks-2
+invariant-blocks-2 g l =
+    ((x : List ℕ) × (p : Pending) × HasSkipped (g.R.ByteSource.script l.initial.reader) (g.R.ByteSource.script l.reader) l.initial.self l.self x p)
+    × (g.R.ByteSource.failures l.reader ≡ g.R.ByteSource.failures l.initial.reader)
+
+abbrev pub decreases-blocks-2 : goal.decreases-blocks-2
+decreases-blocks-2 g l = blocks_left (l.self.pending).may_follow (g.R.ByteSource.takes_left l.reader)
