@@ -1,6 +1,5 @@
 -- Blocks: what an input has in hand of its file, and what it asks its reader for.
--- Believed. Manual: "How m4 copies input to output". Words: BlockGives,
--- LooksAt, ListGives, LineGives.
+-- Believed. Manual: "How m4 copies input to output". Words: BlockGives, LooksAt, ListGives, LineGives.
 use Rattle.std.specs.Prelude.{◌≡◌, ◌≤◌, nat_lt, ℕ, Bool, true, false, List, [], Option, Some, None, Result, Ok, Err, length, drop}
 use Rattle.m4_state.specs.Device.{Script, after_bytes, IsAtEnd, IsAtFault}
 use Rattle.m4_state.specs.declared.delimiters.Delimiters.{Delimiters}
