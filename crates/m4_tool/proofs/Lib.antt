@@ -1,5 +1,12 @@
 mod EndLemmas
 mod Examples
 mod FoundLemmas
+mod FrozenLines
+mod LineEnds
+mod MadeFiles
+mod MemoryFiles
+mod OpenedFiles
+mod Places
+mod RanFiles
 mod RefusalLemmas
 mod RowLemmas
