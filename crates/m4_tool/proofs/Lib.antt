@@ -5,6 +5,7 @@ mod FrozenLines
 mod LineEnds
 mod MadeFiles
 mod MemoryFiles
+mod ModeLines
 mod OpenedFiles
 mod Places
 mod RanFiles

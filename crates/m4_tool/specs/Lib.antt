@@ -2,6 +2,7 @@ pub mod CommandLine
 pub mod Late
 pub mod Line
 pub mod LineLaws
+pub mod LineMode
 pub mod LineRun
 pub mod LineSteps
 pub mod Memory

@@ -1,6 +1,6 @@
 -- LineRun: what the steps of following a line pass to one another.
 -- Not believed: `follow` is stated with the words of Line only, and proved through these.
--- Words: seen, RanFiles, CountedBy, Ran, Closes.
+-- Words: seen, RanFiles, CountedBy, Ran, Closes, ModeCloses.
 use Rattle.std.specs.Prelude.{◌≡◌, ◌⊎◌, ℕ, Bool, List, [], Option, unwrap_or, option_map}
 use Rattle.m4_state.specs.Device.{one_more}
 use Rattle.m4_engine.specs.declared.ending.Cause.{Cause}
@@ -12,6 +12,7 @@ use Rattle.m4_engine.specs.Writers.{writers}
 use Rattle.m4_engine.specs.WholeRun.{GivesBy}
 use Rattle.m4_tool.specs.declared.followed.Failure.{Failure}
 use Rattle.m4_tool.specs.RunEnd.{last_status}
+use Rattle.m4_tool.specs.LineMode.{closed_lines, closed_status}
 use Rattle.m4_tool.specs.World.{Files, made_file}
 use Rattle.m4_tool.specs.Line.{Seen, HasPrefix, Reports, added_lines, failure_of}
 
@@ -55,3 +56,10 @@ pub record Closes (file : List ℕ) (e : Ending) (status : ℕ) (failure : Optio
   pub output : w.out_new ≡ w.out_old
   pub reports : Reports (added_lines file e.cause flushed) w.messages_old w.messages_new w.failures_old w.failures_new
   pub files : w.files_new ≡ w.files_old
+
+-- a mode that ended with this status was reported
+pub record ModeCloses (old new : ℕ) (out out' messages messages' : Option (List ℕ)) (failures failures' : ℕ) : Type 0 where
+  pub flushed : Bool
+  pub is_status : new ≡ closed_status old flushed
+  pub output : out' ≡ out
+  pub reports : Reports (closed_lines old flushed) messages messages' failures failures'

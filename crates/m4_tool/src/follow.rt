@@ -1,14 +1,16 @@
 //! A line that is followed in a world: a mode, or a run over the files of the line, which starts from a
 //! frozen file and freezes to one. Manual: "Invoking m4".
 
-ghost use Rattle.std.specs.Prelude.{◌≡◌, map, [], List, ℕ, Option, Some, None, false, unwrap_or, option_map, string_bytes};
+ghost use Rattle.std.specs.Prelude.{◌≡◌, map, [], List, ℕ, Option, Some, None, IfSome, false, unwrap_or, option_map, string_bytes};
 ghost use Rattle.m4_state.specs.Device.{Script};
 ghost use Rattle.m4_engine.specs.RunSources.{DescribesFrozen};
 ghost use Rattle.m4_engine.specs.File.{Source as Said};
 ghost use Rattle.m4_engine.specs.Run.{run as defined};
 ghost use Rattle.m4_tool.specs.World.{Files};
 ghost use Rattle.m4_tool.specs.Line.{Follows, LineResult, Ends_by, request_of, result_of_run, sources_in, unreloaded, words_of, line as line_result};
+ghost use Rattle.m4_tool.specs.LineMode.{ModeFollows, ends_of};
 ghost use Rattle.m4_tool.specs.LineRun.{seen};
+ghost use Rattle.m4_tool.specs.Modes.{ModeRuns, reads, writes};
 
 mod closing;
 mod running;
@@ -19,6 +21,7 @@ use crate::line::Line;
 use crate::modes;
 use crate::world::{Shows, World};
 use closing::{close, close_mode, close_unopened};
+use m4_state::device::{ByteSink, ByteSource};
 use running::run_line;
 use std::alloc::Global;
 
@@ -36,6 +39,12 @@ pub fn follow<W: World, O: Shows, M: Shows>(
         → line_result (request_of line.now) files input ≡ Some r
         → Follows (request_of line.now) r result.status result.failure
         (seen O.contents M.contents M.failures out.old out.new messages.old messages.new (W.files world) (W.files result.world)) }
+    ensures canon { IfSome line.now.canon (λ file. (files : Files) → W.making world ≡ false → W.files world ≡ Some files
+        → ModeFollows Mode.Canon (string_bytes file) (files (string_bytes file)) result.status
+        (seen O.contents M.contents M.failures out.old out.new messages.old messages.new (W.files world) (W.files result.world))) }
+    ensures inspect { line.now.canon ≡ None → IfSome line.now.inspect (λ file. (files : Files) → W.making world ≡ false → W.files world ≡ Some files
+        → ModeFollows Mode.Inspect (string_bytes file) (files (string_bytes file)) result.status
+        (seen O.contents M.contents M.failures out.old out.new messages.old messages.new (W.files world) (W.files result.world))) }
 {
     if let Some(file) = &line.canon {
         return follow_mode(
@@ -77,15 +86,35 @@ fn follow_mode<W: World, O: Shows, M: Shows>(
     world: W,
     out: &mut O,
     messages: &mut M,
-) -> Followed<W> {
+) -> Followed<W>
+    ensures { (files : Files) → W.making world ≡ false → W.files world ≡ Some files
+        → ModeFollows mode file.now (files file.now) result.status
+        (seen O.contents M.contents M.failures out.old out.new messages.old messages.new (W.files world) (W.files result.world)) }
+{
     let Some(mut reader) = world.open(file) else {
         return close_unopened(file, world, messages);
     };
-    let status = match mode {
-        Mode::Canon => modes::canon(alloc, file, &mut reader, out, messages),
-        Mode::Inspect => modes::inspect(alloc, file, &mut reader, out, messages),
-    };
+    let status = run_mode(alloc, mode, file, &mut reader, out, messages);
     close_mode(status, world, out, messages)
+}
+
+/// Runs a mode on an opened file, and returns its status.
+fn run_mode<R: ByteSource, O: ByteSink, M: ByteSink>(
+    alloc: Global,
+    mode: Mode,
+    file: &[u8],
+    reader: &mut R,
+    out: &mut O,
+    messages: &mut M,
+) -> u8
+    ensures { ModeRuns (ends_of mode) file.now (reads R.script R.failures reader.old reader.new)
+        (writes O.contents O.failures out.old out.new)
+        (writes M.contents M.failures messages.old messages.new) result }
+{
+    match mode {
+        Mode::Canon => modes::canon(alloc, file, reader, out, messages),
+        Mode::Inspect => modes::inspect(alloc, file, reader, out, messages),
+    }
 }
 
 /// Follows a line without a mode. If its frozen file can't be opened, that is reported, and nothing else

@@ -5,7 +5,7 @@ ghost use Rattle.m4_state.specs.Device.{joined};
 ghost use Rattle.m4_engine.specs.File.{cannot_open};
 ghost use Rattle.m4_tool.specs.RunEnd.{last_status, refused_line};
 ghost use Rattle.m4_tool.specs.Line.{Reports, added_lines, failure_of, last_lines, refusals};
-ghost use Rattle.m4_tool.specs.LineRun.{Closes, seen};
+ghost use Rattle.m4_tool.specs.LineRun.{Closes, ModeCloses, seen};
 
 use crate::endings::{last_fault, put_refused};
 use crate::followed::{Failure, Followed};
@@ -132,7 +132,11 @@ pub fn close_mode<W: World, O: Shows, M: Shows>(
     world: W,
     out: &mut O,
     messages: &mut M,
-) -> Followed<W> {
+) -> Followed<W>
+    ensures closes { ModeCloses status result.status (O.contents out.old) (O.contents out.new)
+        (M.contents messages.old) (M.contents messages.new) (M.failures messages.old) (M.failures messages.new) }
+    ensures world { result.world ≡ world }
+{
     let is_shown = show(out, messages);
     if status == 0 && !is_shown {
         report(&[b"m4: write fault\n"], messages);
