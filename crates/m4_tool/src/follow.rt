@@ -34,14 +34,18 @@ pub fn follow<W: World, O: Shows, M: Shows>(
     out: &mut O,
     messages: &mut M,
 ) -> Followed<W>
+    // line in a world: the status, the output, the messages and the frozen file are those of the line; if a device
+    // or an allocation fails, prefixes of them
     ensures runs { (files : Files) (input : Script) (r : LineResult) → line.now.canon ≡ None → line.now.inspect ≡ None
         → W.making world ≡ false → W.files world ≡ Some files → W.input world ≡ Some input
         → line_result (request_of line.now) files input ≡ Some r
         → Follows (request_of line.now) r result.status result.failure
         (seen O.contents M.contents M.failures out.old out.new messages.old messages.new (W.files world) (W.files result.world)) }
+    // line in a world: a mode on the file of its name
     ensures canon { IfSome line.now.canon (λ file. (files : Files) → W.making world ≡ false → W.files world ≡ Some files
         → ModeFollows Mode.Canon (string_bytes file) (files (string_bytes file)) result.status
         (seen O.contents M.contents M.failures out.old out.new messages.old messages.new (W.files world) (W.files result.world))) }
+    // line in a world: the same, for the other mode
     ensures inspect { line.now.canon ≡ None → IfSome line.now.inspect (λ file. (files : Files) → W.making world ≡ false → W.files world ≡ Some files
         → ModeFollows Mode.Inspect (string_bytes file) (files (string_bytes file)) result.status
         (seen O.contents M.contents M.failures out.old out.new messages.old messages.new (W.files world) (W.files result.world))) }
