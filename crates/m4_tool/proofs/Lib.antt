@@ -1,5 +1,13 @@
 mod EndLemmas
 mod Examples
 mod FoundLemmas
+mod FrozenLines
+mod LineEnds
+mod MadeFiles
+mod MemoryFiles
+mod ModeLines
+mod OpenedFiles
+mod Places
+mod RanFiles
 mod RefusalLemmas
 mod RowLemmas

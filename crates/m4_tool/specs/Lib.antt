@@ -1,5 +1,12 @@
 pub mod CommandLine
+pub mod Late
+pub mod Line
+pub mod LineLaws
+pub mod LineMode
+pub mod LineRun
 pub mod LineSteps
+pub mod Memory
 pub mod ModeFault
 pub mod Modes
 pub mod RunEnd
+pub mod World

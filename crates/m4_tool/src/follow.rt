@@ -1,116 +1,179 @@
-//! The program: reads its command line, does the work, and reports the result.
-//!
-//! All messages about a line that is refused are printed here. Manual: "Invoking m4".
+//! A line that is followed in a world: a mode, or a run over the files of the line, which starts from a
+//! frozen file and freezes to one. Manual: "Invoking m4".
 
-ghost use Rattle.std.specs.Prelude.{◌≡◌, IfErr, IfOk, false, map, string_bytes};
-ghost use Rattle.clap.specs.Walk.{texts};
-ghost use Rattle.m4_tool.specs.CommandLine.{AreInRange, IsModeNotAlone, IsRefusal, Says, ModeIsAlone};
+ghost use Rattle.std.specs.Prelude.{◌≡◌, map, [], List, ℕ, Option, Some, None, IfSome, false, unwrap_or, option_map, string_bytes};
+ghost use Rattle.m4_state.specs.Device.{Script};
+ghost use Rattle.m4_engine.specs.RunSources.{DescribesFrozen};
+ghost use Rattle.m4_engine.specs.File.{Source as Said};
+ghost use Rattle.m4_engine.specs.Run.{run as defined};
+ghost use Rattle.m4_tool.specs.World.{Files};
+ghost use Rattle.m4_tool.specs.Line.{Follows, LineResult, Ends_by, request_of, result_of_run, sources_in, unreloaded, words_of, line as line_result};
+ghost use Rattle.m4_tool.specs.LineMode.{ModeFollows, ends_of};
+ghost use Rattle.m4_tool.specs.LineRun.{seen};
+ghost use Rattle.m4_tool.specs.Modes.{ModeRuns, reads, writes};
 
-mod files;
-mod frozen;
-mod reports;
+mod closing;
+mod running;
+mod sources;
 
-use crate::line::{Line, LineFault, read_line};
-use files::run_files;
-use frozen::{Mode, run_mode};
-use reports::{FAILED, report};
-use std::alloc::{AllocError, Global};
-use std::env::Env;
-use std::io::{self, ErrorKind, Input, Write};
-use std::rt::Files;
+use crate::followed::Followed;
+use crate::line::Line;
+use crate::modes;
+use crate::world::{Shows, World};
+use closing::{close, close_mode, close_unopened};
+use m4_state::device::{ByteSink, ByteSource};
+use running::run_line;
+use std::alloc::Global;
 
-/// Follows the command line of the process, and returns the exit status. `errors` is standard error.
-pub fn exit_status<E: Write + Drop>(
-    rt: &(impl Env + Files + Input + Alloc<A = Global> + Print + Eprint),
-    errors: E,
-) -> u8 {
-    match words_of_process(rt) {
-        Ok(words) => status_of_words(rt, errors, words.as_slice()),
-        Err(fault) => report_unread_words(rt, &fault),
-    }
-}
-
-// Returns the words that the process was started with.
-fn words_of_process(rt: &(impl Env + Alloc<A = Global>)) -> io::Result<Vec<String>> {
-    let words = std::env::args(rt)?;
-    Ok(words.collect(rt.alloc())?)
-}
-
-// Follows the line of these words, or reports why it is refused.
-fn status_of_words<E: Write + Drop>(
-    rt: &(impl Files + Input + Alloc<A = Global> + Print + Eprint),
-    errors: E,
-    words: &[String],
-) -> u8 {
-    match line_of(rt.alloc(), words) {
-        Ok(line) => run_line(rt, errors, &line),
-        Err(fault) => report_line_fault(rt, &fault),
-    }
-}
-
-// Returns the line of these words.
-fn line_of(alloc: Global, words: &[String]) -> Result<Line, LineFault>
-    ensures says { IfOk result (Says (map string_bytes words.now)) }
-    ensures in_range { IfOk result AreInRange }
-    ensures alone { IfOk result ModeIsAlone }
-    ensures not_alone { result ≡ Err LineFault.ModeNotAlone
-        → IsModeNotAlone (map string_bytes words.now) }
-    ensures refused { IfErr result (IsRefusal (map string_bytes words.now)) }
-{
-    let texts = borrowed(alloc, words)?;
-    read_line(alloc, texts.as_slice())
-}
-
-// Borrows the words, for `read_line`.
-fn borrowed<'a>(alloc: Global, words: &'a [String]) -> Result<Vec<&'a str>, AllocError>
-    ensures { IfOk result (λ same. texts same.items ≡ map string_bytes words.now) }
-{
-    let mut texts = Vec::new(alloc);
-    for word in words {
-        texts.push(word.as_str())?;
-    }
-    Ok(texts)
-}
-
-// Does the work of the line.
-fn run_line<E: Write + Drop>(
-    rt: &(impl Files + Input + Alloc<A = Global> + Print + Eprint),
-    errors: E,
+/// Follows a line in a world. Its messages go to `messages`, and its output to `out`; at the end both are
+/// flushed, and so is the file that was made.
+pub fn follow<W: World, O: Shows, M: Shows>(
+    alloc: Global,
     line: &Line,
-) -> u8 {
+    world: W,
+    out: &mut O,
+    messages: &mut M,
+) -> Followed<W>
+    // line in a world: the status, the output, the messages and the frozen file are those of the line; if a device
+    // or an allocation fails, prefixes of them
+    ensures runs { (files : Files) (input : Script) (r : LineResult) → line.now.canon ≡ None → line.now.inspect ≡ None
+        → W.making world ≡ false → W.files world ≡ Some files → W.input world ≡ Some input
+        → line_result (request_of line.now) files input ≡ Some r
+        → Follows (request_of line.now) r result.status result.failure
+        (seen O.contents M.contents M.failures out.old out.new messages.old messages.new (W.files world) (W.files result.world)) }
+    // line in a world: a mode on the file of its name
+    ensures canon { IfSome line.now.canon (λ file. (files : Files) → W.making world ≡ false → W.files world ≡ Some files
+        → ModeFollows Mode.Canon (string_bytes file) (files (string_bytes file)) result.status
+        (seen O.contents M.contents M.failures out.old out.new messages.old messages.new (W.files world) (W.files result.world))) }
+    // line in a world: the same, for the other mode
+    ensures inspect { line.now.canon ≡ None → IfSome line.now.inspect (λ file. (files : Files) → W.making world ≡ false → W.files world ≡ Some files
+        → ModeFollows Mode.Inspect (string_bytes file) (files (string_bytes file)) result.status
+        (seen O.contents M.contents M.failures out.old out.new messages.old messages.new (W.files world) (W.files result.world))) }
+{
     if let Some(file) = &line.canon {
-        return run_mode(rt, errors, Mode::Canon, file.as_str());
+        return follow_mode(
+            alloc,
+            Mode::Canon,
+            file.as_str().as_bytes(),
+            world,
+            out,
+            messages,
+        );
     }
     if let Some(file) = &line.inspect {
-        return run_mode(rt, errors, Mode::Inspect, file.as_str());
+        return follow_mode(
+            alloc,
+            Mode::Inspect,
+            file.as_str().as_bytes(),
+            world,
+            out,
+            messages,
+        );
     }
-    run_files(rt, errors, line).unwrap_or_else(|_refused| report(rt, "out of memory"))
+    follow_run(alloc, line, world, out, messages)
 }
 
-// Reports why a line is refused. Help that was requested is not a fault.
-fn report_line_fault(rt: &(impl Print + Eprint), fault: &LineFault) -> u8 {
-    match fault {
-        LineFault::ModeNotAlone => report(rt, "U1 a mode stands alone"),
-        LineFault::OutOfMemory => report(rt, "out of memory"),
-        LineFault::Parse(error) => print_answer(rt, error),
-    }
+/// The modes of a command line.
+#[derive(Clone, Copy)]
+enum Mode {
+    /// Prints the canonical text of a frozen file.
+    Canon,
+    /// Lists a frozen file.
+    Inspect,
 }
 
-// Prints the text of `clap`: help on standard output, or a refusal on standard error.
-fn print_answer(rt: &(impl Print + Eprint), error: &clap::Error) -> u8 {
-    if error.print(rt).is_err() {
-        return report(rt, "write fault");
-    }
-    if error.use_stderr() { FAILED } else { 0 }
-}
-
-// Reports why the words of the process could not be read.
-fn report_unread_words(rt: &impl Eprint, fault: &io::Error) -> u8
-    ensures { result ≡ FAILED }
+/// Runs a mode on a file, or reports that it can't be opened.
+fn follow_mode<W: World, O: Shows, M: Shows>(
+    alloc: Global,
+    mode: Mode,
+    file: &[u8],
+    world: W,
+    out: &mut O,
+    messages: &mut M,
+) -> Followed<W>
+    ensures { (files : Files) → W.making world ≡ false → W.files world ≡ Some files
+        → ModeFollows mode file.now (files file.now) result.status
+        (seen O.contents M.contents M.failures out.old out.new messages.old messages.new (W.files world) (W.files result.world)) }
 {
-    if fault.kind() == ErrorKind::OutOfMemory {
-        report(rt, "out of memory")
-    } else {
-        report(rt, "a word of the command line is not UTF-8")
+    let Some(mut reader) = world.open(file) else {
+        return close_unopened(file, world, messages);
+    };
+    let status = run_mode(alloc, mode, file, &mut reader, out, messages);
+    close_mode(status, world, out, messages)
+}
+
+/// Runs a mode on an opened file, and returns its status.
+fn run_mode<R: ByteSource, O: ByteSink, M: ByteSink>(
+    alloc: Global,
+    mode: Mode,
+    file: &[u8],
+    reader: &mut R,
+    out: &mut O,
+    messages: &mut M,
+) -> u8
+    ensures { ModeRuns (ends_of mode) file.now (reads R.script R.failures reader.old reader.new)
+        (writes O.contents O.failures out.old out.new)
+        (writes M.contents M.failures messages.old messages.new) result }
+{
+    match mode {
+        Mode::Canon => modes::canon(alloc, file, reader, out, messages),
+        Mode::Inspect => modes::inspect(alloc, file, reader, out, messages),
     }
+}
+
+/// Follows a line without a mode. If its frozen file can't be opened, that is reported, and nothing else
+/// is done.
+fn follow_run<W: World, O: Shows, M: Shows>(
+    alloc: Global,
+    line: &Line,
+    world: W,
+    out: &mut O,
+    messages: &mut M,
+) -> Followed<W>
+    ensures { (files : Files) (input : Script) (r : LineResult)
+        → W.making world ≡ false → W.files world ≡ Some files → W.input world ≡ Some input
+        → line_result (request_of line.now) files input ≡ Some r
+        → Follows (request_of line.now) r result.status result.failure
+        (seen O.contents M.contents M.failures out.old out.new messages.old messages.new (W.files world) (W.files result.world)) }
+{
+    match &line.reload {
+        None => follow_from(alloc, line, &mut None, b"", world, out, messages),
+        Some(name) => {
+            let file = name.as_str().as_bytes();
+            match world.open(file) {
+                Some(reader) => follow_from(
+                    alloc,
+                    line,
+                    &mut Some(reader),
+                    file,
+                    world,
+                    out,
+                    messages,
+                ),
+                None => close_unopened(file, world, messages),
+            }
+        }
+    }
+}
+
+/// Follows a line from this start. `file` is the name of its frozen file.
+fn follow_from<W: World, O: Shows, M: Shows>(
+    alloc: Global,
+    line: &Line,
+    frozen: &mut Option<W::Reader>,
+    file: &[u8],
+    world: W,
+    out: &mut O,
+    messages: &mut M,
+) -> Followed<W>
+    ensures { (files : Files) (input : Script) (script : Option Script) (ss : List Said)
+        → W.making world ≡ false → W.files world ≡ Some files → W.input world ≡ Some input
+        → DescribesFrozen W.Reader.script frozen.old script
+        → sources_in files input (words_of (request_of line.now).names) ≡ map Some ss
+        → Ends_by result.failure (unwrap_or (request_of line.now).freeze []) file.now
+        (result_of_run file.now (defined line.now.options script ss)) result.status
+        (seen O.contents M.contents M.failures out.old out.new messages.old messages.new (W.files world) (W.files result.world)) }
+{
+    let ran = run_line(alloc, line, frozen, world, out, messages);
+    close(ran.ending, file, ran.world, out, messages)
 }

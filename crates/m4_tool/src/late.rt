@@ -1,89 +1,108 @@
 //! The file to which a run freezes. It is created when its first byte is written.
 //! Manual: "Fast loading of frozen state".
 
-ghost use Rattle.std.specs.Prelude.{◌≡◌, None, IfOk, IfErr};
-ghost use Rattle.std.specs.IoError.{error_kind};
+ghost use Rattle.std.specs.Prelude.{◌≡◌, ℕ, List, [], Option, Some, None, false, true, OnOk, OnErr};
+ghost use Rattle.std.proofs.Props.{props};
+ghost use Rattle.m4_tool.specs.World.{Files};
+ghost use Rattle.m4_tool.specs.Late.{after_writing, begun_in, is_tried, written};
 
-use crate::shared::BLOCK;
+use crate::world::World;
+use m4_state::bytes::Bytes;
 use m4_state::device::{ByteSink, DeviceFault};
-use m4_state::standard::StdSink;
-use std::alloc::Global;
-use std::fs;
-use std::io::{self, BufWriter, ErrorKind, Write};
-use std::rt::Files;
+use std::marker::{Brand, PhantomData};
 
-/// A writer that creates its file when the first byte is written.
-#[derive(Drop)]
-struct Unmade<'a, R: Files> {
-    rt: &'a R,
-    path: &'a str,
-    file: Option<R::File>,
+/// What contracts know of a late file: the files before it, and its name.
+pub trait Place {
+    /// The files before it; none if they are not known.
+    ghost before: { Option Files };
+
+    /// Its name.
+    ghost name: { List ℕ };
 }
 
-impl<R: Files> Write for Unmade<'_, R> {
-    fn write(&mut self, buf: &[u8]) -> io::Result<usize> {
-        if let Some(file) = &mut self.file {
-            return file.write(buf);
-        }
-        let mut file = fs::create(self.rt, self.path)?;
-        let written = file.write(buf);
-        self.file = Some(file);
-        written
-    }
+impl Place for Brand {
+    ghost before = { None };
 
-    fn flush(&mut self) -> io::Result<()> {
-        match &mut self.file {
-            Some(file) => file.flush(),
-            None => Ok(()),
-        }
-    }
+    ghost name = { [] };
 }
 
 /// A sink over a file that is created when its first byte is written. Until then a file of that name
 /// stays as it is: a run that writes nothing leaves an old file unchanged, and the run may read it.
-///
-/// Bytes are written in blocks. [`LateFile::finish`] writes the last one. If the sink is dropped without
-/// it, the last block is written too, but a failure is not reported.
 #[derive(Drop)]
-pub struct LateFile<'a, R: Files> {
-    sink: StdSink<BufWriter<Unmade<'a, R>>>,
+pub struct LateFile<W: World, K: Place> {
+    world: W,
+    name: Bytes,
+    created: bool,
+    failures: u64,
+    of: PhantomData<K>,
+    ghost named: { name ≡ K.name },
+    ghost agrees: { W.files world ≡ after_writing created K.name (written created K.name (W.files world)) K.before } by { Prim.hlevel props },
+    ghost tried: { is_tried created failures (written created K.name (W.files world)) ≡ true },
 }
 
-impl<'a, R: Files + Alloc<A = Global>> LateFile<'a, R> {
-    /// Returns a sink over the file of this name, which is not created yet. Allocates a block.
-    pub fn new(rt: &'a R, path: &'a str) -> io::Result<LateFile<'a, R>>
-        ensures contents { IfOk result (λ late. ⟦<LateFile<'a, R> as ByteSink>⟧.contents late ≡ None) }
-        ensures failures { IfOk result (λ late. ⟦<LateFile<'a, R> as ByteSink>⟧.failures late ≡ 0) }
-        ensures err { IfErr result (λ error. error_kind error ≡ ErrorKind.OutOfMemory) }
+impl<W: World, K: Place> LateFile<W, K> {
+    /// Returns a sink over the file of this name, which is not created yet.
+    pub fn new(world: W, name: Bytes) -> LateFile<W, K>
+        requires before { W.files world ≡ K.before }
+        requires name { name ≡ K.name }
+        ensures created { result.created ≡ false }
+        ensures world { result.world ≡ world }
+        ensures failures { result.failures ≡ 0 }
     {
-        let file = Unmade {
-            rt,
-            path,
-            file: None,
-        };
-        let writer = BufWriter::with_capacity(rt.alloc(), BLOCK, file)?;
-        Ok(LateFile {
-            sink: StdSink::new(writer),
-        })
+        LateFile {
+            world,
+            name,
+            created: false,
+            failures: 0,
+            of: PhantomData,
+        }
+    }
+
+    /// Returns the world, with the file if one was created.
+    pub fn into_world(self) -> W
+        ensures world { result ≡ self.world }
+        ensures files { W.files result ≡ after_writing self.created K.name (written self.created K.name (W.files self.world)) K.before }
+        ensures tried { is_tried self.created self.failures (written self.created K.name (W.files self.world)) ≡ true }
+    {
+        let LateFile {
+            world,
+            name: _,
+            created: _,
+            failures: _,
+            of: _,
+        } = self;
+        world
     }
 }
 
-impl<R: Files> LateFile<'_, R> {
-    /// Writes the bytes that are not written yet. If nothing was ever put, no file is created.
-    pub fn finish(self) -> io::Result<()> {
-        let LateFile { sink } = self;
-        sink.into_inner().flush()
-    }
-}
+impl<W: World, K: Place> ByteSink for LateFile<W, K> {
+    ghost contents = { λ s. written s.created K.name (W.files s.world) };
 
-impl<R: Files> ByteSink for LateFile<'_, R> {
-    ghost use Rattle.m4_state.specs.Standard.{sink_failures};
-
-    ghost contents = { λ _. None };
-
-    ghost failures = { λ late. sink_failures late.sink };
+    ghost failures = { λ s. s.failures };
 
     fn put(&mut self, bytes: &[u8]) -> Result<usize, DeviceFault> {
-        self.sink.put(bytes)
+        if begin(&mut self.world, self.name.as_slice(), self.created).is_err() {
+            self.failures = self.failures.saturating_add(1);
+            return Err(DeviceFault);
+        }
+        self.created = true;
+        match self.world.append(self.name.as_slice(), bytes) {
+            Ok(n) => Ok(n),
+            Err(DeviceFault) => {
+                self.failures = self.failures.saturating_add(1);
+                Err(DeviceFault)
+            }
+        }
     }
+}
+
+/// Creates the file, unless it was created before.
+fn begin<W: World>(world: &mut W, name: &[u8], created: bool) -> Result<(), DeviceFault>
+    ensures begun { OnOk result (W.files world.new ≡ begun_in created name.now (W.files world.old)) }
+    ensures unchanged { OnErr result (W.files world.new ≡ W.files world.old) }
+{
+    if !created {
+        world.create(name)?;
+    }
+    Ok(())
 }

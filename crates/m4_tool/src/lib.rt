@@ -1,15 +1,23 @@
 //! The command line of m4r, and the work that it requests.
 //!
-//! [`follow::exit_status`] is the program from the words of its process to its exit status. It uses
-//! [`line`], which reads the words, [`modes`], the two modes for a frozen file, and the other modules,
-//! which connect the runs of `m4_engine` to files and to the standard streams. Manual: "Invoking m4".
+//! [`program::exit_status`] is the program from the words of its process to its exit status. It reads the
+//! words ([`line`]) and follows the line ([`follow`]) in the world of the process ([`std_world`]).
+//! [`modes`] are the two modes for a frozen file. Manual: "Invoking m4".
 #![tactic(auto)]
 
 pub mod endings;
 pub mod fault;
 pub mod follow;
+pub mod followed;
+pub mod given;
 pub mod late;
+pub mod laws;
 pub mod line;
+pub mod mem_world;
 pub mod modes;
+pub mod program;
+mod reports;
 mod shared;
 pub mod sources;
+pub mod std_world;
+pub mod world;

@@ -1,7 +1,7 @@
 //! The program m4r: the runtime, handed to `m4_tool`.
 #![tactic(auto)]
 
-use m4_tool::follow::exit_status;
+use m4_tool::program::exit_status;
 use std::process::ExitCode;
 
 fn main(rt: HostRuntime) -> ExitCode {

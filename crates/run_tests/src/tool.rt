@@ -2,9 +2,9 @@
 
 mod ends;
 mod faults;
-mod late;
 mod lines;
 mod modes;
 mod names;
 mod shows;
 mod texts;
+mod worlds;

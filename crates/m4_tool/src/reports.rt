@@ -13,11 +13,3 @@ pub fn report(rt: &impl Eprint, text: &str) -> u8
     let _printed = eprintln!(rt; "m4: {text}");
     FAILED
 }
-
-/// Prints that this file can't be opened, and returns the status of a run that failed.
-pub fn report_unopened(rt: &impl Eprint, file: &str) -> u8
-    ensures { result ≡ FAILED }
-{
-    let _printed = eprintln!(rt; "m4: cannot open `{file}'");
-    FAILED
-}

@@ -1,0 +1,322 @@
+-- The end of a line, by the end of its run and by what was flushed.
+use Rattle.std.proofs.Common.{◌≡◌, ◌≢◌, ℕ, zero, suc, Bool, true, false, List, [], ◌∷◌, ◌++◌, Option, Some, None, refl, sym, ap, ◌∙◌, subst, append-nil, ◌⊎◌, inl, inr}
+use Rattle.std.specs.Prelude.{option_map, unwrap_or, codes, Result}
+use Rattle.m4_state.specs.Device.{Script, with_bytes, HasBegun, Puts, count_after, one_more}
+use Rattle.m4_state.specs.declared.device.DeviceFault.{DeviceFault}
+use Rattle.m4_frozen.specs.declared.fault.FrozenFault.{FrozenFault}
+use Rattle.m4_state.proofs.CallerLaws.{with_bytes-nil, HasPut-start}
+use Rattle.m4_frozen.specs.declared.fault.FrozenKind.{FrozenKind}
+use Rattle.m4_frozen.specs.declared.fault.FrozenKind.TheVariants as kinds
+use Rattle.m4_engine.specs.declared.options.Options.{Options}
+use Rattle.m4_engine.specs.declared.ending.Cause.{Cause}
+use Rattle.m4_engine.specs.declared.ending.Cause.TheVariants as causes
+use Rattle.m4_engine.specs.declared.ending.Ending.{Ending}
+use Rattle.m4_engine.specs.Expansion.{EndReason, Ends, RunSoFar}
+use Rattle.m4_engine.specs.File.{Source, after_sources, cannot_open}
+use Rattle.m4_engine.specs.Start.{begun, start_of}
+use Rattle.m4_engine.specs.Wraps.{after_wraps}
+use Rattle.m4_engine.specs.Run.{RunResult, status_of, frozen_status, limits_of, result_by, run, saved_after}
+use Rattle.m4_engine.specs.Writers.{Contents, writers}
+use Rattle.m4_engine.specs.WholeRun.{GivesBy, RefusedBy, WroteAll, WrotePrefix}
+use Rattle.m4_tool.specs.declared.followed.Failure.{Failure}
+use Rattle.m4_tool.specs.declared.followed.Failure.TheVariants as failures
+use Rattle.m4_tool.specs.RunEnd.{last_status, last_fault, refused_line}
+use Rattle.m4_tool.specs.World.{Files, with_file, made_file}
+use Rattle.m4_tool.specs.Line.{AsDefined, BrokeOff, Ends_by, FilesBy, HasPrefix, LineResult, Reports, Reported, Seen, added_lines, failure_by, failure_of, frozen_failure, last_lines, refusals, refusals_by, result_of_run, unreloaded}
+use Rattle.m4_tool.specs.LineRun.{Closes, CountedBy, Ran, RanFiles}
+
+-- lines that were added one list after the other
+pub reports-append : (xs ys : List (List ℕ)) (a b c : Option (List ℕ)) (f g h : ℕ) → Reports xs a b f g → Reports ys b c g h → Reports (xs ++ ys) a c f h
+reports-append [] ys a b c f g h p q =
+    subst (λ (n : ℕ). Reports ys a c n h) p.1 (subst (λ (m : Option (List ℕ)). Reports ys m c g h) p.0 q)
+reports-append (x ∷ xs) ys a b c f g h p q = (p.0, p.1, p.2, reports-append xs ys p.0 b c p.1 g h p.3 q)
+
+pub no_reports : (xs : List (List ℕ)) (a : Option (List ℕ)) (f : ℕ) → xs ≡ [] → Reports xs a a f f
+no_reports xs a f e = rw e (refl, refl)
+
+-- a run ended without a failure, and everything was flushed
+frozen_all : (k : FrozenKind) (r : RunResult) (e : Ending) (w : Contents) → frozen_failure k ≡ None → RefusedBy k r e w → WroteAll r e w
+frozen_all kinds.OutOfMemory r e w n g = absurd cc
+frozen_all kinds.NoVersion r e w n g = g
+frozen_all kinds.Newer r e w n g = g
+frozen_all kinds.VersionZero r e w n g = g
+frozen_all kinds.SecondVersion r e w n g = g
+frozen_all kinds.UnknownDirective r e w n g = g
+frozen_all kinds.DigitExpected r e w n g = g
+frozen_all kinds.NumberTooLarge r e w n g = g
+frozen_all kinds.SeparatorExpected r e w n g = g
+frozen_all kinds.PrematureEnd r e w n g = g
+frozen_all kinds.Read r e w n g = g
+
+wrote_all : (c : Cause) (b : Bool) (r : RunResult) (e : Ending) (w : Contents) → failure_of c b ≡ None → GivesBy c r e w → WroteAll r e w
+wrote_all causes.Read true r e w n g = absurd cc
+wrote_all causes.Write true r e w n g = absurd cc
+wrote_all causes.OutOfMemory true r e w n g = absurd cc
+wrote_all (causes.Frozen f) true r e w n g = frozen_all f.kind r e w n g
+wrote_all causes.Done true r e w n g = g
+wrote_all (causes.Exited code) true r e w n g = g
+wrote_all causes.EndInString true r e w n g = g
+wrote_all causes.EndInComment true r e w n g = g
+wrote_all causes.EndInArguments true r e w n g = g
+wrote_all causes.ExpansionLimit true r e w n g = g
+wrote_all causes.NestingLimit true r e w n g = g
+wrote_all (causes.Frozen f) false r e w n g = absurd cc
+wrote_all c false r e w n g = absurd cc
+
+status_all : (c : Cause) (b : Bool) (s : ℕ) (x : Bool) → failure_of c b ≡ None → last_status (record { status = s; cause = c; wrapped = x }) b ≡ s
+status_all causes.Read true s x n = absurd cc
+status_all causes.Write true s x n = absurd cc
+status_all causes.OutOfMemory true s x n = absurd cc
+status_all (causes.Frozen f) true s x n = refl
+status_all causes.Done true s x n = refl
+status_all (causes.Exited code) true s x n = refl
+status_all causes.EndInString true s x n = refl
+status_all causes.EndInComment true s x n = refl
+status_all causes.EndInArguments true s x n = refl
+status_all causes.ExpansionLimit true s x n = refl
+status_all causes.NestingLimit true s x n = refl
+status_all (causes.Frozen f) false s x n = absurd cc
+status_all c false s x n = absurd cc
+
+added_all : (c : Cause) (b : Bool) (file : List ℕ) → failure_of c b ≡ None → added_lines file c b ≡ refusals file c
+added_all causes.Read true file n = absurd cc
+added_all causes.Write true file n = absurd cc
+added_all causes.OutOfMemory true file n = absurd cc
+added_all (causes.Frozen f) true file n = refl
+added_all causes.Done true file n = refl
+added_all (causes.Exited code) true file n = refl
+added_all causes.EndInString true file n = refl
+added_all causes.EndInComment true file n = refl
+added_all causes.EndInArguments true file n = refl
+added_all causes.ExpansionLimit true file n = refl
+added_all causes.NestingLimit true file n = refl
+added_all (causes.Frozen f) false file n = absurd cc
+added_all c false file n = absurd cc
+
+counted_all : (c : Cause) (b : Bool) (f g : ℕ) → failure_of c b ≡ None → CountedBy c f g → g ≡ f
+counted_all causes.Write true f g n h = absurd cc
+counted_all causes.Write false f g n h = absurd cc
+counted_all c b f g n h = h
+
+-- nothing is frozen unless everything was read
+pub record FreezesAtEnd (r : RunResult) : Type 0 where
+  pub at_end : (r.reason ≡ Ends causes.Done) ⊎ (r.frozen ≡ None)
+
+by_over : (over : Option EndReason) (freezes : Bool) (saved : List (List ℕ)) (so_far : RunSoFar) (m : Bool) → FreezesAtEnd (result_by over freezes saved so_far m)
+by_over None freezes saved so_far m = record { at_end = inl refl }
+by_over (Some reason) freezes saved so_far m = record { at_end = inr refl }
+
+-- each run does
+pub freezes_at_end : (o : Options) (frozen : Option Script) (ss : List Source) → FreezesAtEnd (run o frozen ss)
+freezes_at_end o frozen ss =
+    let p = after_wraps (limits_of o) (after_sources (limits_of o) ss (begun (start_of o.prefix frozen))) in
+    by_over p.over o.freeze (saved_after ss (after_sources (limits_of o) ss (begun (start_of o.prefix frozen)))) p.so_far p.any_missing
+
+none_made : (name : List ℕ) (files : Option Files) → option_map (made_file name []) files ≡ files
+none_made name None = refl
+none_made name (Some f) = refl
+
+kept_made : (name : List ℕ) (frozen : Option (List ℕ)) (old new : Option Files) → frozen ≡ None → new ≡ old → new ≡ option_map (made_file name (unwrap_or frozen [])) old
+kept_made name frozen old new n e = e ∙ sym (none_made name old) ∙ ap (λ (o : Option (List ℕ)). option_map (made_file name (unwrap_or o [])) old) (sym n)
+
+-- whether everything was read
+abbrev is_done : EndReason → Bool
+is_done (Ends causes.Done) = true
+is_done reason = false
+
+not_done : (c : Cause) (r : RunResult) → is_done (Ends c) ≡ false → r.reason ≡ Ends c → FreezesAtEnd r → r.frozen ≡ None
+not_done c r d e f = elim f.at_end [
+  | inl k ↦ absurd (let x : true ≡ false = ap is_done (sym k ∙ e) ∙ d in cc)
+  | inr k ↦ k
+]
+
+files_all : (c : Cause) (name : List ℕ) (r : RunResult) (old new : Option Files) → r.reason ≡ Ends c → FreezesAtEnd r → failure_by c ≡ None → RanFiles c name (unwrap_or r.frozen []) old new → new ≡ option_map (made_file name (unwrap_or r.frozen [])) old
+files_all causes.Done name r old new e f n h = h
+files_all causes.Write name r old new e f n h = absurd cc
+files_all causes.Read name r old new e f n h = absurd cc
+files_all causes.OutOfMemory name r old new e f n h = absurd cc
+files_all (causes.Exited code) name r old new e f n h = kept_made name r.frozen old new (not_done (causes.Exited code) r refl e f) h
+files_all causes.EndInString name r old new e f n h = kept_made name r.frozen old new (not_done causes.EndInString r refl e f) h
+files_all causes.EndInComment name r old new e f n h = kept_made name r.frozen old new (not_done causes.EndInComment r refl e f) h
+files_all causes.EndInArguments name r old new e f n h = kept_made name r.frozen old new (not_done causes.EndInArguments r refl e f) h
+files_all causes.ExpansionLimit name r old new e f n h = kept_made name r.frozen old new (not_done causes.ExpansionLimit r refl e f) h
+files_all causes.NestingLimit name r old new e f n h = kept_made name r.frozen old new (not_done causes.NestingLimit r refl e f) h
+files_all (causes.Frozen fault) name r old new e f n h = kept_made name r.frozen old new (not_done (causes.Frozen fault) r refl e f) h
+
+unfailed : (c : Cause) (b : Bool) → failure_of c b ≡ None → failure_by c ≡ None
+unfailed causes.Read true n = absurd cc
+unfailed causes.Write true n = absurd cc
+unfailed causes.OutOfMemory true n = absurd cc
+unfailed causes.Read false n = absurd cc
+unfailed causes.Write false n = absurd cc
+unfailed causes.OutOfMemory false n = absurd cc
+unfailed c b n = refl
+
+-- a prefix of what a run writes was written
+pub record Prefixes (r : RunResult) (w : Contents) : Type 0 where
+  pub output : HasBegun w.out_old w.out_new r.output
+  pub messages : HasBegun w.messages_old w.messages_new r.messages
+
+all_begun : (old new : Option (List ℕ)) (text : List ℕ) → new ≡ with_bytes old text → HasBegun old new text
+all_begun old new text e = ([], record { front = text; parts = sym (append-nil text); holds = e })
+
+of_all : (r : RunResult) (e : Ending) (w : Contents) → WroteAll r e w → Prefixes r w
+of_all r e w g = record { output = all_begun w.out_old w.out_new r.output g.output; messages = all_begun w.messages_old w.messages_new r.messages g.messages }
+
+of_prefix : (r : RunResult) (e : Ending) (w : Contents) → WrotePrefix r e w → Prefixes r w
+of_prefix r e w g = record { output = g.output; messages = g.messages }
+
+of_refused : (k : FrozenKind) (r : RunResult) (e : Ending) (w : Contents) → RefusedBy k r e w → Prefixes r w
+of_refused kinds.OutOfMemory r e w g = of_prefix r e w g
+of_refused k r e w g = of_all r e w g
+
+prefixes : (c : Cause) (r : RunResult) (e : Ending) (w : Contents) → GivesBy c r e w → Prefixes r w
+prefixes causes.Read r e w g = of_prefix r e w g
+prefixes causes.Write r e w g = of_prefix r e w g
+prefixes causes.OutOfMemory r e w g = of_prefix r e w g
+prefixes (causes.Frozen f) r e w g = of_refused f.kind r e w g
+prefixes c r e w g = of_all r e w g
+
+made_prefix : (name text : List ℕ) (old new : Option Files) → new ≡ option_map (made_file name text) old → (new ≡ old) ⊎ HasPrefix name text old new
+made_prefix name [] old new e = inl (e ∙ none_made name old)
+made_prefix name (t ∷ ts) old new e = inr (record { front = t ∷ ts; rest = []; parts = sym (append-nil (t ∷ ts)); files = e })
+
+some_files : (c : Cause) (name text : List ℕ) (old new : Option Files) → RanFiles c name text old new → (new ≡ old) ⊎ HasPrefix name text old new
+some_files causes.Done name text old new h = made_prefix name text old new h
+some_files causes.Write name text old new h = h
+some_files c name text old new h = inl h
+
+-- the files after a failure that is no write fault
+kept_files : (c : Cause) (b : Bool) (f : Failure) (name text : List ℕ) (old new : Option Files) → failure_of c b ≡ Some f → f ≢ failures.Write → RanFiles c name text old new → new ≡ old
+kept_files causes.Done true f name text old new e d h = absurd cc
+kept_files causes.Done false f name text old new e d h = absurd (d (ap (λ (o : Option Failure). unwrap_or o f) (sym e)))
+kept_files causes.Write true f name text old new e d h = absurd (d (ap (λ (o : Option Failure). unwrap_or o f) (sym e)))
+kept_files causes.Write false f name text old new e d h = absurd (d (ap (λ (o : Option Failure). unwrap_or o f) (sym e)))
+kept_files c b f name text old new e d h = h
+
+files_fail : (f : Failure) (c : Cause) (b : Bool) (name text : List ℕ) (old new : Option Files) → failure_of c b ≡ Some f → RanFiles c name text old new → FilesBy f name text old new
+files_fail failures.Write c b name text old new e h = some_files c name text old new h
+files_fail failures.Read c b name text old new e h = kept_files c b failures.Read name text old new e (λ k. cc) h
+files_fail failures.OutOfMemory c b name text old new e h = kept_files c b failures.OutOfMemory name text old new e (λ k. cc) h
+
+counted_some : (c : Cause) (f g : ℕ) → CountedBy c f g → (g ≡ f) ⊎ (g ≡ one_more f)
+counted_some causes.Write f g h = h
+counted_some c f g h = inl h
+
+frozen_fail : (k : FrozenKind) (f : Failure) → frozen_failure k ≡ Some f → frozen_status k ≡ 1
+frozen_fail kinds.OutOfMemory f e = refl
+frozen_fail kinds.NoVersion f e = refl
+frozen_fail kinds.Newer f e = absurd cc
+frozen_fail kinds.VersionZero f e = refl
+frozen_fail kinds.SecondVersion f e = refl
+frozen_fail kinds.UnknownDirective f e = refl
+frozen_fail kinds.DigitExpected f e = refl
+frozen_fail kinds.NumberTooLarge f e = refl
+frozen_fail kinds.SeparatorExpected f e = refl
+frozen_fail kinds.PrematureEnd f e = refl
+frozen_fail kinds.Read f e = refl
+
+status_fail : (c : Cause) (b : Bool) (f : Failure) (s : ℕ) (x m : Bool) → failure_of c b ≡ Some f → s ≡ status_of (Ends c) m → last_status (record { status = s; cause = c; wrapped = x }) b ≡ 1
+status_fail causes.Read true f s x m n e = refl
+status_fail causes.Write true f s x m n e = refl
+status_fail causes.OutOfMemory true f s x m n e = refl
+status_fail causes.Read false f s x m n e = refl
+status_fail causes.Write false f s x m n e = refl
+status_fail causes.OutOfMemory false f s x m n e = refl
+status_fail (causes.Frozen fault) true f s x m n e = e ∙ frozen_fail fault.kind f n
+status_fail (causes.Frozen fault) false f s x m n e = refl
+status_fail causes.Done true f s x m n e = absurd cc
+status_fail (causes.Exited code) true f s x m n e = absurd cc
+status_fail causes.EndInString true f s x m n e = absurd cc
+status_fail causes.EndInComment true f s x m n e = absurd cc
+status_fail causes.EndInArguments true f s x m n e = absurd cc
+status_fail causes.ExpansionLimit true f s x m n e = absurd cc
+status_fail causes.NestingLimit true f s x m n e = absurd cc
+status_fail c false f s x m n e = refl
+
+-- the writers and the files of a line, by those of its run and of its end
+abbrev pub seen_from : Option (List ℕ) → Option (List ℕ) → Option (List ℕ) → Option (List ℕ) → ℕ → ℕ → Option Files → Option Files → Seen
+seen_from o o' m m' f f' w w' = record { out_old = o; out_new = o'; messages_old = m; messages_new = m'; failures_old = f; failures_new = f'; files_old = w; files_new = w' }
+
+as_defined : (name file : List ℕ) (r : RunResult) (c : Cause) (b : Bool) (s : ℕ) (x : Bool) (o0 o1 o2 m0 m1 m2 : Option (List ℕ)) (f0 f1 f2 : ℕ) (w0 w1 w2 : Option Files) (status : ℕ)
+    → FreezesAtEnd r → failure_of c b ≡ None → WroteAll r (record { status = s; cause = c; wrapped = x }) (writers o0 o1 m0 m1) → CountedBy c f0 f1 → RanFiles c name (unwrap_or r.frozen []) w0 w1
+    → status ≡ last_status (record { status = s; cause = c; wrapped = x }) b → o2 ≡ o1 → Reports (added_lines file c b) m1 m2 f1 f2 → w2 ≡ w1
+    → AsDefined name (result_of_run file r) status (seen_from o0 o2 m0 m2 f0 f2 w0 w2)
+as_defined name file r c b s x o0 o1 o2 m0 m1 m2 f0 f1 f2 w0 w1 w2 status z n g k h l o p q =
+    let lines : added_lines file c b ≡ refusals_by file r.reason = added_all c b file n ∙ ap (refusals_by file) (sym g.reason) in
+    let p1 = subst (λ (ls : List (List ℕ)). Reports ls m1 m2 f1 f2) lines p in
+    let p2 = subst (λ (a : Option (List ℕ)). Reports (refusals_by file r.reason) a m2 f1 f2) g.messages p1 in
+    record {
+      is_status = l ∙ status_all c b s x n ∙ g.status;
+      output = o ∙ g.output;
+      messages = subst (λ (f : ℕ). Reports (refusals_by file r.reason) (with_bytes m0 r.messages) m2 f f2) (counted_all c b f0 f1 n k) p2;
+      files = q ∙ files_all c name r w0 w1 g.reason z (unfailed c b n) h;
+    }
+
+broke_off : (name file : List ℕ) (r : RunResult) (c : Cause) (b : Bool) (f : Failure) (s : ℕ) (x m : Bool) (o0 o1 o2 m0 m1 m2 : Option (List ℕ)) (f0 f1 f2 : ℕ) (w0 w1 w2 : Option Files) (status : ℕ)
+    → failure_of c b ≡ Some f → Prefixes r (writers o0 o1 m0 m1) → CountedBy c f0 f1 → s ≡ status_of (Ends c) m → RanFiles c name (unwrap_or r.frozen []) w0 w1
+    → status ≡ last_status (record { status = s; cause = c; wrapped = x }) b → o2 ≡ o1 → Reports (added_lines file c b) m1 m2 f1 f2 → w2 ≡ w1
+    → BrokeOff name file (result_of_run file r) status f (seen_from o0 o2 m0 m2 f0 f2 w0 w2)
+broke_off name file r c b f s x m o0 o1 o2 m0 m1 m2 f0 f1 f2 w0 w1 w2 status n g k t h l o p q = record {
+  is_status = l ∙ status_fail c b f s x m n t;
+  output = subst (λ (v : Option (List ℕ)). HasBegun o0 v r.output) (sym o) g.output;
+  cause = c;
+  flushed = b;
+  failed = n;
+  begun = m1;
+  messages = g.messages;
+  count = f1;
+  counted = counted_some c f0 f1 k;
+  reports = p;
+  files = files_fail f c b name (unwrap_or r.frozen []) w0 w2 n (subst (λ (v : Option Files). RanFiles c name (unwrap_or r.frozen []) w0 v) (sym q) h);
+}
+
+ends_by : (failure : Option Failure) (name file : List ℕ) (r : RunResult) (c : Cause) (b : Bool) (s : ℕ) (x m : Bool) (o0 o1 o2 m0 m1 m2 : Option (List ℕ)) (f0 f1 f2 : ℕ) (w0 w1 w2 : Option Files) (status : ℕ)
+    → FreezesAtEnd r → failure ≡ failure_of c b → GivesBy c r (record { status = s; cause = c; wrapped = x }) (writers o0 o1 m0 m1) → CountedBy c f0 f1 → s ≡ status_of (Ends c) m → RanFiles c name (unwrap_or r.frozen []) w0 w1
+    → status ≡ last_status (record { status = s; cause = c; wrapped = x }) b → o2 ≡ o1 → Reports (added_lines file c b) m1 m2 f1 f2 → w2 ≡ w1
+    → Ends_by failure name file (result_of_run file r) status (seen_from o0 o2 m0 m2 f0 f2 w0 w2)
+ends_by None name file r c b s x m o0 o1 o2 m0 m1 m2 f0 f1 f2 w0 w1 w2 status z n g k t h l o p q =
+    as_defined name file r c b s x o0 o1 o2 m0 m1 m2 f0 f1 f2 w0 w1 w2 status z (sym n) (wrote_all c b r (record { status = s; cause = c; wrapped = x }) (writers o0 o1 m0 m1) (sym n) g) k h l o p q
+ends_by (Some f) name file r c b s x m o0 o1 o2 m0 m1 m2 f0 f1 f2 w0 w1 w2 status z n g k t h l o p q =
+    broke_off name file r c b f s x m o0 o1 o2 m0 m1 m2 f0 f1 f2 w0 w1 w2 status (sym n) (prefixes c r (record { status = s; cause = c; wrapped = x }) (writers o0 o1 m0 m1) g) k t h l o p q
+
+-- a run that ended and was reported is the line's
+pub ended : (failure : Option Failure) (name file : List ℕ) (r : RunResult) (e : Ending) (o0 o1 o2 m0 m1 m2 : Option (List ℕ)) (f0 f1 f2 : ℕ) (w0 w1 w2 : Option Files) (status : ℕ)
+    → FreezesAtEnd r → Ran name r e (seen_from o0 o1 m0 m1 f0 f1 w0 w1) → Closes file e status failure (seen_from o1 o2 m1 m2 f1 f2 w1 w2)
+    → Ends_by failure name file (result_of_run file r) status (seen_from o0 o2 m0 m2 f0 f2 w0 w2)
+ended failure name file r e o0 o1 o2 m0 m1 m2 f0 f1 f2 w0 w1 w2 status z a d =
+    ends_by failure name file r e.cause d.flushed e.status e.wrapped a.any_missing o0 o1 o2 m0 m1 m2 f0 f1 f2 w0 w1 w2 status z d.failed a.gives a.counted a.is_status a.files d.is_status d.output d.reports d.files
+
+-- the line of a frozen file that was refused
+pub refusal_reported : (cause : Cause) (fault : FrozenFault) (file : List ℕ) (r : Result (Unit {0}) DeviceFault) (old mid new : Option (List ℕ)) (f g h : ℕ)
+    → cause ≡ causes.Frozen fault → Puts r old mid (refused_line file cause) → g ≡ count_after r f → new ≡ mid → h ≡ g → Reports (refusals file cause) old new f h
+refusal_reported cause fault file r old mid new f g h is p n k l =
+    subst (λ (c : Cause). Puts r old mid (refused_line file c) → Reports (refusals file c) old new f h) (sym is)
+    (λ q. (mid, g, record { put = r; puts = q; counted = n }, (k, l))) p
+
+-- the last line
+pub last_reported : (fault : Option (List ℕ)) (text : List ℕ) (old new : Option (List ℕ)) (f g : ℕ) → Some text ≡ fault
+    → Reports ((codes "m4: " ++ (text ++ codes "\n")) ∷ []) old new f g → Reports (last_lines fault) old new f g
+last_reported fault text old new f g e p = subst (λ (o : Option (List ℕ)). Reports (last_lines o) old new f g) e p
+
+pub none_reported : (fault : Option (List ℕ)) (old : Option (List ℕ)) (f : ℕ) → None ≡ fault → Reports (last_lines fault) old old f f
+none_reported fault old f e = subst (λ (o : Option (List ℕ)). Reports (last_lines o) old old f f) e (refl, refl)
+
+-- the same end, by the names of its parts
+pub ends_as : (failure : Option Failure) (name file file' : List ℕ) (r r' : LineResult) (status : ℕ) (w : Seen) → file ≡ file' → r ≡ r' → Ends_by failure name file r status w → Ends_by failure name file' r' status w
+ends_as failure name file file' r r' status w e k h =
+    subst (λ (x : LineResult). Ends_by failure name file' x status w) k (subst (λ (x : List ℕ). Ends_by failure name x r status w) e h)
+
+-- a line whose frozen file can't be opened
+pub unopened_ends : (failure : Option Failure) (name file given : List ℕ) (status : ℕ) (r : LineResult) (o m m' : Option (List ℕ)) (f f' : ℕ) (w w' : Option Files)
+    → failure ≡ None → status ≡ 1 → w' ≡ w → Reports (cannot_open given ∷ []) m m' f f' → unreloaded given ≡ r
+    → Ends_by failure name file r status (seen_from o o m m' f f' w w')
+unopened_ends failure name file given status r o m m' f f' w w' n s k p e =
+    let a : AsDefined name (unreloaded given) status (seen_from o o m m' f f' w w') = record {
+      is_status = s;
+      output = with_bytes-nil o;
+      messages = subst (λ (x : Option (List ℕ)). Reports (cannot_open given ∷ []) x m' f f') (with_bytes-nil m) p;
+      files = k ∙ sym (none_made name w);
+    } in
+    subst (λ (x : Option Failure). Ends_by x name file r status (seen_from o o m m' f f' w w')) (sym n)
+    (subst (λ (x : LineResult). AsDefined name x status (seen_from o o m m' f f' w w')) e a)

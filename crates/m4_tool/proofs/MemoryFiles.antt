@@ -1,0 +1,28 @@
+-- The files of a world in memory.
+use Rattle.std.proofs.Common.{◌≡◌, ◌<◌, ◌≤◌, ℕ, ◌+◌, Bool, true, false, List, [], ◌∷◌, ◌++◌, length, get_or, drop, Option, Some, None, refl, sym, ap, ◌∙◌}
+use Rattle.std.specs.Prelude.{option_map, if◌then◌else◌}
+use Rattle.std.specs.Str.{bytes_eq}
+use Rattle.std.proofs.lemmas.List.{drop_all}
+use Rattle.m4_state.specs.Device.{Script}
+use Rattle.m4_tool.specs.declared.given.Given.{Given}
+use Rattle.m4_tool.specs.World.{Files, with_file, with_more, whole_file}
+use Rattle.m4_tool.specs.Memory.{given_files, memory_files}
+use Rattle.m4_tool.proofs.MadeFiles.{with_more_file}
+use Rattle.m4_tool.proofs.Places.{at_place}
+
+pub memory_longer : (name given old new more : List ℕ) (made : Option (List ℕ)) (gs : List Given) → name ≡ given → made ≡ Some old → new ≡ old ++ more
+    → with_file name new (given_files gs) ≡ with_more given more (memory_files name made gs)
+memory_longer name given old new more made gs n m e =
+    ap (λ (b : List ℕ). with_file name b (given_files gs)) e
+    ∙ sym (with_more_file name old more (given_files gs))
+    ∙ ap (λ (o : Option (List ℕ)). with_more name more (memory_files name o gs)) (sym m)
+    ∙ ap (λ (g : List ℕ). with_more g more (memory_files name made gs)) n
+
+pub given_here : (gs : List Given) (i : ℕ) (x : Given) (n : List ℕ) → i < length gs → bytes_eq n (get_or gs i x).name.now ≡ true → given_files gs n ≡ given_files (drop i gs) n → given_files gs n ≡ Some (record { bytes = (get_or gs i x).bytes.now; fails = (get_or gs i x).fails })
+given_here gs i x n lt t e = e ∙ ap (λ (xs : List Given). given_files xs n) (at_place gs i x lt) ∙ rw t refl
+
+pub given_past : (gs : List Given) (i : ℕ) (x : Given) (n : List ℕ) → i < length gs → bytes_eq n (get_or gs i x).name.now ≡ false → given_files gs n ≡ given_files (drop i gs) n → given_files gs n ≡ given_files (drop (i + 1) gs) n
+given_past gs i x n lt t e = e ∙ ap (λ (xs : List Given). given_files xs n) (at_place gs i x lt) ∙ rw t refl
+
+pub given_none : (gs : List Given) (i : ℕ) (n : List ℕ) → length gs ≤ i → given_files gs n ≡ given_files (drop i gs) n → given_files gs n ≡ None
+given_none gs i n le e = e ∙ ap (λ (xs : List Given). given_files xs n) (drop_all i gs le)

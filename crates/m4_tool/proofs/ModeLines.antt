@@ -1,0 +1,56 @@
+-- The end of a line with a mode.
+use Rattle.std.proofs.Common.{◌≡◌, ℕ, Bool, List, [], ◌∷◌, ◌++◌, Option, Some, None, refl, sym, ap, ◌∙◌, subst}
+use Rattle.std.specs.Prelude.{option_map, unwrap_or, Result, Ok, Err, IfSome, false, codes}
+use Rattle.m4_state.specs.Device.{Script}
+use Rattle.m4_engine.specs.File.{cannot_open}
+use Rattle.m4_tool.specs.declared.fault.ModeFault.{ModeFault}
+use Rattle.m4_tool.specs.declared.follow.Mode.{Mode}
+use Rattle.m4_tool.specs.World.{Files}
+use Rattle.m4_tool.specs.ModeFault.{status_of}
+use Rattle.m4_tool.specs.Modes.{ModeRuns, Reading, ReportsFault, Writing}
+use Rattle.m4_tool.specs.Line.{Reports}
+use Rattle.m4_tool.specs.LineMode.{ModeEnds, ModeFollows, ModeMissed, closed_lines, closed_status, ends_of, fault_lines}
+use Rattle.m4_tool.specs.LineRun.{ModeCloses}
+use Rattle.m4_tool.proofs.LineEnds.{reports-append, seen_from}
+
+fault_reported : (end : Result (Unit {0}) ModeFault) (file : List ℕ) (m m' : Option (List ℕ)) (f f' : ℕ) → ReportsFault end file m m' f f' → Reports (fault_lines file end) m m' f f'
+fault_reported (Ok done) file m m' f f' h = h
+fault_reported (Err fault) file m m' f f' h = (m', f', record { put = h.0; puts = h.1; counted = h.2 }, (refl, refl))
+
+-- a mode on a file that was opened
+pub mode_ends : (mode : Mode) (file : List ℕ) (script : Option Script) (given : Option Script) (rf rf' : ℕ) (o o1 o2 m m1 m2 : Option (List ℕ)) (of of1 f f1 f2 : ℕ) (status answer : ℕ) (w w' : Option Files)
+    → Some script ≡ option_map (λ s. let p : Option Script = Some s in p) given
+    → ModeRuns (ends_of mode) file (record { script = script; failures_old = rf; failures_new = rf' }) (record { old = o; new = o1; failures_old = of; failures_new = of1 }) (record { old = m; new = m1; failures_old = f; failures_new = f1 }) status
+    → ModeCloses status answer o1 o2 m1 m2 f1 f2 → w' ≡ w
+    → ModeFollows mode file given answer (seen_from o o2 m m2 f f2 w w')
+mode_ends mode file script None rf rf' o o1 o2 m m1 m2 of of1 f f1 f2 status answer w w' e r k q = absurd cc
+mode_ends mode file script (Some s) rf rf' o o1 o2 m m1 m2 of of1 f f1 f2 status answer w w' e r k q =
+    let is : script ≡ Some s = ap (λ (p : Option (Option Script)). unwrap_or p None) e in
+    let output = subst (λ (p : Option Script). IfSome p (λ x. ends_of mode r.end x o o1)) is r.output in
+    let lines = subst (λ (n : ℕ). Reports (closed_lines n k.flushed) m1 m2 f1 f2) r.status k.reports in
+    record {
+      end = r.end;
+      flushed = k.flushed;
+      is_status = k.is_status ∙ ap (λ (n : ℕ). closed_status n k.flushed) r.status;
+      output = subst (λ (x : Option (List ℕ)). ends_of mode r.end s o x) (sym k.output) output;
+      messages = reports-append (fault_lines file r.end) (closed_lines (status_of r.end) k.flushed) m m1 m2 f f1 f2 (fault_reported r.end file m m1 f f1 r.messages) lines;
+      files = q;
+    }
+
+-- a mode on a file that can't be opened
+pub mode_missed : (mode : Mode) (file : List ℕ) (given : Option Script) (o m m' : Option (List ℕ)) (f f' : ℕ) (status : ℕ) (w w' : Option Files)
+    → None ≡ option_map (λ s. let p : Option Script = Some s in p) given → status ≡ 1 → w' ≡ w → Reports (cannot_open file ∷ []) m m' f f'
+    → ModeFollows mode file given status (seen_from o o m m' f f' w w')
+mode_missed mode file None o m m' f f' status w w' e s k p = record { is_status = s; output = refl; messages = p; files = k }
+mode_missed mode file (Some x) o m m' f f' status w w' e s k p = absurd cc
+
+-- a mode whose last flush failed
+pub mode_failed : (status : ℕ) (o o' m m1 m2 : Option (List ℕ)) (f f1 f2 : ℕ) → status ≡ 0 → o' ≡ o → m1 ≡ m → f1 ≡ f → Reports (codes "m4: write fault\n" ∷ []) m1 m2 f1 f2 → ModeCloses status 1 o o' m m2 f f2
+mode_failed status o o' m m1 m2 f f1 f2 z e k l p =
+    let q = subst (λ (x : ℕ). Reports (codes "m4: write fault\n" ∷ []) m m2 x f2) l (subst (λ (x : Option (List ℕ)). Reports (codes "m4: write fault\n" ∷ []) x m2 f1 f2) k p) in
+    record {
+      flushed = false;
+      is_status = ap (λ (n : ℕ). closed_status n false) (sym z);
+      output = e;
+      reports = subst (λ (n : ℕ). Reports (closed_lines n false) m m2 f f2) (sym z) q;
+    }

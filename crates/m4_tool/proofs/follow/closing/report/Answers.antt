@@ -1,0 +1,13 @@
+-- The line is written, and then flushed.
+use Rattle.std.proofs.Common.{rules, refl}
+use Rattle.m4_tool.proofs.follow.closing.report.Goals as goal
+
+pub returns : goal.returns
+returns g c = record {
+  reports = (
+    g.M.ByteSink.contents c.write_pieces-put.new.writer,
+    g.M.ByteSink.failures c.write_pieces-put.new.writer,
+    record { put = c.write_pieces-put.result; puts = c.write_pieces-put.ensures.puts; counted = c.write_pieces-put.ensures.counted },
+    (c.flush-shown.ensures.contents, c.flush-shown.ensures.failures),
+  );
+}

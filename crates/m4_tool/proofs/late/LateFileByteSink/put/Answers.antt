@@ -1,0 +1,26 @@
+use Rattle.std.proofs.Common.{rules, ◌≡◌, ℕ, List, ◌+◌, ◌<◌, take, length, refl, ◌∙◌, arith, sym, ap, subst, Option}
+use Rattle.m4_tool.proofs.MadeFiles.{begun_so, put_stands, put_tried, put_takes, takes_none}
+use Rattle.m4_tool.proofs.late.LateFileByteSink.put.Goals as goal
+
+pub invariant_of-self-in-Ok-1 : goal.invariant_of-self-in-Ok-1
+invariant_of-self-in-Ok-1 g c =
+    let s = c.args.self.now in
+    let b = begun_so g.K.Place.name g.K.Place.before (g.W.World.files s.world) (g.W.World.files c.begin.new.world) s.created c.as_slice.result.now c.begin.result s.agrees (c.as_slice.ensures.value ∙ s.named) (search rules) c.begin.ensures.begun in
+    let more = take c.in-Ok.n c.args.bytes.now in
+    record {
+      named = s.named;
+      agrees = put_stands g.K.Place.name c.as_slice-2.result.now more g.K.Place.before _ _ (g.W.World.files c.append.new.self) s.created (c.as_slice-2.ensures.value ∙ s.named) b c.in-Ok.ensures.appended;
+      tried = put_tried g.K.Place.name c.as_slice-2.result.now c.args.bytes.now c.in-Ok.n g.K.Place.before _ _ (g.W.World.files c.append.new.self) s.created s.failures (c.as_slice-2.ensures.value ∙ s.named) b c.in-Ok.ensures.appended c.in-Ok.ensures.some c.in-Ok.ensures.within;
+    }
+
+pub returns-in-Ok-clause-takes : goal.returns-in-Ok-clause-takes
+returns-in-Ok-clause-takes g c =
+    let s = c.args.self.now in
+    let b = begun_so g.K.Place.name g.K.Place.before (g.W.World.files s.world) (g.W.World.files c.begin.new.world) s.created c.as_slice.result.now c.begin.result s.agrees (c.as_slice.ensures.value ∙ s.named) (search rules) c.begin.ensures.begun in
+    put_takes g.K.Place.name c.as_slice-2.result.now (take c.in-Ok.n c.args.bytes.now) g.K.Place.before _ _ (g.W.World.files c.append.new.self) s.created (c.as_slice-2.ensures.value ∙ s.named) b c.in-Ok.ensures.appended
+
+pub returns-in-Err-clause-unchanged : goal.returns-in-Err-clause-unchanged
+returns-in-Err-clause-unchanged g c =
+    let s = c.args.self.now in
+    let b = begun_so g.K.Place.name g.K.Place.before (g.W.World.files s.world) (g.W.World.files c.begin.new.world) s.created c.as_slice.result.now c.begin.result s.agrees (c.as_slice.ensures.value ∙ s.named) (search rules) c.begin.ensures.begun in
+    takes_none g.K.Place.name g.K.Place.before _ _ (g.W.World.files c.append.new.self) s.created b (search rules)

@@ -1,0 +1,222 @@
+-- Line: what a run over the files of a line gives in a world of files.
+-- Believed. Manual: "Invoking m4", "Command line files", "Fast loading of frozen state".
+-- Words: Request, request_of, sources_in, LineResult, line, Reports, failure_of, AsDefined, BrokeOff, Follows.
+-- own: a frozen file that can't be opened is the only work of its line; standard input is read once.
+use Rattle.std.specs.Prelude.{◌≡◌, ◌⊎◌, ℕ, Bool, true, false, List, [], ◌∷◌, ◌++◌, map, Option, Some, None, Result}
+use Rattle.std.specs.Prelude.{option_map, unwrap_or, codes, string_bytes, if◌then◌else◌}
+use Rattle.std.specs.Str.{bytes_eq}
+use Rattle.m4_state.specs.Device.{Script, with_bytes, count_after, one_more, HasBegun, Puts}
+use Rattle.m4_state.specs.declared.device.DeviceFault.{DeviceFault}
+use Rattle.m4_frozen.specs.declared.fault.FrozenKind.{FrozenKind}
+use Rattle.m4_frozen.specs.declared.fault.FrozenKind.TheVariants as kinds
+use Rattle.m4_engine.specs.declared.options.Options.{Options}
+use Rattle.m4_engine.specs.declared.ending.Cause.{Cause}
+use Rattle.m4_engine.specs.declared.ending.Cause.TheVariants as causes
+use Rattle.m4_engine.specs.Expansion.{EndReason, Ends}
+use Rattle.m4_engine.specs.File.{Source, Unopened, cannot_open}
+use Rattle.m4_engine.specs.RunSources.{whole}
+use Rattle.m4_engine.specs.Run.{RunResult, run}
+use Rattle.m4_tool.specs.declared.line.Line.{Line}
+use Rattle.m4_tool.specs.declared.followed.Failure.{Failure}
+use Rattle.m4_tool.specs.declared.followed.Failure.TheVariants as failures
+use Rattle.m4_tool.specs.RunEnd.{source_name, refused_line, last_fault}
+use Rattle.m4_tool.specs.World.{Files, with_file, made_file}
+
+-- what a line asks for if it has no mode: the files to be read, and the names to reload from and to freeze to
+pub record Request : Type 0 where
+  pub options : Options
+  pub names : List (List ℕ)
+  pub reload : Option (List ℕ)
+  pub freeze : Option (List ℕ)
+
+abbrev pub request_of : Line → Request
+request_of line = record {
+  options = line.options;
+  names = map string_bytes line.files.items;
+  reload = option_map string_bytes line.reload;
+  freeze = option_map string_bytes line.freeze;
+}
+
+abbrev pub is_input : List ℕ → Bool
+is_input name = bytes_eq name (codes "-")
+
+-- the source for a file of this name; none if its reader fails
+abbrev pub file_source : List ℕ → Option Script → Option Source
+file_source name None = Some (Unopened name)
+file_source name (Some script) = whole name script.bytes script.fails
+
+-- the source for a word of the line
+abbrev pub source_at : Files → Script → List ℕ → Option Source
+source_at files input name =
+    if is_input name then whole (source_name name) input.bytes input.fails
+    else file_source (source_name name) (files name)
+
+-- the rest of standard input after a word of the line
+abbrev pub input_after : Script → List ℕ → Script
+input_after input name = if is_input name then record { bytes = []; fails = false } else input
+
+-- the sources for the words, in order
+abbrev pub sources_in : Files → Script → List (List ℕ) → List (Option Source)
+sources_in files input [] = []
+sources_in files input (name ∷ names) =
+    source_at files input name ∷ sources_in files (input_after input name) names
+
+-- no word is standard input
+abbrev pub words_of : List (List ℕ) → List (List ℕ)
+words_of [] = codes "-" ∷ []
+words_of (name ∷ names) = name ∷ names
+
+-- all of the sources, if none is missing
+abbrev pub and_then : Option Source → Option (List Source) → Option (List Source)
+and_then None rest = None
+and_then (Some s) None = None
+and_then (Some s) (Some ss) = Some (s ∷ ss)
+
+abbrev pub all_of : List (Option Source) → Option (List Source)
+all_of [] = Some []
+all_of (s ∷ ss) = and_then s (all_of ss)
+
+-- what a run starts from: a frozen file or none, or the name of one that can't be opened
+pub data Thawed : Type 0 where
+  Starts : (file : Option Script) → Thawed
+  Missing : (name : List ℕ) → Thawed
+
+abbrev pub thawed_by : List ℕ → Option Script → Thawed
+thawed_by name None = Missing name
+thawed_by name (Some script) = Starts (Some script)
+
+abbrev pub thaw_in : Files → Option (List ℕ) → Thawed
+thaw_in files None = Starts None
+thaw_in files (Some name) = thawed_by name (files name)
+
+-- the output and the messages of a run, the lines that the program adds, the status, and the frozen text,
+-- which is empty if nothing is frozen
+pub record LineResult : Type 0 where
+  pub output : List ℕ
+  pub messages : List ℕ
+  pub lines : List (List ℕ)
+  pub status : ℕ
+  pub frozen : List ℕ
+
+-- the line for a frozen file that was refused
+abbrev pub refusals : List ℕ → Cause → List (List ℕ)
+refusals file (causes.Frozen fault) = refused_line file (causes.Frozen fault) ∷ []
+refusals file cause = []
+
+abbrev pub refusals_by : List ℕ → EndReason → List (List ℕ)
+refusals_by file (Ends cause) = refusals file cause
+refusals_by file reason = []
+
+abbrev pub unreloaded : List ℕ → LineResult
+unreloaded name = record { output = []; messages = []; lines = cannot_open name ∷ []; status = 1; frozen = [] }
+
+abbrev pub result_of_run : List ℕ → RunResult → LineResult
+result_of_run file r = record {
+  output = r.output;
+  messages = r.messages;
+  lines = refusals_by file r.reason;
+  status = r.status;
+  frozen = unwrap_or r.frozen [];
+}
+
+abbrev pub result_by : Thawed → Options → List ℕ → Option (List Source) → Option LineResult
+result_by (Missing name) o file sources = Some (unreloaded name)
+result_by (Starts frozen) o file None = None
+result_by (Starts frozen) o file (Some ss) = Some (result_of_run file (run o frozen ss))
+
+-- the result of a line; none if a source's reader fails
+abbrev pub line : Request → Files → Script → Option LineResult
+line q files input =
+    result_by (thaw_in files q.reload) q.options (unwrap_or q.reload []) (all_of (sources_in files input (words_of q.names)))
+
+-- the writers and the files before and after; `failures` counts the failed writes of messages
+pub record Seen : Type 0 where
+  pub out_old : Option (List ℕ)
+  pub out_new : Option (List ℕ)
+  pub messages_old : Option (List ℕ)
+  pub messages_new : Option (List ℕ)
+  pub failures_old : ℕ
+  pub failures_new : ℕ
+  pub files_old : Option Files
+  pub files_new : Option Files
+
+-- a line was added to the messages, or a prefix of it if the messages failed
+pub record Reported (line : List ℕ) (old new : Option (List ℕ)) (failures failures' : ℕ) : Type 0 where
+  pub put : Result (Unit {0}) DeviceFault
+  pub puts : Puts put old new line
+  pub counted : failures' ≡ count_after put failures
+
+-- these lines were added in order
+abbrev pub Reports : List (List ℕ) → Option (List ℕ) → Option (List ℕ) → ℕ → ℕ → Type 0
+Reports [] old new failures failures' = (new ≡ old) × (failures' ≡ failures)
+Reports (line ∷ lines) old new failures failures' =
+    (mid : Option (List ℕ)) × (count : ℕ)
+    × Reported line old mid failures count × Reports lines mid new count failures'
+
+-- what failed, by why the run ended and whether everything was flushed
+abbrev pub failure_by : Cause → Option Failure
+failure_by causes.Read = Some failures.Read
+failure_by causes.Write = Some failures.Write
+failure_by causes.OutOfMemory = Some failures.OutOfMemory
+failure_by cause = None
+
+abbrev pub frozen_failure : FrozenKind → Option Failure
+frozen_failure kinds.OutOfMemory = Some failures.OutOfMemory
+frozen_failure kind = None
+
+abbrev pub failure_of : Cause → Bool → Option Failure
+failure_of (causes.Frozen fault) true = frozen_failure fault.kind
+failure_of (causes.Frozen fault) false = Some failures.Write
+failure_of cause true = failure_by cause
+failure_of cause false = Some (unwrap_or (failure_by cause) failures.Write)
+
+-- the last line, if there is one
+abbrev pub last_lines : Option (List ℕ) → List (List ℕ)
+last_lines None = []
+last_lines (Some text) = (codes "m4: " ++ (text ++ codes "\n")) ∷ []
+
+-- the lines that the program adds
+abbrev pub added_lines : List ℕ → Cause → Bool → List (List ℕ)
+added_lines file cause flushed = refusals file cause ++ last_lines (last_fault cause flushed)
+
+-- the line ended as it is defined: everything was written, and the file has its text
+pub record AsDefined (name : List ℕ) (r : LineResult) (status : ℕ) (w : Seen) : Type 0 where
+  pub is_status : status ≡ r.status
+  pub output : w.out_new ≡ with_bytes w.out_old r.output
+  pub messages : Reports r.lines (with_bytes w.messages_old r.messages) w.messages_new w.failures_old w.failures_new
+  pub files : w.files_new ≡ option_map (made_file name r.frozen) w.files_old
+
+-- the named file has a prefix of the text
+pub record HasPrefix (name text : List ℕ) (old new : Option Files) : Type 0 where
+  pub front : List ℕ
+  pub rest : List ℕ
+  pub parts : text ≡ front ++ rest
+  pub files : new ≡ option_map (with_file name front) old
+
+-- the files are as they were, unless a write failed: then the named one may have a prefix of the text
+abbrev pub FilesBy : Failure → List ℕ → List ℕ → Option Files → Option Files → Type 0
+FilesBy failures.Write name text old new = (new ≡ old) ⊎ HasPrefix name text old new
+FilesBy failure name text old new = new ≡ old
+
+-- a device or an allocation failed: prefixes of everything were written, and then the lines about the failure
+pub record BrokeOff (name file : List ℕ) (r : LineResult) (status : ℕ) (failure : Failure) (w : Seen) : Type 0 where
+  pub is_status : status ≡ 1
+  pub output : HasBegun w.out_old w.out_new r.output
+  pub cause : Cause
+  pub flushed : Bool
+  pub failed : failure_of cause flushed ≡ Some failure
+  pub begun : Option (List ℕ)
+  pub messages : HasBegun w.messages_old begun r.messages
+  pub count : ℕ
+  pub counted : (count ≡ w.failures_old) ⊎ (count ≡ one_more w.failures_old)
+  pub reports : Reports (added_lines file cause flushed) begun w.messages_new count w.failures_new
+  pub files : FilesBy failure name r.frozen w.files_old w.files_new
+
+abbrev pub Ends_by : Option Failure → List ℕ → List ℕ → LineResult → ℕ → Seen → Type 0
+Ends_by None name file r status w = AsDefined name r status w
+Ends_by (Some failure) name file r status w = BrokeOff name file r status failure w
+
+-- a line whose result is r was followed
+abbrev pub Follows : Request → LineResult → ℕ → Option Failure → Seen → Type 0
+Follows q r status failure w =
+    Ends_by failure (unwrap_or q.freeze []) (unwrap_or q.reload []) r status w

@@ -1,0 +1,54 @@
+-- LineMode: what a mode gives in a world of files.
+-- Believed. Words: closed_status, closed_lines, ends_of, ModeEnds, ModeFollows.
+-- own: a mode whose file can't be opened does nothing else; a last flush that fails is a write fault.
+use Rattle.std.specs.Prelude.{◌≡◌, ℕ, zero, suc, Bool, true, false, List, [], ◌∷◌, ◌++◌, Option, Some, None, Result, Ok, Err, codes}
+use Rattle.m4_state.specs.Device.{Script}
+use Rattle.m4_engine.specs.File.{cannot_open}
+use Rattle.m4_tool.specs.declared.fault.ModeFault.{ModeFault}
+use Rattle.m4_tool.specs.declared.follow.Mode.{Mode}
+use Rattle.m4_tool.specs.declared.follow.Mode.TheVariants as kinds
+use Rattle.m4_tool.specs.ModeFault.{line_of, status_of}
+use Rattle.m4_tool.specs.Modes.{CanonEnds, InspectEnds}
+use Rattle.m4_tool.specs.Line.{Reports, Seen}
+
+-- the line for a mode that did not do its work
+abbrev pub fault_lines : List ℕ → Result (Unit {0}) ModeFault → List (List ℕ)
+fault_lines file (Ok done) = []
+fault_lines file (Err fault) = line_of file fault ∷ []
+
+-- the status after the last flush, and the line that it adds
+abbrev pub closed_status : ℕ → Bool → ℕ
+closed_status zero true = 0
+closed_status zero false = 1
+closed_status (suc n) flushed = suc n
+
+abbrev pub closed_lines : ℕ → Bool → List (List ℕ)
+closed_lines zero true = []
+closed_lines zero false = codes "m4: write fault\n" ∷ []
+closed_lines (suc n) flushed = []
+
+-- how a mode ends
+abbrev pub ends_of : Mode → Result (Unit {0}) ModeFault → Script → Option (List ℕ) → Option (List ℕ) → Type 0
+ends_of kinds.Canon = CanonEnds
+ends_of kinds.Inspect = InspectEnds
+
+-- a mode whose file was opened: the status, the output and the messages agree on one end and one last flush
+pub record ModeEnds (mode : Mode) (file : List ℕ) (script : Script) (status : ℕ) (w : Seen) : Type 0 where
+  pub end : Result (Unit {0}) ModeFault
+  pub flushed : Bool
+  pub is_status : status ≡ closed_status (status_of end) flushed
+  pub output : ends_of mode end script w.out_old w.out_new
+  pub messages : Reports (fault_lines file end ++ closed_lines (status_of end) flushed) w.messages_old w.messages_new w.failures_old w.failures_new
+  pub files : w.files_new ≡ w.files_old
+
+-- a mode whose file can't be opened
+pub record ModeMissed (file : List ℕ) (status : ℕ) (w : Seen) : Type 0 where
+  pub is_status : status ≡ 1
+  pub output : w.out_new ≡ w.out_old
+  pub messages : Reports (cannot_open file ∷ []) w.messages_old w.messages_new w.failures_old w.failures_new
+  pub files : w.files_new ≡ w.files_old
+
+-- a mode on the file of this name
+abbrev pub ModeFollows : Mode → List ℕ → Option Script → ℕ → Seen → Type 0
+ModeFollows mode file None status w = ModeMissed file status w
+ModeFollows mode file (Some script) status w = ModeEnds mode file script status w

@@ -1,0 +1,65 @@
+-- LineRun: what the steps of following a line pass to one another.
+-- Not believed: `follow` is stated with the words of Line only, and proved through these.
+-- Words: seen, RanFiles, CountedBy, Ran, Closes, ModeCloses.
+use Rattle.std.specs.Prelude.{◌≡◌, ◌⊎◌, ℕ, Bool, List, [], Option, unwrap_or, option_map}
+use Rattle.m4_state.specs.Device.{one_more}
+use Rattle.m4_engine.specs.declared.ending.Cause.{Cause}
+use Rattle.m4_engine.specs.declared.ending.Cause.TheVariants as causes
+use Rattle.m4_engine.specs.declared.ending.Ending.{Ending}
+use Rattle.m4_engine.specs.Expansion.{Ends}
+use Rattle.m4_engine.specs.Run.{RunResult, status_of}
+use Rattle.m4_engine.specs.Writers.{writers}
+use Rattle.m4_engine.specs.WholeRun.{GivesBy}
+use Rattle.m4_tool.specs.declared.followed.Failure.{Failure}
+use Rattle.m4_tool.specs.RunEnd.{last_status}
+use Rattle.m4_tool.specs.LineMode.{closed_lines, closed_status}
+use Rattle.m4_tool.specs.World.{Files, made_file}
+use Rattle.m4_tool.specs.Line.{Seen, HasPrefix, Reports, added_lines, failure_of}
+
+-- the writers and the files, by the functions of their traits
+abbrev pub seen : {O M : Type 0} → (O → Option (List ℕ)) → (M → Option (List ℕ)) → (M → ℕ) → O → O → M → M → Option Files → Option Files → Seen
+seen of_out of_messages count out_old out_new messages_old messages_new files_old files_new = record {
+  out_old = of_out out_old;
+  out_new = of_out out_new;
+  messages_old = of_messages messages_old;
+  messages_new = of_messages messages_new;
+  failures_old = count messages_old;
+  failures_new = count messages_new;
+  files_old = files_old;
+  files_new = files_new;
+}
+
+-- the files after a run, by its cause
+abbrev pub RanFiles : Cause → List ℕ → List ℕ → Option Files → Option Files → Type 0
+RanFiles causes.Done name text old new = new ≡ option_map (made_file name text) old
+RanFiles causes.Write name text old new = (new ≡ old) ⊎ HasPrefix name text old new
+RanFiles cause name text old new = new ≡ old
+
+-- the failed writes of messages after a run, by its cause
+abbrev pub CountedBy : Cause → ℕ → ℕ → Type 0
+CountedBy causes.Write old new = (new ≡ old) ⊎ (new ≡ one_more old)
+CountedBy cause old new = new ≡ old
+
+-- a run of a line ended
+pub record Ran (name : List ℕ) (r : RunResult) (e : Ending) (w : Seen) : Type 0 where
+  pub gives : GivesBy e.cause r e (writers w.out_old w.out_new w.messages_old w.messages_new)
+  pub counted : CountedBy e.cause w.failures_old w.failures_new
+  pub any_missing : Bool
+  pub is_status : e.status ≡ status_of (Ends e.cause) any_missing
+  pub files : RanFiles e.cause name (unwrap_or r.frozen []) w.files_old w.files_new
+
+-- a run that ended was reported
+pub record Closes (file : List ℕ) (e : Ending) (status : ℕ) (failure : Option Failure) (w : Seen) : Type 0 where
+  pub flushed : Bool
+  pub is_status : status ≡ last_status e flushed
+  pub failed : failure ≡ failure_of e.cause flushed
+  pub output : w.out_new ≡ w.out_old
+  pub reports : Reports (added_lines file e.cause flushed) w.messages_old w.messages_new w.failures_old w.failures_new
+  pub files : w.files_new ≡ w.files_old
+
+-- a mode that ended with this status was reported
+pub record ModeCloses (old new : ℕ) (out out' messages messages' : Option (List ℕ)) (failures failures' : ℕ) : Type 0 where
+  pub flushed : Bool
+  pub is_status : new ≡ closed_status old flushed
+  pub output : out' ≡ out
+  pub reports : Reports (closed_lines old flushed) messages messages' failures failures'

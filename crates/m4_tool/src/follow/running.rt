@@ -1,0 +1,118 @@
+//! The run of a line: over its sources, from its start, to the file to which it freezes.
+
+ghost use Rattle.std.specs.Prelude.{◌≡◌, ◌⊎◌, [], List, ℕ, Option, Some, None, IfOk, false, map, unwrap_or, option_map, string_bytes};
+ghost use Rattle.m4_state.specs.Device.{Script};
+ghost use Rattle.m4_engine.specs.File.{Source as Said};
+ghost use Rattle.m4_engine.specs.RunSources.{DescribesFrozen, source_of};
+ghost use Rattle.m4_engine.specs.Run.{run as defined};
+ghost use Rattle.m4_tool.specs.World.{Files};
+ghost use Rattle.m4_tool.specs.Line.{request_of, sources_in, words_of};
+ghost use Rattle.m4_tool.specs.LineRun.{Ran as RanBy, seen};
+
+use super::sources::sources_of;
+use crate::late::{LateFile, Place};
+use crate::line::Line;
+use crate::world::{Shows, World};
+use m4_engine::ending::{Cause, Ending};
+use m4_engine::options::Options;
+use m4_engine::run::run;
+use m4_engine::source::Source;
+use m4_state::bytes::Bytes;
+use std::alloc::{AllocError, Global};
+use std::marker::Brand;
+
+/// The end of a run, with the world after it.
+#[derive(Drop)]
+pub struct Ran<W> {
+    /// How the run ended.
+    pub ending: Ending,
+    /// The world.
+    pub world: W,
+}
+
+/// Opens the files of a line and runs over them, from this frozen file if there is one.
+pub fn run_line<W: World, O: Shows, M: Shows>(
+    alloc: Global,
+    line: &Line,
+    frozen: &mut Option<W::Reader>,
+    world: W,
+    out: &mut O,
+    messages: &mut M,
+) -> Ran<W>
+    ensures { (files : Files) (input : Script) (script : Option Script) (ss : List Said)
+        → W.making world ≡ false → W.files world ≡ Some files → W.input world ≡ Some input
+        → DescribesFrozen W.Reader.script frozen.old script
+        → sources_in files input (words_of (request_of line.now).names) ≡ map Some ss
+        → RanBy (unwrap_or (request_of line.now).freeze []) (defined line.now.options script ss) result.ending
+        (seen O.contents M.contents M.failures out.old out.new messages.old messages.new (W.files world) (W.files result.world)) }
+{
+    let mut world = world;
+    let Ok(mut sources) = sources_of(alloc, &mut world, line.files.as_slice()) else {
+        return without_memory(world);
+    };
+    let Ok(name) = name_of(alloc, &line.freeze) else {
+        return without_memory(world);
+    };
+    run_late::<W, Brand, O, M>(
+        alloc,
+        line.options,
+        frozen,
+        &mut sources,
+        out,
+        messages,
+        world,
+        name,
+    )
+}
+
+/// Returns the name of the file to which a line freezes; it is empty if there is none.
+fn name_of(alloc: Global, file: &Option<String>) -> Result<Bytes, AllocError>
+    ensures { IfOk result (λ name. name ≡ unwrap_or (option_map string_bytes file.now) []) }
+{
+    match file {
+        Some(name) => Bytes::from_slice(alloc, name.as_str().as_bytes()),
+        None => Bytes::from_slice(alloc, b""),
+    }
+}
+
+/// Returns the end of a run that was not begun, because an allocation failed.
+fn without_memory<W>(world: W) -> Ran<W>
+    ensures ending { result.ending ≡ record { status = 1; cause = Cause.OutOfMemory; wrapped = false } }
+    ensures world { result.world ≡ world }
+{
+    Ran {
+        ending: Ending {
+            status: 1,
+            cause: Cause::OutOfMemory,
+            wrapped: false,
+        },
+        world,
+    }
+}
+
+/// Runs over the sources. The frozen text goes to a file of this name, which is created when its first
+/// byte is written.
+fn run_late<W: World, K: Place, O: Shows, M: Shows>(
+    alloc: Global,
+    options: Options,
+    frozen: &mut Option<W::Reader>,
+    sources: &mut [Source<W::Reader>],
+    out: &mut O,
+    messages: &mut M,
+    world: W,
+    name: Bytes,
+) -> Ran<W>
+    requires before { W.files world ≡ K.before }
+    requires name { name ≡ K.name }
+    ensures { (script : Option Script) (ss : List Said) → DescribesFrozen W.Reader.script frozen.old script
+        → map (source_of W.Reader.script) sources.old ≡ map Some ss
+        → RanBy K.name (defined options script ss) result.ending
+        (seen O.contents M.contents M.failures out.old out.new messages.old messages.new K.before (W.files result.world)) }
+{
+    let mut late: LateFile<W, K> = LateFile::new(world, name);
+    let ending = run(alloc, options, frozen, sources, out, messages, &mut late);
+    Ran {
+        ending,
+        world: late.into_world(),
+    }
+}

@@ -1,0 +1,132 @@
+//! A world in memory: given files, a given standard input, and one file that is made. Contracts know
+//! all of it.
+
+ghost use Rattle.std.specs.Prelude.{◌≡◌, Option, Some, None, false, is_some, option_map};
+ghost use Rattle.m4_state.specs.Device.{Script};
+ghost use Rattle.m4_tool.specs.Memory.{given_files, memory_files};
+
+use crate::given::Given;
+use crate::world::{Shows, World};
+use m4_state::device::{ByteSource, DeviceFault};
+use m4_state::memory::{MemSink, MemSource};
+use std::alloc::Global;
+
+/// How many bytes a reader returns for each take, at most.
+const AT_MOST: usize = 4096;
+
+/// Files that are given, standard input, and the file that was made. A second file is never made, and none
+/// if `makes` is unset.
+#[derive(Drop)]
+pub struct MemWorld<'a> {
+    alloc: Global,
+    given: &'a [Given<'a>],
+    input: &'a [u8],
+    makes: bool,
+    name: Vec<u8>,
+    made: Option<Vec<u8>>,
+}
+
+impl<'a> MemWorld<'a> {
+    /// Returns a world with these files and this standard input. No file is made yet; `makes`: whether one
+    /// can be.
+    pub fn new(alloc: Global, given: &'a [Given<'a>], input: &'a [u8], makes: bool) -> MemWorld<'a>
+        ensures files { ⟦<MemWorld<'a> as World>⟧.files result ≡ Some (given_files given.now) }
+        ensures input { ⟦<MemWorld<'a> as World>⟧.input result ≡ Some (record { bytes = input.now; fails = false }) }
+        ensures making { ⟦<MemWorld<'a> as World>⟧.making result ≡ false }
+    {
+        MemWorld {
+            alloc,
+            given,
+            input,
+            makes,
+            name: Vec::new(alloc),
+            made: None,
+        }
+    }
+
+    /// Returns the name of the file that was made; it is empty if none was.
+    pub fn made_name(&self) -> &[u8]
+        ensures { result.now ≡ self.now.name.items }
+    {
+        self.name.as_slice()
+    }
+
+    /// Returns the bytes of the file that was made, if one was.
+    pub fn made(&self) -> Option<&[u8]>
+        ensures { option_map (λ bytes. bytes.now) result ≡ option_map (λ v. v.items) self.now.made }
+    {
+        match &self.made {
+            Some(bytes) => Some(bytes.as_slice()),
+            None => None,
+        }
+    }
+}
+
+impl<'a> World for MemWorld<'a> {
+    type Reader = MemSource<'a>;
+
+    ghost files = { λ w. Some (memory_files w.name.items (option_map (λ v. v.items) w.made) w.given.now) };
+
+    ghost input = { λ w. Some (record { bytes = w.input.now; fails = false }) };
+
+    ghost making = { λ w. is_some w.made };
+
+    fn open(&self, name: &[u8]) -> Option<MemSource<'a>> {
+        found(self.given, name)
+    }
+
+    fn stdin(&mut self) -> MemSource<'a> {
+        let input = self.input;
+        self.input = &[];
+        MemSource::new(input, AT_MOST, false)
+    }
+
+    fn create(&mut self, name: &[u8]) -> Result<(), DeviceFault> {
+        if !self.makes || self.made.is_some() {
+            return Err(DeviceFault);
+        }
+        let Ok(copy) = Vec::from_slice(self.alloc, name) else {
+            return Err(DeviceFault);
+        };
+        self.name = copy;
+        self.made = Some(Vec::new(self.alloc));
+        Ok(())
+    }
+
+    fn append(&mut self, name: &[u8], bytes: &[u8]) -> Result<usize, DeviceFault> {
+        if self.name.as_slice() != name {
+            return Err(DeviceFault);
+        }
+        match &mut self.made {
+            Some(made) => match made.extend_from_slice(bytes) {
+                Ok(()) => Ok(bytes.len()),
+                Err(_refused) => Err(DeviceFault),
+            },
+            None => Err(DeviceFault),
+        }
+    }
+
+    fn finish(&mut self) -> Result<(), DeviceFault> {
+        Ok(())
+    }
+}
+
+/// Returns a reader of the first file of this name.
+fn found<'a>(given: &'a [Given<'a>], name: &[u8]) -> Option<MemSource<'a>>
+    ensures { option_map ⟦<MemSource<'a> as ByteSource>⟧.script result ≡ option_map Some (given_files given.now name.now) }
+{
+    for file in given {
+        if name == file.name {
+            return Some(MemSource::new(file.bytes, AT_MOST, file.fails));
+        }
+    }
+    None
+}
+
+impl Shows for MemSink {
+    ghost shown = { λ s. Some s.held };
+
+    fn flush(&mut self) -> Result<(), DeviceFault> {
+        Ok(())
+    }
+}

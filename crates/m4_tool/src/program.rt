@@ -1,0 +1,123 @@
+//! The program: reads its command line, and follows it in the world of the process.
+//!
+//! All messages about a line that is refused are printed here. Manual: "Invoking m4".
+
+ghost use Rattle.std.specs.Prelude.{◌≡◌, IfErr, IfOk, false, map, string_bytes};
+ghost use Rattle.clap.specs.Walk.{texts};
+ghost use Rattle.m4_tool.specs.CommandLine.{AreInRange, IsModeNotAlone, IsRefusal, Says, ModeIsAlone};
+
+use crate::follow::follow;
+use crate::line::{Line, LineFault, read_line};
+use crate::reports::{FAILED, report};
+use crate::shared::{BLOCK, SharedOutputs};
+use crate::std_world::{StdShown, StdWorld};
+use std::alloc::{AllocError, Global};
+use std::env::Env;
+use std::io::{self, BufWriter, ErrorKind, Input, Write};
+use std::rt::Files;
+
+/// Follows the command line of the process, and returns the exit status. `errors` is standard error.
+pub fn exit_status<E: Write + Drop>(
+    rt: &(impl Env + Files + Input + Alloc<A = Global> + Print + Eprint),
+    errors: E,
+) -> u8 {
+    match words_of_process(rt) {
+        Ok(words) => status_of_words(rt, errors, words.as_slice()),
+        Err(fault) => report_unread_words(rt, &fault),
+    }
+}
+
+// Returns the words that the process was started with.
+fn words_of_process(rt: &(impl Env + Alloc<A = Global>)) -> io::Result<Vec<String>> {
+    let words = std::env::args(rt)?;
+    Ok(words.collect(rt.alloc())?)
+}
+
+// Follows the line of these words, or reports why it is refused.
+fn status_of_words<E: Write + Drop>(
+    rt: &(impl Files + Input + Alloc<A = Global> + Print + Eprint),
+    errors: E,
+    words: &[String],
+) -> u8 {
+    match line_of(rt.alloc(), words) {
+        Ok(line) => run_line(rt, errors, &line),
+        Err(fault) => report_line_fault(rt, &fault),
+    }
+}
+
+// Returns the line of these words.
+fn line_of(alloc: Global, words: &[String]) -> Result<Line, LineFault>
+    ensures says { IfOk result (Says (map string_bytes words.now)) }
+    ensures in_range { IfOk result AreInRange }
+    ensures alone { IfOk result ModeIsAlone }
+    ensures not_alone { result ≡ Err LineFault.ModeNotAlone
+        → IsModeNotAlone (map string_bytes words.now) }
+    ensures refused { IfErr result (IsRefusal (map string_bytes words.now)) }
+{
+    let texts = borrowed(alloc, words)?;
+    read_line(alloc, texts.as_slice())
+}
+
+// Borrows the words, for `read_line`.
+fn borrowed<'a>(alloc: Global, words: &'a [String]) -> Result<Vec<&'a str>, AllocError>
+    ensures { IfOk result (λ same. texts same.items ≡ map string_bytes words.now) }
+{
+    let mut texts = Vec::new(alloc);
+    for word in words {
+        texts.push(word.as_str())?;
+    }
+    Ok(texts)
+}
+
+// Follows the line. Its output and its messages are written in blocks.
+fn run_line<E: Write + Drop>(
+    rt: &(impl Files + Input + Alloc<A = Global> + Print + Eprint),
+    errors: E,
+    line: &Line,
+) -> u8 {
+    follow_line(rt, errors, line).unwrap_or_else(|_refused| report(rt, "out of memory"))
+}
+
+// Follows the line in the world of this runtime; an error is a block that could not be allocated.
+fn follow_line<E: Write + Drop>(
+    rt: &(impl Files + Input + Alloc<A = Global> + Print + Eprint),
+    errors: E,
+    line: &Line,
+) -> io::Result<u8> {
+    let output = BufWriter::with_capacity(rt.alloc(), BLOCK, io::writer(rt))?;
+    let messages = BufWriter::with_capacity(rt.alloc(), BLOCK, errors)?;
+    let shared = SharedOutputs::new(output, messages);
+    let world = StdWorld::new(rt, &shared)?;
+    let mut out = StdShown::new(shared.output());
+    let mut messages = StdShown::new(shared.messages());
+    let followed = follow(rt.alloc(), line, world, &mut out, &mut messages);
+    Ok(followed.status)
+}
+
+// Reports why a line is refused. Help that was requested is not a fault.
+fn report_line_fault(rt: &(impl Print + Eprint), fault: &LineFault) -> u8 {
+    match fault {
+        LineFault::ModeNotAlone => report(rt, "U1 a mode stands alone"),
+        LineFault::OutOfMemory => report(rt, "out of memory"),
+        LineFault::Parse(error) => print_answer(rt, error),
+    }
+}
+
+// Prints the text of `clap`: help on standard output, or a refusal on standard error.
+fn print_answer(rt: &(impl Print + Eprint), error: &clap::Error) -> u8 {
+    if error.print(rt).is_err() {
+        return report(rt, "write fault");
+    }
+    if error.use_stderr() { FAILED } else { 0 }
+}
+
+// Reports why the words of the process could not be read.
+fn report_unread_words(rt: &impl Eprint, fault: &io::Error) -> u8
+    ensures { result ≡ FAILED }
+{
+    if fault.kind() == ErrorKind::OutOfMemory {
+        report(rt, "out of memory")
+    } else {
+        report(rt, "a word of the command line is not UTF-8")
+    }
+}
