@@ -22,7 +22,7 @@ use Rattle.m4_tool.specs.declared.followed.Failure.{Failure}
 use Rattle.m4_tool.specs.declared.followed.Failure.TheVariants as failures
 use Rattle.m4_tool.specs.RunEnd.{last_status, last_fault, refused_line}
 use Rattle.m4_tool.specs.World.{Files, with_file, made_file}
-use Rattle.m4_tool.specs.Line.{AsDefined, BrokeOff, Ends_by, FilesBy, HasPrefix, LineResult, Reports, Reported, Seen, added_lines, failure_by, failure_of, frozen_failure, last_lines, refusals, refusals_by, result_of_run, unreloaded}
+use Rattle.m4_tool.specs.Line.{AsDefined, BrokeOff, EndsBy, FilesBy, HasPrefix, LineResult, Reports, Reported, Seen, added_lines, failure_by, failure_of, frozen_failure, last_lines, refusals, refusals_by, result_of_run, unreloaded}
 use Rattle.m4_tool.specs.LineRun.{Closes, CountedBy, Ran, RanFiles}
 
 -- lines that were added one list after the other
@@ -274,7 +274,7 @@ broke_off name file r c b f s x m o0 o1 o2 m0 m1 m2 f0 f1 f2 w0 w1 w2 status n g
 ends_by : (failure : Option Failure) (name file : List ℕ) (r : RunResult) (c : Cause) (b : Bool) (s : ℕ) (x m : Bool) (o0 o1 o2 m0 m1 m2 : Option (List ℕ)) (f0 f1 f2 : ℕ) (w0 w1 w2 : Option Files) (status : ℕ)
     → FreezesAtEnd r → failure ≡ failure_of c b → GivesBy c r (record { status = s; cause = c; wrapped = x }) (writers o0 o1 m0 m1) → CountedBy c f0 f1 → s ≡ status_of (Ends c) m → RanFiles c name (unwrap_or r.frozen []) w0 w1
     → status ≡ last_status (record { status = s; cause = c; wrapped = x }) b → o2 ≡ o1 → Reports (added_lines file c b) m1 m2 f1 f2 → w2 ≡ w1
-    → Ends_by failure name file (result_of_run file r) status (seen_from o0 o2 m0 m2 f0 f2 w0 w2)
+    → EndsBy failure name file (result_of_run file r) status (seen_from o0 o2 m0 m2 f0 f2 w0 w2)
 ends_by None name file r c b s x m o0 o1 o2 m0 m1 m2 f0 f1 f2 w0 w1 w2 status z n g k t h l o p q =
     as_defined name file r c b s x o0 o1 o2 m0 m1 m2 f0 f1 f2 w0 w1 w2 status z (sym n) (wrote_all c b r (record { status = s; cause = c; wrapped = x }) (writers o0 o1 m0 m1) (sym n) g) k h l o p q
 ends_by (Some f) name file r c b s x m o0 o1 o2 m0 m1 m2 f0 f1 f2 w0 w1 w2 status z n g k t h l o p q =
@@ -283,7 +283,7 @@ ends_by (Some f) name file r c b s x m o0 o1 o2 m0 m1 m2 f0 f1 f2 w0 w1 w2 statu
 -- a run that ended and was reported is the line's
 pub ended : (failure : Option Failure) (name file : List ℕ) (r : RunResult) (e : Ending) (o0 o1 o2 m0 m1 m2 : Option (List ℕ)) (f0 f1 f2 : ℕ) (w0 w1 w2 : Option Files) (status : ℕ)
     → FreezesAtEnd r → Ran name r e (seen_from o0 o1 m0 m1 f0 f1 w0 w1) → Closes file e status failure (seen_from o1 o2 m1 m2 f1 f2 w1 w2)
-    → Ends_by failure name file (result_of_run file r) status (seen_from o0 o2 m0 m2 f0 f2 w0 w2)
+    → EndsBy failure name file (result_of_run file r) status (seen_from o0 o2 m0 m2 f0 f2 w0 w2)
 ended failure name file r e o0 o1 o2 m0 m1 m2 f0 f1 f2 w0 w1 w2 status z a d =
     ends_by failure name file r e.cause d.flushed e.status e.wrapped a.any_missing o0 o1 o2 m0 m1 m2 f0 f1 f2 w0 w1 w2 status z d.failed a.gives a.counted a.is_status a.files d.is_status d.output d.reports d.files
 
@@ -303,14 +303,14 @@ pub none_reported : (fault : Option (List ℕ)) (old : Option (List ℕ)) (f : �
 none_reported fault old f e = subst (λ (o : Option (List ℕ)). Reports (last_lines o) old old f f) e (refl, refl)
 
 -- the same end, by the names of its parts
-pub ends_as : (failure : Option Failure) (name file file' : List ℕ) (r r' : LineResult) (status : ℕ) (w : Seen) → file ≡ file' → r ≡ r' → Ends_by failure name file r status w → Ends_by failure name file' r' status w
+pub ends_as : (failure : Option Failure) (name file file' : List ℕ) (r r' : LineResult) (status : ℕ) (w : Seen) → file ≡ file' → r ≡ r' → EndsBy failure name file r status w → EndsBy failure name file' r' status w
 ends_as failure name file file' r r' status w e k h =
-    subst (λ (x : LineResult). Ends_by failure name file' x status w) k (subst (λ (x : List ℕ). Ends_by failure name x r status w) e h)
+    subst (λ (x : LineResult). EndsBy failure name file' x status w) k (subst (λ (x : List ℕ). EndsBy failure name x r status w) e h)
 
 -- a line whose frozen file can't be opened
 pub unopened_ends : (failure : Option Failure) (name file given : List ℕ) (status : ℕ) (r : LineResult) (o m m' : Option (List ℕ)) (f f' : ℕ) (w w' : Option Files)
     → failure ≡ None → status ≡ 1 → w' ≡ w → Reports (cannot_open given ∷ []) m m' f f' → unreloaded given ≡ r
-    → Ends_by failure name file r status (seen_from o o m m' f f' w w')
+    → EndsBy failure name file r status (seen_from o o m m' f f' w w')
 unopened_ends failure name file given status r o m m' f f' w w' n s k p e =
     let a : AsDefined name (unreloaded given) status (seen_from o o m m' f f' w w') = record {
       is_status = s;
@@ -318,5 +318,5 @@ unopened_ends failure name file given status r o m m' f f' w w' n s k p e =
       messages = subst (λ (x : Option (List ℕ)). Reports (cannot_open given ∷ []) x m' f f') (with_bytes-nil m) p;
       files = k ∙ sym (none_made name w);
     } in
-    subst (λ (x : Option Failure). Ends_by x name file r status (seen_from o o m m' f f' w w')) (sym n)
+    subst (λ (x : Option Failure). EndsBy x name file r status (seen_from o o m m' f f' w w')) (sym n)
     (subst (λ (x : LineResult). AsDefined name x status (seen_from o o m m' f f' w w')) e a)

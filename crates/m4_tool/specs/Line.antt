@@ -212,11 +212,11 @@ pub record BrokeOff (name file : List ℕ) (r : LineResult) (status : ℕ) (fail
   pub reports : Reports (added_lines file cause flushed) begun w.messages_new count w.failures_new
   pub files : FilesBy failure name r.frozen w.files_old w.files_new
 
-abbrev pub Ends_by : Option Failure → List ℕ → List ℕ → LineResult → ℕ → Seen → Type 0
-Ends_by None name file r status w = AsDefined name r status w
-Ends_by (Some failure) name file r status w = BrokeOff name file r status failure w
+abbrev pub EndsBy : Option Failure → List ℕ → List ℕ → LineResult → ℕ → Seen → Type 0
+EndsBy None name file r status w = AsDefined name r status w
+EndsBy (Some failure) name file r status w = BrokeOff name file r status failure w
 
 -- a line whose result is r was followed
 abbrev pub Follows : Request → LineResult → ℕ → Option Failure → Seen → Type 0
 Follows q r status failure w =
-    Ends_by failure (unwrap_or q.freeze []) (unwrap_or q.reload []) r status w
+    EndsBy failure (unwrap_or q.freeze []) (unwrap_or q.reload []) r status w

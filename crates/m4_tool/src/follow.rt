@@ -7,7 +7,7 @@ ghost use Rattle.m4_engine.specs.RunSources.{DescribesFrozen};
 ghost use Rattle.m4_engine.specs.File.{Source as Said};
 ghost use Rattle.m4_engine.specs.Run.{run as defined};
 ghost use Rattle.m4_tool.specs.World.{Files};
-ghost use Rattle.m4_tool.specs.Line.{Follows, LineResult, Ends_by, request_of, result_of_run, sources_in, unreloaded, words_of, line as line_result};
+ghost use Rattle.m4_tool.specs.Line.{Follows, LineResult, EndsBy, request_of, result_of_run, sources_in, unreloaded, words_of, line as line_result};
 ghost use Rattle.m4_tool.specs.LineMode.{ModeFollows, ends_of};
 ghost use Rattle.m4_tool.specs.LineRun.{seen};
 ghost use Rattle.m4_tool.specs.Modes.{ModeRuns, reads, writes};
@@ -170,7 +170,7 @@ fn follow_from<W: World, O: Shows, M: Shows>(
         → W.making world ≡ false → W.files world ≡ Some files → W.input world ≡ Some input
         → DescribesFrozen W.Reader.script frozen.old script
         → sources_in files input (words_of (request_of line.now).names) ≡ map Some ss
-        → Ends_by result.failure (unwrap_or (request_of line.now).freeze []) file.now
+        → EndsBy result.failure (unwrap_or (request_of line.now).freeze []) file.now
         (result_of_run file.now (defined line.now.options script ss)) result.status
         (seen O.contents M.contents M.failures out.old out.new messages.old messages.new (W.files world) (W.files result.world)) }
 {

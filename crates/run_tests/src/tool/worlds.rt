@@ -167,14 +167,14 @@ fn check_lines(
             return Err(Fail::from("a line that is refused"));
         };
         let mut out = MemSink::new(rt.alloc(), 1000, 7)?;
-        let mut told = MemSink::new(rt.alloc(), 1000, 7)?;
+        let mut reported = MemSink::new(rt.alloc(), 1000, 7)?;
         let world = MemWorld::new(rt.alloc(), &FILES, input, false);
-        let followed = follow(rt.alloc(), &line, world, &mut out, &mut told);
+        let followed = follow(rt.alloc(), &line, world, &mut out, &mut reported);
         let row = words[words.len() - 1];
         assert!(rt; followed.status == *status, "{row}");
         assert!(rt; followed.world.made().is_none(), "{row}");
         shows(rt, row, output, text_of(out.written()));
-        shows(rt, row, messages, text_of(told.written()));
+        shows(rt, row, messages, text_of(reported.written()));
     }
     Ok(())
 }
@@ -242,11 +242,11 @@ fn files_are_frozen(rt: HostRuntime) -> Result<(), Fail> {
             return Err(Fail::from("a line that is refused"));
         };
         let mut out = MemSink::new(rt.alloc(), *room, 7)?;
-        let mut told = MemSink::new(rt.alloc(), 1000, 7)?;
+        let mut reported = MemSink::new(rt.alloc(), 1000, 7)?;
         let world = MemWorld::new(rt.alloc(), &FILES, b"", *makes);
-        let followed = follow(rt.alloc(), &line, world, &mut out, &mut told);
+        let followed = follow(rt.alloc(), &line, world, &mut out, &mut reported);
         assert!(&rt; followed.status == *status, "{name}");
-        shows(&rt, name, messages, text_of(told.written()));
+        shows(&rt, name, messages, text_of(reported.written()));
         shows(&rt, name, name, text_of(followed.world.made_name()));
         shows(
             &rt,
