@@ -170,7 +170,7 @@ fn check_lines(
         let mut reported = MemSink::new(rt.alloc(), 1000, 7)?;
         let world = MemWorld::new(rt.alloc(), &FILES, input, false);
         let followed = follow(rt.alloc(), &line, world, &mut out, &mut reported);
-        let row = words[words.len() - 1];
+        let row = words.last().copied().unwrap_or("");
         assert!(rt; followed.status == *status, "{row}");
         assert!(rt; followed.world.made().is_none(), "{row}");
         shows(rt, row, output, text_of(out.written()));
