@@ -1,26 +1,24 @@
 -- A line that freezes and one that reloads are one line.
-use Rattle.std.proofs.Common.{◌≡◌, ◌≢◌, ℕ, Bool, true, false, List, [], ◌∷◌, ◌++◌, map, Option, Some, None, refl, sym, ap, ◌∙◌, subst, append_assoc}
-use Rattle.std.specs.Prelude.{unwrap_or, if◌then◌else◌, is_some}
+use Rattle.std.proofs.Common.{◌≡◌, ℕ, Bool, true, false, List, [], ◌∷◌, ◌++◌, map, Option, Some, refl, sym, ap, ◌∙◌, subst}
+use Rattle.std.specs.Prelude.{unwrap_or, is_some}
 use Rattle.std.specs.Str.{bytes_eq}
 use Rattle.std.proofs.lemmas.Slice.Eq.{bytes_eq-Decides}
-use Rattle.std.proofs.lemmas.List.{map-append}
 use Rattle.m4_state.specs.Device.{Script}
 use Rattle.m4_state.specs.State.{State}
 use Rattle.m4_frozen.specs.Freeze.{freeze}
 use Rattle.m4_engine.specs.declared.options.Options.{Options}
 use Rattle.m4_engine.specs.declared.ending.Cause.TheVariants as causes
-use Rattle.m4_engine.specs.Expansion.{EndReason, Ends, RunSoFar}
+use Rattle.m4_engine.specs.Expansion.{EndReason, Ends}
 use Rattle.m4_engine.specs.File.{Source, after_sources}
 use Rattle.m4_engine.specs.Start.{begun, frozen_file, start_of}
 use Rattle.m4_engine.specs.Wraps.{after_wraps}
-use Rattle.m4_engine.specs.Run.{RunResult, limits_of, result_by, run, saved_after}
-use Rattle.m4_engine.specs.Carries.{Carries, end_of}
+use Rattle.m4_engine.specs.Run.{RunResult, limits_of, run, saved_after}
 use Rattle.m4_engine.specs.Joined.{Joins, freezing, prefixed}
 use Rattle.m4_engine.proofs.Reloads as engine
 use Rattle.m4_engine.proofs.Split.{frozen_by}
-use Rattle.m4_tool.specs.World.{Files, made_file, with_file, whole_file}
-use Rattle.m4_tool.specs.Line.{LineResult, Request, Starts, Thawed, all_of, and_then, file_source, input_after, is_input, line, refusals, refusals_by, result_by as line_by, result_of_run, source_at, sources_in, thaw_in, thawed_by, words_of}
-use Rattle.m4_tool.specs.LineLaws.{AreOthers, FreezeThenReload, LineJoins, freezes_to, reloads_from, request}
+use Rattle.m4_tool.specs.World.{Files, made_file, whole_file}
+use Rattle.m4_tool.specs.Line.{LineResult, Starts, Thawed, all_of, and_then, file_source, input_after, is_input, refusals_by, result_by as line_by, result_of_run, source_at, sources_in, thaw_in, thawed_by, words_of}
+use Rattle.m4_tool.specs.LineLaws.{AreOthers, FreezeThenReload, LineJoins}
 use Rattle.m4_tool.proofs.OpenedFiles.{all_there}
 
 -- the sources of two lists of words

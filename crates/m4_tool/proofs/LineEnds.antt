@@ -1,10 +1,10 @@
 -- The end of a line, by the end of its run and by what was flushed.
-use Rattle.std.proofs.Common.{◌≡◌, ◌≢◌, ℕ, zero, suc, Bool, true, false, List, [], ◌∷◌, ◌++◌, Option, Some, None, refl, sym, ap, ◌∙◌, subst, append-nil, ◌⊎◌, inl, inr}
-use Rattle.std.specs.Prelude.{option_map, unwrap_or, codes, Result}
+use Rattle.std.proofs.Common.{◌≡◌, ◌≢◌, ℕ, Bool, true, false, List, [], ◌∷◌, ◌++◌, Option, Some, None, refl, sym, ap, ◌∙◌, subst, append-nil, ◌⊎◌, inl, inr}
+use Rattle.std.specs.Prelude.{option_map, unwrap_or, codes, Result, Ok, Err}
 use Rattle.m4_state.specs.Device.{Script, with_bytes, HasBegun, Puts, count_after, one_more}
 use Rattle.m4_state.specs.declared.device.DeviceFault.{DeviceFault}
 use Rattle.m4_frozen.specs.declared.fault.FrozenFault.{FrozenFault}
-use Rattle.m4_state.proofs.CallerLaws.{with_bytes-nil, HasPut-start}
+use Rattle.m4_state.proofs.CallerLaws.{with_bytes-nil}
 use Rattle.m4_frozen.specs.declared.fault.FrozenKind.{FrozenKind}
 use Rattle.m4_frozen.specs.declared.fault.FrozenKind.TheVariants as kinds
 use Rattle.m4_engine.specs.declared.options.Options.{Options}
@@ -20,9 +20,9 @@ use Rattle.m4_engine.specs.Writers.{Contents, writers}
 use Rattle.m4_engine.specs.WholeRun.{GivesBy, RefusedBy, WroteAll, WrotePrefix}
 use Rattle.m4_tool.specs.declared.followed.Failure.{Failure}
 use Rattle.m4_tool.specs.declared.followed.Failure.TheVariants as failures
-use Rattle.m4_tool.specs.RunEnd.{last_status, last_fault, refused_line}
-use Rattle.m4_tool.specs.World.{Files, with_file, made_file}
-use Rattle.m4_tool.specs.Line.{AsDefined, BrokeOff, EndsBy, FilesBy, HasPrefix, LineResult, Reports, Reported, Seen, added_lines, failure_by, failure_of, frozen_failure, last_lines, refusals, refusals_by, result_of_run, unreloaded}
+use Rattle.m4_tool.specs.RunEnd.{last_status, refused_line}
+use Rattle.m4_tool.specs.World.{Files, made_file}
+use Rattle.m4_tool.specs.Line.{AsDefined, BrokeOff, EndsBy, FilesBy, HasPrefix, LineResult, Reports, Seen, added_lines, failure_by, failure_of, frozen_failure, last_lines, refusals, refusals_by, result_of_run, unreloaded}
 use Rattle.m4_tool.specs.LineRun.{Closes, CountedBy, Ran, RanFiles}
 
 -- lines that were added one list after the other
@@ -288,11 +288,11 @@ ended failure name file r e o0 o1 o2 m0 m1 m2 f0 f1 f2 w0 w1 w2 status z a d =
     ends_by failure name file r e.cause d.flushed e.status e.wrapped a.any_missing o0 o1 o2 m0 m1 m2 f0 f1 f2 w0 w1 w2 status z d.failed a.gives a.counted a.is_status a.files d.is_status d.output d.reports d.files
 
 -- the line of a frozen file that was refused
-pub refusal_reported : (cause : Cause) (fault : FrozenFault) (file : List ℕ) (r : Result (Unit {0}) DeviceFault) (old mid new : Option (List ℕ)) (f g h : ℕ)
-    → cause ≡ causes.Frozen fault → Puts r old mid (refused_line file cause) → g ≡ count_after r f → new ≡ mid → h ≡ g → Reports (refusals file cause) old new f h
-refusal_reported cause fault file r old mid new f g h is p n k l =
-    subst (λ (c : Cause). Puts r old mid (refused_line file c) → Reports (refusals file c) old new f h) (sym is)
-    (λ q. (mid, g, record { put = r; puts = q; counted = n }, (k, l))) p
+pub refusal_reported : (cause : Cause) (fault : FrozenFault) (file : List ℕ) (r : Result (Unit {0}) DeviceFault) (old new : Option (List ℕ)) (f g : ℕ)
+    → cause ≡ causes.Frozen fault → Puts r old new (refused_line file cause) → g ≡ count_after r f → Reports (refusals file cause) old new f g
+refusal_reported cause fault file r old new f g is p n =
+    subst (λ (c : Cause). Puts r old new (refused_line file c) → Reports (refusals file c) old new f g) (sym is)
+    (λ q. (new, g, record { put = r; puts = q; counted = n }, (refl, refl))) p
 
 -- the last line
 pub last_reported : (fault : Option (List ℕ)) (text : List ℕ) (old new : Option (List ℕ)) (f g : ℕ) → Some text ≡ fault
@@ -307,16 +307,45 @@ pub ends_as : (failure : Option Failure) (name file file' : List ℕ) (r r' : Li
 ends_as failure name file file' r r' status w e k h =
     subst (λ (x : LineResult). EndsBy failure name file' x status w) k (subst (λ (x : List ℕ). EndsBy failure name x r status w) e h)
 
--- a line whose frozen file can't be opened
-pub unopened_ends : (failure : Option Failure) (name file given : List ℕ) (status : ℕ) (r : LineResult) (o m m' : Option (List ℕ)) (f f' : ℕ) (w w' : Option Files)
-    → failure ≡ None → status ≡ 1 → w' ≡ w → Reports (cannot_open given ∷ []) m m' f f' → unreloaded given ≡ r
-    → EndsBy failure name file r status (seen_from o o m m' f f' w w')
-unopened_ends failure name file given status r o m m' f f' w w' n s k p e =
-    let a : AsDefined name (unreloaded given) status (seen_from o o m m' f f' w w') = record {
-      is_status = s;
-      output = with_bytes-nil o;
-      messages = subst (λ (x : Option (List ℕ)). Reports (cannot_open given ∷ []) x m' f f') (with_bytes-nil m) p;
-      files = k ∙ sym (none_made name w);
-    } in
-    subst (λ (x : Option Failure). EndsBy x name file r status (seen_from o o m m' f f' w w')) (sym n)
-    (subst (λ (x : LineResult). AsDefined name x status (seen_from o o m m' f f' w w')) e a)
+-- lines before a flush, and lines after it
+pub reports_around : (xs ys : List (List ℕ)) (a b b' c : Option (List ℕ)) (f g g' h : ℕ) → Reports xs a b f g → b' ≡ b → g' ≡ g → Reports ys b' c g' h → Reports (xs ++ ys) a c f h
+reports_around xs ys a b b' c f g g' h p k l q =
+    reports-append xs ys a b c f g h p (subst (λ (n : ℕ). Reports ys b c n h) l (subst (λ (o : Option (List ℕ)). Reports ys o c g' h) k q))
+
+-- a line whose frozen file can't be opened, as a run
+abbrev missed_run : List ℕ → RunResult
+missed_run name = record { output = []; messages = cannot_open name; reason = Ends causes.Done; status = 1; frozen = None; calls = 0; saved = [] }
+
+missed_freezes : (name : List ℕ) → FreezesAtEnd (missed_run name)
+missed_freezes name = record { at_end = inl refl }
+
+abbrev pub missed_cause : Result (Unit {0}) DeviceFault → Cause
+missed_cause (Ok x) = causes.Done
+missed_cause (Err e) = causes.Write
+
+missed_ran : (name given : List ℕ) (r : Result (Unit {0}) DeviceFault) (o m m' : Option (List ℕ)) (f f' : ℕ) (w : Option Files)
+    → Puts r m m' (cannot_open given) → f' ≡ count_after r f
+    → Ran name (missed_run given) (record { status = 1; cause = missed_cause r; wrapped = false }) (seen_from o o m m' f f' w w)
+missed_ran name given (Ok x) o m m' f f' w p n = record {
+  gives = record { reason = refl; status = refl; wrapped = refl; output = with_bytes-nil o; messages = p };
+  counted = n;
+  any_missing = true;
+  is_status = refl;
+  files = sym (none_made name w);
+}
+missed_ran name given (Err e) o m m' f f' w p n = record {
+  gives = record { wrapped = refl; output = ([], record { front = []; parts = refl; holds = with_bytes-nil o }); messages = p };
+  counted = inr n;
+  any_missing = true;
+  is_status = refl;
+  files = inl refl;
+}
+
+pub missed_ends : (failure : Option Failure) (name given file : List ℕ) (r : Result (Unit {0}) DeviceFault) (cause : Cause) (status : ℕ) (o o' m m1 m2 : Option (List ℕ)) (f f1 f2 : ℕ) (w w' : Option Files)
+    → cause ≡ missed_cause r → Puts r m m1 (cannot_open given) → f1 ≡ count_after r f
+    → Closes file (record { status = 1; cause = cause; wrapped = false }) status failure (seen_from o o' m1 m2 f1 f2 w w')
+    → EndsBy failure name file (unreloaded given) status (seen_from o o' m m2 f f2 w w')
+missed_ends failure name given file r cause status o o' m m1 m2 f f1 f2 w w' c p n k =
+    ended failure name file (missed_run given) (record { status = 1; cause = missed_cause r; wrapped = false }) o o o' m m1 m2 f f1 f2 w w w' status (missed_freezes given)
+    (missed_ran name given r o m m1 f f1 w p n)
+    (subst (λ (x : Cause). Closes file (record { status = 1; cause = x; wrapped = false }) status failure (seen_from o o' m1 m2 f1 f2 w w')) c k)

@@ -1,11 +1,9 @@
 -- The files of a world in memory.
-use Rattle.std.proofs.Common.{◌≡◌, ◌<◌, ◌≤◌, ℕ, ◌+◌, Bool, true, false, List, [], ◌∷◌, ◌++◌, length, get_or, drop, Option, Some, None, refl, sym, ap, ◌∙◌}
-use Rattle.std.specs.Prelude.{option_map, if◌then◌else◌}
+use Rattle.std.proofs.Common.{◌≡◌, ◌<◌, ◌≤◌, ℕ, ◌+◌, true, false, List, ◌++◌, length, get_or, drop, Option, Some, None, refl, sym, ap, ◌∙◌}
 use Rattle.std.specs.Str.{bytes_eq}
 use Rattle.std.proofs.lemmas.List.{drop_all}
-use Rattle.m4_state.specs.Device.{Script}
 use Rattle.m4_tool.specs.declared.given.Given.{Given}
-use Rattle.m4_tool.specs.World.{Files, with_file, with_more, whole_file}
+use Rattle.m4_tool.specs.World.{with_file, with_more}
 use Rattle.m4_tool.specs.Memory.{given_files, memory_files}
 use Rattle.m4_tool.proofs.MadeFiles.{with_more_file}
 use Rattle.m4_tool.proofs.Places.{at_place}

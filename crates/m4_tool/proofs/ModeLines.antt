@@ -1,15 +1,16 @@
 -- The end of a line with a mode.
-use Rattle.std.proofs.Common.{◌≡◌, ℕ, Bool, List, [], ◌∷◌, ◌++◌, Option, Some, None, refl, sym, ap, ◌∙◌, subst}
+use Rattle.std.proofs.Common.{◌≡◌, ℕ, List, [], ◌∷◌, Option, Some, None, refl, sym, ap, ◌∙◌, subst}
 use Rattle.std.specs.Prelude.{option_map, unwrap_or, Result, Ok, Err, IfSome, false, codes}
-use Rattle.m4_state.specs.Device.{Script}
+use Rattle.m4_state.specs.Device.{Script, Puts, count_after}
+use Rattle.m4_state.specs.declared.device.DeviceFault.{DeviceFault}
 use Rattle.m4_engine.specs.File.{cannot_open}
 use Rattle.m4_tool.specs.declared.fault.ModeFault.{ModeFault}
 use Rattle.m4_tool.specs.declared.follow.Mode.{Mode}
 use Rattle.m4_tool.specs.World.{Files}
 use Rattle.m4_tool.specs.ModeFault.{status_of}
-use Rattle.m4_tool.specs.Modes.{ModeRuns, Reading, ReportsFault, Writing}
+use Rattle.m4_tool.specs.Modes.{ModeRuns, ReportsFault}
 use Rattle.m4_tool.specs.Line.{Reports}
-use Rattle.m4_tool.specs.LineMode.{ModeEnds, ModeFollows, ModeMissed, closed_lines, closed_status, ends_of, fault_lines}
+use Rattle.m4_tool.specs.LineMode.{ModeFollows, closed_lines, closed_status, ends_of, fault_lines}
 use Rattle.m4_tool.specs.LineRun.{ModeCloses}
 use Rattle.m4_tool.proofs.LineEnds.{reports-append, seen_from}
 
@@ -38,11 +39,17 @@ mode_ends mode file script (Some s) rf rf' o o1 o2 m m1 m2 of of1 f f1 f2 status
     }
 
 -- a mode on a file that can't be opened
-pub mode_missed : (mode : Mode) (file : List ℕ) (given : Option Script) (o m m' : Option (List ℕ)) (f f' : ℕ) (status : ℕ) (w w' : Option Files)
-    → None ≡ option_map (λ s. let p : Option Script = Some s in p) given → status ≡ 1 → w' ≡ w → Reports (cannot_open file ∷ []) m m' f f'
-    → ModeFollows mode file given status (seen_from o o m m' f f' w w')
-mode_missed mode file None o m m' f f' status w w' e s k p = record { is_status = s; output = refl; messages = p; files = k }
-mode_missed mode file (Some x) o m m' f f' status w w' e s k p = absurd cc
+pub mode_missed : (mode : Mode) (file : List ℕ) (given : Option Script) (put : Result (Unit {0}) DeviceFault) (o o' m m1 m2 : Option (List ℕ)) (f f1 f2 : ℕ) (answer : ℕ) (w w' : Option Files)
+    → None ≡ option_map (λ s. let p : Option Script = Some s in p) given → Puts put m m1 (cannot_open file) → f1 ≡ count_after put f
+    → ModeCloses 1 answer o o' m1 m2 f1 f2 → w' ≡ w
+    → ModeFollows mode file given answer (seen_from o o' m m2 f f2 w w')
+mode_missed mode file None put o o' m m1 m2 f f1 f2 answer w w' e p n k q = record {
+  is_status = k.is_status;
+  output = k.output;
+  messages = (m1, f1, record { put = put; puts = p; counted = n }, (k.reports.0, k.reports.1));
+  files = q;
+}
+mode_missed mode file (Some x) put o o' m m1 m2 f f1 f2 answer w w' e p n k q = absurd cc
 
 -- a mode whose last flush failed
 pub mode_failed : (status : ℕ) (o o' m m1 m2 : Option (List ℕ)) (f f1 f2 : ℕ) → status ≡ 0 → o' ≡ o → m1 ≡ m → f1 ≡ f → Reports (codes "m4: write fault\n" ∷ []) m1 m2 f1 f2 → ModeCloses status 1 o o' m m2 f f2

@@ -1,15 +1,15 @@
 -- The files of a line, opened in order, and the start of its run.
-use Rattle.std.proofs.Common.{◌≡◌, ◌<◌, ◌≤◌, ℕ, zero, suc, ◌+◌, Bool, true, false, List, [], ◌∷◌, ◌++◌, length, get_or, drop, map, Option, Some, None, refl, sym, ap, ◌∙◌, subst, append_assoc, append-nil}
+use Rattle.std.proofs.Common.{◌≡◌, ◌<◌, ◌≤◌, ℕ, ◌+◌, List, [], ◌∷◌, ◌++◌, length, get_or, drop, map, Option, Some, None, refl, sym, ap, ◌∙◌, subst, append_assoc, append-nil}
 use Rattle.std.specs.Prelude.{option_map, unwrap_or}
 use Rattle.std.proofs.lemmas.List.{map-append, drop_all}
 use Rattle.m4_state.specs.Device.{Script}
 use Rattle.m4_engine.specs.declared.options.Options.{Options}
 use Rattle.m4_engine.specs.declared.source.Source.{Source as RunSource}
 use Rattle.m4_engine.specs.File.{Source}
-use Rattle.m4_engine.specs.Run.{RunResult, run}
+use Rattle.m4_engine.specs.Run.{run}
 use Rattle.m4_engine.specs.RunSources.{source_of, DescribesFrozen}
 use Rattle.m4_tool.specs.World.{Files}
-use Rattle.m4_tool.specs.Line.{LineResult, Thawed, Starts, Missing, all_of, and_then, input_after, result_by, result_of_run, source_at, sources_in, thaw_in, thawed_by, unreloaded}
+use Rattle.m4_tool.specs.Line.{LineResult, Starts, all_of, and_then, input_after, result_by, result_of_run, source_at, sources_in, thaw_in, thawed_by, unreloaded}
 use Rattle.m4_tool.proofs.Places.{at_place}
 
 -- the files before a place were opened

@@ -1,7 +1,7 @@
 -- The files and the messages after a run whose frozen text went to a late file.
-use Rattle.std.proofs.Common.{◌≡◌, ℕ, Bool, true, false, List, [], ◌∷◌, ◌++◌, Option, Some, None, refl, sym, ap, ◌∙◌, subst, ◌⊎◌, inl, inr}
+use Rattle.std.proofs.Common.{◌≡◌, ℕ, Bool, true, false, List, [], ◌∷◌, Option, Some, None, refl, sym, ap, ◌∙◌, subst, ◌⊎◌, inl, inr}
 use Rattle.std.specs.Prelude.{option_map, unwrap_or}
-use Rattle.m4_state.specs.Device.{with_bytes, HasBegun, one_more}
+use Rattle.m4_state.specs.Device.{with_bytes, HasBegun}
 use Rattle.m4_state.proofs.CallerLaws.{with_bytes-nil, HasPut-start}
 use Rattle.m4_engine.specs.declared.ending.Cause.{Cause}
 use Rattle.m4_engine.specs.declared.ending.Cause.TheVariants as causes
@@ -9,7 +9,7 @@ use Rattle.m4_engine.specs.declared.ending.Ending.{Ending}
 use Rattle.m4_engine.specs.Expansion.{Ends}
 use Rattle.m4_engine.specs.Run.{RunResult, status_of}
 use Rattle.m4_engine.specs.Writers.{Both, ByCause, NoneOfThree, OneOfThree, Three, Contents, writers}
-use Rattle.m4_engine.specs.WholeRun.{FrozenBegan, FrozenBy, HasFrozen, RunGives, WrotePrefix}
+use Rattle.m4_engine.specs.WholeRun.{FrozenBegan, FrozenBy, HasFrozen, RunGives}
 use Rattle.m4_tool.specs.World.{Files, with_file, made_file}
 use Rattle.m4_tool.specs.Late.{written, after_writing, is_tried}
 use Rattle.m4_tool.specs.Line.{HasPrefix}

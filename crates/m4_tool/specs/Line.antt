@@ -108,7 +108,7 @@ refusals_by file (Ends cause) = refusals file cause
 refusals_by file reason = []
 
 abbrev pub unreloaded : List ℕ → LineResult
-unreloaded name = record { output = []; messages = []; lines = cannot_open name ∷ []; status = 1; frozen = [] }
+unreloaded name = record { output = []; messages = cannot_open name; lines = []; status = 1; frozen = [] }
 
 abbrev pub result_of_run : List ℕ → RunResult → LineResult
 result_of_run file r = record {

@@ -1,7 +1,7 @@
 -- LineLaws: what holds of the results of lines alone.
 -- Believed as statements; the functions of the module `laws` carry their proofs.
 -- Words: freezes_to, reloads_from, AreOthers, LineJoins, FreezeThenReload.
-use Rattle.std.specs.Prelude.{◌≡◌, ◌≢◌, ℕ, Bool, true, false, List, [], ◌∷◌, ◌++◌, Option, Some, None, is_some}
+use Rattle.std.specs.Prelude.{◌≡◌, ◌≢◌, ℕ, Bool, true, false, List, [], ◌∷◌, ◌++◌, Option, Some, is_some}
 use Rattle.std.specs.Str.{bytes_eq}
 use Rattle.m4_state.specs.Device.{Script}
 use Rattle.m4_engine.specs.declared.options.Options.{Options}

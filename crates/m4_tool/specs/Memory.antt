@@ -3,7 +3,7 @@
 use Rattle.std.specs.Prelude.{List, [], ◌∷◌, ℕ, Option, Some, None, if◌then◌else◌}
 use Rattle.std.specs.Str.{bytes_eq}
 use Rattle.m4_tool.specs.declared.given.Given.{Given}
-use Rattle.m4_tool.specs.World.{Files, whole_file, with_file}
+use Rattle.m4_tool.specs.World.{Files, with_file}
 
 -- the first of the given files that has the name
 abbrev pub given_files : List Given → Files

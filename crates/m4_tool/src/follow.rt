@@ -20,7 +20,7 @@ use crate::followed::Followed;
 use crate::line::Line;
 use crate::modes;
 use crate::world::{Shows, World};
-use closing::{close, close_mode, close_unopened};
+use closing::{FAILED, close, close_mode, close_unopened, put_unopened};
 use m4_state::device::{ByteSink, ByteSource};
 use running::run_line;
 use std::alloc::Global;
@@ -49,6 +49,12 @@ pub fn follow<W: World, O: Shows, M: Shows>(
     ensures inspect { line.now.canon ≡ None → IfSome line.now.inspect (λ file. (files : Files) → W.making world ≡ false → W.files world ≡ Some files
         → ModeFollows Mode.Inspect (string_bytes file) (files (string_bytes file)) result.status
         (seen O.contents M.contents M.failures out.old out.new messages.old messages.new (W.files world) (W.files result.world))) }
+    // line in a world: if nothing failed, the output that was written is flushed
+    ensures output_shown { result.failure ≡ None → O.shown out.new ≡ O.contents out.new }
+    // line in a world: and so are the messages
+    ensures messages_shown { result.failure ≡ None → M.shown messages.new ≡ M.contents messages.new }
+    // line in a world: and the file that was made
+    ensures kept { result.failure ≡ None → W.kept result.world ≡ W.files result.world }
 {
     if let Some(file) = &line.canon {
         return follow_mode(
@@ -91,15 +97,23 @@ fn follow_mode<W: World, O: Shows, M: Shows>(
     out: &mut O,
     messages: &mut M,
 ) -> Followed<W>
-    ensures { (files : Files) → W.making world ≡ false → W.files world ≡ Some files
+    ensures follows { (files : Files) → W.making world ≡ false → W.files world ≡ Some files
         → ModeFollows mode file.now (files file.now) result.status
         (seen O.contents M.contents M.failures out.old out.new messages.old messages.new (W.files world) (W.files result.world)) }
+    ensures output_shown { result.failure ≡ None → O.shown out.new ≡ O.contents out.new }
+    ensures messages_shown { result.failure ≡ None → M.shown messages.new ≡ M.contents messages.new }
+    ensures kept { result.failure ≡ None → W.kept result.world ≡ W.files result.world }
 {
-    let Some(mut reader) = world.open(file) else {
-        return close_unopened(file, world, messages);
-    };
-    let status = run_mode(alloc, mode, file, &mut reader, out, messages);
-    close_mode(status, world, out, messages)
+    match world.open(file) {
+        Some(mut reader) => {
+            let status = run_mode(alloc, mode, file, &mut reader, out, messages);
+            close_mode(status, world, out, messages)
+        }
+        None => {
+            let _put = put_unopened(file, messages);
+            close_mode(FAILED, world, out, messages)
+        }
+    }
 }
 
 /// Runs a mode on an opened file, and returns its status.
@@ -130,11 +144,14 @@ fn follow_run<W: World, O: Shows, M: Shows>(
     out: &mut O,
     messages: &mut M,
 ) -> Followed<W>
-    ensures { (files : Files) (input : Script) (r : LineResult)
+    ensures follows { (files : Files) (input : Script) (r : LineResult)
         → W.making world ≡ false → W.files world ≡ Some files → W.input world ≡ Some input
         → line_result (request_of line.now) files input ≡ Some r
         → Follows (request_of line.now) r result.status result.failure
         (seen O.contents M.contents M.failures out.old out.new messages.old messages.new (W.files world) (W.files result.world)) }
+    ensures output_shown { result.failure ≡ None → O.shown out.new ≡ O.contents out.new }
+    ensures messages_shown { result.failure ≡ None → M.shown messages.new ≡ M.contents messages.new }
+    ensures kept { result.failure ≡ None → W.kept result.world ≡ W.files result.world }
 {
     match &line.reload {
         None => follow_from(alloc, line, &mut None, b"", world, out, messages),
@@ -150,7 +167,7 @@ fn follow_run<W: World, O: Shows, M: Shows>(
                     out,
                     messages,
                 ),
-                None => close_unopened(file, world, messages),
+                None => close_unopened(file, world, out, messages),
             }
         }
     }
@@ -166,13 +183,16 @@ fn follow_from<W: World, O: Shows, M: Shows>(
     out: &mut O,
     messages: &mut M,
 ) -> Followed<W>
-    ensures { (files : Files) (input : Script) (script : Option Script) (ss : List Said)
+    ensures ends { (files : Files) (input : Script) (script : Option Script) (ss : List Said)
         → W.making world ≡ false → W.files world ≡ Some files → W.input world ≡ Some input
         → DescribesFrozen W.Reader.script frozen.old script
         → sources_in files input (words_of (request_of line.now).names) ≡ map Some ss
         → EndsBy result.failure (unwrap_or (request_of line.now).freeze []) file.now
         (result_of_run file.now (defined line.now.options script ss)) result.status
         (seen O.contents M.contents M.failures out.old out.new messages.old messages.new (W.files world) (W.files result.world)) }
+    ensures output_shown { result.failure ≡ None → O.shown out.new ≡ O.contents out.new }
+    ensures messages_shown { result.failure ≡ None → M.shown messages.new ≡ M.contents messages.new }
+    ensures kept { result.failure ≡ None → W.kept result.world ≡ W.files result.world }
 {
     let ran = run_line(alloc, line, frozen, world, out, messages);
     close(ran.ending, file, ran.world, out, messages)

@@ -71,6 +71,8 @@ impl<'a> World for MemWorld<'a> {
 
     ghost making = { λ w. is_some w.made };
 
+    ghost kept = { λ w. Some (memory_files w.name.items (option_map (λ v. v.items) w.made) w.given.now) };
+
     fn open(&self, name: &[u8]) -> Option<MemSource<'a>> {
         found(self.given, name)
     }

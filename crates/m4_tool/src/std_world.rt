@@ -65,6 +65,8 @@ impl<'a, R: Files + Input, W: Write, E: Write> World for StdWorld<'a, R, W, E> {
 
     ghost making = { λ _. false };
 
+    ghost kept = { λ _. None };
+
     fn open(
         &self,
         name: &[u8],

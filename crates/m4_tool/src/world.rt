@@ -24,6 +24,9 @@ pub trait World: Drop {
     /// Whether a file was made. Until then the readers of files are known.
     ghost making: { Self → Bool };
 
+    /// The files with the bytes that were flushed; none if they are not known.
+    ghost kept: { Self → Option Files };
+
     /// Opens a file for reading, unless that fails.
     fn open(&self, name: &[u8]) -> Option<Self::Reader>
         ensures { making self.now ≡ false → IfSome (files self.now) (λ fs. option_map Self.Reader.script result ≡ option_map Some (fs name.now)) };
@@ -51,6 +54,7 @@ pub trait World: Drop {
 
     /// Flushes the file that was made, if one was.
     fn finish(&mut self) -> Result<(), DeviceFault>
+        ensures kept { OnOk result (kept self.new ≡ files self.new) }
         ensures files { files self.new ≡ files self.old };
 }
 

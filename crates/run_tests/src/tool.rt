@@ -1,6 +1,7 @@
 //! The command line and the modes, of `m4_tool`: tables of rows, with one helper for each table.
 
 mod ends;
+mod failing;
 mod faults;
 mod lines;
 mod modes;

@@ -1,10 +1,10 @@
 //! The end of a line: its outputs and its file are flushed, and what is not reported yet is reported.
 
-ghost use Rattle.std.specs.Prelude.{◌≡◌, ◌∷◌, [], None, true, option_map};
-ghost use Rattle.m4_state.specs.Device.{joined};
+ghost use Rattle.std.specs.Prelude.{◌≡◌, ◌∷◌, [], List, ℕ, None, true};
+ghost use Rattle.m4_state.specs.Device.{Puts, count_after, joined};
 ghost use Rattle.m4_engine.specs.File.{cannot_open};
-ghost use Rattle.m4_tool.specs.RunEnd.{last_status, refused_line};
-ghost use Rattle.m4_tool.specs.Line.{Reports, added_lines, failure_of, last_lines, refusals};
+ghost use Rattle.m4_tool.specs.RunEnd.{last_fault, last_status};
+ghost use Rattle.m4_tool.specs.Line.{EndsBy, Reports, failure_of, last_lines, refusals, unreloaded};
 ghost use Rattle.m4_tool.specs.LineRun.{Closes, ModeCloses, seen};
 
 use crate::endings::{last_fault, put_refused};
@@ -12,13 +12,15 @@ use crate::followed::{Failure, Followed};
 use crate::world::{Shows, World};
 use m4_engine::ending::{Cause, Ending};
 use m4_frozen::fault::FrozenKind;
+use m4_state::device::{ByteSink, DeviceFault};
 use m4_state::transfer::write_pieces;
 
 /// The status of a run that did not do the work of its line.
-const FAILED: u8 = 1;
+pub const FAILED: u8 = 1;
 
-/// Flushes everything after a run, and reports what the run has not reported itself. `file` is the name of
-/// its frozen file. If a report can't be written, only the status shows it.
+/// Reports a frozen file that was refused, flushes everything after a run, and then reports what is not
+/// reported yet. `file` is the name of the run's frozen file. If the last report can't be written, only the
+/// status shows it.
 pub fn close<W: World, O: Shows, M: Shows>(
     ending: Ending,
     file: &[u8],
@@ -26,14 +28,17 @@ pub fn close<W: World, O: Shows, M: Shows>(
     out: &mut O,
     messages: &mut M,
 ) -> Followed<W>
-    ensures { Closes file.now ending result.status result.failure
+    ensures closes { Closes file.now ending result.status result.failure
         (seen O.contents M.contents M.failures out.old out.new messages.old messages.new (W.files world) (W.files result.world)) }
+    ensures output_shown { result.failure ≡ None → O.shown out.new ≡ O.contents out.new }
+    ensures messages_shown { result.failure ≡ None → M.shown messages.new ≡ M.contents messages.new }
+    ensures kept { result.failure ≡ None → W.kept result.world ≡ W.files result.world }
 {
     let mut world = world;
-    let is_shown = show(out, messages);
-    let is_finished = world.finish().is_ok();
-    let flushed = is_shown && is_finished;
-    report_end(ending.cause, flushed, file, messages);
+    let is_reported = report_refusal(ending.cause, file, messages);
+    let is_flushed = flush_all(&mut world, out, messages);
+    let flushed = is_reported && is_flushed;
+    report_last(ending.cause, flushed, messages);
     Followed {
         status: last_status(ending, flushed),
         failure: failure_of(ending.cause, flushed),
@@ -41,43 +46,46 @@ pub fn close<W: World, O: Shows, M: Shows>(
     }
 }
 
-/// Flushes the output and then the messages, and returns whether both were flushed.
-fn show<O: Shows, M: Shows>(out: &mut O, messages: &mut M) -> bool
+/// Flushes the output, then the messages, and then the file that was made. Returns whether all were flushed.
+fn flush_all<W: World, O: Shows, M: Shows>(world: &mut W, out: &mut O, messages: &mut M) -> bool
     ensures output { O.contents out.new ≡ O.contents out.old }
     ensures messages { M.contents messages.new ≡ M.contents messages.old }
     ensures failures { M.failures messages.new ≡ M.failures messages.old }
+    ensures files { W.files world.new ≡ W.files world.old }
     ensures output_shown { result ≡ true → O.shown out.new ≡ O.contents out.new }
     ensures messages_shown { result ≡ true → M.shown messages.new ≡ M.contents messages.new }
+    ensures kept { result ≡ true → W.kept world.new ≡ W.files world.new }
 {
     let output = out.flush().is_ok();
     let others = messages.flush().is_ok();
-    output && others
+    let file = world.finish().is_ok();
+    output && others && file
 }
 
-/// Reports a frozen file that was refused, and then the fault that ended the run, if there is one.
-fn report_end<M: Shows>(cause: Cause, flushed: bool, file: &[u8], messages: &mut M)
-    ensures reports { Reports (added_lines file.now cause flushed) (M.contents messages.old) (M.contents messages.new)
+/// Reports a frozen file that was refused. Returns whether that could be written.
+fn report_refusal<M: Shows>(cause: Cause, file: &[u8], messages: &mut M) -> bool
+    ensures reports { Reports (refusals file.now cause) (M.contents messages.old) (M.contents messages.new)
         (M.failures messages.old) (M.failures messages.new) }
 {
-    report_refusal(cause, file, messages);
+    match cause {
+        Cause::Frozen(_) => put_refused(cause, file, messages).is_ok(),
+        _ => true,
+    }
+}
+
+/// Reports the fault that ended the run or its last flushes, if there is one.
+fn report_last<M: Shows>(cause: Cause, flushed: bool, messages: &mut M)
+    ensures reports { Reports (last_lines (last_fault cause flushed)) (M.contents messages.old) (M.contents messages.new)
+        (M.failures messages.old) (M.failures messages.new) }
+    ensures unreported { last_fault cause flushed ≡ None → messages.new ≡ messages.old }
+{
     match last_fault(cause, flushed) {
         Some(text) => report(&[b"m4: ", text.as_bytes(), b"\n"], messages),
         None => {}
     }
 }
 
-/// Reports a frozen file that was refused.
-fn report_refusal<M: Shows>(cause: Cause, file: &[u8], messages: &mut M)
-    ensures reports { Reports (refusals file.now cause) (M.contents messages.old) (M.contents messages.new)
-        (M.failures messages.old) (M.failures messages.new) }
-{
-    if let Cause::Frozen(_) = cause {
-        let _put = put_refused(cause, file, messages);
-        let _shown = messages.flush();
-    }
-}
-
-/// Writes one line to the messages and flushes it.
+/// Writes one line to the messages and flushes them.
 fn report<M: Shows>(line: &[&[u8]], messages: &mut M)
     ensures reports { Reports (joined line.now ∷ []) (M.contents messages.old) (M.contents messages.new)
         (M.failures messages.old) (M.failures messages.new) }
@@ -110,20 +118,37 @@ fn failure_of(cause: Cause, flushed: bool) -> Option<Failure>
     }
 }
 
-/// Reports that the frozen file of a line can't be opened. Nothing else is done.
-pub fn close_unopened<W: World, M: Shows>(file: &[u8], world: W, messages: &mut M) -> Followed<W>
-    ensures status { result.status ≡ 1 }
-    ensures failure { result.failure ≡ None }
-    ensures world { result.world ≡ world }
-    ensures reports { Reports (cannot_open file.now ∷ []) (M.contents messages.old) (M.contents messages.new)
-        (M.failures messages.old) (M.failures messages.new) }
+/// Ends a line whose frozen file can't be opened. That is reported, and nothing else is done.
+pub fn close_unopened<W: World, O: Shows, M: Shows>(
+    file: &[u8],
+    world: W,
+    out: &mut O,
+    messages: &mut M,
+) -> Followed<W>
+    ensures ends { (name : List ℕ) → EndsBy result.failure name file.now (unreloaded file.now) result.status
+        (seen O.contents M.contents M.failures out.old out.new messages.old messages.new (W.files world) (W.files result.world)) }
+    ensures output_shown { result.failure ≡ None → O.shown out.new ≡ O.contents out.new }
+    ensures messages_shown { result.failure ≡ None → M.shown messages.new ≡ M.contents messages.new }
+    ensures kept { result.failure ≡ None → W.kept result.world ≡ W.files result.world }
 {
-    report(&[b"m4: cannot open `", file, b"'\n"], messages);
-    Followed {
+    let cause = match put_unopened(file, messages) {
+        Ok(()) => Cause::Done,
+        Err(DeviceFault) => Cause::Write,
+    };
+    let ending = Ending {
         status: FAILED,
-        failure: None,
-        world,
-    }
+        cause,
+        wrapped: false,
+    };
+    close(ending, file, world, out, messages)
+}
+
+/// Writes the line for a file that can't be opened.
+pub fn put_unopened<M: ByteSink>(file: &[u8], messages: &mut M) -> Result<(), DeviceFault>
+    ensures puts { Puts result (M.contents messages.old) (M.contents messages.new) (cannot_open file.now) }
+    ensures counted { M.failures messages.new ≡ count_after result (M.failures messages.old) }
+{
+    write_pieces(messages, &[b"m4: cannot open `", file, b"'\n"])
 }
 
 /// Flushes everything after a mode that ended with this status. A flush that fails is a write fault.
@@ -135,10 +160,14 @@ pub fn close_mode<W: World, O: Shows, M: Shows>(
 ) -> Followed<W>
     ensures closes { ModeCloses status result.status (O.contents out.old) (O.contents out.new)
         (M.contents messages.old) (M.contents messages.new) (M.failures messages.old) (M.failures messages.new) }
-    ensures world { result.world ≡ world }
+    ensures files { W.files result.world ≡ W.files world }
+    ensures output_shown { result.failure ≡ None → O.shown out.new ≡ O.contents out.new }
+    ensures messages_shown { result.failure ≡ None → M.shown messages.new ≡ M.contents messages.new }
+    ensures kept { result.failure ≡ None → W.kept result.world ≡ W.files result.world }
 {
-    let is_shown = show(out, messages);
-    if status == 0 && !is_shown {
+    let mut world = world;
+    let all_flushed = flush_all(&mut world, out, messages);
+    if status == 0 && !all_flushed {
         report(&[b"m4: write fault\n"], messages);
         return Followed {
             status: FAILED,
@@ -146,9 +175,14 @@ pub fn close_mode<W: World, O: Shows, M: Shows>(
             world,
         };
     }
+    let failure = if all_flushed {
+        None
+    } else {
+        Some(Failure::Write)
+    };
     Followed {
         status,
-        failure: None,
+        failure,
         world,
     }
 }

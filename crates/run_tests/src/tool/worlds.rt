@@ -11,8 +11,8 @@ use std::alloc::Global;
 use std::process::Abort;
 use std::test::Fail;
 
-// The files of all rows: the name, the bytes, and whether the reader fails after them.
-static FILES: [Given<'static>; 8] = [
+/// The files of all rows: the name, the bytes, and whether the reader fails after them.
+pub static FILES: [Given<'static>; 12] = [
     Given {
         name: b"a",
         bytes: b"hi\n",
@@ -52,6 +52,26 @@ static FILES: [Given<'static>; 8] = [
         name: b"lost",
         bytes: b"",
         fails: true,
+    },
+    Given {
+        name: b"torn",
+        bytes: b"hi\nx",
+        fails: true,
+    },
+    Given {
+        name: b"quit",
+        bytes: b"m4exit(`3')\n",
+        fails: false,
+    },
+    Given {
+        name: b"leave",
+        bytes: b"hi\nm4exit(`2')\nx",
+        fails: true,
+    },
+    Given {
+        name: b"issues",
+        bytes: b"V1\nD0,1\nx\n",
+        fails: false,
     },
 ];
 
@@ -126,7 +146,7 @@ static REFUSED: [(&[&str], &[u8], u8, &str, &str); 5] = [
 ];
 
 // The same for the modes.
-static MODES: [(&[&str], &[u8], u8, &str, &str); 4] = [
+static MODES: [(&[&str], &[u8], u8, &str, &str); 8] = [
     (
         &["m4r", "--canon=none"],
         b"",
@@ -154,6 +174,28 @@ static MODES: [(&[&str], &[u8], u8, &str, &str); 4] = [
         63,
         "",
         "m4: newer: F2 Newer at byte 1\n",
+    ),
+    (
+        &["m4r", "--canon=issues"],
+        b"",
+        1,
+        "",
+        "m4: issues: K1 text would be issued at reload\n",
+    ),
+    (
+        &["m4r", "--inspect=issues"],
+        b"",
+        0,
+        "quotes ` '\ncomments # \\0a\ncurrent 0\nissued 1\n",
+        "",
+    ),
+    (&["m4r", "--inspect=cut"], b"", 1, "", "m4: cut: F10 Read\n"),
+    (
+        &["m4r", "--canon=-"],
+        b"V1\n",
+        1,
+        "",
+        "m4: cannot open `-'\n",
     ),
 ];
 

@@ -1,4 +1,4 @@
-use Rattle.std.proofs.Common.{rules, ap, ◌∙◌, sym, Some, Option}
+use Rattle.std.proofs.Common.{ap, ◌∙◌, sym, Some, Option}
 use Rattle.std.specs.Prelude.{option_map}
 use Rattle.m4_state.specs.Device.{Script}
 use Rattle.m4_tool.proofs.MemoryFiles.{given_here}

@@ -1,5 +1,4 @@
 -- The line is written, and then flushed.
-use Rattle.std.proofs.Common.{rules, refl}
 use Rattle.m4_tool.proofs.follow.closing.report.Goals as goal
 
 pub returns : goal.returns

@@ -1,5 +1,5 @@
 -- The run's files and messages, by its contract and by the late file's facts.
-use Rattle.std.proofs.Common.{rules, ap, ◌∙◌, sym, inl}
+use Rattle.std.proofs.Common.{ap, ◌∙◌, inl}
 use Rattle.m4_engine.specs.Run.{run as defined}
 use Rattle.m4_tool.proofs.RanFiles.{ran_so}
 use Rattle.m4_tool.proofs.follow.running.run_late.Goals as goal

@@ -1,5 +1,5 @@
 -- The sources are those of the line, and the late file has the line's name.
-use Rattle.std.proofs.Common.{rules, ap, ◌∙◌, sym}
+use Rattle.std.proofs.Common.{ap, ◌∙◌}
 use Rattle.std.specs.Prelude.{option_map, string_bytes, unwrap_or, []}
 use Rattle.m4_engine.specs.Run.{run as defined}
 use Rattle.m4_tool.proofs.RanFiles.{not_begun, ran_as}

@@ -1,4 +1,4 @@
-use Rattle.std.proofs.Common.{rules, ◌≡◌, ℕ, List, ◌+◌, ◌<◌, take, length, refl, ◌∙◌, arith, sym, ap, subst, Option}
+use Rattle.std.proofs.Common.{rules, take, ◌∙◌}
 use Rattle.m4_tool.proofs.MadeFiles.{begun_so, put_stands, put_tried, put_takes, takes_none}
 use Rattle.m4_tool.proofs.late.LateFileByteSink.put.Goals as goal
 
