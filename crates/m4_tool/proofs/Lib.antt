@@ -1,5 +1,6 @@
 mod EndLemmas
 mod Examples
+mod ExtendedFiles
 mod FoundLemmas
 mod FrozenLines
 mod LineEnds

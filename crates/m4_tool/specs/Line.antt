@@ -1,6 +1,6 @@
 -- Line: what a run over the files of a line gives in a world of files.
 -- Believed. Manual: "Invoking m4", "Command line files", "Fast loading of frozen state".
--- Words: Request, request_of, sources_in, LineResult, line, Reports, failure_of, AsDefined, BrokeOff, Follows.
+-- Words: Request, request_of, sources_in, LineResult, line, ExtendFiles, MayGive, Reports, failure_of, AsDefined, BrokeOff, Follows.
 -- own: a frozen file that can't be opened is the only work of its line; standard input is read once.
 use Rattle.std.specs.Prelude.{◌≡◌, ◌⊎◌, ℕ, Bool, true, false, List, [], ◌∷◌, ◌++◌, map, Option, Some, None, Result}
 use Rattle.std.specs.Prelude.{option_map, unwrap_or, codes, string_bytes, if◌then◌else◌}
@@ -13,7 +13,7 @@ use Rattle.m4_engine.specs.declared.options.Options.{Options}
 use Rattle.m4_engine.specs.declared.ending.Cause.{Cause}
 use Rattle.m4_engine.specs.declared.ending.Cause.TheVariants as causes
 use Rattle.m4_engine.specs.Expansion.{EndReason, Ends}
-use Rattle.m4_engine.specs.File.{Source, Unopened, cannot_open}
+use Rattle.m4_engine.specs.File.{Source, Opened, Unopened, cannot_open}
 use Rattle.m4_engine.specs.RunSources.{whole}
 use Rattle.m4_engine.specs.Run.{RunResult, run}
 use Rattle.m4_tool.specs.declared.line.Line.{Line}
@@ -45,11 +45,13 @@ abbrev pub file_source : List ℕ → Option Script → Option Source
 file_source name None = Some (Unopened name)
 file_source name (Some script) = whole name script.bytes script.fails
 
+-- the bytes of a word of the line: those of standard input, or of its file
+abbrev pub script_at : Files → Script → List ℕ → Option Script
+script_at files input name = if is_input name then Some input else files name
+
 -- the source for a word of the line
 abbrev pub source_at : Files → Script → List ℕ → Option Source
-source_at files input name =
-    if is_input name then whole (source_name name) input.bytes input.fails
-    else file_source (source_name name) (files name)
+source_at files input name = file_source (source_name name) (script_at files input name)
 
 -- the rest of standard input after a word of the line
 abbrev pub input_after : Script → List ℕ → Script
@@ -107,6 +109,7 @@ abbrev pub refusals_by : List ℕ → EndReason → List (List ℕ)
 refusals_by file (Ends cause) = refusals file cause
 refusals_by file reason = []
 
+-- a frozen file that can't be opened is reported, and nothing else is done
 abbrev pub unreloaded : List ℕ → LineResult
 unreloaded name = record { output = []; messages = cannot_open name; lines = []; status = 1; frozen = [] }
 
@@ -128,6 +131,25 @@ result_by (Starts frozen) o file (Some ss) = Some (result_of_run file (run o fro
 abbrev pub line : Request → Files → Script → Option LineResult
 line q files input =
     result_by (thaw_in files q.reload) q.options (unwrap_or q.reload []) (all_of (sources_in files input (words_of q.names)))
+
+-- a source that a file may have been: with its bytes or, if its reader fails, with any that begin with them
+abbrev pub ExtendsFile : List ℕ → Option Script → Source → Type 0
+ExtendsFile name None s = s ≡ Unopened name
+ExtendsFile name (Some script) s =
+    (more : List ℕ) × (s ≡ Opened name (script.bytes ++ more)) × (script.fails ≡ false → more ≡ [])
+
+-- sources that the words may have been, in order
+abbrev pub ExtendFiles : Files → Script → List (List ℕ) → List Source → Type 0
+ExtendFiles files input [] [] = Unit {0}
+ExtendFiles files input (name ∷ names) (s ∷ ss) =
+    ExtendsFile (source_name name) (script_at files input name) s × ExtendFiles files (input_after input name) names ss
+ExtendFiles files input names ss = ⊥
+
+-- a result that a line may give: that of a run over sources that its files may have been
+abbrev pub MayGive : Request → Files → Script → LineResult → Type 0
+MayGive q files input r =
+    (ss : List Source) × ExtendFiles files input (words_of q.names) ss
+    × (result_by (thaw_in files q.reload) q.options (unwrap_or q.reload []) (Some ss) ≡ Some r)
 
 -- the writers and the files before and after; `failures` counts the failed writes of messages
 pub record Seen : Type 0 where

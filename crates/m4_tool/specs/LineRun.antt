@@ -1,20 +1,22 @@
 -- LineRun: what the steps of following a line pass to one another.
 -- Not believed: `follow` is stated with the words of Line only, and proved through these.
--- Words: seen, RanFiles, CountedBy, Ran, Closes, ModeCloses.
-use Rattle.std.specs.Prelude.{◌≡◌, ◌⊎◌, ℕ, Bool, List, [], Option, unwrap_or, option_map}
-use Rattle.m4_state.specs.Device.{one_more}
+-- Words: seen, named_of, named_in, RanFiles, CountedBy, Ran, Closes, ModeCloses.
+use Rattle.std.specs.Prelude.{◌≡◌, ◌⊎◌, ℕ, Bool, List, [], ◌∷◌, Option, Some, None, unwrap_or, option_map}
+use Rattle.m4_state.specs.Device.{Script, one_more}
 use Rattle.m4_engine.specs.declared.ending.Cause.{Cause}
 use Rattle.m4_engine.specs.declared.ending.Cause.TheVariants as causes
 use Rattle.m4_engine.specs.declared.ending.Ending.{Ending}
+use Rattle.m4_engine.specs.declared.source.Source.{Source as RunSource}
+use Rattle.m4_engine.specs.declared.source.Source.TheVariants as sources
 use Rattle.m4_engine.specs.Expansion.{Ends}
 use Rattle.m4_engine.specs.Run.{RunResult, status_of}
 use Rattle.m4_engine.specs.Writers.{writers}
 use Rattle.m4_engine.specs.WholeRun.{GivesBy}
 use Rattle.m4_tool.specs.declared.followed.Failure.{Failure}
-use Rattle.m4_tool.specs.RunEnd.{last_status}
+use Rattle.m4_tool.specs.RunEnd.{last_status, source_name}
 use Rattle.m4_tool.specs.LineMode.{closed_lines, closed_status}
 use Rattle.m4_tool.specs.World.{Files, made_file}
-use Rattle.m4_tool.specs.Line.{Seen, HasPrefix, Reports, added_lines, failure_of}
+use Rattle.m4_tool.specs.Line.{Seen, HasPrefix, Reports, added_lines, failure_of, input_after, script_at}
 
 -- the writers and the files, by the functions of their traits
 abbrev pub seen : {O M : Type 0} → (O → Option (List ℕ)) → (M → Option (List ℕ)) → (M → ℕ) → O → O → M → M → Option Files → Option Files → Seen
@@ -28,6 +30,23 @@ seen of_out of_messages count out_old out_new messages_old messages_new files_ol
   files_old = files_old;
   files_new = files_new;
 }
+
+-- a source by its name, with its bytes if it was opened and they are known
+pub record Named : Type 0 where
+  pub name : List ℕ
+  pub script : Option (Option Script)
+
+abbrev pub named_of : {R : Type 0} → (R → Option Script) → RunSource R → Named
+named_of script (sources.Opened name reader) = record { name = name; script = Some (script reader) }
+named_of script (sources.Unopened name) = record { name = name; script = None }
+
+-- the same for a word of the line, and for all of them
+abbrev pub named_at : Files → Script → List ℕ → Named
+named_at files input name = record { name = source_name name; script = option_map Some (script_at files input name) }
+
+abbrev pub named_in : Files → Script → List (List ℕ) → List Named
+named_in files input [] = []
+named_in files input (name ∷ names) = named_at files input name ∷ named_in files (input_after input name) names
 
 -- the files after a run, by its cause
 abbrev pub RanFiles : Cause → List ℕ → List ℕ → Option Files → Option Files → Type 0

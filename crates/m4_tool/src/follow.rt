@@ -7,7 +7,7 @@ ghost use Rattle.m4_engine.specs.RunSources.{DescribesFrozen};
 ghost use Rattle.m4_engine.specs.File.{Source as Said};
 ghost use Rattle.m4_engine.specs.Run.{run as defined};
 ghost use Rattle.m4_tool.specs.World.{Files};
-ghost use Rattle.m4_tool.specs.Line.{Follows, LineResult, EndsBy, request_of, result_of_run, sources_in, unreloaded, words_of, line as line_result};
+ghost use Rattle.m4_tool.specs.Line.{EndsBy, ExtendFiles, Follows, LineResult, MayGive, line as line_result, request_of, result_of_run, words_of};
 ghost use Rattle.m4_tool.specs.LineMode.{ModeFollows, ends_of};
 ghost use Rattle.m4_tool.specs.LineRun.{seen};
 ghost use Rattle.m4_tool.specs.Modes.{ModeRuns, reads, writes};
@@ -39,6 +39,13 @@ pub fn follow<W: World, O: Shows, M: Shows>(
     ensures runs { (files : Files) (input : Script) (r : LineResult) → line.now.canon ≡ None → line.now.inspect ≡ None
         → W.making world ≡ false → W.files world ≡ Some files → W.input world ≡ Some input
         → line_result (request_of line.now) files input ≡ Some r
+        → Follows (request_of line.now) r result.status result.failure
+        (seen O.contents M.contents M.failures out.old out.new messages.old messages.new (W.files world) (W.files result.world)) }
+    // line in a world: if the reader of a source fails, those over any source that begins with its bytes, if the run
+    // ended before the fault; otherwise prefixes of them
+    ensures extends { (files : Files) (input : Script) (r : LineResult) → line.now.canon ≡ None → line.now.inspect ≡ None
+        → W.making world ≡ false → W.files world ≡ Some files → W.input world ≡ Some input
+        → MayGive (request_of line.now) files input r
         → Follows (request_of line.now) r result.status result.failure
         (seen O.contents M.contents M.failures out.old out.new messages.old messages.new (W.files world) (W.files result.world)) }
     // line in a world: a mode on the file of its name
@@ -146,7 +153,7 @@ fn follow_run<W: World, O: Shows, M: Shows>(
 ) -> Followed<W>
     ensures follows { (files : Files) (input : Script) (r : LineResult)
         → W.making world ≡ false → W.files world ≡ Some files → W.input world ≡ Some input
-        → line_result (request_of line.now) files input ≡ Some r
+        → MayGive (request_of line.now) files input r
         → Follows (request_of line.now) r result.status result.failure
         (seen O.contents M.contents M.failures out.old out.new messages.old messages.new (W.files world) (W.files result.world)) }
     ensures output_shown { result.failure ≡ None → O.shown out.new ≡ O.contents out.new }
@@ -186,7 +193,7 @@ fn follow_from<W: World, O: Shows, M: Shows>(
     ensures ends { (files : Files) (input : Script) (script : Option Script) (ss : List Said)
         → W.making world ≡ false → W.files world ≡ Some files → W.input world ≡ Some input
         → DescribesFrozen W.Reader.script frozen.old script
-        → sources_in files input (words_of (request_of line.now).names) ≡ map Some ss
+        → ExtendFiles files input (words_of (request_of line.now).names) ss
         → EndsBy result.failure (unwrap_or (request_of line.now).freeze []) file.now
         (result_of_run file.now (defined line.now.options script ss)) result.status
         (seen O.contents M.contents M.failures out.old out.new messages.old messages.new (W.files world) (W.files result.world)) }

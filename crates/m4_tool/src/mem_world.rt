@@ -1,7 +1,7 @@
 //! A world in memory: given files, a given standard input, and one file that is made. Contracts know
 //! all of it.
 
-ghost use Rattle.std.specs.Prelude.{◌≡◌, Option, Some, None, false, is_some, option_map};
+ghost use Rattle.std.specs.Prelude.{◌≡◌, Option, Some, None, false, true, is_some, option_map};
 ghost use Rattle.m4_state.specs.Device.{Script};
 ghost use Rattle.m4_tool.specs.Memory.{given_files, memory_files};
 
@@ -21,6 +21,7 @@ pub struct MemWorld<'a> {
     alloc: Global,
     given: &'a [Given<'a>],
     input: &'a [u8],
+    input_fails: bool,
     makes: bool,
     name: Vec<u8>,
     made: Option<Vec<u8>>,
@@ -38,10 +39,20 @@ impl<'a> MemWorld<'a> {
             alloc,
             given,
             input,
+            input_fails: false,
             makes,
             name: Vec::new(alloc),
             made: None,
         }
+    }
+
+    /// Makes the reader of standard input fail after its bytes.
+    pub fn fail_input(&mut self)
+        ensures input { ⟦<MemWorld<'a> as World>⟧.input self.new ≡ Some (record { bytes = self.old.input.now; fails = true }) }
+        ensures files { ⟦<MemWorld<'a> as World>⟧.files self.new ≡ ⟦<MemWorld<'a> as World>⟧.files self.old }
+        ensures making { ⟦<MemWorld<'a> as World>⟧.making self.new ≡ ⟦<MemWorld<'a> as World>⟧.making self.old }
+    {
+        self.input_fails = true;
     }
 
     /// Returns the name of the file that was made; it is empty if none was.
@@ -67,7 +78,7 @@ impl<'a> World for MemWorld<'a> {
 
     ghost files = { λ w. Some (memory_files w.name.items (option_map (λ v. v.items) w.made) w.given.now) };
 
-    ghost input = { λ w. Some (record { bytes = w.input.now; fails = false }) };
+    ghost input = { λ w. Some (record { bytes = w.input.now; fails = w.input_fails }) };
 
     ghost making = { λ w. is_some w.made };
 
@@ -78,9 +89,10 @@ impl<'a> World for MemWorld<'a> {
     }
 
     fn stdin(&mut self) -> MemSource<'a> {
-        let input = self.input;
+        let reader = MemSource::new(self.input, AT_MOST, self.input_fails);
         self.input = &[];
-        MemSource::new(input, AT_MOST, false)
+        self.input_fails = false;
+        reader
     }
 
     fn create(&mut self, name: &[u8]) -> Result<(), DeviceFault> {

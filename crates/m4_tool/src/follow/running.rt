@@ -3,11 +3,11 @@
 ghost use Rattle.std.specs.Prelude.{◌≡◌, ◌⊎◌, [], List, ℕ, Option, Some, None, IfOk, false, map, unwrap_or, option_map, string_bytes};
 ghost use Rattle.m4_state.specs.Device.{Script};
 ghost use Rattle.m4_engine.specs.File.{Source as Said};
-ghost use Rattle.m4_engine.specs.RunSources.{DescribesFrozen, source_of};
+ghost use Rattle.m4_engine.specs.RunSources.{DescribesFrozen};
 ghost use Rattle.m4_engine.specs.Run.{run as defined};
 ghost use Rattle.m4_tool.specs.World.{Files};
-ghost use Rattle.m4_tool.specs.Line.{request_of, sources_in, words_of};
-ghost use Rattle.m4_tool.specs.LineRun.{Ran as RanBy, seen};
+ghost use Rattle.m4_tool.specs.Line.{ExtendFiles, request_of, words_of};
+ghost use Rattle.m4_tool.specs.LineRun.{Ran as RanBy, named_in, named_of, seen};
 
 use super::sources::sources_of;
 use crate::late::{LateFile, Place};
@@ -42,7 +42,7 @@ pub fn run_line<W: World, O: Shows, M: Shows>(
     ensures { (files : Files) (input : Script) (script : Option Script) (ss : List Said)
         → W.making world ≡ false → W.files world ≡ Some files → W.input world ≡ Some input
         → DescribesFrozen W.Reader.script frozen.old script
-        → sources_in files input (words_of (request_of line.now).names) ≡ map Some ss
+        → ExtendFiles files input (words_of (request_of line.now).names) ss
         → RanBy (unwrap_or (request_of line.now).freeze []) (defined line.now.options script ss) result.ending
         (seen O.contents M.contents M.failures out.old out.new messages.old messages.new (W.files world) (W.files result.world)) }
 {
@@ -104,8 +104,9 @@ fn run_late<W: World, K: Place, O: Shows, M: Shows>(
 ) -> Ran<W>
     requires before { W.files world ≡ K.before }
     requires name { name ≡ K.name }
-    ensures { (script : Option Script) (ss : List Said) → DescribesFrozen W.Reader.script frozen.old script
-        → map (source_of W.Reader.script) sources.old ≡ map Some ss
+    ensures { (files : Files) (input : Script) (names : List (List ℕ)) (script : Option Script) (ss : List Said)
+        → map (named_of W.Reader.script) sources.old ≡ named_in files input names
+        → DescribesFrozen W.Reader.script frozen.old script → ExtendFiles files input names ss
         → RanBy K.name (defined options script ss) result.ending
         (seen O.contents M.contents M.failures out.old out.new messages.old messages.new K.before (W.files result.world)) }
 {

@@ -2,9 +2,9 @@
 
 ghost use Rattle.std.specs.Prelude.{◌≡◌, [], Some, IfOk, false, map, string_bytes};
 ghost use Rattle.m4_state.specs.Device.{Script};
-ghost use Rattle.m4_engine.specs.RunSources.{source_of};
 ghost use Rattle.m4_tool.specs.World.{Files};
-ghost use Rattle.m4_tool.specs.Line.{input_after, source_at, sources_in, words_of};
+ghost use Rattle.m4_tool.specs.Line.{input_after, words_of};
+ghost use Rattle.m4_tool.specs.LineRun.{named_at, named_in, named_of};
 
 use crate::sources::{INPUT, source_name};
 use crate::world::World;
@@ -19,7 +19,7 @@ pub fn sources_of<W: World>(
 ) -> Result<Vec<Source<W::Reader>>, AllocError>
     ensures sources { IfOk result (λ all. (fs : Files) (input : Script) → W.making world.old ≡ false
         → W.files world.old ≡ Some fs → W.input world.old ≡ Some input
-        → map (source_of W.Reader.script) all.items ≡ sources_in fs input (words_of (map string_bytes files.now))) }
+        → map (named_of W.Reader.script) all.items ≡ named_in fs input (words_of (map string_bytes files.now))) }
     ensures files { W.files world.new ≡ W.files world.old }
 {
     if files.is_empty() {
@@ -32,7 +32,7 @@ pub fn sources_of<W: World>(
 fn input_alone<W: World>(alloc: Global, world: &mut W) -> Result<Vec<Source<W::Reader>>, AllocError>
     ensures sources { IfOk result (λ all. (fs : Files) (input : Script) → W.making world.old ≡ false
         → W.files world.old ≡ Some fs → W.input world.old ≡ Some input
-        → map (source_of W.Reader.script) all.items ≡ sources_in fs input (words_of [])) }
+        → map (named_of W.Reader.script) all.items ≡ named_in fs input (words_of [])) }
     ensures files { W.files world.new ≡ W.files world.old }
 {
     let mut sources = Vec::new(alloc);
@@ -49,7 +49,7 @@ fn files_of<W: World>(
 ) -> Result<Vec<Source<W::Reader>>, AllocError>
     ensures sources { IfOk result (λ all. (fs : Files) (input : Script) → W.making world.old ≡ false
         → W.files world.old ≡ Some fs → W.input world.old ≡ Some input
-        → map (source_of W.Reader.script) all.items ≡ sources_in fs input (map string_bytes files.now)) }
+        → map (named_of W.Reader.script) all.items ≡ named_in fs input (map string_bytes files.now)) }
     ensures files { W.files world.new ≡ W.files world.old }
 {
     let mut sources = Vec::new(alloc);
@@ -68,7 +68,7 @@ fn opened<W: World>(
 ) -> Result<Source<W::Reader>, AllocError>
     ensures source { IfOk result (λ s. (fs : Files) (input : Script) → W.making world.old ≡ false
         → W.files world.old ≡ Some fs → W.input world.old ≡ Some input
-        → source_of W.Reader.script s ≡ source_at fs input file.now) }
+        → named_of W.Reader.script s ≡ named_at fs input file.now) }
     ensures input { IfOk result (λ s. (input : Script) → W.input world.old ≡ Some input
         → W.input world.new ≡ Some (input_after input file.now)) }
     ensures making { W.making world.new ≡ W.making world.old }

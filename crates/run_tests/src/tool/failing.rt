@@ -1,5 +1,6 @@
-//! Lines that are followed in a world in memory where a writer fails. The expected results were worked out by
-//! hand.
+//! Lines that are followed in a world in memory where a reader or a writer fails. The expected results were
+//! worked out by hand: if a reader fails, the output is at least what is written before the source is read, and
+//! at most what every run writes whose source begins with the bytes of that reader.
 
 ghost use Rattle.std.specs.Prelude.{None};
 
@@ -13,6 +14,71 @@ use m4_tool::line::read_line;
 use m4_tool::mem_world::MemWorld;
 use m4_tool::world::Shows;
 use std::test::Fail;
+
+// The words of a line, standard input, which fails after these bytes, and the status, the least and the
+// most output, and the messages.
+static READERS: [(&[&str], &[u8], u8, &str, &str, &str); 11] = [
+    (
+        &["m4r", "torn", "a"],
+        b"",
+        1,
+        "",
+        "hi\nx",
+        "m4: read fault\n",
+    ),
+    (
+        &["m4r", "a", "torn", "c"],
+        b"",
+        1,
+        "hi\n",
+        "hi\nhi\nx",
+        "m4: read fault\n",
+    ),
+    (
+        &["m4r", "b", "lost", "c"],
+        b"",
+        1,
+        "y\n",
+        "y\n",
+        "m4: read fault\n",
+    ),
+    (
+        &["m4r", "none", "a", "lost"],
+        b"",
+        1,
+        "hi\n",
+        "hi\n",
+        "m4: cannot open `none'\nm4: read fault\n",
+    ),
+    (
+        &["m4r", "-R", "empty", "-F", "s", "lost"],
+        b"",
+        1,
+        "",
+        "",
+        "m4: read fault\n",
+    ),
+    (&["m4r", "quit", "torn"], b"", 3, "", "", ""),
+    (&["m4r", "-F", "s", "quit", "lost"], b"", 3, "", "", ""),
+    (&["m4r"], b"in\n", 1, "", "in\n", "m4: read fault\n"),
+    (
+        &["m4r", "a", "-", "c"],
+        b"in\n",
+        1,
+        "hi\n",
+        "hi\nin\n",
+        "m4: read fault\n",
+    ),
+    (
+        &["m4r", "-", "-"],
+        b"in\n",
+        1,
+        "",
+        "in\n",
+        "m4: read fault\n",
+    ),
+    (&["m4r", "quit", "-"], b"in\n", 3, "", "", ""),
+];
 
 // A writer that can't be flushed.
 #[derive(Drop)]
@@ -109,6 +175,28 @@ static FLUSHES: [(&[&str], u8, &str, &str); 8] = [
     ),
     (&["m4r", "--canon=none"], 1, "", "m4: cannot open `none'\n"),
 ];
+
+#[test]
+fn readers_fail(rt: HostRuntime) -> Result<(), Fail> {
+    for (words, input, status, least, most, messages) in &READERS {
+        let Ok(line) = read_line(rt.alloc(), words) else {
+            return Err(Fail::from("a line that is refused"));
+        };
+        let mut out = MemSink::new(rt.alloc(), 1000, 7)?;
+        let mut reported = MemSink::new(rt.alloc(), 1000, 7)?;
+        let mut world = MemWorld::new(rt.alloc(), &FILES, input, true);
+        world.fail_input();
+        let followed = follow(rt.alloc(), &line, world, &mut out, &mut reported);
+        let row = words.last().copied().unwrap_or("");
+        assert!(&rt; followed.status == *status, "{row}");
+        assert!(&rt; followed.world.made().is_none(), "{row}");
+        shows(&rt, row, messages, text_of(reported.written()));
+        let output = text_of(out.written());
+        assert!(&rt; output.starts_with(least), "{row}: {output:?}");
+        assert!(&rt; most.starts_with(output), "{row}: {output:?}");
+    }
+    Ok(())
+}
 
 #[test]
 fn writers_fail(rt: HostRuntime) -> Result<(), Fail> {

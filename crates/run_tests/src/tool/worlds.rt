@@ -12,7 +12,7 @@ use std::process::Abort;
 use std::test::Fail;
 
 /// The files of all rows: the name, the bytes, and whether the reader fails after them.
-pub static FILES: [Given<'static>; 12] = [
+pub static FILES: [Given<'static>; 11] = [
     Given {
         name: b"a",
         bytes: b"hi\n",
@@ -62,11 +62,6 @@ pub static FILES: [Given<'static>; 12] = [
         name: b"quit",
         bytes: b"m4exit(`3')\n",
         fails: false,
-    },
-    Given {
-        name: b"leave",
-        bytes: b"hi\nm4exit(`2')\nx",
-        fails: true,
     },
     Given {
         name: b"issues",

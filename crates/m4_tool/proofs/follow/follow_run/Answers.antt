@@ -1,9 +1,9 @@
 -- The start of the run is that of the line.
 use Rattle.std.proofs.Common.{refl, None, Some, ap, ◌∙◌, sym, List, ℕ}
-use Rattle.std.specs.Prelude.{map, option_map, string_bytes, unwrap_or, []}
+use Rattle.std.specs.Prelude.{option_map, string_bytes, unwrap_or, []}
 use Rattle.m4_engine.specs.Run.{run}
-use Rattle.m4_tool.specs.Line.{all_of, result_of_run, sources_in, unreloaded, words_of}
-use Rattle.m4_tool.proofs.OpenedFiles.{comes_fresh, thawed_at, reloads_so, missing_so}
+use Rattle.m4_tool.specs.Line.{result_of_run, unreloaded}
+use Rattle.m4_tool.proofs.OpenedFiles.{fresh_result, thawed_at, reloads_so, missing_so}
 use Rattle.m4_tool.proofs.LineEnds.{ends_as}
 use Rattle.m4_tool.proofs.follow.follow_run.Goals as goal
 
@@ -11,10 +11,10 @@ pub returns-in-None-clause-follows : goal.returns-in-None-clause-follows
 returns-in-None-clause-follows g c = λ files input r m f i l.
     let line = c.args.line.now in
     let file = unwrap_or (option_map string_bytes line.reload) [] in
-    let k = comes_fresh files (option_map string_bytes line.reload) line.options file (sources_in files input (words_of (map string_bytes line.files.items))) r (ap (option_map string_bytes) c.in-None.is) l in
+    let k = fresh_result files (option_map string_bytes line.reload) line.options file l.0 r (ap (option_map string_bytes) c.in-None.is) l.2 in
     let e = sym (ap (λ o. unwrap_or (option_map string_bytes o) []) c.in-None.is) in
-    ends_as c.follow_from.result.failure (unwrap_or (option_map string_bytes line.freeze) []) [] file (result_of_run [] (run line.options None k.ss)) r c.follow_from.result.status _ e
-    (ap (λ (x : List ℕ). result_of_run x (run line.options None k.ss)) e ∙ k.result) (c.follow_from.ensures.ends files input None k.ss m f i refl k.are)
+    ends_as c.follow_from.result.failure (unwrap_or (option_map string_bytes line.freeze) []) [] file (result_of_run [] (run line.options None l.0)) r c.follow_from.result.status _ e
+    (ap (λ (x : List ℕ). result_of_run x (run line.options None l.0)) e ∙ k) (c.follow_from.ensures.ends files input None l.0 m f i refl l.1)
 
 pub returns-in-Some-open-clause-follows : goal.returns-in-Some-open-clause-follows
 returns-in-Some-open-clause-follows g c = λ files input r m f i l.
@@ -23,11 +23,10 @@ returns-in-Some-open-clause-follows g c = λ files input r m f i l.
     let file = unwrap_or (option_map string_bytes line.reload) [] in
     let is = c.as_bytes-file.ensures.value ∙ c.as_str.ensures.value in
     let e = is ∙ sym (ap (λ o. unwrap_or (option_map string_bytes o) []) c.in-Some.is) in
-    let sources = sources_in files input (words_of (map string_bytes line.files.items)) in
-    let t = thawed_at files (option_map string_bytes line.reload) given line.options file (all_of sources) r (ap (option_map string_bytes) c.in-Some.is ∙ ap (λ (n : List ℕ). Some n) (sym is)) l in
-    let k = reloads_so g.W.Reader.ByteSource.script c.in-Some-open.reader given (files given) line.options file sources r (rw f at (c.in-Some-open.ensures m)) t in
-    ends_as c.follow_from-in-Some-open.result.failure (unwrap_or (option_map string_bytes line.freeze) []) given file (result_of_run given (run line.options k.frozen (k.comes).ss)) r c.follow_from-in-Some-open.result.status _ e
-    (ap (λ (x : List ℕ). result_of_run x (run line.options k.frozen (k.comes).ss)) e ∙ (k.comes).result) (c.follow_from-in-Some-open.ensures.ends files input k.frozen (k.comes).ss m f i k.describes (k.comes).are)
+    let t = thawed_at files (option_map string_bytes line.reload) given line.options file (Some l.0) r (ap (option_map string_bytes) c.in-Some.is ∙ ap (λ (n : List ℕ). Some n) (sym is)) l.2 in
+    let k = reloads_so g.W.Reader.ByteSource.script c.in-Some-open.reader given (files given) line.options file l.0 r (rw f at (c.in-Some-open.ensures m)) t in
+    ends_as c.follow_from-in-Some-open.result.failure (unwrap_or (option_map string_bytes line.freeze) []) given file (result_of_run given (run line.options k.frozen l.0)) r c.follow_from-in-Some-open.result.status _ e
+    (ap (λ (x : List ℕ). result_of_run x (run line.options k.frozen l.0)) e ∙ k.result) (c.follow_from-in-Some-open.ensures.ends files input k.frozen l.0 m f i k.describes l.1)
 
 pub returns-in-None-open-clause-follows : goal.returns-in-None-open-clause-follows
 returns-in-None-open-clause-follows g c = λ files input r m f i l.
@@ -36,9 +35,8 @@ returns-in-None-open-clause-follows g c = λ files input r m f i l.
     let file = unwrap_or (option_map string_bytes line.reload) [] in
     let is = c.as_bytes-file.ensures.value ∙ c.as_str.ensures.value in
     let e = is ∙ sym (ap (λ o. unwrap_or (option_map string_bytes o) []) c.in-Some.is) in
-    let sources = sources_in files input (words_of (map string_bytes line.files.items)) in
-    let t = thawed_at files (option_map string_bytes line.reload) given line.options file (all_of sources) r (ap (option_map string_bytes) c.in-Some.is ∙ ap (λ (n : List ℕ). Some n) (sym is)) l in
-    let k = missing_so given (files given) line.options file (all_of sources) r (rw f at (c.in-None-open.ensures m)) t in
+    let t = thawed_at files (option_map string_bytes line.reload) given line.options file (Some l.0) r (ap (option_map string_bytes) c.in-Some.is ∙ ap (λ (n : List ℕ). Some n) (sym is)) l.2 in
+    let k = missing_so given (files given) line.options file (Some l.0) r (rw f at (c.in-None-open.ensures m)) t in
     let name = unwrap_or (option_map string_bytes line.freeze) [] in
     ends_as c.close_unopened.result.failure name given file (unreloaded given) r c.close_unopened.result.status _ e k
     (c.close_unopened.ensures.ends name)

@@ -1,6 +1,7 @@
 -- The sources are those of the line, and the late file has the line's name.
 use Rattle.std.proofs.Common.{ap, ◌∙◌}
-use Rattle.std.specs.Prelude.{option_map, string_bytes, unwrap_or, []}
+use Rattle.std.specs.Prelude.{map, option_map, string_bytes, unwrap_or, []}
+use Rattle.m4_tool.specs.Line.{words_of}
 use Rattle.m4_engine.specs.Run.{run as defined}
 use Rattle.m4_tool.proofs.RanFiles.{not_begun, ran_as}
 use Rattle.m4_tool.proofs.follow.running.run_line.Goals as goal
@@ -20,4 +21,5 @@ returns g c = λ files input script ss m f i t e.
     (g.M.ByteSink.failures c.args.messages.now) (g.M.ByteSink.failures c.run_late.new.messages)
     (g.W.World.files c.sources_of.new.world) (g.W.World.files c.args.world) (g.W.World.files c.run_late.result.world)
     c.in-Ok-name_of.ensures c.sources_of.ensures.files
-    (c.run_late.ensures script ss t (rw c.deref_mut.ensures.value (c.in-Ok.ensures.sources files input m f i ∙ (rw c.as_slice.ensures.value e))))
+    (c.run_late.ensures files input (words_of (map string_bytes c.args.line.now.files.items)) script ss
+    (rw c.deref_mut.ensures.value (rw c.as_slice.ensures.value at (c.in-Ok.ensures.sources files input m f i))) t e)

@@ -1,0 +1,11 @@
+-- A line without a mode is followed as a run. Its result is one that it may give.
+use Rattle.m4_tool.specs.Line.{request_of}
+use Rattle.m4_tool.proofs.ExtendedFiles.{line_given}
+use Rattle.m4_tool.proofs.follow.follow.Goals as goal
+
+pub returns-clause-runs : goal.returns-clause-runs
+returns-clause-runs g c = λ files input r a b m f i e.
+    c.follow_run.ensures.follows files input r m f i (line_given (request_of c.args.line.now) files input r e)
+
+pub returns-clause-extends : goal.returns-clause-extends
+returns-clause-extends g c = λ files input r a b m f i e. c.follow_run.ensures.follows files input r m f i e
