@@ -23,7 +23,7 @@ use Rattle.m4_tool.specs.declared.followed.Failure.TheVariants as failures
 use Rattle.m4_tool.specs.RunEnd.{last_status, refused_line}
 use Rattle.m4_tool.specs.World.{Files, made_file}
 use Rattle.m4_tool.specs.Line.{AsDefined, BrokeOff, EndsBy, FilesBy, HasPrefix, LineResult, Reports, Seen, added_lines, failure_by, failure_of, frozen_failure, last_lines, refusals, refusals_by, result_of_run, unreloaded}
-use Rattle.m4_tool.specs.LineRun.{Closes, CountedBy, Ran, RanFiles}
+use Rattle.m4_tool.specs.LineRun.{Closes, CountedBy, Ran, RanFiles, failure_after}
 
 -- lines that were added one list after the other
 pub reports-append : (xs ys : List (List ℕ)) (a b c : Option (List ℕ)) (f g h : ℕ) → Reports xs a b f g → Reports ys b c g h → Reports (xs ++ ys) a c f h
@@ -197,6 +197,7 @@ kept_files c b f name text old new e d h = h
 files_fail : (f : Failure) (c : Cause) (b : Bool) (name text : List ℕ) (old new : Option Files) → failure_of c b ≡ Some f → RanFiles c name text old new → FilesBy f name text old new
 files_fail failures.Write c b name text old new e h = some_files c name text old new h
 files_fail failures.Read c b name text old new e h = kept_files c b failures.Read name text old new e (λ k. cc) h
+files_fail failures.Report c b name text old new e h = kept_files c b failures.Report name text old new e (λ k. cc) h
 files_fail failures.OutOfMemory c b name text old new e h = kept_files c b failures.OutOfMemory name text old new e (λ k. cc) h
 
 counted_some : (c : Cause) (f g : ℕ) → CountedBy c f g → (g ≡ f) ⊎ (g ≡ one_more f)
@@ -271,28 +272,79 @@ broke_off name file r c b f s x m o0 o1 o2 m0 m1 m2 f0 f1 f2 w0 w1 w2 status n g
   files = files_fail f c b name (unwrap_or r.frozen []) w0 w2 n (subst (λ (v : Option Files). RanFiles c name (unwrap_or r.frozen []) w0 v) (sym q) h);
 }
 
+-- a flush and the end of a run don't fail as a report does
+no_report_by : (c : Cause) → failure_by c ≡ Some failures.Report → ⊥
+no_report_by causes.Read e = absurd cc
+no_report_by causes.Write e = absurd cc
+no_report_by causes.OutOfMemory e = absurd cc
+no_report_by (causes.Frozen f) e = absurd cc
+no_report_by causes.Done e = absurd cc
+no_report_by (causes.Exited code) e = absurd cc
+no_report_by causes.EndInString e = absurd cc
+no_report_by causes.EndInComment e = absurd cc
+no_report_by causes.EndInArguments e = absurd cc
+no_report_by causes.ExpansionLimit e = absurd cc
+no_report_by causes.NestingLimit e = absurd cc
+
+no_report_frozen : (k : FrozenKind) → frozen_failure k ≡ Some failures.Report → ⊥
+no_report_frozen kinds.OutOfMemory e = absurd cc
+no_report_frozen kinds.NoVersion e = absurd cc
+no_report_frozen kinds.Newer e = absurd cc
+no_report_frozen kinds.VersionZero e = absurd cc
+no_report_frozen kinds.SecondVersion e = absurd cc
+no_report_frozen kinds.UnknownDirective e = absurd cc
+no_report_frozen kinds.DigitExpected e = absurd cc
+no_report_frozen kinds.NumberTooLarge e = absurd cc
+no_report_frozen kinds.SeparatorExpected e = absurd cc
+no_report_frozen kinds.PrematureEnd e = absurd cc
+no_report_frozen kinds.Read e = absurd cc
+
+or_write : (o : Option Failure) → (o ≡ Some failures.Report → ⊥) → Some (unwrap_or o failures.Write) ≡ Some failures.Report → ⊥
+or_write None h e = absurd cc
+or_write (Some f) h e = h e
+
+no_report : (c : Cause) (b : Bool) → failure_of c b ≡ Some failures.Report → ⊥
+no_report (causes.Frozen f) true e = no_report_frozen f.kind e
+no_report (causes.Frozen f) false e = absurd cc
+no_report c true e = no_report_by c e
+no_report c false e = or_write (failure_by c) (no_report_by c) e
+
 ends_by : (failure : Option Failure) (name file : List ℕ) (r : RunResult) (c : Cause) (b : Bool) (s : ℕ) (x m : Bool) (o0 o1 o2 m0 m1 m2 : Option (List ℕ)) (f0 f1 f2 : ℕ) (w0 w1 w2 : Option Files) (status : ℕ)
     → FreezesAtEnd r → failure ≡ failure_of c b → GivesBy c r (record { status = s; cause = c; wrapped = x }) (writers o0 o1 m0 m1) → CountedBy c f0 f1 → s ≡ status_of (Ends c) m → RanFiles c name (unwrap_or r.frozen []) w0 w1
     → status ≡ last_status (record { status = s; cause = c; wrapped = x }) b → o2 ≡ o1 → Reports (added_lines file c b) m1 m2 f1 f2 → w2 ≡ w1
     → EndsBy failure name file (result_of_run file r) status (seen_from o0 o2 m0 m2 f0 f2 w0 w2)
 ends_by None name file r c b s x m o0 o1 o2 m0 m1 m2 f0 f1 f2 w0 w1 w2 status z n g k t h l o p q =
     as_defined name file r c b s x o0 o1 o2 m0 m1 m2 f0 f1 f2 w0 w1 w2 status z (sym n) (wrote_all c b r (record { status = s; cause = c; wrapped = x }) (writers o0 o1 m0 m1) (sym n) g) k h l o p q
-ends_by (Some f) name file r c b s x m o0 o1 o2 m0 m1 m2 f0 f1 f2 w0 w1 w2 status z n g k t h l o p q =
-    broke_off name file r c b f s x m o0 o1 o2 m0 m1 m2 f0 f1 f2 w0 w1 w2 status (sym n) (prefixes c r (record { status = s; cause = c; wrapped = x }) (writers o0 o1 m0 m1) g) k t h l o p q
+ends_by (Some failures.Report) name file r c b s x m o0 o1 o2 m0 m1 m2 f0 f1 f2 w0 w1 w2 status z n g k t h l o p q =
+    absurd (no_report c b (sym n))
+ends_by (Some failures.Read) name file r c b s x m o0 o1 o2 m0 m1 m2 f0 f1 f2 w0 w1 w2 status z n g k t h l o p q =
+    broke_off name file r c b failures.Read s x m o0 o1 o2 m0 m1 m2 f0 f1 f2 w0 w1 w2 status (sym n) (prefixes c r (record { status = s; cause = c; wrapped = x }) (writers o0 o1 m0 m1) g) k t h l o p q
+ends_by (Some failures.Write) name file r c b s x m o0 o1 o2 m0 m1 m2 f0 f1 f2 w0 w1 w2 status z n g k t h l o p q =
+    broke_off name file r c b failures.Write s x m o0 o1 o2 m0 m1 m2 f0 f1 f2 w0 w1 w2 status (sym n) (prefixes c r (record { status = s; cause = c; wrapped = x }) (writers o0 o1 m0 m1) g) k t h l o p q
+ends_by (Some failures.OutOfMemory) name file r c b s x m o0 o1 o2 m0 m1 m2 f0 f1 f2 w0 w1 w2 status z n g k t h l o p q =
+    broke_off name file r c b failures.OutOfMemory s x m o0 o1 o2 m0 m1 m2 f0 f1 f2 w0 w1 w2 status (sym n) (prefixes c r (record { status = s; cause = c; wrapped = x }) (writers o0 o1 m0 m1) g) k t h l o p q
+
+-- the same if a line for a refused file could not be written
+after_report : (failure : Option Failure) (is_reported : Bool) (name file : List ℕ) (r : LineResult) (status : ℕ) (w : Seen) → EndsBy failure name file r status w → EndsBy (failure_after failure is_reported) name file r status w
+after_report None true name file r status w h = h
+after_report None false name file r status w h = h
+after_report (Some f) b name file r status w h = h
 
 -- a run that ended and was reported is the line's
 pub ended : (failure : Option Failure) (name file : List ℕ) (r : RunResult) (e : Ending) (o0 o1 o2 m0 m1 m2 : Option (List ℕ)) (f0 f1 f2 : ℕ) (w0 w1 w2 : Option Files) (status : ℕ)
     → FreezesAtEnd r → Ran name r e (seen_from o0 o1 m0 m1 f0 f1 w0 w1) → Closes file e status failure (seen_from o1 o2 m1 m2 f1 f2 w1 w2)
     → EndsBy failure name file (result_of_run file r) status (seen_from o0 o2 m0 m2 f0 f2 w0 w2)
 ended failure name file r e o0 o1 o2 m0 m1 m2 f0 f1 f2 w0 w1 w2 status z a d =
-    ends_by failure name file r e.cause d.flushed e.status e.wrapped a.any_missing o0 o1 o2 m0 m1 m2 f0 f1 f2 w0 w1 w2 status z d.failed a.gives a.counted a.is_status a.files d.is_status d.output d.reports d.files
+    let h = ends_by (failure_of e.cause d.flushed) name file r e.cause d.flushed e.status e.wrapped a.any_missing o0 o1 o2 m0 m1 m2 f0 f1 f2 w0 w1 w2 status z refl a.gives a.counted a.is_status a.files d.is_status d.output d.reports d.files in
+    subst (λ (x : Option Failure). EndsBy x name file (result_of_run file r) status (seen_from o0 o2 m0 m2 f0 f2 w0 w2)) (sym d.failed)
+    (after_report (failure_of e.cause d.flushed) d.is_reported name file (result_of_run file r) status (seen_from o0 o2 m0 m2 f0 f2 w0 w2) h)
 
--- the line of a frozen file that was refused
-pub refusal_reported : (cause : Cause) (fault : FrozenFault) (file : List ℕ) (r : Result (Unit {0}) DeviceFault) (old new : Option (List ℕ)) (f g : ℕ)
-    → cause ≡ causes.Frozen fault → Puts r old new (refused_line file cause) → g ≡ count_after r f → Reports (refusals file cause) old new f g
-refusal_reported cause fault file r old new f g is p n =
-    subst (λ (c : Cause). Puts r old new (refused_line file c) → Reports (refusals file c) old new f g) (sym is)
-    (λ q. (new, g, record { put = r; puts = q; counted = n }, (refl, refl))) p
+-- the line of a frozen file that was refused, and then a flush
+pub refusal_reported : (cause : Cause) (fault : FrozenFault) (file : List ℕ) (r : Result (Unit {0}) DeviceFault) (old mid new : Option (List ℕ)) (f g h : ℕ)
+    → cause ≡ causes.Frozen fault → Puts r old mid (refused_line file cause) → g ≡ count_after r f → new ≡ mid → h ≡ g → Reports (refusals file cause) old new f h
+refusal_reported cause fault file r old mid new f g h is p n k l =
+    subst (λ (c : Cause). Puts r old mid (refused_line file c) → Reports (refusals file c) old new f h) (sym is)
+    (λ q. (mid, g, record { put = r; puts = q; counted = n }, (k, l))) p
 
 -- the last line
 pub last_reported : (fault : Option (List ℕ)) (text : List ℕ) (old new : Option (List ℕ)) (f g : ℕ) → Some text ≡ fault
@@ -307,10 +359,10 @@ pub ends_as : (failure : Option Failure) (name file file' : List ℕ) (r r' : Li
 ends_as failure name file file' r r' status w e k h =
     subst (λ (x : LineResult). EndsBy failure name file' x status w) k (subst (λ (x : List ℕ). EndsBy failure name x r status w) e h)
 
--- lines before a flush, and lines after it
-pub reports_around : (xs ys : List (List ℕ)) (a b b' c : Option (List ℕ)) (f g g' h : ℕ) → Reports xs a b f g → b' ≡ b → g' ≡ g → Reports ys b' c g' h → Reports (xs ++ ys) a c f h
-reports_around xs ys a b b' c f g g' h p k l q =
-    reports-append xs ys a b c f g h p (subst (λ (n : ℕ). Reports ys b c n h) l (subst (λ (o : Option (List ℕ)). Reports ys o c g' h) k q))
+-- lines after a flush
+pub reports_after : (xs ys : List (List ℕ)) (a a' b c : Option (List ℕ)) (f f' g h : ℕ) → a' ≡ a → f' ≡ f → Reports xs a' b f' g → Reports ys b c g h → Reports (xs ++ ys) a c f h
+reports_after xs ys a a' b c f f' g h k l p q =
+    subst (λ (n : ℕ). Reports (xs ++ ys) a c n h) l (subst (λ (o : Option (List ℕ)). Reports (xs ++ ys) o c f' h) k (reports-append xs ys a' b c f' g h p q))
 
 -- a line whose frozen file can't be opened, as a run
 abbrev missed_run : List ℕ → RunResult

@@ -236,6 +236,7 @@ pub record BrokeOff (name file : List ℕ) (r : LineResult) (status : ℕ) (fail
 
 abbrev pub EndsBy : Option Failure → List ℕ → List ℕ → LineResult → ℕ → Seen → Type 0
 EndsBy None name file r status w = AsDefined name r status w
+EndsBy (Some failures.Report) name file r status w = AsDefined name r status w
 EndsBy (Some failure) name file r status w = BrokeOff name file r status failure w
 
 -- a line whose result is r was followed

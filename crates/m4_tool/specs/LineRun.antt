@@ -1,7 +1,7 @@
 -- LineRun: what the steps of following a line pass to one another.
 -- Not believed: `follow` is stated with the words of Line only, and proved through these.
 -- Words: seen, named_of, named_in, RanFiles, CountedBy, Ran, Closes, ModeCloses.
-use Rattle.std.specs.Prelude.{◌≡◌, ◌⊎◌, ℕ, Bool, List, [], ◌∷◌, Option, Some, None, unwrap_or, option_map}
+use Rattle.std.specs.Prelude.{◌≡◌, ◌⊎◌, ℕ, Bool, false, List, [], ◌∷◌, Option, Some, None, unwrap_or, option_map}
 use Rattle.m4_state.specs.Device.{Script, one_more}
 use Rattle.m4_engine.specs.declared.ending.Cause.{Cause}
 use Rattle.m4_engine.specs.declared.ending.Cause.TheVariants as causes
@@ -13,6 +13,7 @@ use Rattle.m4_engine.specs.Run.{RunResult, status_of}
 use Rattle.m4_engine.specs.Writers.{writers}
 use Rattle.m4_engine.specs.WholeRun.{GivesBy}
 use Rattle.m4_tool.specs.declared.followed.Failure.{Failure}
+use Rattle.m4_tool.specs.declared.followed.Failure.TheVariants as failures
 use Rattle.m4_tool.specs.RunEnd.{last_status, source_name}
 use Rattle.m4_tool.specs.LineMode.{closed_lines, closed_status}
 use Rattle.m4_tool.specs.World.{Files, made_file}
@@ -67,11 +68,17 @@ pub record Ran (name : List ℕ) (r : RunResult) (e : Ending) (w : Seen) : Type 
   pub is_status : e.status ≡ status_of (Ends e.cause) any_missing
   pub files : RanFiles e.cause name (unwrap_or r.frozen []) w.files_old w.files_new
 
+-- what failed, by whether the line for a refused file was written and flushed
+abbrev pub failure_after : Option Failure → Bool → Option Failure
+failure_after None false = Some failures.Report
+failure_after failure is_reported = failure
+
 -- a run that ended was reported
 pub record Closes (file : List ℕ) (e : Ending) (status : ℕ) (failure : Option Failure) (w : Seen) : Type 0 where
   pub flushed : Bool
   pub is_status : status ≡ last_status e flushed
-  pub failed : failure ≡ failure_of e.cause flushed
+  pub is_reported : Bool
+  pub failed : failure ≡ failure_after (failure_of e.cause flushed) is_reported
   pub output : w.out_new ≡ w.out_old
   pub reports : Reports (added_lines file e.cause flushed) w.messages_old w.messages_new w.failures_old w.failures_new
   pub files : w.files_new ≡ w.files_old

@@ -9,6 +9,8 @@ pub enum Failure {
     Write,
     /// An allocation failed.
     OutOfMemory,
+    /// The line for a frozen file that was refused could not be written or flushed. Nothing else failed.
+    Report,
 }
 
 /// The end of a line, with the world after it.

@@ -5,7 +5,7 @@ ghost use Rattle.m4_state.specs.Device.{Puts, count_after, joined};
 ghost use Rattle.m4_engine.specs.File.{cannot_open};
 ghost use Rattle.m4_tool.specs.RunEnd.{last_fault, last_status};
 ghost use Rattle.m4_tool.specs.Line.{EndsBy, Reports, failure_of, last_lines, refusals, unreloaded};
-ghost use Rattle.m4_tool.specs.LineRun.{Closes, ModeCloses, seen};
+ghost use Rattle.m4_tool.specs.LineRun.{Closes, ModeCloses, failure_after, seen};
 
 use crate::endings::{last_fault, put_refused};
 use crate::followed::{Failure, Followed};
@@ -18,9 +18,8 @@ use m4_state::transfer::write_pieces;
 /// The status of a run that did not do the work of its line.
 pub const FAILED: u8 = 1;
 
-/// Reports a frozen file that was refused, flushes everything after a run, and then reports what is not
-/// reported yet. `file` is the name of the run's frozen file. If the last report can't be written, only the
-/// status shows it.
+/// Flushes everything after a run, and reports what the run has not reported itself. `file` is the name of
+/// its frozen file. If a report can't be written, only the status shows it.
 pub fn close<W: World, O: Shows, M: Shows>(
     ending: Ending,
     file: &[u8],
@@ -35,13 +34,12 @@ pub fn close<W: World, O: Shows, M: Shows>(
     ensures kept { result.failure ≡ None → W.kept result.world ≡ W.files result.world }
 {
     let mut world = world;
+    let flushed = flush_all(&mut world, out, messages);
     let is_reported = report_refusal(ending.cause, file, messages);
-    let is_flushed = flush_all(&mut world, out, messages);
-    let flushed = is_reported && is_flushed;
     report_last(ending.cause, flushed, messages);
     Followed {
         status: last_status(ending, flushed),
-        failure: failure_of(ending.cause, flushed),
+        failure: failure_after(failure_of(ending.cause, flushed), is_reported),
         world,
     }
 }
@@ -62,13 +60,18 @@ fn flush_all<W: World, O: Shows, M: Shows>(world: &mut W, out: &mut O, messages:
     output && others && file
 }
 
-/// Reports a frozen file that was refused. Returns whether that could be written.
+/// Reports a frozen file that was refused. Returns whether that could be written and flushed.
 fn report_refusal<M: Shows>(cause: Cause, file: &[u8], messages: &mut M) -> bool
     ensures reports { Reports (refusals file.now cause) (M.contents messages.old) (M.contents messages.new)
         (M.failures messages.old) (M.failures messages.new) }
+    ensures shown { result ≡ true → M.shown messages.old ≡ M.contents messages.old → M.shown messages.new ≡ M.contents messages.new }
 {
     match cause {
-        Cause::Frozen(_) => put_refused(cause, file, messages).is_ok(),
+        Cause::Frozen(_) => {
+            let put = put_refused(cause, file, messages);
+            let shown = messages.flush();
+            put.is_ok() && shown.is_ok()
+        }
         _ => true,
     }
 }
@@ -115,6 +118,16 @@ fn failure_of(cause: Cause, flushed: bool) -> Option<Failure>
         _ if !flushed => Some(Failure::Write),
         Cause::Frozen(fault) if fault.kind == FrozenKind::OutOfMemory => Some(Failure::OutOfMemory),
         _ => None,
+    }
+}
+
+/// Returns what failed, if the line for a refused file was reported or not.
+fn failure_after(failure: Option<Failure>, is_reported: bool) -> Option<Failure>
+    ensures { result ≡ failure_after failure is_reported }
+{
+    match failure {
+        None if !is_reported => Some(Failure::Report),
+        failure => failure,
     }
 }
 

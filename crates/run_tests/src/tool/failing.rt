@@ -106,7 +106,7 @@ impl Shows for Unflushed {
 
 // The words of a line, the room of the output and of the messages, and the status, the output and the
 // messages.
-static WRITERS: [(&[&str], usize, usize, u8, &str, &str); 9] = [
+static WRITERS: [(&[&str], usize, usize, u8, &str, &str); 10] = [
     (&["m4r", "a", "c"], 4, 99, 1, "hi\nx", "m4: write fault\n"),
     (
         &["m4r", "none", "a"],
@@ -119,6 +119,7 @@ static WRITERS: [(&[&str], usize, usize, u8, &str, &str); 9] = [
     (&["m4r", "none", "a"], 99, 5, 1, "", "m4: c"),
     (&["m4r", "-R", "none", "a"], 99, 5, 1, "", "m4: c"),
     (&["m4r", "-R", "bad", "a"], 99, 5, 1, "", "m4: b"),
+    (&["m4r", "-R", "newer", "a"], 99, 5, 63, "", "m4: n"),
     (
         &["m4r", "--canon=empty"],
         4,

@@ -1,16 +1,19 @@
--- What is reported before the last flushes and after them is the line's.
+-- What is reported after the last flushes is the line's.
+use Rattle.std.proofs.Common.{ap, ◌∙◌}
 use Rattle.m4_tool.specs.RunEnd.{last_fault}
 use Rattle.m4_tool.specs.Line.{last_lines, refusals}
-use Rattle.m4_tool.proofs.LineEnds.{reports_around}
+use Rattle.m4_tool.specs.LineRun.{failure_after}
+use Rattle.m4_tool.proofs.LineEnds.{reports_after}
 use Rattle.m4_tool.proofs.follow.closing.close.Goals as goal
 
 pub returns-clause-closes : goal.returns-clause-closes
 returns-clause-closes g c = record {
-  flushed = c.if-is_reported.flushed;
+  flushed = c.flush_all-flushed.result;
   is_status = c.last_status.ensures;
-  failed = c.failure_of.ensures;
-  output = c.flush_all-is_flushed.ensures.output;
-  reports = reports_around (refusals c.args.file.now c.args.ending.cause) (last_lines (last_fault c.args.ending.cause c.if-is_reported.flushed)) _ _ _ _ _ _ _ _
-      c.report_refusal-is_reported.ensures.reports c.flush_all-is_flushed.ensures.messages c.flush_all-is_flushed.ensures.failures c.report_last.ensures.reports;
-  files = c.flush_all-is_flushed.ensures.files;
+  is_reported = c.report_refusal-is_reported.result;
+  failed = c.failure_after.ensures ∙ ap (λ f. failure_after f c.report_refusal-is_reported.result) c.failure_of.ensures;
+  output = c.flush_all-flushed.ensures.output;
+  reports = reports_after (refusals c.args.file.now c.args.ending.cause) (last_lines (last_fault c.args.ending.cause c.flush_all-flushed.result)) _ _ _ _ _ _ _ _
+      c.flush_all-flushed.ensures.messages c.flush_all-flushed.ensures.failures c.report_refusal-is_reported.ensures.reports c.report_last.ensures.reports;
+  files = c.flush_all-flushed.ensures.files;
 }

@@ -2,8 +2,12 @@
 use Rattle.m4_tool.proofs.LineEnds.{refusal_reported}
 use Rattle.m4_tool.proofs.follow.closing.report_refusal.Goals as goal
 
-pub returns-in-Frozen : goal.returns-in-Frozen
-returns-in-Frozen g c = record {
-  reports = refusal_reported c.args.cause c.in-Frozen.field-0 c.args.file.now c.put_refused.result _ _ _ _
-      c.in-Frozen.is c.put_refused.ensures.puts c.put_refused.ensures.counted;
-}
+pub returns-then-is_ok-clause-reports : goal.returns-then-is_ok-clause-reports
+returns-then-is_ok-clause-reports g c =
+    refusal_reported c.args.cause c.in-Frozen.field-0 c.args.file.now c.put_refused-put.result _ _ _ _ _ _
+    c.in-Frozen.is c.put_refused-put.ensures.puts c.put_refused-put.ensures.counted c.flush-shown.ensures.contents c.flush-shown.ensures.failures
+
+pub returns-else-is_ok-clause-reports : goal.returns-else-is_ok-clause-reports
+returns-else-is_ok-clause-reports g c =
+    refusal_reported c.args.cause c.in-Frozen.field-0 c.args.file.now c.put_refused-put.result _ _ _ _ _ _
+    c.in-Frozen.is c.put_refused-put.ensures.puts c.put_refused-put.ensures.counted c.flush-shown.ensures.contents c.flush-shown.ensures.failures
