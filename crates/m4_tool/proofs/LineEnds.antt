@@ -325,10 +325,11 @@ ends_by (Some failures.OutOfMemory) name file r c b s x m o0 o1 o2 m0 m1 m2 f0 f
     broke_off name file r c b failures.OutOfMemory s x m o0 o1 o2 m0 m1 m2 f0 f1 f2 w0 w1 w2 status (sym n) (prefixes c r (record { status = s; cause = c; wrapped = x }) (writers o0 o1 m0 m1) g) k t h l o p q
 
 -- the same if a line for a refused file could not be written
-after_report : (failure : Option Failure) (is_reported : Bool) (name file : List ℕ) (r : LineResult) (status : ℕ) (w : Seen) → EndsBy failure name file r status w → EndsBy (failure_after failure is_reported) name file r status w
-after_report None true name file r status w h = h
-after_report None false name file r status w h = h
-after_report (Some f) b name file r status w h = h
+after_report : (failure : Option Failure) (is_reported : Bool) (name file : List ℕ) (r : LineResult) (status : ℕ) (w : Seen) → EndsBy failure name file r status w
+    → (failure ≡ None → is_reported ≡ false → r.lines ≢ []) → EndsBy (failure_after failure is_reported) name file r status w
+after_report None true name file r status w h k = h
+after_report None false name file r status w h k = (h, k refl refl)
+after_report (Some f) b name file r status w h k = h
 
 -- a run that ended and was reported is the line's
 pub ended : (failure : Option Failure) (name file : List ℕ) (r : RunResult) (e : Ending) (o0 o1 o2 m0 m1 m2 : Option (List ℕ)) (f0 f1 f2 : ℕ) (w0 w1 w2 : Option Files) (status : ℕ)
@@ -337,7 +338,8 @@ pub ended : (failure : Option Failure) (name file : List ℕ) (r : RunResult) (e
 ended failure name file r e o0 o1 o2 m0 m1 m2 f0 f1 f2 w0 w1 w2 status z a d =
     let h = ends_by (failure_of e.cause d.flushed) name file r e.cause d.flushed e.status e.wrapped a.any_missing o0 o1 o2 m0 m1 m2 f0 f1 f2 w0 w1 w2 status z refl a.gives a.counted a.is_status a.files d.is_status d.output d.reports d.files in
     subst (λ (x : Option Failure). EndsBy x name file (result_of_run file r) status (seen_from o0 o2 m0 m2 f0 f2 w0 w2)) (sym d.failed)
-    (after_report (failure_of e.cause d.flushed) d.is_reported name file (result_of_run file r) status (seen_from o0 o2 m0 m2 f0 f2 w0 w2) h)
+    (after_report (failure_of e.cause d.flushed) d.is_reported name file (result_of_run file r) status (seen_from o0 o2 m0 m2 f0 f2 w0 w2) h
+    (λ n x q. d.refused x (ap (refusals_by file) (sym (wrote_all e.cause d.flushed r e (writers o0 o1 m0 m1) n a.gives).reason) ∙ q)))
 
 -- the line of a frozen file that was refused, and then a flush
 pub refusal_reported : (cause : Cause) (fault : FrozenFault) (file : List ℕ) (r : Result (Unit {0}) DeviceFault) (old mid new : Option (List ℕ)) (f g h : ℕ)
@@ -345,6 +347,9 @@ pub refusal_reported : (cause : Cause) (fault : FrozenFault) (file : List ℕ) (
 refusal_reported cause fault file r old mid new f g h is p n k l =
     subst (λ (c : Cause). Puts r old mid (refused_line file c) → Reports (refusals file c) old new f h) (sym is)
     (λ q. (mid, g, record { put = r; puts = q; counted = n }, (k, l))) p
+
+pub some_refused : (cause : Cause) (fault : FrozenFault) (file : List ℕ) → cause ≡ causes.Frozen fault → refusals file cause ≢ []
+some_refused cause fault file is = subst (λ (c : Cause). refusals file c ≢ []) (sym is) (λ q. cc)
 
 -- the last line
 pub last_reported : (fault : Option (List ℕ)) (text : List ℕ) (old new : Option (List ℕ)) (f g : ℕ) → Some text ≡ fault

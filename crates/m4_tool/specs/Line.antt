@@ -2,7 +2,7 @@
 -- Believed. Manual: "Invoking m4", "Command line files", "Fast loading of frozen state".
 -- Words: Request, request_of, sources_in, LineResult, line, ExtendFiles, MayGive, Reports, failure_of, AsDefined, BrokeOff, Follows.
 -- own: a frozen file that can't be opened is the only work of its line; standard input is read once.
-use Rattle.std.specs.Prelude.{◌≡◌, ◌⊎◌, ℕ, Bool, true, false, List, [], ◌∷◌, ◌++◌, map, Option, Some, None, Result}
+use Rattle.std.specs.Prelude.{◌≡◌, ◌≢◌, ◌⊎◌, ℕ, Bool, true, false, List, [], ◌∷◌, ◌++◌, map, Option, Some, None, Result}
 use Rattle.std.specs.Prelude.{option_map, unwrap_or, codes, string_bytes, if◌then◌else◌}
 use Rattle.std.specs.Str.{bytes_eq}
 use Rattle.m4_state.specs.Device.{Script, with_bytes, count_after, one_more, HasBegun, Puts}
@@ -234,9 +234,10 @@ pub record BrokeOff (name file : List ℕ) (r : LineResult) (status : ℕ) (fail
   pub reports : Reports (added_lines file cause flushed) begun w.messages_new count w.failures_new
   pub files : FilesBy failure name r.frozen w.files_old w.files_new
 
+-- by what failed; if only the line for a refused file could not be written, all else is as defined
 abbrev pub EndsBy : Option Failure → List ℕ → List ℕ → LineResult → ℕ → Seen → Type 0
 EndsBy None name file r status w = AsDefined name r status w
-EndsBy (Some failures.Report) name file r status w = AsDefined name r status w
+EndsBy (Some failures.Report) name file r status w = AsDefined name r status w × (r.lines ≢ [])
 EndsBy (Some failure) name file r status w = BrokeOff name file r status failure w
 
 -- a line whose result is r was followed

@@ -1,7 +1,7 @@
 -- LineRun: what the steps of following a line pass to one another.
 -- Not believed: `follow` is stated with the words of Line only, and proved through these.
 -- Words: seen, named_of, named_in, RanFiles, CountedBy, Ran, Closes, ModeCloses.
-use Rattle.std.specs.Prelude.{◌≡◌, ◌⊎◌, ℕ, Bool, false, List, [], ◌∷◌, Option, Some, None, unwrap_or, option_map}
+use Rattle.std.specs.Prelude.{◌≡◌, ◌≢◌, ◌⊎◌, ℕ, Bool, false, List, [], ◌∷◌, Option, Some, None, unwrap_or, option_map}
 use Rattle.m4_state.specs.Device.{Script, one_more}
 use Rattle.m4_engine.specs.declared.ending.Cause.{Cause}
 use Rattle.m4_engine.specs.declared.ending.Cause.TheVariants as causes
@@ -17,7 +17,7 @@ use Rattle.m4_tool.specs.declared.followed.Failure.TheVariants as failures
 use Rattle.m4_tool.specs.RunEnd.{last_status, source_name}
 use Rattle.m4_tool.specs.LineMode.{closed_lines, closed_status}
 use Rattle.m4_tool.specs.World.{Files, made_file}
-use Rattle.m4_tool.specs.Line.{Seen, HasPrefix, Reports, added_lines, failure_of, input_after, script_at}
+use Rattle.m4_tool.specs.Line.{Seen, HasPrefix, Reports, added_lines, failure_of, input_after, refusals, script_at}
 
 -- the writers and the files, by the functions of their traits
 abbrev pub seen : {O M : Type 0} → (O → Option (List ℕ)) → (M → Option (List ℕ)) → (M → ℕ) → O → O → M → M → Option Files → Option Files → Seen
@@ -78,6 +78,7 @@ pub record Closes (file : List ℕ) (e : Ending) (status : ℕ) (failure : Optio
   pub flushed : Bool
   pub is_status : status ≡ last_status e flushed
   pub is_reported : Bool
+  pub refused : is_reported ≡ false → refusals file e.cause ≢ []
   pub failed : failure ≡ failure_after (failure_of e.cause flushed) is_reported
   pub output : w.out_new ≡ w.out_old
   pub reports : Reports (added_lines file e.cause flushed) w.messages_old w.messages_new w.failures_old w.failures_new

@@ -1,6 +1,6 @@
 //! The end of a line: its outputs and its file are flushed, and what is not reported yet is reported.
 
-ghost use Rattle.std.specs.Prelude.{◌≡◌, ◌∷◌, [], List, ℕ, None, true};
+ghost use Rattle.std.specs.Prelude.{◌≡◌, ◌≢◌, ◌∷◌, [], List, ℕ, None, false, true};
 ghost use Rattle.m4_state.specs.Device.{Puts, count_after, joined};
 ghost use Rattle.m4_engine.specs.File.{cannot_open};
 ghost use Rattle.m4_tool.specs.RunEnd.{last_fault, last_status};
@@ -64,6 +64,7 @@ fn flush_all<W: World, O: Shows, M: Shows>(world: &mut W, out: &mut O, messages:
 fn report_refusal<M: Shows>(cause: Cause, file: &[u8], messages: &mut M) -> bool
     ensures reports { Reports (refusals file.now cause) (M.contents messages.old) (M.contents messages.new)
         (M.failures messages.old) (M.failures messages.new) }
+    ensures refused { result ≡ false → refusals file.now cause ≢ [] }
     ensures shown { result ≡ true → M.shown messages.old ≡ M.contents messages.old → M.shown messages.new ≡ M.contents messages.new }
 {
     match cause {

@@ -11,6 +11,7 @@ returns-clause-closes g c = record {
   flushed = c.flush_all-flushed.result;
   is_status = c.last_status.ensures;
   is_reported = c.report_refusal-is_reported.result;
+  refused = c.report_refusal-is_reported.ensures.refused;
   failed = c.failure_after.ensures ∙ ap (λ f. failure_after f c.report_refusal-is_reported.result) c.failure_of.ensures;
   output = c.flush_all-flushed.ensures.output;
   reports = reports_after (refusals c.args.file.now c.args.ending.cause) (last_lines (last_fault c.args.ending.cause c.flush_all-flushed.result)) _ _ _ _ _ _ _ _
