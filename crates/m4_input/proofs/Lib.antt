@@ -8,3 +8,4 @@ pub mod Decided
 pub mod Blocks
 pub mod PlainRuns
 pub mod Pieces
+pub mod ShortQuotes

@@ -1,27 +1,27 @@
 -- PlainRuns: plain tokens in order.
-use Rattle.std.proofs.Common.{◌≡◌, inl, inr, ℕ, ◌+◌, List, [], ◌∷◌, ◌++◌, drop, sym, ap, ◌∙◌, subst, arith}
+use Rattle.std.proofs.Common.{◌≡◌, inl, inr, Bool, ℕ, ◌+◌, List, [], ◌∷◌, ◌++◌, drop, sym, ap, ◌∙◌, subst, arith}
 use Rattle.std.proofs.lemmas.List.{drop-drop}
 use Rattle.m4_state.specs.State.{State}
 use Rattle.m4_input.specs.declared.plain.First.TheVariants as firsts
 use Rattle.m4_input.specs.Plain.{IsPlain, total, ArePlain, IsPlainRun, IsFirst}
 
 -- a token more
-longer : (s : State) (n : ℕ) (lens x : List ℕ) → ArePlain s lens x → IsPlain s n (drop (total lens) x) → ArePlain s (lens ++ n ∷ []) x × (total (lens ++ n ∷ []) ≡ total lens + n)
-longer s n [] x a p = ((p, tt), omega arith)
-longer s n (m ∷ lens) x a p =
-    let r = longer s n lens (drop m x) a.1 (subst (IsPlain s n) (sym (drop-drop (total lens) m x)) p) in
+longer : (s : State) (o : Bool) (n : ℕ) (lens x : List ℕ) → ArePlain s o lens x → IsPlain s o n (drop (total lens) x) → ArePlain s o (lens ++ n ∷ []) x × (total (lens ++ n ∷ []) ≡ total lens + n)
+longer s o n [] x a p = ((p, tt), omega arith)
+longer s o n (m ∷ lens) x a p =
+    let r = longer s o n lens (drop m x) a.1 (subst (IsPlain s o n) (sym (drop-drop (total lens) m x)) p) in
     let t : total (lens ++ n ∷ []) ≡ total lens + n = r.1 in
     ((a.0, r.0), omega arith)
 
-pub plain_more : (s : State) (k n : ℕ) (x : List ℕ) → IsPlainRun s k x → IsPlain s n (drop k x) → IsPlainRun s (k + n) x
-plain_more s k n x r p =
-    let q = longer s n r.0 x r.1 (subst (λ (m : ℕ). IsPlain s n (drop m x)) (sym r.2) p) in
+pub plain_more : (s : State) (o : Bool) (k n : ℕ) (x : List ℕ) → IsPlainRun s o k x → IsPlain s o n (drop k x) → IsPlainRun s o (k + n) x
+plain_more s o k n x r p =
+    let q = longer s o n r.0 x r.1 (subst (λ (m : ℕ). IsPlain s o n (drop m x)) (sym r.2) p) in
     (r.0 ++ n ∷ [], q.0, q.1 ∙ ap (λ (m : ℕ). m + n) r.2)
 
 -- a name more
-pub plain_word : (s : State) (k n : ℕ) (x y : List ℕ) → IsPlainRun s k x → y ≡ drop k x → IsFirst s y (firsts.Word n) → IsPlainRun s (k + n) x
-plain_word s k n x y r e h = plain_more s k n x r (subst (IsPlain s n) e (inl h))
+pub plain_word : (s : State) (o : Bool) (k n : ℕ) (x y : List ℕ) → IsPlainRun s o k x → y ≡ drop k x → IsFirst s o y (firsts.Word n) → IsPlainRun s o (k + n) x
+plain_word s o k n x y r e h = plain_more s o k n x r (subst (IsPlain s o n) e (inl h))
 
 -- a byte more
-pub plain_byte : (s : State) (k b : ℕ) (x y : List ℕ) → IsPlainRun s k x → y ≡ drop k x → IsFirst s y (firsts.Byte b) → IsPlainRun s (k + 1) x
-plain_byte s k b x y r e h = plain_more s k 1 x r (subst (IsPlain s 1) e (inr (b, h.0, h.1)))
+pub plain_byte : (s : State) (o : Bool) (k b : ℕ) (x y : List ℕ) → IsPlainRun s o k x → y ≡ drop k x → IsFirst s o y (firsts.Byte b) → IsPlainRun s o (k + 1) x
+plain_byte s o k b x y r e h = plain_more s o k 1 x r (subst (IsPlain s o 1) e (inr (b, h.0, h.1)))

@@ -75,7 +75,7 @@ begins_length [] y h = omega arith
 begins_length (b ∷ e) [] h = cc
 begins_length (b ∷ e) (c ∷ y) h = let l : length e ≤ length y = begins_length e y (second (b == c) h) in omega arith
 
-abbrev on_mark : Delimiters → Bool → ℕ → List ℕ → Mark → Option ℕ
+abbrev pub on_mark : Delimiters → Bool → ℕ → List ℕ → Mark → Option ℕ
 on_mark q p n y EndQuote = elim n [ zero ↦ Some 0 | suc j ↦ one_more (level q p j (length q.end - 1) y) ]
 on_mark q p n y BeginQuote = one_more (level q p (suc n) (length q.begin - 1) y)
 on_mark q p n y PlainByte = one_more (level q p n zero y)

@@ -1,5 +1,6 @@
 -- Plain: tokens at the start of a text that expand to themselves.
--- Not believed: it only says which turns a run may make at once, by the tokens of `scan`.
+-- Not believed: it only says which turns a run may make at once, by the tokens of `scan`. If more bytes may follow
+-- (`m`), only tokens that they can't change are meant.
 -- Words: IsPlain, total, ArePlain, IsPlainRun, is_inner, IsInner, IsFirst, FirstLies.
 use Rattle.std.specs.Prelude.{◌≡◌, ◌==◌, ◌||◌, ◌<◌, ◌≤◌, ℕ, ◌+◌, Bool, true, false, not, List, [], ◌∷◌, Some, None, take, drop, ◌⊎◌}
 use Rattle.m4_state.specs.State.{State, top_of}
@@ -13,10 +14,10 @@ use Rattle.m4_input.specs.declared.plain.First.{First}
 use Rattle.m4_input.specs.declared.plain.First.TheVariants as firsts
 
 -- the first token, of n bytes, is a name without a definition, or a byte that is no other token
-abbrev pub IsPlain : State → ℕ → List ℕ → Type 0
-IsPlain s n x =
-    ((scan s.quotes s.comments false x ≡ Found (Name (take n x)) n) × (top_of s (take n x) ≡ None))
-    ⊎ ((b : ℕ) × (scan s.quotes s.comments false x ≡ Found (Byte b) n) × (take n x ≡ b ∷ []))
+abbrev pub IsPlain : State → Bool → ℕ → List ℕ → Type 0
+IsPlain s m n x =
+    ((scan s.quotes s.comments m x ≡ Found (Name (take n x)) n) × (top_of s (take n x) ≡ None))
+    ⊎ ((b : ℕ) × (scan s.quotes s.comments m x ≡ Found (Byte b) n) × (take n x ≡ b ∷ []))
 
 -- the number of bytes of tokens with these lengths
 abbrev pub total : List ℕ → ℕ
@@ -24,34 +25,34 @@ total [] = 0
 total (n ∷ ns) = n + total ns
 
 -- the first tokens, of these lengths, are plain
-abbrev pub ArePlain : State → List ℕ → List ℕ → Type 0
-ArePlain s [] x = Unit {0}
-ArePlain s (n ∷ ns) x = IsPlain s n x × ArePlain s ns (drop n x)
+abbrev pub ArePlain : State → Bool → List ℕ → List ℕ → Type 0
+ArePlain s m [] x = Unit {0}
+ArePlain s m (n ∷ ns) x = IsPlain s m n x × ArePlain s m ns (drop n x)
 
 -- the first n bytes are plain tokens
-abbrev pub IsPlainRun : State → ℕ → List ℕ → Type 0
-IsPlainRun s n x = (lens : List ℕ) × ArePlain s lens x × (total lens ≡ n)
+abbrev pub IsPlainRun : State → Bool → ℕ → List ℕ → Type 0
+IsPlainRun s m n x = (lens : List ℕ) × ArePlain s m lens x × (total lens ≡ n)
 
 -- a byte that has no special meaning in an argument list
 abbrev pub is_inner : ℕ → Bool
 is_inner b = not ((b == open_parenthesis) || ((b == close_parenthesis) || ((b == comma) || is_space b)))
 
 -- the first token, of n bytes, is text x everywhere in a list
-abbrev pub IsInner : State → ℕ → List ℕ → List ℕ → Type 0
-IsInner s n x y =
-    (scan s.quotes s.comments false y ≡ Found (Str x) n)
-    ⊎ (((scan s.quotes s.comments false y ≡ Found (Name x) n) × (top_of s x ≡ None))
-    ⊎ ((b : ℕ) × (scan s.quotes s.comments false y ≡ Found (Byte b) n) × (x ≡ b ∷ []) × (is_inner b ≡ true)))
+abbrev pub IsInner : State → Bool → ℕ → List ℕ → List ℕ → Type 0
+IsInner s m n x y =
+    (scan s.quotes s.comments m y ≡ Found (Str x) n)
+    ⊎ (((scan s.quotes s.comments m y ≡ Found (Name x) n) × (top_of s x ≡ None))
+    ⊎ ((b : ℕ) × (scan s.quotes s.comments m y ≡ Found (Byte b) n) × (x ≡ b ∷ []) × (is_inner b ≡ true)))
 
 -- the result of one look at the first token
-abbrev pub IsFirst : State → List ℕ → First → Type 0
-IsFirst s x (firsts.Word n) = (scan s.quotes s.comments false x ≡ Found (Name (take n x)) n) × (top_of s (take n x) ≡ None)
-IsFirst s x (firsts.Byte b) = (scan s.quotes s.comments false x ≡ Found (Byte b) 1) × (take 1 x ≡ b ∷ [])
-IsFirst s x (firsts.Quoted begin len all) = scan s.quotes s.comments false x ≡ Found (Str (take len (drop begin x))) all
-IsFirst s x (firsts.Called n listed d) =
-    (scan s.quotes s.comments false x ≡ Found (Name (take n x)) n) × (top_of s (take n x) ≡ Some d.now)
-    × (paren_in s.quotes s.comments false (drop n x) ≡ answer_of listed)
-IsFirst s x firsts.Other = Unit {0}
+abbrev pub IsFirst : State → Bool → List ℕ → First → Type 0
+IsFirst s m x (firsts.Word n) = (scan s.quotes s.comments m x ≡ Found (Name (take n x)) n) × (top_of s (take n x) ≡ None)
+IsFirst s m x (firsts.Byte b) = (scan s.quotes s.comments m x ≡ Found (Byte b) 1) × (take 1 x ≡ b ∷ [])
+IsFirst s m x (firsts.Quoted begin len all) = scan s.quotes s.comments m x ≡ Found (Str (take len (drop begin x))) all
+IsFirst s m x (firsts.Called n listed d) =
+    (scan s.quotes s.comments m x ≡ Found (Name (take n x)) n) × (top_of s (take n x) ≡ Some d.now)
+    × (paren_in s.quotes s.comments m (drop n x) ≡ answer_of listed)
+IsFirst s m x firsts.Other = Unit {0}
 
 -- the first token is inside a text of m bytes
 abbrev pub FirstLies : ℕ → First → Type 0

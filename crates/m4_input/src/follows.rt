@@ -16,14 +16,6 @@ use crate::window::Window;
 type Pair<'a> = (&'a [u8], &'a [u8]);
 
 impl<'a> Window<'a> {
-    /// Returns whether the next token is an opening parenthesis; all bytes were read.
-    pub fn sees_paren(&self, delims: &Delims<'_>) -> bool
-        ensures { paren_in (pair_of delims.now.quotes) (pair_of delims.now.comments) false self.now
-            ≡ answer_of result }
-    {
-        self.byte(0) == Some(b'(') && !self.opens(&delims.comments) && !self.opens(&delims.quotes)
-    }
-
     /// Returns whether the token at a place is an opening parenthesis; `Unknown` if more bytes may follow
     /// that decide it.
     pub fn list_at(&self, at: usize, delims: &Delims<'_>, may_follow: bool) -> Answer

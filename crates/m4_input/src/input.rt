@@ -291,6 +291,15 @@ impl Input {
         }
     }
 
+    /// Removes the definition that comes before the bytes in hand, if there is one, and returns it.
+    pub fn take_definition(&mut self) -> Option<Def>
+        // exact steps: the definition that is the first token, and the bytes after it
+        ensures taken { result ≡ self.old.pending.definition }
+        ensures rest { self.new ≡ record self.old { pending = record self.old.pending { definition = None } } }
+    {
+        self.definition.take()
+    }
+
     /// Returns the first token of the bytes in hand, without a definition that comes before them; `NeedsMore`
     /// if bytes that may follow can change it. Consumes nothing. Returns `OutOfMemory` if an allocation fails;
     /// so does each later call. Manual: "Lexical and syntactic conventions".

@@ -1,17 +1,18 @@
 //! Plain tokens: names without a definition, and bytes that are no other token. A run writes them as it
-//! reads them, so it can consume many at once.
+//! reads them, so it can consume many at once. Each look has the flag whether more bytes may follow the text:
+//! then a token is only found if they can't change it.
 
-ghost use Rattle.std.specs.Prelude.{◌≡◌, ◌+◌, ◌<◌, ◌≤◌, ◌∷◌, List, ℕ, true, false, IfSome, length, take, drop};
+ghost use Rattle.std.specs.Prelude.{◌≡◌, ◌==◌, ◌&&◌, ◌+◌, ◌<◌, ◌≤◌, ◌∷◌, Bool, List, ℕ, true, false, IfSome, length, take, drop};
 ghost use Rattle.m4_input.specs.DelimsView.{pair_of};
 ghost use Rattle.m4_input.specs.Input.{answer_of};
 ghost use Rattle.m4_input.specs.Paren.{paren_in};
 ghost use Rattle.m4_input.specs.Plain.{IsPlainRun, IsFirst, FirstLies, is_inner, IsInner};
 ghost use Rattle.m4_input.specs.declared.front.Scan.TheVariants.{Found};
 ghost use Rattle.m4_input.specs.declared.token.Token.TheVariants.{Str};
-ghost use Rattle.m4_input.specs.Token.{scan, starts_with};
+ghost use Rattle.m4_input.specs.Token.{scan, starts_with, may_start};
 
 use crate::delims::Delims;
-use crate::front::Kind;
+use crate::front::{Answer, Kind};
 use crate::window::{Window, is_letter_byte, word_len};
 use m4_state::definition::Def;
 use m4_state::state::State;
@@ -27,23 +28,28 @@ pub enum First<'a> {
     Quoted(usize, usize, usize),
     /// A name with a definition: its length, whether an argument list follows it, and the definition.
     Called(usize, bool, &'a Def),
-    /// Any other token, or bytes that may begin with a delimiter.
+    /// Any other token, bytes that may begin with a delimiter, or a token that further bytes can change.
     Other,
 }
 
 /// Counts the bytes of the plain tokens at the start, and returns the token after them. It does not look
 /// at the token after the one that reaches `most`.
-pub fn plain_run<'a>(text: &[u8], state: &'a State, most: usize) -> (usize, First<'a>)
+pub fn plain_run<'a>(
+    text: &[u8],
+    state: &'a State,
+    may_follow: bool,
+    most: usize,
+) -> (usize, First<'a>)
     // exact steps: tokens of the definition `scan`, each a name without a definition or a byte
-    ensures plain { IsPlainRun state.now result.0 text.now }
+    ensures plain { IsPlainRun state.now may_follow result.0 text.now }
     ensures within { result.0 ≤ length text.now }
-    ensures after { IsFirst state.now (drop result.0 text.now) result.1 }
+    ensures after { IsFirst state.now may_follow (drop result.0 text.now) result.1 }
     ensures lies { FirstLies (length (drop result.0 text.now)) result.1 }
 {
     let delims = Delims::of(state);
     let mut len = 0;
     while len < most {
-        match first_token(text.split_at(len).1, state, &delims) {
+        match first_token(text.split_at(len).1, state, &delims, may_follow) {
             First::Word(n) => len += n,
             First::Byte(_) => len += 1,
             first => return (len, first),
@@ -52,12 +58,17 @@ pub fn plain_run<'a>(text: &[u8], state: &'a State, most: usize) -> (usize, Firs
     (len, First::Other)
 }
 
-/// Returns the first token; `Other` if it may be a string or a comment.
+/// Returns the first token; `Other` if it may be a string or a comment, or if further bytes can change it.
 #[inline(always)]
-fn first_token<'a>(text: &[u8], state: &'a State, delims: &Delims<'_>) -> First<'a>
+fn first_token<'a>(
+    text: &[u8],
+    state: &'a State,
+    delims: &Delims<'_>,
+    may_follow: bool,
+) -> First<'a>
     requires quotes { pair_of delims.now.quotes ≡ state.now.quotes }
     requires comments { pair_of delims.now.comments ≡ state.now.comments }
-    ensures first { IsFirst state.now text.now result }
+    ensures first { IsFirst state.now may_follow text.now result }
     ensures lies { FirstLies (length text.now) result }
 {
     let Some(first) = text.first() else {
@@ -70,34 +81,52 @@ fn first_token<'a>(text: &[u8], state: &'a State, delims: &Delims<'_>) -> First<
         return First::Byte(*first);
     }
     let len = word_len(text);
+    if may_go_on(len, text, may_follow) {
+        return First::Other;
+    }
     let (name, after) = text.split_at(len);
-    match state.top(name) {
-        None => First::Word(len),
-        Some(definition) => First::Called(len, sees_paren(after, delims), definition),
+    let Some(definition) = state.top(name) else {
+        return First::Word(len);
+    };
+    match list_follows(after, delims, may_follow) {
+        Answer::Yes => First::Called(len, true, definition),
+        Answer::No => First::Called(len, false, definition),
+        Answer::Unknown => First::Other,
     }
 }
 
-/// Returns whether the first token is an opening parenthesis.
-fn sees_paren(text: &[u8], delims: &Delims<'_>) -> bool
-    ensures { paren_in (pair_of delims.now.quotes) (pair_of delims.now.comments) false text.now ≡ answer_of result }
+/// Returns whether a name of this length may go on in bytes that follow the text.
+#[inline(always)]
+fn may_go_on(len: usize, text: &[u8], may_follow: bool) -> bool
+    ensures { result ≡ (may_follow && (len == length text.now)) }
 {
-    Window::new(&[], text).sees_paren(delims)
+    may_follow && len == text.len()
+}
+
+/// Returns whether the first token is an opening parenthesis.
+#[inline(always)]
+fn list_follows(text: &[u8], delims: &Delims<'_>, may_follow: bool) -> Answer
+    ensures { paren_in (pair_of delims.now.quotes) (pair_of delims.now.comments) may_follow text.now ≡ result }
+{
+    Window::new(&[], text).list_at(0, delims, may_follow)
 }
 
 /// Returns the first token, for use in an argument list.
 #[inline(always)]
-pub fn first_in_list<'a>(text: &[u8], state: &'a State) -> First<'a>
+pub fn first_in_list<'a>(text: &[u8], state: &'a State, may_follow: bool) -> First<'a>
     // exact steps: the token of the definition `scan`, with the definition of its name
-    ensures first { IsFirst state.now text.now result }
+    ensures first { IsFirst state.now may_follow text.now result }
     ensures lies { FirstLies (length text.now) result }
 {
     let delims = Delims::of(state);
     match text.first() {
-        Some(first) if may_begin(*first, &delims.quotes) => match string_text(text, &delims) {
+        Some(first) if may_begin(*first, &delims.quotes) => match string_text(
+            text, &delims, may_follow,
+        ) {
             Some((begin, len, all)) => First::Quoted(begin, len, all),
             None => First::Other,
         },
-        _ => first_token(text, state, &delims),
+        _ => first_token(text, state, &delims, may_follow),
     }
 }
 
@@ -106,7 +135,7 @@ pub fn first_in_list<'a>(text: &[u8], state: &'a State) -> First<'a>
 pub fn inner_text<'a>(first: &First<'_>, text: &'a [u8]) -> Option<(&'a [u8], usize)>
     requires { FirstLies (length text.now) first.now }
     // exact steps: a string, or a plain token that has no special meaning in a list
-    ensures inner { IfSome result (λ t. (s : State) → IsFirst s text.now first.now → IsInner s t.1 t.0.now text.now) }
+    ensures inner { IfSome result (λ t. (s : State) (m : Bool) → IsFirst s m text.now first.now → IsInner s m t.1 t.0.now text.now) }
     ensures within { IfSome result (λ t. t.1 ≤ length text.now) }
 {
     match *first {
@@ -129,17 +158,17 @@ fn is_inner(byte: u8) -> bool
 
 /// Returns the lengths of the string at the start: of its begin-quote, of its text, and of all of it.
 #[inline(always)]
-fn string_text(text: &[u8], delims: &Delims<'_>) -> Option<(usize, usize, usize)>
-    ensures string { IfSome result (λ t. scan (pair_of delims.now.quotes) (pair_of delims.now.comments) false text.now
+fn string_text(text: &[u8], delims: &Delims<'_>, may_follow: bool) -> Option<(usize, usize, usize)>
+    ensures string { IfSome result (λ t. scan (pair_of delims.now.quotes) (pair_of delims.now.comments) may_follow text.now
         ≡ Found (Str (take t.1 (drop t.0 text.now))) t.2) }
     ensures within { IfSome result (λ t. (t.0 + t.1 ≤ length text.now) × (t.2 ≤ length text.now)) }
 {
     let window = Window::new(&[], text);
     let first = window.byte(0)?;
-    match window.kind(delims, false, first) {
+    match window.kind(delims, may_follow, first) {
         Kind::StringHere => {
             let begin = delims.quotes.0.len();
-            let len = window.string_len(begin, &delims.quotes, false)?;
+            let len = window.string_len(begin, &delims.quotes, may_follow)?;
             Some((begin, len, begin + (len + delims.quotes.1.len())))
         }
         _ => None,
@@ -149,7 +178,8 @@ fn string_text(text: &[u8], delims: &Delims<'_>) -> Option<(usize, usize, usize)
 /// Returns whether the first of two delimiters begins with this byte.
 #[inline(always)]
 fn may_begin(first: u8, pair: &(&[u8], &[u8])) -> bool
-    ensures { result ≡ false → (y : List ℕ) → starts_with (pair_of pair.now) (first ∷ y) ≡ false }
+    ensures starts { result ≡ false → (y : List ℕ) → starts_with (pair_of pair.now) (first ∷ y) ≡ false }
+    ensures may { result ≡ false → (m : Bool) (y : List ℕ) → may_start (pair_of pair.now) m (first ∷ y) ≡ false }
 {
     match pair.0.first() {
         Some(byte) => *byte == first,

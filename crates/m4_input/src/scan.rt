@@ -46,8 +46,9 @@ impl<'a> Window<'a> {
         ensures closed { IfSome result (λ n. at + (n + length quotes.now.1.now) ≤ length self.now) }
     {
         let shorts = (single(quotes.0), single(quotes.1));
-        match (shorts, self.tail(at), may_follow) {
-            ((Some(begin), Some(end)), Some(tail), false) => quoted_len(tail, begin, end),
+        match (shorts, self.tail(at)) {
+            // Quotes of one byte are never cut.
+            ((Some(begin), Some(end)), Some(tail)) => quoted_len(tail, begin, end),
             _ => self.string_len_by_steps(at, quotes, may_follow),
         }
     }

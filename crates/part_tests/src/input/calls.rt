@@ -4,7 +4,7 @@
 ghost use Rattle.std.specs.Prelude.{◌≡◌, None, IfOk};
 
 use super::{BLOCKS, USUAL, describe, describe_fault, push};
-use crate::given::{Given, made};
+use crate::given::{Given, describe_definition, made};
 use crate::report::Report;
 use crate::shows::shows;
 use m4_input::delims::Delims;
@@ -21,6 +21,8 @@ enum Call {
     Next,
     SeesParen,
     SkipLine,
+    // Removes the definition before the text.
+    TakeDefinition,
     // Reports the line, the file's name, or how many bytes the reader returned.
     Line,
     Name,
@@ -52,7 +54,20 @@ const PLAIN: Row = Row {
     want: b"",
 };
 
-static ROWS: [Row; 14] = [
+static ROWS: [Row; 15] = [
+    Row {
+        name: "the definition before the text is taken once",
+        definition: Some(Given::Named(b"dnl")),
+        file: b"f",
+        calls: &[
+            Call::TakeDefinition,
+            Call::TakeDefinition,
+            Call::Taken,
+            Call::Next,
+        ],
+        want: b"builtin dnl\nnone\ntaken 0\nname f\n",
+        ..PLAIN
+    },
     Row {
         name: "a list follows a name",
         file: b"f(",
@@ -227,6 +242,13 @@ fn answer(
             input.skip_line(reader)?;
             report.add(b"skipped\n");
         }
+        Call::TakeDefinition => match input.take_definition() {
+            Some(definition) => {
+                describe_definition(&definition, report);
+                report.add(b"\n");
+            }
+            None => report.add(b"none\n"),
+        },
         Call::Line => describe_line(input.line(), report),
         Call::Name => {
             report.add(input.name());

@@ -58,6 +58,25 @@ static ROWS: [Row; 14] = [
     ),
 ];
 
+// The same with more bytes that may follow, by name, text and result: what these can change is left.
+static OPEN_ROWS: [(&str, &[u8], &[u8]); 7] = [
+    ("a name at the end", b"a bc", b"2"),
+    ("a name before a blank", b"a bc ", b"5"),
+    ("a name that is defined, at the end", b"a f", b"2"),
+    (
+        "a name that is defined, before a blank",
+        b"a f ",
+        b"2, 1 bytes: text x",
+    ),
+    (
+        "a list at the end",
+        b"a f(",
+        b"2, 1 bytes with a list: text x",
+    ),
+    ("a byte at the end", b"a +", b"3"),
+    ("a string at the end", b"a `f'", b"2"),
+];
+
 // Returns a fresh state in which `f` is defined.
 fn with_f(alloc: Global) -> Result<State, StateFault> {
     let mut state = State::fresh(alloc, false)?;
@@ -80,10 +99,15 @@ fn describe_call(first: &First<'_>, report: &mut Report) {
 }
 
 // Reports how many bytes of a text are plain, and the call after them.
-fn run_of(alloc: Global, text: &[u8], most: usize) -> Result<Vec<u8>, AllocError> {
+fn run_of(
+    alloc: Global,
+    text: &[u8],
+    may_follow: bool,
+    most: usize,
+) -> Result<Vec<u8>, AllocError> {
     let mut report = Report::new(alloc);
     let state = with_f(alloc).map_err(|_refused| AllocError)?;
-    let (len, first) = plain_run(text, &state, most);
+    let (len, first) = plain_run(text, &state, may_follow, most);
     report.number(len);
     describe_call(&first, &mut report);
     report.text()
@@ -92,7 +116,14 @@ fn run_of(alloc: Global, text: &[u8], most: usize) -> Result<Vec<u8>, AllocError
 #[test]
 fn plain_tokens(rt: HostRuntime) {
     for &(name, text, most, want) in &ROWS {
-        shows(&rt, name, want, run_of(rt.alloc(), text, most));
+        shows(&rt, name, want, run_of(rt.alloc(), text, false, most));
+    }
+}
+
+#[test]
+fn plain_tokens_that_more_may_follow(rt: HostRuntime) {
+    for &(name, text, want) in &OPEN_ROWS {
+        shows(&rt, name, want, run_of(rt.alloc(), text, true, 100));
     }
 }
 
@@ -123,11 +154,19 @@ static TOKENS: [(&str, &[u8], &[u8]); 22] = [
     ("the greatest byte", b"\xff", b"byte \xff, text \xff of 1"),
 ];
 
+// The same with more bytes that may follow.
+static OPEN_TOKENS: [(&str, &[u8], &[u8]); 4] = [
+    ("a string that has ended", b"`a b'", b"text a b of 5"),
+    ("a string without an end so far", b"`a b", b"none"),
+    ("a name at the end", b"ab", b"none"),
+    ("a name before a comma", b"ab,", b"text ab of 2"),
+];
+
 // Reports the first token of a text in a list.
-fn first_of(alloc: Global, text: &[u8]) -> Result<Vec<u8>, AllocError> {
+fn first_of(alloc: Global, text: &[u8], may_follow: bool) -> Result<Vec<u8>, AllocError> {
     let mut report = Report::new(alloc);
     let state = with_f(alloc).map_err(|_refused| AllocError)?;
-    let first = first_in_list(text, &state);
+    let first = first_in_list(text, &state, may_follow);
     if let First::Byte(byte) = first {
         report.add(b"byte ");
         report.add(&[byte]);
@@ -147,6 +186,13 @@ fn first_of(alloc: Global, text: &[u8]) -> Result<Vec<u8>, AllocError> {
 #[test]
 fn tokens_that_are_text_in_a_list(rt: HostRuntime) {
     for &(name, text, want) in &TOKENS {
-        shows(&rt, name, want, first_of(rt.alloc(), text));
+        shows(&rt, name, want, first_of(rt.alloc(), text, false));
+    }
+}
+
+#[test]
+fn tokens_in_a_list_that_more_may_follow(rt: HostRuntime) {
+    for &(name, text, want) in &OPEN_TOKENS {
+        shows(&rt, name, want, first_of(rt.alloc(), text, true));
     }
 }

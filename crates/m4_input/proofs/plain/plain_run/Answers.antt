@@ -5,11 +5,11 @@ use Rattle.m4_input.proofs.plain.plain_run.Goals as goal
 pub loop-len-preserved-in-Word : goal.loop-len-preserved-in-Word
 loop-len-preserved-in-Word c = record {
   within = search rules;
-  plain = plain_word c.args.state.now c.loop-len.len c.in-Word.n c.args.text.now c.split_at.result.1.now c.loop-len.invariant.plain (search rules) (search rules);
+  plain = plain_word c.args.state.now c.args.may_follow c.loop-len.len c.in-Word.n c.args.text.now c.split_at.result.1.now c.loop-len.invariant.plain (search rules) (search rules);
 }
 
 pub loop-len-preserved : goal.loop-len-preserved
 loop-len-preserved c = record {
   within = search rules;
-  plain = plain_byte c.args.state.now c.loop-len.len c.in-Byte.field-0 c.args.text.now c.split_at.result.1.now c.loop-len.invariant.plain (search rules) (search rules);
+  plain = plain_byte c.args.state.now c.args.may_follow c.loop-len.len c.in-Byte.field-0 c.args.text.now c.split_at.result.1.now c.loop-len.invariant.plain (search rules) (search rules);
 }

@@ -4,7 +4,7 @@ use Rattle.m4_input.proofs.plain.plain_run.Given as goal
 
 -- the bytes so far are such tokens
 abbrev pub invariant-loop-len : goal.invariant-loop-len
-invariant-loop-len l = record { within : l.len ≤ length l.text; plain : IsPlainRun l.state l.len l.text }
+invariant-loop-len l = record { within : l.len ≤ length l.text; plain : IsPlainRun l.state l.may_follow l.len l.text }
 
 abbrev pub decreases-loop-len : goal.decreases-loop-len
 decreases-loop-len l = length l.text - l.len

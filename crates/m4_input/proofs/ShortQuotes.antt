@@ -1,0 +1,65 @@
+-- ShortQuotes: quotes of one byte each are never cut, so a string ends where it does if no more bytes follow.
+use Rattle.std.proofs.Common.{◌≡◌, ◌≤◌, ◌+◌, ◌-◌, ℕ, zero, suc, Bool, true, false, ◌&&◌, List, [], ◌∷◌, length, drop, length-drop, Option, Some, None, refl, sym, ap, ◌∙◌, arith}
+use Rattle.std.proofs.lemmas.Bool.Decides.{nat_tests}
+use Rattle.std.specs.Prelude.{nat_lt, ◌||◌, IfSome}
+use Rattle.m4_state.specs.declared.delimiters.Delimiters.{Delimiters}
+use Rattle.m4_input.specs.declared.front.Mark.{Mark}
+use Rattle.m4_input.specs.declared.front.Mark.TheVariants.{EndQuote, BeginQuote, PlainByte, CutQuote}
+use Rattle.m4_input.specs.Pending.{one_more}
+use Rattle.m4_input.specs.Token.{begins, is_cut, level, mark_at, mark_by}
+use Rattle.m4_input.proofs.Scans.{on_mark, level_at}
+
+and_false : (v w : Bool) → w ≡ false → (v && w) ≡ false
+and_false true w h = h
+and_false false w h = refl
+
+none_shorter : (y : List ℕ) → nat_lt (suc (length y)) 1 ≡ false
+none_shorter y = grind (arith, nat_tests)
+
+not_cut : (b c : ℕ) (y : List ℕ) → is_cut (c ∷ y) (b ∷ []) ≡ false
+not_cut b c y = and_false (begins (c ∷ y) (b ∷ [])) (nat_lt (suc (length y)) 1) (none_shorter y)
+
+neither : (v w : Bool) → v ≡ false → w ≡ false → (v || w) ≡ false
+neither true w h k = h
+neither false w h k = k
+
+module _ (b e : ℕ) (m : Bool) where
+  abbrev q : Delimiters
+  q = record { begin = b ∷ []; end = e ∷ [] }
+
+  same_mark : (c : ℕ) (y : List ℕ) → mark_at q m (c ∷ y) ≡ mark_at q false (c ∷ y)
+  same_mark c y =
+      ap (λ v. mark_by (begins (e ∷ []) (c ∷ y)) v (begins (b ∷ []) (c ∷ y)))
+      (and_false m _ (neither _ _ (not_cut e c y) (not_cut b c y)))
+
+  on_same : (k : ℕ) (y : List ℕ) (v : Mark) → ((j skip : ℕ) → level q m j skip y ≡ level q false j skip y) → on_mark q m k y v ≡ on_mark q false k y v
+  on_same zero y EndQuote h = refl
+  on_same (suc j) y EndQuote h = ap one_more (h j _)
+  on_same k y BeginQuote h = ap one_more (h (suc k) _)
+  on_same k y PlainByte h = ap one_more (h k zero)
+  on_same k y CutQuote h = refl
+
+  pub same_level : (k skip : ℕ) (x : List ℕ) → level q m k skip x ≡ level q false k skip x
+  same_level k skip [] = refl
+  same_level k (suc skip) (c ∷ y) = ap one_more (same_level k skip y)
+  same_level k zero (c ∷ y) =
+      level_at q m k c y (mark_at q m (c ∷ y)) refl
+      ∙ ap (on_mark q m k y) (same_mark c y)
+      ∙ on_same k y (mark_at q false (c ∷ y)) (λ j s. same_level j s y)
+      ∙ sym (level_at q false k c y (mark_at q false (c ∷ y)) refl)
+
+-- the same, if the quotes have a name
+pub short_level : (q : Delimiters) (b e : ℕ) (m : Bool) (x : List ℕ) → q.begin ≡ b ∷ [] → q.end ≡ e ∷ [] → level (record { begin = b ∷ []; end = e ∷ [] }) false 0 0 x ≡ level q m 0 0 x
+short_level q b e m x h g =
+    sym (same_level b e m 0 0 x)
+    ∙ ap (λ (y : List ℕ). let d : Delimiters = record { begin = y; end = e ∷ [] } in level d m 0 0 x) (sym h)
+    ∙ ap (λ (y : List ℕ). let d : Delimiters = record { begin = q.begin; end = y } in level d m 0 0 x) (sym g)
+
+-- a string that ends in the bytes from a place on
+pub short_within : (o : Option ℕ) (y x d : List ℕ) (e at : ℕ) → y ≡ drop at x → d ≡ e ∷ [] → at ≤ length x → IfSome o (λ n. n + 1 ≤ length y) → IfSome o (λ n. at + (n + length d) ≤ length x)
+short_within None y x d e at h g l i = tt
+short_within (Some n) y x d e at h g l i =
+    let r : length (drop at x) ≡ length x - at = length-drop at x in
+    let s : length y ≡ length x - at = ap length h ∙ r in
+    let t : length d ≡ 1 = ap length g in
+    omega arith
