@@ -1,5 +1,5 @@
 -- Acts: what a call leaves is what the definitions' move leaves.
-use Rattle.std.proofs.Common.{◌≡◌, Some, None, ◌++◌, length, ℕ, List, [], ◌∷◌, refl, sym, ap, ◌∙◌, subst, append_assoc}
+use Rattle.std.proofs.Common.{◌≡◌, Bool, true, false, Some, None, ◌++◌, length, ℕ, List, [], ◌∷◌, refl, sym, ap, ◌∙◌, subst, append_assoc}
 use Rattle.std.specs.List.{AllByRecursion}
 use Rattle.m4_state.specs.declared.definition.Def.{Def}
 use Rattle.m4_state.specs.State.{State, IsState}
@@ -7,7 +7,8 @@ use Rattle.m4_builtins.specs.declared.args.Arg.{Arg}
 use Rattle.m4_builtins.specs.declared.place.Place.{Place}
 use Rattle.m4_builtins.specs.Args.{IsArg}
 use Rattle.m4_builtins.proofs.ActKeeps.{act_pushes}
-use Rattle.m4_input.specs.Pending.{Pending}
+use Rattle.m4_input.specs.Pending.{Pending, text_of, line_length}
+use Rattle.m4_input.specs.Input.{Held, longer}
 use Rattle.m4_builtins.specs.Act.{Acted, IsPushed, act}
 use Rattle.std.specs.Prelude.{Result, Ok, Err, IfOk}
 use Rattle.m4_engine.specs.declared.turned.Turned.{Turned}
@@ -19,8 +20,8 @@ use Rattle.m4_engine.specs.Expansion.{RunSoFar, Ends}
 use Rattle.m4_engine.specs.Nesting.{Halted, Close, Outcome, Closed}
 use Rattle.m4_engine.specs.OpenCalls.{Stops, Stacked, Move, Goes, pop}
 use Rattle.m4_engine.specs.Expansion.{Call, Limits, Expansion, Kept, Ended, reading}
-use Rattle.m4_engine.specs.Expand.{turn, join, effected, skip_or_push, with_acted, mode_after_call}
-use Rattle.m4_engine.specs.Engine.{Engine, so_far_of, mode_of, kept_in, outer_of, here_of, configuration, with_made, called_within, ending_in, ending_argument, with_open_call, close_in, step, Moves}
+use Rattle.m4_engine.specs.Expand.{turn, join, effected, skip_line, skip_or_push, with_value, with_acted, mode_after_call}
+use Rattle.m4_engine.specs.Engine.{Engine, so_far_of, mode_of, kept_in, outer_of, here_of, configuration, with_made, called_within, ending_in, ending_argument, with_open_call, close_in, step, moved, put_in, put_token_in, IsReady, Makes, IsMade, StaysBy, Steps, IsTurned, Turns, MayFollow, Moving, Extended, line_move, Moves}
 
 -- the state of an expansion after a call with these effects
 abbrev after : Acted → List ℕ → List ℕ → Engine → Pending → Expansion
@@ -47,12 +48,23 @@ called_is : (e : Engine) (c : Call) (a : Acted) (p : Pending) (o m : List ℕ) �
 called_is e c a p o m h = ap (λ (a : Acted). popped e.open_calls (effect_at a o m e p)) h
 
 -- a call after which the expansion continues
-pub called_goes : (e e1 : Engine) (c : Call) (a : Acted) (p p' : Pending) → act c.definition c.name c.done c.place e.state ≡ a → (a.effect).exit ≡ None → e1 ≡ with_made (a.effect).messages (a.effect).output (a.effect).wrap (record e { state = a.state }) → ((s : Expansion) → s.pending ≡ p → skip_or_push (a.effect).skip (a.effect).push s ≡ Closed (reading p' s)) → (o m : List ℕ) → called_within e.open_calls c (here_of o m e p) ≡ Goes (configuration o m e1 p')
-called_goes e e1 c a p p' h x i r o m =
+pub called_goes : (e e1 : Engine) (c : Call) (a : Acted) (p p' : Pending) → act c.definition c.name c.done c.place e.state ≡ a → (a.effect).exit ≡ None → (a.effect).skip ≡ false → e1 ≡ with_made (a.effect).messages (a.effect).output (a.effect).wrap (record e { state = a.state }) → with_value (a.effect).push p ≡ p' → (o m : List ℕ) → called_within e.open_calls c (here_of o m e p) ≡ Goes (configuration o m e1 p')
+called_goes e e1 c a p p' h x k i r o m =
     called_is e c a p o m h
     ∙ ap (λ v. popped e.open_calls (effected v (a.effect).skip (a.effect).push (after a o m e p))) x
-    ∙ ap (popped e.open_calls) (r (after a o m e p) refl)
+    ∙ ap (λ v. popped e.open_calls (skip_or_push v (a.effect).push (after a o m e p))) k
+    ∙ ap (λ (q : Pending). popped e.open_calls (Closed (reading q (after a o m e p)))) r
     ∙ ap Goes (around a o m e.limits e.state e.saved e.calls e.open_calls e.output e.messages p p' ∙ ap (λ (d : Engine). configuration o m d p') (sym i))
+
+-- a call that discards the rest of the line
+pub called_skips : (e e1 : Engine) (c : Call) (a : Acted) (p : Pending) → act c.definition c.name c.done c.place e.state ≡ a → (a.effect).exit ≡ None → (a.effect).skip ≡ true → e1 ≡ with_made (a.effect).messages (a.effect).output (a.effect).wrap (record e { state = a.state }) → (o m : List ℕ) → called_within e.open_calls c (here_of o m e p) ≡ line_move e1.open_calls (here_of o m e1 p)
+called_skips e e1 c a p h x k i o m =
+    called_is e c a p o m h
+    ∙ ap (λ v. popped e.open_calls (effected v (a.effect).skip (a.effect).push (after a o m e p))) x
+    ∙ ap (λ v. popped e.open_calls (skip_or_push v (a.effect).push (after a o m e p))) k
+    ∙ ap (λ (s : Stacked Expansion Kept). pop Expansion Kept Ended turn join s.outer (skip_line (line_length (text_of (s.here).pending)) s.here))
+    (around a o m e.limits e.state e.saved e.calls e.open_calls e.output e.messages p p)
+    ∙ ap (λ (d : Engine). line_move d.open_calls (here_of o m d p)) (sym i)
 
 -- a call that ends the run
 pub called_exits : (e e1 : Engine) (c : Call) (a : Acted) (p : Pending) (code : ℕ) → act c.definition c.name c.done c.place e.state ≡ a → (a.effect).exit ≡ Some code → e1 ≡ with_made (a.effect).messages (a.effect).output (a.effect).wrap (record e { state = a.state }) → (o m : List ℕ) → called_within e.open_calls c (here_of o m e p) ≡ Stops (Halted (record { so_far = so_far_of o m e1; reason = Ends (causes.Exited code) }))
@@ -89,17 +101,60 @@ closing_in (d ∷ ds) e e2 c p h i o m =
     ∙ ap (λ (x : Call). called_within ds x (here_of o m e1 p)) f
     ∙ ap (λ (x : Engine). called_within x.open_calls c (here_of o m x p)) g
 
-pub moves_by : (e : Engine) (p : Pending) (t : Turned) (f g : List ℕ → List ℕ → Move Expansion Kept Ended) → ((o m : List ℕ) → g o m ≡ f o m) → Moves e p t f → Moves e p t g
-moves_by e p turns.GoesOn f g h k = λ o m. h o m ∙ k o m
-moves_by e p (turns.Ends cause) f g h k = λ o m. h o m ∙ k o m
-
-pub closing : (e e2 e3 : Engine) (c : Call) (p p' : Pending) (t : Turned) → ending_argument e ≡ with_open_call c e2 → Moves e3 p' t (λ o m. called_within e2.open_calls c (here_of o m e2 p)) → Moves e3 p' t (λ o m. step (outer_of e.open_calls) (close_in e.open_calls (here_of o m e p)))
-closing e e2 e3 c p p' t h k = moves_by e3 p' t _ _ (closing_in e.open_calls e e2 c p h refl) k
+pub moves_by : (may : Bool) (e : Engine) (p : Pending) (t : Turned) (f g : Moving) → ((z : List ℕ) (more : Bool) → MayFollow may z more → (o m : List ℕ) → g z more o m ≡ f z more o m) → Moves may e p t f → Moves may e p t g
+moves_by may e p turns.GoesOn f g h k = λ z more c o m. h z more c o m ∙ k z more c o m
+moves_by may e p turns.SkipsLine f g h k = λ z more c o m. h z more c o m ∙ k z more c o m
+moves_by may e p turns.NeedsMore f g h k = tt
+moves_by may e p (turns.Ends cause) f g h k = λ z more c o m. h z more c o m ∙ k z more c o m
 
 -- the same of an answer
-pub closing_result : (e e2 e3 : Engine) (c : Call) (p p' : Pending) (r : Result Turned TurnFault) → ending_argument e ≡ with_open_call c e2 → IfOk r (λ t. Moves e3 p' t (λ o m. called_within e2.open_calls c (here_of o m e2 p))) → IfOk r (λ t. Moves e3 p' t (λ o m. step (outer_of e.open_calls) (close_in e.open_calls (here_of o m e p))))
-closing_result e e2 e3 c p p' (Ok t) h k = closing e e2 e3 c p p' t h k
-closing_result e e2 e3 c p p' (Err x) h k = tt
+pub result_by : (may : Bool) (e : Engine) (p : Pending) (r : Result Turned TurnFault) (f g : Moving) → ((z : List ℕ) (more : Bool) → MayFollow may z more → (o m : List ℕ) → g z more o m ≡ f z more o m) → IfOk r (λ t. Moves may e p t f) → IfOk r (λ t. Moves may e p t g)
+result_by may e p (Ok t) f g h k = moves_by may e p t f g h k
+result_by may e p (Err x) f g h k = tt
+
+pub closing_result : (may : Bool) (e e2 e3 : Engine) (c : Call) (p : Extended) (p' : Pending) (r : Result Turned TurnFault) → ending_argument e ≡ with_open_call c e2 → IfOk r (λ t. Moves may e3 p' t (λ z more o m. called_within e2.open_calls c (here_of o m e2 (p z more)))) → IfOk r (λ t. Moves may e3 p' t (λ z more o m. step (outer_of e.open_calls) (close_in e.open_calls (here_of o m e (p z more)))))
+closing_result may e e2 e3 c p p' r h k = result_by may e3 p' r _ _ (λ z more w o m. closing_in e.open_calls e e2 c (p z more) h refl o m) k
+
+-- a step is a turn, if the token before it was consumed
+stays_back : (i k j : Held) (t : Turned) → (k.pending).may_follow ≡ (i.pending).may_follow → (k.pending).file ≡ (i.pending).file → StaysBy k j t → StaysBy i j t
+stays_back i k j turns.GoesOn f g h = record { ready = h.ready; follows = h.follows ∙ f; file = h.file ∙ g }
+stays_back i k j turns.SkipsLine f g h = record { ready = h.ready; follows = h.follows ∙ f; file = h.file ∙ g }
+stays_back i k j turns.NeedsMore f g h = record { ready = h.ready; follows = h.follows ∙ f; file = h.file ∙ g }
+stays_back i k j (turns.Ends cause) f g h = tt
+
+made_turn : (e e1 : Engine) (i j : Held) (t : Turned) → IsMade t → IsTurned e e1 i j t
+made_turn e e1 i j turns.GoesOn h = h
+made_turn e e1 i j turns.SkipsLine h = h
+made_turn e e1 i j turns.NeedsMore h = absurd h
+made_turn e e1 i j (turns.Ends cause) h = h
+
+pub turned_steps : (e e1 : Engine) (i k j : Held) (r : Result Turned TurnFault) → (k.pending).may_follow ≡ (i.pending).may_follow → (k.pending).file ≡ (i.pending).file → IfOk r (λ t. Moves (i.pending).may_follow e1 j.pending t (λ z more o m. moved (configuration o m e (longer z more i.pending)))) → {to : Turned → Type 0} {old : Engine} → old.limits ≡ e.limits → Steps r old e1 k j to → Turns r e e1 i j
+turned_steps e e1 i k j (Ok t) f g h l s = record {
+  moves = h;
+  ready = stays_back i k j t f g s.ready;
+  limits = s.limits ∙ l;
+  made = made_turn e e1 i j t s.made;
+}
+turned_steps e e1 i k j (Err x) f g h l s = record { moves = tt; ready = tt; limits = tt; made = tt }
+
+-- a turn that ends the expansion, or fails
+stays_same : (i : Held) (t : Turned) → IsReady i → StaysBy i i t
+stays_same i turns.GoesOn r = record { ready = r; follows = refl; file = refl }
+stays_same i turns.SkipsLine r = record { ready = r; follows = refl; file = refl }
+stays_same i turns.NeedsMore r = record { ready = r; follows = refl; file = refl }
+stays_same i (turns.Ends cause) r = tt
+
+pub turned_makes : (e e1 : Engine) (i : Held) (r : Result Turned TurnFault) → IsReady i → IfOk r (λ t. Moves (i.pending).may_follow e1 i.pending t (λ z more o m. moved (configuration o m e (longer z more i.pending)))) → {to : Turned → Type 0} → Makes r e e1 to → Turns r e e1 i i
+turned_makes e e1 i (Ok t) r h m = record { moves = h; ready = stays_same i t r; limits = m.limits; made = made_turn e e1 i i t m.made }
+turned_makes e e1 i (Err x) r h m = record { moves = tt; ready = tt; limits = tt; made = tt }
+
+pub text_limits : (cs : List Call) (x : List ℕ) (e : Engine) → (put_in cs x e).limits ≡ e.limits
+text_limits [] x e = refl
+text_limits (c ∷ cs) x e = refl
+
+pub token_limits : (cs : List Call) (d : Def) (e : Engine) → (put_token_in cs d e).limits ≡ e.limits
+token_limits [] d e = refl
+token_limits (c ∷ cs) d e = refl
 
 -- what a call pushes is in order
 pub acted_pushes : (d : Def) (name : List ℕ) (list : List Arg) (p : Place) (s : State) (a : Acted) → IsState s → AllByRecursion IsArg list → act d name list p s ≡ a → IsPushed (a.effect).push

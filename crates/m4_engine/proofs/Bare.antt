@@ -7,15 +7,15 @@ use Rattle.m4_state.specs.declared.delimiters.Delimiters.{Delimiters}
 use Rattle.m4_builtins.specs.declared.args.Arg.{Arg}
 use Rattle.m4_input.specs.declared.pushed.Pushed.TheVariants as pushes
 use Rattle.m4_input.specs.Pending.{Pending}
+use Rattle.m4_input.specs.Input.{longer}
 use Rattle.m4_builtins.specs.Act.{expands, act}
 use Rattle.m4_builtins.specs.Subst.{subst as substituted}
 use Rattle.m4_engine.specs.declared.turned.Turned.{Turned}
 use Rattle.m4_engine.specs.declared.turned.TurnFault.{TurnFault}
 use Rattle.m4_engine.specs.declared.turned.Turned.TheVariants as turns
-use Rattle.m4_engine.specs.Nesting.{Closed}
-use Rattle.m4_engine.specs.Expansion.{Call, Expansion, reading}
-use Rattle.m4_engine.specs.Expand.{skip_or_push, call}
-use Rattle.m4_engine.specs.Engine.{Engine, outer_of, here_of, with_one_call, with_made, is_deep_in, is_bare, called_within, step, Moves}
+use Rattle.m4_engine.specs.Expansion.{Call}
+use Rattle.m4_engine.specs.Expand.{call}
+use Rattle.m4_engine.specs.Engine.{Engine, outer_of, here_of, with_one_call, with_made, is_deep_in, is_bare, called_within, step, Extended, Pushes, Moves}
 use Rattle.m4_engine.proofs.Acts.{called_goes}
 use Rattle.m4_engine.proofs.Calling.{bare_made}
 
@@ -25,12 +25,12 @@ acted_text c t x e d h =
     ∙ ap (expands e.state) (sym h)
 
 -- what a text gives is read again
-pub text_goes : (e e1 : Engine) (c : Call) (t x : List ℕ) (p p' : Pending) → c.definition ≡ Text t → x ≡ substituted t c.name c.done (e.state).quotes → e1 ≡ with_made [] [] None e → ((s : Expansion) → s.pending ≡ p → skip_or_push false (Some (pushes.Text x)) s ≡ Closed (reading p' s)) → Moves e1 p' turns.GoesOn (λ o m. called_within e.open_calls c (here_of o m e p))
-text_goes e e1 c t x p p' d h m r = λ o n. called_goes e e1 c (expands e.state x) p p' (acted_text c t x e d h) refl m r o n
+pub text_goes : (may : Bool) (e e1 : Engine) (c : Call) (t x : List ℕ) (p p' : Pending) → c.definition ≡ Text t → x ≡ substituted t c.name c.done (e.state).quotes → e1 ≡ with_made [] [] None e → Pushes p p' (Some (pushes.Text x)) → Moves may e1 p' turns.GoesOn (λ z more o m. called_within e.open_calls c (here_of o m e (longer z more p)))
+text_goes may e e1 c t x p p' d h m r = λ z more w o n. called_goes e e1 c (expands e.state x) (longer z more p) (longer z more p') (acted_text c t x e d h) refl refl m (r z more) o n
 
 -- the same of a call with no list
-pub bare_goes : (e e2 e1 : Engine) (c : Call) (p p' : Pending) (r : Result Turned TurnFault) → nat_lt e.calls (e.limits).calls ≡ true → is_deep_in e ≡ false → e2 ≡ with_one_call e → IfOk r (λ t. Moves e1 p' t (λ o m. called_within e2.open_calls c (here_of o m e2 p))) → IfOk r (λ t. (before : Pending) → Moves e1 p' t (λ o m. step (outer_of e.open_calls) (call false c p (here_of o m e before))))
-bare_goes e e2 e1 c p p' r room shallow k h = bare_made e e2 e1 c false p p' r refl room k (ap is_deep_in k ∙ shallow) h
+pub bare_goes : (may : Bool) (e e2 e1 : Engine) (c : Call) (p : Extended) (p' : Pending) (r : Result Turned TurnFault) → nat_lt e.calls (e.limits).calls ≡ true → is_deep_in e ≡ false → e2 ≡ with_one_call e → IfOk r (λ t. Moves may e1 p' t (λ z more o m. called_within e2.open_calls c (here_of o m e2 (p z more)))) → IfOk r (λ t. (before : Extended) → Moves may e1 p' t (λ z more o m. step (outer_of e.open_calls) (call false c (p z more) (here_of o m e (before z more)))))
+bare_goes may e e2 e1 c p p' r room shallow k h = bare_made may e e2 e1 c false p p' r refl room k (ap is_deep_in k ∙ shallow) h
 
 -- a text with the same arguments put in
 pub substituted_by : (t x n name : List ℕ) (l list : List Arg) (q r : Delimiters) → x ≡ substituted t n l q → n ≡ name → l ≡ list → q.begin ≡ r.begin → q.end ≡ r.end → x ≡ substituted t name list r
@@ -42,15 +42,15 @@ substituted_by t x n name l list q r h i j f g =
     ∙ ap (λ (y : List ℕ). let d : Delimiters = record { begin = r.begin; end = y } in substituted t name list d) g
 
 -- a text that some calls give is what one of them gives
-pub called_as : (e e1 : Engine) (x y : List ℕ) (c : Call) (p p' : Pending) (r : Result Turned TurnFault) → IfOk r (λ t. (k : Call) (z : List ℕ) → k.definition ≡ Text z → x ≡ substituted z k.name k.done (e.state).quotes → Moves e1 p' t (λ o m. called_within e.open_calls k (here_of o m e p))) → c.definition ≡ Text y → x ≡ substituted y c.name c.done (e.state).quotes → IfOk r (λ t. Moves e1 p' t (λ o m. called_within e.open_calls c (here_of o m e p)))
-called_as e e1 x y c p p' (Ok t) h d s = h c y d s
-called_as e e1 x y c p p' (Err f) h d s = tt
+pub called_as : (may : Bool) (e e1 : Engine) (x y : List ℕ) (c : Call) (p : Extended) (p' : Pending) (r : Result Turned TurnFault) → IfOk r (λ t. (k : Call) (z : List ℕ) → k.definition ≡ Text z → x ≡ substituted z k.name k.done (e.state).quotes → Moves may e1 p' t (λ z more o m. called_within e.open_calls k (here_of o m e (p z more)))) → c.definition ≡ Text y → x ≡ substituted y c.name c.done (e.state).quotes → IfOk r (λ t. Moves may e1 p' t (λ z more o m. called_within e.open_calls c (here_of o m e (p z more))))
+called_as may e e1 x y c p p' (Ok t) h d s = h c y d s
+called_as may e e1 x y c p p' (Err f) h d s = tt
 
 -- the same after a call with no list, within the limits
-pub expanded_goes : (e e2 e1 : Engine) (x : List ℕ) (p p' : Pending) (r : Result Turned TurnFault) → nat_lt e.calls (e.limits).calls ≡ true → is_deep_in e ≡ false → e2 ≡ with_one_call e → IfOk r (λ t. (k : Call) (z : List ℕ) → k.definition ≡ Text z → x ≡ substituted z k.name k.done (e2.state).quotes → Moves e1 p' t (λ o m. called_within e2.open_calls k (here_of o m e2 p))) → IfOk r (λ t. (k : Call) (z : List ℕ) → k.definition ≡ Text z → x ≡ substituted z k.name k.done (e.state).quotes → (before : Pending) → Moves e1 p' t (λ o m. step (outer_of e.open_calls) (call false k p (here_of o m e before))))
-expanded_goes e e2 e1 x p p' (Ok t) room shallow k h = λ c y d s.
-    bare_goes e e2 e1 c p p' (Ok t) room shallow k (h c y d (s ∙ sym (ap (λ (d : Engine). substituted y c.name c.done (d.state).quotes) k)))
-expanded_goes e e2 e1 x p p' (Err f) room shallow k h = tt
+pub expanded_goes : (may : Bool) (e e2 e1 : Engine) (x : List ℕ) (p : Extended) (p' : Pending) (r : Result Turned TurnFault) → nat_lt e.calls (e.limits).calls ≡ true → is_deep_in e ≡ false → e2 ≡ with_one_call e → IfOk r (λ t. (k : Call) (z : List ℕ) → k.definition ≡ Text z → x ≡ substituted z k.name k.done (e2.state).quotes → Moves may e1 p' t (λ z more o m. called_within e2.open_calls k (here_of o m e2 (p z more)))) → IfOk r (λ t. (k : Call) (z : List ℕ) → k.definition ≡ Text z → x ≡ substituted z k.name k.done (e.state).quotes → (before : Extended) → Moves may e1 p' t (λ z more o m. step (outer_of e.open_calls) (call false k (p z more) (here_of o m e (before z more)))))
+expanded_goes may e e2 e1 x p p' (Ok t) room shallow k h = λ c y d s.
+    bare_goes may e e2 e1 c p p' (Ok t) room shallow k (h c y d (s ∙ sym (ap (λ (d : Engine). substituted y c.name c.done (d.state).quotes) k)))
+expanded_goes may e e2 e1 x p p' (Err f) room shallow k h = tt
 
 -- a call that is bare has no list, and the limits leave it
 pub bare_fits : (listed : Bool) (e : Engine) → is_bare listed e ≡ true → (listed ≡ false) × (nat_lt e.calls (e.limits).calls ≡ true) × (is_deep_in e ≡ false)

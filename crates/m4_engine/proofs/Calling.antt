@@ -1,7 +1,9 @@
 -- Calling: a call that is refused, bare or listed, as the definitions' move.
-use Rattle.std.proofs.Common.{◌≡◌, ℕ, Bool, true, false, List, refl, sym, ap, ◌∙◌, subst, append_assoc}
+use Rattle.std.proofs.Common.{◌≡◌, ◌≤◌, length, ℕ, Bool, true, false, List, refl, sym, ap, ◌∙◌, subst, append_assoc}
 use Rattle.std.specs.Prelude.{Result, Ok, Err, IfOk, nat_lt}
-use Rattle.m4_input.specs.Pending.{Pending, consumed}
+use Rattle.m4_input.specs.Pending.{Pending, text_of, consumed}
+use Rattle.m4_input.specs.Input.{longer}
+use Rattle.m4_input.proofs.Consumed.{consumed_longer}
 use Rattle.m4_builtins.specs.declared.place.Place.{Place}
 use Rattle.m4_builtins.specs.Messages.{error}
 use Rattle.m4_engine.specs.declared.ending.Cause.{Cause}
@@ -12,7 +14,7 @@ use Rattle.m4_engine.specs.Nesting.{Outcome, Halted, Closed}
 use Rattle.m4_engine.specs.OpenCalls.{Stops, Goes, pop}
 use Rattle.m4_engine.specs.Expansion.{Call, Expansion, Kept, Ended, Ends, fail}
 use Rattle.m4_engine.specs.Expand.{turn, join, called, bare, collect, call_unless_deep, call_if_room, call}
-use Rattle.m4_engine.specs.Engine.{Engine, so_far_of, kept_in, outer_of, here_of, configuration, with_engine_message, with_one_call, calls_text, nested_text, with_open_call, is_deep_in, called_within, step, Moves}
+use Rattle.m4_engine.specs.Engine.{Engine, so_far_of, kept_in, outer_of, here_of, configuration, with_engine_message, with_one_call, calls_text, nested_text, with_open_call, is_deep_in, called_within, step, Extended, Moves}
 use Rattle.m4_engine.proofs.Acts.{moves_by}
 
 -- an expansion that fails
@@ -47,9 +49,9 @@ bare_called e c p before o m f h =
     ∙ bare_is (outer_of e.open_calls) (called c (here_of o m (with_one_call e) p) (kept_in e.open_calls))
 
 -- a call without a list is made
-pub bare_result : (e e1 : Engine) (c : Call) (listed : Bool) (p p' : Pending) (r : Result Turned TurnFault) → listed ≡ false → nat_lt e.calls (e.limits).calls ≡ true → is_deep_in (with_one_call e) ≡ false → IfOk r (λ t. Moves e1 p' t (λ o m. called_within e.open_calls c (here_of o m (with_one_call e) p))) → IfOk r (λ t. (before : Pending) → Moves e1 p' t (λ o m. step (outer_of e.open_calls) (call listed c p (here_of o m e before))))
-bare_result e e1 c listed p p' (Ok t) b f h k = λ before. moves_by e1 p' t _ _ (λ o m. ap (λ v. step (outer_of e.open_calls) (call v c p (here_of o m e before))) b ∙ bare_called e c p before o m f h) k
-bare_result e e1 c listed p p' (Err x) b f h k = tt
+pub bare_result : (may : Bool) (e e1 : Engine) (c : Call) (listed : Bool) (p : Extended) (p' : Pending) (r : Result Turned TurnFault) → listed ≡ false → nat_lt e.calls (e.limits).calls ≡ true → is_deep_in (with_one_call e) ≡ false → IfOk r (λ t. Moves may e1 p' t (λ z more o m. called_within e.open_calls c (here_of o m (with_one_call e) (p z more)))) → IfOk r (λ t. (before : Extended) → Moves may e1 p' t (λ z more o m. step (outer_of e.open_calls) (call listed c (p z more) (here_of o m e (before z more)))))
+bare_result may e e1 c listed p p' (Ok t) b f h k = λ before. moves_by may e1 p' t _ _ (λ z more w o m. ap (λ v. step (outer_of e.open_calls) (call v c (p z more) (here_of o m e (before z more)))) b ∙ bare_called e c (p z more) (before z more) o m f h) k
+bare_result may e e1 c listed p p' (Err x) b f h k = tt
 
 -- a call's list begins
 pub listed_goes : (e e1 : Engine) (c : Call) (listed : Bool) (p p' before : Pending) (o m : List ℕ) → listed ≡ true → nat_lt e.calls (e.limits).calls ≡ true → is_deep_in (with_one_call e) ≡ false → p' ≡ consumed 1 p → e1 ≡ with_open_call c (with_one_call e) → step (outer_of e.open_calls) (call listed c p (here_of o m e before)) ≡ Goes (configuration o m e1 p')
@@ -63,8 +65,12 @@ listed_goes e e1 c listed p p' before o m b f h k i =
 pub depth_refused : (e e2 e1 : Engine) (c : Call) (listed : Bool) (p before : Pending) (o m : List ℕ) → nat_lt e.calls (e.limits).calls ≡ true → e2 ≡ with_one_call e → is_deep_in e2 ≡ true → e1 ≡ with_engine_message (error c.place (nested_text (e2.limits).nesting)) e2 → step (outer_of e.open_calls) (call listed c p (here_of o m e before)) ≡ Stops (Halted (record { so_far = so_far_of o m e1; reason = Ends causes.NestingLimit }))
 depth_refused e e2 e1 c listed p before o m f i h k = refused_depth e e1 c listed p before o m f (sym (ap is_deep_in i) ∙ h) (k ∙ ap (λ (x : Engine). with_engine_message (error c.place (nested_text (x.limits).nesting)) x) i)
 
-pub bare_made : (e e2 e1 : Engine) (c : Call) (listed : Bool) (p p' : Pending) (r : Result Turned TurnFault) → listed ≡ false → nat_lt e.calls (e.limits).calls ≡ true → e2 ≡ with_one_call e → is_deep_in e2 ≡ false → IfOk r (λ t. Moves e1 p' t (λ o m. called_within e2.open_calls c (here_of o m e2 p))) → IfOk r (λ t. (before : Pending) → Moves e1 p' t (λ o m. step (outer_of e.open_calls) (call listed c p (here_of o m e before))))
-bare_made e e2 e1 c listed p p' r b f i h k = bare_result e e1 c listed p p' r b f (sym (ap is_deep_in i) ∙ h) (subst (λ (x : Engine). IfOk r (λ t. Moves e1 p' t (λ o m. called_within x.open_calls c (here_of o m x p)))) i k)
+pub bare_made : (may : Bool) (e e2 e1 : Engine) (c : Call) (listed : Bool) (p : Extended) (p' : Pending) (r : Result Turned TurnFault) → listed ≡ false → nat_lt e.calls (e.limits).calls ≡ true → e2 ≡ with_one_call e → is_deep_in e2 ≡ false → IfOk r (λ t. Moves may e1 p' t (λ z more o m. called_within e2.open_calls c (here_of o m e2 (p z more)))) → IfOk r (λ t. (before : Extended) → Moves may e1 p' t (λ z more o m. step (outer_of e.open_calls) (call listed c (p z more) (here_of o m e (before z more)))))
+bare_made may e e2 e1 c listed p p' r b f i h k = bare_result may e e1 c listed p p' r b f (sym (ap is_deep_in i) ∙ h) (subst (λ (x : Engine). IfOk r (λ t. Moves may e1 p' t (λ z more o m. called_within x.open_calls c (here_of o m x (p z more))))) i k)
 
 pub list_begins : (e e2 e1 : Engine) (c : Call) (listed : Bool) (p p' before : Pending) (o m : List ℕ) → listed ≡ true → nat_lt e.calls (e.limits).calls ≡ true → e2 ≡ with_one_call e → is_deep_in e2 ≡ false → p' ≡ consumed 1 p → e1 ≡ with_open_call c e2 → step (outer_of e.open_calls) (call listed c p (here_of o m e before)) ≡ Goes (configuration o m e1 p')
 list_begins e e2 e1 c listed p p' before o m b f i h k j = listed_goes e e1 c listed p p' before o m b f (sym (ap is_deep_in i) ∙ h) k (j ∙ ap (with_open_call c) i)
+
+-- the same, whatever follows the bytes in hand
+pub list_begins_so : (e e2 e1 : Engine) (c : Call) (listed : Bool) (p p' before : Pending) (z : List ℕ) (more : Bool) (o m : List ℕ) → listed ≡ true → nat_lt e.calls (e.limits).calls ≡ true → e2 ≡ with_one_call e → is_deep_in e2 ≡ false → p' ≡ consumed 1 p → 1 ≤ length (text_of p) → e1 ≡ with_open_call c e2 → step (outer_of e.open_calls) (call listed c (longer z more p) (here_of o m e before)) ≡ Goes (configuration o m e1 (longer z more p'))
+list_begins_so e e2 e1 c listed p p' before z more o m b f i h k l j = list_begins e e2 e1 c listed (longer z more p) (longer z more p') before o m b f i h (ap (longer z more) k ∙ sym (consumed_longer z more 1 p l)) j

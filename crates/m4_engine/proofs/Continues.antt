@@ -88,7 +88,7 @@ module _ (z : List ℕ) (b : Bool) where
       let k = f n refl in
       (ap (λ o. skip_line o (L s)) k.0 ∙ ap (λ p. Closed (reading p (L s))) (consumed_longer z b n s.pending k.1), h)
 
-  line_stays : (x : List ℕ) (n : ℕ) → line_length x ≡ Some n → (line_length (x ++ z) ≡ Some n) × (n ≤ length x)
+  pub line_stays : (x : List ℕ) (n : ℕ) → line_length x ≡ Some n → (line_length (x ++ z) ≡ Some n) × (n ≤ length x)
   line_stays [] n e = cc
   line_stays (c ∷ x) n e =
       (elim (c == 10) as (λ v. (elim v [ true ↦ Some 1 | false ↦ one_more (line_length x) ]) ≡ Some n → ((elim v [ true ↦ Some 1 | false ↦ one_more (line_length (x ++ z)) ]) ≡ Some n) × (n ≤ length (c ∷ x))) [

@@ -23,9 +23,9 @@ pub mod InOrder
 pub mod Reloads
 pub mod RunsEnd
 pub mod Calls
+pub mod Longer
 pub mod Inputs
 pub mod Acts
-pub mod Taken
 pub mod Calling
 pub mod Bare
 pub mod Named
@@ -33,8 +33,10 @@ pub mod Turning
 pub mod LoopKeeps
 pub mod Begins
 pub mod Passing
+pub mod SkippedLines
 pub mod Running
 pub mod Seen
+pub mod Blockwise
 pub mod Sessions
 pub mod Issues
 pub mod Sources

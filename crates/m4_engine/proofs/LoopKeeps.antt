@@ -1,13 +1,15 @@
 -- LoopKeeps: what the machine's loop keeps, and what falls at each of its turns.
-use Rattle.std.proofs.Common.{◌≡◌, inl, inr, ℕ, ◌+◌, ◌<◌, List, [], ◌++◌, refl, sym, ap, ◌∙◌, subst, arith, append-nil, append_assoc}
+use Rattle.std.proofs.Common.{◌≡◌, Bool, inl, inr, ℕ, ◌+◌, ◌<◌, List, [], ◌++◌, refl, sym, ap, ◌∙◌, subst, arith, append-nil, append_assoc}
 use Rattle.m4_input.specs.Pending.{Pending}
+use Rattle.m4_input.specs.Input.{longer}
 use Rattle.m4_engine.specs.declared.ending.Cause.{Cause}
 use Rattle.m4_engine.specs.declared.turned.Turned.TheVariants as turns
 use Rattle.m4_engine.specs.Nesting.{Turn, Halt, Close, GoOn, Bare, Opens, Outcome, Halted, Closed}
-use Rattle.m4_engine.specs.OpenCalls.{meaning, moved_meaning}
+use Rattle.m4_engine.specs.OpenCalls.{Goes, meaning, moved_meaning}
 use Rattle.m4_engine.specs.Expansion.{Expansion, Kept, Ended, Ends}
 use Rattle.m4_engine.specs.Expand.{turn, join, out_of_bound_at, size_of, calls_left, expand}
-use Rattle.m4_engine.specs.Engine.{Engine, so_far_of, outer_of, here_of, configuration, after_flush, moved, Moves}
+use Rattle.m4_engine.specs.Engine.{Engine, so_far_of, outer_of, here_of, configuration, after_flush, moved, MayFollow, Moves}
+use Rattle.m4_engine.proofs.Longer.{nothing_more, nothing_follows}
 use Rattle.m4_engine.proofs.CallsFall.{falls}
 use Rattle.m4_engine.proofs.MachineIsNesting.{move_keeps}
 use Rattle.m4_engine.proofs.Shifts.{B, HasLimits, Meets, MeetsOut, turn_meets, join_meets}
@@ -81,14 +83,22 @@ same_left e p =
 some_left : (e e2 : Engine) (p : Pending) (x y : List ℕ) → e ≡ record e2 { output = x ++ e2.output; messages = y ++ e2.messages } → turns_of e2 p ≡ turns_of e p
 some_left e e2 p x y h = sym (same_left e2 p) ∙ sym (ap (λ (d : Engine). turns_of (after_flush d) p) h) ∙ same_left e p
 
+-- a move of the bytes in hand alone
+move_alone : (e e' : Engine) (p p' : Pending) → p'.may_follow ≡ p.may_follow → Moves p.may_follow e' p' turns.GoesOn (λ z more o m. moved (configuration o m e (longer z more p))) → (o m : List ℕ) → moved (configuration o m e p) ≡ Goes (configuration o m e' p')
+move_alone e e' p p' k h o m =
+    ap (λ (q : Pending). moved (configuration o m e q)) (sym (nothing_more p))
+    ∙ h [] p.may_follow (nothing_follows p.may_follow) o m
+    ∙ ap (λ (b : Bool). Goes (configuration o m e' (longer [] b p'))) (sym k)
+    ∙ ap (λ (q : Pending). Goes (configuration o m e' q)) (nothing_more p')
+
 -- a move takes a turn
-pub turn_falls : (e e' : Engine) (p p' : Pending) → Moves e' p' turns.GoesOn (λ o m. moved (configuration o m e p)) → turns_of e' p' < turns_of e p
-turn_falls e e' p p' h =
-    let f : turns_of e' p' + 1 ≡ turns_of e p = turns_fall Expansion Kept Ended turn join out_of_bound_at size_of calls_left falls (configuration [] [] e p) (configuration [] [] e' p') (h [] []) in
+pub turn_falls : (e e' : Engine) (p p' : Pending) → p'.may_follow ≡ p.may_follow → Moves p.may_follow e' p' turns.GoesOn (λ z more o m. moved (configuration o m e (longer z more p))) → turns_of e' p' < turns_of e p
+turn_falls e e' p p' k h =
+    let f : turns_of e' p' + 1 ≡ turns_of e p = turns_fall Expansion Kept Ended turn join out_of_bound_at size_of calls_left falls (configuration [] [] e p) (configuration [] [] e' p') (move_alone e e' p p' k h [] []) in
     omega arith
 
-pub move_falls : (e e' e2 : Engine) (p p' : Pending) (x y : List ℕ) → e' ≡ record e2 { output = x ++ e2.output; messages = y ++ e2.messages } → Moves e' p' turns.GoesOn (λ o m. moved (configuration o m e p)) → turns_of e2 p' < turns_of e p
-move_falls e e' e2 p p' x y d h = subst (λ n. n < turns_of e p) (sym (some_left e' e2 p' x y d)) (turn_falls e e' p p' h)
+pub move_falls : (e e' e2 : Engine) (p p' : Pending) (x y : List ℕ) → p'.may_follow ≡ p.may_follow → e' ≡ record e2 { output = x ++ e2.output; messages = y ++ e2.messages } → Moves p.may_follow e' p' turns.GoesOn (λ z more o m. moved (configuration o m e (longer z more p))) → turns_of e2 p' < turns_of e p
+move_falls e e' e2 p p' x y k d h = subst (λ n. n < turns_of e p) (sym (some_left e' e2 p' x y d)) (turn_falls e e' p p' k h)
 
 -- what a machine comes to, where so much was handed on
 abbrev pub meaning_of : List ℕ → List ℕ → Engine → Pending → Outcome Expansion Ended
@@ -101,13 +111,13 @@ some_means e e2 p o m x y h =
     ∙ sym (ap (λ (d : Engine). meaning_of o m d p) h)
 
 -- a move changes nothing of it
-pub moved_on : (e e' : Engine) (p p' : Pending) (o m : List ℕ) → Moves e' p' turns.GoesOn (λ o m. moved (configuration o m e p)) → meaning_of o m e' p' ≡ meaning_of o m e p
-moved_on e e' p p' o m h =
-    ap (moved_meaning Expansion Kept Ended turn join expand) (sym (h o m))
-    ∙ move_keeps Expansion Kept Ended turn join out_of_bound_at size_of calls_left falls (configuration o m e p)
+pub moved_on : (e e' : Engine) (p p' : Pending) (z : List ℕ) (more : Bool) (o m : List ℕ) → MayFollow p.may_follow z more → Moves p.may_follow e' p' turns.GoesOn (λ z more o m. moved (configuration o m e (longer z more p))) → meaning_of o m e' (longer z more p') ≡ meaning_of o m e (longer z more p)
+moved_on e e' p p' z more o m c h =
+    ap (moved_meaning Expansion Kept Ended turn join expand) (sym (h z more c o m))
+    ∙ move_keeps Expansion Kept Ended turn join out_of_bound_at size_of calls_left falls (configuration o m e (longer z more p))
 
 -- the end is what it came to
-pub end_means : (e e' : Engine) (p p' : Pending) (o m : List ℕ) (cause : Cause) → Moves e' p' (turns.Ends cause) (λ o m. moved (configuration o m e p)) → meaning_of o m e p ≡ Halted (record { so_far = so_far_of o m e'; reason = Ends cause })
-end_means e e' p p' o m cause h =
-    sym (move_keeps Expansion Kept Ended turn join out_of_bound_at size_of calls_left falls (configuration o m e p))
-    ∙ ap (moved_meaning Expansion Kept Ended turn join expand) (h o m)
+pub end_means : (e e' : Engine) (p p' : Pending) (z : List ℕ) (more : Bool) (o m : List ℕ) (cause : Cause) → MayFollow p.may_follow z more → Moves p.may_follow e' p' (turns.Ends cause) (λ z more o m. moved (configuration o m e (longer z more p))) → meaning_of o m e (longer z more p) ≡ Halted (record { so_far = so_far_of o m e'; reason = Ends cause })
+end_means e e' p p' z more o m cause c h =
+    sym (move_keeps Expansion Kept Ended turn join out_of_bound_at size_of calls_left falls (configuration o m e (longer z more p)))
+    ∙ ap (moved_meaning Expansion Kept Ended turn join expand) (h z more c o m)

@@ -13,7 +13,7 @@ module _ (S F D : Type 0) (turn : S → Turn S F D) (join : F → S → Outcome 
   abbrev all_of : S → Outcome S D
   all_of = expansion S F D turn join spent size left
 
-  popped : (ss : List F) (o : Outcome S D) → moved_meaning S F D turn join all_of (pop S F D turn join ss o) ≡ resume S F D turn join all_of ss (then_on o all_of)
+  pub popped : (ss : List F) (o : Outcome S D) → moved_meaning S F D turn join all_of (pop S F D turn join ss o) ≡ resume S F D turn join all_of ss (then_on o all_of)
   popped ss (Halted d) = sym (resume-halted S F D turn join all_of ss d)
   popped ss (Closed s) = refl
 

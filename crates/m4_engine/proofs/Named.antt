@@ -23,8 +23,8 @@ place_of_file at before p line e f g =
     ap (λ (x : List ℕ). let q : Place = record { file = x; line = at.line } in q) (e ∙ ap (λ o. unwrap_or o []) (sym g) ∙ sym (file_is before.file))
     ∙ ap (λ (n : ℕ). let q : Place = record { file = or_empty before.file; line = n } in q) f
 
-pub place_is : (at : Place) (before p : Pending) → at.file ≡ name_of p → at.line ≡ line_of before → before.file ≡ p.file → at ≡ place_at before
-place_is at before p e f g = place_of_file at before p (line_of before) e f g
+pub place_of : (p : Pending) → record { file = name_of p; line = line_of p } ≡ place_at p
+place_of p = place_of_file (record { file = name_of p; line = line_of p }) p p (line_of p) refl refl refl
 
 -- a list follows, or the definition needs none
 recognised : (listed : Bool) (fs : List Kept) (d : Def) (name : List ℕ) (at : Place) (p : Pending) (s : Expansion) → (listed ≡ false → needs_list d ≡ false) → step fs (take_call (answer_of listed) (call_of d name at) p s) ≡ step fs (call listed (call_of d name at) p s)

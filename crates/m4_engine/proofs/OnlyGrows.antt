@@ -15,7 +15,9 @@ use Rattle.m4_input.specs.declared.pushed.Pushed.{Pushed}
 use Rattle.m4_builtins.specs.Act.{needs_list}
 use Rattle.m4_engine.specs.Nesting.{Turn, Halt, Close, GoOn, Bare, Opens, Outcome, Halted, Closed, then_on, after}
 use Rattle.m4_engine.specs.OpenCalls.{Stacked, Move, Stops, Goes, pop, close, take_turn}
-use Rattle.m4_engine.specs.Engine.{Engine, so_far_of, configuration, moved, Moves}
+use Rattle.m4_engine.specs.Engine.{Engine, so_far_of, outer_of, here_of, configuration, moved, Moves, IsTurned}
+use Rattle.m4_input.specs.Input.{Held, longer}
+use Rattle.m4_engine.proofs.Longer.{nothing_follows}
 use Rattle.m4_engine.specs.declared.turned.Turned.{Turned}
 use Rattle.m4_engine.specs.declared.turned.Turned.TheVariants as turns
 use Rattle.m4_engine.specs.Expansion.{RunSoFar, Limits, Call, Mode, Outside, Collecting, Expansion, Kept, Ended, place_at, with_call, reading}
@@ -214,10 +216,31 @@ longer_by e e' x =
     let sum : length e'.output ≡ length e.output + length x.more = ap length x.output ∙ length-append e.output x.more in
     omega arith
 
+-- skipping a line makes nothing
+skipping_makes : (fs : List Kept) (o : Option ℕ) (s : Expansion) → made_by (pop Expansion Kept Ended turn join fs (skip_line o s)) ≡ s.so_far
+skipping_makes fs (Some n) s = refl
+skipping_makes fs None s = by_end (s.pending).may_follow
+  where
+    by_end : (b : Bool) → made_by (pop Expansion Kept Ended turn join fs (skip_all b s)) ≡ s.so_far
+    by_end true = refl
+    by_end false = refl
+
 -- what a turn leaves holds the output of before it
-pub output_stays : (e e' : Engine) (p p' : Pending) (t : Turned) → Moves e' p' t (λ o m. moved (configuration o m e p)) → length e.output ≤ length e'.output
-output_stays e e' p p' turns.GoesOn h = longer_by e e' (subst (λ v. Extends (so_far_of [] [] e) (made_by v)) (h [] []) (move_keeps (configuration [] [] e p)))
-output_stays e e' p p' (turns.Ends cause) h = longer_by e e' (subst (λ v. Extends (so_far_of [] [] e) (made_by v)) (h [] []) (move_keeps (configuration [] [] e p)))
+pub output_stays : (e e' : Engine) (i j : Held) (t : Turned) → Moves (i.pending).may_follow e' j.pending t (λ z more o m. moved (configuration o m e (longer z more i.pending))) → IsTurned e e' i j t → length e.output ≤ length e'.output
+output_stays e e' i j turns.GoesOn h k =
+    let may : Bool = (i.pending).may_follow in
+    longer_by e e' (subst (λ v. Extends (so_far_of [] [] e) (made_by v)) (h [] may (nothing_follows may) [] []) (move_keeps (configuration [] [] e (longer [] may i.pending))))
+output_stays e e' i j turns.SkipsLine h k =
+    let may : Bool = (i.pending).may_follow in
+    longer_by e e' (subst (λ r. Extends (so_far_of [] [] e) r)
+    (ap made_by (h [] may (nothing_follows may) [] []) ∙ skipping_makes (outer_of e'.open_calls) (line_length (text_of (longer [] may j.pending))) (here_of [] [] e' (longer [] may j.pending)))
+    (move_keeps (configuration [] [] e (longer [] may i.pending))))
+output_stays e e' i j turns.NeedsMore h k =
+    let same : length e'.output ≡ length e.output = ap (λ (d : Engine). length d.output) k.engine in
+    omega arith
+output_stays e e' i j (turns.Ends cause) h k =
+    let may : Bool = (i.pending).may_follow in
+    longer_by e e' (subst (λ v. Extends (so_far_of [] [] e) (made_by v)) (h [] may (nothing_follows may) [] []) (move_keeps (configuration [] [] e (longer [] may i.pending))))
 
 -- the expansion of an input
 pub input_keeps : (limits : Limits) (r : RunSoFar) (p : Pending) → Extends r (expand_input limits r p).so_far

@@ -1,124 +1,300 @@
--- Running: the state of the loop over an input's turns, and what its ends say.
-use Rattle.std.proofs.Common.{◌≡◌, ◌<◌, ◌≤◌, ℕ, List, [], ◌∷◌, ◌++◌, Option, refl, sym, ap, ◌∙◌, subst, append-nil, append_assoc, arith}
+-- Running: the state of the loop over the turns of the bytes in hand, and what its ends say.
+use Rattle.std.proofs.Common.{◌≡◌, ◌<◌, ◌≤◌, ℕ, Bool, true, false, List, [], ◌∷◌, ◌++◌, Option, Some, None, refl, sym, ap, ◌∙◌, subst, append-nil, append_assoc, arith}
+use Rattle.std.specs.Prelude.{Ok}
 use Rattle.m4_state.proofs.CallerLaws.{with_bytes-append, with_bytes-nil}
 use Rattle.m4_state.specs.Device.{with_bytes, HasBegun}
-use Rattle.m4_input.specs.Pending.{Pending}
-use Rattle.m4_input.specs.Input.{Held}
+use Rattle.m4_input.specs.Pending.{Pending, text_of, line_length}
+use Rattle.m4_input.specs.Input.{Held, longer, all_read, after_line}
+use Rattle.m4_input.specs.Blocks.{LineGives}
+use Rattle.m4_input.proofs.Decided.{line_open, no_newline}
 use Rattle.m4_engine.specs.declared.ending.Cause.{Cause}
 use Rattle.m4_engine.specs.declared.ending.Cause.TheVariants as causes
+use Rattle.m4_engine.specs.declared.in_hand.InHand.TheVariants as hands
+use Rattle.m4_engine.specs.declared.in_hand.Wanted.{Wanted}
+use Rattle.m4_engine.specs.declared.in_hand.Wanted.TheVariants as wanted
 use Rattle.m4_engine.specs.declared.turned.Turned.{Turned}
 use Rattle.m4_engine.specs.declared.turned.Turned.TheVariants as turns
 use Rattle.m4_engine.specs.Nesting.{Outcome, Halted, Closed, then_on}
-use Rattle.m4_engine.specs.OpenCalls.{resume}
-use Rattle.m4_engine.specs.Expansion.{Call, Expansion, Kept, Ended, Ends}
-use Rattle.m4_engine.specs.Expand.{turn, join, expand, expansion_of, ended_of}
-use Rattle.m4_engine.specs.Engine.{Engine, so_far_of, outer_of, here_of, configuration, after_flush, moved, IsReady, Moves, Passes}
-use Rattle.m4_engine.specs.Expands.{made_before, input_expansion, Expanded, Expands, FlushesPrefix, FlushesSome, IsIdle}
-use Rattle.m4_engine.specs.Writers.{writers, Broken}
-use Rattle.m4_engine.proofs.Begins.{begun_after}
+use Rattle.m4_engine.specs.OpenCalls.{Stacked, Move, Goes, pop, resume, moved_meaning}
+use Rattle.m4_engine.specs.Expansion.{RunSoFar, Call, Expansion, Kept, Ended, Ends, NeedsInput}
+use Rattle.m4_engine.specs.Expand.{turn, join, expand, skip_line, skip_all, out_of_bound_at, size_of, calls_left}
+use Rattle.m4_engine.specs.Engine.{Engine, MayFollow, Moving, so_far_of, outer_of, here_of, configuration, after_flush, line_move, moved, IsReady, IsFront, Moves, Needs, IsMade, IsTurned, Stays, StaysBy, Passes}
+use Rattle.m4_engine.specs.Expands.{FlushesPrefix, FlushesSome}
+use Rattle.m4_engine.specs.Continued.{skipped_first, comes_to, Leads, HasWritten, IsFlushed, HandNeeds, HandEnds, HandBreaks, HandGives, HasMade, so_far_in}
+use Rattle.m4_engine.specs.Writers.{Contents, writers}
+use Rattle.m4_engine.proofs.Begins.{some_all}
+use Rattle.m4_engine.proofs.CallsFall.{falls}
 use Rattle.m4_engine.proofs.Growth.{Extends, made_out}
+use Rattle.m4_engine.proofs.Inputs.{none_is_front}
+use Rattle.m4_engine.proofs.Longer.{nothing_more}
 use Rattle.m4_engine.proofs.LoopKeeps.{turns_of, move_falls, meaning_of, some_means, moved_on, end_means}
-use Rattle.m4_engine.proofs.Passing.{passes_reaches, passes_ready, passes_limits}
-use Rattle.m4_engine.proofs.OnlyGrows.{extends_same, extends_more, whole_keeps, list_keeps}
+use Rattle.m4_engine.proofs.MachineIsNesting.{resume-halted, popped, move_keeps}
+use Rattle.m4_engine.proofs.Passing.{Reaches, passes_reaches, passes_ready, passes_limits, passes_follows}
+use Rattle.m4_engine.proofs.OnlyGrows.{extends_same, extends_more, whole_keeps, then_keeps, list_keeps}
+use Rattle.m4_engine.proofs.SkippedLines.{all_gone, skip_cut, line_done, line_keeps, line_drops}
 
--- the bytes that were flushed are part of the expansion's result, and the machine's state gives the rest
-pub record Running (e0 : Engine) (p0 : Pending) (out0 reported0 : Option (List ℕ)) (e : Engine) (i : Held) (out reported : Option (List ℕ)) : Type 0 where
+-- ---- where one place leads
+
+-- on from a place that another leads to
+pub leads_then : (w v u : Wanted) (e0 e e2 : Engine) (p0 p q : Pending) (o m x y : List ℕ) → Leads w e0 p0 v e p o m → Leads v e p u e2 q x y → Leads w e0 p0 u e2 q (o ++ x) (m ++ y)
+leads_then w v u e0 e e2 p0 p q o m x y f g = record {
+  means = λ z more c a b.
+      ap (λ (n : List ℕ). comes_to u (configuration n (b ++ (m ++ y)) e2 (longer z more q))) (sym (append_assoc a o x))
+      ∙ ap (λ (n : List ℕ). comes_to u (configuration ((a ++ o) ++ x) n e2 (longer z more q))) (sym (append_assoc b m y))
+      ∙ g.means z more (subst (λ v. MayFollow v z more) (sym f.follows) c) (a ++ o) (b ++ m)
+      ∙ f.means z more c a b;
+  follows = g.follows ∙ f.follows;
+  limits = g.limits ∙ f.limits;
+}
+
+-- the same, if nothing was written on the way
+pub leads_on : (w v u : Wanted) (e0 e e2 : Engine) (p0 p q : Pending) (o m : List ℕ) → Leads w e0 p0 v e p o m → Leads v e p u e2 q [] [] → Leads w e0 p0 u e2 q o m
+leads_on w v u e0 e e2 p0 p q o m f g =
+    subst (λ (x : List ℕ). Leads w e0 p0 u e2 q x m) (append-nil o)
+    (subst (λ (y : List ℕ). Leads w e0 p0 u e2 q (o ++ []) y) (append-nil m) (leads_then w v u e0 e e2 p0 p q o m [] [] f g))
+
+-- a step that leads on, with what was written so far in front
+step_leads : (w v : Wanted) (e e2 : Engine) (p q : Pending) → ((z : List ℕ) (more : Bool) → MayFollow p.may_follow z more → (a b : List ℕ) → comes_to v (configuration a b e2 (longer z more q)) ≡ comes_to w (configuration a b e (longer z more p))) → q.may_follow ≡ p.may_follow → e2.limits ≡ e.limits → Leads w e p v e2 q [] []
+step_leads w v e e2 p q h f l = record {
+  means = λ z more c a b.
+      ap (λ (n : List ℕ). comes_to v (configuration n (b ++ []) e2 (longer z more q))) (append-nil a)
+      ∙ ap (λ (n : List ℕ). comes_to v (configuration a n e2 (longer z more q))) (append-nil b)
+      ∙ h z more c a b;
+  follows = f;
+  limits = l;
+}
+
+pub leads_nowhere : (w : Wanted) (e : Engine) (p : Pending) → Leads w e p w e p [] []
+leads_nowhere w e p = step_leads w w e e p p (λ z more c a b. refl) refl refl
+
+-- tokens that are plain text were added at once
+pub leads_past : (e e1 : Engine) (i i1 : Held) → Passes e e1 i i1 → Leads wanted.Token e i.pending wanted.Token e1 i1.pending [] []
+leads_past e e1 i i1 h = step_leads wanted.Token wanted.Token e e1 i.pending i1.pending (λ z more c a b. (passes_reaches e e1 i i1 h).means z more c a b) (passes_follows e e1 i i1 h) (passes_limits e e1 i i1 h)
+
+-- a turn after which the expansion continues
+leads_turn : (e e' : Engine) (p p' : Pending) → p'.may_follow ≡ p.may_follow → e'.limits ≡ e.limits → Moves p.may_follow e' p' turns.GoesOn (λ z more o m. moved (configuration o m e (longer z more p))) → Leads wanted.Token e p wanted.Token e' p' [] []
+leads_turn e e' p p' f l h = step_leads wanted.Token wanted.Token e e' p p' (λ z more c a b. moved_on e e' p p' z more a b c h) f l
+
+-- a call was made that discards the rest of the line
+pub leads_to_line : (e e' : Engine) (p p' : Pending) → p'.may_follow ≡ p.may_follow → e'.limits ≡ e.limits → Moves p.may_follow e' p' turns.SkipsLine (λ z more o m. moved (configuration o m e (longer z more p))) → Leads wanted.Token e p wanted.Line e' p' [] []
+leads_to_line e e' p p' f l h = step_leads wanted.Token wanted.Line e e' p p' (λ z more c a b.
+    sym (popped Expansion Kept Ended turn join out_of_bound_at size_of calls_left falls (outer_of e'.open_calls) (skipped_first wanted.Line (here_of a b e' (longer z more p'))))
+    ∙ ap (moved_meaning Expansion Kept Ended turn join expand) (sym (h z more c a b))
+    ∙ move_keeps Expansion Kept Ended turn join out_of_bound_at size_of calls_left falls (configuration a b e (longer z more p))) f l
+
+-- the rest of the line was in hand
+pub leads_past_line : (e : Engine) (p q : Pending) → after_line p ≡ Some q → Leads wanted.Line e p wanted.Token e q [] []
+leads_past_line e p q h = step_leads wanted.Line wanted.Token e e p q (λ z more c a b.
+    ap (λ v. resume Expansion Kept Ended turn join expand (outer_of e.open_calls) (then_on v expand)) (sym (line_done (here_of a b e p) p q z more c h))) (line_keeps p q h) refl
+
+-- it was not: the bytes in hand were dropped
+pub leads_along_line : (e : Engine) (p : Pending) → after_line p ≡ None → Leads wanted.Line e p wanted.Line e (all_read p) [] []
+leads_along_line e p h = step_leads wanted.Line wanted.Line e e p (all_read p) (λ z more c a b.
+    ap (λ v. resume Expansion Kept Ended turn join expand (outer_of e.open_calls) (then_on v expand)) (sym (skip_cut (here_of a b e p) p z more (no_newline p h)))) refl refl
+
+-- some of the buffers were flushed
+pub leads_flushed : (v : Wanted) (e e2 : Engine) (p : Pending) (x y : List ℕ) → e ≡ record e2 { output = x ++ e2.output; messages = y ++ e2.messages } → Leads v e p v e2 p x y
+leads_flushed v e e2 p x y h = record {
+  means = λ z more c a b.
+      (rw (append_assoc a x e2.output, append_assoc b y e2.messages) refl)
+      ∙ sym (ap (λ (d : Engine). comes_to v (configuration a b d (longer z more p))) h);
+  follows = refl;
+  limits = sym (ap (λ (d : Engine). d.limits) h);
+}
+
+-- ---- the loop over turns
+
+-- so much was written since the loop began, and the expansion goes on from here
+pub record Running (w : Wanted) (e0 : Engine) (p0 : Pending) (out0 reported0 : Option (List ℕ)) (e : Engine) (i : Held) (out reported : Option (List ℕ)) : Type 0 where
   pub o : List ℕ
   pub m : List ℕ
-  pub output : out ≡ with_bytes out0 o
-  pub messages : reported ≡ with_bytes reported0 m
-  pub means : meaning_of o m e i.pending ≡ expand (here_of [] [] e0 p0)
+  pub written : HasWritten o m (writers out0 out reported0 reported)
+  pub leads : Leads w e0 p0 wanted.Token e i.pending o m
   pub ready : IsReady i
-  pub limits : e.limits ≡ e0.limits
 
--- the loop begins
-pub begins : (e : Engine) (i : Held) (out reported : Option (List ℕ)) → IsIdle e → IsReady i → Running e i.pending out reported e i out reported
-begins e i out reported d r = record {
-  o = [];
-  m = [];
-  output = with_bytes-nil out;
-  messages = with_bytes-nil reported;
-  means = ap (λ (cs : List Call). resume Expansion Kept Ended turn join expand (outer_of cs) (expand (here_of [] [] e i.pending))) d.open_calls;
-  ready = r;
-  limits = refl;
+none_written : (out reported : Option (List ℕ)) → HasWritten [] [] (writers out out reported reported)
+none_written out reported = record { output = with_bytes-nil out; messages = with_bytes-nil reported }
+
+pub more_written : (o m x y : List ℕ) (out0 out out' reported0 reported reported' : Option (List ℕ)) → HasWritten o m (writers out0 out reported0 reported) → out' ≡ with_bytes out x → reported' ≡ with_bytes reported y → HasWritten (o ++ x) (m ++ y) (writers out0 out' reported0 reported')
+more_written o m x y out0 out out' reported0 reported reported' h f g = record {
+  output = f ∙ ap (λ n. with_bytes n x) h.output ∙ with_bytes-append out0 o x;
+  messages = g ∙ ap (λ n. with_bytes n y) h.messages ∙ with_bytes-append reported0 m y;
 }
 
--- tokens that are plain text were added to the output at once
-pub passed : (e0 e e1 : Engine) (p0 : Pending) (i i1 : Held) (out0 reported0 out reported : Option (List ℕ)) → Running e0 p0 out0 reported0 e i out reported → Passes e e1 i i1 → Running e0 p0 out0 reported0 e1 i1 out reported
-passed e0 e e1 p0 i i1 out0 reported0 out reported r h = record {
+-- the loop begins at a token
+pub begins_at_token : (e : Engine) (i : Held) (out reported : Option (List ℕ)) → IsReady i → Running wanted.Token e i.pending out reported e i out reported
+begins_at_token e i out reported r = record { o = []; m = []; written = none_written out reported; leads = leads_nowhere wanted.Token e i.pending; ready = r }
+
+ready_after_line : (i j : Held) → IsReady i → LineGives i j true → IsReady j
+ready_after_line i j r h = record { sound = h.1 ∙ r.sound; front = none_is_front (j.pending).definition (line_drops i.pending j.pending h.0) }
+
+-- or after the rest of a line
+pub begins_after_line : (e : Engine) (i j : Held) (out reported : Option (List ℕ)) → IsReady i → LineGives i j true → Running wanted.Line e i.pending out reported e j out reported
+begins_after_line e i j out reported r h = record { o = []; m = []; written = none_written out reported; leads = leads_past_line e i.pending j.pending h.0; ready = ready_after_line i j r h }
+
+pub passed : (w : Wanted) (e0 e e1 : Engine) (p0 : Pending) (i i1 : Held) (out0 reported0 out reported : Option (List ℕ)) → Running w e0 p0 out0 reported0 e i out reported → Passes e e1 i i1 → Running w e0 p0 out0 reported0 e1 i1 out reported
+passed w e0 e e1 p0 i i1 out0 reported0 out reported r h = record {
   o = r.o;
   m = r.m;
-  output = r.output;
-  messages = r.messages;
-  means = (passes_reaches e e1 i i1 r.ready h).means r.o r.m ∙ r.means;
+  written = r.written;
+  leads = leads_on w wanted.Token wanted.Token e0 e e1 p0 i.pending i1.pending r.o r.m r.leads (leads_past e e1 i i1 h);
   ready = passes_ready e e1 i i1 r.ready h;
-  limits = passes_limits e e1 i i1 h ∙ r.limits;
 }
 
--- a turn after which it goes on
-goes_on : (e0 e e' e2 : Engine) (p0 : Pending) (i i' : Held) (out0 reported0 out reported out' reported' : Option (List ℕ)) → Running e0 p0 out0 reported0 e i out reported → Moves e' i'.pending turns.GoesOn (λ o m. moved (configuration o m e i.pending)) → IsReady i' → e'.limits ≡ e.limits → FlushesSome e' e2 (writers out out' reported reported') → Running e0 p0 out0 reported0 e2 i' out' reported'
-goes_on e0 e e' e2 p0 i i' out0 reported0 out reported out' reported' r h q l f = record {
+-- a call that discards a line, and the line that was in hand, are one turn
+line_goes : (may : Bool) (e' : Engine) (p' q : Pending) (f : Moving) → may ≡ p'.may_follow → after_line p' ≡ Some q → Moves may e' p' turns.SkipsLine f → Moves may e' q turns.GoesOn f
+line_goes may e' p' q f g h k = λ z more c o m.
+    k z more c o m
+    ∙ ap (pop Expansion Kept Ended turn join (outer_of e'.open_calls)) (line_done (here_of o m e' p') p' q z more (subst (λ v. MayFollow v z more) g c) h)
+
+-- a turn after which it goes on, and a flush
+goes_on : (w : Wanted) (e0 e e' e2 : Engine) (p0 p' : Pending) (i i' : Held) (out0 reported0 out reported out' reported' : Option (List ℕ)) → Running w e0 p0 out0 reported0 e i out reported → Moves (i.pending).may_follow e' p' turns.GoesOn (λ z more o m. moved (configuration o m e (longer z more i.pending))) → p'.may_follow ≡ (i.pending).may_follow → i'.pending ≡ p' → IsReady i' → e'.limits ≡ e.limits → FlushesSome e' e2 (writers out out' reported reported') → Running w e0 p0 out0 reported0 e2 i' out' reported'
+goes_on w e0 e e' e2 p0 p' i i' out0 reported0 out reported out' reported' r h g s q l f = record {
   o = r.o ++ f.front;
   m = r.m ++ f.reported;
-  output = f.output ∙ ap (λ x. with_bytes x f.front) r.output ∙ with_bytes-append out0 r.o f.front;
-  messages = f.messages ∙ ap (λ x. with_bytes x f.reported) r.messages ∙ with_bytes-append reported0 r.m f.reported;
-  means =
-      some_means e' e2 i'.pending r.o r.m f.front f.reported f.held
-      ∙ moved_on e e' i.pending i'.pending r.o r.m h ∙ r.means;
+  written = more_written r.o r.m f.front f.reported out0 out out' reported0 reported reported' r.written f.output f.messages;
+  leads = subst (λ (x : Pending). Leads w e0 p0 wanted.Token e2 x (r.o ++ f.front) (r.m ++ f.reported)) (sym s)
+      (leads_then w wanted.Token wanted.Token e0 e' e2 p0 p' p' r.o r.m f.front f.reported
+      (leads_on w wanted.Token wanted.Token e0 e e' p0 i.pending p' r.o r.m r.leads (leads_turn e e' i.pending p' g l h))
+      (leads_flushed wanted.Token e' e2 p' f.front f.reported f.held));
   ready = q;
-  limits = sym (ap (λ (d : Engine). d.limits) f.held) ∙ l ∙ r.limits;
 }
 
--- between two inputs the machine is at the start of an input's expansion
-idle_here : (e : Engine) (p : Pending) → IsIdle e → here_of [] [] e p ≡ expansion_of e.limits (made_before e) p
-idle_here e p d =
-    ap (λ (x : List ℕ). here_of [] [] (record e { output = x }) p) d.output
-    ∙ ap (λ (x : List ℕ). here_of [] [] (record e { output = []; messages = x }) p) d.messages
-    ∙ ap (λ (x : List Call). here_of [] [] (record e { output = []; messages = []; open_calls = x }) p) d.open_calls
+pub went_on : (w : Wanted) (e0 e e' e2 : Engine) (p0 : Pending) (i i' : Held) (out0 reported0 out reported out' reported' : Option (List ℕ)) (t : Turned) → Running w e0 p0 out0 reported0 e i out reported → Moves (i.pending).may_follow e' i'.pending t (λ z more o m. moved (configuration o m e (longer z more i.pending))) → StaysBy i i' t → t ≡ turns.GoesOn → e'.limits ≡ e.limits → FlushesSome e' e2 (writers out out' reported reported') → Running w e0 p0 out0 reported0 e2 i' out' reported'
+went_on w e0 e e' e2 p0 i i' out0 reported0 out reported out' reported' t r h y k l f =
+    let s = subst (StaysBy i i') k y in
+    goes_on w e0 e e' e2 p0 i'.pending i i' out0 reported0 out reported out' reported' r (subst (λ (x : Turned). Moves (i.pending).may_follow e' i'.pending x (λ z more o m. moved (configuration o m e (longer z more i.pending)))) k h) s.follows refl s.ready l f
 
-comes_is : (e : Engine) (p : Pending) → IsIdle e → input_expansion e p ≡ ended_of (expand (here_of [] [] e p))
-comes_is e p d = ap (λ (s : Expansion). ended_of (expand s)) (sym (idle_here e p d))
+-- the same after a line that was in hand
+pub went_past_line : (w : Wanted) (e0 e e' e2 : Engine) (p0 : Pending) (i k i' : Held) (out0 reported0 out reported out' reported' : Option (List ℕ)) (t : Turned) → Running w e0 p0 out0 reported0 e i out reported → Moves (i.pending).may_follow e' k.pending t (λ z more o m. moved (configuration o m e (longer z more i.pending))) → StaysBy i k t → t ≡ turns.SkipsLine → e'.limits ≡ e.limits → FlushesSome e' e2 (writers out out' reported reported') → LineGives k i' true → Running w e0 p0 out0 reported0 e2 i' out' reported'
+went_past_line w e0 e e' e2 p0 i k i' out0 reported0 out reported out' reported' t r h y g l f d =
+    let s = subst (StaysBy i k) g y in
+    goes_on w e0 e e' e2 p0 i'.pending i i' out0 reported0 out reported out' reported' r
+    (line_goes (i.pending).may_follow e' k.pending i'.pending _ (sym s.follows) d.0 (subst (λ (x : Turned). Moves (i.pending).may_follow e' k.pending x (λ z more o m. moved (configuration o m e (longer z more i.pending)))) g h))
+    (line_keeps k.pending i'.pending d.0 ∙ s.follows) refl (ready_after_line k i' s.ready d) l f
 
--- all was written
-wrote_all : (o : Option (List ℕ)) (a : Option (List ℕ)) (x : List ℕ) → a ≡ with_bytes o x → HasBegun o a x
-wrote_all o a x e = ([], record { front = x; parts = sym (append-nil x); holds = e })
+-- the measure falls at both
+pub fell : (e e1 e' e2 : Engine) (i i1 i' : Held) (out out' reported reported' : Option (List ℕ)) (t : Turned) → Passes e e1 i i1 → Moves (i1.pending).may_follow e' i'.pending t (λ z more o m. moved (configuration o m e1 (longer z more i1.pending))) → StaysBy i1 i' t → t ≡ turns.GoesOn → FlushesSome e' e2 (writers out out' reported reported') → turns_of e2 i'.pending < turns_of e i.pending
+fell e e1 e' e2 i i1 i' out out' reported reported' t w h y k f =
+    let s = subst (StaysBy i1 i') k y in
+    let a : turns_of e2 i'.pending < turns_of e1 i1.pending = move_falls e1 e' e2 i1.pending i'.pending f.front f.reported s.follows f.held (subst (λ (x : Turned). Moves (i1.pending).may_follow e' i'.pending x (λ z more o m. moved (configuration o m e1 (longer z more i1.pending)))) k h) in
+    let b : turns_of e1 i1.pending ≤ turns_of e i.pending = (passes_reaches e e1 i i1 w).turns in
+    omega arith
 
-broken_of : (old new : Engine) (d : Ended) (cause : Cause) (out0 out reported0 reported : Option (List ℕ)) → Expanded old new d cause (writers out0 out reported0 reported) → Broken d (writers out0 out reported0 reported)
-broken_of old new d cause out0 out reported0 reported x = record {
-  output = wrote_all out0 out (d.so_far).output x.output;
-  messages = wrote_all reported0 reported (d.so_far).messages x.messages;
-}
+pub fell_past_line : (e e1 e' e2 : Engine) (i i1 k i' : Held) (out out' reported reported' : Option (List ℕ)) (t : Turned) → Passes e e1 i i1 → Moves (i1.pending).may_follow e' k.pending t (λ z more o m. moved (configuration o m e1 (longer z more i1.pending))) → StaysBy i1 k t → t ≡ turns.SkipsLine → FlushesSome e' e2 (writers out out' reported reported') → LineGives k i' true → turns_of e2 i'.pending < turns_of e i.pending
+fell_past_line e e1 e' e2 i i1 k i' out out' reported reported' t w h y g f d =
+    let s = subst (StaysBy i1 k) g y in
+    let a : turns_of e2 i'.pending < turns_of e1 i1.pending = move_falls e1 e' e2 i1.pending i'.pending f.front f.reported (line_keeps k.pending i'.pending d.0 ∙ s.follows) f.held
+    (line_goes (i1.pending).may_follow e' k.pending i'.pending _ (sym s.follows) d.0 (subst (λ (x : Turned). Moves (i1.pending).may_follow e' k.pending x (λ z more o m. moved (configuration o m e1 (longer z more i1.pending)))) g h)) in
+    let b : turns_of e1 i1.pending ≤ turns_of e i.pending = (passes_reaches e e1 i i1 w).turns in
+    omega arith
 
-expands_of : (old new : Engine) (p : Pending) (out0 out reported0 reported : Option (List ℕ)) (cause : Cause) → Expanded old new (input_expansion old p) cause (writers out0 out reported0 reported) → Expands old new p (writers out0 out reported0 reported) cause
-expands_of old new p out0 out reported0 reported causes.Done x = x
-expands_of old new p out0 out reported0 reported (causes.Exited n) x = x
-expands_of old new p out0 out reported0 reported causes.EndInString x = x
-expands_of old new p out0 out reported0 reported causes.EndInComment x = x
-expands_of old new p out0 out reported0 reported causes.EndInArguments x = x
-expands_of old new p out0 out reported0 reported causes.ExpansionLimit x = x
-expands_of old new p out0 out reported0 reported causes.NestingLimit x = x
-expands_of old new p out0 out reported0 reported (causes.Frozen f) x = x
-expands_of old new p out0 out reported0 reported causes.Read x = broken_of old new (input_expansion old p) causes.Read out0 out reported0 reported x
-expands_of old new p out0 out reported0 reported causes.Write x = broken_of old new (input_expansion old p) causes.Write out0 out reported0 reported x
-expands_of old new p out0 out reported0 reported causes.OutOfMemory x = broken_of old new (input_expansion old p) causes.OutOfMemory out0 out reported0 reported x
+-- ---- the ends of the loop
 
--- a turn after which it ends
-pub ends : (e0 e e' : Engine) (p0 p' : Pending) (i : Held) (out0 reported0 out reported out' reported' : Option (List ℕ)) (cause : Cause) → IsIdle e0 → Running e0 p0 out0 reported0 e i out reported → Moves e' p' (turns.Ends cause) (λ o m. moved (configuration o m e i.pending)) → e'.limits ≡ e.limits → out' ≡ with_bytes out e'.output → reported' ≡ with_bytes reported e'.messages → Expands e0 (after_flush e') p0 (writers out0 out' reported0 reported') cause
-ends e0 e e' p0 p' i out0 reported0 out reported out' reported' cause d r h l f g =
-    let end : Ended = record { so_far = so_far_of r.o r.m e'; reason = Ends cause } in
-    let c : input_expansion e0 p0 ≡ end = comes_is e0 p0 d ∙ ap ended_of (sym r.means ∙ end_means e e' i.pending p' r.o r.m cause h) in
-    let x : Expanded e0 (after_flush e') end cause (writers out0 out' reported0 reported') = record {
-      reason = refl;
-      limits = l ∙ r.limits;
-      state = refl;
-      saved = refl;
-      calls = refl;
-      output = f ∙ ap (λ x. with_bytes x e'.output) r.output ∙ with_bytes-append out0 r.o e'.output;
-      messages = g ∙ ap (λ x. with_bytes x e'.messages) r.messages ∙ with_bytes-append reported0 r.m e'.messages;
-    } in
-    expands_of e0 (after_flush e') p0 out0 out' reported0 reported' cause (subst (λ (y : Ended). Expanded e0 (after_flush e') y cause (writers out0 out' reported0 reported')) (sym c) x)
+flushed_is : (e : Engine) → IsFlushed (after_flush e)
+flushed_is e = record { output = refl; messages = refl }
 
--- what a machine comes to goes on from what it has made
+all_held : (e : Engine) → e ≡ record (after_flush e) { output = e.output ++ []; messages = e.messages ++ [] }
+all_held e =
+    ap (λ (x : List ℕ). let d : Engine = record e { output = x } in d) (sym (append-nil e.output))
+    ∙ ap (λ (x : List ℕ). let d : Engine = record e { output = e.output ++ []; messages = x } in d) (sym (append-nil e.messages))
+
+-- what is made after a flush is the same
+same_so_far : (a b : List ℕ) (e : Engine) → so_far_of (a ++ e.output) (b ++ e.messages) (after_flush e) ≡ so_far_of a b e
+same_so_far a b e = rw (append-nil (a ++ e.output), append-nil (b ++ e.messages)) refl
+
+-- a turn after which the expansion ends
+pub ended : (w : Wanted) (e0 e e' e2 : Engine) (p0 p' : Pending) (i : Held) (out0 reported0 out reported out' reported' : Option (List ℕ)) (t : Turned) (cause : Cause) → Running w e0 p0 out0 reported0 e i out reported → Moves (i.pending).may_follow e' p' t (λ z more o m. moved (configuration o m e (longer z more i.pending))) → t ≡ turns.Ends cause → e2 ≡ after_flush e' → e'.limits ≡ e.limits → out' ≡ with_bytes out e'.output → reported' ≡ with_bytes reported e'.messages → HandEnds w e0 p0 cause e2 (writers out0 out' reported0 reported')
+ended w e0 e e' e2 p0 p' i out0 reported0 out reported out' reported' t cause r h k j l f g =
+    subst (λ (x : Engine). HandEnds w e0 p0 cause x (writers out0 out' reported0 reported')) (sym j)
+    (record {
+      o = r.o ++ e'.output;
+      m = r.m ++ e'.messages;
+      written = more_written r.o r.m e'.output e'.messages out0 out out' reported0 reported reported' r.written f g;
+      ends = λ z more c a b.
+          sym ((r.leads).means z more c a b)
+          ∙ end_means e e' i.pending p' z more (a ++ r.o) (b ++ r.m) cause (subst (λ v. MayFollow v z more) (sym (r.leads).follows) c)
+          (subst (λ (x : Turned). Moves (i.pending).may_follow e' p' x (λ z more o m. moved (configuration o m e (longer z more i.pending)))) k h)
+          ∙ ap (λ (s : RunSoFar). Halted (let d : Ended = record { so_far = s; reason = Ends cause } in d))
+          (sym (same_so_far (a ++ r.o) (b ++ r.m) e')
+          ∙ ap (λ (n : List ℕ). so_far_of n ((b ++ r.m) ++ e'.messages) (after_flush e')) (append_assoc a r.o e'.output)
+          ∙ ap (λ (n : List ℕ). so_far_of (a ++ (r.o ++ e'.output)) n (after_flush e')) (append_assoc b r.m e'.messages));
+      flushed = flushed_is e';
+      limits = l ∙ (r.leads).limits;
+    })
+
+-- the bytes in hand don't decide the next token
+pub needed : (w : Wanted) (e0 e e' e2 : Engine) (p0 : Pending) (i0 i i' : Held) (out0 reported0 out reported out' reported' : Option (List ℕ)) (t : Turned) → p0 ≡ i0.pending → Running w e0 p0 out0 reported0 e i out reported → IsTurned e e' i i' t → t ≡ turns.NeedsMore → e2 ≡ after_flush e' → out' ≡ with_bytes out e'.output → reported' ≡ with_bytes reported e'.messages → HandNeeds w e0 i0 wanted.Token e2 i' (writers out0 out' reported0 reported')
+needed w e0 e e' e2 p0 i0 i i' out0 reported0 out reported out' reported' t p r y k j f g =
+    let n : Needs e e' i i' = subst (IsTurned e e' i i') k y in
+    let flushed : e2 ≡ after_flush e = j ∙ ap after_flush n.engine in
+    subst (λ (x : Engine). HandNeeds w e0 i0 wanted.Token x i' (writers out0 out' reported0 reported')) (sym flushed)
+    (subst (λ (x : Held). HandNeeds w e0 i0 wanted.Token (after_flush e) x (writers out0 out' reported0 reported')) (sym n.input)
+    (record {
+      o = r.o ++ e.output;
+      m = r.m ++ e.messages;
+      written = more_written r.o r.m e.output e.messages out0 out out' reported0 reported reported' r.written (f ∙ ap (λ (d : Engine). with_bytes out d.output) n.engine) (g ∙ ap (λ (d : Engine). with_bytes reported d.messages) n.engine);
+      leads = subst (λ (q : Pending). Leads w e0 q wanted.Token (after_flush e) i.pending (r.o ++ e.output) (r.m ++ e.messages)) p
+          (leads_then w wanted.Token wanted.Token e0 e (after_flush e) p0 i.pending i.pending r.o r.m e.output e.messages r.leads (leads_flushed wanted.Token e (after_flush e) i.pending e.output e.messages (all_held e)));
+      ready = r.ready;
+      opened = sym (ap (λ (q : Pending). q.may_follow) p) ∙ sym (r.leads).follows ∙ n.follows;
+      flushed = flushed_is e;
+      undecided = λ a b.
+          (rw (append-nil ((a ++ (r.o ++ e.output))), append-nil ((b ++ (r.m ++ e.messages)))) refl)
+          ∙ ap (λ (x : List ℕ). comes_to wanted.Token (record (configuration [] [] e i.pending) { here = record (here_of [] [] e i.pending) { so_far = record (so_far_of [] [] e) { output = x; messages = b ++ (r.m ++ e.messages) } } })) (sym (append_assoc a r.o e.output))
+          ∙ ap (λ (x : List ℕ). comes_to wanted.Token (record (configuration [] [] e i.pending) { here = record (here_of [] [] e i.pending) { so_far = record (so_far_of [] [] e) { output = (a ++ r.o) ++ e.output; messages = x } } })) (sym (append_assoc b r.m e.messages))
+          ∙ sym (move_keeps Expansion Kept Ended turn join out_of_bound_at size_of calls_left falls (configuration (a ++ r.o) (b ++ r.m) e i.pending))
+          ∙ ap (moved_meaning Expansion Kept Ended turn join expand) (n.undecided (a ++ r.o) (b ++ r.m))
+          ∙ ap (λ (s : RunSoFar). Halted (let d : Ended = record { so_far = s; reason = NeedsInput } in d))
+          (sym (same_so_far (a ++ r.o) (b ++ r.m) e)
+          ∙ ap (λ (n : List ℕ). so_far_of n ((b ++ r.m) ++ e.messages) (after_flush e)) (append_assoc a r.o e.output)
+          ∙ ap (λ (n : List ℕ). so_far_of (a ++ (r.o ++ e.output)) n (after_flush e)) (append_assoc b r.m e.messages));
+    }))
+
+-- the rest of a line is not in hand
+line_undecided : (e : Engine) (p : Pending) (a b : List ℕ) → p.may_follow ≡ true → text_of p ≡ [] → comes_to wanted.Line (configuration a b e p) ≡ Halted (record { so_far = so_far_of a b e; reason = NeedsInput })
+line_undecided e p a b f h =
+    ap (λ (x : List ℕ). resume Expansion Kept Ended turn join expand (outer_of e.open_calls) (then_on (skip_line (line_length x) (here_of a b e p)) expand)) h
+    ∙ ap (λ (v : Bool). resume Expansion Kept Ended turn join expand (outer_of e.open_calls) (then_on (skip_all v (here_of a b e p)) expand)) f
+    ∙ resume-halted Expansion Kept Ended turn join expand (outer_of e.open_calls) (record { so_far = so_far_of a b e; reason = NeedsInput })
+
+line_needs : (w : Wanted) (e0 e : Engine) (i0 k j : Held) (o m : List ℕ) (c : Contents) → HasWritten o m c → Leads w e0 i0.pending wanted.Line e k.pending o m → IsReady k → IsFlushed e → LineGives k j false → HandNeeds w e0 i0 wanted.Line e j c
+line_needs w e0 e i0 k j o m c h l r f d =
+    subst (λ (x : Held). HandNeeds w e0 i0 wanted.Line e x c) (sym d.1)
+    (record {
+      o = o;
+      m = m;
+      written = h;
+      leads = leads_on w wanted.Line wanted.Line e0 e e i0.pending k.pending (all_read k.pending) o m l (leads_along_line e k.pending d.0);
+      ready = record { sound = r.sound; front = tt };
+      opened = sym l.follows ∙ line_open k.pending d.0;
+      flushed = f;
+      undecided = λ a b. line_undecided e (all_read k.pending) (a ++ o) (b ++ m) (line_open k.pending d.0) (all_gone k.pending);
+    })
+
+-- at the start
+pub needs_line : (e : Engine) (i j : Held) (w : Wanted) (out reported : Option (List ℕ)) → w ≡ wanted.Line → IsReady i → IsFlushed e → LineGives i j false → HandNeeds w e i wanted.Line e j (writers out out reported reported)
+needs_line e i j w out reported g r f d =
+    subst (λ (x : Wanted). HandNeeds x e i wanted.Line e j (writers out out reported reported)) (sym g)
+    (line_needs wanted.Line e e i i j [] [] (writers out out reported reported) (none_written out reported) (leads_nowhere wanted.Line e i.pending) r f d)
+
+-- after a turn
+pub needs_line_after : (w : Wanted) (e0 e e' e2 : Engine) (p0 : Pending) (i0 i k j : Held) (out0 reported0 out reported out' reported' : Option (List ℕ)) (t : Turned) → p0 ≡ i0.pending → Running w e0 p0 out0 reported0 e i out reported → Moves (i.pending).may_follow e' k.pending t (λ z more o m. moved (configuration o m e (longer z more i.pending))) → StaysBy i k t → t ≡ turns.SkipsLine → e'.limits ≡ e.limits → e2 ≡ after_flush e' → out' ≡ with_bytes out e'.output → reported' ≡ with_bytes reported e'.messages → LineGives k j false → HandNeeds w e0 i0 wanted.Line e2 j (writers out0 out' reported0 reported')
+needs_line_after w e0 e e' e2 p0 i0 i k j out0 reported0 out reported out' reported' t p r h y g l n f q d =
+    let s = subst (StaysBy i k) g y in
+    subst (λ (x : Engine). HandNeeds w e0 i0 wanted.Line x j (writers out0 out' reported0 reported')) (sym n)
+    (line_needs w e0 (after_flush e') i0 k j (r.o ++ e'.output) (r.m ++ e'.messages) (writers out0 out' reported0 reported')
+    (more_written r.o r.m e'.output e'.messages out0 out out' reported0 reported reported' r.written f q)
+    (leads_then w wanted.Line wanted.Line e0 e' (after_flush e') i0.pending k.pending k.pending r.o r.m e'.output e'.messages
+    (leads_on w wanted.Token wanted.Line e0 e e' i0.pending i.pending k.pending r.o r.m
+    (subst (λ (x : Pending). Leads w e0 x wanted.Token e i.pending r.o r.m) p r.leads)
+    (leads_to_line e e' i.pending k.pending s.follows l (subst (λ (x : Turned). Moves (i.pending).may_follow e' k.pending x (λ z more o m. moved (configuration o m e (longer z more i.pending)))) g h)))
+    (leads_flushed wanted.Line e' (after_flush e') k.pending e'.output e'.messages (all_held e')))
+    s.ready (flushed_is e') d)
+
+-- ---- where it breaks off
+
+-- what a machine comes to continues what it has made
 resume_keeps : (fs : List Kept) (v : Outcome Expansion Ended) → Extends (made_out v) (made_out (resume Expansion Kept Ended turn join expand fs v))
 resume_keeps [] v = extends_same (made_out v)
 resume_keeps (f ∷ fs) v = extends_more _ _ _ (list_keeps f v) (resume_keeps fs (then_on (then_on v (join f)) expand))
@@ -126,51 +302,124 @@ resume_keeps (f ∷ fs) v = extends_more _ _ _ (list_keeps f v) (resume_keeps fs
 meaning_keeps : (o m : List ℕ) (e : Engine) (p : Pending) → Extends (so_far_of o m e) (made_out (meaning_of o m e p))
 meaning_keeps o m e p = extends_more _ _ _ (whole_keeps (here_of o m e p)) (resume_keeps (outer_of e.open_calls) (expand (here_of o m e p)))
 
-made_is : (v : Outcome Expansion Ended) → made_out v ≡ (ended_of v).so_far
+skip_makes : (o : Option ℕ) (s : Expansion) → Extends s.so_far (made_out (skip_line o s))
+skip_makes (Some n) s = extends_same s.so_far
+skip_makes None s = by_end (s.pending).may_follow
+  where
+    by_end : (b : Bool) → Extends s.so_far (made_out (skip_all b s))
+    by_end true = extends_same s.so_far
+    by_end false = extends_same s.so_far
+
+line_makes : (o m : List ℕ) (e : Engine) (p : Pending) → Extends (so_far_of o m e) (made_out (comes_to wanted.Line (configuration o m e p)))
+line_makes o m e p =
+    let v : Outcome Expansion Ended = skip_line (line_length (text_of p)) (here_of o m e p) in
+    extends_more _ _ _ (skip_makes (line_length (text_of p)) (here_of o m e p))
+    (extends_more _ _ _ (then_keeps v expand whole_keeps) (resume_keeps (outer_of e.open_calls) (then_on v expand)))
+
+pub made_is : (v : Outcome Expansion Ended) → made_out v ≡ so_far_in v
 made_is (Halted d) = refl
 made_is (Closed s) = refl
 
-made_there : (e0 e : Engine) (p0 : Pending) (i : Held) (out0 reported0 out reported : Option (List ℕ)) → IsIdle e0 → (r : Running e0 p0 out0 reported0 e i out reported) → made_out (meaning_of r.o r.m e i.pending) ≡ (input_expansion e0 p0).so_far
-made_there e0 e p0 i out0 reported0 out reported d r =
-    ap made_out r.means ∙ made_is (expand (here_of [] [] e0 p0)) ∙ ap (λ (x : Ended). x.so_far) (sym (comes_is e0 p0 d))
+-- what was written is a part of what is made
+has_made : (a b o m x y : List ℕ) (e : Engine) (r : RunSoFar) (x' y' : List ℕ) → e.output ≡ x ++ x' → e.messages ≡ y ++ y' → Extends (so_far_of (a ++ o) (b ++ m) e) r → HasMade (a ++ (o ++ x)) (b ++ (m ++ y)) r
+has_made a b o m x y e r x' y' f g k = record {
+  x = x' ++ k.more;
+  y = y' ++ k.reported;
+  output = k.output ∙ ap (λ (n : List ℕ). ((a ++ o) ++ n) ++ k.more) f ∙ regroup a o x x' k.more;
+  messages = k.messages ∙ ap (λ (n : List ℕ). ((b ++ m) ++ n) ++ k.reported) g ∙ regroup b m y y' k.reported;
+}
+  where
+    regroup : (a o x y more : List ℕ) → ((a ++ o) ++ (x ++ y)) ++ more ≡ (a ++ (o ++ x)) ++ (y ++ more)
+    regroup a o x y more =
+        ap (λ n. n ++ more) (sym (append_assoc (a ++ o) x y))
+        ∙ append_assoc ((a ++ o) ++ x) y more
+        ∙ ap (λ n. n ++ (y ++ more)) (append_assoc a o x)
 
--- where a turn isn't made, a beginning was handed on
-pub breaks : (e0 e : Engine) (p0 : Pending) (i : Held) (out0 reported0 out reported : Option (List ℕ)) → IsIdle e0 → Running e0 p0 out0 reported0 e i out reported → Broken (input_expansion e0 p0) (writers out0 out reported0 reported)
-breaks e0 e p0 i out0 reported0 out reported d r =
-    let k = subst (Extends (so_far_of r.o r.m e)) (made_there e0 e p0 i out0 reported0 out reported d r) (meaning_keeps r.o r.m e i.pending) in
-    record {
-      output = (e.output ++ k.more, record { front = r.o; parts = k.output ∙ append_assoc r.o e.output k.more; holds = r.output });
-      messages = (e.messages ++ k.reported, record { front = r.m; parts = k.messages ∙ append_assoc r.m e.messages k.reported; holds = r.messages });
-    }
+-- a turn is not made
+pub breaks : (w : Wanted) (e0 e : Engine) (p0 : Pending) (i : Held) (out0 reported0 out reported : Option (List ℕ)) → Running w e0 p0 out0 reported0 e i out reported → HandBreaks w e0 p0 (writers out0 out reported0 reported)
+breaks w e0 e p0 i out0 reported0 out reported r = record {
+  o = r.o ++ [];
+  m = r.m ++ [];
+  written = more_written r.o r.m [] [] out0 out out reported0 reported reported r.written (with_bytes-nil out) (with_bytes-nil reported);
+  made = λ z more c a b.
+      subst (λ (v : RunSoFar). HasMade (a ++ (r.o ++ [])) (b ++ (r.m ++ [])) v)
+      (made_is (meaning_of (a ++ r.o) (b ++ r.m) e (longer z more i.pending)) ∙ ap so_far_in ((r.leads).means z more c a b))
+      (has_made a b r.o r.m [] [] e _ e.output e.messages refl refl (meaning_keeps (a ++ r.o) (b ++ r.m) e (longer z more i.pending)));
+}
 
--- what a turn has made is a beginning of what the expansion comes to
-turn_made : (e e' : Engine) (p p' : Pending) (o m : List ℕ) (t : Turned) → Moves e' p' t (λ o m. moved (configuration o m e p)) → Extends (so_far_of o m e') (made_out (meaning_of o m e p))
-turn_made e e' p p' o m turns.GoesOn h =
-    subst (λ v. Extends (so_far_of o m e') (made_out v)) (moved_on e e' p p' o m h) (meaning_keeps o m e' p')
-turn_made e e' p p' o m (turns.Ends cause) h =
-    subst (λ v. Extends (so_far_of o m e') (made_out v)) (sym (end_means e e' p p' o m cause h)) (extends_same (so_far_of o m e'))
+-- what a turn has made is a part of what the expansion comes to
+turn_made : (e e' : Engine) (i j : Held) (z : List ℕ) (more : Bool) (o m : List ℕ) (t : Turned) → MayFollow (i.pending).may_follow z more → Moves (i.pending).may_follow e' j.pending t (λ z more o m. moved (configuration o m e (longer z more i.pending))) → IsTurned e e' i j t → Extends (so_far_of o m e') (made_out (meaning_of o m e (longer z more i.pending)))
+turn_made e e' i j z more o m turns.GoesOn c h k =
+    subst (λ v. Extends (so_far_of o m e') (made_out v)) (moved_on e e' i.pending j.pending z more o m c h) (meaning_keeps o m e' (longer z more j.pending))
+turn_made e e' i j z more o m turns.SkipsLine c h k =
+    subst (λ v. Extends (so_far_of o m e') (made_out v))
+    (sym (popped Expansion Kept Ended turn join out_of_bound_at size_of calls_left falls (outer_of e'.open_calls) (skipped_first wanted.Line (here_of o m e' (longer z more j.pending))))
+    ∙ ap (moved_meaning Expansion Kept Ended turn join expand) (sym (h z more c o m))
+    ∙ move_keeps Expansion Kept Ended turn join out_of_bound_at size_of calls_left falls (configuration o m e (longer z more i.pending)))
+    (line_makes o m e' (longer z more j.pending))
+turn_made e e' i j z more o m turns.NeedsMore c h k =
+    subst (λ (d : Engine). Extends (so_far_of o m d) (made_out (meaning_of o m e (longer z more i.pending)))) (sym k.engine) (meaning_keeps o m e (longer z more i.pending))
+turn_made e e' i j z more o m (turns.Ends cause) c h k =
+    subst (λ v. Extends (so_far_of o m e') (made_out v)) (sym (end_means e e' i.pending j.pending z more o m cause c h)) (extends_same (so_far_of o m e'))
 
--- where it can't be handed on, a beginning was
-pub write_breaks : (e0 e e' : Engine) (p0 p' : Pending) (i : Held) (t : Turned) (out0 reported0 out reported out' reported' : Option (List ℕ)) → IsIdle e0 → Running e0 p0 out0 reported0 e i out reported → Moves e' p' t (λ o m. moved (configuration o m e i.pending)) → FlushesPrefix e'.output e'.messages (writers out out' reported reported') → Broken (input_expansion e0 p0) (writers out0 out' reported0 reported')
-write_breaks e0 e e' p0 p' i t out0 reported0 out reported out' reported' d r h b =
-    let k = subst (Extends (so_far_of r.o r.m e')) (made_there e0 e p0 i out0 reported0 out reported d r) (turn_made e e' i.pending p' r.o r.m t h) in
-    record {
-      output = begun_after out0 out out' r.o e'.output k.more ((input_expansion e0 p0).so_far).output r.output b.0 k.output;
-      messages = begun_after reported0 reported reported' r.m e'.messages k.reported ((input_expansion e0 p0).so_far).messages r.messages b.1 k.messages;
-    }
+-- it can't be flushed: a part of it was
+pub write_breaks : (w : Wanted) (e0 e e' : Engine) (p0 : Pending) (i j : Held) (t : Turned) (out0 reported0 out reported out' reported' : Option (List ℕ)) → Running w e0 p0 out0 reported0 e i out reported → Moves (i.pending).may_follow e' j.pending t (λ z more o m. moved (configuration o m e (longer z more i.pending))) → IsTurned e e' i j t → FlushesPrefix e'.output e'.messages (writers out out' reported reported') → HandBreaks w e0 p0 (writers out0 out' reported0 reported')
+write_breaks w e0 e e' p0 i j t out0 reported0 out reported out' reported' r h k b = record {
+  o = r.o ++ ((b.0).1).front;
+  m = r.m ++ ((b.1).1).front;
+  written = more_written r.o r.m ((b.0).1).front ((b.1).1).front out0 out out' reported0 reported reported' r.written ((b.0).1).holds ((b.1).1).holds;
+  made = λ z more c x y.
+      let c' : MayFollow (i.pending).may_follow z more = subst (λ v. MayFollow v z more) (sym (r.leads).follows) c in
+      subst (λ (v : RunSoFar). HasMade (x ++ (r.o ++ ((b.0).1).front)) (y ++ (r.m ++ ((b.1).1).front)) v)
+      (made_is (meaning_of (x ++ r.o) (y ++ r.m) e (longer z more i.pending)) ∙ ap so_far_in ((r.leads).means z more c x y))
+      (has_made x y r.o r.m ((b.0).1).front ((b.1).1).front e' _ (b.0).0 (b.1).0 ((b.0).1).parts ((b.1).1).parts (turn_made e e' i j z more (x ++ r.o) (y ++ r.m) t c' h k));
+}
 
--- the same for a turn and an engine with names of their own
-pub ended : (e0 e e' e2 : Engine) (p0 p' : Pending) (i : Held) (out0 reported0 out reported out' reported' : Option (List ℕ)) (t : Turned) (cause : Cause) → IsIdle e0 → Running e0 p0 out0 reported0 e i out reported → Moves e' p' t (λ o m. moved (configuration o m e i.pending)) → t ≡ turns.Ends cause → e2 ≡ after_flush e' → e'.limits ≡ e.limits → out' ≡ with_bytes out e'.output → reported' ≡ with_bytes reported e'.messages → Expands e0 e2 p0 (writers out0 out' reported0 reported') cause
-ended e0 e e' e2 p0 p' i out0 reported0 out reported out' reported' t cause d r h k j l f g =
-    subst (λ (x : Engine). Expands e0 x p0 (writers out0 out' reported0 reported') cause) (sym j)
-    (ends e0 e e' p0 p' i out0 reported0 out reported out' reported' cause d r (subst (λ (x : Turned). Moves e' p' x (λ o m. moved (configuration o m e i.pending))) k h) l f g)
+-- ---- by the answers of calls
 
-pub went_on : (e0 e e' e2 : Engine) (p0 : Pending) (i i' : Held) (out0 reported0 out reported out' reported' : Option (List ℕ)) (t : Turned) → Running e0 p0 out0 reported0 e i out reported → Moves e' i'.pending t (λ o m. moved (configuration o m e i.pending)) → t ≡ turns.GoesOn → IsReady i' → e'.limits ≡ e.limits → FlushesSome e' e2 (writers out out' reported reported') → Running e0 p0 out0 reported0 e2 i' out' reported'
-went_on e0 e e' e2 p0 i i' out0 reported0 out reported out' reported' t r h k q l f =
-    goes_on e0 e e' e2 p0 i i' out0 reported0 out reported out' reported' r (subst (λ (x : Turned). Moves e' i'.pending x (λ o m. moved (configuration o m e i.pending))) k h) q l f
+pub line_done_by : (i j : Held) (v w : Bool) → v ≡ w → LineGives i j v → LineGives i j w
+line_done_by i j v w e h = subst (LineGives i j) e h
 
-pub fell : (e e1 e' e2 : Engine) (i i1 : Held) (p' : Pending) (out out' reported reported' : Option (List ℕ)) (t : Turned) → IsReady i → Passes e e1 i i1 → Moves e' p' t (λ o m. moved (configuration o m e1 i1.pending)) → t ≡ turns.GoesOn → FlushesSome e' e2 (writers out out' reported reported') → turns_of e2 p' < turns_of e i.pending
-fell e e1 e' e2 i i1 p' out out' reported reported' t q w h k f =
-    let a : turns_of e2 p' < turns_of e1 i1.pending = move_falls e1 e' e2 i1.pending p' f.front f.reported f.held (subst (λ (x : Turned). Moves e' p' x (λ o m. moved (configuration o m e1 i1.pending))) k h) in
-    let b : turns_of e1 i1.pending ≤ turns_of e i.pending = (passes_reaches e e1 i i1 q w).turns in
-    omega arith
+pub flushed_all : (e : Engine) (out out' reported reported' : Option (List ℕ)) (e2 : Engine) → e2 ≡ after_flush e → out' ≡ with_bytes out e.output → reported' ≡ with_bytes reported e.messages → FlushesSome e e2 (writers out out' reported reported')
+flushed_all e out out' reported reported' e2 h f g = some_all e e2 out out' reported reported' h f g
+
+-- a turn ends an expansion by none of these
+pub hand_ends : (w : Wanted) (old new : Engine) (i j : Held) (c : Contents) (cause : Cause) → IsMade (turns.Ends cause) → HandEnds w old i.pending cause new c → HandGives w old new i j c (hands.Ends cause)
+hand_ends w old new i j c causes.Done m h = h
+hand_ends w old new i j c (causes.Exited n) m h = h
+hand_ends w old new i j c causes.EndInString m h = h
+hand_ends w old new i j c causes.EndInComment m h = h
+hand_ends w old new i j c causes.EndInArguments m h = h
+hand_ends w old new i j c causes.ExpansionLimit m h = h
+hand_ends w old new i j c causes.NestingLimit m h = h
+hand_ends w old new i j c (causes.Frozen f) m h = absurd m
+hand_ends w old new i j c causes.Read m h = absurd m
+hand_ends w old new i j c causes.Write m h = absurd m
+hand_ends w old new i j c causes.OutOfMemory m h = absurd m
+
+-- a turn that ended
+pub made_end : (e e' : Engine) (i j : Held) (t : Turned) (cause : Cause) → t ≡ turns.Ends cause → IsTurned e e' i j t → IsMade (turns.Ends cause)
+made_end e e' i j t cause h m = subst (IsTurned e e' i j) h m
+
+-- the loop begins, by what is wanted
+pub begins_so : (e : Engine) (i k : Held) (w : Wanted) (out reported : Option (List ℕ)) → w ≡ wanted.Token → k ≡ i → IsReady i → Running w e i.pending out reported e k out reported
+begins_so e i k w out reported h g r =
+    subst (λ (x : Wanted). Running x e i.pending out reported e k out reported) (sym h)
+    (subst (λ (x : Held). Running wanted.Token e i.pending out reported e x out reported) (sym g) (begins_at_token e i out reported r))
+
+pub begins_past : (e : Engine) (i j k : Held) (w : Wanted) (out reported : Option (List ℕ)) → w ≡ wanted.Line → k ≡ j → IsReady i → LineGives i j true → Running w e i.pending out reported e k out reported
+begins_past e i j k w out reported h g r d =
+    subst (λ (x : Wanted). Running x e i.pending out reported e k out reported) (sym h)
+    (subst (λ (x : Held). Running wanted.Line e i.pending out reported e x out reported) (sym g) (begins_after_line e i j out reported r d))
+
+pub needs_line_so : (e : Engine) (i j k : Held) (w : Wanted) (out reported : Option (List ℕ)) → w ≡ wanted.Line → k ≡ j → IsReady i → IsFlushed e → LineGives i j false → HandNeeds w e i wanted.Line e k (writers out out reported reported)
+needs_line_so e i j k w out reported g h r f d = subst (λ (x : Held). HandNeeds w e i wanted.Line e x (writers out out reported reported)) (sym h) (needs_line e i j w out reported g r f d)
+
+pub not_both : (v : Bool) → v ≡ true → v ≡ false → ⊥
+not_both true e f = cc
+not_both false e f = cc
+
+-- what is made from a place on continues what was made before it
+pub comes_keeps : (w : Wanted) (o m : List ℕ) (e : Engine) (p : Pending) → Extends (so_far_of o m e) (made_out (comes_to w (configuration o m e p)))
+comes_keeps wanted.Token o m e p = meaning_keeps o m e p
+comes_keeps wanted.Line o m e p = line_makes o m e p

@@ -1,14 +1,14 @@
 -- Seen: what was seen of the first token of a text, as a turn takes it.
-use Rattle.std.proofs.Common.{◌≡◌, ℕ, Bool, true, false, List, [], ◌∷◌, ◌++◌, append-nil, append_assoc, refl, sym, ap, ◌∙◌, subst, take, drop}
+use Rattle.std.proofs.Common.{◌≡◌, None, Option, ℕ, Bool, true, false, List, [], ◌∷◌, ◌++◌, append-nil, append_assoc, refl, sym, ap, ◌∙◌, subst, take, drop}
 use Rattle.std.specs.Prelude.{suc, nat_lt, not, ◌&&◌, length, Result, Ok, Err, IfOk}
 use Rattle.m4_state.specs.State.{State}
 use Rattle.m4_input.specs.declared.plain.First.{First}
 use Rattle.m4_input.specs.Plain.{IsFirst, FirstLies}
-use Rattle.m4_input.specs.Pending.{Pending, text_of, consumed, name_of, line_of}
+use Rattle.m4_input.specs.Pending.{Pending, text_of, name_of, line_of, consumed}
 use Rattle.m4_input.specs.Paren.{paren_in, paren_at}
-use Rattle.m4_input.specs.Input.{answer_of}
+use Rattle.m4_input.specs.declared.front.Answer.{Answer}
+use Rattle.m4_input.specs.Input.{answer_of, longer}
 use Rattle.m4_input.specs.Token.{Taken, token_at}
-use Rattle.m4_input.specs.declared.front.Scan.TheVariants.{Found}
 use Rattle.m4_input.specs.declared.token.Token.TheVariants.{Name, Byte}
 use Rattle.m4_input.proofs.Parts.{drop_parts}
 use Rattle.m4_builtins.specs.declared.place.Place.{Place}
@@ -22,7 +22,7 @@ use Rattle.m4_engine.specs.declared.turned.TurnFault.{TurnFault}
 use Rattle.m4_engine.specs.Expansion.{Call, Limits, place_at, issued, reading, put_text}
 use Rattle.m4_engine.specs.Expand.{call, call_of, take_call, call_without_list, take_name}
 use Rattle.m4_engine.specs.Lookahead.{IsMeaning, IsLookaheadOf}
-use Rattle.m4_engine.specs.Engine.{Engine, outer_of, here_of, allows_call, is_bare, configuration, put_in, with_text, step, Moves, IsLookahead}
+use Rattle.m4_engine.specs.Engine.{Engine, outer_of, here_of, allows_call, is_bare, configuration, put_in, with_text, step, MayFollow, Extended, IsAt, Moves, IsLookahead}
 use Rattle.m4_state.specs.State.{top_of}
 use Rattle.m4_builtins.specs.Subst.{subst as substituted}
 use Rattle.m4_state.specs.declared.definition.Def.TheVariants.{Text}
@@ -31,9 +31,10 @@ use Rattle.m4_engine.specs.declared.turned.Turned.TheVariants as turns
 use Rattle.m4_builtins.specs.CallHead.{CallHead}
 use Rattle.m4_engine.specs.Nesting.{GoOn}
 use Rattle.m4_engine.specs.OpenCalls.{Goes}
+use Rattle.m4_state.specs.declared.delimiters.Delimiters.{Delimiters}
 use Rattle.m4_engine.proofs.Acts.{moves_by}
-use Rattle.m4_engine.proofs.Named.{place_is, named}
-use Rattle.m4_engine.proofs.Passing.{found_at}
+use Rattle.m4_engine.proofs.Longer.{found_longer, paren_longer}
+use Rattle.m4_engine.proofs.Named.{place_of, named}
 
 -- whether the limits leave a call, by what that depends on
 abbrev leaves_by : ℕ → Limits → ℕ → Bool
@@ -52,10 +53,11 @@ seen_same a e e1 room p r s h i j k =
     (subst (λ (v : Bool). IsLookaheadOf a e.state v p) (r ∙ leaves_same e e1 h i j) k)
 
 -- the token after k bytes is the first once these were consumed
-pub first_after : (s : State) (f : First) (p q : Pending) (k : ℕ) (x : List ℕ) → x ≡ text_of p → q ≡ consumed k p → IsFirst s (drop k x) f → IsFirst s (text_of q) f
-first_after s f p q k x t g v =
-    subst (λ (r : Pending). IsFirst s (text_of r) f) (sym g)
-    (subst (λ (y : List ℕ). IsFirst s y f) (drop_parts k p.pushed p.unread) (subst (λ (y : List ℕ). IsFirst s (drop k y) f) t v))
+pub first_after : (s : State) (m : Bool) (f : First) (p q : Pending) (k : ℕ) (x : List ℕ) → m ≡ p.may_follow → x ≡ text_of p → q ≡ consumed k p → IsFirst s m (drop k x) f → IsFirst s q.may_follow (text_of q) f
+first_after s m f p q k x o t g v =
+    subst (λ (r : Pending). IsFirst s r.may_follow (text_of r) f) (sym g)
+    (subst (λ (y : List ℕ). IsFirst s p.may_follow y f) (drop_parts k p.pushed p.unread)
+    (subst (λ (b : Bool). IsFirst s b (drop k (text_of p)) f) o (subst (λ (y : List ℕ). IsFirst s m (drop k y) f) t v)))
 
 pub lies_after : (f : First) (p q : Pending) (k : ℕ) (x : List ℕ) → x ≡ text_of p → q ≡ consumed k p → FirstLies (length (drop k x)) f → FirstLies (length (text_of q)) f
 lies_after f p q k x t g v =
@@ -63,54 +65,74 @@ lies_after f p q k x t g v =
     (subst (λ (y : List ℕ). FirstLies (length y) f) (drop_parts k p.pushed p.unread) (subst (λ (y : List ℕ). FirstLies (length (drop k y)) f) t v))
 
 -- a byte that was seen is the token at the front
-pub byte_front : (a : Lookahead) (e : Engine) (p q : Pending) (b : ℕ) → a ≡ aheads.Byte b → p.may_follow ≡ false → q ≡ consumed 1 p → IsLookahead a e p → token_at (e.state).quotes (e.state).comments p ≡ Taken (Byte b) q
-byte_front a e p q b h f g k =
+pub byte_front : (a : Lookahead) (e : Engine) (p q : Pending) (b : ℕ) → a ≡ aheads.Byte b → q ≡ consumed 1 p → IsLookahead a e p → (z : List ℕ) (more : Bool) → MayFollow p.may_follow z more → token_at (e.state).quotes (e.state).comments (longer z more p) ≡ Taken (Byte b) (longer z more q)
+byte_front a e p q b h g k z more m =
     let r = subst (λ (v : Lookahead). IsLookahead v e p) h k in
-    found_at e.state p (Found (Byte b) 1) r.0 f r.1 ∙ ap (Taken (Byte b)) (sym g)
+    found_longer (e.state).quotes (e.state).comments p (Byte b) 1 z more r.0 r.1 m
+    ∙ ap (λ (x : Pending). Taken (Byte b) (longer z more x)) (sym g)
 
 -- and so is a name
-pub name_front : (a : Lookahead) (e : Engine) (p q : Pending) (n : Named) → a ≡ aheads.Named n → p.may_follow ≡ false → q ≡ consumed n.len p → IsLookahead a e p → token_at (e.state).quotes (e.state).comments p ≡ Taken (Name (take n.len (text_of p))) q
-name_front a e p q n h f g k =
+pub name_front : (a : Lookahead) (e : Engine) (p q : Pending) (n : Named) → a ≡ aheads.Named n → q ≡ consumed n.len p → IsLookahead a e p → (z : List ℕ) (more : Bool) → MayFollow p.may_follow z more → token_at (e.state).quotes (e.state).comments (longer z more p) ≡ Taken (Name (take n.len (text_of p))) (longer z more q)
+name_front a e p q n h g k z more m =
     let r = subst (λ (v : Lookahead). IsLookahead v e p) h k in
-    found_at e.state p (Found (Name (take n.len (text_of p))) n.len) r.first f r.scanned ∙ ap (Taken (Name (take n.len (text_of p)))) (sym g)
+    found_longer (e.state).quotes (e.state).comments p (Name (take n.len (text_of p))) n.len z more r.first r.scanned m
+    ∙ ap (λ (x : Pending). Taken (Name (take n.len (text_of p))) (longer z more x)) (sym g)
+
+-- whether a list follows so many bytes, once these were consumed
+pub list_there : (q c : Delimiters) (p r : Pending) (n : ℕ) (v : Answer) → r ≡ consumed n p → paren_in q c p.may_follow (drop n (text_of p)) ≡ v → paren_at q c r ≡ v
+list_there q c p r n v g k =
+    ap (paren_at q c) g
+    ∙ ap (paren_in q c p.may_follow) (sym (drop_parts n p.pushed p.unread))
+    ∙ k
 
 -- the list that was recognised after a name follows it
-pub name_list : (a : Lookahead) (e : Engine) (p q : Pending) (n : Named) → a ≡ aheads.Named n → p.may_follow ≡ false → q ≡ consumed n.len p → IsLookahead a e p → paren_at (e.state).quotes (e.state).comments q ≡ answer_of n.listed
-name_list a e p q n h f g k =
+pub name_list : (a : Lookahead) (e : Engine) (p q : Pending) (n : Named) → a ≡ aheads.Named n → q ≡ consumed n.len p → IsLookahead a e p → paren_at (e.state).quotes (e.state).comments q ≡ answer_of n.listed
+name_list a e p q n h g k =
     let r = subst (λ (v : Lookahead). IsLookahead v e p) h k in
-    ap (paren_at (e.state).quotes (e.state).comments) g
-    ∙ ap (λ v. paren_in (e.state).quotes (e.state).comments v (text_of (consumed n.len p))) f
-    ∙ ap (paren_in (e.state).quotes (e.state).comments false) (sym (drop_parts n.len p.pushed p.unread))
-    ∙ r.list
+    list_there (e.state).quotes (e.state).comments p q n.len (answer_of n.listed) g r.list
 
 -- the meaning of a name that was recognised
-pub name_means : (a : Lookahead) (e : Engine) (p : Pending) (n : Named) → a ≡ aheads.Named n → IsLookahead a e p → IsMeaning n.meaning (is_bare n.listed e) e.state (take n.len (text_of p)) (record { file = name_of p; line = line_of p })
-name_means a e p n h k = let r = subst (λ (v : Lookahead). IsLookahead v e p) h k in r.meaning
+pub name_means : (a : Lookahead) (e : Engine) (p : Pending) (n : Named) → a ≡ aheads.Named n → IsLookahead a e p → IsMeaning n.meaning (is_bare n.listed e) e.state (take n.len (text_of p)) (place_at p)
+name_means a e p n h k =
+    let r = subst (λ (v : Lookahead). IsLookahead v e p) h k in
+    subst (λ (x : Place). IsMeaning n.meaning (is_bare n.listed e) e.state (take n.len (text_of p)) x) (place_of p) r.meaning
 
--- a name whose meaning is known at its place
-pub named_moves : (e e1 : Engine) (m : Meaning) (bare : Bool) (name : List ℕ) (at : Place) (p q p' : Pending) (r : Result Turned TurnFault) → at.file ≡ name_of p → q ≡ p → IsMeaning m bare e.state name at → IfOk r (λ t. (name : List ℕ) (before : Pending) → IsMeaning m bare e.state name (place_at before) → Moves e1 p' t (λ o l. step (outer_of e.open_calls) (take_name (top_of e.state name) name q (here_of o l e before)))) → IfOk r (λ t. (before : Pending) → at.line ≡ line_of before → before.file ≡ p.file → Moves e1 p' t (λ o l. step (outer_of e.open_calls) (take_name (top_of e.state name) name p (here_of o l e before))))
-named_moves e e1 m bare name at p q p' (Ok t) f g v k = λ before i j.
-    moves_by e1 p' t _ _ (λ o l. ap (λ (x : Pending). step (outer_of e.open_calls) (take_name (top_of e.state name) name x (here_of o l e before))) (sym g)) (k name before (subst (λ (x : Place). IsMeaning m bare e.state name x) (place_is at before p f i j) v))
-named_moves e e1 m bare name at p q p' (Err x) f g v k = tt
+-- a name that has a meaning, as a turn takes it
+module _ (may : Bool) (e e1 : Engine) (p p' : Pending) (r : Result Turned TurnFault) where
+  abbrev pub NameMoves : Meaning → Bool → Type 0
+  NameMoves m bare = IfOk r (λ u. (name : List ℕ) (at : Place) (before : Extended) → IsAt at before → IsMeaning m bare e.state name at → Moves may e1 p' u (λ z more o l. step (outer_of e.open_calls) (take_name (top_of e.state name) name (longer z more p) (here_of o l e (before z more)))))
+
+-- the same at the name's place
+pub named_at : (e e1 : Engine) (p q p' : Pending) (r : Result Turned TurnFault) (m : Meaning) (bare : Bool) (name : List ℕ) → q.may_follow ≡ p.may_follow → NameMoves q.may_follow e e1 q p' r m bare → IsMeaning m bare e.state name (place_at p) → IfOk r (λ u. Moves p.may_follow e1 p' u (λ z more o l. step (outer_of e.open_calls) (take_name (top_of e.state name) name (longer z more q) (here_of o l e (longer z more p)))))
+named_at e e1 p q p' (Ok u) m bare name f h w =
+    subst (λ (v : Bool). Moves v e1 p' u (λ z more o l. step (outer_of e.open_calls) (take_name (top_of e.state name) name (longer z more q) (here_of o l e (longer z more p))))) f
+    (h name (place_at p) (λ z more. longer z more p) (λ z more. refl) w)
+named_at e e1 p q p' (Err x) m bare name f h w = tt
+
+-- a meaning at a place that is given by its parts
+pub meaning_at : (m : Meaning) (bare : Bool) (s : State) (name file : List ℕ) (line : ℕ) (p : Pending) → file ≡ name_of p → line ≡ line_of p → IsMeaning m bare s name (record { file = file; line = line }) → IsMeaning m bare s name (place_at p)
+meaning_at m bare s name file line p f g h =
+    subst (λ (x : Place). IsMeaning m bare s name x) (place_of p)
+    (subst (λ (l : ℕ). IsMeaning m bare s name (record { file = name_of p; line = l })) g
+    (subst (λ (x : List ℕ). IsMeaning m bare s name (record { file = x; line = line })) f h))
 
 -- a text that is called with no list
-pub expansion_moves : (e e1 : Engine) (m : Meaning) (x : List ℕ) (bare listed : Bool) (p p' : Pending) (r : Result Turned TurnFault) → m ≡ meanings.Expansion x → paren_at (e.state).quotes (e.state).comments p ≡ answer_of listed → listed ≡ false → IfOk r (λ u. (c : Call) (t : List ℕ) → c.definition ≡ Text t → x ≡ substituted t c.name c.done (e.state).quotes → (before : Pending) → Moves e1 p' u (λ o l. step (outer_of e.open_calls) (call false c p (here_of o l e before)))) → IfOk r (λ u. (name : List ℕ) (before : Pending) → IsMeaning m bare e.state name (place_at before) → Moves e1 p' u (λ o l. step (outer_of e.open_calls) (take_name (top_of e.state name) name p (here_of o l e before))))
-expansion_moves e e1 m x bare listed p p' (Ok u) h i j k = λ name before w.
-    let v = subst (λ (n : Meaning). IsMeaning n bare e.state name (place_at before)) h w in
-    let c : Call = call_of (Text v.1) name (place_at before) in
-    moves_by e1 p' u _ _ (λ o l. named e (Text v.1) name false p before (place_at before) o l (sym v.2) (i ∙ ap answer_of j) (λ z. refl) refl) (k c v.1 refl v.3 before)
-expansion_moves e e1 m x bare listed p p' (Err y) h i j k = tt
+pub expansion_moves : (e e1 : Engine) (m : Meaning) (x : List ℕ) (bare listed : Bool) (p p' : Pending) (r : Result Turned TurnFault) → m ≡ meanings.Expansion x → p.definition ≡ None → paren_at (e.state).quotes (e.state).comments p ≡ answer_of listed → listed ≡ false → IfOk r (λ u. (c : Call) (t : List ℕ) → c.definition ≡ Text t → x ≡ substituted t c.name c.done (e.state).quotes → (before : Extended) → Moves p.may_follow e1 p' u (λ z more o l. step (outer_of e.open_calls) (call false c (longer z more p) (here_of o l e (before z more))))) → NameMoves p.may_follow e e1 p p' r m bare
+expansion_moves e e1 m x bare listed p p' (Ok u) h d i j k = λ name at before f w.
+    let v = subst (λ (n : Meaning). IsMeaning n bare e.state name at) h w in
+    let c : Call = call_of (Text v.1) name at in
+    moves_by p.may_follow e1 p' u _ _ (λ z more t o l. named e (Text v.1) name false (longer z more p) (before z more) at o l (sym v.2) (paren_longer (e.state).quotes (e.state).comments p false z more d (i ∙ ap answer_of j) t) (λ y. refl) (sym (f z more))) (k c v.1 refl v.3 before)
+expansion_moves e e1 m x bare listed p p' (Err y) h d i j k = tt
 
 -- a call that is made
-pub made_moves : (e e1 : Engine) (m : Meaning) (h : CallHead) (c : Call) (bare listed : Bool) (p p1 p' : Pending) (r : Result Turned TurnFault) → m ≡ meanings.Call h → c ≡ call_of h.definition h.name h.place → p1 ≡ p → paren_at (e.state).quotes (e.state).comments p ≡ answer_of listed → (listed ≡ false → needs_list h.definition ≡ false) → IfOk r (λ u. (before : Pending) → Moves e1 p' u (λ o l. step (outer_of e.open_calls) (call listed c p1 (here_of o l e before)))) → IfOk r (λ u. (name : List ℕ) (before : Pending) → IsMeaning m bare e.state name (place_at before) → Moves e1 p' u (λ o l. step (outer_of e.open_calls) (take_name (top_of e.state name) name p (here_of o l e before))))
-made_moves e e1 m h c bare listed p p1 p' (Ok u) f g q i j k = λ name before w.
-    let v = subst (λ (n : Meaning). IsMeaning n bare e.state name (place_at before)) f w in
+pub made_moves : (e e1 : Engine) (m : Meaning) (h : CallHead) (c : Call) (bare listed : Bool) (p p' : Pending) (r : Result Turned TurnFault) → m ≡ meanings.Call h → c ≡ call_of h.definition h.name h.place → p.definition ≡ None → paren_at (e.state).quotes (e.state).comments p ≡ answer_of listed → (listed ≡ false → needs_list h.definition ≡ false) → IfOk r (λ u. (before : Extended) → Moves p.may_follow e1 p' u (λ z more o l. step (outer_of e.open_calls) (call listed c (longer z more p) (here_of o l e (before z more))))) → NameMoves p.may_follow e e1 p p' r m bare
+made_moves e e1 m h c bare listed p p' (Ok u) f g q i j k = λ name at before b w.
+    let v = subst (λ (n : Meaning). IsMeaning n bare e.state name at) f w in
     let d = h.definition in
-    let same : c ≡ call_of d name (place_at before) = g ∙ ap (λ (x : List ℕ). call_of d x h.place) v.1 ∙ ap (call_of d name) v.2 in
-    moves_by e1 p' u _ _ (λ o l. named e d name listed p before (place_at before) o l (sym v.0) i j refl
-    ∙ ap (λ (c : Call). step (outer_of e.open_calls) (call listed c p (here_of o l e before))) (sym same)
-    ∙ ap (λ (x : Pending). step (outer_of e.open_calls) (call listed c x (here_of o l e before))) (sym q)) (k before)
-made_moves e e1 m h c bare listed p p1 p' (Err y) f g q i j k = tt
+    let same : c ≡ call_of d name at = g ∙ ap (λ (x : List ℕ). call_of d x h.place) v.1 ∙ ap (call_of d name) v.2 in
+    moves_by p.may_follow e1 p' u _ _ (λ z more t o l. named e d name listed (longer z more p) (before z more) at o l (sym v.0) (paren_longer (e.state).quotes (e.state).comments p listed z more q i t) j (sym (b z more))
+    ∙ ap (λ (c : Call). step (outer_of e.open_calls) (call listed c (longer z more p) (here_of o l e (before z more)))) (sym same)) (k before)
+made_moves e e1 m h c bare listed p p' (Err y) f g q i j k = tt
 
 -- text goes where it goes
 text_goes : (cs : List Call) (x : List ℕ) (e : Engine) (p before : Pending) (o m : List ℕ) → e.open_calls ≡ cs → step (outer_of cs) (GoOn (put_text x (reading p (here_of o m (record e { open_calls = cs }) before)))) ≡ Goes (configuration o m (put_in cs x (record e { open_calls = cs })) p)
@@ -118,15 +140,28 @@ text_goes [] x e p before o m h = rw (append_assoc o e.output (issued (e.state).
 text_goes (c ∷ cs) x e p before o m h = rw (append-nil (o ++ e.output)) refl
 
 -- a name that needs a list and has none is text
-pub bare_moves : (e e1 : Engine) (m : Meaning) (h : CallHead) (bare listed : Bool) (p : Pending) → m ≡ meanings.Call h → paren_at (e.state).quotes (e.state).comments p ≡ answer_of listed → listed ≡ false → needs_list h.definition ≡ true → e1 ≡ with_text h.name e → (name : List ℕ) (before : Pending) → IsMeaning m bare e.state name (place_at before) → Moves e1 p turns.GoesOn (λ o l. step (outer_of e.open_calls) (take_name (top_of e.state name) name p (here_of o l e before)))
-bare_moves e e1 m h bare listed p f i j n g name before w = λ o l.
-    let v = subst (λ (k : Meaning). IsMeaning k bare e.state name (place_at before)) f w in
-    let s = here_of o l e before in
+pub bare_moves : (e e1 : Engine) (m : Meaning) (h : CallHead) (bare listed : Bool) (p : Pending) → m ≡ meanings.Call h → p.definition ≡ None → paren_at (e.state).quotes (e.state).comments p ≡ answer_of listed → listed ≡ false → needs_list h.definition ≡ true → e1 ≡ with_text h.name e → (name : List ℕ) (at : Place) (before : Extended) → IsAt at before → IsMeaning m bare e.state name at → Moves p.may_follow e1 p turns.GoesOn (λ z more o l. step (outer_of e.open_calls) (take_name (top_of e.state name) name (longer z more p) (here_of o l e (before z more))))
+bare_moves e e1 m h bare listed p f q i j n g name at before b w = λ z more t o l.
+    let v = subst (λ (k : Meaning). IsMeaning k bare e.state name at) f w in
+    let s = here_of o l e (before z more) in
     let d = h.definition in
-    let c : Call = call_of d name (place_at before) in
-    ap (λ t. step (outer_of e.open_calls) (take_name t name p s)) v.0
-    ∙ ap (λ t. step (outer_of e.open_calls) (take_call t c p s)) (i ∙ ap answer_of j)
-    ∙ ap (λ t. step (outer_of e.open_calls) (call_without_list t c p s)) n
-    ∙ text_goes e.open_calls name e p before o l refl
-    ∙ ap (λ (x : List ℕ). Goes (configuration o l (with_text x e) p)) (sym v.1)
-    ∙ ap (λ (x : Engine). Goes (configuration o l x p)) (sym g)
+    let c : Call = call_of d name (place_at (before z more)) in
+    ap (λ t. step (outer_of e.open_calls) (take_name t name (longer z more p) s)) v.0
+    ∙ ap (λ t. step (outer_of e.open_calls) (take_call t c (longer z more p) s)) (paren_longer (e.state).quotes (e.state).comments p false z more q (i ∙ ap answer_of j) t)
+    ∙ ap (λ t. step (outer_of e.open_calls) (call_without_list t c (longer z more p) s)) n
+    ∙ text_goes e.open_calls name e (longer z more p) (before z more) o l refl
+    ∙ ap (λ (x : List ℕ). Goes (configuration o l (with_text x e) (longer z more p))) (sym v.1)
+    ∙ ap (λ (x : Engine). Goes (configuration o l x (longer z more p))) (sym g)
+
+-- a name without a definition is text
+pub word_moves : (e e1 : Engine) (name : List ℕ) (p : Pending) → top_of e.state name ≡ None → e1 ≡ with_text name e → (before : Extended) → Moves p.may_follow e1 p turns.GoesOn (λ z more o l. step (outer_of e.open_calls) (take_name (top_of e.state name) name (longer z more p) (here_of o l e (before z more))))
+word_moves e e1 name p n g before = λ z more t o l.
+    ap (λ t. step (outer_of e.open_calls) (take_name t name (longer z more p) (here_of o l e (before z more)))) n
+    ∙ text_goes e.open_calls name e (longer z more p) (before z more) o l refl
+    ∙ ap (λ (x : Engine). Goes (configuration o l x (longer z more p))) (sym g)
+
+-- a string or a comment is text
+pub string_moves : (e e1 : Engine) (x : List ℕ) (p : Pending) → e1 ≡ with_text x e → (before : Extended) → Moves p.may_follow e1 p turns.GoesOn (λ z more o l. step (outer_of e.open_calls) (GoOn (put_text x (reading (longer z more p) (here_of o l e (before z more))))))
+string_moves e e1 x p g before = λ z more t o l.
+    text_goes e.open_calls x e (longer z more p) (before z more) o l refl
+    ∙ ap (λ (d : Engine). Goes (configuration o l d (longer z more p))) (sym g)

@@ -3,7 +3,7 @@ use Rattle.std.proofs.Common.{◌≡◌, inr, ℕ, Bool, true, false, List, [], 
 use Rattle.std.specs.Prelude.{Result, Ok, Err}
 use Rattle.m4_state.proofs.CallerLaws.{with_bytes-nil}
 use Rattle.m4_state.specs.State.{State, IsSized}
-use Rattle.m4_state.specs.Device.{Script, after_bytes, IsAtEnd, with_bytes, HasBegun}
+use Rattle.m4_state.specs.Device.{Script, after_bytes, IsAtEnd, with_bytes, HasBegun, one_more}
 use Rattle.m4_input.specs.Pending.{Pending}
 use Rattle.m4_input.specs.Input.{Held, unread_file, wrapped_pending, wrapped_text, longer, Reads, WholeGives}
 use Rattle.m4_frozen.specs.Freeze.{freeze}
@@ -16,9 +16,10 @@ use Rattle.m4_engine.specs.File.{Progress, file_pending, over_of, over_by, after
 use Rattle.m4_engine.specs.Run.{closed_output, result_of}
 use Rattle.m4_engine.specs.Wraps.{joined_back, after_wraps, close}
 use Rattle.m4_engine.proofs.Begins.{nothing_begun}
-use Rattle.m4_engine.specs.Engine.{Engine}
-use Rattle.m4_engine.specs.Expands.{input_expansion, Expanded, Expands, EndsInput, at_rest}
-use Rattle.m4_engine.specs.Session.{SessionState, progress_of, written, how_over, IsOpen, Completed, FileDone, FileBroke, FileGives, BrokeOff, WrapsGive, round_of, answer_by, over_after, session_after_wraps, last_state, Unfinished, EndGives, FinishGives, FreezeGives, CloseGives}
+use Rattle.m4_engine.specs.Engine.{Engine, MayFollow}
+use Rattle.m4_engine.proofs.Longer.{closed_same}
+use Rattle.m4_engine.specs.Expands.{input_expansion, Expanded, ReadSo, Fell, Expands, ReadsBy, at_rest}
+use Rattle.m4_engine.specs.Session.{SessionState, progress_of, written, how_over, IsOpen, Completed, FileDone, FileBroke, FileGives, ReadFails, BrokeOff, WrapsGive, round_of, answer_by, over_after, session_after_wraps, last_state, Unfinished, EndGives, FinishGives, FreezeGives, CloseGives}
 use Rattle.m4_engine.specs.Writers.{Contents, Three, Broken, writers}
 
 -- what a file's input has in hand when it was read
@@ -82,18 +83,74 @@ file_broke e0 e1 any_missing name x cause before after p w g a e d = (
   inr (a, subst (λ (p : Pending). Broken (input_expansion e0 p) w) e d),
 )
 
-by_cause : (e0 e1 : Engine) (any_missing : Bool) (name x : List ℕ) (cause : Cause) (before after : Option Script) (p : Pending) (w : Contents) → before ≡ after_bytes x after → IsAtEnd after → p ≡ file_pending name x false → Expands e0 e1 p w cause → EndsInput cause → FileGives name before after (session_of e0 any_missing None false) (session_of (at_rest e1) any_missing (over_after cause None) false) w (answer_by cause)
-by_cause e0 e1 any_missing name x causes.Done before after p w g a e d u = file_done e0 e1 any_missing name x None causes.Done before after p w g a e d refl
-by_cause e0 e1 any_missing name x (causes.Exited n) before after p w g a e d u = file_done e0 e1 any_missing name x (Some (causes.Exited n)) (causes.Exited n) before after p w g a e d refl
-by_cause e0 e1 any_missing name x causes.EndInString before after p w g a e d u = file_done e0 e1 any_missing name x (Some causes.EndInString) causes.EndInString before after p w g a e d refl
-by_cause e0 e1 any_missing name x causes.EndInComment before after p w g a e d u = file_done e0 e1 any_missing name x (Some causes.EndInComment) causes.EndInComment before after p w g a e d refl
-by_cause e0 e1 any_missing name x causes.EndInArguments before after p w g a e d u = file_done e0 e1 any_missing name x (Some causes.EndInArguments) causes.EndInArguments before after p w g a e d refl
-by_cause e0 e1 any_missing name x causes.ExpansionLimit before after p w g a e d u = file_done e0 e1 any_missing name x (Some causes.ExpansionLimit) causes.ExpansionLimit before after p w g a e d refl
-by_cause e0 e1 any_missing name x causes.NestingLimit before after p w g a e d u = file_done e0 e1 any_missing name x (Some causes.NestingLimit) causes.NestingLimit before after p w g a e d refl
-by_cause e0 e1 any_missing name x (causes.Frozen f) before after p w g a e d u = absurd u
-by_cause e0 e1 any_missing name x causes.Read before after p w g a e d u = absurd u
-by_cause e0 e1 any_missing name x causes.Write before after p w g a e d u = file_broke e0 e1 any_missing name x causes.Write before after p w g a e d
-by_cause e0 e1 any_missing name x causes.OutOfMemory before after p w g a e d u = file_broke e0 e1 any_missing name x causes.OutOfMemory before after p w g a e d
+-- the expansion of an input that was read to its end, by the cause
+abbrev ClosedExpands : Engine → Engine → Pending → Contents → Cause → Type 0
+ClosedExpands old new p w (causes.Frozen fault) = ⊥
+ClosedExpands old new p w causes.Read = ⊥
+ClosedExpands old new p w causes.Write = Broken (input_expansion old p) w
+ClosedExpands old new p w causes.OutOfMemory = Broken (input_expansion old p) w
+ClosedExpands old new p w cause = Expanded old new (input_expansion old p) cause w
+
+not_open : (b c : Bool) → (b ≡ true → c ≡ true) → c ≡ false → b ≡ false
+not_open true c h e = let f : c ≡ true = h refl in cc
+not_open false c h e = refl
+
+-- nothing follows it, and its reader is not asked
+closed_so : (old : Engine) (p : Pending) (before after : Option Script) (P : Ended → Type 0) → p.may_follow ≡ false → ReadSo old p before after P → (after ≡ before) × P (input_expansion old p)
+closed_so old p before after P c r =
+    let still : (r.q).may_follow ≡ false = not_open (r.q).may_follow p.may_follow (r.reads).still c in
+    let same : longer [] false r.q ≡ p =
+    closed_same r.q still ∙ (r.reads).in_hand ∙ ap (λ (b : Bool). longer r.x b p) still ∙ ap (λ (x : List ℕ). longer x false p) ((r.reads).closed c).0 ∙ closed_same p c in
+    (((r.reads).closed c).1, subst (λ (q : Pending). P (input_expansion old q)) same (r.so [] false (subst (λ (b : Bool). MayFollow b [] false) (sym still) (refl, refl))))
+
+closed_fell : (old : Engine) (p : Pending) (before after : Option Script) (w : Contents) → p.may_follow ≡ false → Fell old p before after w → ⊥
+closed_fell old p before after w c f =
+    let still : p.may_follow ≡ true = (f.reads).still refl in
+    let both : true ≡ false = sym still ∙ c in
+    cc
+
+pub closed_expands : (old new : Engine) (p : Pending) (before after : Option Script) (w : Contents) (cause : Cause) → p.may_follow ≡ false → Expands old new p before after w cause → (after ≡ before) × ClosedExpands old new p w cause
+closed_expands old new p before after w (causes.Frozen f) c h = absurd h
+closed_expands old new p before after w causes.Read c h = absurd (closed_fell old p before after w c h)
+closed_expands old new p before after w causes.Write c h = closed_so old p before after _ c h
+closed_expands old new p before after w causes.OutOfMemory c h = closed_so old p before after _ c h
+closed_expands old new p before after w causes.Done c h = closed_so old p before after _ c h
+closed_expands old new p before after w (causes.Exited n) c h = closed_so old p before after _ c h
+closed_expands old new p before after w causes.EndInString c h = closed_so old p before after _ c h
+closed_expands old new p before after w causes.EndInComment c h = closed_so old p before after _ c h
+closed_expands old new p before after w causes.EndInArguments c h = closed_so old p before after _ c h
+closed_expands old new p before after w causes.ExpansionLimit c h = closed_so old p before after _ c h
+closed_expands old new p before after w causes.NestingLimit c h = closed_so old p before after _ c h
+
+-- a file's reader failed where the expansion says so
+pub expand_reads : (cause : Cause) (old mid new : ℕ) → mid ≡ old → ReadsBy cause mid new → ReadFails (answer_by cause) old new
+expand_reads causes.Read old mid new e h = h ∙ ap one_more e
+expand_reads causes.Done old mid new e h = h ∙ e
+expand_reads (causes.Exited n) old mid new e h = h ∙ e
+expand_reads causes.EndInString old mid new e h = h ∙ e
+expand_reads causes.EndInComment old mid new e h = h ∙ e
+expand_reads causes.EndInArguments old mid new e h = h ∙ e
+expand_reads causes.ExpansionLimit old mid new e h = h ∙ e
+expand_reads causes.NestingLimit old mid new e h = h ∙ e
+expand_reads (causes.Frozen f) old mid new e h = h ∙ e
+expand_reads causes.Write old mid new e h = h ∙ e
+expand_reads causes.OutOfMemory old mid new e h = h ∙ e
+
+pub file_reads : (cause : Cause) (result : Result Unit Stop) (old mid new : ℕ) → result ≡ answer_by cause → mid ≡ old → ReadsBy cause mid new → ReadFails result old new
+file_reads cause result old mid new r e h = subst (λ (x : Result Unit Stop). ReadFails x old new) (sym r) (expand_reads cause old mid new e h)
+
+by_cause : (e0 e1 : Engine) (any_missing : Bool) (name x : List ℕ) (cause : Cause) (before after : Option Script) (p : Pending) (w : Contents) → before ≡ after_bytes x after → IsAtEnd after → p ≡ file_pending name x false → ClosedExpands e0 e1 p w cause → FileGives name before after (session_of e0 any_missing None false) (session_of (at_rest e1) any_missing (over_after cause None) false) w (answer_by cause)
+by_cause e0 e1 any_missing name x causes.Done before after p w g a e d = file_done e0 e1 any_missing name x None causes.Done before after p w g a e d refl
+by_cause e0 e1 any_missing name x (causes.Exited n) before after p w g a e d = file_done e0 e1 any_missing name x (Some (causes.Exited n)) (causes.Exited n) before after p w g a e d refl
+by_cause e0 e1 any_missing name x causes.EndInString before after p w g a e d = file_done e0 e1 any_missing name x (Some causes.EndInString) causes.EndInString before after p w g a e d refl
+by_cause e0 e1 any_missing name x causes.EndInComment before after p w g a e d = file_done e0 e1 any_missing name x (Some causes.EndInComment) causes.EndInComment before after p w g a e d refl
+by_cause e0 e1 any_missing name x causes.EndInArguments before after p w g a e d = file_done e0 e1 any_missing name x (Some causes.EndInArguments) causes.EndInArguments before after p w g a e d refl
+by_cause e0 e1 any_missing name x causes.ExpansionLimit before after p w g a e d = file_done e0 e1 any_missing name x (Some causes.ExpansionLimit) causes.ExpansionLimit before after p w g a e d refl
+by_cause e0 e1 any_missing name x causes.NestingLimit before after p w g a e d = file_done e0 e1 any_missing name x (Some causes.NestingLimit) causes.NestingLimit before after p w g a e d refl
+by_cause e0 e1 any_missing name x (causes.Frozen f) before after p w g a e d = absurd d
+by_cause e0 e1 any_missing name x causes.Read before after p w g a e d = absurd d
+by_cause e0 e1 any_missing name x causes.Write before after p w g a e d = file_broke e0 e1 any_missing name x causes.Write before after p w g a e d
+by_cause e0 e1 any_missing name x causes.OutOfMemory before after p w g a e d = file_broke e0 e1 any_missing name x causes.OutOfMemory before after p w g a e d
 
 -- a session that goes on
 open_is : (old : SessionState) (e0 : Engine) (any_missing : Bool) (over : Option Cause) (finished : Bool) → old ≡ session_of e0 any_missing over finished → IsOpen old → (over ≡ None) × (finished ≡ false)
@@ -112,12 +169,14 @@ module _ (To : SessionState → SessionState → Result Unit Stop → Type 0) (o
       (subst (To (session_of e0 any_missing None false) (session_of (at_rest e1) any_missing (over_after cause None) false)) (sym r) g))
 
 -- a file that was read whole
-pub file_gives : (old new : SessionState) (e0 e1 e2 : Engine) (any_missing : Bool) (over : Option Cause) (finished : Bool) (name : List ℕ) (i0 i : Held) (before after : Option Script) (w : Contents) (cause : Cause) (result : Result Unit Stop) → old ≡ session_of e0 any_missing over finished → IsOpen old → i0 ≡ unread_file name → WholeGives before after i0 i (Ok tt) → Expands e0 e1 i.pending w cause → EndsInput cause → e2 ≡ at_rest e1 → new ≡ session_of e2 any_missing (over_after cause over) finished → result ≡ answer_by cause → FileGives name before after old new w result
-file_gives old new e0 e1 e2 any_missing over finished name i0 i before after w cause result o l n h d u z v r =
-    let k = subst (λ (i0 : Held). WholeGives before after i0 i (Ok tt)) n h in
-    let p : i.pending ≡ file_pending name k.0 false = whole_file name k.0 before after i.pending k.1 k.2 in
-    let g = by_cause e0 e1 any_missing name k.0 cause before after i.pending w (k.1).given ((k.1).at_end refl k.2) p d u in
-    unchanged_session (λ a b x. FileGives name before after a b w x) old new e0 e1 e2 any_missing over finished cause result o l z v r g
+pub file_gives : (old new : SessionState) (e0 e1 e2 : Engine) (any_missing : Bool) (over : Option Cause) (finished : Bool) (name : List ℕ) (i0 i : Held) (before mid after : Option Script) (w : Contents) (cause : Cause) (result : Result Unit Stop) → old ≡ session_of e0 any_missing over finished → IsOpen old → i0 ≡ unread_file name → WholeGives before mid i0 i (Ok tt) → Expands e0 e1 i.pending mid after w cause → e2 ≡ at_rest e1 → new ≡ session_of e2 any_missing (over_after cause over) finished → result ≡ answer_by cause → FileGives name before after old new w result
+file_gives old new e0 e1 e2 any_missing over finished name i0 i before mid after w cause result o l n h d z v r =
+    let k = subst (λ (i0 : Held). WholeGives before mid i0 i (Ok tt)) n h in
+    let p : i.pending ≡ file_pending name k.0 false = whole_file name k.0 before mid i.pending k.1 k.2 in
+    let c = closed_expands e0 e1 i.pending mid after w cause k.2 d in
+    let g = by_cause e0 e1 any_missing name k.0 cause before mid i.pending w (k.1).given ((k.1).at_end refl k.2) p c.1 in
+    subst (λ (s : Option Script). FileGives name before s old new w result) (sym c.0)
+    (unchanged_session (λ a b x. FileGives name before mid a b w x) old new e0 e1 e2 any_missing over finished cause result o l z v r g)
 
 -- a round over saved texts
 module _ (old : SessionState) (e0 e1 : Engine) (any_missing : Bool) (p : Pending) (w : Contents) (l : IsOpen old) (e : e0.limits ≡ old.limits) where
@@ -133,26 +192,26 @@ module _ (old : SessionState) (e0 e1 : Engine) (any_missing : Bool) (p : Pending
   breaks_by : (cause : Cause) → Broken d w → BrokeOff (session_of (at_rest e1) any_missing (Some cause) false) (after_input d any_missing) w cause
   breaks_by cause k = record { over = refl; output = k.output; messages = k.messages }
 
-  round_by : (cause : Cause) → Expands e0 e1 p w cause → EndsInput cause → To cause
-  round_by causes.Done k u = ((input_done old e0 e1 any_missing None causes.Done d w l e k refl, refl), tt)
-  round_by (causes.Exited n) k u = (ends_by (causes.Exited n) k refl, tt)
-  round_by causes.EndInString k u = (ends_by causes.EndInString k refl, tt)
-  round_by causes.EndInComment k u = (ends_by causes.EndInComment k refl, tt)
-  round_by causes.EndInArguments k u = (ends_by causes.EndInArguments k refl, tt)
-  round_by causes.ExpansionLimit k u = (ends_by causes.ExpansionLimit k refl, tt)
-  round_by causes.NestingLimit k u = (ends_by causes.NestingLimit k refl, tt)
-  round_by (causes.Frozen f) k u = absurd u
-  round_by causes.Read k u = absurd u
-  round_by causes.Write k u = (breaks_by causes.Write k, tt)
-  round_by causes.OutOfMemory k u = (breaks_by causes.OutOfMemory k, tt)
+  round_by : (cause : Cause) → ClosedExpands e0 e1 p w cause → To cause
+  round_by causes.Done k = ((input_done old e0 e1 any_missing None causes.Done d w l e k refl, refl), tt)
+  round_by (causes.Exited n) k = (ends_by (causes.Exited n) k refl, tt)
+  round_by causes.EndInString k = (ends_by causes.EndInString k refl, tt)
+  round_by causes.EndInComment k = (ends_by causes.EndInComment k refl, tt)
+  round_by causes.EndInArguments k = (ends_by causes.EndInArguments k refl, tt)
+  round_by causes.ExpansionLimit k = (ends_by causes.ExpansionLimit k refl, tt)
+  round_by causes.NestingLimit k = (ends_by causes.NestingLimit k refl, tt)
+  round_by (causes.Frozen f) k = absurd k
+  round_by causes.Read k = absurd k
+  round_by causes.Write k = (breaks_by causes.Write k, tt)
+  round_by causes.OutOfMemory k = (breaks_by causes.OutOfMemory k, tt)
 
-pub round_gives : (old new : SessionState) (e0 ea e1 e2 : Engine) (any_missing : Bool) (over : Option Cause) (finished : Bool) (x : List ℕ) (i : Held) (w : Contents) (cause : Cause) (result : Result Unit Stop) → old ≡ session_of e0 any_missing over finished → IsOpen old → ea ≡ record e0 { saved = [] } → x ≡ joined_back e0.saved → i ≡ wrapped_text x → Expands ea e1 i.pending w cause → EndsInput cause → e2 ≡ at_rest e1 → new ≡ session_of e2 any_missing (over_after cause over) finished → result ≡ answer_by cause → WrapsGive (round_of old) old new w result
-round_gives old new e0 ea e1 e2 any_missing over finished x i w cause result o l a j n d u z v r =
+pub round_gives : (old new : SessionState) (e0 ea e1 e2 : Engine) (any_missing : Bool) (over : Option Cause) (finished : Bool) (x : List ℕ) (i : Held) (before after : Option Script) (w : Contents) (cause : Cause) (result : Result Unit Stop) → old ≡ session_of e0 any_missing over finished → IsOpen old → ea ≡ record e0 { saved = [] } → x ≡ joined_back e0.saved → i ≡ wrapped_text x → Expands ea e1 i.pending before after w cause → e2 ≡ at_rest e1 → new ≡ session_of e2 any_missing (over_after cause over) finished → result ≡ answer_by cause → WrapsGive (round_of old) old new w result
+round_gives old new e0 ea e1 e2 any_missing over finished x i before after w cause result o l a j n d z v r =
     let taken : Engine = record e0 { saved = [] } in
     let p : Pending = wrapped_pending (joined_back e0.saved) in
-    let k : Expands taken e1 p w cause = subst (λ (y : Engine). Expands y e1 p w cause) a (subst (λ (y : Pending). Expands ea e1 y w cause) (ap (λ (h : Held). h.pending) n ∙ ap wrapped_pending j) d) in
+    let k : Expands taken e1 p before after w cause = subst (λ (y : Engine). Expands y e1 p before after w cause) a (subst (λ (y : Pending). Expands ea e1 y before after w cause) (ap (λ (h : Held). h.pending) n ∙ ap wrapped_pending j) d) in
     unchanged_session (λ a b y. WrapsGive (round_of a) a b w y) old new e0 e1 e2 any_missing over finished cause result o l z v r
-    (round_by (session_of e0 any_missing None false) taken e1 any_missing p w (record { over = refl; unfinished = refl }) refl cause k u)
+    (round_by (session_of e0 any_missing None false) taken e1 any_missing p w (record { over = refl; unfinished = refl }) refl cause (closed_expands taken e1 p before after w cause refl k).1)
 
 -- a round whose text could not be made
 lacked_by : (new : SessionState) (p : Progress) (w : Contents) → new.over ≡ Some causes.OutOfMemory → w.out_new ≡ w.out_old → w.messages_new ≡ w.messages_old → BrokeOff new p w causes.OutOfMemory

@@ -1,36 +1,36 @@
--- Turning: a turn is what the token at the front makes of it.
-use Rattle.std.proofs.Common.{◌≡◌, ℕ, List, Option, sym, ap, ◌∙◌, subst}
+-- Turning: a turn is what the token at the front makes of it, whatever follows the bytes in hand.
+use Rattle.std.proofs.Common.{◌≡◌, ◌⊎◌, inl, inr, ℕ, Bool, true, false, List, [], ◌∷◌, drop, Option, Some, None, append-nil, refl, sym, ap, ◌∙◌, subst}
 use Rattle.std.specs.Prelude.{Result, Ok, Err, IfOk}
-use Rattle.m4_state.specs.Device.{Script}
+use Rattle.m4_state.specs.declared.definition.Def.{Def}
 use Rattle.m4_state.specs.declared.delimiters.Delimiters.{Delimiters}
-use Rattle.m4_input.specs.declared.fault.InputFault.{InputFault}
-use Rattle.m4_input.specs.declared.fault.InputFault.TheVariants as faults
-use Rattle.m4_input.specs.declared.token.Token.{Token}
-use Rattle.m4_input.specs.declared.token.Token.TheVariants.{End}
+use Rattle.m4_state.specs.State.{top_of}
+use Rattle.m4_input.specs.declared.front.Answer.TheVariants.{Unknown}
+use Rattle.m4_input.specs.declared.front.Scan.TheVariants.{Found, Broken, NeedsMore}
 use Rattle.m4_input.specs.declared.front.Unended.{Unended}
-use Rattle.m4_input.specs.declared.front.Unended.TheVariants.{InString, InComment}
-use Rattle.m4_input.specs.Pending.{Pending, line_of, name_of}
-use Rattle.m4_input.specs.Token.{Taken, Refused, token_at}
-use Rattle.m4_input.specs.Input.{Held, NextGives}
+use Rattle.m4_input.specs.declared.token.Token.{Token}
+use Rattle.m4_input.specs.declared.token.Token.TheVariants.{Name, Str, Comment, Definition, End}
+use Rattle.m4_input.specs.Pending.{Pending, text_of, line_of, name_of, consumed}
+use Rattle.m4_input.specs.Token.{scan, Taken, Refused, More, front_by, front_from, token_at}
+use Rattle.m4_input.specs.Paren.{paren_in, paren_at}
+use Rattle.m4_input.specs.Input.{Held, longer}
+use Rattle.m4_input.proofs.Consumed.{scan_plain, NoDefinition}
+use Rattle.m4_input.proofs.Decided.{scan_open, paren_open}
 use Rattle.m4_builtins.specs.declared.place.Place.{Place}
 use Rattle.m4_builtins.specs.Args.{or_empty}
 use Rattle.m4_builtins.specs.Messages.{error}
 use Rattle.m4_engine.specs.declared.turned.Turned.{Turned}
 use Rattle.m4_engine.specs.declared.turned.TurnFault.{TurnFault}
-use Rattle.m4_engine.specs.Nesting.{Halted}
-use Rattle.m4_engine.specs.OpenCalls.{Stops}
-use Rattle.m4_engine.specs.Expansion.{Ends}
-use Rattle.m4_engine.specs.Expand.{take_end, take_token, take_front, unended_text, unended_cause}
-use Rattle.m4_engine.specs.Engine.{Engine, so_far_of, mode_of, outer_of, here_of, configuration, with_engine_message, step, moved, IsReady, Moves}
-use Rattle.m4_engine.proofs.Acts.{moves_by}
+use Rattle.m4_engine.specs.declared.turned.Turned.TheVariants as turns
+use Rattle.m4_engine.specs.Nesting.{GoOn, Halted}
+use Rattle.m4_engine.specs.OpenCalls.{Stops, Goes}
+use Rattle.m4_engine.specs.Expansion.{Call, Ends, NeedsInput, place_at, put_token, reading}
+use Rattle.m4_engine.specs.Expand.{take_call, take_end, take_name, take_token, take_front, call_of, unended_text, unended_cause}
+use Rattle.m4_engine.specs.Engine.{Engine, so_far_of, mode_of, outer_of, here_of, configuration, with_engine_message, with_text, with_token, put_token_in, step, moved, MayFollow, Extended, IsReady, Stays, Moves, Makes, Steps, Turns, Needs}
+use Rattle.m4_engine.proofs.Acts.{result_by, turned_steps, turned_makes, text_limits, token_limits}
 use Rattle.m4_engine.proofs.Calling.{failed_at}
-use Rattle.m4_engine.proofs.Inputs.{closed_reads}
+use Rattle.m4_engine.proofs.Longer.{nothing_more, nothing_follows, found_longer, broken_longer}
 use Rattle.m4_engine.proofs.Named.{place_of_file}
-
--- the end of the input is a token
-pub end_result : (e e1 : Engine) (t : Token) (line : ℕ) (p p' : Pending) (r : Result Turned TurnFault) → t ≡ End → IfOk r (λ u. (before p : Pending) → Moves e1 p u (λ o m. step (outer_of e.open_calls) (take_end (mode_of e.open_calls) (here_of o m e before)))) → IfOk r (λ u. (before : Pending) → line ≡ line_of before → before.file ≡ p.file → Moves e1 p' u (λ o m. step (outer_of e.open_calls) (take_token t p (here_of o m e before))))
-end_result e e1 t line p p' (Ok u) h k = λ before f g. moves_by e1 p' u _ _ (λ o m. ap (λ (t : Token). step (outer_of e.open_calls) (take_token t p (here_of o m e before))) h) (k before p')
-end_result e e1 t line p p' (Err x) h k = tt
+use Rattle.m4_engine.proofs.Seen.{list_there, word_moves, string_moves}
 
 -- what has no end
 pub unended_moves : (e e1 : Engine) (what w : Unended) (line : ℕ) (at : Place) (p before : Pending) (o m : List ℕ) → what ≡ w → at.file ≡ name_of p → at.line ≡ line → before.file ≡ p.file → e1 ≡ with_engine_message (error at (unended_text w)) e → step (outer_of e.open_calls) (take_front (Refused what line) (here_of o m e before)) ≡ Stops (Halted (record { so_far = so_far_of o m e1; reason = Ends (unended_cause w) }))
@@ -40,32 +40,154 @@ unended_moves e e1 what w line at p before o m h i l f g =
     ∙ failed_at o m e e1 before (record { file = or_empty before.file; line = line }) (unended_text w) (unended_cause w) (outer_of e.open_calls) (g ∙ ap (λ (x : Place). with_engine_message (error x (unended_text w)) e) j)
 
 -- a turn that takes a token
-pub turn_taken : (e e1 : Engine) (q c : Delimiters) (t : Token) (line : ℕ) (p p1 p' : Pending) (r : Result Turned TurnFault) → q ≡ (e.state).quotes → c ≡ (e.state).comments → token_at q c p ≡ Taken t p1 → line ≡ line_of p → p1.file ≡ p.file → IfOk r (λ u. (before : Pending) → line ≡ line_of before → before.file ≡ p1.file → Moves e1 p' u (λ o m. step (outer_of e.open_calls) (take_token t p1 (here_of o m e before)))) → IfOk r (λ u. Moves e1 p' u (λ o m. moved (configuration o m e p)))
-turn_taken e e1 q c t line p p1 p' (Ok u) i j h f g k =
-    let front : token_at (e.state).quotes (e.state).comments p ≡ Taken t p1 = ap (λ (x : Delimiters). token_at x (e.state).comments p) (sym i) ∙ ap (λ (x : Delimiters). token_at q x p) (sym j) ∙ h in
-    moves_by e1 p' u _ _ (λ o m. ap (λ v. step (outer_of e.open_calls) (take_front v (here_of o m e p))) front) (k p f (sym g))
-turn_taken e e1 q c t line p p1 p' (Err x) i j h f g k = tt
+pub turn_taken : (e e1 : Engine) (t : Token) (p q p' : Pending) (r : Result Turned TurnFault) → ((z : List ℕ) (more : Bool) → MayFollow p.may_follow z more → token_at (e.state).quotes (e.state).comments (longer z more p) ≡ Taken t (longer z more q)) → IfOk r (λ u. Moves p.may_follow e1 p' u (λ z more o m. step (outer_of e.open_calls) (take_token t (longer z more q) (here_of o m e (longer z more p))))) → IfOk r (λ u. Moves p.may_follow e1 p' u (λ z more o m. moved (configuration o m e (longer z more p))))
+turn_taken e e1 t p q p' r front k =
+    result_by p.may_follow e1 p' r _ _ (λ z more c o m. ap (λ v. step (outer_of e.open_calls) (take_front v (here_of o m e (longer z more p)))) (front z more c)) k
+
+-- a token of so many bytes
+pub turn_found : (e e1 : Engine) (t : Token) (n : ℕ) (p q p' : Pending) (r : Result Turned TurnFault) → p.definition ≡ None → scan (e.state).quotes (e.state).comments p.may_follow (text_of p) ≡ Found t n → q ≡ consumed n p → IfOk r (λ u. Moves p.may_follow e1 p' u (λ z more o m. step (outer_of e.open_calls) (take_token t (longer z more q) (here_of o m e (longer z more p))))) → IfOk r (λ u. Moves p.may_follow e1 p' u (λ z more o m. moved (configuration o m e (longer z more p))))
+turn_found e e1 t n p q p' r d s g k =
+    turn_taken e e1 t p q p' r (λ z more c. found_longer (e.state).quotes (e.state).comments p t n z more d s c ∙ ap (λ (x : Pending). Taken t (longer z more x)) (sym g)) k
 
 -- a turn that meets what has no end
-pub turn_unended : (e e1 : Engine) (q c : Delimiters) (what : Unended) (line : ℕ) (p p1 p' : Pending) (r : Result Turned TurnFault) → q ≡ (e.state).quotes → c ≡ (e.state).comments → token_at q c p ≡ Refused what line → p1.file ≡ p.file → IfOk r (λ u. (before p : Pending) → before.file ≡ p1.file → Moves e1 p u (λ o m. step (outer_of e.open_calls) (take_front (Refused what line) (here_of o m e before)))) → IfOk r (λ u. Moves e1 p' u (λ o m. moved (configuration o m e p)))
-turn_unended e e1 q c what line p p1 p' (Ok u) i j h g k =
-    let front : token_at (e.state).quotes (e.state).comments p ≡ Refused what line = ap (λ (x : Delimiters). token_at x (e.state).comments p) (sym i) ∙ ap (λ (x : Delimiters). token_at q x p) (sym j) ∙ h in
-    moves_by e1 p' u _ _ (λ o m. ap (λ v. step (outer_of e.open_calls) (take_front v (here_of o m e p))) front) (k p p' (sym g))
-turn_unended e e1 q c what line p p1 p' (Err x) i j h g k = tt
+pub turn_unended : (e e1 : Engine) (what : Unended) (line : ℕ) (p p1 p' : Pending) (r : Result Turned TurnFault) → p.definition ≡ None → scan (e.state).quotes (e.state).comments p.may_follow (text_of p) ≡ Broken what → line ≡ line_of p → p1.file ≡ p.file → IfOk r (λ u. (may : Bool) (q : Pending) (before : Extended) → ((z : List ℕ) (more : Bool) → (before z more).file ≡ p1.file) → Moves may e1 q u (λ z more o m. step (outer_of e.open_calls) (take_front (Refused what line) (here_of o m e (before z more))))) → IfOk r (λ u. Moves p.may_follow e1 p' u (λ z more o m. moved (configuration o m e (longer z more p))))
+turn_unended e e1 what line p p1 p' (Ok u) d s i g k =
+    result_by p.may_follow e1 p' (Ok u) _ _ (λ z more c o m. ap (λ v. step (outer_of e.open_calls) (take_front v (here_of o m e (longer z more p))))
+    (broken_longer (e.state).quotes (e.state).comments p what z more d s c ∙ ap (Refused what) (sym i)))
+    (k p.may_follow p' (λ z more. longer z more p) (λ z more. sym g))
+turn_unended e e1 what line p p1 p' (Err x) d s i g k = tt
 
--- a string or a comment without an end, as a closed input reports it
-string_at : (q c : Delimiters) (before after : Option Script) (old new : Held) (line : ℕ) → IsReady old → NextGives q c before after old new (Err (faults.EndInString line)) → (token_at q c old.pending ≡ Refused InString line) × ((new.pending).file ≡ (old.pending).file)
-string_at q c before after old new line r g =
-    let e : g.1 ≡ old.pending = closed_reads before after old.pending g.0 g.1 (g.2).reads r.closed in
-    (sym (ap (token_at q c) e) ∙ (g.2).front, ap (λ (p : Pending). p.file) (g.2).nothing ∙ ap (λ (p : Pending). p.file) e)
+-- the bytes in hand don't decide the token
+pub token_undecided : (e : Engine) (i : Held) → (i.pending).definition ≡ None → scan (e.state).quotes (e.state).comments (i.pending).may_follow (text_of i.pending) ≡ NeedsMore → Needs e e i i
+token_undecided e i d s = record {
+  engine = refl;
+  input = refl;
+  follows = scan_open (e.state).quotes (e.state).comments (i.pending).may_follow (text_of i.pending) s;
+  undecided = λ o m.
+      ap (λ v. step (outer_of e.open_calls) (take_front v (here_of o m e i.pending)))
+      (ap (λ x. front_from x (e.state).quotes (e.state).comments i.pending) d ∙ ap (front_by i.pending) s);
+}
 
-comment_at : (q c : Delimiters) (before after : Option Script) (old new : Held) (line : ℕ) → IsReady old → NextGives q c before after old new (Err (faults.EndInComment line)) → (token_at q c old.pending ≡ Refused InComment line) × ((new.pending).file ≡ (old.pending).file)
-comment_at q c before after old new line r g =
-    let e : g.1 ≡ old.pending = closed_reads before after old.pending g.0 g.1 (g.2).reads r.closed in
-    (sym (ap (token_at q c) e) ∙ (g.2).front, ap (λ (p : Pending). p.file) (g.2).nothing ∙ ap (λ (p : Pending). p.file) e)
+-- they don't decide whether a list follows a name that has a definition
+pub list_undecided : (e : Engine) (i : Held) (d : Def) (name : List ℕ) (n : ℕ) → (i.pending).definition ≡ None → scan (e.state).quotes (e.state).comments (i.pending).may_follow (text_of i.pending) ≡ Found (Name name) n → top_of e.state name ≡ Some d → paren_in (e.state).quotes (e.state).comments (i.pending).may_follow (drop n (text_of i.pending)) ≡ Unknown → Needs e e i i
+list_undecided e i d name n f s t u = record {
+  engine = refl;
+  input = refl;
+  follows = paren_open (e.state).quotes (e.state).comments (i.pending).may_follow (drop n (text_of i.pending)) u;
+  undecided = λ o m.
+      let p : Pending = i.pending in
+      let q : Pending = consumed n p in
+      let front : token_at (e.state).quotes (e.state).comments p ≡ Taken (Name name) q =
+      ap (λ x. front_from x (e.state).quotes (e.state).comments p) f ∙ ap (front_by p) s in
+      let c : Call = call_of d name (place_at p) in
+      ap (λ v. step (outer_of e.open_calls) (take_front v (here_of o m e p))) front
+      ∙ ap (λ v. step (outer_of e.open_calls) (take_name v name q (here_of o m e p))) t
+      ∙ ap (λ v. step (outer_of e.open_calls) (take_call v c q (here_of o m e p))) (list_there (e.state).quotes (e.state).comments p q n Unknown refl u);
+}
 
-pub string_unended : (q c : Delimiters) (before after : Option Script) (old new : Held) (x : Result Token InputFault) (line : ℕ) → IsReady old → x ≡ Err (faults.EndInString line) → NextGives q c before after old new x → (token_at q c old.pending ≡ Refused InString line) × ((new.pending).file ≡ (old.pending).file)
-string_unended q c before after old new x line r e g = string_at q c before after old new line r (subst (NextGives q c before after old new) e g)
+-- a text has no definition as a token
+pub no_definition : (q c : Delimiters) (m : Bool) (x : List ℕ) (t : Token) (n : ℕ) (d : Def) → scan q c m x ≡ Found t n → t ≡ Definition d → ⊥
+unfolding NoDefinition
+no_definition q c m x t n d e h = subst NoDefinition e (scan_plain q c m x) d h
 
-pub comment_unended : (q c : Delimiters) (before after : Option Script) (old new : Held) (x : Result Token InputFault) (line : ℕ) → IsReady old → x ≡ Err (faults.EndInComment line) → NextGives q c before after old new x → (token_at q c old.pending ≡ Refused InComment line) × ((new.pending).file ≡ (old.pending).file)
-comment_unended q c before after old new x line r e g = comment_at q c before after old new line r (subst (NextGives q c before after old new) e g)
+-- a definition goes where it goes
+token_goes : (cs : List Call) (d : Def) (e : Engine) (p before : Pending) (o m : List ℕ) → e.open_calls ≡ cs → step (outer_of cs) (GoOn (put_token d (reading p (here_of o m (record e { open_calls = cs }) before)))) ≡ Goes (configuration o m (put_token_in cs d (record e { open_calls = cs })) p)
+token_goes [] d e p before o m h = refl
+token_goes (c ∷ cs) d e p before o m h = refl
+
+pub definition_moves : (e e1 : Engine) (d : Def) (p p1 : Pending) → p.definition ≡ Some d → p1 ≡ record p { definition = None } → e1 ≡ with_token d e → Moves p.may_follow e1 p1 turns.GoesOn (λ z more o m. moved (configuration o m e (longer z more p)))
+definition_moves e e1 d p p1 h g k = λ z more c o m.
+    ap (λ x. step (outer_of e.open_calls) (take_front (front_from x (e.state).quotes (e.state).comments (longer z more p)) (here_of o m e (longer z more p)))) h
+    ∙ token_goes e.open_calls d e (record (longer z more p) { definition = None }) (longer z more p) o m refl
+    ∙ ap (λ (x : Pending). Goes (configuration o m (with_token d e) (longer z more x))) (sym g)
+    ∙ ap (λ (x : Engine). Goes (configuration o m x (longer z more p1))) (sym k)
+
+-- ---- whole turns
+
+-- a token of so many bytes was consumed, and a step acted on it
+pub found_steps : (e e1 : Engine) (t : Token) (n : ℕ) (i k j : Held) (r : Result Turned TurnFault) → (i.pending).definition ≡ None → scan (e.state).quotes (e.state).comments (i.pending).may_follow (text_of i.pending) ≡ Found t n → k ≡ record i { pending = consumed n i.pending } → IfOk r (λ u. Moves (i.pending).may_follow e1 j.pending u (λ z more o m. step (outer_of e.open_calls) (take_token t (longer z more k.pending) (here_of o m e (longer z more i.pending))))) → {to : Turned → Type 0} → Steps r e e1 k j to → Turns r e e1 i j
+found_steps e e1 t n i k j r d s g m st =
+    turned_steps e e1 i k j r (ap (λ (h : Held). (h.pending).may_follow) g) (ap (λ (h : Held). (h.pending).file) g)
+    (turn_found e e1 t n i.pending k.pending j.pending r d s (ap (λ (h : Held). h.pending) g) m) refl st
+
+-- the same by the flag of the input after the token
+pub found_steps_at : (e e1 : Engine) (t : Token) (n : ℕ) (i k j : Held) (r : Result Turned TurnFault) → (i.pending).definition ≡ None → scan (e.state).quotes (e.state).comments (i.pending).may_follow (text_of i.pending) ≡ Found t n → k ≡ record i { pending = consumed n i.pending } → IfOk r (λ u. Moves (k.pending).may_follow e1 j.pending u (λ z more o m. step (outer_of e.open_calls) (take_token t (longer z more k.pending) (here_of o m e (longer z more i.pending))))) → {to : Turned → Type 0} → Steps r e e1 k j to → Turns r e e1 i j
+found_steps_at e e1 t n i k j r d s g m st =
+    found_steps e e1 t n i k j r d s g (subst (λ (v : Bool). IfOk r (λ u. Moves v e1 j.pending u (λ z more o m. step (outer_of e.open_calls) (take_token t (longer z more k.pending) (here_of o m e (longer z more i.pending)))))) (ap (λ (h : Held). (h.pending).may_follow) g) m) st
+
+-- the input after a token
+after_token : (i : Held) (n : ℕ) → IsReady i → Stays i (record i { pending = consumed n i.pending })
+after_token i n r = record { ready = record { sound = r.sound; front = tt }; follows = refl; file = refl }
+
+-- a token that is text
+text_turn : (e e1 : Engine) (t : Token) (n : ℕ) (x : List ℕ) (i : Held) → IsReady i → (i.pending).definition ≡ None → scan (e.state).quotes (e.state).comments (i.pending).may_follow (text_of i.pending) ≡ Found t n → e1 ≡ with_text x e → Moves (i.pending).may_follow e1 (consumed n i.pending) turns.GoesOn (λ z more o m. step (outer_of e.open_calls) (take_token t (longer z more (consumed n i.pending)) (here_of o m e (longer z more i.pending)))) → Turns (Ok turns.GoesOn) e e1 i (record i { pending = consumed n i.pending })
+text_turn e e1 t n x i r d s k m = record {
+  moves = turn_found e e1 t n i.pending (consumed n i.pending) (consumed n i.pending) (Ok turns.GoesOn) d s refl m;
+  ready = after_token i n r;
+  limits = ap (λ (d : Engine). d.limits) k ∙ text_limits e.open_calls x e;
+  made = tt;
+}
+
+-- a name without a definition
+pub word_turn : (e e1 : Engine) (name : List ℕ) (n : ℕ) (i j : Held) → IsReady i → (i.pending).definition ≡ None → scan (e.state).quotes (e.state).comments (i.pending).may_follow (text_of i.pending) ≡ Found (Name name) n → top_of e.state name ≡ None → j ≡ record i { pending = consumed n i.pending } → e1 ≡ with_text name e → Turns (Ok turns.GoesOn) e e1 i j
+word_turn e e1 name n i j r d s h g k =
+    subst (λ (j : Held). Turns (Ok turns.GoesOn) e e1 i j) (sym g)
+    (text_turn e e1 (Name name) n name i r d s k (word_moves e e1 name (consumed n i.pending) h k (λ z more. longer z more i.pending)))
+
+-- a string or a comment
+pub string_turn : (e e1 : Engine) (x : List ℕ) (t : Token) (n : ℕ) (i j : Held) → (t ≡ Str x) ⊎ (t ≡ Comment x) → IsReady i → (i.pending).definition ≡ None → scan (e.state).quotes (e.state).comments (i.pending).may_follow (text_of i.pending) ≡ Found t n → j ≡ record i { pending = consumed n i.pending } → e1 ≡ with_text x e → Turns (Ok turns.GoesOn) e e1 i j
+string_turn e e1 x t n i j (inl a) r d s g k =
+    subst (λ (j : Held). Turns (Ok turns.GoesOn) e e1 i j) (sym g)
+    (text_turn e e1 (Str x) n x i r d (s ∙ ap (λ u. Found u n) a) k (string_moves e e1 x (consumed n i.pending) k (λ z more. longer z more i.pending)))
+string_turn e e1 x t n i j (inr a) r d s g k =
+    subst (λ (j : Held). Turns (Ok turns.GoesOn) e e1 i j) (sym g)
+    (text_turn e e1 (Comment x) n x i r d (s ∙ ap (λ u. Found u n) a) k (string_moves e e1 x (consumed n i.pending) k (λ z more. longer z more i.pending)))
+
+-- the end of the input
+pub end_turn : (e e1 : Engine) (n : ℕ) (i : Held) (r : Result Turned TurnFault) → IsReady i → (i.pending).definition ≡ None → scan (e.state).quotes (e.state).comments (i.pending).may_follow (text_of i.pending) ≡ Found End n → Makes r e e1 (λ t. (may : Bool) (p : Pending) (before : Extended) → Moves may e1 p t (λ z more o m. step (outer_of e.open_calls) (take_end (mode_of e.open_calls) (here_of o m e (before z more))))) → Turns r e e1 i i
+end_turn e e1 n i r q d s k = turned_makes e e1 i r q (turn_found e e1 End n i.pending (consumed n i.pending) i.pending r d s refl (at_it r k.moves)) k
+  where
+    at_it : (r : Result Turned TurnFault) → IfOk r (λ t. (may : Bool) (p : Pending) (before : Extended) → Moves may e1 p t (λ z more o m. step (outer_of e.open_calls) (take_end (mode_of e.open_calls) (here_of o m e (before z more))))) → IfOk r (λ t. Moves (i.pending).may_follow e1 i.pending t (λ z more o m. step (outer_of e.open_calls) (take_token End (longer z more (consumed n i.pending)) (here_of o m e (longer z more i.pending)))))
+    at_it (Ok t) h = h (i.pending).may_follow i.pending (λ z more. longer z more i.pending)
+    at_it (Err x) h = tt
+
+-- a string or a comment without an end
+pub broken_turn : (e e1 : Engine) (what : Unended) (line : ℕ) (i j : Held) (r : Result Turned TurnFault) → IsReady i → (i.pending).definition ≡ None → scan (e.state).quotes (e.state).comments (i.pending).may_follow (text_of i.pending) ≡ Broken what → line ≡ line_of i.pending → j ≡ i → Makes r e e1 (λ t. (may : Bool) (p : Pending) (before : Extended) → ((z : List ℕ) (more : Bool) → (before z more).file ≡ (j.pending).file) → Moves may e1 p t (λ z more o m. step (outer_of e.open_calls) (take_front (Refused what line) (here_of o m e (before z more))))) → Turns r e e1 i j
+broken_turn e e1 what line i j r q d s l g k =
+    subst (λ (j : Held). Turns r e e1 i j) (sym g)
+    (turned_makes e e1 i r q (turn_unended e e1 what line i.pending j.pending i.pending r d s l (ap (λ (h : Held). (h.pending).file) g) k.moves) k)
+
+-- more bytes are needed
+needs_turn : (e : Engine) (i : Held) → IsReady i → Needs e e i i → Turns (Ok turns.NeedsMore) e e i i
+needs_turn e i r n = record { moves = tt; ready = record { ready = r; follows = refl; file = refl }; limits = refl; made = n }
+
+pub token_turn : (e : Engine) (i j : Held) → IsReady i → (i.pending).definition ≡ None → scan (e.state).quotes (e.state).comments (i.pending).may_follow (text_of i.pending) ≡ NeedsMore → j ≡ i → Turns (Ok turns.NeedsMore) e e i j
+token_turn e i j r d s g = subst (λ (j : Held). Turns (Ok turns.NeedsMore) e e i j) (sym g) (needs_turn e i r (token_undecided e i d s))
+
+pub list_turn : (e : Engine) (i : Held) (d : Def) (name : List ℕ) (n : ℕ) → IsReady i → (i.pending).definition ≡ None → scan (e.state).quotes (e.state).comments (i.pending).may_follow (text_of i.pending) ≡ Found (Name name) n → top_of e.state name ≡ Some d → paren_in (e.state).quotes (e.state).comments (i.pending).may_follow (drop n (text_of i.pending)) ≡ Unknown → Turns (Ok turns.NeedsMore) e e i i
+list_turn e i d name n r f s t u = needs_turn e i r (list_undecided e i d name n f s t u)
+
+-- a definition
+pub definition_turn : (e e1 : Engine) (d : Def) (i j : Held) → IsReady i → (i.pending).definition ≡ Some d → j ≡ record i { pending = record i.pending { definition = None } } → e1 ≡ with_token d e → Turns (Ok turns.GoesOn) e e1 i j
+definition_turn e e1 d i j r h g k =
+    subst (λ (j : Held). Turns (Ok turns.GoesOn) e e1 i j) (sym g)
+    (record {
+      moves = definition_moves e e1 d i.pending (record i.pending { definition = None }) h refl k;
+      ready = record { ready = record { sound = r.sound; front = tt }; follows = refl; file = refl };
+      limits = ap (λ (d : Engine). d.limits) k ∙ token_limits e.open_calls d e;
+      made = tt;
+    })
+
+-- no definition was removed
+pub none_removed : (i j : Held) → (i.pending).definition ≡ None → j ≡ record i { pending = record i.pending { definition = None } } → j ≡ i
+none_removed i j h g = g ∙ ap (λ (o : Option Def). let p : Pending = record i.pending { definition = o } in let k : Held = record i { pending = p } in k) (sym h)
+
+pub turns_from : (e e1 : Engine) (i k j : Held) (r : Result Turned TurnFault) → k ≡ i → Turns r e e1 k j → Turns r e e1 i j
+turns_from e e1 i k j r g t = subst (λ (i : Held). Turns r e e1 i j) g t
+
+-- a token that was recognised was consumed, and a step acted on it
+pub seen_steps : (e e1 : Engine) (t : Token) (i k j : Held) (r : Result Turned TurnFault) → (k.pending).may_follow ≡ (i.pending).may_follow → (k.pending).file ≡ (i.pending).file → ((z : List ℕ) (more : Bool) → MayFollow (i.pending).may_follow z more → token_at (e.state).quotes (e.state).comments (longer z more i.pending) ≡ Taken t (longer z more k.pending)) → IfOk r (λ u. Moves (k.pending).may_follow e1 j.pending u (λ z more o m. step (outer_of e.open_calls) (take_token t (longer z more k.pending) (here_of o m e (longer z more i.pending))))) → {to : Turned → Type 0} → Steps r e e1 k j to → Turns r e e1 i j
+seen_steps e e1 t i k j r f g front m st =
+    turned_steps e e1 i k j r f g
+    (turn_taken e e1 t i.pending k.pending j.pending r front
+    (subst (λ (v : Bool). IfOk r (λ u. Moves v e1 j.pending u (λ z more o m. step (outer_of e.open_calls) (take_token t (longer z more k.pending) (here_of o m e (longer z more i.pending)))))) f m)) refl st

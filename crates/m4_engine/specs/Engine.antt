@@ -4,15 +4,16 @@ use Rattle.std.specs.Fmt.{decimal}
 use Rattle.std.specs.Prelude.{◌≡◌, codes, nat_lt, not, ◌&&◌, suc, Option, Some, None, ℕ, pos, Bool, true, false, List, [], ◌∷◌, ◌++◌, length, take, ◌⊎◌, Result, Ok, IfOk, OnOk}
 use Rattle.m4_state.specs.declared.definition.Def.{Def}
 use Rattle.m4_state.specs.State.{State, appended}
-use Rattle.m4_input.specs.Pending.{Pending, text_of, consumed}
+use Rattle.m4_input.specs.Pending.{Pending, text_of, consumed, line_length}
 use Rattle.m4_input.specs.Plain.{total, ArePlain, IsInner}
 use Rattle.m4_builtins.specs.declared.place.Place.{Place}
 use Rattle.m4_builtins.specs.Messages.{dropped}
-use Rattle.m4_engine.specs.Expansion.{Call, Limits, RunSoFar, Mode, Outside, Collecting, Kept, Expansion, Ended, Ends, issued}
+use Rattle.m4_engine.specs.Expansion.{Call, Limits, RunSoFar, Mode, Outside, Collecting, Kept, Expansion, Ended, Ends, NeedsInput, issued, place_at}
 use Rattle.m4_state.specs.Definition.{IsDefinition}
 use Rattle.m4_input.specs.declared.token.Token.{Token}
+use Rattle.m4_input.specs.declared.pushed.Pushed.{Pushed}
 use Rattle.m4_input.specs.declared.token.Token.TheVariants.{Definition}
-use Rattle.m4_input.specs.Input.{Held}
+use Rattle.m4_input.specs.Input.{Held, longer}
 use Rattle.m4_engine.specs.declared.ending.Cause.TheVariants as causes
 use Rattle.m4_engine.specs.declared.lookahead.Lookahead.{Lookahead}
 use Rattle.m4_engine.specs.Lookahead.{IsLookaheadOf}
@@ -22,7 +23,7 @@ use Rattle.m4_engine.specs.declared.turned.Turned.TheVariants as turns
 use Rattle.m4_engine.specs.Args.{dropped_if_any, with_argument, end_argument}
 use Rattle.m4_engine.specs.Nesting.{Turn, GoOn, Close, Halted}
 use Rattle.m4_engine.specs.OpenCalls.{Stacked, Move, Stops, Goes, pop, take_turn, move}
-use Rattle.m4_engine.specs.Expand.{turn, join, called, with_saved}
+use Rattle.m4_engine.specs.Expand.{turn, join, called, with_saved, with_value, skip_line}
 use Rattle.std.specs.List.{AllByRecursion}
 use Rattle.m4_builtins.specs.Args.{IsArg}
 
@@ -116,20 +117,52 @@ with_open_call c e = record e { open_calls = c ∷ e.open_calls }
 abbrev pub step : List Kept → Turn Expansion Kept Ended → Move Expansion Kept Ended
 step fs v = take_turn Expansion Kept Ended turn join fs v
 
--- the machine and the result after a turn agree with f, the definitions' move
-abbrev pub Moves : Engine → Pending → Turned → (List ℕ → List ℕ → Move Expansion Kept Ended) → Type 0
-Moves e p turns.GoesOn f = (o m : List ℕ) → f o m ≡ Goes (configuration o m e p)
-Moves e p (turns.Ends cause) f =
-    (o m : List ℕ) → f o m ≡ Stops (Halted (record { so_far = so_far_of o m e; reason = Ends cause }))
+-- what may follow the bytes in hand: bytes, and more after these or not; nothing follows an end that is closed
+abbrev pub MayFollow : Bool → List ℕ → Bool → Type 0
+MayFollow true z more = Unit {0}
+MayFollow false z more = (z ≡ []) × (more ≡ false)
 
--- an input that needs no reader any more; if a definition is its first token, it is valid
+-- the definitions' move, by what follows the bytes in hand, and by what was flushed
+abbrev pub Moving : Type 0
+Moving = List ℕ → Bool → List ℕ → List ℕ → Move Expansion Kept Ended
+
+-- a pending input, by what follows the bytes in hand
+abbrev pub Extended : Type 0
+Extended = List ℕ → Bool → Pending
+
+-- whatever follows, it starts at this place
+abbrev pub IsAt : Place → Extended → Type 0
+IsAt at before = (z : List ℕ) (more : Bool) → place_at (before z more) ≡ at
+
+-- a call's value, if it has one, is read before everything else, whatever follows
+abbrev pub Pushes : Pending → Pending → Option Pushed → Type 0
+Pushes p p' value = (z : List ℕ) (more : Bool) → with_value value (longer z more p) ≡ longer z more p'
+
+-- the rest of the line is skipped, inside these open calls
+abbrev pub line_move : List Call → Expansion → Move Expansion Kept Ended
+line_move cs s = pop Expansion Kept Ended turn join (outer_of cs) (skip_line (line_length (text_of s.pending)) s)
+
+-- the machine and the result after a turn agree with f, the definitions' move, whatever follows the bytes in
+-- hand; `may` says whether anything may
+abbrev pub Moves : Bool → Engine → Pending → Turned → Moving → Type 0
+Moves may e p turns.GoesOn f =
+    (z : List ℕ) (more : Bool) → MayFollow may z more
+    → (o m : List ℕ) → f z more o m ≡ Goes (configuration o m e (longer z more p))
+Moves may e p turns.SkipsLine f =
+    (z : List ℕ) (more : Bool) → MayFollow may z more
+    → (o m : List ℕ) → f z more o m ≡ line_move e.open_calls (here_of o m e (longer z more p))
+Moves may e p turns.NeedsMore f = Unit {0}
+Moves may e p (turns.Ends cause) f =
+    (z : List ℕ) (more : Bool) → MayFollow may z more
+    → (o m : List ℕ) → f z more o m ≡ Stops (Halted (record { so_far = so_far_of o m e; reason = Ends cause }))
+
+-- an input without a fault; if a definition is its first token, it is valid
 abbrev pub IsFront : Option Def → Type 0
 IsFront None = Unit {0}
 IsFront (Some d) = IsDefinition d
 
 pub record IsReady (i : Held) : Type 0 where
   pub sound : i.fault ≡ None
-  pub closed : (i.pending).may_follow ≡ false
   pub front : IsFront (i.pending).definition
 
 -- the definitions that a call has collected are valid
@@ -154,22 +187,25 @@ with_made messages output wrap e = record e {
 abbrev pub called_within : List Call → Call → Expansion → Move Expansion Kept Ended
 called_within cs c s = pop Expansion Kept Ended turn join (outer_of cs) (called c s (kept_in cs))
 
--- an input that needs no reader stays so
+-- a step of a turn leaves the input ready, and asks no reader
 pub record Stays (old new : Held) : Type 0 where
   pub ready : IsReady new
+  pub follows : (new.pending).may_follow ≡ (old.pending).may_follow
   pub file : (new.pending).file ≡ (old.pending).file
 
--- the premise of each step of a turn: no reader is needed any more, and the first token was consumed
+-- the premise of each step of a turn: the first token was consumed
 pub record IsTaken (i : Held) : Type 0 where
   pub ready : IsReady i
   pub taken : (i.pending).definition ≡ None
 
--- a turn ends an expansion by no fault of a frozen file, of a device or of an allocation
+-- a step after the first token needs no more bytes, and ends an expansion by no fault of a frozen file, of a
+-- device or of an allocation
 abbrev pub IsMade : Turned → Type 0
 IsMade (turns.Ends (causes.Frozen fault)) = ⊥
 IsMade (turns.Ends causes.Read) = ⊥
 IsMade (turns.Ends causes.Write) = ⊥
 IsMade (turns.Ends causes.OutOfMemory) = ⊥
+IsMade turns.NeedsMore = ⊥
 IsMade t = Unit {0}
 
 -- the outcome of each step of a turn, if no allocation fails: the definitions' move, and the limits; it ends
@@ -179,10 +215,15 @@ pub record Makes (result : Result Turned TurnFault) (old new : Engine) (to : Tur
   pub limits : OnOk result (new.limits ≡ old.limits)
   pub made : IfOk result IsMade
 
--- the same; and if the expansion continues, the input still needs no reader
+-- the input after a turn that does not end the expansion
+abbrev pub StaysBy : Held → Held → Turned → Type 0
+StaysBy i j (turns.Ends cause) = Unit {0}
+StaysBy i j t = Stays i j
+
+-- the same; and if the expansion continues, the input is ready
 pub record Steps (result : Result Turned TurnFault) (old new : Engine) (i j : Held) (to : Turned → Type 0) : Type 0 where
   pub moves : IfOk result to
-  pub ready : result ≡ Ok turns.GoesOn → Stays i j
+  pub ready : IfOk result (StaysBy i j)
   pub limits : OnOk result (new.limits ≡ old.limits)
   pub made : IfOk result IsMade
 
@@ -227,6 +268,26 @@ IsToken t = Unit {0}
 abbrev pub moved : Stacked Expansion Kept → Move Expansion Kept Ended
 moved c = move Expansion Kept Ended turn join c
 
+-- a turn that needs more bytes: nothing was done, and the bytes in hand don't decide the definitions' turn
+pub record Needs (old new : Engine) (i j : Held) : Type 0 where
+  pub engine : new ≡ old
+  pub input : j ≡ i
+  pub follows : (i.pending).may_follow ≡ true
+  pub undecided : (o m : List ℕ) → moved (configuration o m old i.pending)
+      ≡ Stops (Halted (record { so_far = so_far_of o m old; reason = NeedsInput }))
+
+abbrev pub IsTurned : Engine → Engine → Held → Held → Turned → Type 0
+IsTurned old new i j turns.NeedsMore = Needs old new i j
+IsTurned old new i j t = IsMade t
+
+-- the outcome of a turn, if no allocation fails
+pub record Turns (result : Result Turned TurnFault) (old new : Engine) (i j : Held) : Type 0 where
+  pub moves : IfOk result (λ t. Moves (i.pending).may_follow new j.pending t
+      (λ z more o m. moved (configuration o m old (longer z more i.pending))))
+  pub ready : IfOk result (StaysBy i j)
+  pub limits : OnOk result (new.limits ≡ old.limits)
+  pub made : IfOk result (IsTurned old new i j)
+
 -- all buffers were flushed
 abbrev pub after_flush : Engine → Engine
 after_flush e = record e { output = []; messages = [] }
@@ -247,7 +308,7 @@ engine_at s calls nesting = record {
 -- text, were added to the output
 pub record PassesPlain (old new : Engine) (i j : Held) : Type 0 where
   pub lens : List ℕ
-  pub plain : ArePlain old.state lens (text_of i.pending)
+  pub plain : ArePlain old.state (i.pending).may_follow lens (text_of i.pending)
   pub outside : old.open_calls ≡ []
   pub undiverted : (old.state).current ≡ pos 0
   pub first : (i.pending).definition ≡ None
@@ -258,7 +319,7 @@ pub record PassesPlain (old new : Engine) (i j : Held) : Type 0 where
 pub record PassesInner (old new : Engine) (i j : Held) : Type 0 where
   pub len : ℕ
   pub text : List ℕ
-  pub inner : IsInner old.state len text (text_of i.pending)
+  pub inner : IsInner old.state (i.pending).may_follow len text (text_of i.pending)
   pub inside : old.open_calls ≡ [] → ⊥
   pub first : (i.pending).definition ≡ None
   pub engine : new ≡ with_text text old

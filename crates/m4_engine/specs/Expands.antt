@@ -1,15 +1,16 @@
 -- Expands: the effect of an input's expansion on the machine and the writers.
 -- Not believed: it connects the machine with `Session`, which says the same of a source.
 -- Manual: "How m4 copies input to output".
--- Words: made_before, input_expansion, Expanded, Expands, EndsInput, FlushesPrefix, IsInOrder, IsIdle.
-use Rattle.std.specs.Prelude.{◌≡◌, ℕ, List, [], ◌++◌, ◌⊎◌}
-use Rattle.m4_state.specs.Device.{with_bytes, HasBegun}
+-- Words: made_before, input_expansion, Expanded, ReadSo, Fell, Expands, ReadsBy, FlushesPrefix, IsInOrder, IsIdle.
+use Rattle.std.specs.Prelude.{◌≡◌, ℕ, Bool, true, List, [], ◌++◌, ◌⊎◌, Option}
+use Rattle.m4_state.specs.Device.{Script, with_bytes, HasBegun, IsAtFault, one_more}
 use Rattle.m4_input.specs.Pending.{Pending}
+use Rattle.m4_input.specs.Input.{longer, Reads}
 use Rattle.m4_engine.specs.declared.ending.Cause.{Cause}
 use Rattle.m4_engine.specs.declared.ending.Cause.TheVariants as causes
-use Rattle.m4_engine.specs.Expansion.{RunSoFar, Ended, Ends}
+use Rattle.m4_engine.specs.Expansion.{RunSoFar, Ended, Ends, NeedsInput}
 use Rattle.m4_engine.specs.Expand.{expand_input}
-use Rattle.m4_engine.specs.Engine.{Engine}
+use Rattle.m4_engine.specs.Engine.{Engine, MayFollow}
 use Rattle.m4_engine.specs.Writers.{Contents, Broken}
 
 -- a run so far, if its earlier output and messages were written
@@ -36,18 +37,34 @@ pub record Expanded (old new : Engine) (d : Ended) (cause : Cause) (w : Contents
   pub output : w.out_new ≡ with_bytes w.out_old (d.so_far).output
   pub messages : w.messages_new ≡ with_bytes w.messages_old (d.so_far).messages
 
--- by the cause: if a device or an allocation fails, the expansion is interrupted
-abbrev pub Expands : Engine → Engine → Pending → Contents → Cause → Type 0
-Expands old new p w causes.Read = Broken (input_expansion old p) w
-Expands old new p w causes.Write = Broken (input_expansion old p) w
-Expands old new p w causes.OutOfMemory = Broken (input_expansion old p) w
-Expands old new p w cause = Expanded old new (input_expansion old p) cause w
+-- the reader gave x, so that q is in hand of the input; and whatever follows q, P is so of the expansion
+pub record ReadSo (old : Engine) (p : Pending) (before after : Option Script) (P : Ended → Type 0) : Type 0 where
+  pub x : List ℕ
+  pub q : Pending
+  pub reads : Reads before after p x q
+  pub so : (z : List ℕ) (more : Bool) → MayFollow q.may_follow z more → P (input_expansion old (longer z more q))
 
--- an expansion uses no reader, so no fault of a reader or of a frozen file ends it
-abbrev pub EndsInput : Cause → Type 0
-EndsInput (causes.Frozen fault) = ⊥
-EndsInput causes.Read = ⊥
-EndsInput cause = Unit {0}
+-- the reader failed: all that the bytes before its fault decide was made
+pub record Fell (old : Engine) (p : Pending) (before after : Option Script) (w : Contents) : Type 0 where
+  pub x : List ℕ
+  pub reads : Reads before after p x (longer x true p)
+  pub at_fault : IsAtFault after
+  pub output : w.out_new ≡ with_bytes w.out_old ((input_expansion old (longer x true p)).so_far).output
+  pub messages : w.messages_new ≡ with_bytes w.messages_old ((input_expansion old (longer x true p)).so_far).messages
+  pub reason : (input_expansion old (longer x true p)).reason ≡ NeedsInput
+
+-- by the cause: the expansion ended so; or a device or an allocation failed, and it was interrupted
+abbrev pub Expands : Engine → Engine → Pending → Option Script → Option Script → Contents → Cause → Type 0
+Expands old new p before after w (causes.Frozen fault) = ⊥
+Expands old new p before after w causes.Read = Fell old p before after w
+Expands old new p before after w causes.Write = ReadSo old p before after (λ d. Broken d w)
+Expands old new p before after w causes.OutOfMemory = ReadSo old p before after (λ d. Broken d w)
+Expands old new p before after w cause = ReadSo old p before after (λ d. Expanded old new d cause w)
+
+-- an expansion ends by a read fault if its reader failed in it, once
+abbrev pub ReadsBy : Cause → ℕ → ℕ → Type 0
+ReadsBy causes.Read old new = new ≡ one_more old
+ReadsBy cause old new = new ≡ old
 
 -- prefixes of an engine's output and messages were written
 abbrev pub FlushesPrefix : List ℕ → List ℕ → Contents → Type 0

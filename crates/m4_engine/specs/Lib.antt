@@ -17,6 +17,7 @@ pub mod Engine
 pub mod MachineView
 pub mod Writers
 pub mod Expands
+pub mod Continued
 pub mod RunSources
 pub mod Session
 pub mod SessionView

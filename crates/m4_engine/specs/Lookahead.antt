@@ -33,9 +33,9 @@ Fits (meanings.Call h) bare = Unit {0}
 -- a name with a definition is the first token; `room` says that the limits allow a call
 pub record IsNamed (n : Named) (s : State) (room : Bool) (p : Pending) : Type 0 where
   pub first : p.definition ≡ None
-  pub scanned : scan s.quotes s.comments false (text_of p) ≡ Found (Name (take n.len (text_of p))) n.len
+  pub scanned : scan s.quotes s.comments p.may_follow (text_of p) ≡ Found (Name (take n.len (text_of p))) n.len
   pub within : n.len ≤ length (text_of p)
-  pub list : paren_in s.quotes s.comments false (drop n.len (text_of p)) ≡ answer_of n.listed
+  pub list : paren_in s.quotes s.comments p.may_follow (drop n.len (text_of p)) ≡ answer_of n.listed
   pub meaning :
       IsMeaning n.meaning (not n.listed && room) s (take n.len (text_of p)) (record { file = name_of p; line = line_of p })
 
@@ -43,5 +43,5 @@ pub record IsNamed (n : Named) (s : State) (room : Bool) (p : Pending) : Type 0 
 abbrev pub IsLookaheadOf : Lookahead → State → Bool → Pending → Type 0
 IsLookaheadOf aheads.Unknown s room p = Unit {0}
 IsLookaheadOf (aheads.Byte b) s room p =
-    (p.definition ≡ None) × (scan s.quotes s.comments false (text_of p) ≡ Found (Byte b) 1) × (0 < length (text_of p))
+    (p.definition ≡ None) × (scan s.quotes s.comments p.may_follow (text_of p) ≡ Found (Byte b) 1) × (0 < length (text_of p))
 IsLookaheadOf (aheads.Named n) s room p = IsNamed n s room p

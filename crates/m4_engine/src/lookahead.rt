@@ -85,7 +85,7 @@ pub fn lookahead_of(
     first: First<'_>,
     input: &Input,
 ) -> Result<Lookahead, TurnFault>
-    requires first { IsFirst state.now (text_of input.now.pending) first }
+    requires first { IsFirst state.now input.now.pending.may_follow (text_of input.now.pending) first }
     requires lies { FirstLies (length (text_of input.now.pending)) first }
     requires front { input.now.pending.definition ≡ None }
     ensures { IfOk result (λ a. IsLookaheadOf a state.now room input.now.pending) }

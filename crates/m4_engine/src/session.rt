@@ -16,6 +16,7 @@ use m4_input::fault::InputFault;
 use m4_input::input::Input;
 use m4_state::bytes::Bytes;
 use m4_state::device::{ByteSink, ByteSource, DeviceFault};
+use m4_state::memory::MemSource;
 use m4_state::state::State;
 use m4_state::transfer::{write_all, write_pieces};
 use std::alloc::Global;
@@ -159,7 +160,7 @@ impl Session {
             Err(InputFault::Read) => return Err(self.end(Cause::Read)),
             Err(_) => return Err(self.end(Cause::OutOfMemory)),
         }
-        let cause = self.machine.expand(&mut input, out, messages);
+        let cause = self.machine.expand(&mut input, reader, out, messages);
         self.machine.rest();
         self.settle(cause)
     }
@@ -220,7 +221,8 @@ impl Session {
             return Err(self.end(Cause::OutOfMemory));
         };
         let mut input = Input::wrapped(self.machine.alloc(), text);
-        let ended = self.machine.expand(&mut input, out, messages);
+        let mut none = MemSource::new(&[], 1, false);
+        let ended = self.machine.expand(&mut input, &mut none, out, messages);
         self.machine.rest();
         self.settle(ended)
     }

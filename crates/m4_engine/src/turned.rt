@@ -13,6 +13,10 @@ use std::alloc::AllocError;
 pub enum Turned {
     /// The expansion continues.
     GoesOn,
+    /// A call was made that discards the rest of the line. The line is still to be skipped.
+    SkipsLine,
+    /// The bytes in hand don't decide the next token, or whether a list follows a name. Nothing was done.
+    NeedsMore,
     /// The expansion ends by this cause.
     Ends(Cause),
 }
@@ -43,8 +47,8 @@ impl From<BuiltinFault> for TurnFault {
 }
 
 impl TurnFault {
-    /// Returns the turn's fault for a lasting fault of the input. An input that was read to its end uses no
-    /// reader, so only an allocation can fail in it.
+    /// Returns the turn's fault for a lasting fault of the input. A turn uses no reader, so only an allocation
+    /// can fail in it.
     pub fn of(fault: InputFault) -> TurnFault
         requires { IsLasting fault }
     {

@@ -5,18 +5,31 @@ ghost use Rattle.std.specs.Prelude.{◌≡◌, ◌<◌, ◌≤◌, [], length, t
 ghost use Rattle.m4_state.specs.Device.{with_bytes};
 ghost use Rattle.m4_engine.specs.Engine.{IsReady, after_flush};
 ghost use Rattle.m4_engine.specs.Writers.{both, FailsBy, FailsOnce};
-ghost use Rattle.m4_engine.specs.Expands.{Expands, EndsInput, FlushesPrefix, FlushesSome, IsInOrder, IsIdle, at_rest};
+ghost use Rattle.m4_engine.specs.Continued.{HandGives, IsFlushed, cause_of, fault_cause};
+ghost use Rattle.m4_engine.specs.Expands.{Expands, ReadsBy, FlushesPrefix, FlushesSome, IsInOrder, IsIdle, at_rest};
 
 use crate::ending::Cause;
+use crate::in_hand::{InHand, Wanted};
 use crate::machine::Machine;
 use crate::turned::{TurnFault, Turned};
+use m4_input::fault::InputFault;
 use m4_input::input::Input;
-use m4_state::device::{ByteSink, DeviceFault};
+use m4_state::device::{ByteSink, ByteSource, DeviceFault};
 use m4_state::transfer::write_all;
 use std::alloc::AllocError;
 
 /// Output is flushed once this many bytes are buffered. One turn may add more before that.
 pub(crate) const BLOCK: usize = 65536;
+
+/// Returns the cause that ends an expansion whose next block is missing.
+fn cause_of_fault(fault: InputFault) -> Cause
+    ensures { result ≡ fault_cause fault }
+{
+    match fault {
+        InputFault::Read => Cause::Read,
+        _ => Cause::OutOfMemory,
+    }
+}
 
 impl Machine {
     /// Flushes the buffers in the order in which they arose: the output of earlier turns, `earlier` bytes long,
@@ -78,41 +91,91 @@ impl Machine {
         Ok(())
     }
 
-    /// Expands an input that was read completely, to its end. Writes messages as they arise, and output in blocks
-    /// and at the end.
-    pub fn expand<O: ByteSink, M: ByteSink>(
+    /// Expands the bytes in hand as far as they decide. Writes messages as they arise, output in blocks, and all
+    /// of both where more bytes are needed. If the rest of a line is to be discarded, that is done first.
+    fn expand_in_hand<O: ByteSink, M: ByteSink>(
+        &mut self,
+        wanted: Wanted,
+        input: &mut Input,
+        out: &mut O,
+        messages: &mut M,
+    ) -> InHand
+        requires ready { IsReady input.old }
+        requires flushed { IsFlushed self.old }
+        ensures gives { HandGives wanted self.old self.new input.old input.new
+            (both O.contents M.contents out.old out.new messages.old messages.new) result }
+        ensures counted { FailsBy (cause_of result) (both O.failures M.failures out.old out.new messages.old messages.new) }
+    {
+        let at_token = match wanted {
+            Wanted::Token => true,
+            Wanted::Line => input.skip_in_hand(),
+        };
+        if !at_token {
+            return InHand::Needs(Wanted::Line);
+        }
+        'turns: loop {
+            let Ok(lookahead) = self.pass_plain(input) else {
+                return InHand::Ends(Cause::OutOfMemory);
+            };
+            let earlier = self.output.len();
+            let turned = match self.turn(lookahead, input) {
+                Ok(turned) => turned,
+                Err(TurnFault::OutOfMemory) => return InHand::Ends(Cause::OutOfMemory),
+            };
+            match turned {
+                Turned::GoesOn => {
+                    if let Err(DeviceFault) = self.flush_if_due(earlier, out, messages) {
+                        return InHand::Ends(Cause::Write);
+                    }
+                }
+                Turned::SkipsLine => {
+                    if let Err(DeviceFault) = self.flush(earlier, out, messages) {
+                        return InHand::Ends(Cause::Write);
+                    }
+                    if !input.skip_in_hand() {
+                        return InHand::Needs(Wanted::Line);
+                    }
+                }
+                Turned::NeedsMore => {
+                    return match self.flush(earlier, out, messages) {
+                        Ok(()) => InHand::Needs(Wanted::Token),
+                        Err(DeviceFault) => InHand::Ends(Cause::Write),
+                    };
+                }
+                Turned::Ends(cause) => {
+                    return match self.flush(earlier, out, messages) {
+                        Ok(()) => InHand::Ends(cause),
+                        Err(DeviceFault) => InHand::Ends(Cause::Write),
+                    };
+                }
+            }
+        }
+    }
+
+    /// Expands an input to its end. The reader is asked for a block only where the bytes in hand leave open how
+    /// the expansion continues, and all output and messages are flushed before.
+    pub fn expand<R: ByteSource, O: ByteSink, M: ByteSink>(
         &mut self,
         input: &mut Input,
+        reader: &mut R,
         out: &mut O,
         messages: &mut M,
     ) -> Cause
         requires ready { IsReady input.old }
         requires idle { IsIdle self.old }
-        ensures expands { Expands self.old self.new input.old.pending (both O.contents M.contents out.old out.new messages.old messages.new) result }
-        ensures input { EndsInput result }
+        ensures expands { Expands self.old self.new input.old.pending (R.script reader.old) (R.script reader.new)
+            (both O.contents M.contents out.old out.new messages.old messages.new) result }
+        ensures read { ReadsBy result (R.failures reader.old) (R.failures reader.new) }
         ensures counted { FailsBy result (both O.failures M.failures out.old out.new messages.old messages.new) }
     {
-        'turns: loop {
-            let Ok(lookahead) = self.pass_plain(input) else {
-                return Cause::OutOfMemory;
-            };
-            let earlier = self.output.len();
-            let turned = match self.turn(lookahead, input) {
-                Ok(turned) => turned,
-                Err(TurnFault::OutOfMemory) => return Cause::OutOfMemory,
-            };
-            match turned {
-                Turned::GoesOn => {
-                    if let Err(DeviceFault) = self.flush_if_due(earlier, out, messages) {
-                        return Cause::Write;
-                    }
-                }
-                Turned::Ends(cause) => {
-                    return match self.flush(earlier, out, messages) {
-                        Ok(()) => cause,
-                        Err(DeviceFault) => Cause::Write,
-                    };
-                }
+        let mut wanted = Wanted::Token;
+        'blocks: loop {
+            match self.expand_in_hand(wanted, input, out, messages) {
+                InHand::Ends(cause) => return cause,
+                InHand::Needs(more) => wanted = more,
+            }
+            if let Err(fault) = input.more(reader) {
+                return cause_of_fault(fault);
             }
         }
     }

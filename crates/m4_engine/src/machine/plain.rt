@@ -31,7 +31,7 @@ impl Machine {
         let Some(text) = input.piece() else {
             return Ok(Lookahead::Unknown);
         };
-        let (len, first) = plain_run(text, &self.state, BLOCK);
+        let (len, first) = plain_run(text, &self.state, input.may_follow(), BLOCK);
         self.output.extend_from_slice(text.split_at(len).0)?;
         input.consume(len);
         let lookahead = lookahead_of(self.alloc, &self.state, room, first, input)?;
@@ -49,7 +49,7 @@ impl Machine {
         let Some(text) = input.piece() else {
             return Ok(Lookahead::Unknown);
         };
-        let first = first_in_list(text, &self.state);
+        let first = first_in_list(text, &self.state, input.may_follow());
         let Some((inner, all)) = inner_text(&first, text) else {
             return lookahead_of(self.alloc, &self.state, room, first, input);
         };
@@ -70,7 +70,7 @@ impl Machine {
     {
         match input.piece() {
             Some(text) => {
-                let first = first_in_list(text, &self.state);
+                let first = first_in_list(text, &self.state, input.may_follow());
                 lookahead_of(self.alloc, &self.state, room, first, input)
             }
             None => Ok(Lookahead::Unknown),

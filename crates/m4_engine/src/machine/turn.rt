@@ -1,22 +1,23 @@
 //! One turn of an expansion: consumes the first pending token and acts on it.
 //! Manual: "Macro invocation", "Macro arguments", "How m4 copies input to output".
 
-ghost use Rattle.std.specs.Prelude.{◌≡◌, ◌<◌, ◌&&◌, not, nat_lt, suc, List, ℕ, [], ◌∷◌, ◌++◌, None, Some, Ok, IfOk, OnOk, IfSome, true, false, length, codes};
+ghost use Rattle.std.specs.Prelude.{◌≡◌, ◌<◌, ◌≤◌, ◌&&◌, not, nat_lt, suc, Bool, List, ℕ, [], ◌∷◌, ◌++◌, None, Some, Ok, IfOk, OnOk, IfSome, true, false, length, codes};
 ghost use Rattle.std.specs.Fmt.{decimal};
 ghost use Rattle.m4_state.specs.State.{top_of};
 ghost use Rattle.m4_input.specs.Paren.{paren_at};
-ghost use Rattle.m4_input.specs.Token.{Refused};
+ghost use Rattle.m4_input.specs.Token.{Refused, scan};
+ghost use Rattle.m4_input.specs.declared.front.Scan.TheVariants.{Found};
+ghost use Rattle.m4_input.specs.declared.token.Token.TheVariants.{Name};
 ghost use Rattle.m4_builtins.specs.Messages.{error};
-ghost use Rattle.m4_input.specs.Input.{Held, answer_of};
-ghost use Rattle.m4_input.specs.Pending.{Pending, line_of, consumed};
-ghost use Rattle.m4_engine.specs.Engine.{Moves, IsTaken, IsToken, IsReady, Makes, Steps, moved, configuration, Stays, with_made, ending_argument, with_engine_message, with_one_call, calls_text, nested_text, is_deep_in, IfHead, IsLookahead, is_bare, allows_call, mode_of, close_in, step, here_of, outer_of, called_within};
+ghost use Rattle.m4_input.specs.Input.{Held, answer_of, longer};
+ghost use Rattle.m4_input.specs.Pending.{Pending, line_of, text_of, consumed};
+ghost use Rattle.m4_engine.specs.Engine.{Moves, IsTaken, IsToken, IsReady, Makes, Steps, Turns, Pushes, Extended, IsAt, Stays, with_made, ending_argument, with_engine_message, with_one_call, calls_text, nested_text, is_deep_in, IfHead, IsLookahead, is_bare, allows_call, mode_of, close_in, step, here_of, outer_of, called_within};
 ghost use Rattle.m4_engine.specs.Lookahead.{IsMeaning, Fits};
 ghost use Rattle.m4_builtins.specs.Act.{IsPushed};
 ghost use Rattle.m4_builtins.specs.Subst.{subst};
 ghost use Rattle.m4_state.specs.declared.definition.Def.TheVariants.{Text};
-ghost use Rattle.m4_engine.specs.Nesting.{Closed};
-ghost use Rattle.m4_engine.specs.Expansion.{Call, Expansion, reading, place_at};
-ghost use Rattle.m4_engine.specs.Expand.{skip_or_push, take_token, take_front, take_name, take_other, take_end, call as call_turn, call_of};
+ghost use Rattle.m4_engine.specs.Expansion.{Call};
+ghost use Rattle.m4_engine.specs.Expand.{take_token, take_front, take_name, take_other, take_end, call as call_turn, call_of};
 
 use crate::call::OpenCall;
 use crate::ending::Cause;
@@ -32,37 +33,25 @@ use m4_builtins::messages::{dropped_message, error_message};
 use m4_builtins::place::Place;
 use m4_builtins::substitute::substitute;
 use m4_input::delims::Delims;
-use m4_input::fault::InputFault;
-use m4_input::front::{Answer, Unended};
+use m4_input::front::{Answer, Scan, Unended};
 use m4_input::input::Input;
 use m4_input::pushed::Pushed;
 use m4_input::token::Token;
 use m4_state::bytes::Bytes;
 use m4_state::definition::Def;
-use m4_state::memory::MemSource;
 
-/// Returns a reader for inputs that were read to their end; no call uses it.
-fn no_reader() -> MemSource<'static> {
-    MemSource::new(&[], 1, false)
-}
-
-/// Prepares the input after a call: skips the rest of the line, or else pushes the call's value.
-#[tactic(auto, using(crate::proofs::Inputs::skipped, crate::proofs::Inputs::pushed))]
-fn read_on(input: &mut Input, skip: bool, push: Option<Pushed>) -> Result<(), TurnFault>
+/// Pushes the value of a call, if it has one.
+#[tactic(auto, using(crate::proofs::Inputs::pushed, crate::proofs::Inputs::nothing_pushed))]
+fn push_value(input: &mut Input, push: Option<Pushed>) -> Result<(), TurnFault>
     requires input { IsTaken input.old }
     requires valid { IsPushed push }
-    ensures reads { OnOk result ((s : Expansion) → s.pending ≡ input.old.pending
-        → skip_or_push skip push s ≡ Closed (reading input.new.pending s)) }
+    ensures pushes { OnOk result (Pushes input.old.pending input.new.pending push) }
     ensures stays { OnOk result (Stays input.old input.new) }
 {
-    let read = if skip {
-        input.skip_line(&mut no_reader())
-    } else if let Some(value) = push {
-        input.push_front(value)
-    } else {
-        Ok(())
+    let Some(value) = push else {
+        return Ok(());
     };
-    match read {
+    match input.push_front(value) {
         Ok(()) => Ok(()),
         Err(fault) => Err(TurnFault::of(fault)),
     }
@@ -71,9 +60,9 @@ fn read_on(input: &mut Input, skip: bool, push: Option<Pushed>) -> Result<(), Tu
 impl Machine {
     /// Acts on the end of the input.
     fn take_end(&mut self) -> Result<Turned, TurnFault>
-        ensures { Makes result self.old self.new (λ t. (before p : Pending) → Moves self.new p t
-            (λ o m. step (outer_of self.old.open_calls)
-            (take_end (mode_of self.old.open_calls) (here_of o m self.old before)))) }
+        ensures { Makes result self.old self.new (λ t. (may : Bool) (p : Pending) (before : Extended) → Moves may self.new p t
+            (λ z more o m. step (outer_of self.old.open_calls)
+            (take_end (mode_of self.old.open_calls) (here_of o m self.old (before z more))))) }
     {
         let Some(call) = &self.innermost else {
             return Ok(Turned::Ends(Cause::Done));
@@ -108,8 +97,8 @@ impl Machine {
     /// Makes a call whose arguments are complete.
     fn call(&mut self, call: OpenCall, input: &mut Input) -> Result<Turned, TurnFault>
         requires { IsTaken input.old }
-        ensures { Steps result self.old self.new input.old input.new (λ t. Moves self.new input.new.pending t
-            (λ o m. called_within self.old.open_calls call (here_of o m self.old input.old.pending))) }
+        ensures { Steps result self.old self.new input.old input.new (λ t. Moves input.old.pending.may_follow self.new input.new.pending t
+            (λ z more o m. called_within self.old.open_calls call (here_of o m self.old (longer z more input.old.pending)))) }
     {
         let (head, list) = call.into_parts();
         // The text is read in place, without a copy.
@@ -138,7 +127,10 @@ impl Machine {
         if let Some(code) = exit {
             return Ok(Turned::Ends(Cause::Exited(code)));
         }
-        read_on(input, skip, push)?;
+        if skip {
+            return Ok(Turned::SkipsLine);
+        }
+        push_value(input, push)?;
         Ok(Turned::GoesOn)
     }
 
@@ -161,9 +153,9 @@ impl Machine {
     /// Acts on a byte that belongs to no other token.
     fn take_byte(&mut self, byte: u8, input: &mut Input) -> Result<Turned, TurnFault>
         requires { IsTaken input.old }
-        ensures { Steps result self.old self.new input.old input.new (λ t. Moves self.new input.new.pending t
-            (λ o m. step (outer_of self.old.open_calls)
-            (take_other (mode_of self.old.open_calls) byte (here_of o m self.old input.old.pending)))) }
+        ensures { Steps result self.old self.new input.old input.new (λ t. Moves input.old.pending.may_follow self.new input.new.pending t
+            (λ z more o m. step (outer_of self.old.open_calls)
+            (take_other (mode_of self.old.open_calls) byte (here_of o m self.old (longer z more input.old.pending))))) }
     {
         let Some(call) = &mut self.innermost else {
             self.put_text(&[byte])?;
@@ -185,9 +177,9 @@ impl Machine {
     fn take_closing(&mut self, input: &mut Input) -> Result<Turned, TurnFault>
         requires list { IfHead self.old.open_calls (λ c. c.parentheses ≡ 0) }
         requires input { IsTaken input.old }
-        ensures { Steps result self.old self.new input.old input.new (λ t. Moves self.new input.new.pending t
-            (λ o m. step (outer_of self.old.open_calls)
-            (close_in self.old.open_calls (here_of o m self.old input.old.pending)))) }
+        ensures { Steps result self.old self.new input.old input.new (λ t. Moves input.old.pending.may_follow self.new input.new.pending t
+            (λ z more o m. step (outer_of self.old.open_calls)
+            (close_in self.old.open_calls (here_of o m self.old (longer z more input.old.pending))))) }
     {
         self.end_argument()?;
         let Some(call) = self.close() else {
@@ -254,6 +246,7 @@ impl Machine {
         requires ready { IsReady input.old }
         requires paren_follows { paren_at self.now.state.quotes self.now.state.comments input.old.pending ≡ Answer.Yes }
         ensures taken { input.new.pending ≡ consumed 1 input.old.pending }
+        ensures within { 1 ≤ length (text_of input.old.pending) }
         ensures ready { Stays input.old input.new }
     {
         input.consume(1);
@@ -270,8 +263,9 @@ impl Machine {
         requires input { IsTaken input.old }
         requires list { listed ≡ true → paren_at self.old.state.quotes self.old.state.comments input.old.pending ≡ Answer.Yes }
         requires fresh { call ≡ call_of call.definition call.name call.place }
-        ensures { Steps result self.old self.new input.old input.new (λ t. (before : Pending) → Moves self.new input.new.pending t
-            (λ o m. step (outer_of self.old.open_calls) (call_turn listed call input.old.pending (here_of o m self.old before)))) }
+        ensures { Steps result self.old self.new input.old input.new (λ t. (before : Extended) → Moves input.old.pending.may_follow self.new input.new.pending t
+            (λ z more o m. step (outer_of self.old.open_calls)
+            (call_turn listed call (longer z more input.old.pending) (here_of o m self.old (before z more))))) }
     {
         if !self.has_room() {
             self.report_call_limit(&call)?;
@@ -290,21 +284,35 @@ impl Machine {
         Ok(Turned::GoesOn)
     }
 
-    /// Acts on a name: starts a call if it has a definition that is recognised here, else adds it as text.
-    fn take_name(&mut self, name: Bytes, line: u64, input: &mut Input) -> Result<Turned, TurnFault>
-        requires { IsTaken input.old }
-        ensures { Steps result self.old self.new input.old input.new (λ t. (before : Pending) → line ≡ line_of before
-            → before.file ≡ input.old.pending.file → Moves self.new input.new.pending t
-            (λ o m. step (outer_of self.old.open_calls)
-            (take_name (top_of self.old.state name) name input.old.pending (here_of o m self.old before)))) }
+    /// Acts on a name of this length, which was not consumed yet: starts a call if it has a definition that is
+    /// recognised here, else adds it as text. The definition is looked up before a list is looked for, so that a
+    /// name without one is text whatever follows it.
+    fn take_name(
+        &mut self,
+        name: Bytes,
+        len: usize,
+        line: u64,
+        input: &mut Input,
+    ) -> Result<Turned, TurnFault>
+        requires ready { IsReady input.old }
+        requires first { input.old.pending.definition ≡ None }
+        requires line { line ≡ line_of input.old.pending }
+        requires scanned { scan self.old.state.quotes self.old.state.comments input.old.pending.may_follow (text_of input.old.pending)
+            ≡ Found (Name name) len }
+        requires within { len ≤ length (text_of input.old.pending) }
+        ensures { Turns result self.old self.new input.old input.new }
     {
-        let listed = self.sees_list(input)?;
-        let bare = !listed && self.allows_call();
         let Some(definition) = self.state.top(name.as_slice()) else {
+            input.consume(len);
             self.put_text(name.as_slice())?;
             return Ok(Turned::GoesOn);
         };
-        let len = name.as_slice().len();
+        let listed = match input.list_after(len, &Delims::of(&self.state)) {
+            Answer::Yes => true,
+            Answer::No => false,
+            Answer::Unknown => return Ok(Turned::NeedsMore),
+        };
+        let bare = !listed && self.allows_call();
         let place = (input.name(), line);
         let meaning = Meaning::of(
             self.alloc,
@@ -314,6 +322,7 @@ impl Machine {
             definition,
             place,
         )?;
+        input.consume(len);
         self.take_named(
             Named {
                 len,
@@ -330,10 +339,10 @@ impl Machine {
         requires input { IsTaken input.old }
         requires list { paren_at self.old.state.quotes self.old.state.comments input.old.pending ≡ answer_of named.listed }
         requires fits { Fits named.meaning (is_bare named.listed self.old) }
-        ensures { Steps result self.old self.new input.old input.new (λ t. (name : List ℕ) (before : Pending)
-            → IsMeaning named.meaning (is_bare named.listed self.old) self.old.state name (place_at before)
-            → Moves self.new input.new.pending t (λ o m. step (outer_of self.old.open_calls)
-            (take_name (top_of self.old.state name) name input.old.pending (here_of o m self.old before)))) }
+        ensures { Steps result self.old self.new input.old input.new (λ t. (name : List ℕ) (at : Place) (before : Extended)
+            → IsAt at before → IsMeaning named.meaning (is_bare named.listed self.old) self.old.state name at
+            → Moves input.old.pending.may_follow self.new input.new.pending t (λ z more o m. step (outer_of self.old.open_calls)
+            (take_name (top_of self.old.state name) name (longer z more input.old.pending) (here_of o m self.old (before z more))))) }
     {
         let Named {
             len: _len,
@@ -366,8 +375,9 @@ impl Machine {
         requires room { nat_lt self.old.calls self.old.limits.calls ≡ true }
         requires shallow { is_deep_in self.old ≡ false }
         ensures { Steps result self.old self.new input.old input.new (λ t. (c : Call) (x : List ℕ) → c.definition ≡ Text x → text ≡ subst x c.name c.done self.old.state.quotes
-            → (before : Pending) → Moves self.new input.new.pending t
-            (λ o m. step (outer_of self.old.open_calls) (call_turn false c input.old.pending (here_of o m self.old before)))) }
+            → (before : Extended) → Moves input.old.pending.may_follow self.new input.new.pending t
+            (λ z more o m. step (outer_of self.old.open_calls)
+            (call_turn false c (longer z more input.old.pending) (here_of o m self.old (before z more))))) }
     {
         self.count();
         self.take_text(text, input)
@@ -378,56 +388,52 @@ impl Machine {
     fn take_text(&mut self, text: Bytes, input: &mut Input) -> Result<Turned, TurnFault>
         requires { IsTaken input.old }
         ensures { Steps result self.old self.new input.old input.new (λ t. (c : Call) (x : List ℕ) → c.definition ≡ Text x → text ≡ subst x c.name c.done self.old.state.quotes
-            → Moves self.new input.new.pending t
-            (λ o m. called_within self.old.open_calls c (here_of o m self.old input.old.pending))) }
+            → Moves input.old.pending.may_follow self.new input.new.pending t
+            (λ z more o m. called_within self.old.open_calls c (here_of o m self.old (longer z more input.old.pending)))) }
     {
         self.put_effect(b"", b"", None)?;
-        read_on(input, false, Some(Pushed::Text(text)))?;
+        push_value(input, Some(Pushed::Text(text)))?;
         Ok(Turned::GoesOn)
     }
 
-    /// Returns whether an argument list follows.
-    fn sees_list(&self, input: &mut Input) -> Result<bool, TurnFault>
-        requires ready { IsReady input.old }
-        ensures answer { IfOk result (λ b.
-            paren_at self.now.state.quotes self.now.state.comments input.old.pending ≡ answer_of b) }
-        ensures unchanged { OnOk result (input.new ≡ input.old) }
-    {
-        match input.sees_paren(&mut no_reader(), &Delims::of(&self.state)) {
-            Ok(listed) => Ok(listed),
-            Err(fault) => Err(TurnFault::of(fault)),
-        }
-    }
-
-    /// Acts on a token that was consumed.
-    fn take_token(
+    /// Acts on the first token, of this length, which was not consumed yet.
+    fn take_found(
         &mut self,
         token: Token,
+        len: usize,
         line: u64,
         input: &mut Input,
     ) -> Result<Turned, TurnFault>
-        requires input { IsTaken input.old }
-        requires front { IsToken token }
-        ensures { Steps result self.old self.new input.old input.new (λ t. (before : Pending) → line ≡ line_of before
-            → before.file ≡ input.old.pending.file → Moves self.new input.new.pending t
-            (λ o m. step (outer_of self.old.open_calls)
-            (take_token token input.old.pending (here_of o m self.old before)))) }
+        requires ready { IsReady input.old }
+        requires first { input.old.pending.definition ≡ None }
+        requires line { line ≡ line_of input.old.pending }
+        requires scanned { scan self.old.state.quotes self.old.state.comments input.old.pending.may_follow (text_of input.old.pending)
+            ≡ Found token len }
+        requires within { len ≤ length (text_of input.old.pending) }
+        ensures { Turns result self.old self.new input.old input.new }
     {
         match token {
-            Token::Name(name) => return self.take_name(name, line, input),
-            Token::Byte(byte) => return self.take_byte(byte, input),
-            Token::End => return self.take_end(),
-            Token::Str(text) | Token::Comment(text) => self.put_text(text.as_slice())?,
-            Token::Definition(definition) => self.put_token(definition)?,
+            Token::Name(name) => self.take_name(name, len, line, input),
+            Token::Byte(byte) => {
+                input.consume(len);
+                self.take_byte(byte, input)
+            }
+            Token::Str(text) | Token::Comment(text) => {
+                input.consume(len);
+                self.put_text(text.as_slice())?;
+                Ok(Turned::GoesOn)
+            }
+            Token::End => self.take_end(),
+            // A definition is no token of a text.
+            Token::Definition(_) => unreachable!(),
         }
-        Ok(Turned::GoesOn)
     }
 
     /// Reports a string or a comment that has no end.
     fn take_unended(&mut self, what: Unended, line: u64, input: &Input) -> Result<Turned, TurnFault>
-        ensures { Makes result self.old self.new (λ t. (before p : Pending) → before.file ≡ input.now.pending.file
-            → Moves self.new p t (λ o m. step (outer_of self.old.open_calls)
-            (take_front (Refused what line) (here_of o m self.old before)))) }
+        ensures { Makes result self.old self.new (λ t. (may : Bool) (p : Pending) (before : Extended) → ((z : List ℕ) (more : Bool) → (before z more).file ≡ input.now.pending.file)
+            → Moves may self.new p t (λ z more o m. step (outer_of self.old.open_calls)
+            (take_front (Refused what line) (here_of o m self.old (before z more))))) }
     {
         let file = Bytes::from_slice(self.alloc, input.name())?;
         let place = Place { file, line };
@@ -443,20 +449,19 @@ impl Machine {
         }
     }
 
-    /// Makes one turn: consumes the first pending token and acts on it.
+    /// Makes one turn: consumes the first pending token and acts on it. If the bytes in hand don't decide it,
+    /// nothing is done.
     #[inline(always)]
     pub fn turn(&mut self, lookahead: Lookahead, input: &mut Input) -> Result<Turned, TurnFault>
         requires ready { IsReady input.old }
         requires lookahead { IsLookahead lookahead self.old input.old.pending }
-        ensures { Steps result self.old self.new input.old input.new (λ t. Moves self.new input.new.pending t
-            (λ o m. moved (configuration o m self.old input.old.pending))) }
+        ensures { Turns result self.old self.new input.old input.new }
     {
-        let line = input.line();
         match lookahead {
-            Lookahead::Unknown => self.take_next(line, input),
+            Lookahead::Unknown => self.take_next(input),
             Lookahead::Byte(byte) => {
                 input.consume(1);
-                self.take_token(Token::Byte(byte), line, input)
+                self.take_byte(byte, input)
             }
             Lookahead::Named(named) => {
                 input.consume(named.len);
@@ -467,25 +472,30 @@ impl Machine {
 
     /// Consumes the first pending token, of which nothing is known, and acts on it.
     #[inline(never)]
-    fn take_next(&mut self, line: u64, input: &mut Input) -> Result<Turned, TurnFault>
+    fn take_next(&mut self, input: &mut Input) -> Result<Turned, TurnFault>
         requires ready { IsReady input.old }
-        requires line { line ≡ line_of input.old.pending }
-        ensures { Steps result self.old self.new input.old input.new (λ t. Moves self.new input.new.pending t
-            (λ o m. moved (configuration o m self.old input.old.pending))) }
+        ensures { Turns result self.old self.new input.old input.new }
     {
-        let front = input.next(&mut no_reader(), &Delims::of(&self.state));
-        match front {
-            Ok(token) => self.take_token(token, line, input),
-            Err(InputFault::EndInString { line }) => self.take_unended(
-                Unended::InString,
-                line,
-                input,
-            ),
-            Err(InputFault::EndInComment { line }) => self.take_unended(
-                Unended::InComment,
-                line,
-                input,
-            ),
+        match input.take_definition() {
+            Some(definition) => {
+                self.put_token(definition)?;
+                Ok(Turned::GoesOn)
+            }
+            None => self.take_front(input),
+        }
+    }
+
+    /// Consumes the first token of the bytes in hand, before which no definition comes, and acts on it.
+    fn take_front(&mut self, input: &mut Input) -> Result<Turned, TurnFault>
+        requires ready { IsReady input.old }
+        requires first { input.old.pending.definition ≡ None }
+        ensures { Turns result self.old self.new input.old input.new }
+    {
+        let line = input.line();
+        match input.look(&Delims::of(&self.state)) {
+            Ok(Scan::NeedsMore) => Ok(Turned::NeedsMore),
+            Ok(Scan::Broken(what)) => self.take_unended(what, line, input),
+            Ok(Scan::Found(token, len)) => self.take_found(token, len, line, input),
             Err(fault) => Err(TurnFault::of(fault)),
         }
     }

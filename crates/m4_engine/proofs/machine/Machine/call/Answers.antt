@@ -1,16 +1,27 @@
 use Rattle.std.proofs.Common.{◌≡◌, subst, rules}
 use Rattle.m4_state.specs.State.{IsState}
 use Rattle.m4_input.specs.DelimsView.{pair_of}
+use Rattle.m4_input.specs.Input.{longer}
 use Rattle.m4_builtins.specs.Act.{Acted}
-use Rattle.m4_engine.proofs.Acts.{called_goes, called_exits, acted_pushes}
+use Rattle.m4_engine.proofs.Acts.{called_goes, called_skips, called_exits, acted_pushes}
 use Rattle.m4_engine.proofs.Bare.{substituted_by, called_as}
 use Rattle.m4_engine.proofs.machine.Machine.call.Goals as goal
 
 pub returns-in-Some-exit : goal.returns-in-Some-exit
 returns-in-Some-exit c = record {
-  moves = λ o m.
+  moves = λ z more k o m.
       let a : Acted = record { state = c.act.new.state; effect = c.in_ok-push.field-0 } in
-      called_exits c.args.self.now c.put_effect.new.self c.args.call a c.args.input.now.pending c.in-Some-exit.code (search rules) (search rules) (search rules) o m;
+      called_exits c.args.self.now c.put_effect.new.self c.args.call a (longer z more c.args.input.now.pending) c.in-Some-exit.code (search rules) (search rules) (search rules) o m;
+  ready = search rules;
+  limits = search rules;
+  made = search rules;
+}
+
+pub returns-then-skip : goal.returns-then-skip
+returns-then-skip c = record {
+  moves = λ z more k o m.
+      let a : Acted = record { state = c.act.new.state; effect = c.in_ok-push.field-0 } in
+      called_skips c.args.self.now c.put_effect.new.self c.args.call a (longer z more c.args.input.now.pending) (search rules) (search rules) (search rules) (search rules) o m;
   ready = search rules;
   limits = search rules;
   made = search rules;
@@ -18,9 +29,9 @@ returns-in-Some-exit c = record {
 
 pub returns : goal.returns
 returns c = record {
-  moves = λ o m.
+  moves = λ z more k o m.
       let a : Acted = record { state = c.act.new.state; effect = c.in_ok-push.field-0 } in
-      called_goes c.args.self.now c.put_effect.new.self c.args.call a c.args.input.now.pending c.read_on.new.input.pending (search rules) (search rules) (search rules) (search rules) o m;
+      called_goes c.args.self.now c.put_effect.new.self c.args.call a (longer z more c.args.input.now.pending) (longer z more c.push_value.new.input.pending) (search rules) (search rules) (search rules) (search rules) (c.in_ok-push_value.ensures.pushes z more) o m;
   ready = search rules;
   limits = search rules;
   made = search rules;
@@ -30,7 +41,7 @@ pub returns-in-Some : goal.returns-in-Some
 returns-in-Some c = record {
   moves =
       let text = c.in-Some.text.now in
-      called_as c.args.self.now c.take_text.new.self c.in_ok-text.text text c.args.call c.args.input.now.pending c.take_text.new.input.pending c.take_text.result c.take_text.ensures.moves (search rules)
+      called_as c.args.input.now.pending.may_follow c.args.self.now c.take_text.new.self c.in_ok-text.text text c.args.call (λ z more. longer z more c.args.input.now.pending) c.take_text.new.input.pending c.take_text.result c.take_text.ensures.moves (search rules)
       (substituted_by text c.in_ok-text.text _ c.args.call.name _ c.args.call.done (pair_of c.quotes-quotes.result) _ c.in_ok-text.ensures (search rules) (search rules) (search rules) (search rules));
   ready = search rules;
   limits = search rules;
@@ -38,8 +49,8 @@ returns-in-Some c = record {
 }
 
 -- what was pushed is in order
-pub read_on-requires-clause-valid : goal.read_on-requires-clause-valid
-read_on-requires-clause-valid c =
+pub push_value-requires-clause-valid : goal.push_value-requires-clause-valid
+push_value-requires-clause-valid c =
     let a : Acted = record { state = c.act.new.state; effect = c.in_ok-push.field-0 } in
     let same : c.self-2.inside.state ≡ c.args.self.now.state = search rules in
     acted_pushes c.args.call.definition c.args.call.name c.args.call.done c.args.call.place c.args.self.now.state a (subst IsState same c.current-in_order.ensures.valid) (search rules) (search rules)

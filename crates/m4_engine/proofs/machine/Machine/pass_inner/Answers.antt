@@ -1,4 +1,4 @@
-use Rattle.std.proofs.Common.{List, ℕ, ◌∷◌, Option, ap, subst}
+use Rattle.std.proofs.Common.{List, ℕ, ◌∷◌, Option, ap, subst, rules}
 use Rattle.std.specs.Prelude.{reverse}
 use Rattle.m4_input.specs.Plain.{IsInner}
 use Rattle.m4_engine.specs.Expansion.{Call}
@@ -16,7 +16,7 @@ returns-clause-passes c =
     let text = c.in-Some.text.now in
     let n = c.in-Some-inner_text.all in
     let x = c.in-Some-inner_text.inner.now in
-    let inner = subst (λ (y : List ℕ). IsInner old.state n x y) c.in-Some.ensures.text (c.in-Some-inner_text.ensures.inner old.state c.first_in_list-first.ensures.first) in
+    let inner = subst (λ (y : List ℕ). IsInner old.state i.pending.may_follow n x y) c.in-Some.ensures.text (c.in-Some-inner_text.ensures.inner old.state i.pending.may_follow (search rules)) in
     subst (λ (e : Engine). Passes e new i c.consume.new.self) c.self.view_is
     (passes_inner old new c.in-Some-innermost.call cs i c.consume.new.self n x
     (ap (λ (o : Option Call). innermost_first o cs) c.in-Some-innermost.is) inner c.in-Some.ensures.first

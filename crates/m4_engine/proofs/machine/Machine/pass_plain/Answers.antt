@@ -5,7 +5,7 @@ use Rattle.m4_engine.proofs.Seen.{first_after, lies_after, seen_same}
 use Rattle.m4_engine.proofs.machine.Machine.pass_plain.Goals as goal
 
 pub lookahead_of-requires-clause-first : goal.lookahead_of-requires-clause-first
-lookahead_of-requires-clause-first c = first_after c.self.inside.state c.plain_run-len.result.1 c.args.input.now.pending c.consume.new.self.pending c.plain_run-len.result.0 c.in-Some.text.now c.in-Some.ensures.text (search rules) c.plain_run-len.ensures.after
+lookahead_of-requires-clause-first c = first_after c.self.inside.state _ c.plain_run-len.result.1 c.args.input.now.pending c.consume.new.self.pending c.plain_run-len.result.0 c.in-Some.text.now (search rules) c.in-Some.ensures.text (search rules) c.plain_run-len.ensures.after
 
 pub lookahead_of-requires-clause-lies : goal.lookahead_of-requires-clause-lies
 lookahead_of-requires-clause-lies c = lies_after c.plain_run-len.result.1 c.args.input.now.pending c.consume.new.self.pending c.plain_run-len.result.0 c.in-Some.text.now c.in-Some.ensures.text (search rules) c.plain_run-len.ensures.lies

@@ -1,10 +1,11 @@
 use Rattle.std.proofs.Common.{rules}
-use Rattle.m4_engine.proofs.Calling.{refused_calls, depth_refused, bare_made, list_begins}
+use Rattle.m4_input.specs.Input.{longer}
+use Rattle.m4_engine.proofs.Calling.{refused_calls, depth_refused, bare_made, list_begins_so}
 use Rattle.m4_engine.proofs.machine.Machine.take_call.Goals as goal
 
 pub returns-then-not-has_room : goal.returns-then-not-has_room
 returns-then-not-has_room c = record {
-  moves = λ before o m. refused_calls c.args.self.now c.report_call_limit.new.self c.args.call c.args.listed c.args.input.now.pending before o m (search rules) c.in_ok-report_call_limit.ensures;
+  moves = λ before z more k o m. refused_calls c.args.self.now c.report_call_limit.new.self c.args.call c.args.listed (longer z more c.args.input.now.pending) (before z more) o m (search rules) c.in_ok-report_call_limit.ensures;
   ready = search rules;
   limits = search rules;
   made = search rules;
@@ -12,7 +13,7 @@ returns-then-not-has_room c = record {
 
 pub returns-then-is_deep : goal.returns-then-is_deep
 returns-then-is_deep c = record {
-  moves = λ before o m. depth_refused c.args.self.now c.count.new.self c.report_nesting_limit.new.self c.args.call c.args.listed c.args.input.now.pending before o m (search rules) c.count.ensures (search rules) c.in_ok-report_nesting_limit.ensures;
+  moves = λ before z more k o m. depth_refused c.args.self.now c.count.new.self c.report_nesting_limit.new.self c.args.call c.args.listed (longer z more c.args.input.now.pending) (before z more) o m (search rules) c.count.ensures (search rules) c.in_ok-report_nesting_limit.ensures;
   ready = search rules;
   limits = search rules;
   made = search rules;
@@ -20,7 +21,7 @@ returns-then-is_deep c = record {
 
 pub returns-then-not-listed : goal.returns-then-not-listed
 returns-then-not-listed c = record {
-  moves = bare_made c.args.self.now c.count.new.self c.call.new.self c.args.call c.args.listed c.args.input.now.pending c.call.new.input.pending c.call.result (search rules) (search rules) c.count.ensures (search rules) c.call.ensures.moves;
+  moves = bare_made c.args.input.now.pending.may_follow c.args.self.now c.count.new.self c.call.new.self c.args.call c.args.listed (λ z more. longer z more c.args.input.now.pending) c.call.new.input.pending c.call.result (search rules) (search rules) c.count.ensures (search rules) c.call.ensures.moves;
   ready = search rules;
   limits = search rules;
   made = search rules;
@@ -28,7 +29,7 @@ returns-then-not-listed c = record {
 
 pub returns : goal.returns
 returns c = record {
-  moves = λ before o m. list_begins c.args.self.now c.count.new.self c.begin.new.self c.args.call c.args.listed c.args.input.now.pending c.take_parenthesis.new.input.pending before o m (search rules) (search rules) c.count.ensures (search rules) c.take_parenthesis.ensures.taken c.in_ok-begin.ensures;
+  moves = λ before z more k o m. list_begins_so c.args.self.now c.count.new.self c.begin.new.self c.args.call c.args.listed c.args.input.now.pending c.take_parenthesis.new.input.pending (before z more) z more o m (search rules) (search rules) c.count.ensures (search rules) c.take_parenthesis.ensures.taken c.take_parenthesis.ensures.within c.in_ok-begin.ensures;
   ready = search rules;
   limits = search rules;
   made = search rules;

@@ -1,17 +1,32 @@
 use Rattle.std.proofs.Common.{rules}
+use Rattle.m4_input.specs.Input.{longer}
 use Rattle.m4_input.specs.Pending.{name_of}
-use Rattle.m4_builtins.specs.declared.place.Place.{Place}
+use Rattle.m4_input.specs.declared.token.Token.TheVariants.{Name}
 use Rattle.m4_engine.specs.Engine.{is_bare}
-use Rattle.m4_engine.proofs.Seen.{named_moves}
+use Rattle.m4_engine.proofs.Seen.{named_at, list_there, meaning_at}
+use Rattle.m4_engine.proofs.Turning.{found_steps, word_turn, list_turn}
+use Rattle.m4_engine.proofs.machine.Machine.take_name.Goals.{in-Yes, in-No}
 use Rattle.m4_engine.proofs.machine.Machine.take_name.Goals as goal
 
+pub returns-in_default : goal.returns-in_default
+returns-in_default c = word_turn c.args.self.now c.put_text.new.self c.args.name c.args.len c.args.input.now c.consume.new.self c.requires.ready c.requires.first c.requires.scanned (search rules) c.consume.ensures (search rules)
+
+pub returns-in-Unknown : goal.returns-in-Unknown
+returns-in-Unknown c = list_turn c.args.self.now c.args.input.now c.in-Some.definition.now c.args.name c.args.len c.requires.ready c.requires.first c.requires.scanned (search rules) (search rules)
+
+pub take_named-requires-clause-list : goal.take_named-requires-clause-list
+take_named-requires-clause-list c = elim c.match-list_after.branch [
+  | in-Yes w ↦ list_there c.args.self.now.state.quotes c.args.self.now.state.comments c.args.input.now.pending c.consume-2.new.self.pending c.args.len _ (search rules) (search rules)
+  | in-No w ↦ list_there c.args.self.now.state.quotes c.args.self.now.state.comments c.args.input.now.pending c.consume-2.new.self.pending c.args.len _ (search rules) (search rules)
+]
+
 pub returns : goal.returns
-returns c = record {
-  moves = let e = c.args.self.now in
-      let p = c.args.input.now.pending in
-      let at : Place = record { file = name_of p; line = c.args.line } in
-      named_moves e c.take_named.new.self c.in_ok-meaning.meaning (is_bare c.in_ok-listed.listed e) c.args.name at p c.sees_list.new.input.pending c.take_named.new.input.pending c.take_named.result (search rules) (search rules) (search rules) c.take_named.ensures.moves;
-  ready = search rules;
-  limits = search rules;
-  made = search rules;
-}
+returns c =
+    let e = c.args.self.now in
+    let p = c.args.input.now.pending in
+    let q = c.consume-2.new.self.pending in
+    let l = c.match-list_after.listed in
+    found_steps e c.take_named.new.self (Name c.args.name) c.args.len c.args.input.now c.consume-2.new.self c.take_named.new.input c.take_named.result c.requires.first c.requires.scanned c.consume-2.ensures
+    (named_at e c.take_named.new.self p q c.take_named.new.input.pending c.take_named.result c.in_ok-meaning.meaning (is_bare l e) c.args.name (search rules) c.take_named.ensures.moves
+    (meaning_at c.in_ok-meaning.meaning (is_bare l e) e.state c.args.name (name_of p) c.args.line p (search rules) c.requires.line (search rules)))
+    c.take_named.ensures

@@ -1,4 +1,4 @@
-use Rattle.std.proofs.Common.{rules, refl}
+use Rattle.std.proofs.Common.{rules}
 use Rattle.m4_engine.specs.Engine.{is_bare}
 use Rattle.m4_engine.proofs.Bare.{bare_fits}
 use Rattle.m4_engine.proofs.Seen.{expansion_moves, made_moves, bare_moves}
@@ -10,7 +10,7 @@ returns-in-Expansion c = record {
       let n = c.args.named in
       let p = c.args.input.now.pending in
       let fits = bare_fits n.listed e (search rules) in
-      expansion_moves e c.take_expansion.new.self n.meaning c.in-Expansion.text (is_bare n.listed e) n.listed p c.take_expansion.new.input.pending c.take_expansion.result c.in-Expansion.is c.requires.list fits.0 c.take_expansion.ensures.moves;
+      expansion_moves e c.take_expansion.new.self n.meaning c.in-Expansion.text (is_bare n.listed e) n.listed p c.take_expansion.new.input.pending c.take_expansion.result c.in-Expansion.is c.requires.input.taken c.requires.list fits.0 c.take_expansion.ensures.moves;
   ready = search rules;
   limits = search rules;
   made = search rules;
@@ -19,7 +19,7 @@ returns-in-Expansion c = record {
 pub returns-then-needs_list : goal.returns-then-needs_list
 returns-then-needs_list c = record {
   moves = let n = c.args.named in
-      bare_moves c.args.self.now c.put_text.new.self n.meaning c.in-Call.head (is_bare n.listed c.args.self.now) n.listed c.args.input.now.pending c.in-Call.is c.requires.list (search rules) (search rules) (search rules);
+      bare_moves c.args.self.now c.put_text.new.self n.meaning c.in-Call.head (is_bare n.listed c.args.self.now) n.listed c.args.input.now.pending c.in-Call.is c.requires.input.taken c.requires.list (search rules) (search rules) (search rules);
   ready = search rules;
   limits = search rules;
   made = search rules;
@@ -29,8 +29,7 @@ pub returns : goal.returns
 returns c = record {
   moves = let e = c.args.self.now in
       let n = c.args.named in
-      let p = c.args.input.now.pending in
-      made_moves e c.take_call.new.self n.meaning c.in-Call.head c.new-call.result (is_bare n.listed e) n.listed p p c.take_call.new.input.pending c.take_call.result c.in-Call.is c.new-call.ensures refl c.requires.list (search rules) c.take_call.ensures.moves;
+      made_moves e c.take_call.new.self n.meaning c.in-Call.head c.new-call.result (is_bare n.listed e) n.listed c.args.input.now.pending c.take_call.new.input.pending c.take_call.result c.in-Call.is c.new-call.ensures c.requires.input.taken c.requires.list (search rules) c.take_call.ensures.moves;
   ready = search rules;
   limits = search rules;
   made = search rules;

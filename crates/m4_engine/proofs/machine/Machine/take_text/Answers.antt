@@ -4,7 +4,7 @@ use Rattle.m4_engine.proofs.machine.Machine.take_text.Goals as goal
 
 pub returns : goal.returns
 returns c = record {
-  moves = λ k x d h. text_goes c.args.self.now c.put_effect.new.self k x c.args.text c.args.input.now.pending c.read_on.new.input.pending d h (search rules) (search rules);
+  moves = λ k x d h. text_goes c.args.input.now.pending.may_follow c.args.self.now c.put_effect.new.self k x c.args.text c.args.input.now.pending c.push_value.new.input.pending d h (search rules) c.in_ok-push_value.ensures.pushes;
   ready = search rules;
   limits = search rules;
   made = search rules;

@@ -6,18 +6,18 @@ use Rattle.m4_engine.proofs.machine.Machine.take_unended.Goals as goal
 
 pub returns-in-InString : goal.returns-in-InString
 returns-in-InString c = record {
-  moves = λ before p f o m.
+  moves = λ may p before f z more k o m.
       let at : Place = record { file = c.in_ok-file.file; line = c.args.line } in
-      unended_moves c.args.self.now c.add_error.new.self c.args.what InString c.args.line at c.args.input.now.pending before o m (search rules) (search rules) (search rules) f c.in_ok-add_error-in-InString.ensures;
+      unended_moves c.args.self.now c.add_error.new.self c.args.what InString c.args.line at c.args.input.now.pending (before z more) o m (search rules) (search rules) (search rules) (f z more) c.in_ok-add_error-in-InString.ensures;
   limits = search rules;
   made = search rules;
 }
 
 pub returns : goal.returns
 returns c = record {
-  moves = λ before p f o m.
+  moves = λ may p before f z more k o m.
       let at : Place = record { file = c.in_ok-file.file; line = c.args.line } in
-      unended_moves c.args.self.now c.add_error-in-InComment.new.self c.args.what InComment c.args.line at c.args.input.now.pending before o m (search rules) (search rules) (search rules) f c.in_ok-add_error-in-InComment.ensures;
+      unended_moves c.args.self.now c.add_error-in-InComment.new.self c.args.what InComment c.args.line at c.args.input.now.pending (before z more) o m (search rules) (search rules) (search rules) (f z more) c.in_ok-add_error-in-InComment.ensures;
   limits = search rules;
   made = search rules;
 }

@@ -1,0 +1,121 @@
+use Rattle.std.proofs.Common.{◌≡◌, ◌≤◌, true, false, length, rules, arith, refl, ◌∙◌}
+use Rattle.m4_engine.proofs.OnlyGrows.{output_stays}
+use Rattle.m4_engine.proofs.Running.{begins_so, begins_past, not_both, passed, went_on, went_past_line, fell, fell_past_line, ended, needed, needs_line_after, breaks, write_breaks, needs_line_so, line_done_by, hand_ends, made_end, flushed_all}
+use Rattle.m4_engine.proofs.Passing.{passes_ready}
+use Rattle.m4_engine.proofs.machine.Machine.expand_in_hand.Goals.{in-Token, in-Line}
+use Rattle.m4_engine.proofs.machine.Machine.expand_in_hand.Goals as goal
+
+pub pass_plain-requires : goal.pass_plain-requires
+pass_plain-requires g c = c.turns.invariant.runs.ready
+
+pub turn-requires : goal.turn-requires
+turn-requires g c = record {
+  ready = passes_ready c.turns.self c.pass_plain.new.self c.turns.input c.pass_plain.new.input c.turns.invariant.runs.ready c.in-Ok.ensures.passes;
+  lookahead = c.in-Ok.ensures.lookahead;
+}
+
+pub returns-in_default-clause-gives : goal.returns-in_default-clause-gives
+returns-in_default-clause-gives g c = breaks c.args.wanted c.args.self.now c.turns.self c.args.input.now.pending c.turns.input _ _ _ _ c.turns.invariant.runs
+
+pub returns-in-Err-OutOfMemory-clause-gives : goal.returns-in-Err-OutOfMemory-clause-gives
+returns-in-Err-OutOfMemory-clause-gives g c = breaks c.args.wanted c.args.self.now c.turns.self c.args.input.now.pending c.turns.input _ _ _ _ c.turns.invariant.runs
+
+pub flush_if_due-requires : goal.flush_if_due-requires
+flush_if_due-requires g c =
+    let held : c.len-earlier.result ≡ length c.pass_plain.new.self.output = search rules in
+    let grows : length c.pass_plain.new.self.output ≤ length c.turn.new.self.output = output_stays c.pass_plain.new.self c.turn.new.self c.pass_plain.new.input c.turn.new.input c.in-Ok-turn.turned c.in-Ok-turn.ensures.moves c.in-Ok-turn.ensures.made in
+    omega arith
+
+pub returns-then-not-at_token-clause-gives : goal.returns-then-not-at_token-clause-gives
+returns-then-not-at_token-clause-gives g c = elim c.match-wanted.branch [
+  | in-Token w ↦ absurd (not_both c.match-wanted.at_token (search rules) (search rules))
+  | in-Line w ↦ needs_line_so c.args.self.now c.args.input.now w.skip_in_hand-at_token.new.self c.match-wanted.input c.args.wanted (g.O.ByteSink.contents c.args.out.now) (g.M.ByteSink.contents c.args.messages.now) (search rules) (search rules) c.requires.ready c.requires.flushed (line_done_by c.args.input.now w.skip_in_hand-at_token.new.self w.skip_in_hand-at_token.result false (search rules) w.skip_in_hand-at_token.ensures)
+]
+
+pub turns-init : goal.turns-init
+turns-init g c = record {
+  runs = elim c.match-wanted.branch [
+    | in-Token w ↦ begins_so c.args.self.now c.args.input.now c.match-wanted.input c.args.wanted _ _ (search rules) (search rules) c.requires.ready
+    | in-Line w ↦ begins_past c.args.self.now c.args.input.now w.skip_in_hand-at_token.new.self c.match-wanted.input c.args.wanted _ _ (search rules) (search rules) c.requires.ready (line_done_by c.args.input.now w.skip_in_hand-at_token.new.self w.skip_in_hand-at_token.result true (search rules) w.skip_in_hand-at_token.ensures)
+  ];
+  out = refl;
+  reported = refl;
+}
+
+pub returns-in-Err-clause-gives : goal.returns-in-Err-clause-gives
+returns-in-Err-clause-gives g c =
+    let r = passed c.args.wanted c.args.self.now c.turns.self c.pass_plain.new.self c.args.input.now.pending c.turns.input c.pass_plain.new.input _ _ _ _ c.turns.invariant.runs c.in-Ok.ensures.passes in
+    write_breaks c.args.wanted c.args.self.now c.pass_plain.new.self c.turn.new.self c.args.input.now.pending c.pass_plain.new.input c.turn.new.input c.in-Ok-turn.turned _ _ _ _ _ _ r c.in-Ok-turn.ensures.moves c.in-Ok-turn.ensures.made c.in-Err.ensures.begun
+
+pub turns-smaller-in_default-flush_if_due : goal.turns-smaller-in_default-flush_if_due
+turns-smaller-in_default-flush_if_due g c = fell c.turns.self c.pass_plain.new.self c.turn.new.self c.flush_if_due.new.self c.turns.input c.pass_plain.new.input c.turn.new.input _ _ _ _ c.in-Ok-turn.turned c.in-Ok.ensures.passes c.in-Ok-turn.ensures.moves c.in-Ok-turn.ensures.ready c.in-GoesOn.is c.in_default-flush_if_due.ensures.some
+
+pub turns-preserved-in_default-flush_if_due : goal.turns-preserved-in_default-flush_if_due
+turns-preserved-in_default-flush_if_due g c =
+    let r = passed c.args.wanted c.args.self.now c.turns.self c.pass_plain.new.self c.args.input.now.pending c.turns.input c.pass_plain.new.input _ _ _ _ c.turns.invariant.runs c.in-Ok.ensures.passes in
+    record {
+      runs = went_on c.args.wanted c.args.self.now c.pass_plain.new.self c.turn.new.self c.flush_if_due.new.self c.args.input.now.pending c.pass_plain.new.input c.turn.new.input _ _ _ _ _ _ c.in-Ok-turn.turned r c.in-Ok-turn.ensures.moves c.in-Ok-turn.ensures.ready c.in-GoesOn.is c.in-Ok-turn.ensures.limits c.in_default-flush_if_due.ensures.some;
+      out = c.in_default-flush_if_due.ensures.counted.0 ∙ c.turns.invariant.out;
+      reported = c.in_default-flush_if_due.ensures.counted.1 ∙ c.turns.invariant.reported;
+    }
+
+pub flush-requires : goal.flush-requires
+flush-requires g c =
+    let held : c.len-earlier.result ≡ length c.pass_plain.new.self.output = search rules in
+    let grows : length c.pass_plain.new.self.output ≤ length c.turn.new.self.output = output_stays c.pass_plain.new.self c.turn.new.self c.pass_plain.new.input c.turn.new.input c.in-Ok-turn.turned c.in-Ok-turn.ensures.moves c.in-Ok-turn.ensures.made in
+    omega arith
+
+pub flush-requires-in-NeedsMore : goal.flush-requires-in-NeedsMore
+flush-requires-in-NeedsMore g c =
+    let held : c.len-earlier.result ≡ length c.pass_plain.new.self.output = search rules in
+    let grows : length c.pass_plain.new.self.output ≤ length c.turn.new.self.output = output_stays c.pass_plain.new.self c.turn.new.self c.pass_plain.new.input c.turn.new.input c.in-Ok-turn.turned c.in-Ok-turn.ensures.moves c.in-Ok-turn.ensures.made in
+    omega arith
+
+pub flush-requires-in-Ends : goal.flush-requires-in-Ends
+flush-requires-in-Ends g c =
+    let held : c.len-earlier.result ≡ length c.pass_plain.new.self.output = search rules in
+    let grows : length c.pass_plain.new.self.output ≤ length c.turn.new.self.output = output_stays c.pass_plain.new.self c.turn.new.self c.pass_plain.new.input c.turn.new.input c.in-Ok-turn.turned c.in-Ok-turn.ensures.moves c.in-Ok-turn.ensures.made in
+    omega arith
+
+pub returns-in-Err-flush-clause-gives : goal.returns-in-Err-flush-clause-gives
+returns-in-Err-flush-clause-gives g c =
+    let r = passed c.args.wanted c.args.self.now c.turns.self c.pass_plain.new.self c.args.input.now.pending c.turns.input c.pass_plain.new.input _ _ _ _ c.turns.invariant.runs c.in-Ok.ensures.passes in
+    write_breaks c.args.wanted c.args.self.now c.pass_plain.new.self c.turn.new.self c.args.input.now.pending c.pass_plain.new.input c.turn.new.input c.in-Ok-turn.turned _ _ _ _ _ _ r c.in-Ok-turn.ensures.moves c.in-Ok-turn.ensures.made c.in-Err-flush.ensures.begun
+
+pub returns-in-Err-flush-2-clause-gives : goal.returns-in-Err-flush-2-clause-gives
+returns-in-Err-flush-2-clause-gives g c =
+    let r = passed c.args.wanted c.args.self.now c.turns.self c.pass_plain.new.self c.args.input.now.pending c.turns.input c.pass_plain.new.input _ _ _ _ c.turns.invariant.runs c.in-Ok.ensures.passes in
+    write_breaks c.args.wanted c.args.self.now c.pass_plain.new.self c.turn.new.self c.args.input.now.pending c.pass_plain.new.input c.turn.new.input c.in-Ok-turn.turned _ _ _ _ _ _ r c.in-Ok-turn.ensures.moves c.in-Ok-turn.ensures.made c.in-Err-flush-2.ensures.begun
+
+pub returns-in-Err-flush-3-clause-gives : goal.returns-in-Err-flush-3-clause-gives
+returns-in-Err-flush-3-clause-gives g c =
+    let r = passed c.args.wanted c.args.self.now c.turns.self c.pass_plain.new.self c.args.input.now.pending c.turns.input c.pass_plain.new.input _ _ _ _ c.turns.invariant.runs c.in-Ok.ensures.passes in
+    write_breaks c.args.wanted c.args.self.now c.pass_plain.new.self c.turn.new.self c.args.input.now.pending c.pass_plain.new.input c.turn.new.input c.in-Ok-turn.turned _ _ _ _ _ _ r c.in-Ok-turn.ensures.moves c.in-Ok-turn.ensures.made c.in-Err-flush-3.ensures.begun
+
+pub returns-then-not-skip_in_hand-clause-gives : goal.returns-then-not-skip_in_hand-clause-gives
+returns-then-not-skip_in_hand-clause-gives g c =
+    let r = passed c.args.wanted c.args.self.now c.turns.self c.pass_plain.new.self c.args.input.now.pending c.turns.input c.pass_plain.new.input _ _ _ _ c.turns.invariant.runs c.in-Ok.ensures.passes in
+    needs_line_after c.args.wanted c.args.self.now c.pass_plain.new.self c.turn.new.self c.flush.new.self c.args.input.now.pending c.args.input.now c.pass_plain.new.input c.turn.new.input c.skip_in_hand.new.self _ _ _ _ _ _ c.in-Ok-turn.turned refl r c.in-Ok-turn.ensures.moves c.in-Ok-turn.ensures.ready c.in-SkipsLine.is c.in-Ok-turn.ensures.limits c.in_default-flush.ensures.engine c.in_default-flush.ensures.output c.in_default-flush.ensures.messages (line_done_by c.turn.new.input c.skip_in_hand.new.self c.skip_in_hand.result false (search rules) c.skip_in_hand.ensures)
+
+pub turns-smaller : goal.turns-smaller
+turns-smaller g c = fell_past_line c.turns.self c.pass_plain.new.self c.turn.new.self c.flush.new.self c.turns.input c.pass_plain.new.input c.turn.new.input c.skip_in_hand.new.self _ _ _ _ c.in-Ok-turn.turned c.in-Ok.ensures.passes c.in-Ok-turn.ensures.moves c.in-Ok-turn.ensures.ready c.in-SkipsLine.is (flushed_all c.turn.new.self _ _ _ _ c.flush.new.self c.in_default-flush.ensures.engine c.in_default-flush.ensures.output c.in_default-flush.ensures.messages) (line_done_by c.turn.new.input c.skip_in_hand.new.self c.skip_in_hand.result true (search rules) c.skip_in_hand.ensures)
+
+pub turns-preserved : goal.turns-preserved
+turns-preserved g c =
+    let r = passed c.args.wanted c.args.self.now c.turns.self c.pass_plain.new.self c.args.input.now.pending c.turns.input c.pass_plain.new.input _ _ _ _ c.turns.invariant.runs c.in-Ok.ensures.passes in
+    record {
+      runs = went_past_line c.args.wanted c.args.self.now c.pass_plain.new.self c.turn.new.self c.flush.new.self c.args.input.now.pending c.pass_plain.new.input c.turn.new.input c.skip_in_hand.new.self _ _ _ _ _ _ c.in-Ok-turn.turned r c.in-Ok-turn.ensures.moves c.in-Ok-turn.ensures.ready c.in-SkipsLine.is c.in-Ok-turn.ensures.limits (flushed_all c.turn.new.self _ _ _ _ c.flush.new.self c.in_default-flush.ensures.engine c.in_default-flush.ensures.output c.in_default-flush.ensures.messages) (line_done_by c.turn.new.input c.skip_in_hand.new.self c.skip_in_hand.result true (search rules) c.skip_in_hand.ensures);
+      out = c.in_default-flush.ensures.counted.0 ∙ c.turns.invariant.out;
+      reported = c.in_default-flush.ensures.counted.1 ∙ c.turns.invariant.reported;
+    }
+
+pub returns-in-Ok-flush-clause-gives : goal.returns-in-Ok-flush-clause-gives
+returns-in-Ok-flush-clause-gives g c =
+    let r = passed c.args.wanted c.args.self.now c.turns.self c.pass_plain.new.self c.args.input.now.pending c.turns.input c.pass_plain.new.input _ _ _ _ c.turns.invariant.runs c.in-Ok.ensures.passes in
+    needed c.args.wanted c.args.self.now c.pass_plain.new.self c.turn.new.self c.flush-in-NeedsMore.new.self c.args.input.now.pending c.args.input.now c.pass_plain.new.input c.turn.new.input _ _ _ _ _ _ c.in-Ok-turn.turned refl r c.in-Ok-turn.ensures.made c.in-NeedsMore.is c.in-Ok-flush.ensures.engine c.in-Ok-flush.ensures.output c.in-Ok-flush.ensures.messages
+
+pub returns-in-Ok-flush-2-clause-gives : goal.returns-in-Ok-flush-2-clause-gives
+returns-in-Ok-flush-2-clause-gives g c =
+    let r = passed c.args.wanted c.args.self.now c.turns.self c.pass_plain.new.self c.args.input.now.pending c.turns.input c.pass_plain.new.input _ _ _ _ c.turns.invariant.runs c.in-Ok.ensures.passes in
+    hand_ends c.args.wanted c.args.self.now c.flush-in-Ends.new.self c.args.input.now c.turn.new.input _ c.in-Ends.cause (made_end c.pass_plain.new.self c.turn.new.self c.pass_plain.new.input c.turn.new.input c.in-Ok-turn.turned c.in-Ends.cause c.in-Ends.is c.in-Ok-turn.ensures.made)
+    (ended c.args.wanted c.args.self.now c.pass_plain.new.self c.turn.new.self c.flush-in-Ends.new.self c.args.input.now.pending c.turn.new.input.pending c.pass_plain.new.input _ _ _ _ _ _ c.in-Ok-turn.turned c.in-Ends.cause r c.in-Ok-turn.ensures.moves c.in-Ends.is c.in-Ok-flush-2.ensures.engine c.in-Ok-turn.ensures.limits c.in-Ok-flush-2.ensures.output c.in-Ok-flush-2.ensures.messages)

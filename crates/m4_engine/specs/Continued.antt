@@ -1,0 +1,109 @@
+-- Continued: an expansion of which the bytes in hand were expanded, whatever follows them.
+-- Not believed: it connects the driver with `Expand`.
+-- Words: comes_to, Leads, HasWritten, IsFlushed, HandNeeds, HandEnds, HasMade, HandBreaks, HandGives.
+use Rattle.std.specs.Prelude.{◌≡◌, ℕ, Bool, true, false, List, [], ◌++◌}
+use Rattle.m4_state.specs.Device.{with_bytes}
+use Rattle.m4_input.specs.declared.fault.InputFault.{InputFault}
+use Rattle.m4_input.specs.declared.fault.InputFault.TheVariants as faults
+use Rattle.m4_input.specs.Pending.{Pending, text_of, line_length}
+use Rattle.m4_input.specs.Input.{Held, longer}
+use Rattle.m4_engine.specs.declared.ending.Cause.{Cause}
+use Rattle.m4_engine.specs.declared.ending.Cause.TheVariants as causes
+use Rattle.m4_engine.specs.declared.in_hand.Wanted.{Wanted}
+use Rattle.m4_engine.specs.declared.in_hand.Wanted.TheVariants as wanted
+use Rattle.m4_engine.specs.declared.in_hand.InHand.{InHand}
+use Rattle.m4_engine.specs.declared.in_hand.InHand.TheVariants as hands
+use Rattle.m4_engine.specs.Nesting.{Outcome, Halted, Closed, then_on}
+use Rattle.m4_engine.specs.OpenCalls.{Stacked, resume}
+use Rattle.m4_engine.specs.Expansion.{RunSoFar, Expansion, Kept, Ended, Ends, NeedsInput}
+use Rattle.m4_engine.specs.Expand.{turn, join, expand, skip_line}
+use Rattle.m4_engine.specs.Engine.{Engine, MayFollow, so_far_of, configuration, IsReady}
+use Rattle.m4_engine.specs.Writers.{Contents}
+
+-- the rest of a line is to be skipped first, or nothing
+abbrev pub skipped_first : Wanted → Expansion → Outcome Expansion Ended
+skipped_first wanted.Token s = Closed s
+skipped_first wanted.Line s = skip_line (line_length (text_of s.pending)) s
+
+-- what the machine comes to
+abbrev pub comes_to : Wanted → Stacked Expansion Kept → Outcome Expansion Ended
+comes_to w c = resume Expansion Kept Ended turn join expand c.outer (then_on (skipped_first w c.here) expand)
+
+-- from the one place the machine goes on as from the other, whatever follows the bytes in hand: it made o and
+-- m on the way
+pub record Leads (w : Wanted) (old : Engine) (p : Pending) (v : Wanted) (new : Engine) (q : Pending) (o m : List ℕ) : Type 0 where
+  pub means : (z : List ℕ) (more : Bool) → MayFollow p.may_follow z more → (a b : List ℕ)
+      → comes_to v (configuration (a ++ o) (b ++ m) new (longer z more q)) ≡ comes_to w (configuration a b old (longer z more p))
+  pub follows : q.may_follow ≡ p.may_follow
+  pub limits : new.limits ≡ old.limits
+
+-- these were written
+pub record HasWritten (o m : List ℕ) (w : Contents) : Type 0 where
+  pub output : w.out_new ≡ with_bytes w.out_old o
+  pub messages : w.messages_new ≡ with_bytes w.messages_old m
+
+-- nothing is buffered
+pub record IsFlushed (e : Engine) : Type 0 where
+  pub output : e.output ≡ []
+  pub messages : e.messages ≡ []
+
+-- the bytes in hand were expanded as far as they decide: what was made was written
+pub record HandNeeds (w : Wanted) (old : Engine) (i : Held) (v : Wanted) (new : Engine) (j : Held) (c : Contents) : Type 0 where
+  pub o : List ℕ
+  pub m : List ℕ
+  pub written : HasWritten o m c
+  pub leads : Leads w old i.pending v new j.pending o m
+  pub ready : IsReady j
+  pub opened : (i.pending).may_follow ≡ true
+  pub flushed : IsFlushed new
+  pub undecided : (a b : List ℕ)
+      → comes_to v (configuration (a ++ o) (b ++ m) new j.pending) ≡ Halted (record { so_far = so_far_of (a ++ o) (b ++ m) new; reason = NeedsInput })
+
+-- the expansion ended, whatever follows the bytes in hand: what was made was written
+pub record HandEnds (w : Wanted) (old : Engine) (p : Pending) (cause : Cause) (new : Engine) (c : Contents) : Type 0 where
+  pub o : List ℕ
+  pub m : List ℕ
+  pub written : HasWritten o m c
+  pub ends : (z : List ℕ) (more : Bool) → MayFollow p.may_follow z more → (a b : List ℕ)
+      → comes_to w (configuration a b old (longer z more p)) ≡ Halted (record { so_far = so_far_of (a ++ o) (b ++ m) new; reason = Ends cause })
+  pub flushed : IsFlushed new
+  pub limits : new.limits ≡ old.limits
+
+-- what an outcome made
+abbrev pub so_far_in : Outcome Expansion Ended → RunSoFar
+so_far_in (Halted d) = d.so_far
+so_far_in (Closed s) = s.so_far
+
+-- some was made, and perhaps more
+pub record HasMade (o m : List ℕ) (r : RunSoFar) : Type 0 where
+  pub x : List ℕ
+  pub y : List ℕ
+  pub output : r.output ≡ o ++ x
+  pub messages : r.messages ≡ m ++ y
+
+-- a device or an allocation failed: a part of what is made was written, whatever follows
+pub record HandBreaks (w : Wanted) (old : Engine) (p : Pending) (c : Contents) : Type 0 where
+  pub o : List ℕ
+  pub m : List ℕ
+  pub written : HasWritten o m c
+  pub made : (z : List ℕ) (more : Bool) → MayFollow p.may_follow z more → (a b : List ℕ)
+      → HasMade (a ++ o) (b ++ m) (so_far_in (comes_to w (configuration a b old (longer z more p))))
+
+-- by the outcome
+abbrev pub HandGives : Wanted → Engine → Engine → Held → Held → Contents → InHand → Type 0
+HandGives w old new i j c (hands.Needs v) = HandNeeds w old i v new j c
+HandGives w old new i j c (hands.Ends causes.Read) = ⊥
+HandGives w old new i j c (hands.Ends (causes.Frozen fault)) = ⊥
+HandGives w old new i j c (hands.Ends causes.Write) = HandBreaks w old i.pending c
+HandGives w old new i j c (hands.Ends causes.OutOfMemory) = HandBreaks w old i.pending c
+HandGives w old new i j c (hands.Ends cause) = HandEnds w old i.pending cause new c
+
+-- a write fault is that of a writer, which failed once; otherwise none did
+abbrev pub cause_of : InHand → Cause
+cause_of (hands.Needs v) = causes.Done
+cause_of (hands.Ends cause) = cause
+
+-- the cause that ends an expansion whose next block is missing
+abbrev pub fault_cause : InputFault → Cause
+fault_cause faults.Read = causes.Read
+fault_cause fault = causes.OutOfMemory

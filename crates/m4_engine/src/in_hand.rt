@@ -1,0 +1,21 @@
+//! The outcome of an expansion of the bytes in hand.
+
+use crate::ending::Cause;
+
+/// What an expansion needs more bytes for.
+#[derive(Clone, Copy, Debug, PartialEq, Eq)]
+pub enum Wanted {
+    /// The next token, or whether a list follows a name.
+    Token,
+    /// The rest of a line that is discarded.
+    Line,
+}
+
+/// Why an expansion of the bytes in hand stopped.
+#[derive(Clone, Copy, Debug, PartialEq, Eq)]
+pub enum InHand {
+    /// More bytes are needed. All output and messages were flushed.
+    Needs(Wanted),
+    /// The expansion ends by this cause.
+    Ends(Cause),
+}
