@@ -1,30 +1,30 @@
 -- Sessions: what a session's calls make of what the machine leaves.
-use Rattle.std.proofs.Common.{◌≡◌, inr, ℕ, Bool, true, false, List, [], Option, Some, None, refl, sym, ap, ◌∙◌, subst}
+use Rattle.std.proofs.Common.{◌≡◌, inl, inr, ℕ, Bool, true, false, List, [], ◌++◌, Option, Some, None, refl, sym, ap, ◌∙◌, subst}
 use Rattle.std.specs.Prelude.{Result, Ok, Err}
 use Rattle.m4_state.proofs.CallerLaws.{with_bytes-nil}
 use Rattle.m4_state.specs.State.{State, IsSized}
 use Rattle.m4_state.specs.Device.{Script, after_bytes, IsAtEnd, with_bytes, HasBegun, one_more}
 use Rattle.m4_input.specs.Pending.{Pending}
-use Rattle.m4_input.specs.Input.{Held, unread_file, wrapped_pending, wrapped_text, longer, Reads, WholeGives}
+use Rattle.m4_input.specs.Input.{Held, unread_file, wrapped_pending, wrapped_text, longer, Reads}
 use Rattle.m4_frozen.specs.Freeze.{freeze}
 use Rattle.m4_engine.specs.declared.ending.Cause.{Cause}
 use Rattle.m4_engine.specs.declared.ending.Cause.TheVariants as causes
 use Rattle.m4_engine.specs.declared.stop.Stop.{Stop}
 use Rattle.m4_engine.specs.declared.stop.Stop.TheVariants as stops
-use Rattle.m4_engine.specs.Expansion.{EndReason, Ends, Ended}
+use Rattle.m4_engine.specs.Expansion.{Expansion, EndReason, Ends, NeedsInput, Ended}
+use Rattle.m4_engine.specs.Expand.{expand, expansion_of, ended_of}
+use Rattle.m4_engine.specs.Nesting.{Outcome, Halted, Closed}
+use Rattle.m4_engine.proofs.Growth.{longer_level, Begins}
+use Rattle.m4_engine.proofs.Continues.{law}
 use Rattle.m4_engine.specs.File.{Progress, file_pending, over_of, over_by, after_input}
 use Rattle.m4_engine.specs.Run.{closed_output, result_of}
 use Rattle.m4_engine.specs.Wraps.{joined_back, after_wraps, close}
 use Rattle.m4_engine.proofs.Begins.{nothing_begun}
 use Rattle.m4_engine.specs.Engine.{Engine, MayFollow}
-use Rattle.m4_engine.proofs.Longer.{closed_same}
-use Rattle.m4_engine.specs.Expands.{input_expansion, Expanded, ReadSo, Fell, Expands, ReadsBy, at_rest}
-use Rattle.m4_engine.specs.Session.{SessionState, progress_of, written, how_over, IsOpen, Completed, FileDone, FileBroke, FileGives, ReadFails, BrokeOff, WrapsGive, round_of, answer_by, over_after, session_after_wraps, last_state, Unfinished, EndGives, FinishGives, FreezeGives, CloseGives}
+use Rattle.m4_engine.proofs.Longer.{closed_same, nothing_more, nothing_follows}
+use Rattle.m4_engine.specs.Expands.{made_before, input_expansion, Expanded, ReadSo, Fell, Expands, ReadsBy, at_rest}
+use Rattle.m4_engine.specs.Session.{SessionState, progress_of, written, how_over, IsOpen, Completed, FileDone, FileEnded, FileBroke, FileFell, FileGives, ReadFails, BrokeOff, WrapsGive, round_of, answer_by, over_after, session_after_wraps, last_state, Unfinished, EndGives, FinishGives, FreezeGives, CloseGives}
 use Rattle.m4_engine.specs.Writers.{Contents, Three, Broken, writers}
-
--- what a file's input has in hand when it was read
-pub whole_file : (name x : List ℕ) (before after : Option Script) (p : Pending) → Reads before after (unread_file name).pending x p → p.may_follow ≡ false → p ≡ file_pending name x false
-whole_file name x before after p r e = r.in_hand ∙ ap (λ (b : Bool). longer x b (unread_file name).pending) e
 
 -- the session as the machine and the rest of it give it
 abbrev session_of : Engine → Bool → Option Cause → Bool → SessionState
@@ -63,25 +63,6 @@ input_done old e0 e1 any_missing over cause d w l e k o = record {
   output = k.output;
   messages = k.messages;
 }
-
--- a file was read to an end
-file_done : (e0 e1 : Engine) (any_missing : Bool) (name x : List ℕ) (over : Option Cause) (cause : Cause) (before after : Option Script) (p : Pending) (w : Contents) → before ≡ after_bytes x after → IsAtEnd after → p ≡ file_pending name x false → Expanded e0 e1 (input_expansion e0 p) cause w → how_over over ≡ over_by cause → FileDone name before after (session_of e0 any_missing None false) (session_of (at_rest e1) any_missing over false) w over
-file_done e0 e1 any_missing name x over cause before after p w g a e d o = (
-  x,
-  g,
-  a,
-  input_done (session_of e0 any_missing None false) e0 e1 any_missing over cause (input_expansion e0 (file_pending name x false)) w (record { over = refl; unfinished = refl }) refl (subst (λ (p : Pending). Expanded e0 e1 (input_expansion e0 p) cause w) e d) o,
-  refl,
-)
-
--- a file broke off
-file_broke : (e0 e1 : Engine) (any_missing : Bool) (name x : List ℕ) (cause : Cause) (before after : Option Script) (p : Pending) (w : Contents) → before ≡ after_bytes x after → IsAtEnd after → p ≡ file_pending name x false → Broken (input_expansion e0 p) w → FileBroke name before after (session_of e0 any_missing None false) (session_of (at_rest e1) any_missing (Some cause) false) w cause
-file_broke e0 e1 any_missing name x cause before after p w g a e d = (
-  x,
-  g,
-  record { live = record { over = refl; unfinished = refl }; over = refl },
-  inr (a, subst (λ (p : Pending). Broken (input_expansion e0 p) w) e d),
-)
 
 -- the expansion of an input that was read to its end, by the cause
 abbrev ClosedExpands : Engine → Engine → Pending → Contents → Cause → Type 0
@@ -139,18 +120,97 @@ expand_reads causes.OutOfMemory old mid new e h = h ∙ e
 pub file_reads : (cause : Cause) (result : Result Unit Stop) (old mid new : ℕ) → result ≡ answer_by cause → mid ≡ old → ReadsBy cause mid new → ReadFails result old new
 file_reads cause result old mid new r e h = subst (λ (x : Result Unit Stop). ReadFails x old new) (sym r) (expand_reads cause old mid new e h)
 
-by_cause : (e0 e1 : Engine) (any_missing : Bool) (name x : List ℕ) (cause : Cause) (before after : Option Script) (p : Pending) (w : Contents) → before ≡ after_bytes x after → IsAtEnd after → p ≡ file_pending name x false → ClosedExpands e0 e1 p w cause → FileGives name before after (session_of e0 any_missing None false) (session_of (at_rest e1) any_missing (over_after cause None) false) w (answer_by cause)
-by_cause e0 e1 any_missing name x causes.Done before after p w g a e d = file_done e0 e1 any_missing name x None causes.Done before after p w g a e d refl
-by_cause e0 e1 any_missing name x (causes.Exited n) before after p w g a e d = file_done e0 e1 any_missing name x (Some (causes.Exited n)) (causes.Exited n) before after p w g a e d refl
-by_cause e0 e1 any_missing name x causes.EndInString before after p w g a e d = file_done e0 e1 any_missing name x (Some causes.EndInString) causes.EndInString before after p w g a e d refl
-by_cause e0 e1 any_missing name x causes.EndInComment before after p w g a e d = file_done e0 e1 any_missing name x (Some causes.EndInComment) causes.EndInComment before after p w g a e d refl
-by_cause e0 e1 any_missing name x causes.EndInArguments before after p w g a e d = file_done e0 e1 any_missing name x (Some causes.EndInArguments) causes.EndInArguments before after p w g a e d refl
-by_cause e0 e1 any_missing name x causes.ExpansionLimit before after p w g a e d = file_done e0 e1 any_missing name x (Some causes.ExpansionLimit) causes.ExpansionLimit before after p w g a e d refl
-by_cause e0 e1 any_missing name x causes.NestingLimit before after p w g a e d = file_done e0 e1 any_missing name x (Some causes.NestingLimit) causes.NestingLimit before after p w g a e d refl
-by_cause e0 e1 any_missing name x (causes.Frozen f) before after p w g a e d = absurd d
-by_cause e0 e1 any_missing name x causes.Read before after p w g a e d = absurd d
-by_cause e0 e1 any_missing name x causes.Write before after p w g a e d = file_broke e0 e1 any_missing name x causes.Write before after p w g a e d
-by_cause e0 e1 any_missing name x causes.OutOfMemory before after p w g a e d = file_broke e0 e1 any_missing name x causes.OutOfMemory before after p w g a e d
+-- ---- a file
+
+-- an expansion with an open end does not come to the end of its input
+open_goes_on : (o v : Outcome Expansion Ended) → Begins [] true o v → (ended_of o).reason ≡ Ends causes.Done → ⊥
+open_goes_on (Halted d) v (inl h) e = let k : NeedsInput ≡ Ends causes.Done = sym h.0 ∙ e in cc
+open_goes_on (Halted d) v (inr h) e = h.1 e
+open_goes_on (Closed s) v h e = cc
+
+never_done : (e0 : Engine) (q : Pending) → q.may_follow ≡ true → (input_expansion e0 q).reason ≡ Ends causes.Done → ⊥
+never_done e0 q f h =
+    let s : Expansion = expansion_of e0.limits (made_before e0) q in
+    open_goes_on (expand s) (expand (longer_level [] true s)) (law [] true s f) h
+
+by_flag : (b : Bool) → (b ≡ true → ⊥) → b ≡ false
+by_flag true h = absurd (h refl)
+by_flag false h = refl
+
+may_end : (b : Bool) (z : List ℕ) → (b ≡ false → z ≡ []) → MayFollow b z false
+may_end true z h = tt
+may_end false z h = (h refl, refl)
+
+-- the input of a file, and what may follow it
+taken_file : (name x : List ℕ) (before after : Option Script) (q : Pending) (z : List ℕ) (more : Bool) → Reads before after (unread_file name).pending x q → longer z more q ≡ file_pending name (x ++ z) more
+taken_file name x before after q z more r = ap (longer z more) r.in_hand
+
+-- a file was read to an end
+file_done : (e0 e1 : Engine) (any_missing : Bool) (name : List ℕ) (before after : Option Script) (w : Contents) → ReadSo e0 (unread_file name).pending before after (λ d. Expanded e0 e1 d causes.Done w) → FileDone name before after (session_of e0 any_missing None false) (session_of (at_rest e1) any_missing None false) w
+file_done e0 e1 any_missing name before after w r =
+    let still : (r.q).may_follow ≡ false = by_flag (r.q).may_follow (λ f. never_done e0 r.q f
+    (ap (λ (q : Pending). (input_expansion e0 q).reason) (sym (nothing_more r.q)) ∙ (r.so [] (r.q).may_follow (nothing_follows (r.q).may_follow)).reason)) in
+    let whole : r.q ≡ file_pending name r.x false = (r.reads).in_hand ∙ ap (λ (b : Bool). longer r.x b (unread_file name).pending) still in
+    let k : Expanded e0 e1 (input_expansion e0 r.q) causes.Done w = subst (λ (q : Pending). Expanded e0 e1 (input_expansion e0 q) causes.Done w) (nothing_more r.q) (r.so [] (r.q).may_follow (nothing_follows (r.q).may_follow)) in
+    (
+      r.x,
+      (r.reads).given,
+      (r.reads).at_end refl still,
+      input_done (session_of e0 any_missing None false) e0 e1 any_missing None causes.Done (input_expansion e0 (file_pending name r.x false)) w (record { over = refl; unfinished = refl }) refl (subst (λ (q : Pending). Expanded e0 e1 (input_expansion e0 q) causes.Done w) whole k) refl,
+      refl,
+    )
+
+-- what was read ended the run
+file_ended : (e0 e1 : Engine) (any_missing : Bool) (name : List ℕ) (cause : Cause) (before after : Option Script) (w : Contents) → how_over (Some cause) ≡ over_by cause → ReadSo e0 (unread_file name).pending before after (λ d. Expanded e0 e1 d cause w) → FileEnded name before after (session_of e0 any_missing None false) (session_of (at_rest e1) any_missing (Some cause) false) w cause
+file_ended e0 e1 any_missing name cause before after w o r = (
+  record {
+    x = r.x;
+    may_follow = (r.q).may_follow;
+    given = (r.reads).given;
+    at_end = λ e. (r.reads).at_end refl e;
+    so = λ z e. input_done (session_of e0 any_missing None false) e0 e1 any_missing (Some cause) cause (input_expansion e0 (file_pending name (r.x ++ z) false)) w (record { over = refl; unfinished = refl }) refl
+        (subst (λ (q : Pending). Expanded e0 e1 (input_expansion e0 q) cause w) (taken_file name r.x before after r.q z false r.reads) (r.so z false (may_end (r.q).may_follow z e))) o;
+  },
+  refl,
+)
+
+-- a file broke off
+file_broke : (e0 e1 : Engine) (any_missing : Bool) (name : List ℕ) (cause : Cause) (before after : Option Script) (w : Contents) → ReadSo e0 (unread_file name).pending before after (λ d. Broken d w) → FileBroke name before after (session_of e0 any_missing None false) (session_of (at_rest e1) any_missing (Some cause) false) w cause
+file_broke e0 e1 any_missing name cause before after w r = (
+  record {
+    x = r.x;
+    may_follow = (r.q).may_follow;
+    given = (r.reads).given;
+    at_end = λ e. (r.reads).at_end refl e;
+    so = λ z e. subst (λ (q : Pending). Broken (input_expansion e0 q) w) (taken_file name r.x before after r.q z false r.reads) (r.so z false (may_end (r.q).may_follow z e));
+  },
+  record { live = record { over = refl; unfinished = refl }; over = refl },
+)
+
+-- its reader failed
+file_fell : (e0 e1 : Engine) (any_missing : Bool) (name : List ℕ) (before after : Option Script) (w : Contents) → Fell e0 (unread_file name).pending before after w → FileFell name before after (session_of e0 any_missing None false) (session_of (at_rest e1) any_missing (Some causes.Read) false) w
+file_fell e0 e1 any_missing name before after w f = record {
+  x = f.x;
+  given = (f.reads).given;
+  at_fault = f.at_fault;
+  interrupted = record { live = record { over = refl; unfinished = refl }; over = refl };
+  reason = f.reason;
+  output = f.output;
+  messages = f.messages;
+}
+
+by_cause : (e0 e1 : Engine) (any_missing : Bool) (name : List ℕ) (cause : Cause) (before after : Option Script) (w : Contents) → Expands e0 e1 (unread_file name).pending before after w cause → FileGives name before after (session_of e0 any_missing None false) (session_of (at_rest e1) any_missing (over_after cause None) false) w (answer_by cause)
+by_cause e0 e1 any_missing name causes.Done before after w d = file_done e0 e1 any_missing name before after w d
+by_cause e0 e1 any_missing name (causes.Exited n) before after w d = file_ended e0 e1 any_missing name (causes.Exited n) before after w refl d
+by_cause e0 e1 any_missing name causes.EndInString before after w d = file_ended e0 e1 any_missing name causes.EndInString before after w refl d
+by_cause e0 e1 any_missing name causes.EndInComment before after w d = file_ended e0 e1 any_missing name causes.EndInComment before after w refl d
+by_cause e0 e1 any_missing name causes.EndInArguments before after w d = file_ended e0 e1 any_missing name causes.EndInArguments before after w refl d
+by_cause e0 e1 any_missing name causes.ExpansionLimit before after w d = file_ended e0 e1 any_missing name causes.ExpansionLimit before after w refl d
+by_cause e0 e1 any_missing name causes.NestingLimit before after w d = file_ended e0 e1 any_missing name causes.NestingLimit before after w refl d
+by_cause e0 e1 any_missing name (causes.Frozen f) before after w d = absurd d
+by_cause e0 e1 any_missing name causes.Read before after w d = file_fell e0 e1 any_missing name before after w d
+by_cause e0 e1 any_missing name causes.Write before after w d = file_broke e0 e1 any_missing name causes.Write before after w d
+by_cause e0 e1 any_missing name causes.OutOfMemory before after w d = file_broke e0 e1 any_missing name causes.OutOfMemory before after w d
 
 -- a session that goes on
 open_is : (old : SessionState) (e0 : Engine) (any_missing : Bool) (over : Option Cause) (finished : Bool) → old ≡ session_of e0 any_missing over finished → IsOpen old → (over ≡ None) × (finished ≡ false)
@@ -168,15 +228,10 @@ module _ (To : SessionState → SessionState → Result Unit Stop → Type 0) (o
       (subst (λ (x : SessionState). To (session_of e0 any_missing None false) x result) (sym v')
       (subst (To (session_of e0 any_missing None false) (session_of (at_rest e1) any_missing (over_after cause None) false)) (sym r) g))
 
--- a file that was read whole
-pub file_gives : (old new : SessionState) (e0 e1 e2 : Engine) (any_missing : Bool) (over : Option Cause) (finished : Bool) (name : List ℕ) (i0 i : Held) (before mid after : Option Script) (w : Contents) (cause : Cause) (result : Result Unit Stop) → old ≡ session_of e0 any_missing over finished → IsOpen old → i0 ≡ unread_file name → WholeGives before mid i0 i (Ok tt) → Expands e0 e1 i.pending mid after w cause → e2 ≡ at_rest e1 → new ≡ session_of e2 any_missing (over_after cause over) finished → result ≡ answer_by cause → FileGives name before after old new w result
-file_gives old new e0 e1 e2 any_missing over finished name i0 i before mid after w cause result o l n h d z v r =
-    let k = subst (λ (i0 : Held). WholeGives before mid i0 i (Ok tt)) n h in
-    let p : i.pending ≡ file_pending name k.0 false = whole_file name k.0 before mid i.pending k.1 k.2 in
-    let c = closed_expands e0 e1 i.pending mid after w cause k.2 d in
-    let g = by_cause e0 e1 any_missing name k.0 cause before mid i.pending w (k.1).given ((k.1).at_end refl k.2) p c.1 in
-    subst (λ (s : Option Script). FileGives name before s old new w result) (sym c.0)
-    (unchanged_session (λ a b x. FileGives name before mid a b w x) old new e0 e1 e2 any_missing over finished cause result o l z v r g)
+pub file_gives : (old new : SessionState) (e0 e1 e2 : Engine) (any_missing : Bool) (over : Option Cause) (finished : Bool) (name : List ℕ) (i : Held) (before after : Option Script) (w : Contents) (cause : Cause) (result : Result Unit Stop) → old ≡ session_of e0 any_missing over finished → IsOpen old → i ≡ unread_file name → Expands e0 e1 i.pending before after w cause → e2 ≡ at_rest e1 → new ≡ session_of e2 any_missing (over_after cause over) finished → result ≡ answer_by cause → FileGives name before after old new w result
+file_gives old new e0 e1 e2 any_missing over finished name i before after w cause result o l n d z v r =
+    unchanged_session (λ a b x. FileGives name before after a b w x) old new e0 e1 e2 any_missing over finished cause result o l z v r
+    (by_cause e0 e1 any_missing name cause before after w (subst (λ (h : Held). Expands e0 e1 h.pending before after w cause) n d))
 
 -- a round over saved texts
 module _ (old : SessionState) (e0 e1 : Engine) (any_missing : Bool) (p : Pending) (w : Contents) (l : IsOpen old) (e : e0.limits ≡ old.limits) where

@@ -1,9 +1,9 @@
 -- Session: a run between two of its calls, and what each call does to it.
 -- Believed. Manual: "Command line files", "Invoking m4".
--- Words: SessionState, progress_of, written, session_from, fresh_session, IsOpen, ReloadGives, Completed, FileGives,
+-- Words: SessionState, progress_of, written, session_from, fresh_session, IsOpen, ReloadGives, Completed, FileRead, FileEnded, FileFell, FileGives,
 -- MissingGives, EndGives, FinishGives, FreezeGives, BeginGives, IsBegun, ReadFails, ReloadFails, BeginFails, SparesBy, ByAnswer, WriteFails, MessageWriteFails.
 -- A session is a run's progress without the bytes that were written; these went to the writers.
-use Rattle.std.specs.Prelude.{◌≡◌, ◌≢◌, IfSome, ℕ, Bool, true, false, List, [], ◌∷◌, Option, Some, None, Result, Ok, Err, ◌⊎◌}
+use Rattle.std.specs.Prelude.{◌≡◌, ◌≢◌, IfSome, ℕ, Bool, true, false, List, [], ◌∷◌, ◌++◌, Option, Some, None, Result, Ok, Err, ◌⊎◌}
 use Rattle.m4_state.specs.State.{State, IsSized}
 use Rattle.m4_state.specs.Fresh.{fresh}
 use Rattle.m4_state.specs.Device.{Script, after_bytes, IsAtEnd, IsAtFault, with_bytes, HasBegun, one_more}
@@ -15,11 +15,12 @@ use Rattle.m4_engine.specs.declared.options.Options.{Options}
 use Rattle.m4_engine.specs.declared.source.Source.{Source as RunSource}
 use Rattle.m4_engine.specs.declared.stop.Stop.{Stop}
 use Rattle.m4_engine.specs.declared.stop.Stop.TheVariants as stops
-use Rattle.m4_engine.specs.Expansion.{Limits, EndReason, Ends}
+use Rattle.m4_engine.specs.Expansion.{Limits, EndReason, Ends, NeedsInput, Ended}
+use Rattle.m4_engine.specs.Expand.{expand_input}
 use Rattle.m4_engine.specs.RunSources.{AllPairs, HasFailed, is_sound, AnyFailed}
 use Rattle.m4_engine.specs.Start.{Start, From, Faulty, IsStart}
 use Rattle.m4_engine.specs.Writers.{Contents, Failures, Three, NoneFailed, OneFailed, ByCause, Broken, IsSpared, Spares}
-use Rattle.m4_engine.specs.File.{Opened, Unopened, Progress, file, after_source, cannot_open}
+use Rattle.m4_engine.specs.File.{Opened, Unopened, Progress, file, file_pending, after_source, cannot_open}
 use Rattle.m4_engine.specs.Wraps.{read_saved, after_wraps}
 use Rattle.m4_engine.specs.Run.{limits_of, status_of, closed_output, result_of}
 
@@ -97,33 +98,58 @@ pub record Interrupted (old new : SessionState) (cause : Cause) : Type 0 where
   pub live : IsOpen old
   pub over : new.over ≡ Some cause
 
--- a file was read, whose reader delivered x
-abbrev pub FileDone : List ℕ → Option Script → Option Script → SessionState → SessionState → Contents → Option Cause → Type 0
-FileDone name before after old new w over =
+-- a file was read to its end: its reader delivered x
+abbrev pub FileDone : List ℕ → Option Script → Option Script → SessionState → SessionState → Contents → Type 0
+FileDone name before after old new w =
     (x : List ℕ) × (before ≡ after_bytes x after) × IsAtEnd after
-    × Completed old new (after_source old.limits (Opened name x) (progress_of old)) w × (new.over ≡ over)
+    × Completed old new (after_source old.limits (Opened name x) (progress_of old)) w × (new.over ≡ None)
 
--- a file wasn't read, or only prefixes of its output and messages were written
+-- the reader delivered x; P is so of x and of whatever follows it, which is nothing if the reader was found at its end
+pub record FileRead (before after : Option Script) (P : List ℕ → Type 0) : Type 0 where
+  pub x : List ℕ
+  pub may_follow : Bool
+  pub given : before ≡ after_bytes x after
+  pub at_end : may_follow ≡ false → IsAtEnd after
+  pub so : (z : List ℕ) → (may_follow ≡ false → z ≡ []) → P (x ++ z)
+
+-- the bytes that were read end the run, whatever follows them
+abbrev pub FileEnded : List ℕ → Option Script → Option Script → SessionState → SessionState → Contents → Cause → Type 0
+FileEnded name before after old new w cause =
+    FileRead before after (λ bytes. Completed old new (after_source old.limits (Opened name bytes) (progress_of old)) w)
+    × (new.over ≡ Some cause)
+
+-- prefixes of a file's output and messages were written, whatever follows
 abbrev pub FileBroke : List ℕ → Option Script → Option Script → SessionState → SessionState → Contents → Cause → Type 0
 FileBroke name before after old new w cause =
-    (x : List ℕ) × (before ≡ after_bytes x after) × Interrupted old new cause
-    × (Silent w ⊎ (IsAtEnd after
-    × Broken (file old.limits (progress_of old).so_far name x) w))
+    FileRead before after (λ bytes. Broken (file old.limits (progress_of old).so_far name bytes) w) × Interrupted old new cause
+
+-- the part of a file that its first bytes settle
+abbrev pub settled_part : SessionState → List ℕ → List ℕ → Ended
+settled_part old name x = expand_input old.limits (progress_of old).so_far (file_pending name x true)
+
+-- the reader delivered x and failed: what x settles was written, and nothing else
+pub record FileFell (name : List ℕ) (before after : Option Script) (old new : SessionState) (w : Contents) : Type 0 where
+  pub x : List ℕ
+  pub given : before ≡ after_bytes x after
+  pub at_fault : IsAtFault after
+  pub interrupted : Interrupted old new causes.Read
+  pub reason : (settled_part old name x).reason ≡ NeedsInput
+  pub output : w.out_new ≡ with_bytes w.out_old ((settled_part old name x).so_far).output
+  pub messages : w.messages_new ≡ with_bytes w.messages_old ((settled_part old name x).so_far).messages
 
 -- a file: it is read to its end, or the run ends
 abbrev pub FileGives : List ℕ → Option Script → Option Script → SessionState → SessionState → Contents → Result Unit Stop → Type 0
-FileGives name before after old new w (Ok done) = FileDone name before after old new w None
+FileGives name before after old new w (Ok done) = FileDone name before after old new w
 FileGives name before after old new w (Err stops.Finished) = Refused old new w × (after ≡ before)
 FileGives name before after old new w (Err (stops.Ended causes.Done)) = ⊥
 FileGives name before after old new w (Err (stops.Ended (causes.Frozen fault))) = ⊥
-FileGives name before after old new w (Err (stops.Ended causes.Read)) =
-    (x : List ℕ) × (before ≡ after_bytes x after) × IsAtFault after × Interrupted old new causes.Read × Silent w
+FileGives name before after old new w (Err (stops.Ended causes.Read)) = FileFell name before after old new w
 FileGives name before after old new w (Err (stops.Ended causes.Write)) =
     FileBroke name before after old new w causes.Write
 FileGives name before after old new w (Err (stops.Ended causes.OutOfMemory)) =
     FileBroke name before after old new w causes.OutOfMemory
 FileGives name before after old new w (Err (stops.Ended cause)) =
-    FileDone name before after old new w (Some cause)
+    FileEnded name before after old new w cause
 
 -- by a result: one writer failed if the run ends by a write fault, and otherwise none did
 abbrev pub ByAnswer : {A : Type 0} → Result A Stop → Type 0 → Type 0 → Type 0

@@ -12,7 +12,6 @@ use crate::stop::Stop;
 use m4_frozen::fault::WriteFault;
 use m4_frozen::reading::read_frozen;
 use m4_frozen::writer::write_frozen;
-use m4_input::fault::InputFault;
 use m4_input::input::Input;
 use m4_state::bytes::Bytes;
 use m4_state::device::{ByteSink, ByteSource, DeviceFault};
@@ -132,8 +131,8 @@ impl Session {
         self.finished = true;
     }
 
-    /// Reads a file to its end and expands it. Returns `Ended(Read)` if the reader fails; then nothing of the file
-    /// was expanded. `Ended(Write)` and `Ended(OutOfMemory)` follow prefixes of its output and messages.
+    /// Expands a file, block by block. Returns `Ended(Read)` if the reader fails, after the output and messages that the
+    /// bytes before its fault settle. `Ended(Write)` and `Ended(OutOfMemory)` follow prefixes of its output and messages.
     pub fn file<R: ByteSource, O: ByteSink, M: ByteSink>(
         &mut self,
         name: Bytes,
@@ -155,11 +154,6 @@ impl Session {
             return Err(Stop::Finished);
         }
         let mut input = Input::file(self.machine.alloc(), name);
-        match input.read_whole(reader) {
-            Ok(()) => {}
-            Err(InputFault::Read) => return Err(self.end(Cause::Read)),
-            Err(_) => return Err(self.end(Cause::OutOfMemory)),
-        }
         let cause = self.machine.expand(&mut input, reader, out, messages);
         self.machine.rest();
         self.settle(cause)
