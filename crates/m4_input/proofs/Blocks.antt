@@ -30,7 +30,7 @@ pub record HasRead (before after : Option Script) (old new : Held) (x : List ℕ
 pub none_read : (s : Option Script) (h : Held) → (h.pending).may_follow ≡ true → h.fault ≡ None → HasRead s s h h []
 none_read s h e f = record { reads = reads_nothing s h.pending; may = e; first = f; sound = f }
 
-no_bytes : (x : List ℕ) → nat_lt 0 (length x) ≡ false → x ≡ []
+pub no_bytes : (x : List ℕ) → nat_lt 0 (length x) ≡ false → x ≡ []
 no_bytes [] e = refl
 no_bytes (b ∷ x) e = let n : 0 < length (b ∷ x) = omega arith in absurd (grind (arith, nat_tests))
 

@@ -6,6 +6,7 @@ pub mod Lines
 pub mod Calls
 pub mod Decided
 pub mod Blocks
+pub mod TokenBlocks
 pub mod PlainRuns
 pub mod Pieces
 pub mod ShortQuotes

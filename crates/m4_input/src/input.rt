@@ -61,7 +61,7 @@ impl Drop for Input {
 
 impl Input {
     ghost use Rattle.m4_input.specs.Input.{Held, IsLasting, unread_file, wrapped_text, with_pushed, all_read, NextGives, ParenGives, SkipGives, WholeGives, failures_after};
-    ghost use Rattle.m4_input.specs.Blocks.{BlockGives, LooksAt, ListGives, LineGives};
+    ghost use Rattle.m4_input.specs.Blocks.{BlockGives, TokenGives, LooksAt, ListGives, LineGives};
     ghost use Rattle.m4_input.specs.Text.{LiesIn};
     ghost use Rattle.m4_input.specs.InputView.{fault_of, Fills};
 
@@ -289,6 +289,30 @@ impl Input {
             }
             Err(fault) => Err(self.stop(fault)),
         }
+    }
+
+    /// Asks the reader for a block, and for further ones while they leave the first token open. Returns `Read` if
+    /// the reader fails and `OutOfMemory` if an allocation fails; no byte is lost then, and each later call
+    /// returns the fault. Takes time in proportion to the bytes in hand and those that come.
+    pub fn more_of_token<R: ByteSource>(
+        &mut self,
+        reader: &mut R,
+        delims: &Delims<'_>,
+    ) -> Result<(), InputFault>
+        requires open { self.old.pending.may_follow ≡ true }
+        requires sound { self.old.fault ≡ None }
+        // exact steps: blocks of the reader after the bytes in hand, or its end; a further one only where the first
+        // token was open
+        ensures gives { TokenGives (pair_of delims.now.quotes) (pair_of delims.now.comments)
+            (R.script reader.old) (R.script reader.new) self.old self.new result }
+        // the reader is at its end, or bytes came, which they do only so many times
+        ensures falls { result ≡ Ok tt → self.new.pending.may_follow ≡ true
+            → R.takes_left reader.new < R.takes_left reader.old }
+        ensures counted { R.failures reader.new
+            ≡ failures_after self.old.fault self.new.fault (R.failures reader.old) }
+    {
+        let _came = self.more(reader)?;
+        Ok(())
     }
 
     /// Removes the definition that comes before the bytes in hand, if there is one, and returns it.

@@ -1,0 +1,67 @@
+-- TokenBlocks: blocks that are asked for while the first token is open.
+use Rattle.std.proofs.Common.{◌≡◌, inl, ◌<◌, ℕ, Bool, true, false, List, [], ◌∷◌, ◌++◌, length, Option, Some, None, refl, sym, ap, ◌∙◌, subst, append_assoc}
+use Rattle.std.specs.Prelude.{nat_lt, Ok, Err}
+use Rattle.std.proofs.lemmas.List.{append-nil}
+use Rattle.m4_state.specs.Device.{Script, after_bytes}
+use Rattle.m4_state.proofs.CallerLaws.{after_bytes-append}
+use Rattle.m4_state.specs.declared.delimiters.Delimiters.{Delimiters}
+use Rattle.m4_input.specs.declared.fault.InputFault.{InputFault}
+use Rattle.m4_input.specs.declared.fault.InputFault.TheVariants as faults
+use Rattle.m4_input.specs.Pending.{Pending}
+use Rattle.m4_input.specs.Input.{Held, longer, Reads}
+use Rattle.m4_input.specs.Blocks.{BlockGives, IsOpenAfter, TokenBlocks, TokenStops, TokenGives}
+use Rattle.m4_input.proofs.Blocks.{HasRead, none_read, no_bytes}
+
+-- x came, and leaves the first token open
+pub record HasCome (q c : Delimiters) (before after : Option Script) (old new : Held) (x : List ℕ) : Type 0 where
+  pub read : HasRead before after old new x
+  pub undecided : IsOpenAfter q c old.pending x
+
+pub none_came : (q c : Delimiters) (s : Option Script) (h : Held) → (h.pending).may_follow ≡ true → h.fault ≡ None → HasCome q c s s h h []
+none_came q c s h e f = record { read = none_read s h e f; undecided = inl refl }
+
+-- a question more
+pub come_more : (q c : Delimiters) (s a b : Option Script) (old h new : Held) (x : List ℕ) (came : Bool) → HasCome q c s a old h x → BlockGives a b h new (Ok came) → TokenGives q c s b old new (Ok tt)
+come_more q c s a b old h new x came r g =
+    let y : List ℕ = g.0 in
+    let was : (old.pending).may_follow ≡ true = r.read.reads.still r.read.may in
+    let now : new.pending ≡ longer y came h.pending = ap (λ (k : Held). k.pending) g.5 in
+    let flag : (new.pending).may_follow ≡ came = ap (λ (p : Pending). p.may_follow) now in
+    let both : longer y came h.pending ≡ longer (x ++ y) came old.pending =
+    ap (longer y came) r.read.reads.in_hand
+    ∙ ap (λ (z : List ℕ). let p : Pending = record old.pending { unread = z; may_follow = came } in p) (append_assoc (old.pending).unread x y) in (
+      x ++ y,
+      record {
+        given = r.read.reads.given ∙ ap (after_bytes x) g.1 ∙ after_bytes-append x y b;
+        in_hand = now ∙ both ∙ ap (λ (v : Bool). longer (x ++ y) v old.pending) (sym flag);
+        still = λ e. was;
+        at_end = λ e f. g.4 (no_bytes y (sym g.3 ∙ sym flag ∙ f));
+        closed = λ e. let no : true ≡ false = sym was ∙ e in cc;
+      },
+      record { front = x; last = y; parts = refl; within = g.2; undecided = r.undecided },
+      (λ e. subst (IsOpenAfter q c old.pending) (sym (ap (λ (z : List ℕ). x ++ z) (no_bytes y (sym g.3 ∙ sym flag ∙ e)) ∙ append-nil x)) r.undecided),
+      ap (λ (k : Held). k.fault) g.5 ∙ r.read.sound,
+    )
+
+-- a question that failed
+pub come_stops : (q c : Delimiters) (s a b : Option Script) (old h new : Held) (x : List ℕ) (f : InputFault) → HasCome q c s a old h x → BlockGives a b h new (Err f) → TokenGives q c s b old new (Err f)
+come_stops q c s a b old h new x (faults.EndInString line) r g = absurd g
+come_stops q c s a b old h new x (faults.EndInComment line) r g = absurd g
+come_stops q c s a b old h new x faults.Read r g = (stops faults.Read g.0 g.2, g.1)
+  where
+    stops : (f : InputFault) → b ≡ a → new ≡ record h { fault = Some f } → TokenStops q c s b old new f
+    stops f e n = record {
+      x = x;
+      given = r.read.reads.given ∙ ap (after_bytes x) (sym e);
+      undecided = r.undecided;
+      stopped = n ∙ ap (λ (p : Pending). let i : Held = record { pending = p; fault = Some f } in i) (r.read.reads.in_hand ∙ ap (λ (v : Bool). longer x v old.pending) r.read.may);
+    }
+come_stops q c s a b old h new x faults.OutOfMemory r g = stops faults.OutOfMemory g.0 g.1
+  where
+    stops : (f : InputFault) → b ≡ a → new ≡ record h { fault = Some f } → TokenStops q c s b old new f
+    stops f e n = record {
+      x = x;
+      given = r.read.reads.given ∙ ap (after_bytes x) (sym e);
+      undecided = r.undecided;
+      stopped = n ∙ ap (λ (p : Pending). let i : Held = record { pending = p; fault = Some f } in i) (r.read.reads.in_hand ∙ ap (λ (v : Bool). longer x v old.pending) r.read.may);
+    }
