@@ -7,6 +7,7 @@ pub mod Calls
 pub mod Decided
 pub mod Blocks
 pub mod TokenBlocks
+pub mod OpenTokens
 pub mod PlainRuns
 pub mod Pieces
 pub mod ShortQuotes

@@ -74,7 +74,7 @@ begins_none (b ∷ p) (c ∷ x) z e f =
       | false ↦ λ g e'. refl
     ]) refl e
 
-long_not_cut : (x p : List ℕ) → length p ≤ length x → is_cut x p ≡ false
+pub long_not_cut : (x p : List ℕ) → length p ≤ length x → is_cut x p ≡ false
 long_not_cut x p h = false_from _ (λ e. let l : length x < length p = true_lt _ _ ((and_true (begins x p) _ e).1) in omega arith)
 
 begins_long : (p x : List ℕ) → begins p x ≡ true → length p ≤ length x
@@ -136,7 +136,7 @@ both_false true a b e f = rw (e, f) refl
 both_false false a b e f = refl
 
 -- a mark that an open end decides
-mark_stays : (q : Delimiters) (p : Bool) (y z : List ℕ) → (mark_at q true y ≡ CutQuote) ⊎ (mark_at q p (y ++ z) ≡ mark_at q true y)
+pub mark_stays : (q : Delimiters) (p : Bool) (y z : List ℕ) → (mark_at q true y ≡ CutQuote) ⊎ (mark_at q p (y ++ z) ≡ mark_at q true y)
 mark_stays q p y z = go (begins q.end y) (is_cut y q.end || is_cut y q.begin) (begins q.begin y) refl refl refl
   where
     go : (u v w : Bool) → begins q.end y ≡ u → (is_cut y q.end || is_cut y q.begin) ≡ v → begins q.begin y ≡ w → (mark_by u v w ≡ CutQuote) ⊎ (mark_at q p (y ++ z) ≡ mark_by u v w)
@@ -243,7 +243,7 @@ name_stays p x z = go (eqb (run_length is_name_byte x) (length x)) refl
         off true e = e
         off false e = refl
 
-front_stays : (q c : Delimiters) (p : Bool) (b : ℕ) (y z : List ℕ) → (kind_of q c true b y ≡ Undecided) ⊎ (kind_of q c p b (y ++ z) ≡ kind_of q c true b y)
+pub front_stays : (q c : Delimiters) (p : Bool) (b : ℕ) (y z : List ℕ) → (kind_of q c true b y ≡ Undecided) ⊎ (kind_of q c p b (y ++ z) ≡ kind_of q c true b y)
 front_stays q c p b y z = go (starts_with c (b ∷ y)) (may_start c true (b ∷ y)) (is_letter b) (starts_with q (b ∷ y)) (may_start q true (b ∷ y)) (starts c) (starts q) (may c) (may q)
   where
     starts : (d : Delimiters) → (starts_with d (b ∷ y) ≡ true → starts_with d (b ∷ (y ++ z)) ≡ true) × (starts_with d (b ∷ y) ≡ false → may_start d true (b ∷ y) ≡ false → starts_with d (b ∷ (y ++ z)) ≡ false)

@@ -8,6 +8,7 @@ use Rattle.std.specs.Prelude.{◌==◌, nat_lt, slice_get, slice_index_or, IfSom
 use Rattle.m4_input.specs.declared.front.Mark.{Mark}
 use Rattle.m4_input.specs.declared.front.Mark.TheVariants.{EndQuote, BeginQuote, PlainByte, CutQuote}
 use Rattle.m4_input.specs.Pending.{one_more}
+pub use Rattle.m4_input.specs.OpenToken.{further}
 use Rattle.m4_input.specs.Token.{begins, before, level, mark_at, mark_by}
 
 -- the byte at a place, and the bytes after it
@@ -30,11 +31,6 @@ got_some x k (Some b) e = rw add-one (got x k b (sym e))
 pub got_none : (x : List ℕ) (k : ℕ) (o : Option ℕ) → o ≡ slice_get x k → IfNone o (drop k x ≡ [])
 got_none x k None e = got_nothing x k (sym e)
 got_none x k (Some b) e = tt
-
--- so many bytes further
-abbrev pub further : ℕ → Option ℕ → Option ℕ
-further n None = None
-further n (Some m) = Some (n + m)
 
 pub before_step : (e x : List ℕ) (b : ℕ) → begins e (b ∷ x) ≡ false → before e (b ∷ x) ≡ one_more (before e x)
 before_step e x b h = rw (h, before) refl
@@ -84,7 +80,7 @@ on_mark q p n y CutQuote = None
 pub level_at : (q : Delimiters) (p : Bool) (n b : ℕ) (y : List ℕ) (m : Mark) → mark_at q p (b ∷ y) ≡ m → level q p n 0 (b ∷ y) ≡ on_mark q p n y m
 level_at q p n b y m e = ap (on_mark q p n y) e
 
-one_further : (n m : ℕ) (o : Option ℕ) → m ≡ suc n → one_more (further n o) ≡ further m o
+pub one_further : (n m : ℕ) (o : Option ℕ) → m ≡ suc n → one_more (further n o) ≡ further m o
 one_further n m None e = refl
 one_further n m (Some i) e = ap Some (omega arith)
 
@@ -97,13 +93,13 @@ pub passed_mark : (q : Delimiters) (p : Bool) (n d : ℕ) (b : ℕ) (y : List �
 passed_mark q p n zero b y h g = absurd (omega arith)
 passed_mark q p n (suc d) b y h g = let e : suc d - 1 ≡ d = omega arith in ap (λ i. one_more (level q p n i y)) e ∙ (ap one_more (level_skip q p n d y (omega arith)) ∙ one_further d (suc d) (level q p n 0 (drop d y)) refl)
 
-mark_down : (u v w : Bool) → EndQuote ≡ mark_by u v w → u ≡ true
+pub mark_down : (u v w : Bool) → EndQuote ≡ mark_by u v w → u ≡ true
 mark_down true v w e = refl
 mark_down false true w e = cc
 mark_down false false true e = cc
 mark_down false false false e = cc
 
-mark_up : (u v w : Bool) → BeginQuote ≡ mark_by u v w → w ≡ true
+pub mark_up : (u v w : Bool) → BeginQuote ≡ mark_by u v w → w ≡ true
 mark_up true v w e = cc
 mark_up false true w e = cc
 mark_up false false true e = refl

@@ -27,7 +27,7 @@ module _ (b e : ℕ) (m : Bool) where
   abbrev q : Delimiters
   q = record { begin = b ∷ []; end = e ∷ [] }
 
-  same_mark : (c : ℕ) (y : List ℕ) → mark_at q m (c ∷ y) ≡ mark_at q false (c ∷ y)
+  pub same_mark : (c : ℕ) (y : List ℕ) → mark_at q m (c ∷ y) ≡ mark_at q false (c ∷ y)
   same_mark c y =
       ap (λ v. mark_by (begins (e ∷ []) (c ∷ y)) v (begins (b ∷ []) (c ∷ y)))
       (and_false m _ (neither _ _ (not_cut e c y) (not_cut b c y)))

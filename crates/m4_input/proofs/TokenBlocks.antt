@@ -1,16 +1,22 @@
 -- TokenBlocks: blocks that are asked for while the first token is open.
-use Rattle.std.proofs.Common.{◌≡◌, inl, ◌<◌, ℕ, Bool, true, false, List, [], ◌∷◌, ◌++◌, length, Option, Some, None, refl, sym, ap, ◌∙◌, subst, append_assoc}
-use Rattle.std.specs.Prelude.{nat_lt, Ok, Err}
+use Rattle.std.proofs.Common.{◌≡◌, inl, inr, ℕ, Bool, true, false, List, [], ◌++◌, Option, Some, None, refl, sym, ap, ◌∙◌, subst, append_assoc}
+use Rattle.std.specs.Prelude.{Ok, Err}
 use Rattle.std.proofs.lemmas.List.{append-nil}
 use Rattle.m4_state.specs.Device.{Script, after_bytes}
 use Rattle.m4_state.proofs.CallerLaws.{after_bytes-append}
 use Rattle.m4_state.specs.declared.delimiters.Delimiters.{Delimiters}
 use Rattle.m4_input.specs.declared.fault.InputFault.{InputFault}
 use Rattle.m4_input.specs.declared.fault.InputFault.TheVariants as faults
-use Rattle.m4_input.specs.Pending.{Pending}
-use Rattle.m4_input.specs.Input.{Held, longer, Reads}
-use Rattle.m4_input.specs.Blocks.{BlockGives, IsOpenAfter, TokenBlocks, TokenStops, TokenGives}
-use Rattle.m4_input.proofs.Blocks.{HasRead, none_read, no_bytes}
+use Rattle.m4_state.specs.declared.definition.Def.{Def}
+use Rattle.m4_input.specs.declared.front.Scan.TheVariants.{NeedsMore}
+use Rattle.m4_input.specs.declared.open_token.OpenToken.{OpenToken}
+use Rattle.m4_input.specs.Pending.{Pending, text_of}
+use Rattle.m4_input.specs.Token.{front_by, front_from, scan}
+use Rattle.m4_input.specs.Input.{Held, longer, wants_token}
+use Rattle.m4_input.specs.OpenToken.{IsOpenAt}
+use Rattle.m4_input.specs.Blocks.{BlockGives, IsOpenAfter, TokenStops, TokenGives}
+use Rattle.m4_input.proofs.Blocks.{HasRead, none_read, block_follows, no_bytes}
+use Rattle.m4_input.proofs.OpenTokens.{longer_open}
 
 -- x came, and leaves the first token open
 pub record HasCome (q c : Delimiters) (before after : Option Script) (old new : Held) (x : List ℕ) : Type 0 where
@@ -42,6 +48,34 @@ come_more q c s a b old h new x came r g =
       (λ e. subst (IsOpenAfter q c old.pending) (sym (ap (λ (z : List ℕ). x ++ z) (no_bytes y (sym g.3 ∙ sym flag ∙ e)) ∙ append-nil x)) r.undecided),
       ap (λ (k : Held). k.fault) g.5 ∙ r.read.sound,
     )
+
+-- the bytes in hand leave the first token open
+wants_so : (q c : Delimiters) (p : Pending) → p.definition ≡ None → p.may_follow ≡ true → scan q c true (text_of p) ≡ NeedsMore → wants_token q c p
+wants_so q c p n m e =
+    ap (λ (o : Option Def). front_from o q c p) n
+    ∙ ap (λ (v : Bool). front_by p (scan q c v (text_of p))) m
+    ∙ ap (front_by p) e
+
+-- a block came
+module _ (q c : Delimiters) (s a b : Option Script) (old h new : Held) (x : List ℕ) (came : Bool) (r : HasCome q c s a old h x) (none : (h.pending).definition ≡ None) (g : BlockGives a b h new (Ok came)) where
+  in_hand : new.pending ≡ longer g.0 came h.pending
+  in_hand = ap (λ (k : Held). k.pending) g.5
+
+  pub still_none : (new.pending).definition ≡ None
+  still_none = ap (λ (p : Pending). p.definition) in_hand ∙ none
+
+  -- the token that was open may still be
+  pub open_then : (o : OpenToken) → IsOpenAt q c o (text_of h.pending) → IsOpenAt q c o (text_of new.pending)
+  open_then o i =
+      subst (IsOpenAt q c o) (sym (ap text_of in_hand ∙ sym (append_assoc (h.pending).pushed (h.pending).unread g.0))) (longer_open q c o (text_of h.pending) g.0 i)
+
+  pub come_open : came ≡ true → scan q c true (text_of new.pending) ≡ NeedsMore → (y : List ℕ) × HasCome q c s b old new y
+  come_open e i =
+      let k = block_follows s a b old h new x r.read (subst (λ (v : Bool). BlockGives a b h new (Ok v)) e g) in
+      let p : new.pending ≡ longer k.0 true old.pending = (k.1).reads.in_hand ∙ ap (λ (v : Bool). longer k.0 v old.pending) (k.1).may in (
+        k.0,
+        record { read = k.1; undecided = inr (subst (wants_token q c) p (wants_so q c new.pending still_none (k.1).may i)) },
+      )
 
 -- a question that failed
 pub come_stops : (q c : Delimiters) (s a b : Option Script) (old h new : Held) (x : List ℕ) (f : InputFault) → HasCome q c s a old h x → BlockGives a b h new (Err f) → TokenGives q c s b old new (Err f)

@@ -7,6 +7,7 @@ pub mod Paren
 pub mod Input
 pub mod Blocks
 pub mod Text
+pub mod OpenToken
 pub mod PieceView
 pub mod TextView
 pub mod InputView

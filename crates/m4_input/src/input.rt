@@ -15,6 +15,7 @@ ghost use Rattle.m4_input.specs.Pending.{consumed, line_of, name_of, text_of};
 use crate::delims::Delims;
 use crate::fault::InputFault;
 use crate::front::{Answer, Scan, Unended};
+use crate::open_token::OpenToken;
 use crate::pushed::Pushed;
 use crate::text::Text;
 use crate::token::Token;
@@ -63,6 +64,7 @@ impl Input {
     ghost use Rattle.m4_input.specs.Input.{Held, IsLasting, unread_file, wrapped_text, with_pushed, all_read, NextGives, ParenGives, SkipGives, WholeGives, failures_after};
     ghost use Rattle.m4_input.specs.Blocks.{BlockGives, TokenGives, LooksAt, ListGives, LineGives};
     ghost use Rattle.m4_input.specs.Text.{LiesIn};
+    ghost use Rattle.m4_input.specs.OpenToken.{IsOpenAt};
     ghost use Rattle.m4_input.specs.InputView.{fault_of, Fills};
 
     /// Creates the input of a file that is read from its start.
@@ -311,8 +313,31 @@ impl Input {
         ensures counted { R.failures reader.new
             ≡ failures_after self.old.fault self.new.fault (R.failures reader.old) }
     {
-        let _came = self.more(reader)?;
-        Ok(())
+        let Some(first) = self.open_token(delims) else {
+            let _came = self.more(reader)?;
+            return Ok(());
+        };
+        let mut token = first;
+        'blocks: loop {
+            if !self.more(reader)? {
+                return Ok(());
+            }
+            match self.text.window().still_open(token, delims) {
+                Some(longer) => token = longer,
+                None => return Ok(()),
+            }
+        }
+    }
+
+    /// Returns the first token of the bytes in hand if it may go on in bytes that follow.
+    fn open_token(&self, delims: &Delims<'_>) -> Option<OpenToken>
+        ensures { IfSome result (λ o. (self.now.pending.definition ≡ None)
+            × IsOpenAt (pair_of delims.now.quotes) (pair_of delims.now.comments) o (text_of self.now.pending)) }
+    {
+        if self.definition.is_some() {
+            return None;
+        }
+        self.text.window().open_token(delims)
     }
 
     /// Removes the definition that comes before the bytes in hand, if there is one, and returns it.

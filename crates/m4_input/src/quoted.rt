@@ -1,7 +1,8 @@
 //! Searches in contiguous bytes: for the end of a string whose quotes are one byte each, and for a byte.
 //! Manual: "Quoted strings".
 
-ghost use Rattle.std.specs.Prelude.{◌≡◌, ◌≢◌, ◌+◌, ◌≤◌, ◌∷◌, [], List, ℕ, false, IfSome, IfNone, length};
+ghost use Rattle.std.specs.Prelude.{◌≡◌, ◌≢◌, ◌+◌, ◌^◌, ◌<◌, ◌≤◌, ◌∷◌, [], List, ℕ, false, IfSome, IfNone, length};
+ghost use Rattle.m4_input.specs.OpenToken.{Follows};
 ghost use Rattle.m4_input.specs.Token.{before, level, mark_at};
 
 use crate::front::Mark;
@@ -28,30 +29,51 @@ fn mark_of(byte: u8, begin: u8, end: u8) -> Mark
     }
 }
 
-/// Counts the bytes before the end-quote that closes the string. Not inlined, so that the loop has the
-/// registers for itself.
+/// Where a string is after a text.
+#[derive(Clone, Copy, Debug, PartialEq, Eq)]
+pub enum Followed {
+    /// It ends in the text: so many bytes come before the end-quote that closes it.
+    Ends(usize),
+    /// It goes on: so many nested strings are open after the text.
+    Open(usize),
+}
+
+/// Follows a string through a text, before which `depth` nested strings are open. Not inlined, so that the loop
+/// has the registers for itself.
 #[inline(never)]
-pub fn quoted_len(text: &[u8], begin: u8, end: u8) -> Option<usize>
-    ensures value { result ≡ level (record { begin = begin ∷ []; end = end ∷ [] }) false 0 0 text.now }
-    ensures within { IfSome result (λ n. n + 1 ≤ length text.now) }
+pub fn follow_quoted(text: &[u8], depth: usize, begin: u8, end: u8) -> Followed
+    requires { depth + length text.now < 2 ^ 64 }
+    ensures { Follows (record { begin = begin ∷ []; end = end ∷ [] }) depth text.now result }
 {
-    let mut open = 0usize;
+    let mut nested = depth;
     let mut k = 0usize;
     'places: while let Some(byte) = text.get(k) {
         match mark_of(*byte, begin, end) {
             Mark::EndQuote => {
-                if open == 0 {
-                    return Some(k);
+                if nested == 0 {
+                    return Followed::Ends(k);
                 }
-                open -= 1;
+                nested -= 1;
             }
-            Mark::BeginQuote => open += 1,
+            Mark::BeginQuote => nested += 1,
             Mark::PlainByte => {}
-            Mark::CutQuote => return None,
+            // A quote of one byte is never cut.
+            Mark::CutQuote => unreachable!(),
         }
         k += 1;
     }
-    None
+    Followed::Open(nested)
+}
+
+/// Counts the bytes before the end-quote that closes the string.
+pub fn quoted_len(text: &[u8], begin: u8, end: u8) -> Option<usize>
+    ensures value { result ≡ level (record { begin = begin ∷ []; end = end ∷ [] }) false 0 0 text.now }
+    ensures within { IfSome result (λ n. n + 1 ≤ length text.now) }
+{
+    match follow_quoted(text, 0, begin, end) {
+        Followed::Ends(len) => Some(len),
+        Followed::Open(_) => None,
+    }
 }
 
 /// Counts the bytes before the first such byte.

@@ -20,7 +20,7 @@ type Pair<'a> = (&'a [u8], &'a [u8]);
 
 impl<'a> Window<'a> {
     /// Returns the mark at a place in a string.
-    fn mark(&self, at: usize, quotes: &Pair<'_>, may_follow: bool) -> Mark
+    pub fn mark(&self, at: usize, quotes: &Pair<'_>, may_follow: bool) -> Mark
         requires { at ≤ length self.now }
         ensures value { result ≡ mark_at (pair_of quotes.now) may_follow (drop at self.now) }
         ensures ends { result ≡ Mark.EndQuote → at + length quotes.now.1.now ≤ length self.now }

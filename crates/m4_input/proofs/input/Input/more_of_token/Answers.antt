@@ -1,0 +1,57 @@
+use Rattle.std.proofs.Common.{◌≡◌, ◌<◌, ◌≤◌, ℕ, Bool, true, None, Ok, sym, ap, ◌∙◌, subst, arith}
+use Rattle.m4_input.specs.DelimsView.{pair_of}
+use Rattle.m4_input.specs.Pending.{text_of}
+use Rattle.m4_input.specs.Token.{scan}
+use Rattle.m4_input.specs.Input.{Held, failures_after}
+use Rattle.m4_input.specs.OpenToken.{IsOpenAt}
+use Rattle.m4_input.proofs.TokenBlocks.{come_more, open_then, still_none, come_open}
+use Rattle.m4_input.proofs.input.Input.more_of_token.Goals as goal
+
+-- the token that was open, in the bytes in hand with the block
+pub still_open-requires : goal.still_open-requires
+still_open-requires g c =
+    let q = pair_of c.args.delims.now.quotes in
+    let d = pair_of c.args.delims.now.comments in
+    let i = c.blocks-2.invariant in
+    let o : IsOpenAt q d c.blocks-2.token (text_of c.more-in-blocks-2.new.self.pending) =
+    open_then q d (g.R.ByteSource.script c.args.reader.now) (g.R.ByteSource.script c.blocks-2.reader) (g.R.ByteSource.script c.more-in-blocks-2.new.reader)
+    c.args.self.now c.blocks-2.self c.more-in-blocks-2.new.self i.0.0 c.in_ok-more.field-0 i.0.1 i.1 c.in_ok-more.ensures.gives c.blocks-2.token i.2 in
+    subst (IsOpenAt q d c.blocks-2.token) (sym (c.window.ensures ∙ ap (λ (h : Held). text_of h.pending) c.self.view_is)) o
+
+pub blocks-2-preserved : goal.blocks-2-preserved
+blocks-2-preserved g c =
+    let q = pair_of c.args.delims.now.quotes in
+    let d = pair_of c.args.delims.now.comments in
+    let i = c.blocks-2.invariant in
+    let n : ℕ = g.R.ByteSource.failures c.blocks-2.reader in
+    let new : Held = c.more-in-blocks-2.new.self in
+    let text : c.window.result ≡ text_of new.pending = c.window.ensures ∙ ap (λ (h : Held). text_of h.pending) c.self.view_is in
+    let k = come_open q d (g.R.ByteSource.script c.args.reader.now) (g.R.ByteSource.script c.blocks-2.reader) (g.R.ByteSource.script c.more-in-blocks-2.new.reader)
+    c.args.self.now c.blocks-2.self new i.0.0 c.in_ok-more.field-0 i.0.1 i.1 c.in_ok-more.ensures.gives c.if-not-branch.false
+    (ap (scan q d true) (sym text) ∙ c.in-Some-still_open.ensures.1) in
+    let falls : g.R.ByteSource.takes_left c.more-in-blocks-2.new.reader < g.R.ByteSource.takes_left c.blocks-2.reader =
+    c.in_ok-more.ensures.falls (ap (λ (v : Bool). Ok v) c.if-not-branch.false) in
+    let before : g.R.ByteSource.takes_left c.blocks-2.reader ≤ g.R.ByteSource.takes_left c.args.reader.now = i.4 in (
+      k,
+      still_none q d (g.R.ByteSource.script c.args.reader.now) (g.R.ByteSource.script c.blocks-2.reader) (g.R.ByteSource.script c.more-in-blocks-2.new.reader)
+          c.args.self.now c.blocks-2.self new i.0.0 c.in_ok-more.field-0 i.0.1 i.1 c.in_ok-more.ensures.gives,
+      subst (IsOpenAt q d c.in-Some-still_open.longer) text c.in-Some-still_open.ensures.0,
+      c.in_ok-more.ensures.counted
+          ∙ ap (λ o. failures_after o new.fault n) (i.0.1).read.sound
+          ∙ ap (λ o. failures_after None o n) (k.1).read.sound
+          ∙ i.3,
+      omega arith,
+    )
+
+pub returns-in-None-clause-gives : goal.returns-in-None-clause-gives
+returns-in-None-clause-gives g c =
+    let i = c.blocks-2.invariant in
+    come_more (pair_of c.args.delims.now.quotes) (pair_of c.args.delims.now.comments) (g.R.ByteSource.script c.args.reader.now) (g.R.ByteSource.script c.blocks-2.reader) (g.R.ByteSource.script c.more-in-blocks-2.new.reader)
+    c.args.self.now c.blocks-2.self c.more-in-blocks-2.new.self i.0.0 c.in_ok-more.field-0 i.0.1 c.in_ok-more.ensures.gives
+
+pub returns-in-None-clause-falls : goal.returns-in-None-clause-falls
+returns-in-None-clause-falls g c e f =
+    let falls : g.R.ByteSource.takes_left c.more-in-blocks-2.new.reader < g.R.ByteSource.takes_left c.blocks-2.reader =
+    c.in_ok-more.ensures.falls (ap (λ (v : Bool). Ok v) c.if-not-branch.false) in
+    let before : g.R.ByteSource.takes_left c.blocks-2.reader ≤ g.R.ByteSource.takes_left c.args.reader.now = c.blocks-2.invariant.4 in
+    omega arith

@@ -1,0 +1,81 @@
+-- OpenToken: a token that a text begins and does not end, as far as it was looked at.
+-- Not believed: it connects `more_of_token` with `scan`, so that a token over many blocks is looked at once.
+-- Words: further, kind_in, HasPassed, Follows, NameIsOpen, CommentIsOpen, StringIsOpen, IsOpenAt, StaysOpen,
+-- NameGoesOn, CommentGoesOn, StringGoesOn.
+use Rattle.std.specs.Prelude.{◌≡◌, ◌≤◌, ◌+◌, ◌-◌, ℕ, Bool, true, false, List, [], ◌∷◌, ◌++◌, Option, Some, None, length, drop}
+use Rattle.m4_state.specs.declared.delimiters.Delimiters.{Delimiters}
+use Rattle.m4_input.specs.declared.front.Kind.{Kind}
+use Rattle.m4_input.specs.declared.front.Kind.TheVariants.{CommentHere, NameHere, StringHere, Undecided}
+use Rattle.m4_input.specs.declared.front.Scan.TheVariants.{NeedsMore}
+use Rattle.m4_input.specs.declared.quoted.Followed.{Followed}
+use Rattle.m4_input.specs.declared.quoted.Followed.TheVariants as followed
+use Rattle.m4_input.specs.declared.open_token.OpenToken.{OpenToken}
+use Rattle.m4_input.specs.declared.open_token.OpenToken.TheVariants as opens
+use Rattle.m4_input.specs.Ascii.{is_name_byte}
+use Rattle.m4_input.specs.Token.{run_length, before, level, kind_of, scan}
+
+-- so many bytes further
+abbrev pub further : ℕ → Option ℕ → Option ℕ
+further n None = None
+further n (Some m) = Some (n + m)
+
+-- the kind of token that a text begins, if more bytes may follow it
+abbrev pub kind_in : Delimiters → Delimiters → List ℕ → Kind
+kind_in q c [] = Undecided
+kind_in q c (b ∷ y) = kind_of q c true b y
+
+-- x is inside a string, with n nested strings open before it; after its first k bytes m are open, and whatever
+-- follows x, the string goes on from there
+pub record HasPassed (q : Delimiters) (n : ℕ) (x : List ℕ) (m k : ℕ) : Type 0 where
+  pub within : k ≤ length x
+  pub low : m ≤ n + k
+  pub same : (p : Bool) (z : List ℕ) → level q p n 0 (x ++ z) ≡ further k (level q p m 0 (drop k x ++ z))
+
+-- where a string with n nested strings open is after x
+abbrev pub Follows : Delimiters → ℕ → List ℕ → Followed → Type 0
+Follows q n x (followed.Ends k) = (level q false n 0 x ≡ Some k) × (k + 1 ≤ length x)
+Follows q n x (followed.Open m) = HasPassed q n x m (length x)
+
+-- a name: its first k bytes were looked at
+pub record NameIsOpen (q c : Delimiters) (k : ℕ) (x : List ℕ) : Type 0 where
+  pub kind : kind_in q c x ≡ NameHere
+  pub within : k ≤ length x
+  pub same : (z : List ℕ) → run_length is_name_byte (x ++ z) ≡ k + run_length is_name_byte (drop k x ++ z)
+
+-- a comment: its end begins at none of the first k bytes after its begin
+pub record CommentIsOpen (q c : Delimiters) (k : ℕ) (x : List ℕ) : Type 0 where
+  pub kind : kind_in q c x ≡ CommentHere
+  pub long : length c.begin ≤ length x
+  pub within : k ≤ length (drop (length c.begin) x)
+  pub same : (z : List ℕ) → before c.end (drop (length c.begin) x ++ z) ≡ further k (before c.end (drop k (drop (length c.begin) x) ++ z))
+
+-- a string: after the first k bytes that come after its begin-quote n nested strings are open
+pub record StringIsOpen (q c : Delimiters) (k n : ℕ) (x : List ℕ) : Type 0 where
+  pub kind : kind_in q c x ≡ StringHere
+  pub long : length q.begin ≤ length x
+  pub passed : HasPassed q 0 (drop (length q.begin) x) n k
+
+abbrev pub IsOpenAt : Delimiters → Delimiters → OpenToken → List ℕ → Type 0
+IsOpenAt q c (opens.Name k) x = NameIsOpen q c k x
+IsOpenAt q c (opens.Comment k) x = CommentIsOpen q c k x
+IsOpenAt q c (opens.Quoted k n) x = StringIsOpen q c k n x
+
+-- the text does not end its token, which was looked at as far as the text goes
+abbrev pub StaysOpen : Delimiters → Delimiters → OpenToken → List ℕ → Type 0
+StaysOpen q c token x = IsOpenAt q c token x × (scan q c true x ≡ NeedsMore)
+
+-- of a name that was looked at up to a place: all bytes from there on belong to it, up to n, where the text ends
+pub record NameGoesOn (at n : ℕ) (x : List ℕ) : Type 0 where
+  pub all : n ≡ length x
+  pub run : at + run_length is_name_byte (drop at x) ≡ length x
+
+-- of a comment: none of the bytes from a place on begins its end, and none of those before n, whatever follows
+pub record CommentGoesOn (end : List ℕ) (at n : ℕ) (x : List ℕ) : Type 0 where
+  pub within : at ≤ n × n ≤ length x
+  pub none : before end (drop at x) ≡ None
+  pub same : (z : List ℕ) → before end (drop at x ++ z) ≡ further (n - at) (before end (drop n x ++ z))
+
+-- of a string: it does not end, and after the first n bytes m nested strings are open
+pub record StringGoesOn (q : Delimiters) (m n : ℕ) (x : List ℕ) : Type 0 where
+  pub passed : HasPassed q 0 x m n
+  pub unended : level q true 0 0 x ≡ None
