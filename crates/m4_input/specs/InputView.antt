@@ -1,14 +1,13 @@
 -- InputView: the meaning of an input's fields, and the effects of the parts of its calls.
 -- Not believed: it only connects the code with specs/Input.antt.
--- Words: view_of, IsHeld, Fills, fault_of.
-use Rattle.std.specs.Prelude.{◌≡◌, ℕ, false, List, Option, None, Result, Ok, Err, IfSome}
-use Rattle.m4_state.specs.Device.{Script}
+-- Words: view_of, IsHeld, fault_of.
+use Rattle.std.specs.Prelude.{ℕ, IfSome}
 use Rattle.m4_input.specs.declared.fault.InputFault.{InputFault}
 use Rattle.m4_input.specs.declared.fault.InputFault.TheVariants as faults
 use Rattle.m4_input.specs.declared.front.Unended.{Unended}
 use Rattle.m4_input.specs.declared.front.Unended.TheVariants.{InString, InComment}
 use Rattle.m4_input.specs.declared.input.Input.TheInside.{Inside}
-use Rattle.m4_input.specs.Input.{Held, Reads, IsLasting, Stopped}
+use Rattle.m4_input.specs.Input.{Held, IsLasting}
 
 -- the fields, with the parts of the text
 abbrev pub view_of : Inside → Held
@@ -27,14 +26,6 @@ view_of i = record {
 -- the invariant of each input
 abbrev pub IsHeld : Held → Type 0
 IsHeld h = IfSome h.fault IsLasting
-
--- the reader is read to its end, or the call stopped
-abbrev pub Fills : Option Script → Option Script → Held → Held → Result Unit InputFault → Type 0
-Fills before after old new (Ok done) =
-    (x : List ℕ) × Reads before after old.pending x new.pending
-    × ((new.pending).may_follow ≡ false) × (new.fault ≡ None)
-Fills before after old new (Err fault) =
-    (x : List ℕ) × Stopped fault before after old new x new.pending
 
 -- the fault of a token without an end
 abbrev pub fault_of : Unended → ℕ → InputFault

@@ -61,11 +61,11 @@ impl Drop for Input {
 }
 
 impl Input {
-    ghost use Rattle.m4_input.specs.Input.{Held, IsLasting, unread_file, wrapped_text, with_pushed, all_read, NextGives, ParenGives, SkipGives, WholeGives, failures_after};
+    ghost use Rattle.m4_input.specs.Input.{Held, IsLasting, unread_file, wrapped_text, with_pushed, all_read, NextGives, ParenGives, SkipGives, failures_after};
     ghost use Rattle.m4_input.specs.Blocks.{BlockGives, TokenGives, LooksAt, ListGives, LineGives};
     ghost use Rattle.m4_input.specs.Text.{LiesIn};
     ghost use Rattle.m4_input.specs.OpenToken.{IsOpenAt};
-    ghost use Rattle.m4_input.specs.InputView.{fault_of, Fills};
+    ghost use Rattle.m4_input.specs.InputView.{fault_of};
 
     /// Creates the input of a file that is read from its start.
     pub fn file(alloc: Global, name: Bytes) -> Input
@@ -410,36 +410,6 @@ impl Input {
     {
         self.fault = Some(fault);
         fault
-    }
-
-    /// Reads the file to its end, so that no later call uses the reader. Returns `Read` if the reader fails
-    /// and `OutOfMemory` if an allocation fails; so does each later call.
-    pub fn read_whole<R: ByteSource>(&mut self, reader: &mut R) -> Result<(), InputFault>
-        // exact steps: all bytes of the reader
-        ensures gives { WholeGives (R.script reader.old) (R.script reader.new) self.old self.new result }
-        ensures counted { R.failures reader.new ≡ failures_after self.old.fault self.new.fault (R.failures reader.old) }
-    {
-        if let Some(fault) = self.fault {
-            return Err(fault);
-        }
-        self.fill(reader)
-    }
-
-    /// Reads the reader to its end, unless that was done.
-    fn fill<R: ByteSource>(&mut self, reader: &mut R) -> Result<(), InputFault>
-        requires { self.old.fault ≡ None }
-        ensures gives { Fills (R.script reader.old) (R.script reader.new) self.old self.new result }
-        ensures counted { R.failures reader.new
-            ≡ failures_after self.old.fault self.new.fault (R.failures reader.old) }
-    {
-        if !self.may_follow {
-            return Ok(());
-        }
-        'blocks: loop {
-            if !self.more(reader)? {
-                return Ok(());
-            }
-        }
     }
 
     /// Returns the fault of a token without an end. Discards all bytes.

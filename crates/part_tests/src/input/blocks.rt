@@ -19,6 +19,8 @@ use std::alloc::{AllocError, Global};
 enum Step {
     // Asks the reader once.
     More,
+    // Asks the reader once, and again while the first token is open.
+    Token,
     // The first token of the bytes in hand.
     Look,
     // Whether a list follows so many bytes.
@@ -334,6 +336,92 @@ static ROWS: [Row; 24] = [
     },
 ];
 
+// Tokens whose blocks are asked for until they are decided.
+static TOKENS: [Row; 9] = [
+    Row {
+        name: "a string is asked for to its end",
+        file: b"`a `b' c'd",
+        block: 1,
+        steps: &[Step::More, Step::Token, Step::Taken, Step::Look],
+        want: b"more\nasked\ntaken 9\n9: string a `b' c\n",
+        ..PLAIN
+    },
+    Row {
+        name: "a string with nested quotes of two bytes",
+        delims: ANGLES,
+        file: b"<<a<<b>>>>c",
+        block: 1,
+        steps: &[
+            Step::More,
+            Step::Token,
+            Step::Token,
+            Step::Taken,
+            Step::Look,
+        ],
+        want: b"more\nasked\nasked\ntaken 10\n10: string a<<b>>\n",
+        ..PLAIN
+    },
+    Row {
+        name: "a comment is asked for to its end",
+        file: b"#ab\nc",
+        block: 1,
+        steps: &[Step::More, Step::Token, Step::Taken, Step::Look],
+        want: b"more\nasked\ntaken 4\n4: comment #ab\n\n",
+        ..PLAIN
+    },
+    Row {
+        name: "a comment whose end is cut",
+        delims: STARRED,
+        file: b"(**a*)b",
+        block: 2,
+        steps: &[Step::More, Step::Token, Step::Taken, Step::Look],
+        want: b"more\nasked\ntaken 6\n6: comment (**a*)\n",
+        ..PLAIN
+    },
+    Row {
+        name: "a name is asked for up to the byte after it",
+        file: b"abc d",
+        block: 1,
+        steps: &[Step::More, Step::Token, Step::Taken, Step::Look],
+        want: b"more\nasked\ntaken 4\n3: name abc\n",
+        ..PLAIN
+    },
+    Row {
+        name: "no more than a block is asked for where the first token is decided, or nothing is in hand",
+        file: b"+abc",
+        block: 1,
+        steps: &[Step::Token, Step::Taken, Step::Token, Step::Taken],
+        want: b"asked\ntaken 1\nasked\ntaken 2\n",
+        ..PLAIN
+    },
+    Row {
+        name: "a string that the file does not end",
+        file: b"`ab",
+        block: 1,
+        steps: &[Step::More, Step::Token, Step::Hand, Step::Look],
+        want: b"more\nasked\n[`ab]\nno end\n",
+        ..PLAIN
+    },
+    Row {
+        name: "a reader fails within a string, which stays in hand",
+        file: b"`ab",
+        block: 1,
+        fails: true,
+        steps: &[Step::More, Step::Token, Step::Hand, Step::Token],
+        want: b"more\nread fault\n[`ab]\nread fault\n",
+        ..PLAIN
+    },
+    Row {
+        name: "pushed text begins a name that goes on in the file",
+        text: b"ab",
+        file: b"cd e",
+        block: 1,
+        steps: &[Step::Token, Step::Taken, Step::Look],
+        want: b"asked\ntaken 3\n4: name abcd\n",
+        ..PLAIN
+    },
+];
+
 // Adds what the bytes in hand decide of the first token: its length, and the token.
 fn describe_found(found: &Scan, report: &mut Report) {
     match found {
@@ -360,6 +448,22 @@ fn ask(input: &mut Input, reader: &mut MemSource<'_>) -> Result<&'static [u8], I
     } else {
         b"end\n"
     })
+}
+
+// Asks the reader, and again while the first token is open, if the reader has not ended.
+fn ask_token(
+    input: &mut Input,
+    reader: &mut MemSource<'_>,
+    delims: &Delims<'_>,
+) -> Result<&'static [u8], InputFault> {
+    if let Some(fault) = input.fault() {
+        return Err(fault);
+    }
+    if !input.may_follow() {
+        return Ok(b"closed\n");
+    }
+    input.more_of_token(reader, delims)?;
+    Ok(b"asked\n")
 }
 
 // Looks at the first token, or returns the fault of an earlier step.
@@ -421,6 +525,7 @@ fn answer(
 ) -> Result<(), InputFault> {
     match step {
         Step::More => report.add(ask(input, reader)?),
+        Step::Token => report.add(ask_token(input, reader, delims)?),
         Step::Look => describe_found(&look(input, delims)?, report),
         Step::Decide => describe_found(&decide(input, reader, delims)?, report),
         Step::List(n) => report.add(list_after(input, n, delims)),
@@ -471,6 +576,13 @@ fn answers(alloc: Global, row: &Row) -> Result<Vec<u8>, AllocError> {
 #[test]
 fn blocks_and_what_they_decide(rt: HostRuntime) {
     for row in &ROWS {
+        shows(&rt, row.name, row.want, answers(rt.alloc(), row));
+    }
+}
+
+#[test]
+fn blocks_of_one_token(rt: HostRuntime) {
+    for row in &TOKENS {
         shows(&rt, row.name, row.want, answers(rt.alloc(), row));
     }
 }

@@ -1,7 +1,7 @@
-//! The pending input as one slice: a file that was read completely, without the bytes that were removed,
-//! and with text that is pushed back.
+//! The pending input as one slice: a block of a file, without the bytes that were removed, and with text that is
+//! pushed back.
 
-ghost use Rattle.std.specs.Prelude.{◌≡◌, None, IfOk, false};
+ghost use Rattle.std.specs.Prelude.{◌≡◌, None, IfOk};
 
 use super::{USUAL, describe, push};
 use crate::report::Report;
@@ -30,18 +30,17 @@ static ROWS: [Row; 1] = [(
     b"[ab\nc] 1\n[x\nc] 2\nnone 2\nname longer\n",
 )];
 
-// Returns a file with this text, read completely.
-fn whole(alloc: Global, name: Bytes, text: &[u8]) -> Result<Input, InputFault>
-    ensures { IfOk result (λ i. i.pending.may_follow ≡ false) }
+// Returns a file with this text in hand, if it is not longer than a block.
+fn in_hand(alloc: Global, name: Bytes, text: &[u8]) -> Result<Input, InputFault>
+    ensures { IfOk result (λ i. i.pending.definition ≡ None) }
 {
     let mut input = Input::file(alloc, name);
-    input.read_whole(&mut MemSource::new(text, 4096, false))?;
+    input.more(&mut MemSource::new(text, 4096, false))?;
     Ok(input)
 }
 
 // Removes this many bytes, or all if there are fewer.
 fn take_front(input: &mut Input, n: usize)
-    requires { input.old.pending.may_follow ≡ false }
     ensures { input.new.pending.definition ≡ None }
 {
     let len = match input.piece() {
@@ -83,7 +82,7 @@ fn push_all(
 
 // Adds the report on a row, up to a call that fails.
 fn see(alloc: Global, name: Bytes, row: &Row, report: &mut Report) -> Result<(), InputFault> {
-    let mut input = whole(alloc, name, row.1)?;
+    let mut input = in_hand(alloc, name, row.1)?;
     describe_piece(&input, report);
     take_front(&mut input, row.2);
     push_all(alloc, &mut input, row.3, report)?;
