@@ -1,9 +1,13 @@
 //! Runs over large inputs: long texts, results and delimiters, many arguments, many names.
 
-use super::given::{USUAL, ended, printed_seen, run_file};
+use super::given::{
+    AT_MOST, ROOM as SMALL, USUAL, ended, files, options, printed_seen, run_file, run_over,
+};
 use super::report::{Report, printed_run};
 use super::shows::agrees;
 use m4_engine::ending::Cause;
+use m4_engine::source::Source;
+use m4_state::memory::MemSource;
 use std::alloc::{AllocError, Global};
 use std::process::Abort;
 
@@ -14,11 +18,16 @@ const ROOM: usize = 1_100_000;
 type Made = (&'static str, &'static str, usize, &'static str);
 
 // A row's name, its file and its output.
-static ROWS: [(&str, Made, Made); 6] = [
+static ROWS: [(&str, Made, Made); 7] = [
     (
         "text of 260,000 bytes",
         ("", "a long text, ", 20_000, ""),
         ("", "a long text, ", 20_000, ""),
+    ),
+    (
+        "500,000 words",
+        ("", "x ", 500_000, ""),
+        ("", "x ", 500_000, ""),
     ),
     (
         "a definition of 1,000,000 bytes",
@@ -73,7 +82,7 @@ fn compare(
     match (file, output) {
         (Ok(file), Ok(output)) => {
             let want = printed_run(rt.alloc(), &output, b"", ended(0, Cause::Done));
-            let seen = run_file(rt, &file, 4096, USUAL, ROOM);
+            let seen = run_file(rt, &file, 4096, (USUAL.0, 0), ROOM);
             agrees(rt, name, want, printed_seen(rt.alloc(), &seen));
         }
         _ => panic!(rt; "{name}: out of memory"),
@@ -117,6 +126,55 @@ fn long_quotes(alloc: Global) -> Result<Vec<u8>, AllocError> {
     repeat(&mut report, "]", 10_000);
     report.add(b"\n");
     report.text()
+}
+
+// Returns a file with 100,000 calls, one within another.
+fn nested_calls(alloc: Global) -> Result<Vec<u8>, AllocError> {
+    let mut report = Report::new(alloc);
+    report.add(b"define(`f',`$1')");
+    repeat(&mut report, "f(", 100_000);
+    report.add(b"x");
+    repeat(&mut report, ")", 100_000);
+    report.add(b"\n");
+    report.text()
+}
+
+#[test]
+fn calls_within_calls(rt: HostRuntime) {
+    let want = Vec::from_slice(rt.alloc(), b"x\n");
+    compare(&rt, "100,000 nested calls", nested_calls(rt.alloc()), want);
+}
+
+// Returns a file that ends the run before 1,000,000 bytes.
+fn early_exit(alloc: Global) -> Result<Vec<u8>, AllocError> {
+    made(alloc, ("m4exit\n", "x", 1_000_000, ""))
+}
+
+// Returns how many bytes the reader of the first source returned.
+fn taken(sources: &[Source<MemSource<'_>>]) -> usize {
+    match sources.first() {
+        Some(Source::Opened { reader, .. }) => reader.taken(),
+        _ => 0,
+    }
+}
+
+// How many bytes a reader returns at a time, and how many it returned in all: the newline after the name, which is
+// byte 7, decides that the run ends.
+static TAKEN: [(usize, usize); 4] = [(1, 7), (2, 8), (3, 9), (4096, 4096)];
+
+#[test]
+fn bytes_after_an_exit_are_not_read(rt: HostRuntime) {
+    let Ok(text) = early_exit(rt.alloc()) else {
+        panic!(rt; "out of memory");
+    };
+    for (block, most) in TAKEN {
+        let mut sources = files(&rt, &[(b"a.m4", &text)], block);
+        let seen = run_over(&rt, options(USUAL), &mut None, &mut sources, SMALL, AT_MOST);
+        let want = printed_run(rt.alloc(), b"", b"", ended(0, Cause::Exited(0)));
+        agrees(&rt, "an early exit", want, printed_seen(rt.alloc(), &seen));
+        let read = taken(&sources);
+        assert_eq!(rt; read, most);
+    }
 }
 
 #[test]

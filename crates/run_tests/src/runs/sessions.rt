@@ -66,7 +66,7 @@ static ROWS: [Row; 9] = [
         "a reader that fails",
         1024,
         &[Call::Failing("ab "), Call::Status, Call::Missing("c")],
-        "Err(Ended(Read))\n(1, false)\nErr(Finished)\n|",
+        "Err(Ended(Read))\n(1, false)\nErr(Finished)\nab |",
     ),
     (
         "a writer that fails",

@@ -112,7 +112,7 @@ static ROWS: [Row; 16] = [
         "a reader that fails: what an earlier file saved is not read",
         &[Given::File("m4wrap(`never')one\n"), Given::Failing("two\n")],
         ROOM,
-        "one\n",
+        "one\ntwo\n",
         "",
         (1, Cause::Read),
     ),
@@ -124,7 +124,7 @@ static ROWS: [Row; 16] = [
             Given::File("three\n"),
         ],
         ROOM,
-        "one\n",
+        "one\ntwo\n",
         "",
         (1, Cause::Read),
     ),
@@ -132,7 +132,7 @@ static ROWS: [Row; 16] = [
         "a first reader that fails",
         &[Given::Failing("ab ")],
         ROOM,
-        "",
+        "ab ",
         "",
         (1, Cause::Read),
     ),
@@ -168,6 +168,44 @@ static ROWS: [Row; 16] = [
         "m4",
         (1, Cause::Write),
     ),
+];
+
+// What a reader returns before it fails, the output, and the messages. What these bytes decide, whatever follows
+// them, was written, and nothing else.
+static FAILING: [(&str, &str, &str, &str); 13] = [
+    ("a name may go on", "ab", "", ""),
+    ("a name has ended", "ab ", "ab ", ""),
+    ("a comment has no end", "x#c", "x", ""),
+    ("a begin-quote is cut", "changequote(<<,>>)a<", "a", ""),
+    ("an end-quote is cut", "changequote(<<,>>)a<<b>", "a", ""),
+    ("an argument list is open", "ab define(`a", "ab ", ""),
+    ("a call may have a list", "define(`f',`x')f", "", ""),
+    ("a call has no list", "define(`f',`x')f ", "x ", ""),
+    (
+        "a name without a definition, before a begin-quote that is cut",
+        "changequote(`((',`))')x(",
+        "x",
+        "",
+    ),
+    (
+        "a name with a definition, before a begin-quote that is cut",
+        "define(`x',`y')changequote(`((',`))')z x(",
+        "z ",
+        "",
+    ),
+    (
+        "a line that is discarded goes on",
+        "x dnl(y) z",
+        "x ",
+        "m4:a.m4:1: Warning: excess arguments to builtin `dnl' ignored\n",
+    ),
+    (
+        "diverted text is dropped",
+        "divert(1)a\ndivert`'b ",
+        "b ",
+        "",
+    ),
+    ("saved text is dropped", "m4wrap(`a')b ", "b ", ""),
 ];
 
 // A file with a call that has output and a message, after a string.
@@ -323,6 +361,18 @@ fn compare(rt: &(impl Abort + Alloc<A = Global>), rows: &[Row]) {
 #[test]
 fn sources_and_writers(rt: HostRuntime) {
     compare(&rt, &ROWS);
+}
+
+#[test]
+fn readers_that_fail(rt: HostRuntime) {
+    for &(name, text, output, messages) in &FAILING {
+        for block in BLOCKS {
+            let end = ended(1, Cause::Read);
+            let want = printed_run(rt.alloc(), output.as_bytes(), messages.as_bytes(), end);
+            let given = [Given::Failing(text), Given::File("never\n")];
+            agrees(&rt, name, want, seen_of(&rt, &given, block, ROOM));
+        }
+    }
 }
 
 #[test]
