@@ -12,7 +12,6 @@ use crate::ending::Cause;
 use crate::in_hand::{InHand, Wanted};
 use crate::machine::Machine;
 use crate::turned::{TurnFault, Turned};
-use m4_input::delims::Delims;
 use m4_input::fault::InputFault;
 use m4_input::input::Input;
 use m4_state::device::{ByteSink, ByteSource, DeviceFault};
@@ -153,22 +152,6 @@ impl Machine {
         }
     }
 
-    /// Asks the reader for a block. If the next token is wanted, it is asked again while the token stays open.
-    fn read_on<R: ByteSource>(
-        &self,
-        wanted: Wanted,
-        input: &mut Input,
-        reader: &mut R,
-    ) -> Result<(), InputFault> {
-        match wanted {
-            Wanted::Token => input.more_of_token(reader, &Delims::of(&self.state)),
-            Wanted::Line => {
-                let _came = input.more(reader)?;
-                Ok(())
-            }
-        }
-    }
-
     /// Expands an input to its end. The reader is asked for a block only where the bytes in hand leave open how
     /// the expansion continues, and all output and messages are flushed before.
     pub fn expand<R: ByteSource, O: ByteSink, M: ByteSink>(
@@ -191,7 +174,7 @@ impl Machine {
                 InHand::Ends(cause) => return cause,
                 InHand::Needs(more) => wanted = more,
             }
-            if let Err(fault) = self.read_on(wanted, input, reader) {
+            if let Err(fault) = input.more(reader) {
                 return cause_of_fault(fault);
             }
         }
