@@ -1,14 +1,12 @@
 -- Blockwise: an input that is expanded block by block is expanded as it is defined, whatever follows.
-use Rattle.std.proofs.Common.{◌≡◌, ◌<◌, ℕ, Bool, true, false, List, [], ◌∷◌, ◌++◌, length, Option, Some, None, refl, sym, ap, ◌∙◌, subst, append-nil, append_assoc, arith}
-use Rattle.std.specs.Prelude.{nat_lt, suc, Ok, Err}
-use Rattle.std.proofs.lemmas.Bool.Decides.{nat_tests}
+use Rattle.std.proofs.Common.{◌≡◌, ◌⊎◌, inl, inr, ◌≤◌, ℕ, Bool, true, false, List, [], ◌++◌, length, Option, None, refl, sym, ap, ◌∙◌, subst, append-nil, append_assoc, arith}
+use Rattle.std.specs.Prelude.{Err}
 use Rattle.m4_state.proofs.CallerLaws.{after_bytes-append, with_bytes-append, with_bytes-nil}
-use Rattle.m4_state.specs.Device.{Script, after_bytes, with_bytes, HasBegun, IsAtEnd, one_more}
+use Rattle.m4_state.specs.Device.{Script, after_bytes, with_bytes, HasBegun, IsAtFault, one_more}
 use Rattle.m4_input.specs.declared.fault.InputFault.{InputFault}
 use Rattle.m4_input.specs.declared.fault.InputFault.TheVariants as faults
 use Rattle.m4_input.specs.Pending.{Pending}
-use Rattle.m4_input.specs.Input.{Held, longer, Reads, failures_after}
-use Rattle.m4_input.specs.Blocks.{BlockGives}
+use Rattle.m4_input.specs.Input.{Held, longer, Reads, block, failures_after}
 use Rattle.m4_input.proofs.Calls.{reads_nothing}
 use Rattle.m4_engine.specs.declared.ending.Cause.{Cause}
 use Rattle.m4_engine.specs.declared.ending.Cause.TheVariants as causes
@@ -20,12 +18,12 @@ use Rattle.m4_engine.specs.Nesting.{Outcome, Halted, Closed}
 use Rattle.m4_engine.specs.OpenCalls.{resume}
 use Rattle.m4_engine.specs.Expansion.{RunSoFar, Call, Expansion, Kept, Ended, Ends, NeedsInput}
 use Rattle.m4_engine.specs.Expand.{turn, join, expand, ended_of, expansion_of}
-use Rattle.m4_engine.specs.Engine.{Engine, MayFollow, so_far_of, outer_of, here_of, configuration, IsReady}
-use Rattle.m4_engine.specs.Expands.{made_before, input_expansion, Expanded, ReadSo, Fell, Expands, ReadsBy, IsIdle}
+use Rattle.m4_engine.specs.Engine.{Engine, MayFollow, so_far_of, outer_of, here_of, configuration, IsReady, IsFront}
+use Rattle.m4_engine.specs.Expands.{made_before, input_expansion, Expanded, LastAsked, ReadSo, Fell, Expands, ReadsBy, IsIdle}
 use Rattle.m4_engine.specs.Continued.{comes_to, Leads, HasWritten, IsFlushed, HandNeeds, HandEnds, HandBreaks, HandGives, HasMade, so_far_in, fault_cause}
+use Rattle.m4_engine.specs.ReadsOn.{IsWantedAfter, HasReadOn, HasStopped, ReadsOn}
 use Rattle.m4_engine.specs.Writers.{Contents, Failures, NoneFailed, FailsBy, writers, Broken}
-use Rattle.m4_engine.proofs.Growth.{Extends, made_out}
-use Rattle.m4_engine.proofs.Longer.{nothing_more}
+use Rattle.m4_engine.proofs.ReadingOn.{stays_open}
 use Rattle.m4_engine.proofs.Running.{leads_then, leads_nowhere, more_written, comes_keeps, made_is}
 
 -- the reader gave x of the file, and the expansion goes on from here; all that was made was written
@@ -37,8 +35,31 @@ pub record Taking (e0 : Engine) (p0 : Pending) (before after : Option Script) (o
   pub m : List ℕ
   pub written : HasWritten o m (writers out0 out reported0 reported)
   pub leads : Leads wanted.Token e0 q w e i.pending o m
+  pub asked : (x ≡ []) ⊎ LastAsked e0 p0 x (writers out0 out reported0 reported)
   pub ready : IsReady i
   pub flushed : IsFlushed e
+
+-- what was written before, and more
+more_after : (old mid new : Option (List ℕ)) (made x y : List ℕ) → mid ≡ with_bytes old (made ++ x) → new ≡ with_bytes mid y → new ≡ with_bytes old (made ++ (x ++ y))
+more_after old mid new made x y e f =
+    f ∙ ap (λ (o : Option (List ℕ)). with_bytes o y) e ∙ with_bytes-append old (made ++ x) y ∙ ap (with_bytes old) (append_assoc made x y)
+
+-- the same bytes were asked for, and more was written since
+pub asked_since : (e0 : Engine) (p0 : Pending) (x o m : List ℕ) (out0 reported0 out reported out' reported' : Option (List ℕ)) → (x ≡ []) ⊎ LastAsked e0 p0 x (writers out0 out reported0 reported) → HasWritten o m (writers out out' reported reported') → (x ≡ []) ⊎ LastAsked e0 p0 x (writers out0 out' reported0 reported')
+asked_since e0 p0 x o m out0 reported0 out reported out' reported' (inl n) h = inl n
+asked_since e0 p0 x o m out0 reported0 out reported out' reported' (inr a) h = inr (record {
+  asked = a.asked;
+  last = a.last;
+  parts = a.parts;
+  within = a.within;
+  undecided = a.undecided;
+  written = record {
+    more = (a.written).more ++ o;
+    output = more_after out0 out out' _ (a.written).more o (a.written).output h.output;
+    more_messages = (a.written).more_messages ++ m;
+    messages = more_after reported0 reported reported' _ (a.written).more_messages m (a.written).messages h.messages;
+  };
+})
 
 pub takes_nothing : (e : Engine) (i : Held) (s : Option Script) (out reported : Option (List ℕ)) → IsIdle e → IsReady i → Taking e i.pending s s out reported wanted.Token e i out reported
 takes_nothing e i s out reported d r = record {
@@ -49,6 +70,7 @@ takes_nothing e i s out reported d r = record {
   m = [];
   written = record { output = with_bytes-nil out; messages = with_bytes-nil reported };
   leads = leads_nowhere wanted.Token e i.pending;
+  asked = inl refl;
   ready = r;
   flushed = record { output = d.output; messages = d.messages };
 }
@@ -63,6 +85,7 @@ needs_more e0 e e' p0 i j before after out0 reported0 out reported out' reported
   m = t.m ++ h.m;
   written = more_written t.o t.m h.o h.m out0 out out' reported0 reported reported' t.written (h.written).output (h.written).messages;
   leads = leads_then wanted.Token w v e0 e e' t.q i.pending j.pending t.o t.m h.o h.m t.leads h.leads;
+  asked = asked_since e0 p0 t.x h.o h.m out0 reported0 out reported out' reported' t.asked h.written;
   ready = h.ready;
   flushed = h.flushed;
 }
@@ -74,28 +97,21 @@ is_open i j e e' w v c h = (h.leads).follows ∙ h.opened
 longer_twice : (y z : List ℕ) (b c : Bool) (p : Pending) → longer z c (longer y b p) ≡ longer (y ++ z) c p
 longer_twice y z b c p = ap (λ (x : List ℕ). let r : Pending = record p { unread = x; may_follow = c } in r) (append_assoc p.unread y z)
 
-none_came : (y : List ℕ) → false ≡ nat_lt 0 (length y) → y ≡ []
-none_came [] e = refl
-none_came (b ∷ y) e =
-    let some : nat_lt 0 (suc (length y)) ≡ true = grind (arith, nat_tests) in
-    let both : false ≡ true = e ∙ some in
-    cc
-
 not_open : (b : Bool) → b ≡ true → b ≡ false → ⊥
 not_open true e f = cc
 not_open false e f = cc
 
--- a block came, or the reader is at its end
-reads_on : (before a b : Option Script) (p0 q : Pending) (x y : List ℕ) (came : Bool) → Reads before a p0 x q → q.may_follow ≡ true → a ≡ after_bytes y b → came ≡ nat_lt 0 (length y) → (y ≡ [] → IsAtEnd b) → Reads before b p0 (x ++ y) (longer y came q)
-reads_on before a b p0 q x y came r f g h k = record {
-  given = r.given ∙ ap (after_bytes x) g ∙ after_bytes-append x y b;
-  in_hand = ap (longer y came) r.in_hand ∙ longer_twice x y q.may_follow came p0;
+-- more of the file came, or the reader is at its end
+reads_on : (before a b : Option Script) (p0 q j k : Pending) (x y : List ℕ) → Reads before a p0 x q → q.may_follow ≡ true → j.may_follow ≡ true → Reads a b j y k → Reads before b p0 (x ++ y) (longer y k.may_follow q)
+reads_on before a b p0 q j k x y r f g s = record {
+  given = r.given ∙ ap (after_bytes x) s.given ∙ after_bytes-append x y b;
+  in_hand = ap (longer y k.may_follow) r.in_hand ∙ longer_twice x y q.may_follow k.may_follow p0;
   still = λ e. r.still f;
-  at_end = λ e c. k (none_came y (sym c ∙ h));
+  at_end = λ e c. s.at_end g c;
   closed = λ c. absurd (not_open p0.may_follow (r.still f) c);
 }
 
--- the same place, with a block after the bytes in hand
+-- the same place, with more bytes after those in hand
 leads_more : (w : Wanted) (e0 e : Engine) (q p : Pending) (o m y : List ℕ) (came : Bool) → q.may_follow ≡ true → Leads wanted.Token e0 q w e p o m → Leads wanted.Token e0 (longer y came q) w e (longer y came p) o m
 leads_more w e0 e q p o m y came f l = record {
   means = λ z more c a b.
@@ -105,22 +121,6 @@ leads_more w e0 e q p o m y came f l = record {
   follows = refl;
   limits = l.limits;
 }
-
-pub block_came : (e0 e : Engine) (p0 : Pending) (j k : Held) (before a b : Option Script) (out0 reported0 out reported : Option (List ℕ)) (w : Wanted) (came : Bool) → (j.pending).may_follow ≡ true → Taking e0 p0 before a out0 reported0 w e j out reported → BlockGives a b j k (Ok came) → Taking e0 p0 before b out0 reported0 w e k out reported
-block_came e0 e p0 j k before a b out0 reported0 out reported w came f t g =
-    let still : (t.q).may_follow ≡ true = sym (t.leads).follows ∙ f in
-    subst (λ (h : Held). Taking e0 p0 before b out0 reported0 w e h out reported) (sym g.5)
-    (record {
-      x = t.x ++ g.0;
-      q = longer g.0 came t.q;
-      reads = reads_on before a b p0 t.q t.x g.0 came t.reads still g.1 g.3 g.4;
-      o = t.o;
-      m = t.m;
-      written = t.written;
-      leads = leads_more w e0 e t.q j.pending t.o t.m g.0 came still t.leads;
-      ready = record { sound = (t.ready).sound; front = (t.ready).front };
-      flushed = t.flushed;
-    })
 
 -- ---- what it all comes to
 
@@ -143,12 +143,68 @@ so_far_is : (v : Outcome Expansion Ended) → so_far_in v ≡ (ended_of v).so_fa
 so_far_is (Halted d) = refl
 so_far_is (Closed s) = refl
 
+-- the expansion stops after these bytes: nothing was made since the last flush
+pub stops_at : (e0 e e' : Engine) (p0 : Pending) (i j : Held) (before after : Option Script) (out0 reported0 out reported out' reported' : Option (List ℕ)) (w v : Wanted) → IsIdle e0 → (t : Taking e0 p0 before after out0 reported0 w e i out reported) → (h : HandNeeds w e i v e' j (writers out out' reported reported')) → (y : List ℕ) → IsWantedAfter v e' j.pending y → input_expansion e0 (longer (t.x ++ y) true p0) ≡ record { so_far = so_far_of (t.o ++ h.o) (t.m ++ h.m) e'; reason = NeedsInput }
+stops_at e0 e e' p0 i j before after out0 reported0 out reported out' reported' w v d t h y u =
+    let still : (t.q).may_follow ≡ true = sym (t.leads).follows ∙ h.opened in
+    let opened : (j.pending).may_follow ≡ true = is_open i j e e' w v _ h in
+    let s : Taking e0 p0 before after out0 reported0 v e' j out' reported' = needs_more e0 e e' p0 i j before after out0 reported0 out reported out' reported' w v t h in
+    ap (input_expansion e0) (sym (ap (longer y true) (t.reads).in_hand ∙ longer_twice t.x y (t.q).may_follow true p0))
+    ∙ ap ended_of (
+    sym (from_start e0 e' p0 j before after out0 reported0 out' reported' v d s y true (subst (λ v. MayFollow v y true) (sym still) tt))
+    ∙ stays_open w v e e' i j (writers out out' reported reported') h opened y u t.o t.m)
+
+-- what was written is what the bytes decide
+written_all : (old new : Option (List ℕ)) (made held all : List ℕ) → new ≡ with_bytes old made → held ≡ [] → all ≡ made ++ held → new ≡ with_bytes old all
+written_all old new made held all e f g = e ∙ ap (with_bytes old) (sym (g ∙ ap (λ (n : List ℕ). made ++ n) f ∙ append-nil made))
+
+-- there the reader was asked for the bytes that follow
+pub asked_here : (e0 e e' : Engine) (p0 : Pending) (i j : Held) (before after : Option Script) (out0 reported0 out reported out' reported' : Option (List ℕ)) (w v : Wanted) → IsIdle e0 → (t : Taking e0 p0 before after out0 reported0 w e i out reported) → HandNeeds w e i v e' j (writers out out' reported reported') → (x y last : List ℕ) → IsWantedAfter v e' j.pending y → x ≡ y ++ last → length last ≤ block → LastAsked e0 p0 (t.x ++ x) (writers out0 out' reported0 reported')
+asked_here e0 e e' p0 i j before after out0 reported0 out reported out' reported' w v d t h x y last u p l =
+    let all = more_written t.o t.m h.o h.m out0 out out' reported0 reported reported' t.written (h.written).output (h.written).messages in
+    let end : Ended = record { so_far = so_far_of (t.o ++ h.o) (t.m ++ h.m) e'; reason = NeedsInput } in
+    let same : input_expansion e0 (longer (t.x ++ y) true p0) ≡ end = stops_at e0 e e' p0 i j before after out0 reported0 out reported out' reported' w v d t h y u in
+    record {
+      asked = t.x ++ y;
+      last = last;
+      parts = ap (λ (n : List ℕ). t.x ++ n) p ∙ sym (append_assoc t.x y last);
+      within = l;
+      undecided = ap (λ (r : Ended). r.reason) same;
+      written = record {
+        more = [];
+        output = written_all out0 out' (t.o ++ h.o) e'.output _ all.output (h.flushed).output (ap (λ (r : Ended). (r.so_far).output) same) ∙ ap (with_bytes out0) (sym (append-nil _));
+        more_messages = [];
+        messages = written_all reported0 reported' (t.m ++ h.m) e'.messages _ all.messages (h.flushed).messages (ap (λ (r : Ended). (r.so_far).messages) same) ∙ ap (with_bytes reported0) (sym (append-nil _));
+      };
+    }
+
+-- more came
+pub blocks_came : (e0 e e' : Engine) (p0 : Pending) (i j k : Held) (before a b : Option Script) (out0 reported0 out reported out' reported' : Option (List ℕ)) (w v : Wanted) → IsIdle e0 → Taking e0 p0 before a out0 reported0 w e i out reported → HandNeeds w e i v e' j (writers out out' reported reported') → HasReadOn v e' a b j k → Taking e0 p0 before b out0 reported0 v e' k out' reported'
+blocks_came e0 e e' p0 i j k before a b out0 reported0 out reported out' reported' w v d t h g =
+    let s : Taking e0 p0 before a out0 reported0 v e' j out' reported' = needs_more e0 e e' p0 i j before a out0 reported0 out reported out' reported' w v t h in
+    let opened : (j.pending).may_follow ≡ true = is_open i j e e' w v _ h in
+    let still : (t.q).may_follow ≡ true = sym (t.leads).follows ∙ h.opened in
+    record {
+      x = t.x ++ g.x;
+      q = longer g.x (k.pending).may_follow t.q;
+      reads = reads_on before a b p0 t.q j.pending k.pending t.x g.x t.reads still opened g.reads;
+      o = s.o;
+      m = s.m;
+      written = s.written;
+      leads = subst (λ (p : Pending). Leads wanted.Token e0 (longer g.x (k.pending).may_follow t.q) v e' p s.o s.m) (sym (g.reads).in_hand)
+          (leads_more v e0 e' t.q j.pending s.o s.m g.x (k.pending).may_follow still s.leads);
+      asked = inr (asked_here e0 e e' p0 i j before a out0 reported0 out reported out' reported' w v d t h g.x g.front g.last g.undecided g.parts g.within);
+      ready = record { sound = g.sound; front = subst (λ (p : Pending). IsFront p.definition) (sym (g.reads).in_hand) (h.ready).front };
+      flushed = h.flushed;
+    }
+
 -- an expansion that ended
-pub ended_all : (e0 e e' : Engine) (p0 : Pending) (i : Held) (before after : Option Script) (out0 reported0 out reported out' reported' : Option (List ℕ)) (w : Wanted) (cause : Cause) → IsIdle e0 → Taking e0 p0 before after out0 reported0 w e i out reported → HandEnds w e i.pending cause e' (writers out out' reported reported') → ReadSo e0 p0 before after (λ d. Expanded e0 e' d cause (writers out0 out' reported0 reported'))
+pub ended_all : (e0 e e' : Engine) (p0 : Pending) (i : Held) (before after : Option Script) (out0 reported0 out reported out' reported' : Option (List ℕ)) (w : Wanted) (cause : Cause) → IsIdle e0 → Taking e0 p0 before after out0 reported0 w e i out reported → HandEnds w e i.pending cause e' (writers out out' reported reported') → ReadSo e0 p0 before after (writers out0 out' reported0 reported') (λ d. Expanded e0 e' d cause (writers out0 out' reported0 reported'))
 ended_all e0 e e' p0 i before after out0 reported0 out reported out' reported' w cause d t h = record {
   x = t.x;
   q = t.q;
   reads = t.reads;
+  asked = asked_since e0 p0 t.x h.o h.m out0 reported0 out reported out' reported' t.asked h.written;
   so = λ z more c.
       let end : Ended = record { so_far = so_far_of (t.o ++ h.o) (t.m ++ h.m) e'; reason = Ends cause } in
       let k : MayFollow (i.pending).may_follow z more = subst (λ v. MayFollow v z more) (sym (t.leads).follows) c in
@@ -177,11 +233,12 @@ broken_by o m d out0 out reported0 reported w h = record {
 }
 
 -- one that was interrupted
-pub broke_all : (e0 e : Engine) (p0 : Pending) (i : Held) (before after : Option Script) (out0 reported0 out reported out' reported' : Option (List ℕ)) (w : Wanted) → IsIdle e0 → Taking e0 p0 before after out0 reported0 w e i out reported → HandBreaks w e i.pending (writers out out' reported reported') → ReadSo e0 p0 before after (λ d. Broken d (writers out0 out' reported0 reported'))
+pub broke_all : (e0 e : Engine) (p0 : Pending) (i : Held) (before after : Option Script) (out0 reported0 out reported out' reported' : Option (List ℕ)) (w : Wanted) → IsIdle e0 → Taking e0 p0 before after out0 reported0 w e i out reported → HandBreaks w e i.pending (writers out out' reported reported') → ReadSo e0 p0 before after (writers out0 out' reported0 reported') (λ d. Broken d (writers out0 out' reported0 reported'))
 broke_all e0 e p0 i before after out0 reported0 out reported out' reported' w d t h = record {
   x = t.x;
   q = t.q;
   reads = t.reads;
+  asked = asked_since e0 p0 t.x h.o h.m out0 reported0 out reported out' reported' t.asked h.written;
   so = λ z more c.
       let k : MayFollow (i.pending).may_follow z more = subst (λ v. MayFollow v z more) (sym (t.leads).follows) c in
       broken_by (t.o ++ h.o) (t.m ++ h.m) (input_expansion e0 (longer z more t.q)) out0 out' reported0 reported'
@@ -191,49 +248,68 @@ broke_all e0 e p0 i before after out0 reported0 out reported out' reported' w d 
       (h.made z more k t.o t.m));
 }
 
--- one whose next block could not be held
-pub lacked_all : (e0 e : Engine) (p0 : Pending) (i : Held) (before after : Option Script) (out0 reported0 out reported : Option (List ℕ)) (w : Wanted) → IsIdle e0 → Taking e0 p0 before after out0 reported0 w e i out reported → ReadSo e0 p0 before after (λ d. Broken d (writers out0 out reported0 reported))
-lacked_all e0 e p0 i before after out0 reported0 out reported w d t = record {
-  x = t.x;
-  q = t.q;
-  reads = t.reads;
-  so = λ z more c.
-      let k = comes_keeps w t.o t.m e (longer z more i.pending) in
-      broken_by t.o t.m (input_expansion e0 (longer z more t.q)) out0 out reported0 reported t.written
-      (subst (λ (r : RunSoFar). HasMade t.o t.m r)
-      (made_is (comes_to w (configuration t.o t.m e (longer z more i.pending))) ∙ ap so_far_in (from_start e0 e p0 i before after out0 reported0 out reported w d t z more c) ∙ so_far_is (expand (expansion_of e0.limits (made_before e0) (longer z more t.q))))
-      (record {
-        x = e.output ++ k.more;
-        y = e.messages ++ k.reported;
-        output = k.output ∙ append_assoc t.o e.output k.more;
-        messages = k.messages ∙ append_assoc t.m e.messages k.reported;
-      }));
-}
+-- the questions for more stopped by a fault, after some blocks came: these are in hand
+module _ (e0 e e' : Engine) (p0 : Pending) (i j k : Held) (before a b : Option Script) (out0 reported0 out reported out' reported' : Option (List ℕ)) (w v : Wanted) (f : InputFault) (d : IsIdle e0) (t : Taking e0 p0 before a out0 reported0 w e i out reported) (h : HandNeeds w e i v e' j (writers out out' reported reported')) (g : HasStopped v e' a b j k f) where
+  abbrev made : Ended
+  made = record { so_far = so_far_of (t.o ++ h.o) (t.m ++ h.m) e'; reason = NeedsInput }
 
--- one whose reader failed: exactly what the bytes before the fault decide was written
-pub fell_all : (e0 e e' : Engine) (p0 : Pending) (i j : Held) (before after later : Option Script) (out0 reported0 out reported out' reported' : Option (List ℕ)) (w v : Wanted) (k : Held) → IsIdle e0 → Taking e0 p0 before after out0 reported0 w e i out reported → HandNeeds w e i v e' j (writers out out' reported reported') → BlockGives after later j k (Err faults.Read) → Fell e0 p0 before later (writers out0 out' reported0 reported')
-fell_all e0 e e' p0 i j before after later out0 reported0 out reported out' reported' w v k d t h g =
-    let all = more_written t.o t.m h.o h.m out0 out out' reported0 reported reported' t.written (h.written).output (h.written).messages in
-    let still : (t.q).may_follow ≡ true = sym (t.leads).follows ∙ h.opened in
-    let opened : (j.pending).may_follow ≡ true = is_open i j e e' w v _ h in
-    let s : Taking e0 p0 before after out0 reported0 v e' j out' reported' = needs_more e0 e e' p0 i j before after out0 reported0 out reported out' reported' w v t h in
-    let end : Ended = record { so_far = so_far_of (t.o ++ h.o) (t.m ++ h.m) e'; reason = NeedsInput } in
-    let same : input_expansion e0 t.q ≡ end =
-    ap ended_of (
-    ap (λ (r : Pending). expand (expansion_of e0.limits (made_before e0) r)) (sym (nothing_more t.q) ∙ ap (λ (b : Bool). longer [] b t.q) still)
-    ∙ sym (from_start e0 e' p0 j before after out0 reported0 out' reported' v d s [] true (subst (λ v. MayFollow v [] true) (sym still) tt))
-    ∙ ap (λ (r : Pending). comes_to v (configuration (t.o ++ h.o) (t.m ++ h.m) e' r)) (ap (λ (b : Bool). longer [] b j.pending) (sym opened) ∙ nothing_more j.pending)
-    ∙ h.undecided t.o t.m) in
-    let taken : t.q ≡ longer t.x true p0 = (t.reads).in_hand ∙ ap (λ (b : Bool). longer t.x b p0) still in
-    let whole : input_expansion e0 (longer t.x true p0) ≡ end = ap (input_expansion e0) (sym taken) ∙ same in
-    record {
-      x = t.x;
-      reads = subst (λ (s : Option Script). Reads before s p0 t.x (longer t.x true p0)) (sym g.0) (subst (λ (r : Pending). Reads before after p0 t.x r) taken t.reads);
-      at_fault = g.1;
-      output = all.output ∙ ap (λ (n : List ℕ). with_bytes out0 n) (sym (append-nil (t.o ++ h.o)) ∙ ap (λ (n : List ℕ). (t.o ++ h.o) ++ n) (sym (h.flushed).output) ∙ sym (ap (λ (r : Ended). (r.so_far).output) whole));
-      messages = all.messages ∙ ap (λ (n : List ℕ). with_bytes reported0 n) (sym (append-nil (t.m ++ h.m)) ∙ ap (λ (n : List ℕ). (t.m ++ h.m) ++ n) (sym (h.flushed).messages) ∙ sym (ap (λ (r : Ended). (r.so_far).messages) whole));
-      reason = ap (λ (r : Ended). r.reason) whole;
-    }
+  stops : input_expansion e0 (longer (t.x ++ g.x) true p0) ≡ made
+  stops = stops_at e0 e e' p0 i j before a out0 reported0 out reported out' reported' w v d t h g.x g.undecided
+
+  both_written : HasWritten (t.o ++ h.o) (t.m ++ h.m) (writers out0 out' reported0 reported')
+  both_written = more_written t.o t.m h.o h.m out0 out out' reported0 reported reported' t.written (h.written).output (h.written).messages
+
+  still_open : (t.q).may_follow ≡ true
+  still_open = sym (t.leads).follows ∙ h.opened
+
+  read_before : Reads before b p0 (t.x ++ g.x) (longer (t.x ++ g.x) true p0)
+  read_before = record {
+    given = (t.reads).given ∙ ap (after_bytes t.x) g.given ∙ after_bytes-append t.x g.x b;
+    in_hand = refl;
+    still = λ n. (t.reads).still still_open;
+    at_end = λ n c. absurd (not_open true refl c);
+    closed = λ c. absurd (not_open p0.may_follow ((t.reads).still still_open) c);
+  }
+
+  -- one whose reader failed: exactly what the bytes before the fault decide was written
+  fell_all : IsAtFault b → Fell e0 p0 before b (writers out0 out' reported0 reported')
+  fell_all n = record {
+    x = t.x ++ g.x;
+    reads = read_before;
+    at_fault = n;
+    output = written_all out0 out' (t.o ++ h.o) e'.output _ both_written.output (h.flushed).output (ap (λ (r : Ended). (r.so_far).output) stops);
+    messages = written_all reported0 reported' (t.m ++ h.m) e'.messages _ both_written.messages (h.flushed).messages (ap (λ (r : Ended). (r.so_far).messages) stops);
+    reason = ap (λ (r : Ended). r.reason) stops;
+  }
+
+  -- what is made is kept, whatever follows
+  kept_after : (z : List ℕ) (more : Bool) → HasMade (t.o ++ h.o) (t.m ++ h.m) (input_expansion e0 (longer z more (longer (t.x ++ g.x) true p0))).so_far
+  kept_after z more =
+      let s : Taking e0 p0 before a out0 reported0 v e' j out' reported' = needs_more e0 e e' p0 i j before a out0 reported0 out reported out' reported' w v t h in
+      let c = comes_keeps v s.o s.m e' (longer (g.x ++ z) more j.pending) in
+      let from = from_start e0 e' p0 j before a out0 reported0 out' reported' v d s (g.x ++ z) more (subst (λ v. MayFollow v (g.x ++ z) more) (sym still_open) tt) in
+      let same : longer (g.x ++ z) more t.q ≡ longer z more (longer (t.x ++ g.x) true p0) =
+      ap (longer (g.x ++ z) more) (t.reads).in_hand ∙ longer_twice t.x (g.x ++ z) (t.q).may_follow more p0
+      ∙ ap (λ (n : List ℕ). longer n more p0) (sym (append_assoc t.x g.x z)) ∙ sym (longer_twice (t.x ++ g.x) z true more p0) in
+      subst (λ (p : Pending). HasMade (t.o ++ h.o) (t.m ++ h.m) (input_expansion e0 p).so_far) same
+      (subst (λ (r : RunSoFar). HasMade (t.o ++ h.o) (t.m ++ h.m) r)
+      (made_is (comes_to v (configuration s.o s.m e' (longer (g.x ++ z) more j.pending))) ∙ ap so_far_in from ∙ so_far_is (expand (expansion_of e0.limits (made_before e0) (longer (g.x ++ z) more t.q))))
+      (record {
+        x = e'.output ++ c.more;
+        y = e'.messages ++ c.reported;
+        output = c.output ∙ append_assoc s.o e'.output c.more;
+        messages = c.messages ∙ append_assoc s.m e'.messages c.reported;
+      }))
+
+  -- one whose next block could not be held
+  lacked_all : ReadSo e0 p0 before b (writers out0 out' reported0 reported') (λ d. Broken d (writers out0 out' reported0 reported'))
+  lacked_all = record {
+    x = t.x ++ g.x;
+    q = longer (t.x ++ g.x) true p0;
+    reads = read_before;
+    asked = inr (asked_here e0 e e' p0 i j before a out0 reported0 out reported out' reported' w v d t h g.x g.x [] g.undecided (sym (append-nil g.x)) (omega arith));
+    so = λ z more c. broken_by (t.o ++ h.o) (t.m ++ h.m) (input_expansion e0 (longer z more (longer (t.x ++ g.x) true p0))) out0 out' reported0 reported' both_written (kept_after z more);
+  }
 
 -- by the cause
 pub ends_by_cause : (e0 e e' : Engine) (p0 : Pending) (i j : Held) (before after : Option Script) (out0 reported0 out reported out' reported' : Option (List ℕ)) (w : Wanted) (cause : Cause) → IsIdle e0 → Taking e0 p0 before after out0 reported0 w e i out reported → HandGives w e e' i j (writers out out' reported reported') (hands.Ends cause) → Expands e0 e' p0 before after (writers out0 out' reported0 reported') cause
@@ -260,27 +336,25 @@ pub needs_open : (i j : Held) (e e' : Engine) (w v : Wanted) (c : Contents) → 
 needs_open i j e e' w v c h = is_open i j e e' w v c h
 
 -- the next block is missing
-pub stopped_by : (e0 e e' : Engine) (p0 : Pending) (i j k : Held) (before after later : Option Script) (out0 reported0 out reported out' reported' : Option (List ℕ)) (w v : Wanted) (f : InputFault) → IsIdle e0 → Taking e0 p0 before after out0 reported0 w e i out reported → HandNeeds w e i v e' j (writers out out' reported reported') → BlockGives after later j k (Err f) → Expands e0 e' p0 before later (writers out0 out' reported0 reported') (fault_cause f)
-stopped_by e0 e e' p0 i j k before after later out0 reported0 out reported out' reported' w v faults.Read d t h g = fell_all e0 e e' p0 i j before after later out0 reported0 out reported out' reported' w v k d t h g
-stopped_by e0 e e' p0 i j k before after later out0 reported0 out reported out' reported' w v faults.OutOfMemory d t h g =
-    subst (λ (s : Option Script). ReadSo e0 p0 before s (λ d. Broken d (writers out0 out' reported0 reported'))) (sym g.0)
-    (lacked_all e0 e' p0 j before after out0 reported0 out' reported' v d (needs_more e0 e e' p0 i j before after out0 reported0 out reported out' reported' w v t h))
+pub stopped_by : (e0 e e' : Engine) (p0 : Pending) (i j k : Held) (before after later : Option Script) (out0 reported0 out reported out' reported' : Option (List ℕ)) (w v : Wanted) (f : InputFault) → IsIdle e0 → Taking e0 p0 before after out0 reported0 w e i out reported → HandNeeds w e i v e' j (writers out out' reported reported') → ReadsOn v e' after later j k (Err f) → Expands e0 e' p0 before later (writers out0 out' reported0 reported') (fault_cause f)
+stopped_by e0 e e' p0 i j k before after later out0 reported0 out reported out' reported' w v faults.Read d t h g = fell_all e0 e e' p0 i j k before after later out0 reported0 out reported out' reported' w v faults.Read d t h g.0 g.1
+stopped_by e0 e e' p0 i j k before after later out0 reported0 out reported out' reported' w v faults.OutOfMemory d t h g = lacked_all e0 e e' p0 i j k before after later out0 reported0 out reported out' reported' w v faults.OutOfMemory d t h g
 stopped_by e0 e e' p0 i j k before after later out0 reported0 out reported out' reported' w v (faults.EndInString n) d t h g = absurd g
 stopped_by e0 e e' p0 i j k before after later out0 reported0 out reported out' reported' w v (faults.EndInComment n) d t h g = absurd g
 
-pub stopped_so : (e0 e e' : Engine) (p0 : Pending) (i j k : Held) (before after later : Option Script) (out0 reported0 out reported out' reported' : Option (List ℕ)) (w v : Wanted) (f : InputFault) (cause : Cause) → cause ≡ fault_cause f → IsIdle e0 → Taking e0 p0 before after out0 reported0 w e i out reported → HandNeeds w e i v e' j (writers out out' reported reported') → BlockGives after later j k (Err f) → Expands e0 e' p0 before later (writers out0 out' reported0 reported') cause
+pub stopped_so : (e0 e e' : Engine) (p0 : Pending) (i j k : Held) (before after later : Option Script) (out0 reported0 out reported out' reported' : Option (List ℕ)) (w v : Wanted) (f : InputFault) (cause : Cause) → cause ≡ fault_cause f → IsIdle e0 → Taking e0 p0 before after out0 reported0 w e i out reported → HandNeeds w e i v e' j (writers out out' reported reported') → ReadsOn v e' after later j k (Err f) → Expands e0 e' p0 before later (writers out0 out' reported0 reported') cause
 stopped_so e0 e e' p0 i j k before after later out0 reported0 out reported out' reported' w v f cause c d t h g =
     subst (Expands e0 e' p0 before later (writers out0 out' reported0 reported')) (sym c) (stopped_by e0 e e' p0 i j k before after later out0 reported0 out reported out' reported' w v f d t h g)
 
 -- a reader that failed, by the fault
-pub fault_counted : (a b : Option Script) (j k : Held) (f : InputFault) (old mid new : ℕ) → j.fault ≡ None → BlockGives a b j k (Err f) → mid ≡ old → new ≡ failures_after j.fault k.fault mid → ReadsBy (fault_cause f) old new
-fault_counted a b j k faults.Read old mid new n g e c = c ∙ ap (λ o. failures_after o k.fault mid) n ∙ ap (λ (h : Held). failures_after None h.fault mid) g.2 ∙ ap one_more e
-fault_counted a b j k faults.OutOfMemory old mid new n g e c = c ∙ ap (λ o. failures_after o k.fault mid) n ∙ ap (λ (h : Held). failures_after None h.fault mid) g.1 ∙ e
-fault_counted a b j k (faults.EndInString l) old mid new n g e c = absurd g
-fault_counted a b j k (faults.EndInComment l) old mid new n g e c = absurd g
+pub fault_counted : (v : Wanted) (e : Engine) (a b : Option Script) (j k : Held) (f : InputFault) (old mid new : ℕ) → j.fault ≡ None → ReadsOn v e a b j k (Err f) → mid ≡ old → new ≡ failures_after j.fault k.fault mid → ReadsBy (fault_cause f) old new
+fault_counted v e a b j k faults.Read old mid new n g i c = c ∙ ap (λ o. failures_after o k.fault mid) n ∙ ap (λ (h : Held). failures_after None h.fault mid) (g.0).stopped ∙ ap one_more i
+fault_counted v e a b j k faults.OutOfMemory old mid new n g i c = c ∙ ap (λ o. failures_after o k.fault mid) n ∙ ap (λ (h : Held). failures_after None h.fault mid) g.stopped ∙ i
+fault_counted v e a b j k (faults.EndInString l) old mid new n g i c = absurd g
+fault_counted v e a b j k (faults.EndInComment l) old mid new n g i c = absurd g
 
-pub fault_counted_so : (a b : Option Script) (j k : Held) (f : InputFault) (cause : Cause) (old mid new : ℕ) → cause ≡ fault_cause f → j.fault ≡ None → BlockGives a b j k (Err f) → mid ≡ old → new ≡ failures_after j.fault k.fault mid → ReadsBy cause old new
-fault_counted_so a b j k f cause old mid new h n g e c = subst (λ (x : Cause). ReadsBy x old new) (sym h) (fault_counted a b j k f old mid new n g e c)
+pub fault_counted_so : (v : Wanted) (e : Engine) (a b : Option Script) (j k : Held) (f : InputFault) (cause : Cause) (old mid new : ℕ) → cause ≡ fault_cause f → j.fault ≡ None → ReadsOn v e a b j k (Err f) → mid ≡ old → new ≡ failures_after j.fault k.fault mid → ReadsBy cause old new
+fault_counted_so v e a b j k f cause old mid new h n g i c = subst (λ (x : Cause). ReadsBy x old new) (sym h) (fault_counted v e a b j k f old mid new n g i c)
 
 -- no writer failed
 pub none_failed : (cause : Cause) (f : InputFault) (w : Failures) → cause ≡ fault_cause f → NoneFailed w → FailsBy cause w
@@ -293,5 +367,5 @@ none_failed cause f w h n = subst (λ (x : Cause). FailsBy x w) (sym h) (by_faul
     by_fault (faults.EndInComment l) = n
 
 -- a block that came is no failure
-pub came_counted : (a b : Option Script) (j k : Held) (came : Bool) (mid new : ℕ) → j.fault ≡ None → BlockGives a b j k (Ok came) → new ≡ failures_after j.fault k.fault mid → new ≡ mid
-came_counted a b j k came mid new n g c = c ∙ ap (λ o. failures_after o k.fault mid) n ∙ ap (λ (h : Held). failures_after None h.fault mid) g.5 ∙ ap (λ o. failures_after None o mid) n
+pub came_counted : (v : Wanted) (e : Engine) (a b : Option Script) (j k : Held) (mid new : ℕ) → j.fault ≡ None → HasReadOn v e a b j k → new ≡ failures_after j.fault k.fault mid → new ≡ mid
+came_counted v e a b j k mid new n g c = c ∙ ap (λ o. failures_after o k.fault mid) n ∙ ap (λ o. failures_after None o mid) g.sound

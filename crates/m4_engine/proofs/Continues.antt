@@ -1,7 +1,6 @@
 -- Continues: an expansion with an open end goes on as far as its bytes decide, whatever follows them.
-use Rattle.std.proofs.Common.{◌≡◌, ◌≢◌, ◌⊎◌, inl, inr, ⊎_elim, Option, ℕ, zero, suc, ◌+◌, ◌-◌, ◌<◌, ◌≤◌, Bool, true, false, List, [], ◌∷◌, ◌++◌, length, take, drop, Some, None, refl, sym, ap, ◌∙◌, subst, arith, length-append, append_assoc}
+use Rattle.std.proofs.Common.{◌≡◌, ◌≢◌, ◌⊎◌, inl, inr, ⊎_elim, Option, ℕ, zero, suc, ◌<◌, ◌≤◌, Bool, true, false, List, [], ◌∷◌, ◌++◌, length, Some, None, refl, sym, ap, ◌∙◌, subst, arith}
 use Rattle.std.specs.Prelude.{nat_lt, ◌==◌}
-use Rattle.std.proofs.lemmas.List.{take-append-le, drop-append-le}
 use Rattle.m4_state.specs.declared.definition.Def.{Def}
 use Rattle.m4_state.specs.declared.delimiters.Delimiters.{Delimiters}
 use Rattle.m4_input.specs.declared.token.Token.{Token}
@@ -11,7 +10,7 @@ use Rattle.m4_input.specs.declared.front.Scan.TheVariants.{Found, Broken, NeedsM
 use Rattle.m4_input.specs.declared.front.Unended.{Unended}
 use Rattle.m4_input.specs.declared.front.Answer.{Answer}
 use Rattle.m4_input.specs.declared.front.Answer.TheVariants.{Yes, No, Unknown}
-use Rattle.m4_input.specs.Pending.{Pending, text_of, counted, consumed, line_length, one_more, newlines_in}
+use Rattle.m4_input.specs.Pending.{Pending, text_of, line_length, one_more}
 use Rattle.m4_input.specs.Token.{scan, Front, Taken, Refused, More, front_by, front_from, token_at}
 use Rattle.m4_input.specs.Paren.{paren_in, paren_from, paren_at}
 use Rattle.m4_state.specs.State.{top_of}

@@ -36,6 +36,7 @@ pub mod Passing
 pub mod SkippedLines
 pub mod Running
 pub mod Seen
+pub mod ReadingOn
 pub mod Blockwise
 pub mod Sessions
 pub mod Issues

@@ -1,6 +1,5 @@
 -- Longer: what the bytes in hand decide is so whatever follows them.
-use Rattle.std.proofs.Common.{◌≡◌, ⊎_elim, ℕ, Bool, true, false, List, [], ◌++◌, Option, None, append-nil, refl, sym, ap, ◌∙◌, subst}
-use Rattle.m4_state.specs.declared.definition.Def.{Def}
+use Rattle.std.proofs.Common.{◌≡◌, ⊎_elim, ℕ, Bool, true, false, List, [], ◌++◌, None, append-nil, refl, sym, ap, ◌∙◌}
 use Rattle.m4_state.specs.declared.delimiters.Delimiters.{Delimiters}
 use Rattle.m4_input.specs.declared.token.Token.{Token}
 use Rattle.m4_input.specs.declared.front.Scan.{Scan}

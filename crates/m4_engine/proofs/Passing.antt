@@ -1,10 +1,8 @@
 -- Passing: tokens that are text are put where they go at once as turns would put them there.
 use Rattle.std.specs.Prelude.{◌==◌, not, ◌&&◌, ◌||◌}
-use Rattle.std.proofs.Common.{◌≡◌, inl, inr, Bool, true, ℕ, ℤ, pos, ◌+◌, ◌-◌, ◌<◌, ◌≤◌, false, List, [], ◌∷◌, ◌++◌, Option, None, take, drop, length, refl, sym, ap, ◌∙◌, subst, arith, append-nil, append_assoc, add-zero, length-drop}
+use Rattle.std.proofs.Common.{◌≡◌, inl, inr, Bool, true, ℕ, ℤ, pos, ◌+◌, ◌-◌, ◌<◌, ◌≤◌, false, List, [], ◌∷◌, ◌++◌, Option, None, take, drop, length, refl, sym, ap, ◌∙◌, subst, arith, append-nil, append_assoc}
 use Rattle.std.proofs.Math.Seq.{take-add}
-use Rattle.std.proofs.lemmas.List.{drop-drop}
 use Rattle.m4_state.specs.declared.definition.Def.{Def}
-use Rattle.m4_state.specs.State.{State}
 use Rattle.m4_input.specs.declared.token.Token.TheVariants.{Name, Str, Byte}
 use Rattle.m4_input.specs.Pending.{Pending, text_of, counted, consumed, newlines_in}
 use Rattle.m4_input.specs.Ascii.{is_space}

@@ -1,8 +1,7 @@
 -- Running: the state of the loop over the turns of the bytes in hand, and what its ends say.
 use Rattle.std.proofs.Common.{◌≡◌, ◌<◌, ◌≤◌, ℕ, Bool, true, false, List, [], ◌∷◌, ◌++◌, Option, Some, None, refl, sym, ap, ◌∙◌, subst, append-nil, append_assoc, arith}
-use Rattle.std.specs.Prelude.{Ok}
 use Rattle.m4_state.proofs.CallerLaws.{with_bytes-append, with_bytes-nil}
-use Rattle.m4_state.specs.Device.{with_bytes, HasBegun}
+use Rattle.m4_state.specs.Device.{with_bytes}
 use Rattle.m4_input.specs.Pending.{Pending, text_of, line_length}
 use Rattle.m4_input.specs.Input.{Held, longer, all_read, after_line}
 use Rattle.m4_input.specs.Blocks.{LineGives}
@@ -15,10 +14,10 @@ use Rattle.m4_engine.specs.declared.in_hand.Wanted.TheVariants as wanted
 use Rattle.m4_engine.specs.declared.turned.Turned.{Turned}
 use Rattle.m4_engine.specs.declared.turned.Turned.TheVariants as turns
 use Rattle.m4_engine.specs.Nesting.{Outcome, Halted, Closed, then_on}
-use Rattle.m4_engine.specs.OpenCalls.{Stacked, Move, Goes, pop, resume, moved_meaning}
-use Rattle.m4_engine.specs.Expansion.{RunSoFar, Call, Expansion, Kept, Ended, Ends, NeedsInput}
+use Rattle.m4_engine.specs.OpenCalls.{pop, resume, moved_meaning}
+use Rattle.m4_engine.specs.Expansion.{RunSoFar, Expansion, Kept, Ended, Ends, NeedsInput}
 use Rattle.m4_engine.specs.Expand.{turn, join, expand, skip_line, skip_all, out_of_bound_at, size_of, calls_left}
-use Rattle.m4_engine.specs.Engine.{Engine, MayFollow, Moving, so_far_of, outer_of, here_of, configuration, after_flush, line_move, moved, IsReady, IsFront, Moves, Needs, IsMade, IsTurned, Stays, StaysBy, Passes}
+use Rattle.m4_engine.specs.Engine.{Engine, MayFollow, Moving, so_far_of, outer_of, here_of, configuration, after_flush, moved, IsReady, Moves, Needs, IsMade, IsTurned, StaysBy, Passes}
 use Rattle.m4_engine.specs.Expands.{FlushesPrefix, FlushesSome}
 use Rattle.m4_engine.specs.Continued.{skipped_first, comes_to, Leads, HasWritten, IsFlushed, HandNeeds, HandEnds, HandBreaks, HandGives, HasMade, so_far_in}
 use Rattle.m4_engine.specs.Writers.{Contents, writers}
@@ -26,10 +25,9 @@ use Rattle.m4_engine.proofs.Begins.{some_all}
 use Rattle.m4_engine.proofs.CallsFall.{falls}
 use Rattle.m4_engine.proofs.Growth.{Extends, made_out}
 use Rattle.m4_engine.proofs.Inputs.{none_is_front}
-use Rattle.m4_engine.proofs.Longer.{nothing_more}
-use Rattle.m4_engine.proofs.LoopKeeps.{turns_of, move_falls, meaning_of, some_means, moved_on, end_means}
+use Rattle.m4_engine.proofs.LoopKeeps.{turns_of, move_falls, meaning_of, moved_on, end_means}
 use Rattle.m4_engine.proofs.MachineIsNesting.{resume-halted, popped, move_keeps}
-use Rattle.m4_engine.proofs.Passing.{Reaches, passes_reaches, passes_ready, passes_limits, passes_follows}
+use Rattle.m4_engine.proofs.Passing.{passes_reaches, passes_ready, passes_limits, passes_follows}
 use Rattle.m4_engine.proofs.OnlyGrows.{extends_same, extends_more, whole_keeps, then_keeps, list_keeps}
 use Rattle.m4_engine.proofs.SkippedLines.{all_gone, skip_cut, line_done, line_keeps, line_drops}
 

@@ -3,7 +3,7 @@ use Rattle.std.proofs.Common.{◌≡◌, inl, inr, ℕ, Bool, true, false, List,
 use Rattle.std.specs.Prelude.{Result, Ok, Err}
 use Rattle.m4_state.proofs.CallerLaws.{with_bytes-nil}
 use Rattle.m4_state.specs.State.{State, IsSized}
-use Rattle.m4_state.specs.Device.{Script, after_bytes, IsAtEnd, with_bytes, HasBegun, one_more}
+use Rattle.m4_state.specs.Device.{Script, with_bytes, HasBegun, one_more}
 use Rattle.m4_input.specs.Pending.{Pending}
 use Rattle.m4_input.specs.Input.{Held, unread_file, wrapped_pending, wrapped_text, longer, Reads}
 use Rattle.m4_frozen.specs.Freeze.{freeze}
@@ -77,8 +77,8 @@ not_open true c h e = let f : c ≡ true = h refl in cc
 not_open false c h e = refl
 
 -- nothing follows it, and its reader is not asked
-closed_so : (old : Engine) (p : Pending) (before after : Option Script) (P : Ended → Type 0) → p.may_follow ≡ false → ReadSo old p before after P → (after ≡ before) × P (input_expansion old p)
-closed_so old p before after P c r =
+closed_so : (old : Engine) (p : Pending) (before after : Option Script) (w : Contents) (P : Ended → Type 0) → p.may_follow ≡ false → ReadSo old p before after w P → (after ≡ before) × P (input_expansion old p)
+closed_so old p before after w P c r =
     let still : (r.q).may_follow ≡ false = not_open (r.q).may_follow p.may_follow (r.reads).still c in
     let same : longer [] false r.q ≡ p =
     closed_same r.q still ∙ (r.reads).in_hand ∙ ap (λ (b : Bool). longer r.x b p) still ∙ ap (λ (x : List ℕ). longer x false p) ((r.reads).closed c).0 ∙ closed_same p c in
@@ -93,15 +93,15 @@ closed_fell old p before after w c f =
 pub closed_expands : (old new : Engine) (p : Pending) (before after : Option Script) (w : Contents) (cause : Cause) → p.may_follow ≡ false → Expands old new p before after w cause → (after ≡ before) × ClosedExpands old new p w cause
 closed_expands old new p before after w (causes.Frozen f) c h = absurd h
 closed_expands old new p before after w causes.Read c h = absurd (closed_fell old p before after w c h)
-closed_expands old new p before after w causes.Write c h = closed_so old p before after _ c h
-closed_expands old new p before after w causes.OutOfMemory c h = closed_so old p before after _ c h
-closed_expands old new p before after w causes.Done c h = closed_so old p before after _ c h
-closed_expands old new p before after w (causes.Exited n) c h = closed_so old p before after _ c h
-closed_expands old new p before after w causes.EndInString c h = closed_so old p before after _ c h
-closed_expands old new p before after w causes.EndInComment c h = closed_so old p before after _ c h
-closed_expands old new p before after w causes.EndInArguments c h = closed_so old p before after _ c h
-closed_expands old new p before after w causes.ExpansionLimit c h = closed_so old p before after _ c h
-closed_expands old new p before after w causes.NestingLimit c h = closed_so old p before after _ c h
+closed_expands old new p before after w causes.Write c h = closed_so old p before after w _ c h
+closed_expands old new p before after w causes.OutOfMemory c h = closed_so old p before after w _ c h
+closed_expands old new p before after w causes.Done c h = closed_so old p before after w _ c h
+closed_expands old new p before after w (causes.Exited n) c h = closed_so old p before after w _ c h
+closed_expands old new p before after w causes.EndInString c h = closed_so old p before after w _ c h
+closed_expands old new p before after w causes.EndInComment c h = closed_so old p before after w _ c h
+closed_expands old new p before after w causes.EndInArguments c h = closed_so old p before after w _ c h
+closed_expands old new p before after w causes.ExpansionLimit c h = closed_so old p before after w _ c h
+closed_expands old new p before after w causes.NestingLimit c h = closed_so old p before after w _ c h
 
 -- a file's reader failed where the expansion says so
 pub expand_reads : (cause : Cause) (old mid new : ℕ) → mid ≡ old → ReadsBy cause mid new → ReadFails (answer_by cause) old new
@@ -146,13 +146,12 @@ taken_file : (name x : List ℕ) (before after : Option Script) (q : Pending) (z
 taken_file name x before after q z more r = ap (longer z more) r.in_hand
 
 -- a file was read to an end
-file_done : (e0 e1 : Engine) (any_missing : Bool) (name : List ℕ) (before after : Option Script) (w : Contents) → ReadSo e0 (unread_file name).pending before after (λ d. Expanded e0 e1 d causes.Done w) → FileDone name before after (session_of e0 any_missing None false) (session_of (at_rest e1) any_missing None false) w
+file_done : (e0 e1 : Engine) (any_missing : Bool) (name : List ℕ) (before after : Option Script) (w : Contents) → ReadSo e0 (unread_file name).pending before after w (λ d. Expanded e0 e1 d causes.Done w) → FileDone name before after (session_of e0 any_missing None false) (session_of (at_rest e1) any_missing None false) w
 file_done e0 e1 any_missing name before after w r =
     let still : (r.q).may_follow ≡ false = by_flag (r.q).may_follow (λ f. never_done e0 r.q f
     (ap (λ (q : Pending). (input_expansion e0 q).reason) (sym (nothing_more r.q)) ∙ (r.so [] (r.q).may_follow (nothing_follows (r.q).may_follow)).reason)) in
     let whole : r.q ≡ file_pending name r.x false = (r.reads).in_hand ∙ ap (λ (b : Bool). longer r.x b (unread_file name).pending) still in
-    let k : Expanded e0 e1 (input_expansion e0 r.q) causes.Done w = subst (λ (q : Pending). Expanded e0 e1 (input_expansion e0 q) causes.Done w) (nothing_more r.q) (r.so [] (r.q).may_follow (nothing_follows (r.q).may_follow)) in
-    (
+    let k : Expanded e0 e1 (input_expansion e0 r.q) causes.Done w = subst (λ (q : Pending). Expanded e0 e1 (input_expansion e0 q) causes.Done w) (nothing_more r.q) (r.so [] (r.q).may_follow (nothing_follows (r.q).may_follow)) in (
       r.x,
       (r.reads).given,
       (r.reads).at_end refl still,
@@ -161,7 +160,7 @@ file_done e0 e1 any_missing name before after w r =
     )
 
 -- what was read ended the run
-file_ended : (e0 e1 : Engine) (any_missing : Bool) (name : List ℕ) (cause : Cause) (before after : Option Script) (w : Contents) → how_over (Some cause) ≡ over_by cause → ReadSo e0 (unread_file name).pending before after (λ d. Expanded e0 e1 d cause w) → FileEnded name before after (session_of e0 any_missing None false) (session_of (at_rest e1) any_missing (Some cause) false) w cause
+file_ended : (e0 e1 : Engine) (any_missing : Bool) (name : List ℕ) (cause : Cause) (before after : Option Script) (w : Contents) → how_over (Some cause) ≡ over_by cause → ReadSo e0 (unread_file name).pending before after w (λ d. Expanded e0 e1 d cause w) → FileEnded name before after (session_of e0 any_missing None false) (session_of (at_rest e1) any_missing (Some cause) false) w cause
 file_ended e0 e1 any_missing name cause before after w o r = (
   record {
     x = r.x;
@@ -175,7 +174,7 @@ file_ended e0 e1 any_missing name cause before after w o r = (
 )
 
 -- a file broke off
-file_broke : (e0 e1 : Engine) (any_missing : Bool) (name : List ℕ) (cause : Cause) (before after : Option Script) (w : Contents) → ReadSo e0 (unread_file name).pending before after (λ d. Broken d w) → FileBroke name before after (session_of e0 any_missing None false) (session_of (at_rest e1) any_missing (Some cause) false) w cause
+file_broke : (e0 e1 : Engine) (any_missing : Bool) (name : List ℕ) (cause : Cause) (before after : Option Script) (w : Contents) → ReadSo e0 (unread_file name).pending before after w (λ d. Broken d w) → FileBroke name before after (session_of e0 any_missing None false) (session_of (at_rest e1) any_missing (Some cause) false) w cause
 file_broke e0 e1 any_missing name cause before after w r = (
   record {
     x = r.x;

@@ -1,5 +1,5 @@
 -- SkippedLines: a line that is discarded in parts, as its bytes come.
-use Rattle.std.proofs.Common.{◌≡◌, ◌≤◌, ℕ, zero, suc, ◌+◌, ◌-◌, Bool, true, false, List, [], ◌∷◌, ◌++◌, length, Option, Some, None, refl, sym, ap, ◌∙◌, subst, arith, length-append}
+use Rattle.std.proofs.Common.{◌≡◌, ℕ, suc, ◌+◌, ◌-◌, Bool, true, false, List, [], ◌∷◌, ◌++◌, length, Option, Some, None, refl, sym, ap, ◌∙◌, subst, arith, length-append}
 use Rattle.std.specs.Prelude.{◌==◌}
 use Rattle.m4_input.specs.Pending.{Pending, text_of, consumed, line_length, one_more}
 use Rattle.m4_input.specs.Input.{longer, all_read, all_read_if_ended, after_line_of, after_line}

@@ -1,5 +1,5 @@
 -- Turning: a turn is what the token at the front makes of it, whatever follows the bytes in hand.
-use Rattle.std.proofs.Common.{◌≡◌, ◌⊎◌, inl, inr, ℕ, Bool, true, false, List, [], ◌∷◌, drop, Option, Some, None, append-nil, refl, sym, ap, ◌∙◌, subst}
+use Rattle.std.proofs.Common.{◌≡◌, ◌⊎◌, inl, inr, ℕ, Bool, List, [], ◌∷◌, drop, Option, Some, None, refl, sym, ap, ◌∙◌, subst}
 use Rattle.std.specs.Prelude.{Result, Ok, Err, IfOk}
 use Rattle.m4_state.specs.declared.definition.Def.{Def}
 use Rattle.m4_state.specs.declared.delimiters.Delimiters.{Delimiters}
@@ -10,8 +10,8 @@ use Rattle.m4_input.specs.declared.front.Unended.{Unended}
 use Rattle.m4_input.specs.declared.token.Token.{Token}
 use Rattle.m4_input.specs.declared.token.Token.TheVariants.{Name, Str, Comment, Definition, End}
 use Rattle.m4_input.specs.Pending.{Pending, text_of, line_of, name_of, consumed}
-use Rattle.m4_input.specs.Token.{scan, Taken, Refused, More, front_by, front_from, token_at}
-use Rattle.m4_input.specs.Paren.{paren_in, paren_at}
+use Rattle.m4_input.specs.Token.{scan, Taken, Refused, front_by, front_from, token_at}
+use Rattle.m4_input.specs.Paren.{paren_in}
 use Rattle.m4_input.specs.Input.{Held, longer}
 use Rattle.m4_input.proofs.Consumed.{scan_plain, NoDefinition}
 use Rattle.m4_input.proofs.Decided.{scan_open, paren_open}
@@ -23,12 +23,12 @@ use Rattle.m4_engine.specs.declared.turned.TurnFault.{TurnFault}
 use Rattle.m4_engine.specs.declared.turned.Turned.TheVariants as turns
 use Rattle.m4_engine.specs.Nesting.{GoOn, Halted}
 use Rattle.m4_engine.specs.OpenCalls.{Stops, Goes}
-use Rattle.m4_engine.specs.Expansion.{Call, Ends, NeedsInput, place_at, put_token, reading}
+use Rattle.m4_engine.specs.Expansion.{Call, Ends, place_at, put_token, reading}
 use Rattle.m4_engine.specs.Expand.{take_call, take_end, take_name, take_token, take_front, call_of, unended_text, unended_cause}
 use Rattle.m4_engine.specs.Engine.{Engine, so_far_of, mode_of, outer_of, here_of, configuration, with_engine_message, with_text, with_token, put_token_in, step, moved, MayFollow, Extended, IsReady, Stays, Moves, Makes, Steps, Turns, Needs}
 use Rattle.m4_engine.proofs.Acts.{result_by, turned_steps, turned_makes, text_limits, token_limits}
 use Rattle.m4_engine.proofs.Calling.{failed_at}
-use Rattle.m4_engine.proofs.Longer.{nothing_more, nothing_follows, found_longer, broken_longer}
+use Rattle.m4_engine.proofs.Longer.{found_longer, broken_longer}
 use Rattle.m4_engine.proofs.Named.{place_of_file}
 use Rattle.m4_engine.proofs.Seen.{list_there, word_moves, string_moves}
 

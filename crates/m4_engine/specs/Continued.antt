@@ -1,7 +1,7 @@
 -- Continued: an expansion of which the bytes in hand were expanded, whatever follows them.
 -- Not believed: it connects the driver with `Expand`.
 -- Words: comes_to, Leads, HasWritten, IsFlushed, HandNeeds, HandEnds, HasMade, HandBreaks, HandGives.
-use Rattle.std.specs.Prelude.{◌≡◌, ℕ, Bool, true, false, List, [], ◌++◌}
+use Rattle.std.specs.Prelude.{◌≡◌, ℕ, Bool, true, List, [], ◌++◌}
 use Rattle.m4_state.specs.Device.{with_bytes}
 use Rattle.m4_input.specs.declared.fault.InputFault.{InputFault}
 use Rattle.m4_input.specs.declared.fault.InputFault.TheVariants as faults

@@ -1,7 +1,7 @@
 -- Engine: a run between two turns, as the machine represents it, and the steps of a turn.
 -- Not believed: it connects the code with `Expand`; the turns' lemmas prove that they agree.
 use Rattle.std.specs.Fmt.{decimal}
-use Rattle.std.specs.Prelude.{◌≡◌, codes, nat_lt, not, ◌&&◌, suc, Option, Some, None, ℕ, pos, Bool, true, false, List, [], ◌∷◌, ◌++◌, length, take, ◌⊎◌, Result, Ok, IfOk, OnOk}
+use Rattle.std.specs.Prelude.{◌≡◌, codes, nat_lt, not, ◌&&◌, suc, Option, Some, None, ℕ, pos, Bool, true, false, List, [], ◌∷◌, ◌++◌, length, take, ◌⊎◌, Result, IfOk, OnOk}
 use Rattle.m4_state.specs.declared.definition.Def.{Def}
 use Rattle.m4_state.specs.State.{State, appended}
 use Rattle.m4_input.specs.Pending.{Pending, text_of, consumed, line_length}

@@ -1,17 +1,17 @@
 -- Expands: the effect of an input's expansion on the machine and the writers.
 -- Not believed: it connects the machine with `Session`, which says the same of a source.
 -- Manual: "How m4 copies input to output".
--- Words: made_before, input_expansion, Expanded, ReadSo, Fell, Expands, ReadsBy, FlushesPrefix, IsInOrder, IsIdle.
-use Rattle.std.specs.Prelude.{◌≡◌, ℕ, Bool, true, List, [], ◌++◌, ◌⊎◌, Option}
+-- Words: made_before, input_expansion, Expanded, LastAsked, ReadSo, Fell, Expands, ReadsBy, FlushesPrefix, IsInOrder, IsIdle.
+use Rattle.std.specs.Prelude.{◌≡◌, ◌≤◌, ℕ, Bool, true, List, [], ◌++◌, ◌⊎◌, Option, length}
 use Rattle.m4_state.specs.Device.{Script, with_bytes, HasBegun, IsAtFault, one_more}
 use Rattle.m4_input.specs.Pending.{Pending}
-use Rattle.m4_input.specs.Input.{longer, Reads}
+use Rattle.m4_input.specs.Input.{longer, Reads, block}
 use Rattle.m4_engine.specs.declared.ending.Cause.{Cause}
 use Rattle.m4_engine.specs.declared.ending.Cause.TheVariants as causes
 use Rattle.m4_engine.specs.Expansion.{RunSoFar, Ended, Ends, NeedsInput}
 use Rattle.m4_engine.specs.Expand.{expand_input}
 use Rattle.m4_engine.specs.Engine.{Engine, MayFollow}
-use Rattle.m4_engine.specs.Writers.{Contents, Broken}
+use Rattle.m4_engine.specs.Writers.{Contents, Broken, WroteAtLeast}
 
 -- a run so far, if its earlier output and messages were written
 abbrev pub made_before : Engine → RunSoFar
@@ -37,11 +37,23 @@ pub record Expanded (old new : Engine) (d : Ended) (cause : Cause) (w : Contents
   pub output : w.out_new ≡ with_bytes w.out_old (d.so_far).output
   pub messages : w.messages_new ≡ with_bytes w.messages_old (d.so_far).messages
 
+-- `asked`, a beginning of the bytes that the reader gave and at most a block shorter, leaves open how the expansion
+-- continues: there the last of them were asked for, after all that `asked` decides was written
+pub record LastAsked (old : Engine) (p : Pending) (x : List ℕ) (w : Contents) : Type 0 where
+  pub asked : List ℕ
+  pub last : List ℕ
+  pub parts : x ≡ asked ++ last
+  pub within : length last ≤ block
+  pub undecided : (input_expansion old (longer asked true p)).reason ≡ NeedsInput
+  pub written : WroteAtLeast ((input_expansion old (longer asked true p)).so_far).output
+      ((input_expansion old (longer asked true p)).so_far).messages w
+
 -- the reader gave x, so that q is in hand of the input; and whatever follows q, P is so of the expansion
-pub record ReadSo (old : Engine) (p : Pending) (before after : Option Script) (P : Ended → Type 0) : Type 0 where
+pub record ReadSo (old : Engine) (p : Pending) (before after : Option Script) (w : Contents) (P : Ended → Type 0) : Type 0 where
   pub x : List ℕ
   pub q : Pending
   pub reads : Reads before after p x q
+  pub asked : (x ≡ []) ⊎ LastAsked old p x w
   pub so : (z : List ℕ) (more : Bool) → MayFollow q.may_follow z more → P (input_expansion old (longer z more q))
 
 -- the reader failed: all that the bytes before its fault decide was made
@@ -57,9 +69,9 @@ pub record Fell (old : Engine) (p : Pending) (before after : Option Script) (w :
 abbrev pub Expands : Engine → Engine → Pending → Option Script → Option Script → Contents → Cause → Type 0
 Expands old new p before after w (causes.Frozen fault) = ⊥
 Expands old new p before after w causes.Read = Fell old p before after w
-Expands old new p before after w causes.Write = ReadSo old p before after (λ d. Broken d w)
-Expands old new p before after w causes.OutOfMemory = ReadSo old p before after (λ d. Broken d w)
-Expands old new p before after w cause = ReadSo old p before after (λ d. Expanded old new d cause w)
+Expands old new p before after w causes.Write = ReadSo old p before after w (λ d. Broken d w)
+Expands old new p before after w causes.OutOfMemory = ReadSo old p before after w (λ d. Broken d w)
+Expands old new p before after w cause = ReadSo old p before after w (λ d. Expanded old new d cause w)
 
 -- an expansion ends by a read fault if its reader failed in it, once
 abbrev pub ReadsBy : Cause → ℕ → ℕ → Type 0

@@ -18,6 +18,7 @@ pub mod MachineView
 pub mod Writers
 pub mod Expands
 pub mod Continued
+pub mod ReadsOn
 pub mod RunSources
 pub mod Session
 pub mod SessionView

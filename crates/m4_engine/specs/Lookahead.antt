@@ -1,7 +1,7 @@
 -- Lookahead: the next token, as far as it was recognised before a turn consumes it.
 -- Not believed: it connects the code with `Expand`; the turns' lemmas prove that they agree.
 -- Words: IsMeaning, Fits, IsNamed, IsLookaheadOf.
-use Rattle.std.specs.Prelude.{◌≡◌, ◌&&◌, ◌<◌, ◌≤◌, not, Bool, true, false, ℕ, List, [], None, Some, length, take, drop}
+use Rattle.std.specs.Prelude.{◌≡◌, ◌&&◌, ◌<◌, ◌≤◌, not, Bool, true, ℕ, List, [], None, Some, length, take, drop}
 use Rattle.m4_state.specs.declared.definition.Def.TheVariants.{Text}
 use Rattle.m4_state.specs.State.{State, top_of}
 use Rattle.m4_input.specs.declared.front.Scan.TheVariants.{Found}

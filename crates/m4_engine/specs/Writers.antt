@@ -1,9 +1,9 @@
 -- Writers: a call's writers before and after it: the bytes of each, and how often it failed.
 -- Believed: each clause on written bytes cites it. Manual: "Invoking m4".
 -- Words: Both, writers, both, Three, three, Contents, Failures, NoneFailed, OneFailed, NoneOfThree,
--- IsSpared, OneOfThree, Spares, FailsOnce, ByCause, FailsBy, Broken.
-use Rattle.std.specs.Prelude.{◌≡◌, ℕ, List, Option, ◌⊎◌, Result, Ok, Err}
-use Rattle.m4_state.specs.Device.{HasBegun, one_more}
+-- IsSpared, OneOfThree, Spares, FailsOnce, ByCause, FailsBy, Broken, WroteAtLeast.
+use Rattle.std.specs.Prelude.{◌≡◌, ℕ, List, ◌++◌, Option, ◌⊎◌, Result, Ok, Err}
+use Rattle.m4_state.specs.Device.{with_bytes, HasBegun, one_more}
 use Rattle.m4_engine.specs.declared.ending.Cause.{Cause}
 use Rattle.m4_engine.specs.declared.ending.Cause.TheVariants as causes
 use Rattle.m4_engine.specs.Expansion.{Ended}
@@ -97,3 +97,10 @@ Spares cause w = IsSpared w
 pub record Broken (d : Ended) (w : Contents) : Type 0 where
   pub output : HasBegun w.out_old w.out_new (d.so_far).output
   pub messages : HasBegun w.messages_old w.messages_new (d.so_far).messages
+
+-- this output and these messages were written, and perhaps more
+pub record WroteAtLeast (made reported : List ℕ) (w : Contents) : Type 0 where
+  pub more : List ℕ
+  pub output : w.out_new ≡ with_bytes w.out_old (made ++ more)
+  pub more_messages : List ℕ
+  pub messages : w.messages_new ≡ with_bytes w.messages_old (reported ++ more_messages)

@@ -1,17 +1,20 @@
 //! Expands an input turn by turn. Messages are flushed as they arise, and output once a block of it is
 //! buffered. Manual: "How m4 copies input to output".
 
-ghost use Rattle.std.specs.Prelude.{◌≡◌, ◌<◌, ◌≤◌, [], length, take, OnOk, OnErr};
+ghost use Rattle.std.specs.Prelude.{◌≡◌, ◌<◌, ◌≤◌, true, None, Ok, [], length, take, OnOk, OnErr};
 ghost use Rattle.m4_state.specs.Device.{with_bytes};
+ghost use Rattle.m4_input.specs.Input.{failures_after};
 ghost use Rattle.m4_engine.specs.Engine.{IsReady, after_flush};
 ghost use Rattle.m4_engine.specs.Writers.{both, FailsBy, FailsOnce};
 ghost use Rattle.m4_engine.specs.Continued.{HandGives, IsFlushed, cause_of, fault_cause};
+ghost use Rattle.m4_engine.specs.ReadsOn.{ReadsOn};
 ghost use Rattle.m4_engine.specs.Expands.{Expands, ReadsBy, FlushesPrefix, FlushesSome, IsInOrder, IsIdle, at_rest};
 
 use crate::ending::Cause;
 use crate::in_hand::{InHand, Wanted};
 use crate::machine::Machine;
 use crate::turned::{TurnFault, Turned};
+use m4_input::delims::Delims;
 use m4_input::fault::InputFault;
 use m4_input::input::Input;
 use m4_state::device::{ByteSink, ByteSource, DeviceFault};
@@ -152,6 +155,30 @@ impl Machine {
         }
     }
 
+    /// Asks the reader for a block and, if the next token is wanted, for further ones while they leave it open.
+    fn read_on<R: ByteSource>(
+        &self,
+        wanted: Wanted,
+        input: &mut Input,
+        reader: &mut R,
+    ) -> Result<(), InputFault>
+        requires open { input.old.pending.may_follow ≡ true }
+        requires sound { input.old.fault ≡ None }
+        ensures gives { ReadsOn wanted self.now (R.script reader.old) (R.script reader.new) input.old input.new result }
+        ensures falls { result ≡ Ok tt → input.new.pending.may_follow ≡ true
+            → R.takes_left reader.new < R.takes_left reader.old }
+        ensures counted { R.failures reader.new
+            ≡ failures_after input.old.fault input.new.fault (R.failures reader.old) }
+    {
+        match wanted {
+            Wanted::Line => {
+                let _came = input.more(reader)?;
+                Ok(())
+            }
+            Wanted::Token => input.more_of_token(reader, &Delims::of(&self.state)),
+        }
+    }
+
     /// Expands an input to its end. The reader is asked for a block only where the bytes in hand leave open how
     /// the expansion continues, and all output and messages are flushed before.
     pub fn expand<R: ByteSource, O: ByteSink, M: ByteSink>(
@@ -174,7 +201,7 @@ impl Machine {
                 InHand::Ends(cause) => return cause,
                 InHand::Needs(more) => wanted = more,
             }
-            if let Err(fault) = input.more(reader) {
+            if let Err(fault) = self.read_on(wanted, input, reader) {
                 return cause_of_fault(fault);
             }
         }

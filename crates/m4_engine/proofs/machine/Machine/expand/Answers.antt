@@ -1,5 +1,5 @@
-use Rattle.std.proofs.Common.{◌≡◌, rules, refl, ◌∙◌}
-use Rattle.m4_engine.proofs.Blockwise.{takes_nothing, needs_more, needs_so, needs_open, block_came, stopped_so, fault_counted_so, none_failed, came_counted, ends_so}
+use Rattle.std.proofs.Common.{refl, ◌∙◌}
+use Rattle.m4_engine.proofs.Blockwise.{takes_nothing, needs_so, blocks_came, stopped_so, fault_counted_so, none_failed, came_counted, ends_so}
 use Rattle.m4_engine.proofs.machine.Machine.expand.Goals as goal
 
 pub blocks-2-init : goal.blocks-2-init
@@ -14,10 +14,9 @@ returns-in-Ends-clause-expands g c = ends_so c.args.self.now c.blocks-2.self c.e
 pub blocks-2-preserved : goal.blocks-2-preserved
 blocks-2-preserved g c =
     let h = needs_so c.blocks-2.wanted c.in-Needs.more c.blocks-2.self c.expand_in_hand.new.self c.blocks-2.input c.expand_in_hand.new.input _ c.expand_in_hand.result c.in-Needs.is c.expand_in_hand.ensures.gives in
-    let t = needs_more c.args.self.now c.blocks-2.self c.expand_in_hand.new.self c.args.input.now.pending c.blocks-2.input c.expand_in_hand.new.input _ _ _ _ _ _ _ _ c.blocks-2.wanted c.in-Needs.more c.blocks-2.invariant.takes h in
     record {
-      takes = block_came c.args.self.now c.expand_in_hand.new.self c.args.input.now.pending c.expand_in_hand.new.input c.more.new.self _ _ _ _ _ _ _ c.in-Needs.more c.in_default.field-0 (needs_open c.blocks-2.input c.expand_in_hand.new.input c.blocks-2.self c.expand_in_hand.new.self c.blocks-2.wanted c.in-Needs.more _ h) t c.in_default.ensures.gives;
-      read = came_counted _ _ c.expand_in_hand.new.input c.more.new.self c.in_default.field-0 _ _ h.ready.sound c.in_default.ensures.gives c.in_default.ensures.counted ∙ c.blocks-2.invariant.read;
+      takes = blocks_came c.args.self.now c.blocks-2.self c.expand_in_hand.new.self c.args.input.now.pending c.blocks-2.input c.expand_in_hand.new.input c.read_on.new.input _ _ _ _ _ _ _ _ _ c.blocks-2.wanted c.in-Needs.more c.requires.idle c.blocks-2.invariant.takes h c.in_default.ensures.gives;
+      read = came_counted c.in-Needs.more c.expand_in_hand.new.self _ _ c.expand_in_hand.new.input c.read_on.new.input _ _ h.ready.sound c.in_default.ensures.gives c.in_default.ensures.counted ∙ c.blocks-2.invariant.read;
       out = c.in-Needs.ensures.counted.0 ∙ c.blocks-2.invariant.out;
       reported = c.in-Needs.ensures.counted.1 ∙ c.blocks-2.invariant.reported;
     }
@@ -26,7 +25,7 @@ pub returns-in-Err : goal.returns-in-Err
 returns-in-Err g c =
     let h = needs_so c.blocks-2.wanted c.in-Needs.more c.blocks-2.self c.expand_in_hand.new.self c.blocks-2.input c.expand_in_hand.new.input _ c.expand_in_hand.result c.in-Needs.is c.expand_in_hand.ensures.gives in
     record {
-      expands = stopped_so c.args.self.now c.blocks-2.self c.expand_in_hand.new.self c.args.input.now.pending c.blocks-2.input c.expand_in_hand.new.input c.more.new.self _ _ _ _ _ _ _ _ _ c.blocks-2.wanted c.in-Needs.more c.in-Err.fault c.cause_of_fault.result c.cause_of_fault.ensures c.requires.idle c.blocks-2.invariant.takes h c.in-Err.ensures.gives;
-      read = fault_counted_so _ _ c.expand_in_hand.new.input c.more.new.self c.in-Err.fault c.cause_of_fault.result _ _ _ c.cause_of_fault.ensures h.ready.sound c.in-Err.ensures.gives c.blocks-2.invariant.read c.in-Err.ensures.counted;
+      expands = stopped_so c.args.self.now c.blocks-2.self c.expand_in_hand.new.self c.args.input.now.pending c.blocks-2.input c.expand_in_hand.new.input c.read_on.new.input _ _ _ _ _ _ _ _ _ c.blocks-2.wanted c.in-Needs.more c.in-Err.fault c.cause_of_fault.result c.cause_of_fault.ensures c.requires.idle c.blocks-2.invariant.takes h c.in-Err.ensures.gives;
+      read = fault_counted_so c.in-Needs.more c.expand_in_hand.new.self _ _ c.expand_in_hand.new.input c.read_on.new.input c.in-Err.fault c.cause_of_fault.result _ _ _ c.cause_of_fault.ensures h.ready.sound c.in-Err.ensures.gives c.blocks-2.invariant.read c.in-Err.ensures.counted;
       counted = none_failed c.cause_of_fault.result c.in-Err.fault _ c.cause_of_fault.ensures (c.in-Needs.ensures.counted.0 ∙ c.blocks-2.invariant.out, c.in-Needs.ensures.counted.1 ∙ c.blocks-2.invariant.reported);
     }

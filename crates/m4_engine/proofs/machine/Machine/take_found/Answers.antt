@@ -1,4 +1,4 @@
-use Rattle.std.proofs.Common.{rules, ◌∙◌, ap, inl, inr}
+use Rattle.std.proofs.Common.{rules, ◌∙◌, ap}
 use Rattle.m4_input.specs.declared.front.Scan.TheVariants.{Found}
 use Rattle.m4_input.specs.declared.token.Token.TheVariants.{Byte}
 use Rattle.m4_input.specs.Pending.{text_of}

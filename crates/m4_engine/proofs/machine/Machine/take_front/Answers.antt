@@ -1,4 +1,4 @@
-use Rattle.std.proofs.Common.{rules, sym}
+use Rattle.std.proofs.Common.{rules}
 use Rattle.m4_engine.proofs.Turning.{broken_turn, token_turn, turns_from}
 use Rattle.m4_engine.proofs.machine.Machine.take_front.Goals as goal
 

@@ -1,5 +1,4 @@
 use Rattle.std.proofs.Common.{rules}
-use Rattle.m4_input.specs.Input.{longer}
 use Rattle.m4_input.specs.Pending.{name_of}
 use Rattle.m4_input.specs.declared.token.Token.TheVariants.{Name}
 use Rattle.m4_engine.specs.Engine.{is_bare}

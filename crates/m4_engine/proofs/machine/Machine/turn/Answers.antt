@@ -1,8 +1,6 @@
-use Rattle.std.proofs.Common.{rules, refl, take}
+use Rattle.std.proofs.Common.{rules, take}
 use Rattle.m4_input.specs.Pending.{text_of}
-use Rattle.m4_input.specs.Input.{longer}
 use Rattle.m4_input.specs.declared.token.Token.TheVariants.{Name, Byte}
-use Rattle.m4_engine.specs.Expansion.{place_at}
 use Rattle.m4_engine.specs.Engine.{is_bare}
 use Rattle.m4_engine.proofs.Acts.{turned_steps}
 use Rattle.m4_engine.proofs.Seen.{byte_front, name_front, name_list, name_means, named_at}
