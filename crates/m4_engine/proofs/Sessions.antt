@@ -1,5 +1,5 @@
 -- Sessions: what a session's calls make of what the machine leaves.
-use Rattle.std.proofs.Common.{◌≡◌, inl, inr, ℕ, Bool, true, false, List, [], ◌++◌, Option, Some, None, refl, sym, ap, ◌∙◌, subst}
+use Rattle.std.proofs.Common.{◌≡◌, ◌⊎◌, arith, inl, inr, ℕ, Bool, true, false, List, [], ◌++◌, Option, Some, None, refl, sym, ap, ◌∙◌, subst}
 use Rattle.std.specs.Prelude.{Result, Ok, Err}
 use Rattle.m4_state.proofs.CallerLaws.{with_bytes-nil}
 use Rattle.m4_state.specs.State.{State, IsSized}
@@ -22,8 +22,9 @@ use Rattle.m4_engine.specs.Wraps.{joined_back, after_wraps, close}
 use Rattle.m4_engine.proofs.Begins.{nothing_begun}
 use Rattle.m4_engine.specs.Engine.{Engine, MayFollow}
 use Rattle.m4_engine.proofs.Longer.{closed_same, nothing_more, nothing_follows}
-use Rattle.m4_engine.specs.Expands.{made_before, input_expansion, Expanded, ReadSo, Fell, Expands, ReadsBy, at_rest}
-use Rattle.m4_engine.specs.Session.{SessionState, progress_of, written, how_over, IsOpen, Completed, FileDone, FileEnded, FileBroke, FileFell, FileGives, ReadFails, BrokeOff, WrapsGive, round_of, answer_by, over_after, session_after_wraps, last_state, Unfinished, EndGives, FinishGives, FreezeGives, CloseGives}
+use Rattle.m4_engine.specs.Expands.{made_before, input_expansion, Expanded, LastAsked, ReadSo, Fell, Expands, ReadsBy, at_rest}
+use Rattle.m4_engine.specs.Continued.{HasWritten}
+use Rattle.m4_engine.specs.Session.{SessionState, progress_of, written, how_over, IsOpen, Completed, FileDone, FileAsked, FileEnded, FileBroke, FileFell, FileGives, ReadFails, BrokeOff, WrapsGive, round_of, answer_by, over_after, session_after_wraps, last_state, Unfinished, EndGives, FinishGives, FreezeGives, CloseGives}
 use Rattle.m4_engine.specs.Writers.{Contents, Three, Broken, writers}
 
 -- the session as the machine and the rest of it give it
@@ -159,6 +160,30 @@ file_done e0 e1 any_missing name before after w r =
       refl,
     )
 
+-- where its last bytes were asked for; where it gave none, all that was made before is settled
+file_asked : (e0 : Engine) (any_missing : Bool) (name x o m : List ℕ) (w : Contents) → HasWritten o m w → (x ≡ []) ⊎ LastAsked e0 (unread_file name).pending x w → FileAsked (session_of e0 any_missing None false) name x w
+file_asked e0 any_missing name x o m w h (inl n) = record {
+  asked = [];
+  last = [];
+  parts = n;
+  within = omega arith;
+  undecided = refl;
+  written = record { more = o; output = h.output; more_messages = m; messages = h.messages };
+}
+file_asked e0 any_missing name x o m w h (inr a) = record {
+  asked = a.asked;
+  last = a.last;
+  parts = a.parts;
+  within = a.within;
+  undecided = a.undecided;
+  written = record {
+    more = (a.written).more;
+    output = (a.written).output;
+    more_messages = (a.written).more_messages;
+    messages = (a.written).messages;
+  };
+}
+
 -- what was read ended the run
 file_ended : (e0 e1 : Engine) (any_missing : Bool) (name : List ℕ) (cause : Cause) (before after : Option Script) (w : Contents) → how_over (Some cause) ≡ over_by cause → ReadSo e0 (unread_file name).pending before after w (λ d. Expanded e0 e1 d cause w) → FileEnded name before after (session_of e0 any_missing None false) (session_of (at_rest e1) any_missing (Some cause) false) w cause
 file_ended e0 e1 any_missing name cause before after w o r = (
@@ -167,6 +192,9 @@ file_ended e0 e1 any_missing name cause before after w o r = (
     may_follow = (r.q).may_follow;
     given = (r.reads).given;
     at_end = λ e. (r.reads).at_end refl e;
+    asked =
+        let k = r.so [] (r.q).may_follow (nothing_follows (r.q).may_follow) in
+        file_asked e0 any_missing name r.x _ _ w (record { output = k.output; messages = k.messages }) r.asked;
     so = λ z e. input_done (session_of e0 any_missing None false) e0 e1 any_missing (Some cause) cause (input_expansion e0 (file_pending name (r.x ++ z) false)) w (record { over = refl; unfinished = refl }) refl
         (subst (λ (q : Pending). Expanded e0 e1 (input_expansion e0 q) cause w) (taken_file name r.x before after r.q z false r.reads) (r.so z false (may_end (r.q).may_follow z e))) o;
   },
@@ -181,6 +209,9 @@ file_broke e0 e1 any_missing name cause before after w r = (
     may_follow = (r.q).may_follow;
     given = (r.reads).given;
     at_end = λ e. (r.reads).at_end refl e;
+    asked =
+        let k = r.so [] (r.q).may_follow (nothing_follows (r.q).may_follow) in
+        file_asked e0 any_missing name r.x _ _ w (record { output = ((k.output).1).holds; messages = ((k.messages).1).holds }) r.asked;
     so = λ z e. subst (λ (q : Pending). Broken (input_expansion e0 q) w) (taken_file name r.x before after r.q z false r.reads) (r.so z false (may_end (r.q).may_follow z e));
   },
   record { live = record { over = refl; unfinished = refl }; over = refl },

@@ -55,8 +55,8 @@ described_suit script name r after s (inl t) = all_given name (script r) (script
 described_suit script name r after s (inr m) = may_suit name (script r) (script_of script after) s m
 
 -- what is so of all that may follow is so of the source
-so_of : (name : List ℕ) (before after : Option Script) (s : Source) (P : Source → Type 0) → Suits name before after s → FileRead before after (λ bytes. P (Opened name bytes)) → P s
-so_of name before after s P t h =
+so_of : (name : List ℕ) (before after : Option Script) (s : Source) (Q : List ℕ → Type 0) (P : Source → Type 0) → Suits name before after s → FileRead before after Q (λ bytes. P (Opened name bytes)) → P s
+so_of name before after s Q P t h =
     let k = t h.x h.may_follow h.given h.at_end in
     subst P (sym k.2) (h.so k.0 k.1)
 
@@ -75,7 +75,7 @@ done_goes old new name before after w s t h =
     (subst (λ (s : Source). Completed old new (after_source old.limits s (progress_of old)) w) (sym same) h.3, h.4)
 
 ended_goes : (old new : SessionState) (name : List ℕ) (before after : Option Script) (w : Contents) (s : Source) (cause : Cause) → Suits name before after s → FileEnded name before after old new w cause → Completed old new (after_source old.limits s (progress_of old)) w × (new.over ≡ Some cause)
-ended_goes old new name before after w s cause t h = (so_of name before after s (λ s. Completed old new (after_source old.limits s (progress_of old)) w) t h.0, h.1)
+ended_goes old new name before after w s cause t h = (so_of name before after s _ (λ s. Completed old new (after_source old.limits s (progress_of old)) w) t h.0, h.1)
 
 broke_so : (old new : SessionState) (name bytes : List ℕ) (w : Contents) (cause : Cause) → Interrupted old new cause → Broken (file old.limits (progress_of old).so_far name bytes) w → BrokeOff new (after_source old.limits (Opened name bytes) (progress_of old)) w cause
 broke_so old new name bytes w cause f h = record {
@@ -87,8 +87,8 @@ broke_so old new name bytes w cause f h = record {
 broke_goes : (old new : SessionState) (name : List ℕ) (before after : Option Script) (w : Contents) (s : Source) (cause : Cause) → Suits name before after s → FileBroke name before after old new w cause → BrokeOff new (after_source old.limits s (progress_of old)) w cause
 broke_goes old new name before after w s cause t h =
     let r = h.0 in
-    so_of name before after s (λ s. BrokeOff new (after_source old.limits s (progress_of old)) w cause) t
-    (record { x = r.x; may_follow = r.may_follow; given = r.given; at_end = r.at_end; so = λ z e. broke_so old new name (r.x ++ z) w cause h.1 (r.so z e) })
+    so_of name before after s (λ x. Unit) (λ s. BrokeOff new (after_source old.limits s (progress_of old)) w cause) t
+    (record { x = r.x; may_follow = r.may_follow; given = r.given; at_end = r.at_end; asked = tt; so = λ z e. broke_so old new name (r.x ++ z) w cause h.1 (r.so z e) })
 
 -- ---- what a prefix of a file settles is a prefix of what the file gives
 
@@ -111,12 +111,13 @@ fell_begun o n a b more e f = (more, record { front = a; parts = f; holds = e })
 
 fell_goes : (old new : SessionState) (name : List ℕ) (before after : Option Script) (w : Contents) (s : Source) → Suits name before after s → FileFell name before after old new w → BrokeOff new (after_source old.limits s (progress_of old)) w causes.Read
 fell_goes old new name before after w s t h =
-    so_of name before after s (λ s. BrokeOff new (after_source old.limits s (progress_of old)) w causes.Read) t
+    so_of name before after s (λ x. Unit) (λ s. BrokeOff new (after_source old.limits s (progress_of old)) w causes.Read) t
     (record {
       x = h.x;
       may_follow = true;
       given = h.given;
       at_end = λ e. absurd (not_so e);
+      asked = tt;
       so = λ z e.
           let k = settled_file old name h.x z h.reason in
           broke_so old new name (h.x ++ z) w causes.Read h.interrupted (record {

@@ -1,12 +1,13 @@
 -- Session: a run between two of its calls, and what each call does to it.
 -- Believed. Manual: "Command line files", "Invoking m4".
--- Words: SessionState, progress_of, written, session_from, fresh_session, IsOpen, ReloadGives, Completed, FileRead, FileEnded, FileFell, FileGives,
+-- Words: SessionState, progress_of, written, session_from, fresh_session, IsOpen, ReloadGives, Completed, FileAsked, FileRead, FileEnded, FileFell, FileGives,
 -- MissingGives, EndGives, FinishGives, FreezeGives, BeginGives, IsBegun, ReadFails, ReloadFails, BeginFails, SparesBy, ByAnswer, WriteFails, MessageWriteFails.
 -- A session is a run's progress without the bytes that were written; these went to the writers.
-use Rattle.std.specs.Prelude.{◌≡◌, ◌≢◌, IfSome, ℕ, Bool, true, false, List, [], ◌∷◌, ◌++◌, Option, Some, None, Result, Ok, Err, ◌⊎◌}
+use Rattle.std.specs.Prelude.{◌≡◌, ◌≢◌, ◌≤◌, length, IfSome, ℕ, Bool, true, false, List, [], ◌∷◌, ◌++◌, Option, Some, None, Result, Ok, Err, ◌⊎◌}
 use Rattle.m4_state.specs.State.{State, IsSized}
 use Rattle.m4_state.specs.Fresh.{fresh}
 use Rattle.m4_state.specs.Device.{Script, after_bytes, IsAtEnd, IsAtFault, with_bytes, HasBegun, one_more}
+use Rattle.m4_input.specs.Input.{block}
 use Rattle.m4_frozen.specs.declared.fault.FrozenKind.TheVariants as kinds
 use Rattle.m4_frozen.specs.Freeze.{freeze}
 use Rattle.m4_engine.specs.declared.ending.Cause.{Cause}
@@ -19,7 +20,7 @@ use Rattle.m4_engine.specs.Expansion.{Limits, EndReason, Ends, NeedsInput, Ended
 use Rattle.m4_engine.specs.Expand.{expand_input}
 use Rattle.m4_engine.specs.RunSources.{AllPairs, HasFailed, is_sound, AnyFailed}
 use Rattle.m4_engine.specs.Start.{Start, From, Faulty, IsStart}
-use Rattle.m4_engine.specs.Writers.{Contents, Failures, Three, NoneFailed, OneFailed, ByCause, Broken, IsSpared, Spares}
+use Rattle.m4_engine.specs.Writers.{Contents, Failures, Three, NoneFailed, OneFailed, ByCause, Broken, WroteAtLeast, IsSpared, Spares}
 use Rattle.m4_engine.specs.File.{Opened, Unopened, Progress, file, file_pending, after_source, cannot_open}
 use Rattle.m4_engine.specs.Wraps.{read_saved, after_wraps}
 use Rattle.m4_engine.specs.Run.{limits_of, status_of, closed_output, result_of}
@@ -104,28 +105,43 @@ FileDone name before after old new w =
     (x : List ℕ) × (before ≡ after_bytes x after) × IsAtEnd after
     × Completed old new (after_source old.limits (Opened name x) (progress_of old)) w × (new.over ≡ None)
 
--- the reader delivered x; P is so of x and of whatever follows it, which is nothing if the reader was found at its end
-pub record FileRead (before after : Option Script) (P : List ℕ → Type 0) : Type 0 where
+-- the part of a file that its first bytes settle
+abbrev pub settled_part : SessionState → List ℕ → List ℕ → Ended
+settled_part old name x = expand_input old.limits (progress_of old).so_far (file_pending name x true)
+
+-- `asked`, a beginning of the bytes x of a file and at most a block shorter, leaves open how the run continues: there
+-- the last of x were asked for, after all that `asked` settles was written
+pub record FileAsked (old : SessionState) (name x : List ℕ) (w : Contents) : Type 0 where
+  pub asked : List ℕ
+  pub last : List ℕ
+  pub parts : x ≡ asked ++ last
+  pub within : length last ≤ block
+  pub undecided : (settled_part old name asked).reason ≡ NeedsInput
+  pub written : WroteAtLeast ((settled_part old name asked).so_far).output
+      ((settled_part old name asked).so_far).messages w
+
+-- the reader delivered x, of which Q is so; P is so of x and of whatever follows it, which is nothing if the reader was
+-- found at its end
+pub record FileRead (before after : Option Script) (Q : List ℕ → Type 0) (P : List ℕ → Type 0) : Type 0 where
   pub x : List ℕ
   pub may_follow : Bool
   pub given : before ≡ after_bytes x after
   pub at_end : may_follow ≡ false → IsAtEnd after
+  pub asked : Q x
   pub so : (z : List ℕ) → (may_follow ≡ false → z ≡ []) → P (x ++ z)
 
 -- the bytes that were read end the run, whatever follows them
 abbrev pub FileEnded : List ℕ → Option Script → Option Script → SessionState → SessionState → Contents → Cause → Type 0
 FileEnded name before after old new w cause =
-    FileRead before after (λ bytes. Completed old new (after_source old.limits (Opened name bytes) (progress_of old)) w)
+    FileRead before after (λ x. FileAsked old name x w)
+    (λ bytes. Completed old new (after_source old.limits (Opened name bytes) (progress_of old)) w)
     × (new.over ≡ Some cause)
 
 -- prefixes of a file's output and messages were written, whatever follows
 abbrev pub FileBroke : List ℕ → Option Script → Option Script → SessionState → SessionState → Contents → Cause → Type 0
 FileBroke name before after old new w cause =
-    FileRead before after (λ bytes. Broken (file old.limits (progress_of old).so_far name bytes) w) × Interrupted old new cause
-
--- the part of a file that its first bytes settle
-abbrev pub settled_part : SessionState → List ℕ → List ℕ → Ended
-settled_part old name x = expand_input old.limits (progress_of old).so_far (file_pending name x true)
+    FileRead before after (λ x. FileAsked old name x w)
+    (λ bytes. Broken (file old.limits (progress_of old).so_far name bytes) w) × Interrupted old new cause
 
 -- the reader delivered x and failed: what x settles was written, and nothing else
 pub record FileFell (name : List ℕ) (before after : Option Script) (old new : SessionState) (w : Contents) : Type 0 where
