@@ -1,6 +1,7 @@
 pub mod Consumed
 pub mod OpenEnd
 pub mod Scans
+pub mod Looks
 pub mod Parts
 pub mod Lines
 pub mod Calls

@@ -2,6 +2,7 @@ pub mod Ascii
 pub mod DelimsView
 pub mod Pending
 pub mod Token
+pub mod Look
 pub mod Plain
 pub mod Paren
 pub mod Input

@@ -11,6 +11,7 @@ pub mod fault;
 mod follows;
 pub mod front;
 pub mod input;
+pub mod look;
 mod piece;
 // Public only for the engine, which consumes plain tokens many at a time.
 #[doc(hidden)]
