@@ -8,6 +8,5 @@ pub mod Calls
 pub mod Decided
 pub mod Blocks
 pub mod TokenBlocks
-pub mod PlainRuns
 pub mod Pieces
 pub mod ShortQuotes

@@ -3,7 +3,6 @@ pub mod DelimsView
 pub mod Pending
 pub mod Token
 pub mod Look
-pub mod Plain
 pub mod Paren
 pub mod Input
 pub mod Blocks

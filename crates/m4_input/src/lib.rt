@@ -13,9 +13,6 @@ pub mod front;
 pub mod input;
 pub mod look;
 mod piece;
-// Public only for the engine, which consumes plain tokens many at a time.
-#[doc(hidden)]
-pub mod plain;
 pub mod pushed;
 mod quoted;
 mod scan;

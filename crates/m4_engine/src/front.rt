@@ -5,12 +5,12 @@
 ghost use Rattle.std.specs.Prelude.{◌≡◌, ◌≤◌, Bool, IfSome, length, drop};
 ghost use Rattle.m4_input.specs.DelimsView.{pair_of};
 ghost use Rattle.m4_input.specs.Look.{scan_of, LookLies};
-ghost use Rattle.m4_input.specs.Plain.{IsPlainRun, IsFirst, FirstLies, is_inner, IsInner};
+ghost use Rattle.m4_engine.specs.Plain.{IsPlainRun, IsFirst, FirstLies, is_inner, IsInner};
 ghost use Rattle.m4_input.specs.Token.{scan};
 
-use crate::delims::Delims;
-use crate::front::{Answer, Look};
-use crate::look::{first_token, list_follows, plain_token};
+use m4_input::delims::Delims;
+use m4_input::front::{Answer, Look};
+use m4_input::look::{first_token, list_follows, plain_token};
 use m4_state::definition::Def;
 use m4_state::state::State;
 
