@@ -32,6 +32,7 @@ pub mod Named
 pub mod Turning
 pub mod LoopKeeps
 pub mod Begins
+pub mod PlainRuns
 pub mod Passing
 pub mod SkippedLines
 pub mod Running

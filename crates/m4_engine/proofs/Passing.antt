@@ -6,7 +6,7 @@ use Rattle.m4_state.specs.declared.definition.Def.{Def}
 use Rattle.m4_input.specs.declared.token.Token.TheVariants.{Name, Str, Byte}
 use Rattle.m4_input.specs.Pending.{Pending, text_of, counted, consumed, newlines_in}
 use Rattle.m4_input.specs.Ascii.{is_space}
-use Rattle.m4_input.specs.Plain.{IsPlain, total, ArePlain, is_inner, IsInner}
+use Rattle.m4_engine.specs.Plain.{IsPlain, total, ArePlain, is_inner, IsInner}
 use Rattle.m4_input.specs.Input.{Held, longer}
 use Rattle.m4_input.proofs.Consumed.{consumed_twice}
 use Rattle.m4_input.proofs.Parts.{drop_parts, counted_none}

@@ -2,8 +2,8 @@
 use Rattle.std.proofs.Common.{◌≡◌, None, ℕ, Bool, true, false, List, [], ◌∷◌, ◌++◌, append-nil, append_assoc, refl, sym, ap, ◌∙◌, subst, take, drop}
 use Rattle.std.specs.Prelude.{suc, nat_lt, not, ◌&&◌, length, Result, Ok, Err, IfOk}
 use Rattle.m4_state.specs.State.{State}
-use Rattle.m4_input.specs.declared.plain.First.{First}
-use Rattle.m4_input.specs.Plain.{IsFirst, FirstLies}
+use Rattle.m4_engine.specs.declared.front.First.{First}
+use Rattle.m4_engine.specs.Plain.{IsFirst, FirstLies}
 use Rattle.m4_input.specs.Pending.{Pending, text_of, name_of, line_of, consumed}
 use Rattle.m4_input.specs.Paren.{paren_in, paren_at}
 use Rattle.m4_input.specs.declared.front.Answer.{Answer}

@@ -11,6 +11,7 @@ pub mod Settled
 pub mod Carries
 pub mod Joined
 pub mod Laws
+pub mod Plain
 pub mod Lookahead
 pub mod CallView
 pub mod Engine

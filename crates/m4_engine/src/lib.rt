@@ -6,6 +6,7 @@
 
 mod call;
 pub mod ending;
+mod front;
 mod in_hand;
 pub mod laws;
 mod lookahead;

@@ -3,14 +3,14 @@
 ghost use Rattle.std.specs.Prelude.{◌≡◌, ◌&&◌, not, None, Some, IfOk, length};
 ghost use Rattle.m4_state.specs.State.{top_of};
 ghost use Rattle.m4_input.specs.Pending.{text_of};
-ghost use Rattle.m4_input.specs.Plain.{IsFirst, FirstLies};
+ghost use Rattle.m4_engine.specs.Plain.{IsFirst, FirstLies};
 ghost use Rattle.m4_engine.specs.Lookahead.{IsMeaning, IsLookaheadOf};
 
+use crate::front::First;
 use crate::turned::TurnFault;
 use m4_builtins::head::Head;
 use m4_builtins::substitute::substitute;
 use m4_input::input::Input;
-use m4_input::plain::First;
 use m4_state::bytes::Bytes;
 use m4_state::definition::Def;
 use m4_state::state::State;

@@ -1,6 +1,7 @@
 pub mod Consumed
 pub mod OpenEnd
 pub mod Scans
+pub mod Looks
 pub mod Parts
 pub mod Lines
 pub mod Calls
@@ -8,6 +9,5 @@ pub mod Decided
 pub mod Blocks
 pub mod TokenBlocks
 pub mod OpenTokens
-pub mod PlainRuns
 pub mod Pieces
 pub mod ShortQuotes

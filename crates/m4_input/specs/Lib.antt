@@ -2,7 +2,7 @@ pub mod Ascii
 pub mod DelimsView
 pub mod Pending
 pub mod Token
-pub mod Plain
+pub mod Look
 pub mod Paren
 pub mod Input
 pub mod Blocks

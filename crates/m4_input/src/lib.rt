@@ -11,11 +11,9 @@ pub mod fault;
 mod follows;
 pub mod front;
 pub mod input;
+pub mod look;
 mod open_token;
 mod piece;
-// Public only for the engine, which consumes plain tokens many at a time.
-#[doc(hidden)]
-pub mod plain;
 pub mod pushed;
 mod quoted;
 mod scan;

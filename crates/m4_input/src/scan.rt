@@ -5,11 +5,11 @@
 
 ghost use Rattle.std.specs.Prelude.{◌≡◌, ◌+◌, ◌<◌, ◌≤◌, ◌∷◌, IfSome, IfOk, IsTrue, length, drop};
 ghost use Rattle.m4_input.specs.DelimsView.{pair_of};
-ghost use Rattle.m4_input.specs.Token.{level, mark_at, starts_with, may_start, kind_of, name_at, comment_at, string_at, scan};
+ghost use Rattle.m4_input.specs.Token.{level, mark_at, starts_with, may_start, kind_of, scan};
 ghost use Rattle.m4_input.specs.Text.{LiesIn};
 
 use crate::delims::Delims;
-use crate::front::{Kind, Mark, Scan, Unended};
+use crate::front::{Kind, Look, Mark, Scan};
 use crate::quoted::{quoted_len, single};
 use crate::token::Token;
 use crate::window::{Window, is_letter_byte};
@@ -126,7 +126,7 @@ impl<'a> Window<'a> {
         }
     }
 
-    /// Returns the first token and its length.
+    /// Returns the first token, with a copy of its text, and its length.
     pub fn scan(
         &self,
         alloc: Global,
@@ -137,66 +137,17 @@ impl<'a> Window<'a> {
             (pair_of delims.now.comments) may_follow self.now) }
         ensures within { IfOk result (λ s. LiesIn (length self.now) s) }
     {
-        let Some(first) = self.byte(0) else {
-            return Ok(if may_follow {
-                Scan::NeedsMore
-            } else {
-                Scan::Found(Token::End, 0)
-            });
+        let found = match self.look(delims, may_follow) {
+            Look::Name(len) => Scan::Found(Token::Name(self.copy(alloc, 0, len)?), len),
+            Look::Byte(byte) => Scan::Found(Token::Byte(byte), 1),
+            Look::Quoted(begin, len, all) => {
+                Scan::Found(Token::Str(self.copy(alloc, begin, len)?), all)
+            }
+            Look::Comment(len) => Scan::Found(Token::Comment(self.copy(alloc, 0, len)?), len),
+            Look::End => Scan::Found(Token::End, 0),
+            Look::Unended(what) => Scan::Broken(what),
+            Look::NeedsMore => Scan::NeedsMore,
         };
-        match self.kind(delims, may_follow, first) {
-            Kind::CommentHere => self.comment(alloc, &delims.comments, may_follow),
-            Kind::NameHere => self.name(alloc, may_follow),
-            Kind::StringHere => self.string(alloc, &delims.quotes, may_follow),
-            Kind::ByteHere => Ok(Scan::Found(Token::Byte(first), 1)),
-            Kind::Undecided => Ok(Scan::NeedsMore),
-        }
-    }
-
-    /// Returns the name at the start.
-    fn name(&self, alloc: Global, may_follow: bool) -> Result<Scan, AllocError>
-        ensures value { IfOk result (λ s. s ≡ name_at may_follow self.now) }
-        ensures within { IfOk result (λ s. LiesIn (length self.now) s) }
-    {
-        let len = self.word_len(0);
-        if may_follow && len == self.len() {
-            return Ok(Scan::NeedsMore);
-        }
-        Ok(Scan::Found(Token::Name(self.copy(alloc, 0, len)?), len))
-    }
-
-    /// Returns the comment at the start, with its delimiters.
-    fn comment(&self, alloc: Global, pair: &Pair<'_>, may_follow: bool) -> Result<Scan, AllocError>
-        requires { length pair.now.0.now ≤ length self.now }
-        ensures value { IfOk result (λ s. s ≡ comment_at (pair_of pair.now) may_follow self.now) }
-        ensures within { IfOk result (λ s. LiesIn (length self.now) s) }
-    {
-        let _small = self.len();
-        match self.find(pair.0.len(), pair.1) {
-            None if may_follow => Ok(Scan::NeedsMore),
-            None => Ok(Scan::Broken(Unended::InComment)),
-            Some(n) => {
-                let len = pair.0.len() + (n + pair.1.len());
-                Ok(Scan::Found(Token::Comment(self.copy(alloc, 0, len)?), len))
-            }
-        }
-    }
-
-    /// Returns the string at the start, without its outermost quotes.
-    fn string(&self, alloc: Global, pair: &Pair<'_>, may_follow: bool) -> Result<Scan, AllocError>
-        requires starts { length pair.now.0.now ≤ length self.now }
-        requires begin { 0 < length pair.now.0.now }
-        ensures value { IfOk result (λ s. s ≡ string_at (pair_of pair.now) may_follow self.now) }
-        ensures within { IfOk result (λ s. LiesIn (length self.now) s) }
-    {
-        let _small = self.len();
-        match self.string_len(pair.0.len(), pair, may_follow) {
-            None if may_follow => Ok(Scan::NeedsMore),
-            None => Ok(Scan::Broken(Unended::InString)),
-            Some(n) => {
-                let text = self.copy(alloc, pair.0.len(), n)?;
-                Ok(Scan::Found(Token::Str(text), pair.0.len() + (n + pair.1.len())))
-            }
-        }
+        Ok(found)
     }
 }

@@ -1,4 +1,4 @@
-//! The input: the tokens of texts, the other calls on an input, and the lookahead before a token.
+//! The input: the tokens of texts, the other calls on an input, and a look at the front of a text.
 //! Manual: "Lexical and syntactic conventions", "Changing the quote characters", "Deleting whitespace
 //! in input", "How m4 copies input to output".
 
@@ -7,8 +7,8 @@ ghost use Rattle.std.specs.Prelude.{◌≡◌, None, OnOk};
 mod blocks;
 mod calls;
 mod delims;
+mod looks;
 mod pieces;
-mod plain;
 mod tokens;
 
 use crate::given::describe_definition;

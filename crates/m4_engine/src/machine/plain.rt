@@ -5,11 +5,11 @@ ghost use Rattle.std.specs.Prelude.{◌≡◌, IfOk, OnOk};
 ghost use Rattle.m4_engine.specs.Engine.{IsReady, IsLookahead, Passes, allows_call};
 
 use super::driver::BLOCK;
+use crate::front::{first_in_list, inner_text, plain_run};
 use crate::lookahead::{Lookahead, lookahead_of};
 use crate::machine::Machine;
 use crate::turned::TurnFault;
 use m4_input::input::Input;
-use m4_input::plain::{first_in_list, inner_text, plain_run};
 
 impl Machine {
     /// Consumes tokens at the start of the input that are text: up to a block of them if text goes to the output,

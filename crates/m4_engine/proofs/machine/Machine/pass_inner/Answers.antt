@@ -1,6 +1,6 @@
 use Rattle.std.proofs.Common.{List, ℕ, ◌∷◌, Option, ap, subst, rules}
 use Rattle.std.specs.Prelude.{reverse}
-use Rattle.m4_input.specs.Plain.{IsInner}
+use Rattle.m4_engine.specs.Plain.{IsInner}
 use Rattle.m4_engine.specs.Expansion.{Call}
 use Rattle.m4_engine.specs.Engine.{Engine, Passes}
 use Rattle.m4_engine.specs.MachineView.{innermost_first, engine_view}

@@ -2,8 +2,8 @@
 use Rattle.std.proofs.Common.{◌≡◌, inl, inr, Bool, ℕ, ◌+◌, List, [], ◌∷◌, ◌++◌, drop, sym, ap, ◌∙◌, subst, arith}
 use Rattle.std.proofs.lemmas.List.{drop-drop}
 use Rattle.m4_state.specs.State.{State}
-use Rattle.m4_input.specs.declared.plain.First.TheVariants as firsts
-use Rattle.m4_input.specs.Plain.{IsPlain, total, ArePlain, IsPlainRun, IsFirst}
+use Rattle.m4_engine.specs.declared.front.First.TheVariants as firsts
+use Rattle.m4_engine.specs.Plain.{IsPlain, total, ArePlain, IsPlainRun, IsFirst}
 
 -- a token more
 longer : (s : State) (o : Bool) (n : ℕ) (lens x : List ℕ) → ArePlain s o lens x → IsPlain s o n (drop (total lens) x) → ArePlain s o (lens ++ n ∷ []) x × (total (lens ++ n ∷ []) ≡ total lens + n)

@@ -2,18 +2,15 @@
 //! reads them, so it can consume many at once. Each look has the flag whether more bytes may follow the text:
 //! then a token is only found if they can't change it.
 
-ghost use Rattle.std.specs.Prelude.{◌≡◌, ◌==◌, ◌&&◌, ◌+◌, ◌<◌, ◌≤◌, ◌∷◌, Bool, List, ℕ, true, false, IfSome, length, take, drop};
+ghost use Rattle.std.specs.Prelude.{◌≡◌, ◌≤◌, Bool, IfSome, length, drop};
 ghost use Rattle.m4_input.specs.DelimsView.{pair_of};
-ghost use Rattle.m4_input.specs.Input.{answer_of};
-ghost use Rattle.m4_input.specs.Paren.{paren_in};
-ghost use Rattle.m4_input.specs.Plain.{IsPlainRun, IsFirst, FirstLies, is_inner, IsInner};
-ghost use Rattle.m4_input.specs.declared.front.Scan.TheVariants.{Found};
-ghost use Rattle.m4_input.specs.declared.token.Token.TheVariants.{Str};
-ghost use Rattle.m4_input.specs.Token.{scan, starts_with, may_start};
+ghost use Rattle.m4_input.specs.Look.{scan_of, LookLies};
+ghost use Rattle.m4_engine.specs.Plain.{IsPlainRun, IsFirst, FirstLies, is_inner, IsInner};
+ghost use Rattle.m4_input.specs.Token.{scan};
 
-use crate::delims::Delims;
-use crate::front::{Answer, Kind};
-use crate::window::{Window, is_letter_byte, word_len};
+use m4_input::delims::Delims;
+use m4_input::front::{Answer, Look};
+use m4_input::look::{first_token, list_follows, plain_token};
 use m4_state::definition::Def;
 use m4_state::state::State;
 
@@ -49,7 +46,7 @@ pub fn plain_run<'a>(
     let delims = Delims::of(state);
     let mut len = 0;
     while len < most {
-        match first_token(text.split_at(len).1, state, &delims, may_follow) {
+        match first_plain(text.split_at(len).1, state, &delims, may_follow) {
             First::Word(n) => len += n,
             First::Byte(_) => len += 1,
             first => return (len, first),
@@ -60,7 +57,7 @@ pub fn plain_run<'a>(
 
 /// Returns the first token; `Other` if it may be a string or a comment, or if further bytes can change it.
 #[inline(always)]
-fn first_token<'a>(
+fn first_plain<'a>(
     text: &[u8],
     state: &'a State,
     delims: &Delims<'_>,
@@ -71,44 +68,44 @@ fn first_token<'a>(
     ensures first { IsFirst state.now may_follow text.now result }
     ensures lies { FirstLies (length text.now) result }
 {
-    let Some(first) = text.first() else {
-        return First::Other;
-    };
-    if may_begin(*first, &delims.comments) || may_begin(*first, &delims.quotes) {
-        return First::Other;
-    }
-    if !is_letter_byte(*first) {
-        return First::Byte(*first);
-    }
-    let len = word_len(text);
-    if may_go_on(len, text, may_follow) {
-        return First::Other;
-    }
-    let (name, after) = text.split_at(len);
-    let Some(definition) = state.top(name) else {
-        return First::Word(len);
-    };
-    match list_follows(after, delims, may_follow) {
-        Answer::Yes => First::Called(len, true, definition),
-        Answer::No => First::Called(len, false, definition),
-        Answer::Unknown => First::Other,
+    match plain_token(text, delims, may_follow) {
+        Some(look) => first_of(look, text, state, delims, may_follow),
+        None => First::Other,
     }
 }
 
-/// Returns whether a name of this length may go on in bytes that follow the text.
+/// Returns the first token by this look at it, with the definition of a name.
 #[inline(always)]
-fn may_go_on(len: usize, text: &[u8], may_follow: bool) -> bool
-    ensures { result ≡ (may_follow && (len == length text.now)) }
+fn first_of<'a>(
+    look: Look,
+    text: &[u8],
+    state: &'a State,
+    delims: &Delims<'_>,
+    may_follow: bool,
+) -> First<'a>
+    requires quotes { pair_of delims.now.quotes ≡ state.now.quotes }
+    requires comments { pair_of delims.now.comments ≡ state.now.comments }
+    requires value { scan state.now.quotes state.now.comments may_follow text.now ≡ scan_of look text.now }
+    requires lies { LookLies text.now look }
+    ensures first { IsFirst state.now may_follow text.now result }
+    ensures lies { FirstLies (length text.now) result }
 {
-    may_follow && len == text.len()
-}
-
-/// Returns whether the first token is an opening parenthesis.
-#[inline(always)]
-fn list_follows(text: &[u8], delims: &Delims<'_>, may_follow: bool) -> Answer
-    ensures { paren_in (pair_of delims.now.quotes) (pair_of delims.now.comments) may_follow text.now ≡ result }
-{
-    Window::new(&[], text).list_at(0, delims, may_follow)
+    match look {
+        Look::Name(len) => {
+            let (name, after) = text.split_at(len);
+            let Some(definition) = state.top(name) else {
+                return First::Word(len);
+            };
+            match list_follows(after, delims, may_follow) {
+                Answer::Yes => First::Called(len, true, definition),
+                Answer::No => First::Called(len, false, definition),
+                Answer::Unknown => First::Other,
+            }
+        }
+        Look::Byte(byte) => First::Byte(byte),
+        Look::Quoted(begin, len, all) => First::Quoted(begin, len, all),
+        Look::Comment(_) | Look::End | Look::Unended(_) | Look::NeedsMore => First::Other,
+    }
 }
 
 /// Returns the first token, for use in an argument list.
@@ -119,15 +116,8 @@ pub fn first_in_list<'a>(text: &[u8], state: &'a State, may_follow: bool) -> Fir
     ensures lies { FirstLies (length text.now) result }
 {
     let delims = Delims::of(state);
-    match text.first() {
-        Some(first) if may_begin(*first, &delims.quotes) => match string_text(
-            text, &delims, may_follow,
-        ) {
-            Some((begin, len, all)) => First::Quoted(begin, len, all),
-            None => First::Other,
-        },
-        _ => first_token(text, state, &delims, may_follow),
-    }
+    let look = first_token(text, &delims, may_follow);
+    first_of(look, text, state, &delims, may_follow)
 }
 
 /// Returns a token's text and the token's length, if it is text everywhere in an argument list.
@@ -154,35 +144,4 @@ fn is_inner(byte: u8) -> bool
     ensures { result ≡ is_inner byte }
 {
     !matches!(byte, b'(' | b')' | b',' | b' ' | 9..=13)
-}
-
-/// Returns the lengths of the string at the start: of its begin-quote, of its text, and of all of it.
-#[inline(always)]
-fn string_text(text: &[u8], delims: &Delims<'_>, may_follow: bool) -> Option<(usize, usize, usize)>
-    ensures string { IfSome result (λ t. scan (pair_of delims.now.quotes) (pair_of delims.now.comments) may_follow text.now
-        ≡ Found (Str (take t.1 (drop t.0 text.now))) t.2) }
-    ensures within { IfSome result (λ t. (t.0 + t.1 ≤ length text.now) × (t.2 ≤ length text.now)) }
-{
-    let window = Window::new(&[], text);
-    let first = window.byte(0)?;
-    match window.kind(delims, may_follow, first) {
-        Kind::StringHere => {
-            let begin = delims.quotes.0.len();
-            let len = window.string_len(begin, &delims.quotes, may_follow)?;
-            Some((begin, len, begin + (len + delims.quotes.1.len())))
-        }
-        _ => None,
-    }
-}
-
-/// Returns whether the first of two delimiters begins with this byte.
-#[inline(always)]
-fn may_begin(first: u8, pair: &(&[u8], &[u8])) -> bool
-    ensures starts { result ≡ false → (y : List ℕ) → starts_with (pair_of pair.now) (first ∷ y) ≡ false }
-    ensures may { result ≡ false → (m : Bool) (y : List ℕ) → may_start (pair_of pair.now) m (first ∷ y) ≡ false }
-{
-    match pair.0.first() {
-        Some(byte) => *byte == first,
-        None => false,
-    }
 }

@@ -1,6 +1,6 @@
 use Rattle.std.proofs.Common.{rules}
-use Rattle.m4_input.proofs.PlainRuns.{plain_word, plain_byte}
-use Rattle.m4_input.proofs.plain.plain_run.Goals as goal
+use Rattle.m4_engine.proofs.PlainRuns.{plain_word, plain_byte}
+use Rattle.m4_engine.proofs.front.plain_run.Goals as goal
 
 pub loop-len-preserved-in-Word : goal.loop-len-preserved-in-Word
 loop-len-preserved-in-Word c = record {

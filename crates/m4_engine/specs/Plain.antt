@@ -10,8 +10,8 @@ use Rattle.m4_input.specs.Ascii.{open_parenthesis, close_parenthesis, comma, is_
 use Rattle.m4_input.specs.Token.{scan}
 use Rattle.m4_input.specs.Paren.{paren_in}
 use Rattle.m4_input.specs.Input.{answer_of}
-use Rattle.m4_input.specs.declared.plain.First.{First}
-use Rattle.m4_input.specs.declared.plain.First.TheVariants as firsts
+use Rattle.m4_engine.specs.declared.front.First.{First}
+use Rattle.m4_engine.specs.declared.front.First.TheVariants as firsts
 
 -- the first token, of n bytes, is a name without a definition, or a byte that is no other token
 abbrev pub IsPlain : State → Bool → ℕ → List ℕ → Type 0

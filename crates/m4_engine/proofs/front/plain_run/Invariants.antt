@@ -1,6 +1,6 @@
 use Rattle.std.proofs.Common.{◌-◌, ◌≤◌, length}
-use Rattle.m4_input.specs.Plain.{IsPlainRun}
-use Rattle.m4_input.proofs.plain.plain_run.Given as goal
+use Rattle.m4_engine.specs.Plain.{IsPlainRun}
+use Rattle.m4_engine.proofs.front.plain_run.Given as goal
 
 -- the bytes so far are such tokens
 abbrev pub invariant-loop-len : goal.invariant-loop-len

@@ -1,0 +1,29 @@
+-- Looks: a token that begins with a letter is a name of at least one byte.
+use Rattle.std.proofs.Common.{◌≡◌, ◌<◌, ℕ, Bool, true, false, List, ◌∷◌, drop, sym, ◌∙◌, subst, arith, ap, refl}
+use Rattle.std.specs.Prelude.{suc, ◌||◌}
+use Rattle.m4_state.specs.declared.delimiters.Delimiters.{Delimiters}
+use Rattle.m4_input.specs.declared.front.Kind.{Kind}
+use Rattle.m4_input.specs.declared.front.Kind.TheVariants.{NameHere}
+use Rattle.m4_input.specs.Ascii.{is_letter, is_digit, is_name_byte}
+use Rattle.m4_input.specs.Token.{run_length, kind_by, kind_of}
+
+letter_of : (v w l x y : Bool) → kind_by v w l x y ≡ NameHere → l ≡ true
+letter_of true w l x y e = cc
+letter_of false true l x y e = cc
+letter_of false false true x y e = refl
+letter_of false false false true y e = cc
+letter_of false false false false true e = cc
+letter_of false false false false false e = cc
+
+letter_length : (b : ℕ) (y : List ℕ) → is_letter b ≡ true → 0 < run_length is_name_byte (b ∷ y)
+letter_length b y h = by_test (is_name_byte b) (ap (λ v. v || is_digit b) h)
+  where
+    by_test : (v : Bool) → v ≡ true → 0 < elim v [ true ↦ suc (run_length is_name_byte y) | false ↦ 0 ]
+    by_test true e = omega arith
+    by_test false e = cc
+
+-- a name has a byte
+pub name_begins : (q c : Delimiters) (m : Bool) (b : ℕ) (x : List ℕ) (k : Kind) → x ≡ b ∷ drop 1 x → k ≡ kind_of q c m b (drop 1 x) → k ≡ NameHere → 0 < run_length is_name_byte x
+name_begins q c m b x k e g h =
+    subst (λ (z : List ℕ). 0 < run_length is_name_byte z) (sym e)
+    (letter_length b (drop 1 x) (letter_of _ _ _ _ _ (sym g ∙ h)))
