@@ -1,5 +1,5 @@
 -- Reached: what a session says of a file is what the run says of its current source.
-use Rattle.std.proofs.Common.{◌≡◌, ◌≢◌, ◌⊎◌, inl, inr, ◌<◌, ◌≤◌, true, zero, suc, ℕ, ◌+◌, List, [], ◌∷◌, ◌++◌, length, drop, drop-cons, Option, Some, None, refl, sym, ap, ◌∙◌, subst, arith, append_assoc, append-nil}
+use Rattle.std.proofs.Common.{◌≡◌, ◌⊎◌, inl, inr, ◌<◌, ◌≤◌, true, zero, suc, ℕ, ◌+◌, List, [], ◌∷◌, ◌++◌, length, drop, drop-cons, Option, Some, None, refl, sym, ap, ◌∙◌, subst, arith, append_assoc, append-nil}
 use Rattle.std.specs.Prelude.{Result, Ok, Err, slice_set, slice_index_or}
 use Rattle.m4_state.proofs.CallerLaws.{with_bytes-append, with_bytes-nil}
 use Rattle.m4_state.specs.Device.{Script, after_bytes, with_bytes}
@@ -11,16 +11,16 @@ use Rattle.m4_engine.specs.declared.stop.Stop.{Stop}
 use Rattle.m4_engine.specs.declared.stop.Stop.TheVariants as stops
 use Rattle.m4_engine.specs.declared.source.Source.{Source as RunSource}
 use Rattle.m4_engine.specs.declared.source.Source.TheVariants as sources
-use Rattle.m4_engine.specs.Expansion.{RunSoFar, Limits, EndReason, NeedsInput}
+use Rattle.m4_engine.specs.Expansion.{RunSoFar, Limits, EndReason}
 use Rattle.m4_engine.specs.Expand.{expand_input}
 use Rattle.m4_engine.specs.File.{Source, Opened, Unopened, Progress, file_pending, after_source, after_sources}
 use Rattle.m4_engine.specs.Settled.{SettledSoFar, settled_ended, settled_by, settled_in}
-use Rattle.m4_engine.specs.Session.{SessionState, progress_of, how_over, IsOpen, Completed, settled_part, FileAsked, FileFell, FileGives, MissingGives}
+use Rattle.m4_engine.specs.Session.{SessionState, progress_of, how_over, IsOpen, settled_part, FileAsked, FileFell, FileGives, MissingGives}
 use Rattle.m4_engine.specs.Writers.{Contents, writers, HasWritten, WroteAtLeast}
 use Rattle.m4_engine.specs.OnePass.{IsRead, IsCurrent, Reaches, AreRead, settled_after, ExactAtFault, AskedAt, Reached}
 use Rattle.m4_engine.specs.SourcesRead.{EndsWithin, SourceGives, SourcesGive}
 use Rattle.m4_engine.proofs.OnePass.{sources_append}
-use Rattle.m4_engine.proofs.GoingOn.{after, sources_after, written_after, all_made}
+use Rattle.m4_engine.proofs.GoingOn.{after, written_after, all_made}
 use Rattle.m4_engine.proofs.Reading.{source_after}
 use Rattle.m4_engine.proofs.RunsAfter.{input_after}
 use Rattle.m4_engine.proofs.Sources.{missing_goes}

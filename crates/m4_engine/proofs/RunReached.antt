@@ -1,7 +1,7 @@
 -- RunReached: after all sources the last one is the current one; and what a run says of its sources as it ends.
-use Rattle.std.proofs.Common.{◌≡◌, ◌≢◌, inl, inr, ◌≤◌, ◌+◌, ℕ, Bool, true, false, List, [], ◌∷◌, ◌++◌, length, Option, Some, None, refl, sym, ap, ◌∙◌, subst, arith, append-nil, append_assoc}
+use Rattle.std.proofs.Common.{◌≡◌, ◌≢◌, inl, inr, ℕ, Bool, true, false, List, [], ◌∷◌, ◌++◌, Option, Some, None, refl, sym, ap, ◌∙◌, subst, arith, append-nil}
 use Rattle.std.specs.Prelude.{Result, Ok, Err}
-use Rattle.m4_state.proofs.CallerLaws.{with_bytes-append, with_bytes-nil}
+use Rattle.m4_state.proofs.CallerLaws.{with_bytes-nil}
 use Rattle.m4_state.specs.Device.{Script, with_bytes}
 use Rattle.m4_state.specs.State.{State}
 use Rattle.m4_engine.specs.declared.options.Options.{Options}
@@ -20,16 +20,16 @@ use Rattle.m4_engine.specs.Start.{Start, From, begun}
 use Rattle.m4_engine.specs.Run.{limits_of}
 use Rattle.m4_engine.specs.Settled.{SettledSoFar, settled_in}
 use Rattle.m4_engine.specs.Laws.{IsBeginning}
-use Rattle.m4_engine.specs.Session.{SessionState, progress_of, how_over, written, session_from, IsOpen, Completed, EndGives, CloseGives, BeginGives, IsBegun}
+use Rattle.m4_engine.specs.Session.{SessionState, progress_of, how_over, session_from, IsOpen, EndGives, CloseGives, BeginGives, IsBegun}
 use Rattle.m4_engine.specs.Writers.{Contents, Three, writers, HasWritten}
 use Rattle.m4_engine.specs.WholeRun.{ending_by}
-use Rattle.m4_engine.specs.OnePass.{IsRead, Reaches, AreRead, settled_after, ExactAtFault, AskedAt, Reached, OnePassBy, OnePass}
+use Rattle.m4_engine.specs.OnePass.{IsRead, Reaches, AreRead, settled_after, ExactAtFault, Reached, OnePassBy, OnePass}
 use Rattle.m4_engine.specs.SourcesRead.{SourcesGive, RunReached}
 use Rattle.m4_engine.proofs.Growth.{Extends, made_out, longer_level, Begins}
 use Rattle.m4_engine.proofs.Continues.{law}
 use Rattle.m4_engine.proofs.OnePass.{over_sources}
 use Rattle.m4_engine.proofs.Blockwise.{more_after}
-use Rattle.m4_engine.proofs.GoingOn.{after, sources_after}
+use Rattle.m4_engine.proofs.GoingOn.{sources_after}
 use Rattle.m4_engine.proofs.Reached.{in_front, in_front_is, asked_further}
 use Rattle.m4_engine.proofs.Sessions.{close_ends}
 use Rattle.m4_engine.proofs.Starts.{begun_is}

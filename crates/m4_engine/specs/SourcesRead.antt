@@ -1,7 +1,7 @@
 -- SourcesRead: how far each step of a run has read its sources.
 -- Not believed: it connects a session's calls with `OnePass`.
 -- Words: EndsWithin, SourceGives, SourcesGive, RunReached.
-use Rattle.std.specs.Prelude.{◌≡◌, ◌≢◌, ℕ, Bool, List, [], Option, Result, Ok, Err}
+use Rattle.std.specs.Prelude.{ℕ, Bool, List, Option, Result, Ok, Err}
 use Rattle.m4_state.specs.Device.{Script}
 use Rattle.m4_engine.specs.declared.ending.Cause.{Cause}
 use Rattle.m4_engine.specs.declared.ending.Cause.TheVariants as causes
