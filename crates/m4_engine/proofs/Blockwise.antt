@@ -20,9 +20,9 @@ use Rattle.m4_engine.specs.Expansion.{RunSoFar, Call, Expansion, Kept, Ended, En
 use Rattle.m4_engine.specs.Expand.{turn, join, expand, ended_of, expansion_of}
 use Rattle.m4_engine.specs.Engine.{Engine, MayFollow, so_far_of, outer_of, here_of, configuration, IsReady, IsFront}
 use Rattle.m4_engine.specs.Expands.{made_before, input_expansion, Expanded, LastAsked, ReadSo, Fell, Expands, ReadsBy, IsIdle}
-use Rattle.m4_engine.specs.Continued.{comes_to, Leads, HasWritten, IsFlushed, HandNeeds, HandEnds, HandBreaks, HandGives, HasMade, so_far_in, fault_cause}
+use Rattle.m4_engine.specs.Continued.{comes_to, Leads, IsFlushed, HandNeeds, HandEnds, HandBreaks, HandGives, HasMade, so_far_in, fault_cause}
 use Rattle.m4_engine.specs.ReadsOn.{IsWantedAfter, HasReadOn, HasStopped, ReadsOn}
-use Rattle.m4_engine.specs.Writers.{Contents, Failures, NoneFailed, FailsBy, writers, Broken}
+use Rattle.m4_engine.specs.Writers.{Contents, Failures, NoneFailed, FailsBy, writers, Broken, HasWritten}
 use Rattle.m4_engine.proofs.ReadingOn.{stays_open}
 use Rattle.m4_engine.proofs.Running.{leads_then, leads_nowhere, more_written, comes_keeps, made_is}
 
@@ -40,7 +40,7 @@ pub record Taking (e0 : Engine) (p0 : Pending) (before after : Option Script) (o
   pub flushed : IsFlushed e
 
 -- what was written before, and more
-more_after : (old mid new : Option (List ℕ)) (made x y : List ℕ) → mid ≡ with_bytes old (made ++ x) → new ≡ with_bytes mid y → new ≡ with_bytes old (made ++ (x ++ y))
+pub more_after : (old mid new : Option (List ℕ)) (made x y : List ℕ) → mid ≡ with_bytes old (made ++ x) → new ≡ with_bytes mid y → new ≡ with_bytes old (made ++ (x ++ y))
 more_after old mid new made x y e f =
     f ∙ ap (λ (o : Option (List ℕ)). with_bytes o y) e ∙ with_bytes-append old (made ++ x) y ∙ ap (with_bytes old) (append_assoc made x y)
 

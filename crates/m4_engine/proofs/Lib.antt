@@ -46,8 +46,10 @@ pub mod JoinsBack
 pub mod GoingOn
 pub mod Wrapping
 pub mod Reading
+pub mod Reached
 pub mod Readers
 pub mod Whole
 pub mod Starts
+pub mod RunReached
 pub mod TwoRuns
 pub mod Chains

@@ -28,7 +28,7 @@ pub none_read : (ss : List Source) (s : SessionState) (out reported : Option (Li
 none_read ss s out reported = record { o = []; m = []; output = with_bytes-nil out; messages = with_bytes-nil reported; limits = refl; rest = refl }
 
 -- after a source, the run continues from what was written of it
-source_after : (s0 s : SessionState) (o m : List ℕ) (t : Source) (ts : List Source) → s.limits ≡ s0.limits → after_sources s0.limits (t ∷ ts) (after o m (progress_of s)) ≡ after_sources s0.limits ts (after o m (after_source s.limits t (progress_of s)))
+pub source_after : (s0 s : SessionState) (o m : List ℕ) (t : Source) (ts : List Source) → s.limits ≡ s0.limits → after_sources s0.limits (t ∷ ts) (after o m (progress_of s)) ≡ after_sources s0.limits ts (after o m (after_source s.limits t (progress_of s)))
 source_after s0 s o m t ts l =
     ap (after_sources s0.limits ts)
     (sources_after o m s0.limits (t ∷ []) (progress_of s) ∙ ap (λ (x : Limits). after o m (after_source x t (progress_of s))) (sym l))

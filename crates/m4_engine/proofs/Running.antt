@@ -19,8 +19,8 @@ use Rattle.m4_engine.specs.Expansion.{RunSoFar, Expansion, Kept, Ended, Ends, Ne
 use Rattle.m4_engine.specs.Expand.{turn, join, expand, skip_line, skip_all, out_of_bound_at, size_of, calls_left}
 use Rattle.m4_engine.specs.Engine.{Engine, MayFollow, Moving, so_far_of, outer_of, here_of, configuration, after_flush, moved, IsReady, Moves, Needs, IsMade, IsTurned, StaysBy, Passes}
 use Rattle.m4_engine.specs.Expands.{FlushesPrefix, FlushesSome}
-use Rattle.m4_engine.specs.Continued.{skipped_first, comes_to, Leads, HasWritten, IsFlushed, HandNeeds, HandEnds, HandBreaks, HandGives, HasMade, so_far_in}
-use Rattle.m4_engine.specs.Writers.{Contents, writers}
+use Rattle.m4_engine.specs.Continued.{skipped_first, comes_to, Leads, IsFlushed, HandNeeds, HandEnds, HandBreaks, HandGives, HasMade, so_far_in}
+use Rattle.m4_engine.specs.Writers.{Contents, writers, HasWritten}
 use Rattle.m4_engine.proofs.Begins.{some_all}
 use Rattle.m4_engine.proofs.CallsFall.{falls}
 use Rattle.m4_engine.proofs.Growth.{Extends, made_out}

@@ -19,16 +19,16 @@ over_rounds (suc n) limits p h e = ap (λ o. next_round (rounds n limits) limits
 
 -- the parameters of `Shifts`, and that an end at which nothing is claimed ends the run
 module _ (o m : List ℕ) (c calls calls' nesting nesting' : ℕ) (room : (k : ℕ) → c + k < calls → k < calls') (depth : (k : ℕ) → (nat_lt 0 nesting && nat_lt nesting k) ≡ false → (nat_lt 0 nesting' && nat_lt nesting' k) ≡ false) (Limit : EndReason → Type 0) (at_calls : Limit (Ends causes.ExpansionLimit) ⊎ ((c ≡ 0) × (calls ≡ calls'))) (at_nesting : Limit (Ends causes.NestingLimit) ⊎ (nesting ≡ nesting')) (ends : (h : EndReason) → Limit h → over_of h ≡ Some h) where
-  abbrev first : Limits
+  abbrev pub first : Limits
   first = record { calls = calls; nesting = nesting }
 
-  abbrev second : Limits
+  abbrev pub second : Limits
   second = record { calls = calls'; nesting = nesting' }
 
-  abbrev Br : RunSoFar → RunSoFar
+  abbrev pub Br : RunSoFar → RunSoFar
   Br = after_record o m c
 
-  abbrev Be : Ended → Ended
+  abbrev pub Be : Ended → Ended
   Be d = record { so_far = Br d.so_far; reason = d.reason }
 
   -- the run after what was made before
@@ -50,7 +50,7 @@ module _ (o m : List ℕ) (c calls calls' nesting nesting' : ℕ) (room : (k : �
   ended_after (Halted d) w (inr h) = inr (h.2 ∙ ap Be (sym (ap ended_of h.1)))
   ended_after (Closed s) w h = inr (ap out_of_bound_at (h.2).0 ∙ ap Be (sym (ap ended_of h.1)))
 
-  input_after : (r : RunSoFar) (p : Pending) → PrefixedEnd (expand_input first (Br r) p) (expand_input second r p)
+  pub input_after : (r : RunSoFar) (p : Pending) → PrefixedEnd (expand_input first (Br r) p) (expand_input second r p)
   input_after r p =
       ended_after (expand (expansion_of first (Br r) p)) (expand (expansion_of second r p))
       (same_after o m c calls calls' nesting nesting' room depth Limit at_calls at_nesting (expansion_of second r p) (refl, refl))

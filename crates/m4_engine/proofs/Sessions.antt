@@ -23,9 +23,8 @@ use Rattle.m4_engine.proofs.Begins.{nothing_begun}
 use Rattle.m4_engine.specs.Engine.{Engine, MayFollow}
 use Rattle.m4_engine.proofs.Longer.{closed_same, nothing_more, nothing_follows}
 use Rattle.m4_engine.specs.Expands.{made_before, input_expansion, Expanded, LastAsked, ReadSo, Fell, Expands, ReadsBy, at_rest}
-use Rattle.m4_engine.specs.Continued.{HasWritten}
 use Rattle.m4_engine.specs.Session.{SessionState, progress_of, written, how_over, IsOpen, Completed, FileDone, FileAsked, FileEnded, FileBroke, FileFell, FileGives, ReadFails, BrokeOff, WrapsGive, round_of, answer_by, over_after, session_after_wraps, last_state, Unfinished, EndGives, FinishGives, FreezeGives, CloseGives}
-use Rattle.m4_engine.specs.Writers.{Contents, Three, Broken, writers}
+use Rattle.m4_engine.specs.Writers.{Contents, Three, Broken, writers, HasWritten}
 
 -- the session as the machine and the rest of it give it
 abbrev session_of : Engine → Bool → Option Cause → Bool → SessionState

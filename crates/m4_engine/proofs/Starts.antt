@@ -39,7 +39,7 @@ abbrev issuing : List ℕ → RunResult → RunResult
 issuing x r = record r { output = x ++ r.output }
 
 -- a run's progress after what its start issues
-begun_is : (o : Options) (s : State) (x : List ℕ) → begun (From s x) ≡ after x [] (progress_of (session_from o s))
+pub begun_is : (o : Options) (s : State) (x : List ℕ) → begun (From s x) ≡ after x [] (progress_of (session_from o s))
 begun_is o s x = ap (λ y. begun (From s y)) (sym (append-nil x))
 
 saved_same : (ss : List Source) (x : List ℕ) (p : Progress) → saved_after ss (after x [] p) ≡ saved_after ss p

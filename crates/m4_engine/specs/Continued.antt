@@ -1,8 +1,7 @@
 -- Continued: an expansion of which the bytes in hand were expanded, whatever follows them.
 -- Not believed: it connects the driver with `Expand`.
--- Words: comes_to, Leads, HasWritten, IsFlushed, HandNeeds, HandEnds, HasMade, HandBreaks, HandGives.
+-- Words: comes_to, Leads, IsFlushed, HandNeeds, HandEnds, HasMade, HandBreaks, HandGives.
 use Rattle.std.specs.Prelude.{◌≡◌, ℕ, Bool, true, List, [], ◌++◌}
-use Rattle.m4_state.specs.Device.{with_bytes}
 use Rattle.m4_input.specs.declared.fault.InputFault.{InputFault}
 use Rattle.m4_input.specs.declared.fault.InputFault.TheVariants as faults
 use Rattle.m4_input.specs.Pending.{Pending, text_of, line_length}
@@ -18,7 +17,7 @@ use Rattle.m4_engine.specs.OpenCalls.{Stacked, resume}
 use Rattle.m4_engine.specs.Expansion.{RunSoFar, Expansion, Kept, Ended, Ends, NeedsInput}
 use Rattle.m4_engine.specs.Expand.{turn, join, expand, skip_line}
 use Rattle.m4_engine.specs.Engine.{Engine, MayFollow, so_far_of, configuration, IsReady}
-use Rattle.m4_engine.specs.Writers.{Contents}
+use Rattle.m4_engine.specs.Writers.{Contents, HasWritten}
 
 -- the rest of a line is to be skipped first, or nothing
 abbrev pub skipped_first : Wanted → Expansion → Outcome Expansion Ended
@@ -36,11 +35,6 @@ pub record Leads (w : Wanted) (old : Engine) (p : Pending) (v : Wanted) (new : E
       → comes_to v (configuration (a ++ o) (b ++ m) new (longer z more q)) ≡ comes_to w (configuration a b old (longer z more p))
   pub follows : q.may_follow ≡ p.may_follow
   pub limits : new.limits ≡ old.limits
-
--- these were written
-pub record HasWritten (o m : List ℕ) (w : Contents) : Type 0 where
-  pub output : w.out_new ≡ with_bytes w.out_old o
-  pub messages : w.messages_new ≡ with_bytes w.messages_old m
 
 -- nothing is buffered
 pub record IsFlushed (e : Engine) : Type 0 where

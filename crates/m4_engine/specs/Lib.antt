@@ -24,3 +24,5 @@ pub mod RunSources
 pub mod Session
 pub mod SessionView
 pub mod WholeRun
+pub mod OnePass
+pub mod SourcesRead

@@ -1,7 +1,7 @@
 -- Writers: a call's writers before and after it: the bytes of each, and how often it failed.
 -- Believed: each clause on written bytes cites it. Manual: "Invoking m4".
 -- Words: Both, writers, both, Three, three, Contents, Failures, NoneFailed, OneFailed, NoneOfThree,
--- IsSpared, OneOfThree, Spares, FailsOnce, ByCause, FailsBy, Broken, WroteAtLeast.
+-- IsSpared, OneOfThree, Spares, FailsOnce, ByCause, FailsBy, Broken, HasWritten, WroteAtLeast.
 use Rattle.std.specs.Prelude.{◌≡◌, ℕ, List, ◌++◌, Option, ◌⊎◌, Result, Ok, Err}
 use Rattle.m4_state.specs.Device.{with_bytes, HasBegun, one_more}
 use Rattle.m4_engine.specs.declared.ending.Cause.{Cause}
@@ -97,6 +97,11 @@ Spares cause w = IsSpared w
 pub record Broken (d : Ended) (w : Contents) : Type 0 where
   pub output : HasBegun w.out_old w.out_new (d.so_far).output
   pub messages : HasBegun w.messages_old w.messages_new (d.so_far).messages
+
+-- this output and these messages were written, and nothing else
+pub record HasWritten (made reported : List ℕ) (w : Contents) : Type 0 where
+  pub output : w.out_new ≡ with_bytes w.out_old made
+  pub messages : w.messages_new ≡ with_bytes w.messages_old reported
 
 -- this output and these messages were written, and perhaps more
 pub record WroteAtLeast (made reported : List ℕ) (w : Contents) : Type 0 where

@@ -1,7 +1,7 @@
 //! A complete run: its start, its sources in order, and its end.
 //! Manual: "Invoking m4", "Command line files", "Fast loading of frozen state".
 
-ghost use Rattle.std.specs.Prelude.{◌≡◌, ◌||◌, Bool, true, false, [], List, Option, Err, OnOk};
+ghost use Rattle.std.specs.Prelude.{◌≡◌, ◌≢◌, ◌||◌, Bool, true, false, [], List, Option, Err, OnOk};
 ghost use Rattle.m4_state.specs.Device.{Script};
 ghost use Rattle.m4_state.specs.State.{IsSized};
 ghost use Rattle.m4_frozen.specs.declared.fault.FrozenFault.{FrozenFault};
@@ -14,6 +14,8 @@ ghost use Rattle.m4_engine.specs.Expansion.{Ends};
 ghost use Rattle.m4_engine.specs.Writers.{both, three, ByCause, NoneOfThree, OneOfThree, Spares};
 ghost use Rattle.m4_engine.specs.RunSources.{DescribeSources, DescribesSource, ReadersFailBy, DescribesFrozen, FrozenFailsBy, any_unopened, is_unopened, AllConsumeOnly, ConsumesOnly};
 ghost use Rattle.m4_engine.specs.Session.{IsOpen, IsLeft, GoesTo, BeginGives, BeginFails, IsBegun, CloseGives, ByAnswer, WriteFails, MessageWriteFails, SourceFails, SourcesFail, SparesBy, progress_of, status_at};
+ghost use Rattle.m4_engine.specs.OnePass.{OnePass};
+ghost use Rattle.m4_engine.specs.SourcesRead.{SourceGives, SourcesGive, RunReached};
 ghost use Rattle.m4_engine.specs.WholeRun.{RunGives, NothingIsDone, result_after, ending_by};
 
 use crate::ending::{Cause, Ending};
@@ -63,6 +65,11 @@ pub fn run<R: ByteSource, O: ByteSink, M: ByteSink, Z: ByteSink>(
         (three Z.contents (both O.contents M.contents out.old out.new messages.old messages.new) freeze_to.old freeze_to.new)) }
     // whole run: each reader delivered a prefix of its known bytes
     ensures taken { AllConsumeOnly R.script sources.old sources.new }
+    // one pass: the sources are read in order, each only as far as the bytes in hand leave the run open; all that
+    // these settle is written before further bytes are asked for
+    ensures one_pass { (file : Option Script) → DescribesFrozen R.script frozen.old file
+        → OnePass R.script sources.old sources.new options (start_of options.prefix file) result.cause
+        (both O.contents M.contents out.old out.new messages.old messages.new) }
     // faults leave beginnings: if a frozen file is refused, no source is read and nothing is written
     ensures refused { (fault : FrozenFault) → result.cause ≡ Cause.Frozen fault → NothingIsDone sources.old sources.new
         (three Z.contents (both O.contents M.contents out.old out.new messages.old messages.new) freeze_to.old freeze_to.new) }
@@ -139,6 +146,8 @@ fn read_to_end<R: ByteSource, O: ByteSink, M: ByteSink, Z: ByteSink>(
         (ending_by (status_at session.new) result)
         (three Z.contents (both O.contents M.contents out.old out.new messages.old messages.new) freeze_to.old freeze_to.new) }
     ensures left { IsLeft session.new result }
+    ensures reached { sources.old ≢ [] → RunReached R.script sources.old sources.new session.old
+        (both O.contents M.contents out.old out.new messages.old messages.new) result }
     ensures any_missing { OnOk result (session.new.any_missing ≡ (any_unopened sources.old || session.old.any_missing)) }
     ensures sized { (ss : List Said) → DescribeSources R.script sources.old sources.new ss → OnOk result (freezes ≡ true
         → IsSized ((after_wraps session.old.limits (after_sources session.old.limits ss (progress_of session.old))).so_far).state) }
@@ -196,6 +205,8 @@ fn read<R: ByteSource, O: ByteSink, M: ByteSink>(
         (both O.contents M.contents out.old out.new messages.old messages.new)
         result }
     ensures any_missing { OnOk result (session.new.any_missing ≡ (is_unopened source.old || session.old.any_missing)) }
+    ensures reached { SourceGives R.script source.old source.new session.old session.new
+        (both O.contents M.contents out.old out.new messages.old messages.new) result }
     ensures read { SourceFails R.failures result source.old source.new }
     ensures taken { ConsumesOnly R.script source.old source.new }
     ensures write { WriteFails result (both O.failures M.failures out.old out.new messages.old messages.new) }
@@ -228,6 +239,8 @@ fn read_sources<R: ByteSource, O: ByteSink, M: ByteSink>(
         result }
     ensures unfinished { OnOk result (IsOpen session.new) }
     ensures any_missing { OnOk result (session.new.any_missing ≡ (any_unopened sources.old || session.old.any_missing)) }
+    ensures reached { SourcesGive R.script sources.old sources.new session.old session.new
+        (both O.contents M.contents out.old out.new messages.old messages.new) result }
     ensures read { SourcesFail R.failures result sources.old sources.new }
     ensures taken { AllConsumeOnly R.script sources.old sources.new }
     ensures write { WriteFails result (both O.failures M.failures out.old out.new messages.old messages.new) }

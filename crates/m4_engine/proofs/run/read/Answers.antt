@@ -1,6 +1,7 @@
 use Rattle.std.proofs.Common.{rules, refl}
 use Rattle.m4_engine.proofs.Readers.{source_fails}
 use Rattle.m4_engine.proofs.Sources.{opened_described, unopened_described, unread_goes}
+use Rattle.m4_engine.proofs.Reached.{file_so, missing_so, unread_so}
 use Rattle.m4_engine.proofs.run.read.Goals as goal
 
 pub returns-in_default-clause-goes : goal.returns-in_default-clause-goes
@@ -14,3 +15,12 @@ returns-in-Unopened-clause-goes g c = λ s e. unopened_described g.R.ByteSource.
 
 pub returns-in-Ok-clause-read : goal.returns-in-Ok-clause-read
 returns-in-Ok-clause-read g c = source_fails g.R.ByteSource.failures c.in-Opened.name c.in-Opened.name c.in-Opened.reader c.file.new.reader _ _ c.file.result (search rules) (search rules) c.file.ensures.read
+
+pub returns-in_default-clause-reached : goal.returns-in_default-clause-reached
+returns-in_default-clause-reached g c = unread_so g.R.ByteSource.script c.args.source.now _ c.args.session.now c.end.new.self _ _ c.end.result (search rules) c.end.ensures.answer c.requires
+
+pub returns-in-Ok-clause-reached : goal.returns-in-Ok-clause-reached
+returns-in-Ok-clause-reached g c = file_so g.R.ByteSource.script c.in-Ok.name c.in-Opened.reader c.file.new.reader _ _ c.args.session.now c.file.new.self _ c.file.result (search rules) (search rules) c.requires c.file.ensures.gives
+
+pub returns-in-Unopened-clause-reached : goal.returns-in-Unopened-clause-reached
+returns-in-Unopened-clause-reached g c = missing_so g.R.ByteSource.script c.as_slice.result.now c.args.source.now _ c.args.session.now c.missing.new.self _ c.missing.result (search rules) (search rules) c.requires refl c.missing.ensures.gives

@@ -4,6 +4,7 @@ use Rattle.m4_engine.specs.File.{Source}
 use Rattle.m4_engine.specs.Writers.{both, NoneFailed}
 use Rattle.m4_engine.specs.Session.{IsOpen}
 use Rattle.m4_engine.specs.RunSources.{AllPairs, is_sound, any_unopened, AllConsumeOnly}
+use Rattle.m4_engine.proofs.Reached.{ReadSoFar}
 use Rattle.m4_engine.proofs.Reading.{Between, FirstFor}
 use Rattle.m4_engine.proofs.run.read_sources.Given as goal
 
@@ -17,3 +18,4 @@ invariant-sources g l =
     → Between ss l.source-index l.fn.session l.session (both g.O.ByteSink.contents g.M.ByteSink.contents l.fn.out l.out l.fn.messages l.messages))
     × AllPairs (is_sound g.R.ByteSource.failures) l.fn.sources l.sources
     × ((any_unopened (drop l.source-index l.fn.sources) || l.session.any_missing) ≡ (any_unopened l.fn.sources || l.fn.session.any_missing))
+    × ReadSoFar g.R.ByteSource.script l.source-index l.fn.sources l.sources l.fn.session l.session (both g.O.ByteSink.contents g.M.ByteSink.contents l.fn.out l.out l.fn.messages l.messages)

@@ -4,6 +4,7 @@ use Rattle.m4_engine.specs.Session.{progress_of}
 use Rattle.m4_engine.proofs.Readers.{same_fails, close_sound}
 use Rattle.m4_engine.proofs.Whole.{early_so, late_so, well_so, sized_so}
 use Rattle.m4_engine.proofs.Starts.{close_left}
+use Rattle.m4_engine.proofs.RunReached.{early_reached, late_reached, closed_reached}
 use Rattle.m4_engine.proofs.run.read_to_end.Goals as goal
 
 pub returns-in_err-read_sources-clause-gives : goal.returns-in_err-read_sources-clause-gives
@@ -30,3 +31,12 @@ returns-in_err-close-clause-read g c = close_sound g.R.ByteSource.failures c.arg
 
 pub returns-in_err-close-clause-left : goal.returns-in_err-close-clause-left
 returns-in_err-close-clause-left g c = close_left c.args.freezes c.read_sources.new.session c.close.new.session _ c.in_err-close.field-0.0 c.close.result c.from_residual-in_err-close.result (search rules) (search rules) c.in_ok-read_sources.ensures.unfinished c.close.ensures.gives
+
+pub returns-in_err-read_sources-clause-reached : goal.returns-in_err-read_sources-clause-reached
+returns-in_err-read_sources-clause-reached g c = λ n. early_reached g.R.ByteSource.script c.args.sources.now c.read_sources.new.sources c.args.session.now c.read_sources.new.session _ c.in_err-read_sources.field-0.0 c.read_sources.result c.from_residual.result (search rules) (search rules) c.read_sources.ensures.reached
+
+pub returns-in_err-close-clause-reached : goal.returns-in_err-close-clause-reached
+returns-in_err-close-clause-reached g c = λ n. late_reached g.R.ByteSource.script c.args.sources.now c.read_sources.new.sources c.args.freezes c.args.session.now c.read_sources.new.session c.close.new.session _ _ _ _ _ _ n c.in_ok-read_sources.ensures.unfinished c.in_ok-read_sources.ensures.reached _ c.in_err-close.field-0.0 c.close.result c.from_residual-in_err-close.result refl (search rules) (search rules) c.close.ensures.gives
+
+pub returns-clause-reached : goal.returns-clause-reached
+returns-clause-reached g c = λ n. closed_reached g.R.ByteSource.script c.args.sources.now c.read_sources.new.sources c.args.freezes c.args.session.now c.read_sources.new.session c.close.new.session _ _ _ _ _ _ n c.in_ok-read_sources.ensures.unfinished c.in_ok-read_sources.ensures.reached c.wrapped-wrapped.result _ _ refl refl c.in_ok-close.ensures.gives

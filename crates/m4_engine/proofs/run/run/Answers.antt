@@ -4,6 +4,7 @@ use Rattle.m4_engine.specs.Writers.{both, three}
 use Rattle.m4_engine.proofs.Whole.{left_status}
 use Rattle.m4_engine.proofs.Starts as starts
 use Rattle.m4_engine.proofs.Readers.{none_taken_yet, all_sound, run_fails}
+use Rattle.m4_engine.proofs.RunReached.{never_passed, passed}
 use Rattle.m4_engine.proofs.run.run.Goals as goal
 
 pub returns-in-Err-clause-gives : goal.returns-in-Err-clause-gives
@@ -55,3 +56,9 @@ pub returns-clause-sized : goal.returns-clause-sized
 returns-clause-sized g c = λ file t ss s e f.
     starts.begun_sized c.args.options (start_of c.args.options.prefix file) ss c.in-Ok.session c.begin.result _ _ (search rules) (c.begin.ensures.begins file t)
     (starts.ended_done _ c.read_to_end-answer.new.session _ c.read_to_end-answer.result c.ending-2.result c.ending-2.ensures c.read_to_end-answer.ensures.left e (c.read_to_end-answer.ensures.sized ss s) f)
+
+pub returns-in-Err-clause-one_pass : goal.returns-in-Err-clause-one_pass
+returns-in-Err-clause-one_pass g c = λ file t. never_passed g.R.ByteSource.script c.args.sources.now c.args.options (start_of c.args.options.prefix file) _ c.begin.result c.in-Err.stop c.status.result c.ending.result (search rules) c.ending.ensures c.begin.ensures.begun
+
+pub returns-clause-one_pass : goal.returns-clause-one_pass
+returns-clause-one_pass g c = λ file t. passed g.R.ByteSource.script c.args.sources.now c.read_to_end-answer.new.sources c.args.options (start_of c.args.options.prefix file) c.in-Ok.session c.begin.result _ c.read_to_end-answer.result c.ending-2.result _ _ _ _ _ (search rules) c.ending-2.ensures (c.begin.ensures.begins file t) c.read_to_end-answer.ensures.reached

@@ -1,0 +1,92 @@
+-- OnePass: how far a run has read its sources when it ends, and what it had written by then.
+-- Believed. Its law: `SettledBegins` (what a prefix settles is so whatever follows it).
+-- Manual: "Command line files", "How m4 copies input to output".
+-- Words: IsRead, IsCurrent, Reaches, AreRead, settled_after, ExactAtFault, AskedAt, Reached, OnePassBy, OnePass.
+-- A reader is asked only where the bytes in hand leave open how the run continues, and then for one block.
+use Rattle.std.specs.Prelude.{◌≡◌, ◌≢◌, ◌⊎◌, ◌≤◌, ℕ, List, [], ◌∷◌, ◌++◌, Option, length}
+use Rattle.m4_state.specs.Device.{Script, after_bytes, IsAtEnd}
+use Rattle.m4_input.specs.Input.{block}
+use Rattle.m4_engine.specs.declared.options.Options.{Options}
+use Rattle.m4_engine.specs.declared.ending.Cause.{Cause}
+use Rattle.m4_engine.specs.declared.ending.Cause.TheVariants as causes
+use Rattle.m4_engine.specs.declared.source.Source.{Source as RunSource}
+use Rattle.m4_engine.specs.declared.source.Source.TheVariants as sources
+use Rattle.m4_engine.specs.Expansion.{Limits, NeedsInput}
+use Rattle.m4_engine.specs.File.{Source, Opened, Unopened, Progress, after_sources}
+use Rattle.m4_engine.specs.Start.{Start, begun}
+use Rattle.m4_engine.specs.Run.{limits_of}
+use Rattle.m4_engine.specs.Settled.{SettledSoFar, settled_in}
+use Rattle.m4_engine.specs.Writers.{Contents, HasWritten, WroteAtLeast}
+
+-- one of a run's sources was read to its end: it is this source of the definitions
+abbrev pub IsRead : {R : Type 0} → (R → Option Script) → RunSource R → RunSource R → Source → Type 0
+IsRead script (sources.Opened name before) (sources.Opened n after) (Opened m bytes) =
+    (n ≡ name) × (m ≡ name) × (script before ≡ after_bytes bytes (script after)) × IsAtEnd (script after)
+IsRead script (sources.Unopened name) (sources.Unopened n) (Unopened m) = (n ≡ name) × (m ≡ name)
+IsRead script before after s = ⊥
+
+-- these bytes of one of a run's sources were taken; none if it wasn't opened
+abbrev pub IsCurrent : {R : Type 0} → (R → Option Script) → RunSource R → RunSource R → List ℕ → List ℕ → Type 0
+IsCurrent script (sources.Opened name before) (sources.Opened n after) m taken =
+    (n ≡ name) × (m ≡ name) × (script before ≡ after_bytes taken (script after))
+IsCurrent script (sources.Unopened name) (sources.Unopened n) m taken =
+    (n ≡ name) × (m ≡ name) × (taken ≡ [])
+IsCurrent script before after m taken = ⊥
+
+-- the first sources of a run were read to their ends, these bytes were taken of the one after them, and the later
+-- ones are as they were
+abbrev pub Reaches : {R : Type 0} → (R → Option Script) → List (RunSource R) → List (RunSource R) → List Source → List ℕ → List ℕ → Type 0
+Reaches script (x ∷ xs) (y ∷ ys) [] name taken = IsCurrent script x y name taken × (ys ≡ xs)
+Reaches script (x ∷ xs) (y ∷ ys) (s ∷ ss) name taken =
+    IsRead script x y s × Reaches script xs ys ss name taken
+Reaches script before after ss name taken = ⊥
+
+-- all sources of a run were read to their ends
+abbrev pub AreRead : {R : Type 0} → (R → Option Script) → List (RunSource R) → List (RunSource R) → List Source → Type 0
+AreRead script [] [] [] = Unit {0}
+AreRead script (x ∷ xs) (y ∷ ys) (s ∷ ss) = IsRead script x y s × AreRead script xs ys ss
+AreRead script before after ss = ⊥
+
+-- the part that the first bytes of a file settle, after these sources, in a run that was at p before them; from a
+-- start this is `settled`
+abbrev pub settled_after : Limits → Progress → List Source → List ℕ → List ℕ → SettledSoFar
+settled_after limits p before name bytes = settled_in limits (after_sources limits before p) name bytes
+
+-- at a read fault what was settled leaves open how the run continues, and exactly it was written
+abbrev pub ExactAtFault : Cause → SettledSoFar → Contents → Type 0
+ExactAtFault causes.Read s w = (s.reason ≡ NeedsInput) × HasWritten s.output s.messages w
+ExactAtFault cause s w = Unit {0}
+
+-- `asked`, a beginning of the bytes taken and at most a block shorter, leaves open how the run continues: there the
+-- last of them were asked for, after all that `asked` settles was written; `part` is what first bytes settle
+pub record AskedAt (part : List ℕ → SettledSoFar) (cause : Cause) (taken : List ℕ) (w : Contents) : Type 0 where
+  pub asked : List ℕ
+  pub last : List ℕ
+  pub parts : taken ≡ asked ++ last
+  pub within : length last ≤ block
+  pub undecided : (part asked).reason ≡ NeedsInput
+  pub written : WroteAtLeast (part asked).output (part asked).messages w
+  pub exact : ExactAtFault cause (part taken) w
+
+-- how far a run came that was at p before its sources: those before the current one were read to their ends, `taken`
+-- is what was taken of the current one, and of the later ones nothing was
+pub record Reached {R : Type 0} (script : R → Option Script) (old new : List (RunSource R)) (limits : Limits) (p : Progress) (cause : Cause) (w : Contents) : Type 0 where
+  pub before : List Source
+  pub name : List ℕ
+  pub taken : List ℕ
+  pub place : Reaches script old new before name taken
+  pub at : AskedAt (settled_after limits p before name) cause taken w
+
+-- by the cause: after a frozen file that is refused nothing is read; and a writer or an allocation may have failed
+-- before anything was read
+abbrev pub OnePassBy : {R : Type 0} → (R → Option Script) → List (RunSource R) → List (RunSource R) → Options → Start → Cause → Contents → Type 0
+OnePassBy script old new o start (causes.Frozen fault) w = new ≡ old
+OnePassBy script old new o start causes.Write w =
+    (new ≡ old) ⊎ Reached script old new (limits_of o) (begun start) causes.Write w
+OnePassBy script old new o start causes.OutOfMemory w =
+    (new ≡ old) ⊎ Reached script old new (limits_of o) (begun start) causes.OutOfMemory w
+OnePassBy script old new o start cause w = Reached script old new (limits_of o) (begun start) cause w
+
+-- a run passes over its sources once; of a run without sources nothing is said
+abbrev pub OnePass : {R : Type 0} → (R → Option Script) → List (RunSource R) → List (RunSource R) → Options → Start → Cause → Contents → Type 0
+OnePass script old new o start cause w = old ≢ [] → OnePassBy script old new o start cause w

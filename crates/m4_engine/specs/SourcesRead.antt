@@ -1,0 +1,50 @@
+-- SourcesRead: how far each step of a run has read its sources.
+-- Not believed: it connects a session's calls with `OnePass`.
+-- Words: EndsWithin, SourceGives, SourcesGive, RunReached.
+use Rattle.std.specs.Prelude.{ℕ, Bool, List, Option, Result, Ok, Err}
+use Rattle.m4_state.specs.Device.{Script}
+use Rattle.m4_engine.specs.declared.ending.Cause.{Cause}
+use Rattle.m4_engine.specs.declared.ending.Cause.TheVariants as causes
+use Rattle.m4_engine.specs.declared.stop.Stop.{Stop}
+use Rattle.m4_engine.specs.declared.stop.Stop.TheVariants as stops
+use Rattle.m4_engine.specs.declared.source.Source.{Source as RunSource}
+use Rattle.m4_engine.specs.File.{Source, after_source, after_sources}
+use Rattle.m4_engine.specs.Settled.{settled_in}
+use Rattle.m4_engine.specs.Session.{SessionState, progress_of, Completed}
+use Rattle.m4_engine.specs.Writers.{Contents}
+use Rattle.m4_engine.specs.OnePass.{IsRead, IsCurrent, AreRead, AskedAt, Reached}
+
+-- a source that ended the run: so far it was read
+abbrev pub EndsWithin : {R : Type 0} → (R → Option Script) → RunSource R → RunSource R → SessionState → Contents → Cause → Type 0
+EndsWithin script before after old w cause =
+    (name taken : List ℕ) × IsCurrent script before after name taken
+    × AskedAt (settled_in old.limits (progress_of old) name) cause taken w
+
+-- a source was read to its end, or the run ended within it
+abbrev pub SourceGives : {R : Type 0} → (R → Option Script) → RunSource R → RunSource R → SessionState → SessionState → Contents → Result Unit Stop → Type 0
+SourceGives script before after old new w (Ok done) =
+    (s : Source) × IsRead script before after s
+    × Completed old new (after_source old.limits s (progress_of old)) w
+SourceGives script before after old new w (Err stops.Finished) = ⊥
+SourceGives script before after old new w (Err (stops.Ended (causes.Frozen fault))) = ⊥
+SourceGives script before after old new w (Err (stops.Ended cause)) =
+    EndsWithin script before after old w cause
+
+-- the sources were read to their ends, in order, or the run ended within one of them
+abbrev pub SourcesGive : {R : Type 0} → (R → Option Script) → List (RunSource R) → List (RunSource R) → SessionState → SessionState → Contents → Result Unit Stop → Type 0
+SourcesGive script before after old new w (Ok done) =
+    (ss : List Source) × AreRead script before after ss
+    × Completed old new (after_sources old.limits ss (progress_of old)) w
+SourcesGive script before after old new w (Err stops.Finished) = ⊥
+SourcesGive script before after old new w (Err (stops.Ended (causes.Frozen fault))) = ⊥
+SourcesGive script before after old new w (Err (stops.Ended cause)) =
+    Reached script before after old.limits (progress_of old) cause w
+
+-- the sources and the end of the run: after all of them the last one is the current one
+abbrev pub RunReached : {R : Type 0} → (R → Option Script) → List (RunSource R) → List (RunSource R) → SessionState → Contents → Result Bool Stop → Type 0
+RunReached script before after old w (Ok wrapped) =
+    Reached script before after old.limits (progress_of old) causes.Done w
+RunReached script before after old w (Err stops.Finished) = ⊥
+RunReached script before after old w (Err (stops.Ended (causes.Frozen fault))) = ⊥
+RunReached script before after old w (Err (stops.Ended cause)) =
+    Reached script before after old.limits (progress_of old) cause w
