@@ -2,7 +2,7 @@
 -- Not believed: it only says which turns a run may make at once, by the tokens of `scan`. If more bytes may follow
 -- (`m`), only tokens that they can't change are meant.
 -- Words: IsPlain, total, ArePlain, IsPlainRun, is_inner, IsInner, IsFirst, FirstLies.
-use Rattle.std.specs.Prelude.{◌≡◌, ◌==◌, ◌||◌, ◌<◌, ◌≤◌, ℕ, ◌+◌, Bool, true, false, not, List, [], ◌∷◌, Some, None, take, drop, ◌⊎◌}
+use Rattle.std.specs.Prelude.{◌≡◌, ◌==◌, ◌||◌, ◌<◌, ◌≤◌, ℕ, ◌+◌, Bool, true, not, List, [], ◌∷◌, Some, None, take, drop, ◌⊎◌}
 use Rattle.m4_state.specs.State.{State, top_of}
 use Rattle.m4_input.specs.declared.token.Token.TheVariants.{Name, Str, Byte}
 use Rattle.m4_input.specs.declared.front.Scan.TheVariants.{Found}

@@ -1,12 +1,12 @@
-//! Plain tokens: names without a definition, and bytes that are no other token. A run writes them as it
-//! reads them, so it can consume many at once. Each look has the flag whether more bytes may follow the text:
-//! then a token is only found if they can't change it.
+//! Plain tokens: names without a definition, and bytes that are no other token. A run writes them as it reads
+//! them, so it can consume many at once. The look at the front of the text is that of `m4_input`, with the flag
+//! whether more bytes may follow; names are looked up here.
 
 ghost use Rattle.std.specs.Prelude.{◌≡◌, ◌≤◌, Bool, IfSome, length, drop};
 ghost use Rattle.m4_input.specs.DelimsView.{pair_of};
 ghost use Rattle.m4_input.specs.Look.{scan_of, LookLies};
-ghost use Rattle.m4_engine.specs.Plain.{IsPlainRun, IsFirst, FirstLies, is_inner, IsInner};
 ghost use Rattle.m4_input.specs.Token.{scan};
+ghost use Rattle.m4_engine.specs.Plain.{IsPlainRun, IsFirst, FirstLies, is_inner, IsInner};
 
 use m4_input::delims::Delims;
 use m4_input::front::{Answer, Look};
