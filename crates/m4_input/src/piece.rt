@@ -1,8 +1,8 @@
 //! The bytes of one file in one buffer, with pushed text before the unread bytes.
 //!
 //! The position of the next byte advances over the file's bytes. Pushed text overwrites bytes that were
-//! read, directly before the next byte, if there is room for it. A block of the file is appended. If the
-//! buffer is full, and more bytes were read than are left, the buffer is not grown: the bytes that are
+//! read, directly before the next byte, if there is room for it; the buffer begins with room for it, so that the
+//! results of a small file's calls are contiguous too. A block of the file is appended. If the buffer is full, and more bytes were read than are left, the buffer is not grown: the bytes that are
 //! left are moved to the front of it, with room before them for pushed text. So reading a file and moving
 //! its bytes takes time in proportion to the file.
 
@@ -18,8 +18,12 @@ use std::marker::Model;
 /// How many bytes a reader is asked for at a time.
 const BLOCK: usize = 4096;
 
-/// How many bytes stay free before the bytes that are left when these are moved to the front.
+/// How many bytes are free before the first block, and before the bytes that are left when these are moved to the
+/// front.
 const ROOM: usize = 32768;
+
+/// The bytes before the first block.
+static FREE: [u8; ROOM] = [0; ROOM];
 
 /// Bytes of a file that were read, pushed text, and unread bytes.
 #[derive(Drop)]
@@ -78,24 +82,6 @@ fn move_to_front(bytes: &mut Vec<u8>, at: usize)
     bytes.truncate(ROOM + len);
 }
 
-/// Makes room for a block at the end. Returns where the bytes from a position on are then.
-fn make_room(bytes: &mut Vec<u8>, at: usize) -> Result<usize, AllocError>
-    requires { at ≤ vec_len bytes.old }
-    ensures within { IfOk result (λ n. n ≤ vec_len bytes.new) }
-    ensures same { IfOk result (λ n. drop n bytes.new.items ≡ drop at bytes.old.items) }
-    ensures room { OnOk result (vec_len bytes.new + block ≤ vec_capacity bytes.new) }
-    ensures err { OnErr result (bytes.new.items ≡ bytes.old.items) }
-{
-    let len = bytes.len();
-    let is_full = bytes.capacity() < len.saturating_add(BLOCK);
-    if is_full && at >= (len - at).saturating_add(ROOM + BLOCK) {
-        move_to_front(bytes, at);
-        return Ok(ROOM);
-    }
-    bytes.reserve(BLOCK)?;
-    Ok(at)
-}
-
 /// Appends bytes for which there is room.
 fn append(bytes: &mut Vec<u8>, more: &[u8])
     requires { vec_len bytes.old + length more.now ≤ vec_capacity bytes.old }
@@ -105,6 +91,45 @@ fn append(bytes: &mut Vec<u8>, more: &[u8])
         Ok(()) => {}
         Err(AllocError) => unreachable!(),
     }
+}
+
+/// Puts `ROOM` free bytes into an empty buffer, with room for a block after them.
+fn begin_with_room(bytes: &mut Vec<u8>) -> Result<(), AllocError>
+    requires { bytes.old.items ≡ [] }
+    ensures len { OnOk result (vec_len bytes.new ≡ 32768) }
+    ensures room { OnOk result (vec_len bytes.new + block ≤ vec_capacity bytes.new) }
+    ensures err { OnErr result (bytes.new.items ≡ []) }
+{
+    bytes.reserve(ROOM + BLOCK)?;
+    append(bytes, &FREE);
+    // The room for the block is there; this only shows it.
+    if let Err(AllocError) = bytes.reserve(BLOCK) {
+        bytes.clear();
+        return Err(AllocError);
+    }
+    Ok(())
+}
+
+/// Makes room for a block at the end. Returns where the bytes from a position on are then.
+fn make_room(bytes: &mut Vec<u8>, at: usize) -> Result<usize, AllocError>
+    requires { at ≤ vec_len bytes.old }
+    ensures within { IfOk result (λ n. n ≤ vec_len bytes.new) }
+    ensures same { IfOk result (λ n. drop n bytes.new.items ≡ drop at bytes.old.items) }
+    ensures room { OnOk result (vec_len bytes.new + block ≤ vec_capacity bytes.new) }
+    ensures err { OnErr result (bytes.new.items ≡ bytes.old.items) }
+{
+    let len = bytes.len();
+    if len == 0 {
+        begin_with_room(bytes)?;
+        return Ok(ROOM);
+    }
+    let is_full = bytes.capacity() < len.saturating_add(BLOCK);
+    if is_full && at >= (len - at).saturating_add(ROOM + BLOCK) {
+        move_to_front(bytes, at);
+        return Ok(ROOM);
+    }
+    bytes.reserve(BLOCK)?;
+    Ok(at)
 }
 
 impl Piece {

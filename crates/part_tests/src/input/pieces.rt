@@ -8,6 +8,7 @@ use crate::report::Report;
 use crate::shows::shows;
 use m4_input::fault::InputFault;
 use m4_input::input::Input;
+use m4_input::token::Token;
 use m4_state::bytes::Bytes;
 use m4_state::memory::MemSource;
 use std::alloc::{AllocError, Global};
@@ -27,7 +28,7 @@ static ROWS: [Row; 1] = [(
     b"ab\nc",
     3,
     &[b"x\n", b"longer "],
-    b"[ab\nc] 1\n[x\nc] 2\nnone 2\nname longer\n",
+    b"[ab\nc] 1\n[x\nc] 2\n[longer x\nc] 2\nname longer\n",
 )];
 
 // Returns a file with this text in hand, if it is not longer than a block.
@@ -101,6 +102,33 @@ fn pieces(alloc: Global, row: &Row) -> Result<Vec<u8>, AllocError> {
         report.add(b"a fault");
     }
     report.text()
+}
+
+// Reports text that is longer than the room before a file: it is apart, and joins the file's first name.
+fn apart(alloc: Global) -> Result<Vec<u8>, AllocError> {
+    let mut report = Report::new(alloc);
+    let mut text = Vec::new(alloc);
+    for _ in 0..40_000 {
+        text.push(b'x')?;
+    }
+    let Ok(mut input) = in_hand(alloc, Bytes::from_slice(alloc, b"a.m4")?, b"ab c") else {
+        return Err(AllocError);
+    };
+    if push(alloc, &mut input, &text).is_err() {
+        return Err(AllocError);
+    }
+    describe_piece(&input, &mut report);
+    match input.next(&mut MemSource::new(b"", 1, false), &USUAL) {
+        Ok(Token::Name(name)) => report.counted(b"a name of ", name.as_slice().len()),
+        _ => report.add(b"another token"),
+    }
+    report.text()
+}
+
+#[test]
+fn text_that_is_apart(rt: HostRuntime) {
+    let want = b"none 1\na name of 40002";
+    shows(&rt, "text longer than the room", want, apart(rt.alloc()));
 }
 
 #[test]
