@@ -118,9 +118,11 @@ fn apart(alloc: Global) -> Result<Vec<u8>, AllocError> {
         return Err(AllocError);
     }
     describe_piece(&input, &mut report);
-    match input.next(&mut MemSource::new(b"", 1, false), &USUAL) {
-        Ok(Token::Name(name)) => report.counted(b"a name of ", name.as_slice().len()),
-        _ => report.add(b"another token"),
+    let Ok(token) = input.next(&mut MemSource::new(b"", 1, false), &USUAL) else {
+        return Err(AllocError);
+    };
+    if let Token::Name(name) = &token {
+        report.counted(b"a name of ", name.as_slice().len());
     }
     report.text()
 }
