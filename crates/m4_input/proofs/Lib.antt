@@ -9,5 +9,6 @@ pub mod Decided
 pub mod Blocks
 pub mod TokenBlocks
 pub mod OpenTokens
+pub mod QuoteSearch
 pub mod Pieces
 pub mod ShortQuotes

@@ -13,7 +13,7 @@ use Rattle.m4_input.specs.declared.open_token.OpenToken.{OpenToken}
 use Rattle.m4_input.specs.declared.open_token.OpenToken.TheVariants as opens
 use Rattle.m4_input.specs.Ascii.{is_name_byte}
 use Rattle.m4_input.specs.Pending.{one_more}
-use Rattle.m4_input.specs.Token.{begins, run_length, before, mark_by, mark_at, level, comment_found, comment_at, name_unless, name_at, string_found, string_at, scan_kind, scan}
+use Rattle.m4_input.specs.Token.{begins, run_length, before, mark_at, level, comment_found, comment_at, name_unless, name_at, string_found, string_at, scan_kind, scan}
 use Rattle.m4_input.specs.OpenToken.{kind_in, HasPassed, NameIsOpen, CommentIsOpen, StringIsOpen, IsOpenAt, StaysOpen, NameGoesOn, CommentGoesOn, StringGoesOn}
 use Rattle.m4_input.proofs.Scans.{further, level_at, passed_mark, further_further, one_further, before_step, begins_length, mark_down, mark_up}
 use Rattle.m4_input.proofs.OpenEnd.{mark_stays, front_stays, begins_none, long_not_cut}
@@ -193,14 +193,6 @@ module _ (b e : ℕ) where
       ap (level short false n 0) (sym (append-nil x)) ∙ s.same false []
       ∙ ap (λ (y : List ℕ). further k (level short false 0 0 y)) (append-nil (drop k x))
       ∙ ap (further k) here ∙ ap Some there
-
-  pub never_cut : (a : ℕ) → ((y : List ℕ) → CutQuote ≡ mark_at short false (a ∷ y)) → ⊥
-  never_cut a h = not_by (begins (e ∷ []) (a ∷ [])) (begins (b ∷ []) (a ∷ [])) (h [])
-    where
-      not_by : (v w : Bool) → CutQuote ≡ mark_by v false w → ⊥
-      not_by true w f = cc
-      not_by false true f = cc
-      not_by false false f = cc
 
 -- the same, if the quotes have a name
 pub short_passed : (q : Delimiters) (b e : ℕ) (n : ℕ) (x : List ℕ) (m k : ℕ) → q.begin ≡ b ∷ [] → q.end ≡ e ∷ [] → HasPassed (record { begin = b ∷ []; end = e ∷ [] }) n x m k → HasPassed q n x m k

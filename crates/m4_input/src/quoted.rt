@@ -3,9 +3,9 @@
 
 ghost use Rattle.std.specs.Prelude.{◌≡◌, ◌≢◌, ◌+◌, ◌^◌, ◌<◌, ◌≤◌, ◌∷◌, [], List, ℕ, false, IfSome, IfNone, length};
 ghost use Rattle.m4_input.specs.OpenToken.{Follows};
-ghost use Rattle.m4_input.specs.Token.{before, level, mark_at};
+ghost use Rattle.m4_input.specs.Token.{before, level};
 
-use crate::front::Mark;
+use memchr::memchr2;
 
 /// Returns the byte of a delimiter that has only one.
 pub fn single(delimiter: &[u8]) -> Option<u8>
@@ -14,19 +14,6 @@ pub fn single(delimiter: &[u8]) -> Option<u8>
 {
     let (first, rest) = delimiter.split_first()?;
     if rest.is_empty() { Some(*first) } else { None }
-}
-
-/// Returns the mark of a byte in a string.
-fn mark_of(byte: u8, begin: u8, end: u8) -> Mark
-    ensures { (y : List ℕ) → result ≡ mark_at (record { begin = begin ∷ []; end = end ∷ [] }) false (byte ∷ y) }
-{
-    if byte == end {
-        Mark::EndQuote
-    } else if byte == begin {
-        Mark::BeginQuote
-    } else {
-        Mark::PlainByte
-    }
 }
 
 /// Where a string is after a text.
@@ -38,27 +25,21 @@ pub enum Followed {
     Open(usize),
 }
 
-/// Follows a string through a text, before which `depth` nested strings are open. Not inlined, so that the loop
-/// has the registers for itself.
-#[inline(never)]
+/// Follows a string through a text, before which `depth` nested strings are open.
 pub fn follow_quoted(text: &[u8], depth: usize, begin: u8, end: u8) -> Followed
     requires { depth + length text.now < 2 ^ 64 }
     ensures { Follows (record { begin = begin ∷ []; end = end ∷ [] }) depth text.now result }
 {
     let mut nested = depth;
     let mut k = 0usize;
-    'places: while let Some(byte) = text.get(k) {
-        match mark_of(*byte, begin, end) {
-            Mark::EndQuote => {
-                if nested == 0 {
-                    return Followed::Ends(k);
-                }
-                nested -= 1;
-            }
-            Mark::BeginQuote => nested += 1,
-            Mark::PlainByte => {}
-            // A quote of one byte is never cut.
-            Mark::CutQuote => unreachable!(),
+    'quotes: while let Some(plain) = memchr2(begin, end, &text[k..]) {
+        k += plain;
+        if text[k] != end {
+            nested += 1;
+        } else if nested == 0 {
+            return Followed::Ends(k);
+        } else {
+            nested -= 1;
         }
         k += 1;
     }
