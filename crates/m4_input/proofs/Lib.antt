@@ -9,6 +9,8 @@ pub mod Decided
 pub mod Blocks
 pub mod TokenBlocks
 pub mod OpenTokens
+pub mod ByteSearch
 pub mod QuoteSearch
+pub mod QuoteParts
 pub mod Pieces
 pub mod ShortQuotes

@@ -17,7 +17,7 @@ use Rattle.m4_input.specs.Token.{begins, run_length, before, mark_at, level, com
 use Rattle.m4_input.specs.OpenToken.{kind_in, HasPassed, NameIsOpen, CommentIsOpen, StringIsOpen, IsOpenAt, StaysOpen, NameGoesOn, CommentGoesOn, StringGoesOn}
 use Rattle.m4_input.proofs.Scans.{further, level_at, passed_mark, further_further, one_further, before_step, begins_length, mark_down, mark_up}
 use Rattle.m4_input.proofs.OpenEnd.{mark_stays, front_stays, begins_none, long_not_cut}
-use Rattle.m4_input.proofs.ShortQuotes.{same_mark}
+use Rattle.m4_input.proofs.ShortQuotes.{short, same_mark}
 
 further_none : (k : ℕ) (o : Option ℕ) → o ≡ None → further k o ≡ None
 further_none k o e = ap (further k) e
@@ -91,14 +91,20 @@ end_fits q p y h = begins_length q.end y (mark_down _ _ _ h)
 pub begin_fits : (q : Delimiters) (p : Bool) (y : List ℕ) → BeginQuote ≡ mark_at q p y → length q.begin ≤ length y
 begin_fits q p y h = begins_length q.begin y (mark_up _ _ _ h)
 
+all_dropped : (x : List ℕ) (k : ℕ) → k ≡ length x → drop k x ≡ []
+all_dropped x k e = ap (λ (i : ℕ). drop i x) e ∙ drop_all (length x) x (omega arith)
+
+-- the level before a text by the level at a place of it
+pub passed_level : (q : Delimiters) (p : Bool) (n : ℕ) (x : List ℕ) (m k : ℕ) → HasPassed q n x m k → level q p n 0 x ≡ further k (level q p m 0 (drop k x))
+passed_level q p n x m k s =
+    ap (level q p n 0) (sym (append-nil x)) ∙ s.same p []
+    ∙ ap (λ (y : List ℕ). further k (level q p m 0 y)) (append-nil (drop k x))
+
 -- the string goes on: nothing is left, or a quote is cut
 unended_so : (q : Delimiters) (x : List ℕ) (m k : ℕ) → HasPassed q 0 x m k → level q true m 0 (drop k x) ≡ None → StringGoesOn q m k x
 unended_so q x m k s h = record {
   passed = s;
-  unended =
-      ap (level q true 0 0) (sym (append-nil x)) ∙ s.same true []
-      ∙ ap (λ (y : List ℕ). further k (level q true m 0 y)) (append-nil (drop k x))
-      ∙ further_none k (level q true m 0 (drop k x)) h;
+  unended = passed_level q true 0 x m k s ∙ further_none k (level q true m 0 (drop k x)) h;
 }
 
 pub all_passed : (q : Delimiters) (x : List ℕ) (m k : ℕ) → HasPassed q 0 x m k → drop k x ≡ [] → StringGoesOn q m k x
@@ -108,18 +114,18 @@ pub cut_there : (q : Delimiters) (x : List ℕ) (m k b : ℕ) → HasPassed q 0 
 cut_there q x m k b s e h =
     unended_so q x m k s (ap (level q true m 0) e ∙ level_at q true m b (drop (k + 1) x) CutQuote (ap (mark_at q true) (sym e) ∙ sym h))
 
--- the rest of a text was followed
-pub followed_on : (q : Delimiters) (x y : List ℕ) (n m k : ℕ) → HasPassed q 0 x n k → y ≡ drop k x → HasPassed q n y m (length y) → StringGoesOn q m (k + length y) x
-followed_on q x y n m k s e r =
+-- the rest of a text is passed too
+pub passed_both : (q : Delimiters) (d : ℕ) (x y : List ℕ) (n m k : ℕ) → HasPassed q d x n k → y ≡ drop k x → HasPassed q n y m (length y) → HasPassed q d x m (k + length y)
+passed_both q d x y n m k s e r =
     let len : length (drop k x) ≡ length x - k = length-drop k x in
     let same_len : length y ≡ length (drop k x) = ap length e in
     let w : k ≤ length x = s.within in
-    let l : n ≤ 0 + k = s.low in
+    let l : n ≤ d + k = s.low in
     let l' : m ≤ n + length y = r.low in
     let full : k + length y ≡ length x = omega arith in
-    let gone : drop (k + length y) x ≡ [] = ap (λ (i : ℕ). drop i x) full ∙ drop_all (length x) x (omega arith) in
-    let none : drop (length y) y ≡ [] = drop_all (length y) y (omega arith) in
-    all_passed q x m (k + length y) (record {
+    let gone : drop (k + length y) x ≡ [] = all_dropped x (k + length y) full in
+    let none : drop (length y) y ≡ [] = all_dropped y (length y) refl in
+    record {
       within = omega arith;
       low = omega arith;
       same = λ p z.
@@ -128,7 +134,15 @@ followed_on q x y n m k s e r =
           ∙ ap (further k) (r.same p z)
           ∙ further_further k (length y) (k + length y) (level q p m 0 (drop (length y) y ++ z)) refl
           ∙ ap (λ (t : List ℕ). further (k + length y) (level q p m 0 (t ++ z))) (none ∙ sym gone);
-    }) gone
+    }
+
+-- the rest of a text was followed
+pub followed_on : (q : Delimiters) (x y : List ℕ) (n m k : ℕ) → HasPassed q 0 x n k → y ≡ drop k x → HasPassed q n y m (length y) → StringGoesOn q m (k + length y) x
+followed_on q x y n m k s e r =
+    let len : length (drop k x) ≡ length x - k = length-drop k x in
+    let same_len : length y ≡ length (drop k x) = ap length e in
+    let w : k ≤ length x = s.within in
+    all_passed q x m (k + length y) (passed_both q 0 x y n m k s e r) (all_dropped x (k + length y) (omega arith))
 
 -- the same in a text whose first `from` bytes are the begin-quote
 module _ (q : Delimiters) (x : List ℕ) (from m k b : ℕ) (s : HasPassed q 0 (drop from x) m k) where
@@ -168,31 +182,26 @@ followed_after q x y from n m k s e r = followed_on q (drop from x) y n m k s (e
 
 -- quotes of one byte each: a mark is the same whatever follows
 module _ (b e : ℕ) where
-  abbrev short : Delimiters
-  short = record { begin = b ∷ []; end = e ∷ [] }
-
-  any_mark : (a : ℕ) (y : List ℕ) (v : Mark) → ((y : List ℕ) → v ≡ mark_at short false (a ∷ y)) → Marked short a y v
+  any_mark : (a : ℕ) (y : List ℕ) (v : Mark) → ((y : List ℕ) → v ≡ mark_at (short b e) false (a ∷ y)) → Marked (short b e) a y v
   any_mark a y v h p z = same_mark b e p a (y ++ z) ∙ sym (h (y ++ z))
 
   one_left : (x : List ℕ) (k a : ℕ) → drop k x ≡ a ∷ drop (k + 1) x → 1 ≤ length (drop k x)
   one_left x k a f = subst (λ (y : List ℕ). 1 ≤ length y) (sym f) (omega arith)
 
-  pub short_past : (n : ℕ) (x : List ℕ) (m k a : ℕ) → HasPassed short n x m k → drop k x ≡ a ∷ drop (k + 1) x → ((y : List ℕ) → PlainByte ≡ mark_at short false (a ∷ y)) → HasPassed short n x m (k + 1)
-  short_past n x m k a s f h = passed_past short n x m k a s f (any_mark a (drop (k + 1) x) PlainByte h)
+  pub short_past : (n : ℕ) (x : List ℕ) (m k a : ℕ) → HasPassed (short b e) n x m k → drop k x ≡ a ∷ drop (k + 1) x → ((y : List ℕ) → PlainByte ≡ mark_at (short b e) false (a ∷ y)) → HasPassed (short b e) n x m (k + 1)
+  short_past n x m k a s f h = passed_past (short b e) n x m k a s f (any_mark a (drop (k + 1) x) PlainByte h)
 
-  pub short_up : (n : ℕ) (x : List ℕ) (m k a : ℕ) → HasPassed short n x m k → drop k x ≡ a ∷ drop (k + 1) x → ((y : List ℕ) → BeginQuote ≡ mark_at short false (a ∷ y)) → HasPassed short n x (m + 1) (k + 1)
-  short_up n x m k a s f h = passed_up short n x m k a s f (omega arith) (one_left x k a f) (any_mark a (drop (k + 1) x) BeginQuote h)
+  pub short_up : (n : ℕ) (x : List ℕ) (m k a : ℕ) → HasPassed (short b e) n x m k → drop k x ≡ a ∷ drop (k + 1) x → ((y : List ℕ) → BeginQuote ≡ mark_at (short b e) false (a ∷ y)) → HasPassed (short b e) n x (m + 1) (k + 1)
+  short_up n x m k a s f h = passed_up (short b e) n x m k a s f (omega arith) (one_left x k a f) (any_mark a (drop (k + 1) x) BeginQuote h)
 
-  pub short_down : (n : ℕ) (x : List ℕ) (m k a : ℕ) → HasPassed short n x m k → drop k x ≡ a ∷ drop (k + 1) x → ((y : List ℕ) → EndQuote ≡ mark_at short false (a ∷ y)) → (m ≡ 0 → ⊥) → HasPassed short n x (m - 1) (k + 1)
-  short_down n x m k a s f h ne = passed_down short n x m k a s f (omega arith) (one_left x k a f) (any_mark a (drop (k + 1) x) EndQuote h) ne
+  pub short_down : (n : ℕ) (x : List ℕ) (m k a : ℕ) → HasPassed (short b e) n x m k → drop k x ≡ a ∷ drop (k + 1) x → ((y : List ℕ) → EndQuote ≡ mark_at (short b e) false (a ∷ y)) → (m ≡ 0 → ⊥) → HasPassed (short b e) n x (m - 1) (k + 1)
+  short_down n x m k a s f h ne = passed_down (short b e) n x m k a s f (omega arith) (one_left x k a f) (any_mark a (drop (k + 1) x) EndQuote h) ne
 
-  pub short_end : (n : ℕ) (x : List ℕ) (k a : ℕ) → HasPassed short n x 0 k → drop k x ≡ a ∷ drop (k + 1) x → ((y : List ℕ) → EndQuote ≡ mark_at short false (a ∷ y)) → level short false n 0 x ≡ Some k
+  pub short_end : (n : ℕ) (x : List ℕ) (k a : ℕ) → HasPassed (short b e) n x 0 k → drop k x ≡ a ∷ drop (k + 1) x → ((y : List ℕ) → EndQuote ≡ mark_at (short b e) false (a ∷ y)) → level (short b e) false n 0 x ≡ Some k
   short_end n x k a s f h =
-      let here : level short false 0 0 (drop k x) ≡ Some 0 = ap (level short false 0 0) f ∙ level_at short false 0 a (drop (k + 1) x) EndQuote (sym (h (drop (k + 1) x))) in
+      let here : level (short b e) false 0 0 (drop k x) ≡ Some 0 = ap (level (short b e) false 0 0) f ∙ level_at (short b e) false 0 a (drop (k + 1) x) EndQuote (sym (h (drop (k + 1) x))) in
       let there : k + 0 ≡ k = omega arith in
-      ap (level short false n 0) (sym (append-nil x)) ∙ s.same false []
-      ∙ ap (λ (y : List ℕ). further k (level short false 0 0 y)) (append-nil (drop k x))
-      ∙ ap (further k) here ∙ ap Some there
+      passed_level (short b e) false n x 0 k s ∙ ap (further k) here ∙ ap Some there
 
 -- the same, if the quotes have a name
 pub short_passed : (q : Delimiters) (b e : ℕ) (n : ℕ) (x : List ℕ) (m k : ℕ) → q.begin ≡ b ∷ [] → q.end ≡ e ∷ [] → HasPassed (record { begin = b ∷ []; end = e ∷ [] }) n x m k → HasPassed q n x m k
@@ -203,8 +212,7 @@ short_passed q b e n x m k h g s =
 -- a string that was followed to the end of a text
 pub unended_all : (q : Delimiters) (n : ℕ) (x : List ℕ) (m : ℕ) → HasPassed q n x m (length x) → level q false n 0 x ≡ None
 unended_all q n x m s =
-    ap (level q false n 0) (sym (append-nil x)) ∙ s.same false []
-    ∙ ap (λ (y : List ℕ). further (length x) (level q false m 0 y)) (append-nil (drop (length x) x) ∙ drop_all (length x) x (omega arith))
+    passed_level q false n x m (length x) s ∙ ap (λ (y : List ℕ). further (length x) (level q false m 0 y)) (all_dropped x (length x) refl)
 
 pub all_followed : (q : Delimiters) (n : ℕ) (x : List ℕ) (m k : ℕ) → HasPassed q n x m k → length x ≤ k → HasPassed q n x m (length x)
 all_followed q n x m k s h = let w : k ≤ length x = s.within in let e : k ≡ length x = omega arith in subst (HasPassed q n x m) e s
@@ -289,7 +297,7 @@ kind_known q c (b ∷ x) y k e n = ⊎_elim (λ u. absurd (n (sym e ∙ u))) (λ
 grown : (k : ℕ) (x y z : List ℕ) → k ≤ length x → drop k (x ++ y) ++ z ≡ drop k x ++ (y ++ z)
 grown k x y z w = ap (λ (t : List ℕ). t ++ z) (drop-append-le k x y w) ∙ append_assoc (drop k x) y z
 
-longer_passed : (q : Delimiters) (n : ℕ) (x y : List ℕ) (m k : ℕ) → HasPassed q n x m k → HasPassed q n (x ++ y) m k
+pub longer_passed : (q : Delimiters) (n : ℕ) (x y : List ℕ) (m k : ℕ) → HasPassed q n x m k → HasPassed q n (x ++ y) m k
 longer_passed q n x y m k s =
     let w : k ≤ length x = s.within in
     let len : length (x ++ y) ≡ length x + length y = length-append x y in

@@ -1,5 +1,7 @@
 -- ShortQuotes: quotes of one byte each are never cut, so a string ends where it does if no more bytes follow.
-use Rattle.std.proofs.Common.{◌≡◌, ◌≤◌, ◌+◌, ◌-◌, ℕ, zero, suc, Bool, true, false, ◌&&◌, List, [], ◌∷◌, length, drop, length-drop, Option, Some, None, refl, sym, ap, ◌∙◌, arith}
+use Rattle.std.proofs.Common.{◌≡◌, ◌≤◌, ◌+◌, ◌-◌, ℕ, zero, suc, Bool, true, false, ◌&&◌, List, [], ◌∷◌, length, drop, length-drop, Option, Some, None, refl, sym, ap, ◌∙◌, arith, eqb, eq-eqb}
+use Rattle.std.proofs.Math.Bool.{and-true}
+use Rattle.std.proofs.lemmas.Bool.{ne_eqb}
 use Rattle.std.proofs.lemmas.Bool.Decides.{nat_tests}
 use Rattle.std.specs.Prelude.{nat_lt, ◌||◌, IfSome}
 use Rattle.m4_state.specs.declared.delimiters.Delimiters.{Delimiters}
@@ -23,9 +25,29 @@ neither : (v w : Bool) → v ≡ false → w ≡ false → (v || w) ≡ false
 neither true w h k = h
 neither false w h k = k
 
+-- quotes of one byte each
+abbrev pub short : ℕ → ℕ → Delimiters
+short b e = record { begin = b ∷ []; end = e ∷ [] }
+
+-- the mark at a byte
+module _ (b e a : ℕ) where
+  mark_as : (y : List ℕ) (v w : Bool) → eqb e a ≡ v → eqb b a ≡ w → mark_by v false w ≡ mark_at (short b e) false (a ∷ y)
+  mark_as y v w f g =
+      sym (ap (λ (s : Bool). mark_by s false (begins (b ∷ []) (a ∷ y))) (and-true (eqb e a) ∙ f)
+      ∙ ap (λ (s : Bool). mark_by v false s) (and-true (eqb b a) ∙ g))
+
+  pub end_mark : a ≡ e → (y : List ℕ) → EndQuote ≡ mark_at (short b e) false (a ∷ y)
+  end_mark h y = mark_as y true (eqb b a) (eq-eqb e a (sym h)) refl
+
+  pub begin_mark : a ≡ b → (a ≡ e → ⊥) → (y : List ℕ) → BeginQuote ≡ mark_at (short b e) false (a ∷ y)
+  begin_mark h ne y = mark_as y false true (ne_eqb e a (λ f. ne (sym f))) (eq-eqb b a (sym h))
+
+  pub plain_mark : (a ≡ b → ⊥) → (a ≡ e → ⊥) → (y : List ℕ) → PlainByte ≡ mark_at (short b e) false (a ∷ y)
+  plain_mark nb ne y = mark_as y false false (ne_eqb e a (λ f. ne (sym f))) (ne_eqb b a (λ f. nb (sym f)))
+
 module _ (b e : ℕ) (m : Bool) where
   abbrev q : Delimiters
-  q = record { begin = b ∷ []; end = e ∷ [] }
+  q = short b e
 
   pub same_mark : (c : ℕ) (y : List ℕ) → mark_at q m (c ∷ y) ≡ mark_at q false (c ∷ y)
   same_mark c y =

@@ -4,7 +4,7 @@
 //! A run looks at each token of its text, so that the look is inlined, and tests the first byte before it
 //! compares a delimiter. Manual: "Lexical and syntactic conventions".
 
-ghost use Rattle.std.specs.Prelude.{◌≡◌, ◌<◌, ◌≤◌, ◌∷◌, Bool, List, ℕ, false, IfSome, length, drop};
+ghost use Rattle.std.specs.Prelude.{◌≡◌, ◌<◌, ◌≤◌, ◌∷◌, [], Bool, List, ℕ, false, IfSome, length, drop};
 ghost use Rattle.m4_input.specs.Ascii.{is_name_byte};
 ghost use Rattle.m4_input.specs.DelimsView.{pair_of};
 ghost use Rattle.m4_input.specs.Look.{scan_of, LookLies};
@@ -13,6 +13,7 @@ ghost use Rattle.m4_input.specs.Token.{starts_with, may_start, run_length, unend
 
 use crate::delims::Delims;
 use crate::front::{Answer, Kind, Look, Unended};
+use crate::quoted::{quoted_len, single};
 use crate::window::{Window, is_letter_byte};
 
 /// A begin and an end delimiter.
@@ -51,7 +52,7 @@ pub fn list_follows(text: &[u8], delims: &Delims<'_>, may_follow: bool) -> Answe
 
 /// Returns whether the first of two delimiters begins with this byte.
 #[inline(always)]
-fn may_begin(first: u8, pair: &Pair<'_>) -> bool
+pub fn may_begin(first: u8, pair: &Pair<'_>) -> bool
     ensures starts { result ≡ false → (y : List ℕ) → starts_with (pair_of pair.now) (first ∷ y) ≡ false }
     ensures may { result ≡ false → (m : Bool) (y : List ℕ) → may_start (pair_of pair.now) m (first ∷ y) ≡ false }
 {
@@ -71,7 +72,7 @@ impl<'a> Window<'a> {
     {
         match self.look_plain(delims, may_follow) {
             Some(look) => look,
-            None => self.look_by_kind(delims, may_follow),
+            None => self.look_at_delimiter(delims, may_follow),
         }
     }
 
@@ -90,6 +91,37 @@ impl<'a> Window<'a> {
         } else {
             Some(Look::Byte(first))
         }
+    }
+
+    /// Returns the first token, with the quickest test first: most delimiters are quotes of one byte.
+    #[inline(always)]
+    fn look_at_delimiter(&self, delims: &Delims<'_>, may_follow: bool) -> Look
+        ensures value { scan (pair_of delims.now.quotes) (pair_of delims.now.comments) may_follow self.now
+            ≡ scan_of result self.now }
+        ensures lies { LookLies self.now result }
+    {
+        match self.look_short_quotes(delims, may_follow) {
+            Some(look) => look,
+            None => self.look_by_kind(delims, may_follow),
+        }
+    }
+
+    /// Returns the first token, if its first byte alone decides that it is a string: the quotes have one byte
+    /// each, and neither a comment nor a name can begin with that byte.
+    #[inline(always)]
+    fn look_short_quotes(&self, delims: &Delims<'_>, may_follow: bool) -> Option<Look>
+        ensures value { IfSome result (λ l. scan (pair_of delims.now.quotes) (pair_of delims.now.comments)
+            may_follow self.now ≡ scan_of l self.now) }
+        ensures lies { IfSome result (λ l. LookLies self.now l) }
+    {
+        let first = self.byte(0)?;
+        let begin = single(delims.quotes.0)?;
+        let end = single(delims.quotes.1)?;
+        if first != begin || is_letter_byte(first) || may_begin(first, &delims.comments) {
+            return None;
+        }
+        let rest = self.tail(1)?;
+        Some(short_string(rest, begin, end, may_follow))
     }
 
     /// Returns the first token, by its kind.
@@ -157,6 +189,19 @@ impl<'a> Window<'a> {
             None => without_end(Unended::InString, may_follow),
             Some(n) => Look::Quoted(begin, n, begin + (n + pair.1.len())),
         }
+    }
+}
+
+/// Returns the string whose begin-quote comes before these bytes. Its quotes have one byte each.
+#[inline(always)]
+fn short_string(rest: &[u8], begin: u8, end: u8, may_follow: bool) -> Look
+    ensures value { string_at (record { begin = begin ∷ []; end = end ∷ [] }) may_follow (begin ∷ rest.now)
+        ≡ scan_of result (begin ∷ rest.now) }
+    ensures lies { LookLies (begin ∷ rest.now) result }
+{
+    match quoted_len(rest, begin, end) {
+        None => without_end(Unended::InString, may_follow),
+        Some(len) => Look::Quoted(1, len, len + 2),
     }
 }
 

@@ -5,7 +5,7 @@ ghost use Rattle.std.specs.Prelude.{◌≡◌, ◌≢◌, ◌+◌, ◌^◌, ◌<
 ghost use Rattle.m4_input.specs.OpenToken.{Follows};
 ghost use Rattle.m4_input.specs.Token.{before, level};
 
-use memchr::memchr2;
+use memchr::{memchr, memchr2};
 
 /// Returns the byte of a delimiter that has only one.
 pub fn single(delimiter: &[u8]) -> Option<u8>
@@ -25,8 +25,49 @@ pub enum Followed {
     Open(usize),
 }
 
+/// So many bytes of a string are looked at one by one before a search begins. A search takes longer to start
+/// than a look at a few bytes, and most strings are short.
+const STEPS: usize = 16;
+
 /// Follows a string through a text, before which `depth` nested strings are open.
 pub fn follow_quoted(text: &[u8], depth: usize, begin: u8, end: u8) -> Followed
+    requires { depth + length text.now < 2 ^ 64 }
+    ensures { Follows (record { begin = begin ∷ []; end = end ∷ [] }) depth text.now result }
+{
+    let (front, rest) = text.split_at(text.len().min(STEPS));
+    match follow_by_steps(front, depth, begin, end) {
+        Followed::Ends(len) => Followed::Ends(len),
+        Followed::Open(nested) => match follow_by_search(rest, nested, begin, end) {
+            Followed::Ends(len) => Followed::Ends(front.len() + len),
+            Followed::Open(nested) => Followed::Open(nested),
+        },
+    }
+}
+
+/// The same, byte by byte, for a short text.
+fn follow_by_steps(text: &[u8], depth: usize, begin: u8, end: u8) -> Followed
+    requires { depth + length text.now < 2 ^ 64 }
+    ensures { Follows (record { begin = begin ∷ []; end = end ∷ [] }) depth text.now result }
+{
+    let mut open = depth;
+    let mut k = 0usize;
+    'bytes: while k < text.len() {
+        let byte = text[k];
+        if byte == end {
+            if open == 0 {
+                return Followed::Ends(k);
+            }
+            open -= 1;
+        } else if byte == begin {
+            open += 1;
+        }
+        k += 1;
+    }
+    Followed::Open(open)
+}
+
+/// The same, from quote to quote, for a text of any length.
+fn follow_by_search(text: &[u8], depth: usize, begin: u8, end: u8) -> Followed
     requires { depth + length text.now < 2 ^ 64 }
     ensures { Follows (record { begin = begin ∷ []; end = end ∷ [] }) depth text.now result }
 {
@@ -62,12 +103,11 @@ pub fn len_before(text: &[u8], byte: u8) -> Option<usize>
     ensures value { result ≡ before (byte ∷ []) text.now }
     ensures within { IfSome result (λ n. n + 1 ≤ length text.now) }
 {
-    let mut k = 0usize;
-    while let Some(b) = text.get(k) {
-        if *b == byte {
-            return Some(k);
-        }
-        k += 1;
+    let first = text.first()?;
+    // The rest of a line is often its newline alone, which takes less than a search takes to start.
+    if *first == byte {
+        Some(0)
+    } else {
+        memchr(byte, text)
     }
-    None
 }
