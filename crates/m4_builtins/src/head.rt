@@ -13,7 +13,7 @@ use crate::place::Place;
 use m4_state::builtin::Builtin;
 use m4_state::bytes::Bytes;
 use m4_state::definition::Def;
-use std::alloc::{AllocError, Global};
+use std::alloc::AllocError;
 use std::marker::Model;
 
 /// The kind of a definition. The bytes of a text or of a placeholder's name are stored separately.
@@ -82,9 +82,9 @@ fn part(bytes: &[u8], at: usize, len: usize) -> &[u8]
 }
 
 impl Head {
-    /// Creates a head with copies of these parts.
+    /// Creates a head with copies of these parts, in a buffer whose contents are discarded.
     pub fn new(
-        alloc: Global,
+        buffer: Vec<u8>,
         name: &[u8],
         definition: &Def,
         file: &[u8],
@@ -102,7 +102,9 @@ impl Head {
             .len()
             .saturating_add(text.len())
             .saturating_add(file.len());
-        let mut strings = Vec::with_capacity(alloc, len)?;
+        let mut strings = buffer;
+        strings.clear();
+        strings.reserve(len)?;
         strings.extend_from_slice(name)?;
         strings.extend_from_slice(text)?;
         strings.extend_from_slice(file)?;
@@ -182,13 +184,15 @@ impl Head {
         }
     }
 
-    /// Returns the place of the call.
-    pub fn place(&self) -> Result<Place, AllocError>
+    /// Returns the place of the call, with its file in a buffer whose contents are discarded.
+    pub fn place(&self, buffer: Vec<u8>) -> Result<Place, AllocError>
         ensures { IfOk result (λ p. p ≡ self.now.place) }
     {
-        let file = Bytes::from_slice(*self.strings.allocator(), self.file())?;
+        let mut file = buffer;
+        file.clear();
+        file.extend_from_slice(self.file())?;
         Ok(Place {
-            file,
+            file: Bytes::from(file),
             line: self.line,
         })
     }

@@ -28,7 +28,7 @@ pub fn substitute(
     // exact steps: the text with the arguments substituted
     ensures { IfOk result (λ b. b ≡ subst text.now name.now list.now (pair_of quotes.entry)) }
 {
-    let mut out = Vec::new(alloc);
+    let mut out = Vec::with_capacity(alloc, text.len())?;
     let mut rest = text;
     while !rest.is_empty() {
         rest = push_front(&mut out, rest, name, list, quotes)?;
@@ -208,7 +208,21 @@ pub(crate) fn push_one_quoted(
 ) -> Result<(), AllocError>
     ensures { OnOk result (out.new.items ≡ out.old.items ++ quoted (pair_of quotes.entry) text.now) }
 {
-    out.extend_from_slice(quotes.0)?;
+    push_delimiter(out, quotes.0)?;
     out.extend_from_slice(text)?;
-    out.extend_from_slice(quotes.1)
+    push_delimiter(out, quotes.1)
+}
+
+/// Appends a delimiter. Most have one byte, which is appended without a call that copies.
+#[inline(always)]
+fn push_delimiter(out: &mut Vec<u8>, delimiter: &[u8]) -> Result<(), AllocError>
+    ensures { OnOk result (out.new.items ≡ out.old.items ++ delimiter.now) }
+{
+    match delimiter {
+        [byte] => {
+            out.push(*byte)?;
+            Ok(())
+        }
+        _ => out.extend_from_slice(delimiter),
+    }
 }

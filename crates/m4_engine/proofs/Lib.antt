@@ -33,6 +33,7 @@ pub mod Turning
 pub mod LoopKeeps
 pub mod Begins
 pub mod PlainRuns
+pub mod ListRuns
 pub mod Passing
 pub mod SkippedLines
 pub mod Running

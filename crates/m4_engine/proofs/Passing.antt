@@ -1,24 +1,23 @@
 -- Passing: tokens that are text are put where they go at once as turns would put them there.
-use Rattle.std.specs.Prelude.{◌==◌, not, ◌&&◌, ◌||◌}
-use Rattle.std.proofs.Common.{◌≡◌, inl, inr, Bool, true, ℕ, ℤ, pos, ◌+◌, ◌-◌, ◌<◌, ◌≤◌, false, List, [], ◌∷◌, ◌++◌, Option, None, take, drop, length, refl, sym, ap, ◌∙◌, subst, arith, append-nil, append_assoc}
+use Rattle.std.specs.Prelude.{Result, Ok, Err, OnOk}
+use Rattle.std.proofs.Common.{◌≡◌, inl, inr, Bool, ℕ, ℤ, pos, ◌+◌, ◌-◌, ◌<◌, ◌≤◌, List, [], ◌∷◌, ◌++◌, Option, None, take, drop, length, refl, sym, ap, ◌∙◌, subst, arith, append-nil, append_assoc}
 use Rattle.std.proofs.Math.Seq.{take-add}
 use Rattle.m4_state.specs.declared.definition.Def.{Def}
 use Rattle.m4_input.specs.declared.token.Token.TheVariants.{Name, Str, Byte}
 use Rattle.m4_input.specs.Pending.{Pending, text_of, counted, consumed, newlines_in}
-use Rattle.m4_input.specs.Ascii.{is_space}
-use Rattle.m4_engine.specs.Plain.{IsPlain, total, ArePlain, is_inner, IsInner}
+use Rattle.m4_engine.specs.Plain.{IsPlain, total, ArePlain}
+use Rattle.m4_engine.specs.Collected.{IsText, IsListToken, AreListTokens, bytes_in, IsListRun}
 use Rattle.m4_input.specs.Input.{Held, longer}
 use Rattle.m4_input.proofs.Consumed.{consumed_twice}
 use Rattle.m4_input.proofs.Parts.{drop_parts, counted_none}
+use Rattle.m4_engine.specs.declared.lookahead.Lookahead.{Lookahead}
+use Rattle.m4_engine.specs.declared.turned.TurnFault.{TurnFault}
 use Rattle.m4_engine.specs.declared.turned.Turned.TheVariants as turns
 use Rattle.m4_engine.specs.Nesting.{Turn, GoOn}
-use Rattle.m4_engine.specs.OpenCalls.{take_turn}
+use Rattle.m4_engine.specs.OpenCalls.{take_turn, Goes}
 use Rattle.m4_engine.specs.Expansion.{Call, Expansion, Kept, Ended, reading, put_text}
 use Rattle.m4_engine.specs.Expand.{turn, join, take_front, take_name}
-use Rattle.m4_engine.specs.declared.role.Role.TheVariants.{Other}
-use Rattle.m4_engine.specs.Args.{role_by, role_of, take_byte}
-use Rattle.m4_engine.specs.Engine.{Engine, here_of, outer_of, configuration, put_in, with_text, moved, MayFollow, IsReady, Moves, PassesPlain, PassesInner, Passes}
-use Rattle.m4_engine.proofs.Acts.{text_limits}
+use Rattle.m4_engine.specs.Engine.{Engine, here_of, outer_of, configuration, moved, MayFollow, IsReady, Moves, PassesPlain, PassesInner, Passes}
 use Rattle.m4_engine.proofs.Longer.{found_longer}
 use Rattle.m4_engine.proofs.LoopKeeps.{turns_of, turn_falls, meaning_of, moved_on}
 
@@ -99,62 +98,62 @@ plain_reaches e e1 i i1 h =
 abbrev at_call : Call → List Call → Engine → Engine
 at_call c cs e = record e { open_calls = c ∷ cs }
 
-inner_role : (b : ℕ) (c : Call) → is_inner b ≡ true → role_of b c ≡ Other
-inner_role b c h = by_tests (b == 40) (b == 41) (b == 44) (is_space b) h
-  where
-    by_tests : (w x y z : Bool) → not (w || (x || (y || z))) ≡ true → role_by w x (y && (c.parentheses == 0)) (z && not c.begun) ≡ Other
-    by_tests true x y z e = cc
-    by_tests false true y z e = cc
-    by_tests false false true z e = cc
-    by_tests false false false true e = cc
-    by_tests false false false false e = refl
-
--- a turn puts such a token into the argument
-inner_turn : (c : Call) (cs : List Call) (e : Engine) (p : Pending) (n : ℕ) (x : List ℕ) → p.definition ≡ None → IsInner e.state p.may_follow n x (text_of p) → (z : List ℕ) (more : Bool) → MayFollow p.may_follow z more → (o m : List ℕ) → turn (here_of o m (at_call c cs e) (longer z more p)) ≡ GoOn (put_text x (reading (longer z more (consumed n p)) (here_of o m (at_call c cs e) (longer z more p))))
-inner_turn c cs e p n x d (inl h) z more k o m =
-    ap (λ v. take_front v (here_of o m (at_call c cs e) (longer z more p))) (found_longer (e.state).quotes (e.state).comments p (Str x) n z more d h k)
-inner_turn c cs e p n x d (inr (inl h)) z more k o m =
-    ap (λ v. take_front v (here_of o m (at_call c cs e) (longer z more p))) (found_longer (e.state).quotes (e.state).comments p (Name x) n z more d h.0 k)
-    ∙ ap (λ v. take_name v x (longer z more (consumed n p)) (here_of o m (at_call c cs e) (longer z more p))) h.1
-inner_turn c cs e p n x d (inr (inr h)) z more k o m =
-    let s = reading (longer z more (consumed n p)) (here_of o m (at_call c cs e) (longer z more p)) in
-    ap (λ v. take_front v (here_of o m (at_call c cs e) (longer z more p))) (found_longer (e.state).quotes (e.state).comments p (Byte h.0) n z more d h.1 k)
-    ∙ ap (λ r. take_byte r h.0 c s) (inner_role h.0 c h.3)
-    ∙ ap (λ (y : List ℕ). let t : Turn Expansion Kept Ended = GoOn (put_text y s) in t) (sym h.2)
-
-inner_moves : (c : Call) (cs : List Call) (e : Engine) (p : Pending) (n : ℕ) (x : List ℕ) → p.definition ≡ None → IsInner e.state p.may_follow n x (text_of p) → Moves p.may_follow (with_text x (at_call c cs e)) (consumed n p) turns.GoesOn (λ z more o m. moved (configuration o m (at_call c cs e) (longer z more p)))
-inner_moves c cs e p n x d h = λ z more k o m.
-    ap (take_turn Expansion Kept Ended turn join (outer_of (c ∷ cs))) (inner_turn c cs e p n x d h z more k o m)
+-- a turn takes such a token into the call
+list_turn : (c d : Call) (cs : List Call) (e : Engine) (p : Pending) (n : ℕ) → p.definition ≡ None → IsListToken e.state p.may_follow n c d (text_of p) → (z : List ℕ) (more : Bool) → MayFollow p.may_follow z more → (o m : List ℕ) → take_turn Expansion Kept Ended turn join (outer_of (c ∷ cs)) (turn (here_of o m (at_call c cs e) (longer z more p))) ≡ Goes (configuration o m (at_call d cs e) (longer z more (consumed n p)))
+list_turn c d cs e p n f (inl h) z more k o m =
+    ap (λ v. take_turn Expansion Kept Ended turn join (outer_of (c ∷ cs)) v) (text_turn h.1 z more k o m)
     ∙ (rw (append-nil (o ++ e.output)) refl)
+    ∙ ap (λ (a : Call). Goes (configuration o m (at_call a cs e) (longer z more (consumed n p)))) (sym h.2)
+  where
+    text_turn : IsText e.state p.may_follow n h.0 (text_of p) → (z : List ℕ) (more : Bool) → MayFollow p.may_follow z more → (o m : List ℕ) → turn (here_of o m (at_call c cs e) (longer z more p)) ≡ GoOn (put_text h.0 (reading (longer z more (consumed n p)) (here_of o m (at_call c cs e) (longer z more p))))
+    text_turn (inl g) z more k o m =
+        ap (λ v. take_front v (here_of o m (at_call c cs e) (longer z more p))) (found_longer (e.state).quotes (e.state).comments p (Str h.0) n z more f g k)
+    text_turn (inr g) z more k o m =
+        ap (λ v. take_front v (here_of o m (at_call c cs e) (longer z more p))) (found_longer (e.state).quotes (e.state).comments p (Name h.0) n z more f g.0 k)
+        ∙ ap (λ v. take_name v h.0 (longer z more (consumed n p)) (here_of o m (at_call c cs e) (longer z more p))) g.1
+list_turn c d cs e p n f (inr h) z more k o m =
+    ap (λ v. take_turn Expansion Kept Ended turn join (outer_of (c ∷ cs)) (take_front v (here_of o m (at_call c cs e) (longer z more p)))) (found_longer (e.state).quotes (e.state).comments p (Byte h.0) n z more f h.1 k)
+    ∙ ap (λ v. take_turn Expansion Kept Ended turn join (outer_of (c ∷ cs)) v) (h.2 (reading (longer z more (consumed n p)) (here_of o m (at_call c cs e) (longer z more p))) refl)
 
-inner_at : (c : Call) (cs : List Call) (e : Engine) (p : Pending) (n : ℕ) (x : List ℕ) → p.definition ≡ None → IsInner e.state p.may_follow n x (text_of p) → Reaches (at_call c cs e) p (with_text x (at_call c cs e)) (consumed n p)
-inner_at c cs e p n x d h =
-    move_reaches (at_call c cs e) (with_text x (at_call c cs e)) _ p (consumed n p) _ refl (inner_moves c cs e p n x d h) (nothing_reaches (with_text x (at_call c cs e)) (consumed n p))
-
-inner_by : (cs : List Call) (e : Engine) (p : Pending) (n : ℕ) (x : List ℕ) → e.open_calls ≡ cs → (cs ≡ [] → ⊥) → p.definition ≡ None → IsInner e.state p.may_follow n x (text_of p) → Reaches e p (with_text x e) (consumed n p)
-inner_by [] e p n x g i d h = absurd (i refl)
-inner_by (c ∷ cs) e p n x g i d h =
-    let same : at_call c cs e ≡ e = ap (λ (y : List Call). let k : Engine = record e { open_calls = y } in k) (sym g) in
-    subst (λ (k : Engine). Reaches k p (with_text x k) (consumed n p)) same (inner_at c cs e p n x d h)
+list_reaches : (ts : List (ℕ × Call)) (c d : Call) (cs : List Call) (e : Engine) (p : Pending) → p.definition ≡ None → AreListTokens e.state p.may_follow ts c d (text_of p) → Reaches (at_call c cs e) p (at_call d cs e) (consumed (bytes_in ts) p)
+list_reaches [] c d cs e p f h =
+    subst (λ (q : Pending). Reaches (at_call c cs e) p (at_call d cs e) q) (sym (consumed_none p f))
+    (subst (λ (a : Call). Reaches (at_call c cs e) p (at_call a cs e) p) (sym h) (nothing_reaches (at_call c cs e) p))
+list_reaches (t ∷ ts) c d cs e p f h =
+    let q : Pending = consumed t.0 p in
+    let r = list_reaches ts t.1 d cs e q refl (subst (AreListTokens e.state p.may_follow ts t.1 d) (drop_parts t.0 p.pushed p.unread) h.1) in
+    move_reaches (at_call c cs e) (at_call t.1 cs e) (at_call d cs e) p q (consumed (t.0 + bytes_in ts) p) refl (list_turn c t.1 cs e p t.0 f h.0)
+    (subst (λ (x : Pending). Reaches (at_call t.1 cs e) q (at_call d cs e) x) (consumed_twice t.0 (bytes_in ts) p) r)
 
 inner_reaches : (e e1 : Engine) (i i1 : Held) → PassesInner e e1 i i1 → Reaches e i.pending e1 i1.pending
 inner_reaches e e1 i i1 h =
+    let same : at_call h.innermost h.around e ≡ e = ap (λ (y : List Call). let k : Engine = record e { open_calls = y } in k) (sym h.inside) in
+    let ts = h.collected.0 in
+    let r = list_reaches ts h.innermost h.after h.around e i.pending h.first h.collected.1 in
     subst (λ (d : Engine). Reaches e i.pending d i1.pending) (sym h.engine)
-    (subst (λ (j : Held). Reaches e i.pending (with_text h.text e) j.pending) (sym h.input)
-    (inner_by e.open_calls e i.pending h.len h.text refl h.inside h.first h.inner))
+    (subst (λ (j : Held). Reaches e i.pending (at_call h.after h.around e) j.pending) (sym h.input)
+    (subst (λ (n : ℕ). Reaches e i.pending (at_call h.after h.around e) (consumed n i.pending)) h.collected.2
+    (subst (λ (k : Engine). Reaches k i.pending (at_call h.after h.around e) (consumed (bytes_in ts) i.pending)) same r)))
 
--- where the innermost call has a text, its token was passed
-pub passes_inner : (old new : Engine) (c : Call) (cs : List Call) (i j : Held) (n : ℕ) (x : List ℕ) → old.open_calls ≡ c ∷ cs → IsInner old.state (i.pending).may_follow n x (text_of i.pending) → (i.pending).definition ≡ None → new ≡ record old { open_calls = record c { begun = true; bytes = c.bytes ++ x } ∷ cs } → j ≡ record i { pending = consumed n i.pending } → Passes old new i j
-passes_inner old new c cs i j n x e h d f g =
+-- where a list is open, its tokens were collected
+pub passes_inner : (old new : Engine) (c d : Call) (cs : List Call) (i j : Held) (n : ℕ) → old.open_calls ≡ c ∷ cs → IsListRun old.state (i.pending).may_follow n c d (text_of i.pending) → (i.pending).definition ≡ None → new ≡ record old { open_calls = d ∷ cs } → j ≡ record i { pending = consumed n i.pending } → Passes old new i j
+passes_inner old new c d cs i j n e h f g k =
     inr (inr (record {
+      innermost = c;
+      after = d;
+      around = cs;
       len = n;
-      text = x;
-      inner = h;
-      inside = λ k. let z : c ∷ cs ≡ [] = sym e ∙ k in cc;
-      first = d;
-      engine = f ∙ sym (ap (λ y. put_in y x old) e);
-      input = g;
+      collected = h;
+      inside = e;
+      first = f;
+      engine = g;
+      input = k;
     }))
+
+-- said of a call that may fail
+pub passes_if_ok : (r : Result Lookahead TurnFault) (old new : Engine) (i j : Held) → Passes old new i j → OnOk r (Passes old new i j)
+passes_if_ok (Ok a) old new i j h = h
+passes_if_ok (Err x) old new i j h = tt
 
 pub passes_reaches : (e e1 : Engine) (i i1 : Held) → Passes e e1 i i1 → Reaches e i.pending e1 i1.pending
 passes_reaches e e1 i i1 (inl h) =
@@ -175,4 +174,4 @@ passes_follows e e1 i i1 (inr (inr h)) = ap (λ (j : Held). (j.pending).may_foll
 pub passes_limits : (e e1 : Engine) (i i1 : Held) → Passes e e1 i i1 → e1.limits ≡ e.limits
 passes_limits e e1 i i1 (inl h) = ap (λ (d : Engine). d.limits) h.0
 passes_limits e e1 i i1 (inr (inl h)) = ap (λ (d : Engine). d.limits) h.engine
-passes_limits e e1 i i1 (inr (inr h)) = ap (λ (d : Engine). d.limits) h.engine ∙ text_limits e.open_calls h.text e
+passes_limits e e1 i i1 (inr (inr h)) = ap (λ (d : Engine). d.limits) h.engine

@@ -115,6 +115,11 @@ pub found_steps_at : (e e1 : Engine) (t : Token) (n : ℕ) (i k j : Held) (r : R
 found_steps_at e e1 t n i k j r d s g m st =
     found_steps e e1 t n i k j r d s g (subst (λ (v : Bool). IfOk r (λ u. Moves v e1 j.pending u (λ z more o m. step (outer_of e.open_calls) (take_token t (longer z more k.pending) (here_of o m e (longer z more i.pending)))))) (ap (λ (h : Held). (h.pending).may_follow) g) m) st
 
+-- the steps of a machine that is the same
+pub steps_from : (e d e1 : Engine) (k j : Held) (r : Result Turned TurnFault) → d ≡ e → {to : Turned → Type 0} → Steps r d e1 k j to → Steps r e e1 k j (λ t. Unit {0})
+steps_from e d e1 k j (Ok t) h st = record { moves = tt; ready = st.ready; limits = subst (λ (x : Engine). e1.limits ≡ x.limits) h st.limits; made = st.made }
+steps_from e d e1 k j (Err x) h st = record { moves = tt; ready = tt; limits = tt; made = tt }
+
 -- the input after a token
 after_token : (i : Held) (n : ℕ) → IsReady i → Stays i (record i { pending = consumed n i.pending })
 after_token i n r = record { ready = record { sound = r.sound; front = tt }; follows = refl; file = refl }

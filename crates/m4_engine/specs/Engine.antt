@@ -5,7 +5,8 @@ use Rattle.std.specs.Prelude.{◌≡◌, codes, nat_lt, not, ◌&&◌, suc, Opti
 use Rattle.m4_state.specs.declared.definition.Def.{Def}
 use Rattle.m4_state.specs.State.{State, appended}
 use Rattle.m4_input.specs.Pending.{Pending, text_of, consumed, line_length}
-use Rattle.m4_engine.specs.Plain.{total, ArePlain, IsInner}
+use Rattle.m4_engine.specs.Plain.{total, ArePlain}
+use Rattle.m4_engine.specs.Collected.{IsListRun}
 use Rattle.m4_builtins.specs.declared.place.Place.{Place}
 use Rattle.m4_builtins.specs.Messages.{dropped}
 use Rattle.m4_engine.specs.Expansion.{Call, Limits, RunSoFar, Mode, Outside, Collecting, Kept, Expansion, Ended, Ends, NeedsInput, issued, place_at}
@@ -315,14 +316,17 @@ pub record PassesPlain (old new : Engine) (i j : Held) : Type 0 where
   pub engine : new ≡ record old { output = old.output ++ take (total lens) (text_of i.pending) }
   pub input : j ≡ record i { pending = consumed (total lens) i.pending }
 
--- in a list, with no definition before the text: its first token is text, which was added to the argument
+-- in a list, with no definition before the text: its first tokens change the innermost call alone, and were
+-- taken into it
 pub record PassesInner (old new : Engine) (i j : Held) : Type 0 where
+  pub innermost : Call
+  pub after : Call
+  pub around : List Call
   pub len : ℕ
-  pub text : List ℕ
-  pub inner : IsInner old.state (i.pending).may_follow len text (text_of i.pending)
-  pub inside : old.open_calls ≡ [] → ⊥
+  pub collected : IsListRun old.state (i.pending).may_follow len innermost after (text_of i.pending)
+  pub inside : old.open_calls ≡ innermost ∷ around
   pub first : (i.pending).definition ≡ None
-  pub engine : new ≡ with_text text old
+  pub engine : new ≡ record old { open_calls = after ∷ around }
   pub input : j ≡ record i { pending = consumed len i.pending }
 
 -- such tokens were added where they go, or nothing was done

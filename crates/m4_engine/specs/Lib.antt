@@ -12,6 +12,7 @@ pub mod Carries
 pub mod Joined
 pub mod Laws
 pub mod Plain
+pub mod Collected
 pub mod Lookahead
 pub mod CallView
 pub mod Engine

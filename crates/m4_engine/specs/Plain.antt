@@ -1,12 +1,11 @@
 -- Plain: tokens at the start of a text that expand to themselves.
 -- Not believed: it only says which turns a run may make at once, by the tokens of `scan`. If more bytes may follow
 -- (`m`), only tokens that they can't change are meant.
--- Words: IsPlain, total, ArePlain, IsPlainRun, is_inner, IsInner, IsFirst, FirstLies.
-use Rattle.std.specs.Prelude.{◌≡◌, ◌==◌, ◌||◌, ◌<◌, ◌≤◌, ℕ, ◌+◌, Bool, true, not, List, [], ◌∷◌, Some, None, take, drop, ◌⊎◌}
+-- Words: IsPlain, total, ArePlain, IsPlainRun, IsFirst, FirstLies.
+use Rattle.std.specs.Prelude.{◌≡◌, ◌<◌, ◌≤◌, ℕ, ◌+◌, Bool, List, [], ◌∷◌, Some, None, take, drop, ◌⊎◌}
 use Rattle.m4_state.specs.State.{State, top_of}
 use Rattle.m4_input.specs.declared.token.Token.TheVariants.{Name, Str, Byte}
 use Rattle.m4_input.specs.declared.front.Scan.TheVariants.{Found}
-use Rattle.m4_input.specs.Ascii.{open_parenthesis, close_parenthesis, comma, is_space}
 use Rattle.m4_input.specs.Token.{scan}
 use Rattle.m4_input.specs.Paren.{paren_in}
 use Rattle.m4_input.specs.Input.{answer_of}
@@ -32,17 +31,6 @@ ArePlain s m (n ∷ ns) x = IsPlain s m n x × ArePlain s m ns (drop n x)
 -- the first n bytes are plain tokens
 abbrev pub IsPlainRun : State → Bool → ℕ → List ℕ → Type 0
 IsPlainRun s m n x = (lens : List ℕ) × ArePlain s m lens x × (total lens ≡ n)
-
--- a byte that has no special meaning in an argument list
-abbrev pub is_inner : ℕ → Bool
-is_inner b = not ((b == open_parenthesis) || ((b == close_parenthesis) || ((b == comma) || is_space b)))
-
--- the first token, of n bytes, is text x everywhere in a list
-abbrev pub IsInner : State → Bool → ℕ → List ℕ → List ℕ → Type 0
-IsInner s m n x y =
-    (scan s.quotes s.comments m y ≡ Found (Str x) n)
-    ⊎ (((scan s.quotes s.comments m y ≡ Found (Name x) n) × (top_of s x ≡ None))
-    ⊎ ((b : ℕ) × (scan s.quotes s.comments m y ≡ Found (Byte b) n) × (x ≡ b ∷ []) × (is_inner b ≡ true)))
 
 -- the result of one look at the first token
 abbrev pub IsFirst : State → Bool → List ℕ → First → Type 0

@@ -1,21 +1,23 @@
 //! A call whose arguments are being collected. Manual: "Macro arguments", "Quoting arguments".
 
-ghost use Rattle.std.specs.Prelude.{◌≡◌, ◌<◌, ◌-◌, suc, ◌++◌, ◌∷◌, [], true, false, nat_lt, OnOk, IfOk};
+ghost use Rattle.std.specs.Prelude.{◌≡◌, ◌<◌, ◌-◌, suc, ◌++◌, ◌∷◌, [], true, false, nat_lt, Ok, OnOk, IfOk};
 ghost use Rattle.std.specs.List.{AllByRecursion};
 ghost use Rattle.m4_state.specs.Definition.{IsDefinition};
 ghost use Rattle.m4_builtins.specs.Args.{IsArg};
 ghost use Rattle.m4_input.specs.Ascii.{open_parenthesis, close_parenthesis};
 ghost use Rattle.m4_engine.specs.Args.{role_of, argument_of, dropped_if_any, with_argument};
+ghost use Rattle.m4_engine.specs.Collected.{TakesByte};
 ghost use Rattle.m4_engine.specs.Engine.{IsCall, warning_if_dropped};
 ghost use Rattle.m4_engine.specs.Expand.{call_of};
 
 use crate::role::Role;
+use crate::spare::Spare;
 use m4_builtins::args::{Arg, ArgList};
 use m4_builtins::head::Head;
 use m4_builtins::place::Place;
 use m4_state::bytes::Bytes;
 use m4_state::definition::Def;
-use std::alloc::{AllocError, Global};
+use std::alloc::AllocError;
 use std::marker::Model;
 
 /// A call whose list is not closed yet: its definition, name and place as they were when the name was read,
@@ -59,16 +61,16 @@ impl Drop for OpenCall {
 
 impl OpenCall {
     /// Creates a call with no argument read yet.
-    pub fn new(alloc: Global, head: Head) -> OpenCall
+    pub fn new(head: Head, spare: &mut Spare) -> OpenCall
         ensures { result ≡ call_of head.definition head.name head.place }
     {
         OpenCall {
             head,
-            done: Vec::new(alloc),
+            done: spare.list(),
             parentheses: 0,
             begun: false,
-            bytes: Vec::new(alloc),
-            tokens: Vec::new(alloc),
+            bytes: spare.buffer(),
+            tokens: Vec::new(spare.alloc()),
         }
     }
 
@@ -76,7 +78,8 @@ impl OpenCall {
     pub fn place(&self) -> Result<Place, AllocError>
         ensures { IfOk result (λ p. p ≡ self.now.place) }
     {
-        self.head.place()
+        let alloc = *self.bytes.allocator();
+        self.head.place(Vec::new(alloc))
     }
 
     /// Returns whether a parenthesis is open in the current argument.
@@ -166,16 +169,18 @@ impl OpenCall {
 
     /// Returns the collected argument without a copy, and clears it.
     #[tactic(auto, using(crate::proofs::InOrder::argument_valid))]
-    fn argument(&mut self) -> Arg
+    fn argument(&mut self, spare: &mut Spare) -> Arg
         requires { self.old.parentheses ≡ 0 }
         ensures value { result ≡ argument_of self.old.bytes self.old.tokens }
         ensures valid { IsArg result }
         ensures call { IsCall self.new }
         ensures rest { self.new ≡ record self.old { bytes = []; tokens = [] } }
     {
-        let alloc = *self.bytes.allocator();
-        let bytes = std::mem::replace(&mut self.bytes, Vec::new(alloc));
-        let mut tokens = std::mem::replace(&mut self.tokens, Vec::new(alloc));
+        let bytes = std::mem::replace(&mut self.bytes, spare.buffer());
+        if self.tokens.is_empty() {
+            return Arg::Text(Bytes::from(bytes));
+        }
+        let mut tokens = std::mem::replace(&mut self.tokens, Vec::new(spare.alloc()));
         if bytes.is_empty() && tokens.len() == 1 {
             if let Some(definition) = tokens.pop() {
                 return Arg::Definition(definition);
@@ -186,20 +191,41 @@ impl OpenCall {
 
     /// Ends the argument; returns whether definitions in it were dropped.
     #[tactic(auto, using(crate::proofs::Calls::done_valid))]
-    pub fn end_argument(&mut self) -> Result<bool, AllocError>
+    pub fn end_argument(&mut self, spare: &mut Spare) -> Result<bool, AllocError>
         requires { self.old.parentheses ≡ 0 }
         ensures { IfOk result (λ drops. (self.new ≡ with_argument self.old)
             × (dropped_if_any self.old.place self.old.bytes self.old.tokens ≡ warning_if_dropped drops self.old.place)) }
     {
         let drops = self.drops();
-        let argument = self.argument();
+        let argument = self.argument(spare);
         self.begun = false;
         self.done.push(argument)?;
         Ok(drops)
     }
 
+    /// Acts on a byte that belongs to no other token, unless it closes the list, or ends an argument that drops
+    /// definitions. Returns whether it did.
+    #[inline(always)]
+    pub fn take_byte(&mut self, byte: u8, spare: &mut Spare) -> Result<bool, AllocError>
+        // exact steps: the byte's effect by its role, which is one on the call alone
+        ensures taken { result ≡ Ok true → TakesByte byte self.old self.new }
+        ensures left { result ≡ Ok false → self.new ≡ self.old }
+    {
+        match self.role(byte) {
+            Role::Blank => {}
+            Role::Opening => self.put_opening()?,
+            Role::Closing if self.is_nested() => self.put_closing()?,
+            Role::Separator if !self.drops() => {
+                let _drops_nothing = self.end_argument(spare)?;
+            }
+            Role::Closing | Role::Separator => return Ok(false),
+            Role::Other => self.put(&[byte])?,
+        }
+        Ok(true)
+    }
+
     /// Splits a call with a complete list into its head and its arguments.
-    pub fn into_parts(self) -> (Head, ArgList)
+    pub fn into_parts(self, spare: &mut Spare) -> (Head, ArgList)
         ensures definition { result.0.definition ≡ self.definition }
         ensures name { result.0.name ≡ self.name }
         ensures place { result.0.place ≡ self.place }
@@ -211,9 +237,10 @@ impl OpenCall {
             done,
             parentheses: _parentheses,
             begun: _begun,
-            bytes: _bytes,
+            bytes,
             tokens: _tokens,
         } = self;
+        spare.keep(bytes);
         (head, ArgList::from(done))
     }
 }

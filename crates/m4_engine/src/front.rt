@@ -2,11 +2,11 @@
 //! them, so it can consume many at once. The look at the front of the text is that of `m4_input`, with the flag
 //! whether more bytes may follow; names are looked up here.
 
-ghost use Rattle.std.specs.Prelude.{◌≡◌, ◌≤◌, Bool, IfSome, length, drop};
+ghost use Rattle.std.specs.Prelude.{◌≡◌, ◌≤◌, length, drop};
 ghost use Rattle.m4_input.specs.DelimsView.{pair_of};
 ghost use Rattle.m4_input.specs.Look.{scan_of, LookLies};
 ghost use Rattle.m4_input.specs.Token.{scan};
-ghost use Rattle.m4_engine.specs.Plain.{IsPlainRun, IsFirst, FirstLies, is_inner, IsInner};
+ghost use Rattle.m4_engine.specs.Plain.{IsPlainRun, IsFirst, FirstLies};
 
 use m4_input::delims::Delims;
 use m4_input::front::{Answer, Look};
@@ -110,38 +110,18 @@ fn first_of<'a>(
 
 /// Returns the first token, for use in an argument list.
 #[inline(always)]
-pub fn first_in_list<'a>(text: &[u8], state: &'a State, may_follow: bool) -> First<'a>
+pub fn first_in_list<'a>(
+    text: &[u8],
+    state: &'a State,
+    delims: &Delims<'_>,
+    may_follow: bool,
+) -> First<'a>
+    requires quotes { pair_of delims.now.quotes ≡ state.now.quotes }
+    requires comments { pair_of delims.now.comments ≡ state.now.comments }
     // exact steps: the token of the definition `scan`, with the definition of its name
     ensures first { IsFirst state.now may_follow text.now result }
     ensures lies { FirstLies (length text.now) result }
 {
-    let delims = Delims::of(state);
-    let look = first_token(text, &delims, may_follow);
-    first_of(look, text, state, &delims, may_follow)
-}
-
-/// Returns a token's text and the token's length, if it is text everywhere in an argument list.
-#[inline(always)]
-pub fn inner_text<'a>(first: &First<'_>, text: &'a [u8]) -> Option<(&'a [u8], usize)>
-    requires { FirstLies (length text.now) first.now }
-    // exact steps: a string, or a plain token that has no special meaning in a list
-    ensures inner { IfSome result (λ t. (s : State) (m : Bool) → IsFirst s m text.now first.now → IsInner s m t.1 t.0.now text.now) }
-    ensures within { IfSome result (λ t. t.1 ≤ length text.now) }
-{
-    match *first {
-        First::Quoted(begin, len, all) => {
-            let after = text.split_at(begin).1;
-            Some((after.split_at(len).0, all))
-        }
-        First::Word(len) => Some((text.split_at(len).0, len)),
-        First::Byte(byte) if is_inner(byte) => Some((text.split_at(1).0, 1)),
-        First::Byte(_) | First::Called(..) | First::Other => None,
-    }
-}
-
-/// Returns whether a byte has no special meaning in an argument list.
-fn is_inner(byte: u8) -> bool
-    ensures { result ≡ is_inner byte }
-{
-    !matches!(byte, b'(' | b')' | b',' | b' ' | 9..=13)
+    let look = first_token(text, delims, may_follow);
+    first_of(look, text, state, delims, may_follow)
 }

@@ -5,6 +5,7 @@
 #![tactic(auto)]
 
 mod call;
+mod collect;
 pub mod ending;
 mod front;
 mod in_hand;
@@ -16,5 +17,6 @@ mod role;
 pub mod run;
 pub mod session;
 pub mod source;
+mod spare;
 pub mod stop;
 mod turned;

@@ -7,6 +7,7 @@ ghost use Rattle.m4_engine.specs.Plain.{IsFirst, FirstLies};
 ghost use Rattle.m4_engine.specs.Lookahead.{IsMeaning, IsLookaheadOf};
 
 use crate::front::First;
+use crate::spare::Spare;
 use crate::turned::TurnFault;
 use m4_builtins::head::Head;
 use m4_builtins::substitute::substitute;
@@ -14,7 +15,6 @@ use m4_input::input::Input;
 use m4_state::bytes::Bytes;
 use m4_state::definition::Def;
 use m4_state::state::State;
-use std::alloc::Global;
 
 /// The meaning of a name that has a definition.
 #[derive(Debug, Drop)]
@@ -52,7 +52,7 @@ impl Meaning {
     /// called without a list (`bare`) it is the expansion, made without a copy of the text.
     #[inline(always)]
     pub fn of(
-        alloc: Global,
+        spare: &mut Spare,
         state: &State,
         bare: bool,
         name: &[u8],
@@ -65,11 +65,12 @@ impl Meaning {
         let _in_order = state.current();
         match definition {
             Def::Text(text) if bare => {
+                let alloc = spare.alloc();
                 let text = substitute(alloc, text.as_slice(), name, &[], state.quotes())?;
                 Ok(Meaning::Expansion(text))
             }
             _ => {
-                let head = Head::new(alloc, name, definition, place.0, place.1)?;
+                let head = Head::new(spare.buffer(), name, definition, place.0, place.1)?;
                 Ok(Meaning::Call(head))
             }
         }
@@ -79,7 +80,7 @@ impl Meaning {
 /// Returns the lookahead for this first token; `room` says whether the limits allow a call.
 #[inline(always)]
 pub fn lookahead_of(
-    alloc: Global,
+    spare: &mut Spare,
     state: &State,
     room: bool,
     first: First<'_>,
@@ -96,7 +97,7 @@ pub fn lookahead_of(
             let name = text.split_at(len).0;
             let place = (input.name(), input.line());
             let bare = !listed && room;
-            let meaning = Meaning::of(alloc, state, bare, name, definition, place)?;
+            let meaning = Meaning::of(spare, state, bare, name, definition, place)?;
             Ok(Lookahead::Named(Named {
                 len,
                 listed,

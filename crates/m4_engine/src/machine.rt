@@ -15,6 +15,7 @@ mod plain;
 mod turn;
 
 use crate::call::OpenCall;
+use crate::spare::Spare;
 use crate::turned::TurnFault;
 use m4_builtins::messages::error_message;
 use m4_builtins::place::Place;
@@ -37,6 +38,7 @@ pub struct Machine {
     output: Vec<u8>,
     messages: Vec<u8>,
     saved: Vec<Bytes>,
+    spare: Spare,
 }
 
 impl Model for Machine {
@@ -65,6 +67,7 @@ impl Drop for Machine {
             output: _output,
             messages: _messages,
             saved: _saved,
+            spare: _spare,
         } = self;
     }
 }
@@ -97,6 +100,7 @@ impl Machine {
             output: Vec::new(alloc),
             messages: Vec::new(alloc),
             saved: Vec::new(alloc),
+            spare: Spare::new(alloc),
         }
     }
 

@@ -26,6 +26,16 @@ use crate::stop::Stop;
 use m4_state::device::{ByteSink, ByteSource};
 use std::alloc::Global;
 
+/// The end of a run, and what is left of it.
+#[derive(Drop)]
+pub struct Ran {
+    /// How the run ended.
+    pub ending: Ending,
+    /// The session, with the state and all its definitions; none if the run did not begin. A program that ends
+    /// now may leave it to the end of the process, and need not free each definition.
+    pub session: Option<Session>,
+}
+
 /// Runs over the sources in order, from the frozen file if there is one, otherwise from the fresh state. At
 /// the end it undiverts all diversions or, if the options ask for it, freezes its state. The bytes that it
 /// writes and the ending are those of the definition of a run.
@@ -41,25 +51,25 @@ pub fn run<R: ByteSource, O: ByteSink, M: ByteSink, Z: ByteSink>(
     out: &mut O,
     messages: &mut M,
     freeze_to: &mut Z,
-) -> Ending
+) -> Ran
     // whole run: the bytes written and the ending are those of the definition of a run
     ensures gives { (file : Option Script) → DescribesFrozen R.script frozen.old file
         → (ss : List Said) → DescribeSources R.script sources.old sources.new ss →
-        RunGives (defined options file ss) result
+        RunGives (defined options file ss) result.ending
         (three Z.contents (both O.contents M.contents out.old out.new messages.old messages.new) freeze_to.old freeze_to.new) }
     // whole run: the status of its cause, which is 1 after a source that wasn't opened
-    ensures status { (any_missing : Bool) × (result.status ≡ status_of (Ends result.cause) any_missing)
-        × (result.cause ≡ Cause.Done → any_missing ≡ any_unopened sources.old) }
+    ensures status { (any_missing : Bool) × (result.ending.status ≡ status_of (Ends result.ending.cause) any_missing)
+        × (result.ending.cause ≡ Cause.Done → any_missing ≡ any_unopened sources.old) }
     // whole run: a frozen state is sized
     ensures sized { (file : Option Script) → DescribesFrozen R.script frozen.old file
         → (ss : List Said) → DescribeSources R.script sources.old sources.new ss →
-        result.cause ≡ Cause.Done → options.freeze ≡ true → IsSized (frozen_state options (start_of options.prefix file) ss) }
+        result.ending.cause ≡ Cause.Done → options.freeze ≡ true → IsSized (frozen_state options (start_of options.prefix file) ss) }
     // safe and total: a read fault is reported if a reader failed in this call, and only then
-    ensures read { ReadersFailBy R.failures result.cause sources.old sources.new }
+    ensures read { ReadersFailBy R.failures result.ending.cause sources.old sources.new }
     // safe and total: a read fault of a frozen file is reported only if its reader failed in this call
-    ensures frozen_read { FrozenFailsBy R.failures result.cause frozen.old frozen.new }
+    ensures frozen_read { FrozenFailsBy R.failures result.ending.cause frozen.old frozen.new }
     // safe and total: a write fault is reported only if a writer failed in this call
-    ensures write { ByCause result.cause
+    ensures write { ByCause result.ending.cause
         (NoneOfThree (three Z.failures (both O.failures M.failures out.old out.new messages.old messages.new) freeze_to.old freeze_to.new))
         (OneOfThree (three Z.failures (both O.failures M.failures out.old out.new messages.old messages.new) freeze_to.old freeze_to.new)
         (three Z.contents (both O.contents M.contents out.old out.new messages.old messages.new) freeze_to.old freeze_to.new)) }
@@ -68,19 +78,24 @@ pub fn run<R: ByteSource, O: ByteSink, M: ByteSink, Z: ByteSink>(
     // one pass: the sources are read in order, each only as far as the bytes in hand leave the run open; all that
     // these settle is written before further bytes are asked for
     ensures one_pass { (file : Option Script) → DescribesFrozen R.script frozen.old file
-        → OnePass R.script sources.old sources.new options (start_of options.prefix file) result.cause
+        → OnePass R.script sources.old sources.new options (start_of options.prefix file) result.ending.cause
         (both O.contents M.contents out.old out.new messages.old messages.new) }
     // faults leave beginnings: if a frozen file is refused, no source is read and nothing is written
-    ensures refused { (fault : FrozenFault) → result.cause ≡ Cause.Frozen fault → NothingIsDone sources.old sources.new
+    ensures refused { (fault : FrozenFault) → result.ending.cause ≡ Cause.Frozen fault → NothingIsDone sources.old sources.new
         (three Z.contents (both O.contents M.contents out.old out.new messages.old messages.new) freeze_to.old freeze_to.new) }
     // whole run: only a run that freezes, and reached its end, uses the writer of the frozen text
     ensures spared { options.freeze ≡ false → freeze_to.new ≡ freeze_to.old }
-    ensures spared_by { Spares result.cause
+    ensures spared_by { Spares result.ending.cause
         (three Z.contents (both O.contents M.contents out.old out.new messages.old messages.new) freeze_to.old freeze_to.new) }
 {
     let mut session = match begin(alloc, options, frozen, out) {
         Ok(session) => session,
-        Err(stop) => return ending(stop.status(), Err(stop)),
+        Err(stop) => {
+            return Ran {
+                ending: ending(stop.status(), Err(stop)),
+                session: None,
+            };
+        }
     };
     let answer = read_to_end(
         &mut session,
@@ -90,7 +105,10 @@ pub fn run<R: ByteSource, O: ByteSink, M: ByteSink, Z: ByteSink>(
         messages,
         freeze_to,
     );
-    ending(session.status(), answer)
+    Ran {
+        ending: ending(session.status(), answer),
+        session: Some(session),
+    }
 }
 
 /// Begins a run: from the frozen file if there is one, otherwise from the fresh state.

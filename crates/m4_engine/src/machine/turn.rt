@@ -100,15 +100,16 @@ impl Machine {
         ensures { Steps result self.old self.new input.old input.new (λ t. Moves input.old.pending.may_follow self.new input.new.pending t
             (λ z more o m. called_within self.old.open_calls call (here_of o m self.old (longer z more input.old.pending)))) }
     {
-        let (head, list) = call.into_parts();
+        let (head, list) = call.into_parts(&mut self.spare);
         // The text is read in place, without a copy.
         if let Some(text) = head.text() {
             let quotes = self.state.quotes();
             let text = substitute(self.alloc, text, head.name(), list.as_slice(), quotes)?;
+            self.spare.keep_call(head.into_name(), list);
             return self.take_text(text, input);
         }
         let definition = head.definition()?;
-        let place = head.place()?;
+        let place = head.place(self.spare.buffer())?;
         let args = Args {
             name: head.into_name(),
             list,
@@ -123,6 +124,8 @@ impl Machine {
             skip,
             exit,
         } = act(self.alloc, &definition, &args, &place, &mut self.state)?;
+        self.spare.keep_call(args.name, args.list);
+        self.spare.keep(place.file.into_vec());
         self.put_effect(messages.as_slice(), output.as_slice(), wrap)?;
         if let Some(code) = exit {
             return Ok(Turned::Ends(Cause::Exited(code)));
@@ -142,7 +145,7 @@ impl Machine {
         let Some(call) = &mut self.innermost else {
             return Ok(());
         };
-        if call.end_argument()? {
+        if call.end_argument(&mut self.spare)? {
             let place = call.place()?;
             let message = dropped_message(self.alloc, &place)?;
             self.add_message(message.as_slice())?;
@@ -302,6 +305,7 @@ impl Machine {
         requires within { len ≤ length (text_of input.old.pending) }
         ensures { Turns result self.old self.new input.old input.new }
     {
+        let room = self.allows_call();
         let Some(definition) = self.state.top(name.as_slice()) else {
             input.consume(len);
             self.put_text(name.as_slice())?;
@@ -312,10 +316,10 @@ impl Machine {
             Answer::No => false,
             Answer::Unknown => return Ok(Turned::NeedsMore),
         };
-        let bare = !listed && self.allows_call();
+        let bare = !listed && room;
         let place = (input.name(), line);
         let meaning = Meaning::of(
-            self.alloc,
+            &mut self.spare,
             &self.state,
             bare,
             name.as_slice(),
@@ -357,7 +361,7 @@ impl Machine {
             self.put_text(head.name())?;
             return Ok(Turned::GoesOn);
         }
-        let call = OpenCall::new(self.alloc, head);
+        let call = OpenCall::new(head, &mut self.spare);
         self.take_call(call, listed, input)
     }
 

@@ -20,6 +20,7 @@ use m4_engine::source::Source;
 use m4_state::bytes::Bytes;
 use std::alloc::{AllocError, Global};
 use std::marker::Brand;
+use std::mem::forget;
 
 /// The end of a run, with the world after it.
 #[derive(Drop)]
@@ -111,9 +112,11 @@ fn run_late<W: World, K: Place, O: Shows, M: Shows>(
         (seen O.contents M.contents M.failures out.old out.new messages.old messages.new K.before (W.files result.world)) }
 {
     let mut late: LateFile<W, K> = LateFile::new(world, name);
-    let ending = run(alloc, options, frozen, sources, out, messages, &mut late);
+    let ran = run(alloc, options, frozen, sources, out, messages, &mut late);
+    // The program ends after this, so the definitions are not freed one by one.
+    forget(ran.session);
     Ran {
-        ending,
+        ending: ran.ending,
         world: late.into_world(),
     }
 }

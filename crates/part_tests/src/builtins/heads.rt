@@ -72,13 +72,13 @@ static ROWS: [Row; 7] = [
 ];
 
 // Adds the name and the place.
-fn describe_place(head: &Head, report: &mut Report) {
+fn describe_place(head: &Head, buffer: Vec<u8>, report: &mut Report) {
     report.add(head.name());
     report.add(b" ");
     report.add(head.file());
     report.add(b":");
     report.number(head.line());
-    match head.place() {
+    match head.place(buffer) {
         Ok(place) => {
             report.add(b" ");
             report.add(place.file.as_slice());
@@ -107,6 +107,13 @@ fn describe_macro(head: &Head, report: &mut Report) {
     }
 }
 
+// Returns a buffer with contents that are to be discarded.
+fn used(alloc: Global) -> Result<Vec<u8>, AllocError> {
+    let mut buffer = Vec::new(alloc);
+    buffer.extend_from_slice(b"what was there before")?;
+    Ok(buffer)
+}
+
 // Reports the data of a head.
 fn kept(
     alloc: Global,
@@ -116,8 +123,8 @@ fn kept(
 ) -> Result<Vec<u8>, AllocError> {
     let mut report = Report::new(alloc);
     let definition = made(alloc, given)?;
-    let head = Head::new(alloc, name, &definition, place.0, place.1)?;
-    describe_place(&head, &mut report);
+    let head = Head::new(used(alloc)?, name, &definition, place.0, place.1)?;
+    describe_place(&head, used(alloc)?, &mut report);
     describe_macro(&head, &mut report);
     report.text()
 }

@@ -53,7 +53,7 @@ static TOKENS: [Row; 7] = [
 ];
 
 // Calls: their arguments, and their expansions.
-static CALLS: [Row; 10] = [
+static CALLS: [Row; 12] = [
     (
         "blanks in front of an argument are dropped",
         "define(`f',`$1$1')f( a , b)\n",
@@ -112,6 +112,18 @@ static CALLS: [Row; 10] = [
         "a string within an argument",
         "define(`f',`<$1>')f(`a, b' c)\n",
         "<a, b c>\n",
+        2,
+    ),
+    (
+        "an argument has nothing of those before it",
+        "define(`f',`[$1|$2]')f(`a long text',`x')f(b)f()\n",
+        "[a long text|x][b|][|]\n",
+        4,
+    ),
+    (
+        "blanks and parentheses around and within arguments",
+        "define(`f',`$#[$1][$2]')f( (a , (b)) c,\n\t d e )\n",
+        "2[(a , (b)) c][d e ]\n",
         2,
     ),
 ];

@@ -13,7 +13,7 @@ use std::process::Abort;
 // A row's name, a file that is read to its end, output and messages.
 type Row = (&'static str, &'static str, &'static str, &'static str);
 
-static TEXTS: [Row; 13] = [
+static TEXTS: [Row; 14] = [
     (
         "lengths, places, parts and neighbours",
         "len(`abc') index(`abcabc',`ca') index(`a',`z') substr(`abcdef',`2',`3') substr(`abc',`3') \
@@ -101,6 +101,12 @@ static TEXTS: [Row; 13] = [
         "define(`x',a`'defn(`len'))x\n",
         "a\n",
         "m4:a.m4:1: Warning: builtin dropped from text\n",
+    ),
+    (
+        "and so is one before a comma",
+        "define(`f',`<$1>')\nf(a`'defn(`len'),b)\n",
+        "\n<a>\n",
+        "m4:a.m4:2: Warning: builtin dropped from text\n",
     ),
 ];
 

@@ -1,8 +1,13 @@
-use Rattle.std.proofs.Common.{◌≡◌, subst, rules}
+use Rattle.std.proofs.Common.{◌≡◌, List, ℕ, subst, rules}
+use Rattle.std.specs.Prelude.{IfOk}
+use Rattle.m4_state.specs.declared.definition.Def.TheVariants.{Text}
 use Rattle.m4_state.specs.State.{IsState}
 use Rattle.m4_input.specs.DelimsView.{pair_of}
 use Rattle.m4_input.specs.Input.{longer}
 use Rattle.m4_builtins.specs.Act.{Acted}
+use Rattle.m4_builtins.specs.Subst.{subst as substituted}
+use Rattle.m4_engine.specs.Expansion.{Call}
+use Rattle.m4_engine.specs.Engine.{Engine, Moves, called_within, here_of}
 use Rattle.m4_engine.proofs.Acts.{called_goes, called_skips, called_exits, acted_pushes}
 use Rattle.m4_engine.proofs.Bare.{substituted_by, called_as}
 use Rattle.m4_engine.proofs.machine.Machine.call.Goals as goal
@@ -41,7 +46,9 @@ pub returns-in-Some : goal.returns-in-Some
 returns-in-Some c = record {
   moves =
       let text = c.in-Some.text.now in
-      called_as c.args.input.now.pending.may_follow c.args.self.now c.take_text.new.self c.in_ok-text.text text c.args.call (λ z more. longer z more c.args.input.now.pending) c.take_text.new.input.pending c.take_text.result c.take_text.ensures.moves (search rules)
+      let p = c.args.input.now.pending in
+      let moves = subst (λ (x : Engine). IfOk c.take_text.result (λ t. (k : Call) (y : List ℕ) → k.definition ≡ Text y → c.in_ok-text.text ≡ substituted y k.name k.done x.state.quotes → Moves p.may_follow c.take_text.new.self c.take_text.new.input.pending t (λ z more o m. called_within x.open_calls k (here_of o m x (longer z more p))))) c.self.view_is c.take_text.ensures.moves in
+      called_as p.may_follow c.args.self.now c.take_text.new.self c.in_ok-text.text text c.args.call (λ z more. longer z more p) c.take_text.new.input.pending c.take_text.result moves (search rules)
       (substituted_by text c.in_ok-text.text _ c.args.call.name _ c.args.call.done (pair_of c.quotes-quotes.result) _ c.in_ok-text.ensures (search rules) (search rules) (search rules) (search rules));
   ready = search rules;
   limits = search rules;
@@ -52,5 +59,5 @@ returns-in-Some c = record {
 pub push_value-requires-clause-valid : goal.push_value-requires-clause-valid
 push_value-requires-clause-valid c =
     let a : Acted = record { state = c.act.new.state; effect = c.in_ok-push.field-0 } in
-    let same : c.self-2.inside.state ≡ c.args.self.now.state = search rules in
+    let same : c.self.inside.state ≡ c.args.self.now.state = search rules in
     acted_pushes c.args.call.definition c.args.call.name c.args.call.done c.args.call.place c.args.self.now.state a (subst IsState same c.current-in_order.ensures.valid) (search rules) (search rules)

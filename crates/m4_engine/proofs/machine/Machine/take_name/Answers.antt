@@ -1,9 +1,10 @@
-use Rattle.std.proofs.Common.{rules}
+use Rattle.std.proofs.Common.{subst, rules}
 use Rattle.m4_input.specs.Pending.{name_of}
 use Rattle.m4_input.specs.declared.token.Token.TheVariants.{Name}
-use Rattle.m4_engine.specs.Engine.{is_bare}
-use Rattle.m4_engine.proofs.Seen.{named_at, list_there, meaning_at}
-use Rattle.m4_engine.proofs.Turning.{found_steps, word_turn, list_turn}
+use Rattle.m4_engine.specs.Engine.{Engine, is_bare}
+use Rattle.m4_engine.specs.MachineView.{engine_view}
+use Rattle.m4_engine.proofs.Seen.{NameMoves, named_at, list_there, meaning_at}
+use Rattle.m4_engine.proofs.Turning.{found_steps, steps_from, word_turn, list_turn}
 use Rattle.m4_engine.proofs.machine.Machine.take_name.Goals.{in-Yes, in-No}
 use Rattle.m4_engine.proofs.machine.Machine.take_name.Goals as goal
 
@@ -15,8 +16,8 @@ returns-in-Unknown c = list_turn c.args.self.now c.args.input.now c.in-Some.defi
 
 pub take_named-requires-clause-list : goal.take_named-requires-clause-list
 take_named-requires-clause-list c = elim c.match-list_after.branch [
-  | in-Yes w ↦ list_there c.args.self.now.state.quotes c.args.self.now.state.comments c.args.input.now.pending c.consume-2.new.self.pending c.args.len _ (search rules) (search rules)
-  | in-No w ↦ list_there c.args.self.now.state.quotes c.args.self.now.state.comments c.args.input.now.pending c.consume-2.new.self.pending c.args.len _ (search rules) (search rules)
+  | in-Yes w ↦ list_there c.self.inside.state.quotes c.self.inside.state.comments c.args.input.now.pending c.consume-2.new.self.pending c.args.len _ (search rules) (search rules)
+  | in-No w ↦ list_there c.self.inside.state.quotes c.self.inside.state.comments c.args.input.now.pending c.consume-2.new.self.pending c.args.len _ (search rules) (search rules)
 ]
 
 pub returns : goal.returns
@@ -25,7 +26,8 @@ returns c =
     let p = c.args.input.now.pending in
     let q = c.consume-2.new.self.pending in
     let l = c.match-list_after.listed in
+    let moves = subst (λ (x : Engine). NameMoves q.may_follow x c.take_named.new.self q c.take_named.new.input.pending c.take_named.result c.in_ok-meaning.meaning (is_bare l x)) c.self.view_is c.take_named.ensures.moves in
     found_steps e c.take_named.new.self (Name c.args.name) c.args.len c.args.input.now c.consume-2.new.self c.take_named.new.input c.take_named.result c.requires.first c.requires.scanned c.consume-2.ensures
-    (named_at e c.take_named.new.self p q c.take_named.new.input.pending c.take_named.result c.in_ok-meaning.meaning (is_bare l e) c.args.name (search rules) c.take_named.ensures.moves
+    (named_at e c.take_named.new.self p q c.take_named.new.input.pending c.take_named.result c.in_ok-meaning.meaning (is_bare l e) c.args.name (search rules) moves
     (meaning_at c.in_ok-meaning.meaning (is_bare l e) e.state c.args.name (name_of p) c.args.line p (search rules) c.requires.line (search rules)))
-    c.take_named.ensures
+    (steps_from e (engine_view c.self.inside) c.take_named.new.self c.consume-2.new.self c.take_named.new.input c.take_named.result c.self.view_is c.take_named.ensures)

@@ -1,0 +1,99 @@
+-- ListRuns: tokens of a list in order.
+use Rattle.std.proofs.Common.{◌≡◌, inr, Bool, ℕ, ◌+◌, ◌<◌, ◌≤◌, true, false, if◌then◌else◌, List, [], ◌∷◌, ◌++◌, take, drop, length, refl, sym, ap, ◌∙◌, subst, arith, append-nil, append_assoc}
+use Rattle.std.proofs.lemmas.List.{drop-drop, length-take-le, take-append-drop}
+use Rattle.m4_state.specs.declared.delimiters.Delimiters.{Delimiters}
+use Rattle.m4_state.specs.State.{State}
+use Rattle.m4_input.specs.Token.{scan}
+use Rattle.m4_input.specs.declared.front.Scan.TheVariants.{Found}
+use Rattle.m4_input.specs.declared.token.Token.TheVariants.{Byte}
+use Rattle.m4_engine.specs.declared.role.Role.{Role}
+use Rattle.m4_engine.specs.declared.role.Role.TheVariants.{Other}
+use Rattle.m4_engine.specs.Nesting.{Turn, GoOn}
+use Rattle.m4_engine.specs.Expansion.{Call, Mode, Collecting, Expansion, Kept, Ended, issued_in, diverted_in, mode_with_text, put_text}
+use Rattle.m4_engine.specs.Args.{role_of, take_byte}
+use Rattle.m4_engine.specs.Collected.{TakesByte, IsTextByte, AreTextBytes, IsListToken, AreListTokens, bytes_in, IsListRun}
+
+-- no token
+pub list_none : (s : State) (m : Bool) (c : Call) (x : List ℕ) → IsListRun s m 0 c c x
+list_none s m c x = ([], refl, refl)
+
+-- a token
+pub list_one : (s : State) (m : Bool) (n : ℕ) (c d : Call) (x : List ℕ) → IsListToken s m n c d x → IsListRun s m n c d x
+list_one s m n c d x h = let k : n + 0 ≡ n = omega arith in ((n, d) ∷ [], (h, refl), k)
+
+-- further tokens
+joined : (s : State) (m : Bool) (ts us : List (ℕ × Call)) (c d e : Call) (x : List ℕ) → AreListTokens s m ts c d x → AreListTokens s m us d e (drop (bytes_in ts) x) → AreListTokens s m (ts ++ us) c e x × (bytes_in (ts ++ us) ≡ bytes_in ts + bytes_in us)
+joined s m [] us c d e x a b = let k : bytes_in us ≡ 0 + bytes_in us = omega arith in (subst (λ (k : Call). AreListTokens s m us k e x) a b, k)
+joined s m (t ∷ ts) us c d e x a b =
+    let r = joined s m ts us t.1 d e (drop t.0 x) a.1 (subst (AreListTokens s m us d e) (sym (drop-drop (bytes_in ts) t.0 x)) b) in
+    let k : bytes_in (ts ++ us) ≡ bytes_in ts + bytes_in us = r.1 in
+    ((a.0, r.0), omega arith)
+
+pub list_on : (s : State) (m : Bool) (k n : ℕ) (c d e : Call) (x y : List ℕ) → IsListRun s m k c d x → y ≡ drop k x → IsListRun s m n d e y → IsListRun s m (k + n) c e x
+list_on s m k n c d e x y r g h =
+    let q = joined s m r.0 h.0 c d e x r.1 (subst (λ (b : ℕ). AreListTokens s m h.0 d e (drop b x)) (sym r.2) (subst (AreListTokens s m h.0 d e) g h.1)) in
+    (r.0 ++ h.0, q.0, q.1 ∙ ap (λ (b : ℕ). b + bytes_in h.0) r.2 ∙ ap (λ (b : ℕ). k + b) h.2)
+
+-- nothing further
+pub list_end : (s : State) (m : Bool) (k n : ℕ) (c d e : Call) (x y : List ℕ) → IsListRun s m k c d x → y ≡ drop k x → IsListRun s m n d e y → n ≡ 0 → IsListRun s m k c e x
+list_end s m k n c d e x y r g h z =
+    let q : k + n ≡ k = omega arith in
+    subst (λ (j : ℕ). IsListRun s m j c e x) q (list_on s m k n c d e x y r g h)
+
+-- a byte, if it was taken
+pub byte_or_none : (s : State) (m : Bool) (b : ℕ) (c d : Call) (x : List ℕ) (taken : Bool) (n : ℕ) → n ≡ (if taken then 1 else 0) → scan s.quotes s.comments m x ≡ Found (Byte b) 1 → (taken ≡ true → TakesByte b c d) → (taken ≡ false → d ≡ c) → IsListRun s m n c d x
+byte_or_none s m b c d x true n e h f g = subst (λ (j : ℕ). IsListRun s m j c d x) (sym e) (list_one s m 1 c d x (inr (b, h, f refl)))
+byte_or_none s m b c d x false n e h f g = subst (λ (j : ℕ). IsListRun s m j c d x) (sym e) (subst (λ (a : Call). IsListRun s m 0 c a x) (sym (g refl)) (list_none s m c x))
+
+-- ---- bytes that are text
+
+-- the call with a text in its argument
+abbrev with_bytes : List ℕ → Call → Call
+with_bytes x c = record c { begun = true; bytes = c.bytes ++ x }
+
+-- a text is added to the argument
+text_added : (x : List ℕ) (c : Call) (s : Expansion) → s.mode ≡ Collecting c → put_text x s ≡ record s { mode = Collecting (with_bytes x c) }
+text_added x c s h =
+    ap (λ (v : Mode). let e : Expansion = record s { so_far = record s.so_far { state = diverted_in v (s.so_far).state x; output = (s.so_far).output ++ issued_in v ((s.so_far).state).current x }; mode = mode_with_text x v } in e) h
+    ∙ ap (λ (o : List ℕ). let e : Expansion = record s { so_far = record s.so_far { output = o }; mode = Collecting (with_bytes x c) } in e) (append-nil (s.so_far).output)
+
+text_taken : (b : ℕ) (c : Call) → role_of b c ≡ Other → TakesByte b c (with_bytes (b ∷ []) c)
+text_taken b c r s h =
+    ap (λ (v : Role). take_byte v b c s) r
+    ∙ ap (λ (e : Expansion). let t : Turn Expansion Kept Ended = GoOn e in t) (text_added (b ∷ []) c s h)
+
+twice_added : (b : ℕ) (x : List ℕ) (c : Call) → with_bytes x (with_bytes (b ∷ []) c) ≡ with_bytes (b ∷ x) c
+twice_added b x c = ap (λ (y : List ℕ). let d : Call = record c { begun = true; bytes = y } in d) (append_assoc c.bytes (b ∷ []) x)
+
+bytes_taken : (s : State) (m : Bool) (b : ℕ) (x y : List ℕ) (c : Call) → AreTextBytes s.quotes s.comments (b ∷ x) → IsListRun s m (length (b ∷ x)) c (with_bytes (b ∷ x) c) ((b ∷ x) ++ y)
+bytes_taken s m b [] y c h = list_one s m 1 c (with_bytes (b ∷ []) c) (b ∷ y) (inr (b, (h.0).alone m y, text_taken b c ((h.0).other c)))
+bytes_taken s m b (a ∷ x) y c h =
+    let d : Call = with_bytes (b ∷ []) c in
+    let one = list_one s m 1 c d (b ∷ ((a ∷ x) ++ y)) (inr (b, (h.0).alone m ((a ∷ x) ++ y), text_taken b c ((h.0).other c))) in
+    let rest = bytes_taken s m a x y d h.1 in
+    let n : 1 + length (a ∷ x) ≡ length (b ∷ (a ∷ x)) = omega arith in
+    subst (λ (k : ℕ). IsListRun s m k c (with_bytes (b ∷ (a ∷ x)) c) ((b ∷ (a ∷ x)) ++ y)) n
+    (subst (λ (e : Call). IsListRun s m (1 + length (a ∷ x)) c e ((b ∷ (a ∷ x)) ++ y)) (twice_added b (a ∷ x) c)
+    (list_on s m 1 (length (a ∷ x)) c d (with_bytes (a ∷ x) d) (b ∷ ((a ∷ x) ++ y)) ((a ∷ x) ++ y) one refl rest))
+
+-- the first n bytes of a text are added at once
+pub bytes_at_once : (s : State) (m : Bool) (n : ℕ) (x : List ℕ) (c d : Call) → 0 < n → n ≤ length x → AreTextBytes s.quotes s.comments (take n x) → d ≡ with_bytes (take n x) c → IsListRun s m n c d x
+bytes_at_once s m n x c d l w h g =
+    let k : n ≡ length (take n x) = sym (length-take-le n x w) in
+    let e : x ≡ take n x ++ drop n x = sym (take-append-drop n x) in
+    subst (λ (a : Call). IsListRun s m n c a x) (sym g)
+    (subst (λ (y : List ℕ). IsListRun s m n c (with_bytes (take n x) c) y) (sym e)
+    (subst (λ (j : ℕ). IsListRun s m j c (with_bytes (take n x) c) (take n x ++ drop n x)) (sym k)
+    (by_front (take n x) (subst (λ j. 0 < j) k l) h)))
+  where
+    by_front : (y : List ℕ) → 0 < length y → AreTextBytes s.quotes s.comments y → IsListRun s m (length y) c (with_bytes y c) (y ++ drop n x)
+    by_front [] l h = absurd (omega arith)
+    by_front (b ∷ y) l h = bytes_taken s m b y (drop n x) c h
+
+-- a byte more
+text_bytes_on : (q k : Delimiters) (x : List ℕ) (b : ℕ) → AreTextBytes q k x → IsTextByte q k b → AreTextBytes q k (x ++ b ∷ [])
+text_bytes_on q k [] b h t = (t, tt)
+text_bytes_on q k (a ∷ x) b h t = (h.0, text_bytes_on q k x b h.1 t)
+
+pub text_bytes_more : (q k : Delimiters) (n : ℕ) (x : List ℕ) (b : ℕ) → AreTextBytes q k (take n x) → IsTextByte q k b → take (n + 1) x ≡ take n x ++ b ∷ [] → AreTextBytes q k (take (n + 1) x)
+text_bytes_more q k n x b h t e = subst (AreTextBytes q k) (sym e) (text_bytes_on q k (take n x) b h t)

@@ -1,0 +1,120 @@
+//! Tokens of a list that change the innermost open call alone. Many are collected at once, each looked at once:
+//! the loop ends at a name that may be called, at the parenthesis that closes the list, and at a token that one
+//! look does not decide. Manual: "Macro arguments", "Quoting arguments".
+
+ghost use Rattle.std.specs.Prelude.{◌≡◌, ◌<◌, ◌≤◌, Bool, true, IfOk, length, take, drop};
+ghost use Rattle.m4_input.specs.DelimsView.{pair_of};
+ghost use Rattle.m4_input.specs.Token.{scan};
+ghost use Rattle.m4_input.specs.declared.front.Scan.TheVariants.{Found};
+ghost use Rattle.m4_input.specs.declared.token.Token.TheVariants.{Byte};
+ghost use Rattle.m4_engine.specs.Plain.{IsFirst, FirstLies};
+ghost use Rattle.m4_engine.specs.Collected.{IsTextByte, AreTextBytes, IsListRun};
+
+use crate::call::OpenCall;
+use crate::front::{First, first_in_list};
+use crate::spare::Spare;
+use m4_input::delims::Delims;
+use m4_input::look::may_begin;
+use m4_state::state::State;
+use std::alloc::AllocError;
+
+/// Collects the tokens at the start of a text that change the call alone. Returns how many bytes they have, and
+/// the token after them.
+pub fn collect<'a>(
+    call: &mut OpenCall,
+    spare: &mut Spare,
+    text: &[u8],
+    state: &'a State,
+    may_follow: bool,
+) -> Result<(usize, First<'a>), AllocError>
+    // exact steps: tokens of the definition `scan`, each with its effect on the call
+    ensures collected { IfOk result (λ r. IsListRun state.now may_follow r.0 call.old call.new text.now) }
+    ensures within { IfOk result (λ r. r.0 ≤ length text.now) }
+    ensures after { IfOk result (λ r. IsFirst state.now may_follow (drop r.0 text.now) r.1) }
+    ensures lies { IfOk result (λ r. FirstLies (length (drop r.0 text.now)) r.1) }
+{
+    let delims = Delims::of(state);
+    let mut len = 0;
+    loop {
+        let rest = text.split_at(len).1;
+        let first = first_in_list(rest, state, &delims, may_follow);
+        let used = collect_first(call, spare, &first, rest, &delims)?;
+        if used == 0 {
+            return Ok((len, first));
+        }
+        len += used;
+    }
+}
+
+/// Returns whether a byte is a digit with which no delimiter begins: a token of its own, whatever follows it.
+#[inline(always)]
+fn is_plain_digit(byte: u8, delims: &Delims<'_>) -> bool
+    ensures { result ≡ true → IsTextByte (pair_of delims.now.quotes) (pair_of delims.now.comments) byte }
+{
+    byte.is_ascii_digit() && !may_begin(byte, &delims.comments) && !may_begin(byte, &delims.quotes)
+}
+
+/// Counts the digits at the start. They are text, so they are collected together.
+fn digits_len(text: &[u8], delims: &Delims<'_>) -> usize
+    ensures bytes { AreTextBytes (pair_of delims.now.quotes) (pair_of delims.now.comments) (take result text.now) }
+    ensures within { result ≤ length text.now }
+{
+    let mut k = 0;
+    while k < text.len() && is_plain_digit(text[k], delims) {
+        k += 1;
+    }
+    k
+}
+
+/// Collects the first token, and the digits after it if it is one, if that changes the call alone. Returns how
+/// many bytes were collected; none if the token was left.
+#[inline(always)]
+fn collect_first(
+    call: &mut OpenCall,
+    spare: &mut Spare,
+    first: &First<'_>,
+    text: &[u8],
+    delims: &Delims<'_>,
+) -> Result<usize, AllocError>
+    requires lies { FirstLies (length text.now) first.now }
+    ensures collected { IfOk result (λ n. (s : State) (m : Bool) → pair_of delims.now.quotes ≡ s.quotes → pair_of delims.now.comments ≡ s.comments
+        → IsFirst s m text.now first.now → IsListRun s m n call.old call.new text.now) }
+    ensures within { IfOk result (λ n. n ≤ length text.now) }
+{
+    match *first {
+        First::Quoted(begin, len, all) => {
+            let after = text.split_at(begin).1;
+            call.put(after.split_at(len).0)?;
+            Ok(all)
+        }
+        First::Word(len) => {
+            call.put(text.split_at(len).0)?;
+            Ok(len)
+        }
+        First::Byte(byte) => collect_bytes(call, spare, byte, text, delims),
+        First::Called(..) | First::Other => Ok(0),
+    }
+}
+
+/// Collects the first byte, which is a token of its own, and the digits after it if it is one.
+#[inline(always)]
+fn collect_bytes(
+    call: &mut OpenCall,
+    spare: &mut Spare,
+    byte: u8,
+    text: &[u8],
+    delims: &Delims<'_>,
+) -> Result<usize, AllocError>
+    requires { 0 < length text.now }
+    ensures collected { IfOk result (λ n. (s : State) (m : Bool) → pair_of delims.now.quotes ≡ s.quotes → pair_of delims.now.comments ≡ s.comments
+        → scan s.quotes s.comments m text.now ≡ Found (Byte byte) 1 → IsListRun s m n call.old call.new text.now) }
+    ensures within { IfOk result (λ n. n ≤ length text.now) }
+{
+    let digits = digits_len(text, delims);
+    if digits > 0 {
+        call.put(text.split_at(digits).0)?;
+        return Ok(digits);
+    }
+    let taken = call.take_byte(byte, spare)?;
+    Ok(usize::from(taken))
+}
