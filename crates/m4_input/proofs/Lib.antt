@@ -11,6 +11,5 @@ pub mod TokenBlocks
 pub mod OpenTokens
 pub mod ByteSearch
 pub mod QuoteSearch
-pub mod QuoteParts
 pub mod Pieces
 pub mod ShortQuotes

@@ -1,9 +1,9 @@
 -- The next quote of one byte, found by a search for one of two bytes: the bytes before it are plain.
-use Rattle.std.proofs.Common.{◌≡◌, ◌+◌, ◌-◌, ◌<◌, ◌≤◌, ◌∷◌, ◌||◌, List, ℕ, zero, suc, Bool, true, false, Some, length, take, drop, sym, ap, subst, ◌∙◌, arith}
-use Rattle.std.proofs.Math.Dec.{eqb}
+use Rattle.std.proofs.Common.{◌≡◌, ◌+◌, ◌-◌, ◌<◌, ◌≤◌, ◌∷◌, ◌||◌, List, ℕ, zero, suc, Bool, true, false, Some, length, take, drop, refl, sym, ap, subst, ◌∙◌, arith}
+use Rattle.std.proofs.Math.Dec.{eqb, ltb}
 use Rattle.std.proofs.Math.ListN.{get_or}
 use Rattle.std.proofs.Math.Bool.{or-true, or-false}
-use Rattle.std.proofs.lemmas.Bool.{eqb-true, eq-eqb, ne_eqb}
+use Rattle.std.proofs.lemmas.Bool.{eqb-true, eq-eqb, ne_eqb, ltb-true, ltb-false}
 use Rattle.std.proofs.lemmas.List.{length-drop, take_all, drop_more, get_or-drop}
 use Rattle.m4_input.specs.declared.front.Mark.TheVariants.{BeginQuote, PlainByte}
 use Rattle.m4_input.specs.OpenToken.{HasPassed}
@@ -93,3 +93,34 @@ module _ (b e : ℕ) where
     found_close is none =
         let within : k + j < length x = is_within in
         (short_end b e n x (k + j) byte (subst (λ (i : ℕ). HasPassed (short b e) n x i (k + j)) none before_it) there (end_mark b e byte is), omega arith)
+
+  -- bytes that were looked at have no quote, and the rest is searched
+  module _ (x : List ℕ) (k : ℕ) (within : k ≤ length x) (near : Nowhere (is_quote x) 0 k) where
+    none_up_to : (j : ℕ) → Nowhere (is_quote (drop k x)) 0 j → Nowhere (is_quote x) 0 (k + j)
+    none_up_to j h i low less q = by (ltb i k) refl
+      where
+        by : (c : Bool) → ltb i k ≡ c → ⊥
+        by true t = near i low (ltb-true i k t) q
+        by false f =
+            let far : k ≤ i = ltb-false i k f in
+            let there : k + (i - k) ≡ i = omega arith in
+            let same : get_or (drop k x) (i - k) 0 ≡ get_or x i 0 = get_or-drop k x (i - k) 0 ∙ ap (λ (n : ℕ). get_or x n 0) there in
+            h (i - k) (omega arith) (omega arith) (subst (λ (v : ℕ). is_byte2 b e v ≡ true) (sym same) q)
+
+    len : length (drop k x) ≡ length x - k
+    len = length-drop k x
+
+    -- a quote is nowhere
+    pub nowhere_in_both : Missed (take (length x - k) (drop k x)) → Nowhere (is_quote x) 0 (length x)
+    nowhere_in_both missed =
+        let l : length (drop k x) ≡ length x - k = len in
+        let all : k + length (drop k x) ≡ length x = omega arith in
+        subst (Nowhere (is_quote x) 0) all (none_up_to (length (drop k x)) (subst Missed (rest_is x k) missed))
+
+    -- the first quote is in the rest
+    pub first_in_rest : (j : ℕ) → Found (take (length x - k) (drop k x)) j → Found x (k + j)
+    first_in_rest j found =
+        let f : Found (drop k x) j = subst (λ (y : List ℕ). Found y j) (rest_is x k) found in
+        let l : length (drop k x) ≡ length x - k = len in
+        let high : j < length (drop k x) = f.0.high in
+        (record { low = omega arith; high = omega arith; before = none_up_to j f.0.before }, subst (λ (v : ℕ). is_byte2 b e v ≡ true) (get_or-drop k x j 0) f.1)

@@ -4,6 +4,7 @@
 ghost use Rattle.std.specs.Prelude.{◌≡◌, ◌≢◌, ◌+◌, ◌^◌, ◌<◌, ◌≤◌, ◌∷◌, [], List, ℕ, false, IfSome, IfNone, length};
 ghost use Rattle.m4_input.specs.OpenToken.{Follows};
 ghost use Rattle.m4_input.specs.Token.{before, level};
+ghost use Rattle.memchr.specs.Find.{IsFirstByte, is_byte2};
 
 use memchr::{memchr, memchr2};
 
@@ -25,55 +26,18 @@ pub enum Followed {
     Open(usize),
 }
 
-/// So many bytes of a string are looked at one by one before a search begins. A search takes longer to start
-/// than a look at a few bytes, and most strings are short.
+/// So many bytes are looked at one by one before a search begins. A search takes longer to start than a look at a
+/// few bytes, and quotes are often close to each other.
 const STEPS: usize = 16;
 
-/// Follows a string through a text, before which `depth` nested strings are open.
+/// Follows a string through a text, before which `depth` nested strings are open, from quote to quote.
 pub fn follow_quoted(text: &[u8], depth: usize, begin: u8, end: u8) -> Followed
-    requires { depth + length text.now < 2 ^ 64 }
-    ensures { Follows (record { begin = begin ∷ []; end = end ∷ [] }) depth text.now result }
-{
-    let (front, rest) = text.split_at(text.len().min(STEPS));
-    match follow_by_steps(front, depth, begin, end) {
-        Followed::Ends(len) => Followed::Ends(len),
-        Followed::Open(nested) => match follow_by_search(rest, nested, begin, end) {
-            Followed::Ends(len) => Followed::Ends(front.len() + len),
-            Followed::Open(nested) => Followed::Open(nested),
-        },
-    }
-}
-
-/// The same, byte by byte, for a short text.
-fn follow_by_steps(text: &[u8], depth: usize, begin: u8, end: u8) -> Followed
-    requires { depth + length text.now < 2 ^ 64 }
-    ensures { Follows (record { begin = begin ∷ []; end = end ∷ [] }) depth text.now result }
-{
-    let mut open = depth;
-    let mut k = 0usize;
-    'bytes: while k < text.len() {
-        let byte = text[k];
-        if byte == end {
-            if open == 0 {
-                return Followed::Ends(k);
-            }
-            open -= 1;
-        } else if byte == begin {
-            open += 1;
-        }
-        k += 1;
-    }
-    Followed::Open(open)
-}
-
-/// The same, from quote to quote, for a text of any length.
-fn follow_by_search(text: &[u8], depth: usize, begin: u8, end: u8) -> Followed
     requires { depth + length text.now < 2 ^ 64 }
     ensures { Follows (record { begin = begin ∷ []; end = end ∷ [] }) depth text.now result }
 {
     let mut nested = depth;
     let mut k = 0usize;
-    'quotes: while let Some(plain) = memchr2(begin, end, &text[k..]) {
+    'quotes: while let Some(plain) = first_of_two(begin, end, &text[k..]) {
         k += plain;
         if text[k] != end {
             nested += 1;
@@ -85,6 +49,23 @@ fn follow_by_search(text: &[u8], depth: usize, begin: u8, end: u8) -> Followed
         k += 1;
     }
     Followed::Open(nested)
+}
+
+/// Returns the place of the first of these two bytes: a search for it, after a look at the bytes that are near.
+fn first_of_two(one: u8, other: u8, text: &[u8]) -> Option<usize>
+    ensures { IsFirstByte (is_byte2 one other) text.now result }
+{
+    let near = text.len().min(STEPS);
+    let mut k = 0usize;
+    'bytes: while k < near {
+        let byte = text[k];
+        if byte == one || byte == other {
+            return Some(k);
+        }
+        k += 1;
+    }
+    let found = memchr2(one, other, &text[k..])?;
+    Some(k + found)
 }
 
 /// Counts the bytes before the end-quote that closes the string.

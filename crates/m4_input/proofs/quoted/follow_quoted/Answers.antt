@@ -1,30 +1,23 @@
-use Rattle.std.proofs.Common.{◌+◌, length, sym, subst}
-use Rattle.m4_input.specs.OpenToken.{Follows}
-use Rattle.m4_input.specs.declared.quoted.Followed.TheVariants as followed
-use Rattle.m4_input.proofs.QuoteParts.{ends_first, ends_second, open_second}
-use Rattle.m4_input.proofs.ShortQuotes.{short}
+use Rattle.std.proofs.Common.{◌+◌, ◌∷◌, [], sym, subst}
+use Rattle.m4_state.specs.declared.delimiters.Delimiters.{Delimiters}
+use Rattle.m4_input.specs.OpenToken.{HasPassed}
+use Rattle.m4_input.proofs.QuoteSearch.{found_begin, found_end, found_close, none_found}
+use Rattle.m4_input.proofs.quoted.follow_quoted.Goals.{then-text-k, else-text-k+else-nested-eq0}
 use Rattle.m4_input.proofs.quoted.follow_quoted.Goals as goal
 
-pub returns-in-Ends : goal.returns-in-Ends
-returns-in-Ends c =
-    let front = c.split_at.result.0.now in
-    let rest = c.split_at.result.1.now in
-    let k = c.in-Ends.len in
-    subst (λ x. Follows (short c.args.begin c.args.end) c.args.depth x (followed.Ends k)) (sym c.split_at.ensures.by_index.0)
-    (ends_first c.args.begin c.args.end c.args.depth front rest k c.in-Ends.ensures)
+pub returns-then-nested-eq0 : goal.returns-then-nested-eq0
+returns-then-nested-eq0 c =
+    found_close c.args.begin c.args.end c.args.depth c.args.text.now c.quotes.nested c.quotes.k c.in-Some.plain c.quotes.invariant c.in-Some.ensures c.if-text-k.false c.if-nested-eq0.true
 
-pub returns-in-Ends-follow_by_search : goal.returns-in-Ends-follow_by_search
-returns-in-Ends-follow_by_search c =
-    let front = c.split_at.result.0.now in
-    let rest = c.split_at.result.1.now in
-    let k = c.in-Ends-follow_by_search.len in
-    subst (λ x. Follows (short c.args.begin c.args.end) c.args.depth x (followed.Ends (length front + k))) (sym c.split_at.ensures.by_index.0)
-    (ends_second c.args.begin c.args.end c.args.depth front rest c.in-Open.nested c.in-Open.ensures k c.in-Ends-follow_by_search.ensures)
+pub quotes-preserved : goal.quotes-preserved
+quotes-preserved c =
+    let q : Delimiters = record { begin = c.args.begin ∷ []; end = c.args.end ∷ [] } in
+    let x = c.args.text.now in
+    let n = c.args.depth in
+    elim c.if-text-k.branch [
+      | then-text-k w ↦ subst (λ m. HasPassed q n x m (c.quotes.k + c.in-Some.plain + 1)) (sym w.nested-is) (found_begin c.args.begin c.args.end n x c.quotes.nested c.quotes.k c.in-Some.plain c.quotes.invariant c.in-Some.ensures w.if-text-k.true)
+      | else-text-k+else-nested-eq0 w ↦ subst (λ m. HasPassed q n x m (c.quotes.k + c.in-Some.plain + 1)) (sym w.nested-is) (found_end c.args.begin c.args.end n x c.quotes.nested c.quotes.k c.in-Some.plain c.quotes.invariant c.in-Some.ensures w.if-text-k.false w.if-nested-eq0.false)
+    ]
 
-pub returns-in-Open-follow_by_search : goal.returns-in-Open-follow_by_search
-returns-in-Open-follow_by_search c =
-    let front = c.split_at.result.0.now in
-    let rest = c.split_at.result.1.now in
-    let m = c.in-Open-follow_by_search.nested in
-    subst (λ x. Follows (short c.args.begin c.args.end) c.args.depth x (followed.Open m)) (sym c.split_at.ensures.by_index.0)
-    (open_second c.args.begin c.args.end c.args.depth front rest c.in-Open.nested c.in-Open.ensures m c.in-Open-follow_by_search.ensures)
+pub returns : goal.returns
+returns c = none_found c.args.begin c.args.end c.args.depth c.args.text.now c.quotes.nested c.quotes.k c.quotes.invariant c.in_default.ensures
