@@ -15,7 +15,7 @@ use Rattle.indexmap.proofs.MapLemmas.{lookup_permutation}
 use Rattle.m4_state.specs.Entries.{Entry, pair_of, in_order}
 use Rattle.m4_state.specs.Table.{Pair, Pairs, byte_order}
 use Rattle.m4_state.proofs.Tables.{byte_order-IsAntisymmetric}
-use Rattle.m4_state.proofs.InOrder.{has_bytes, same_key, items_of, items_of-cond, sorted_in_order, find-in_order}
+use Rattle.m4_state.proofs.InOrder.{has_bytes, same_key, sorted_in_order, find-in_order}
 
 -- names that differ as keys differ as bytes
 pub distinct_names : (es : List Entry) → IsDistinct same_key (keys_of es) → IsDistinct (pointwise nat_eq) (keys_of (map pair_of es))
@@ -61,11 +61,9 @@ find_is_lookup q [] = refl
 find_is_lookup q (p ∷ ps) = λ j. cond (sym (texts_ties q p.0) j) (Some p.1) (find_is_lookup q ps j)
 
 -- and the pairs have what the entries have
-lookup_pairs : (q : List ℕ) (es : List Entry) → lookup (pointwise nat_eq q) (map pair_of es) ≡ items_of (lookup (has_bytes q) es)
+lookup_pairs : (q : List ℕ) (es : List Entry) → lookup (pointwise nat_eq q) (map pair_of es) ≡ lookup (has_bytes q) es
 lookup_pairs q [] = refl
-lookup_pairs q (e ∷ es) =
-    ap (cond (has_bytes q e.0) (Some e.1.items)) (lookup_pairs q es)
-    ∙ sym (items_of-cond (has_bytes q e.0) (Some e.1) (lookup (has_bytes q) es))
+lookup_pairs q (e ∷ es) = ap (cond (has_bytes q e.0) (Some e.1)) (lookup_pairs q es)
 
 -- the pairs of the entries in any order whose names rise
 sorted_pairs_in_order : (es : List Entry) (given moved : Pairs) → given ≡ map pair_of es → IsDistinct (pointwise nat_eq) (keys_of given) → IsPermutation given moved → IsSortedBy (λ x y. is_lt (byte_order x y)) (keys_of moved)

@@ -8,13 +8,13 @@ use Rattle.m4_state.specs.Table.{Pair, Pairs, byte_order}
 
 -- a name and its definitions, as the hash table stores them
 abbrev pub Entry : Type 0
-Entry = Vec ℕ Global × Vec Def Global
+Entry = Vec ℕ Global × List Def
 
 -- the pair that an entry means
 abbrev pub pair_of : Entry → Pair
-pair_of e = (e.0.items, e.1.items)
+pair_of e = (e.0.items, e.1)
 
 -- each entry inserted in its place
 abbrev pub in_order : List Entry → Pairs
 in_order [] = []
-in_order (e ∷ es) = put byte_order e.0.items e.1.items (in_order es)
+in_order (e ∷ es) = put byte_order e.0.items e.1 (in_order es)
