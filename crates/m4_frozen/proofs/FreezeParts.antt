@@ -3,19 +3,18 @@ use Rattle.std.proofs.Common.{◌≡◌, ℕ, ℤ, pos, Bool, true, false, cond,
 use Rattle.std.specs.Prelude.{IsTrue, int_lt, FitsSigned}
 use Rattle.std.specs.Int.{w32}
 use Rattle.std.specs.List.{flat_map, AllByRecursion}
-use Rattle.std.specs.Ordering.{int_cmp, int_eq, is_lt, is_eq, eq_by_cmp, ordering_reverse}
+use Rattle.std.specs.Ordering.{int_cmp, int_eq, is_lt, is_eq}
 use Rattle.std.specs.FinMap.{is_sorted, int_cmp-IsAntisymmetric}
 use Rattle.std.specs.Cmp.{int_cmp_total, tied_itself}
-use Rattle.std.specs.Cmp.Lexicographic.{nat_list_cmp_total}
 use Rattle.std.proofs.lemmas.List.{append-nil}
 use Rattle.std.proofs.lemmas.Grind.{flat_map-append}
 use Rattle.std.proofs.lemmas.Option.{same_Some}
 use Rattle.std.specs.FinMap.Entries.{below_all}
-use Rattle.m4_state.specs.State.{State, IsState, IsDiversion, text_at, next_after, names_of, Diversion as NumberedText}
+use Rattle.m4_state.specs.State.{State, IsDiversion, text_at, next_after, Diversion as NumberedText}
 use Rattle.m4_state.specs.declared.definition.Def.{Def}
 use Rattle.m4_state.specs.declared.delimiters.Delimiters.{Delimiters}
 use Rattle.m4_state.specs.Delimiters.{default_quotes, default_comments}
-use Rattle.m4_state.specs.Table.{Pair, Pairs, byte_order, stack_at}
+use Rattle.m4_state.specs.Table.{Pairs}
 use Rattle.m4_state.proofs.Pairs.{both}
 use Rattle.m4_frozen.specs.Ascii.{letter_C, letter_Q}
 use Rattle.m4_frozen.specs.Directive.{Directive, Quotes, Comments, Diversion}
@@ -142,43 +141,17 @@ last_fits n (d ∷ ds) fits h = last_fits d.0 ds h.0.fits h.1
 
 -- ---- the whole text
 
--- a key after the first one is another
-not_tied_to_first : (k q : List ℕ) → IsTrue (is_lt (byte_order k q)) → eq_by_cmp byte_order q k ≡ false
-not_tied_to_first k q h = ap is_eq (nat_list_cmp_total.antisymm q k) ∙ by (byte_order k q) h
-  where
-    by : (r : Ordering) → IsTrue (is_lt r) → is_eq (ordering_reverse r) ≡ false
-    by Less h = refl
-    by Equal h = absurd cc
-    by Greater h = absurd cc
-
--- each pair's stack is found at its name
-abbrev pub IsFoundIn : Pairs → Pair → Type 0
-IsFoundIn table e = stack_at table e.0 ≡ e.1
-
-found_after : (first : Pair) (table es : Pairs) → IsTrue (below_all byte_order first.0 es) → AllByRecursion (IsFoundIn table) es → AllByRecursion (IsFoundIn (first ∷ table)) es
-found_after first table [] below h = tt
-found_after first table (e ∷ es) below h =
-    let other : eq_by_cmp byte_order e.0 first.0 ≡ false = not_tied_to_first first.0 e.0 (both _ _ below).0 in
-    (rw other h.0, found_after first table es (both _ _ below).1 h.1)
-
-pub all_found : (table : Pairs) → IsTrue (is_sorted byte_order table) → AllByRecursion (IsFoundIn table) table
-all_found [] h = tt
-all_found (e ∷ es) h =
-    let tie : byte_order e.0 e.0 ≡ Equal = tied_itself nat_list_cmp_total e.0 in
-    (rw tie refl, found_after e es es (both _ _ h).0 (all_found es (both _ _ h).1))
-
 -- the texts of a name's definitions
 stack_text-map : (name : List ℕ) (stack : List Def) → stack_text name stack ≡ flat_map spelling (map (definition name) stack)
 stack_text-map name [] = refl
 stack_text-map name (d ∷ stack) = ap (λ (t : List ℕ). spelling (definition name d) ++ t) (stack_text-map name stack)
 
 -- and of all names
-names_text-definitions : (s : State) (es : Pairs) → AllByRecursion (IsFoundIn s.table) es → names_text s (map (λ e. e.0) es) ≡ flat_map spelling (flat_map (λ e. map (definition e.0) e.1) es)
-names_text-definitions s [] h = refl
-names_text-definitions s (e ∷ es) h =
-    ap (λ (stack : List Def). stack_text e.0 stack ++ names_text s (map (λ e. e.0) es)) h.0
-    ∙ ap (λ (t : List ℕ). t ++ names_text s (map (λ e. e.0) es)) (stack_text-map e.0 e.1)
-    ∙ ap (λ (t : List ℕ). flat_map spelling (map (definition e.0) e.1) ++ t) (names_text-definitions s es h.1)
+names_text-definitions : (es : Pairs) → names_text es ≡ flat_map spelling (flat_map (λ e. map (definition e.0) e.1) es)
+names_text-definitions [] = refl
+names_text-definitions (e ∷ es) =
+    ap (λ (t : List ℕ). t ++ names_text es) (stack_text-map e.0 e.1)
+    ∙ ap (λ (t : List ℕ). flat_map spelling (map (definition e.0) e.1) ++ t) (names_text-definitions es)
     ∙ sym (flat_map-append spelling (map (definition e.0) e.1) (flat_map (λ e. map (definition e.0) e.1) es))
 
 delimiters_text-unless : (letter : ℕ) (make : List ℕ → List ℕ → Directive) (default d : Delimiters) → spelling (make d.begin d.end) ≡ two_strings letter d.begin d.end → delimiters_text letter default d ≡ flat_map spelling (unless_default make default d)
@@ -200,12 +173,12 @@ current_text-unless s = by (int_eq s.current (last_number (pos 0) s.diversions))
     by false = sym (append-nil (spelling (Diversion s.current [])))
 
 -- what the parts of the writer put is the canonical text
-pub frozen_text-freeze : (s : State) → IsState s → frozen_text s (names_of s) ≡ freeze s
+pub frozen_text-freeze : (s : State) → frozen_text s s.table ≡ freeze s
 unfolding directives_text
-frozen_text-freeze s valid =
+frozen_text-freeze s =
     let quotes = delimiters_text-unless letter_Q Quotes default_quotes s.quotes refl in
     let comments = delimiters_text-unless letter_C Comments default_comments s.comments refl in
-    let names = names_text-definitions s s.table (all_found s.table valid.table.sorted) in
+    let names = names_text-definitions s.table in
     let texts = texts_text-map s.diversions in
     let current = current_text-unless s in
     rw (quotes, comments, names, texts, current) (by (unless_default Quotes default_quotes s.quotes) (unless_default Comments default_comments s.comments) (definitions s) (map diversion s.diversions) (current_unless_last s))

@@ -1,15 +1,11 @@
 -- What the parts of the inspector put, joined, is the listing.
-use Rattle.std.proofs.Common.{◌≡◌, ℕ, Bool, true, false, List, [], ◌∷◌, ◌++◌, map, length, refl, sym, ap, ◌∙◌, append_assoc, add-one, ◌+◌, arith}
+use Rattle.std.proofs.Common.{◌≡◌, ℕ, Bool, true, false, List, [], ◌∷◌, ◌++◌, length, refl, sym, ◌∙◌, append_assoc, add-one, ◌+◌, arith}
 use Rattle.std.proofs.lemmas.Bool.{eqb-true}
 use Rattle.std.specs.Prelude.{codes, decimal, nat_eq}
-use Rattle.std.specs.List.{flat_map, AllByRecursion}
-use Rattle.m4_state.specs.declared.definition.Def.{Def}
-use Rattle.m4_state.specs.Table.{Pairs}
-use Rattle.m4_state.specs.State.{State, IsState, names_of}
+use Rattle.std.specs.List.{flat_map}
 use Rattle.m4_frozen.specs.declared.loading.Loaded.{Loaded}
-use Rattle.m4_frozen.specs.Listing.{show, pair_line, definition_line, listing, show_byte}
-use Rattle.m4_frozen.specs.InspectorSteps.{two_words_line, begin_end_line, counted_line, stack_lines, names_lines, listing_text}
-use Rattle.m4_frozen.proofs.FreezeParts.{IsFoundIn, all_found}
+use Rattle.m4_frozen.specs.Listing.{show, pair_line, listing, show_byte}
+use Rattle.m4_frozen.specs.InspectorSteps.{two_words_line, begin_end_line, counted_line, listing_text}
 
 -- two strings after a word, grouped as the listing groups them
 pub two_words_line-flat : (word first second : List ℕ) → two_words_line word first second ≡ word ++ show first ++ codes " " ++ show second ++ codes "\n"
@@ -32,16 +28,10 @@ comments_line : (begin end : List ℕ) → begin_end_line (codes "comments ") be
 comments_line [] end = refl
 comments_line (b ∷ begin) end = two_words_line-flat (codes "comments ") (b ∷ begin) end
 
-names_lines-table : (s : State) (es : Pairs) → AllByRecursion (IsFoundIn s.table) es → names_lines s (map (λ e. e.0) es) ≡ flat_map (λ e. flat_map (definition_line e.0) e.1) es
-names_lines-table s [] h = refl
-names_lines-table s (e ∷ es) h =
-    ap (λ (stack : List Def). stack_lines e.0 stack ++ names_lines s (map (λ e. e.0) es)) h.0
-    ∙ ap (λ (t : List ℕ). stack_lines e.0 e.1 ++ t) (names_lines-table s es h.1)
-
 -- what the parts of the inspector put is the listing
-pub listing_text-listing : (l : Loaded) → IsState l.state → listing_text l (names_of l.state) ≡ listing l
-listing_text-listing l valid =
-    rw (quotes_line l.state.quotes.begin l.state.quotes.end, comments_line l.state.comments.begin l.state.comments.end, names_lines-table l.state l.state.table (all_found l.state.table valid.table.sorted)) (simp append_assoc refl)
+pub listing_text-listing : (l : Loaded) → listing_text l l.state.table ≡ listing l
+listing_text-listing l =
+    rw (quotes_line l.state.quotes.begin l.state.quotes.end, comments_line l.state.comments.begin l.state.comments.end) (simp append_assoc refl)
 
 -- a string that is not empty is shown byte by byte
 pub show-some : (bytes : List ℕ) (b : Bool) → b ≡ nat_eq (length bytes) 0 → b ≡ false → show bytes ≡ flat_map show_byte bytes

@@ -4,7 +4,8 @@ use Rattle.std.specs.Prelude.{ℕ, ℤ, List, [], ◌∷◌, ◌++◌, codes, de
 use Rattle.std.specs.Fmt.{signed_decimal}
 use Rattle.std.specs.List.{flat_map}
 use Rattle.m4_state.specs.declared.definition.Def.{Def}
-use Rattle.m4_state.specs.State.{State, Diversion, stack_of}
+use Rattle.m4_state.specs.State.{State, Diversion}
+use Rattle.m4_state.specs.Table.{Pairs}
 use Rattle.m4_frozen.specs.declared.loading.Loaded.{Loaded}
 use Rattle.m4_frozen.specs.Listing.{show, definition_line, diversion_line, issued_line}
 
@@ -21,9 +22,9 @@ two_words_line word first second =
 abbrev pub stack_lines : List ℕ → List Def → List ℕ
 stack_lines name stack = flat_map (definition_line name) stack
 
--- the definitions of the names, as the state contains them
-abbrev pub names_lines : State → List (List ℕ) → List ℕ
-names_lines s names = flat_map (λ name. stack_lines name (stack_of s name)) names
+-- the definitions of the names
+abbrev pub names_lines : Pairs → List ℕ
+names_lines pairs = flat_map (λ p. stack_lines p.0 p.1) pairs
 
 -- the diversions
 abbrev pub texts_lines : List Diversion → List ℕ
@@ -57,6 +58,6 @@ abbrev pub diverted_lines : Loaded → List ℕ
 diverted_lines l =
     texts_lines l.state.diversions ++ (current_line l.state.current ++ issued_line l.issued)
 
--- all of it, if the names of the state are these
-abbrev pub listing_text : Loaded → List (List ℕ) → List ℕ
-listing_text l names = settings_lines l.state ++ (names_lines l.state names ++ diverted_lines l)
+-- all of it, if the names of the state have these definitions
+abbrev pub listing_text : Loaded → Pairs → List ℕ
+listing_text l pairs = settings_lines l.state ++ (names_lines pairs ++ diverted_lines l)

@@ -6,7 +6,8 @@ use Rattle.std.specs.Prelude.{if◌then◌else◌, int_lt}
 use Rattle.std.specs.Ordering.{int_eq}
 use Rattle.m4_state.specs.declared.definition.Def.{Def}
 use Rattle.m4_state.specs.declared.delimiters.Delimiters.{Delimiters}
-use Rattle.m4_state.specs.State.{State, stack_of, Diversion as NumberedText}
+use Rattle.m4_state.specs.State.{State, Diversion as NumberedText}
+use Rattle.m4_state.specs.Table.{Pairs}
 use Rattle.m4_frozen.specs.Directive.{Diversion}
 use Rattle.m4_frozen.specs.Freeze.{same_delimiters, definition, diversion, spelling, two_strings, last_number, header, end_line}
 use Rattle.m4_state.specs.Delimiters.{default_quotes, default_comments}
@@ -21,9 +22,9 @@ delimiters_text letter default d =
 abbrev pub stack_text : List ℕ → List Def → List ℕ
 stack_text name stack = flat_map (λ d. spelling (definition name d)) stack
 
--- the definitions of the names, as the state contains them
-abbrev pub names_text : State → List (List ℕ) → List ℕ
-names_text s names = flat_map (λ name. stack_text name (stack_of s name)) names
+-- the definitions of the names
+abbrev pub names_text : Pairs → List ℕ
+names_text pairs = flat_map (λ p. stack_text p.0 p.1) pairs
 
 -- the diversions above a number
 abbrev pub above : ℤ → List NumberedText → List NumberedText
@@ -49,10 +50,10 @@ abbrev pub diverted_text : State → List ℕ
 diverted_text s =
     texts_text s.diversions ++ current_text s.current (last_number (pos 0) s.diversions)
 
--- all directives, if the names of the state are these
-unfoldable pub directives_text : State → List (List ℕ) → List ℕ
-directives_text s names = settings_text s ++ (names_text s names ++ diverted_text s)
+-- all directives, if the names of the state have these definitions
+unfoldable pub directives_text : State → Pairs → List ℕ
+directives_text s pairs = settings_text s ++ (names_text pairs ++ diverted_text s)
 
 -- all of it
-abbrev pub frozen_text : State → List (List ℕ) → List ℕ
-frozen_text s names = header ++ (directives_text s names ++ end_line)
+abbrev pub frozen_text : State → Pairs → List ℕ
+frozen_text s pairs = header ++ (directives_text s pairs ++ end_line)

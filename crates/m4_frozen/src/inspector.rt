@@ -1,9 +1,9 @@
 //! The inspector's lines: the contents of a frozen file, for people to read.
 //!
 //! A line is written part by part, so no part of the listing is buffered. Memory can run out only
-//! while the names are listed, before the first byte is written.
+//! while the names are sorted, before the first byte is written.
 
-ghost use Rattle.std.specs.Prelude.{◌≡◌, ◌<◌, OnOk, Err};
+ghost use Rattle.std.specs.Prelude.{◌≡◌, ◌<◌, OnOk, map, Err};
 ghost use Rattle.std.specs.List.{flat_map, list_all};
 ghost use Rattle.m4_state.specs.Device.{with_bytes, one_more, count_after, HasBegun, Puts};
 ghost use Rattle.m4_state.specs.State.{AreDiversions};
@@ -13,7 +13,6 @@ ghost use Rattle.m4_frozen.specs.Listing as lines;
 use crate::fault::WriteFault;
 use crate::loading::Loaded;
 use itoa::Buffer;
-use m4_state::bytes::Bytes;
 use m4_state::definition::Def;
 use m4_state::device::{ByteSink, DeviceFault};
 use m4_state::state::State;
@@ -37,24 +36,24 @@ pub fn list<W: ByteSink>(loaded: &Loaded, writer: &mut W) -> Result<(), WriteFau
         → W.failures writer.new ≡ one_more (W.failures writer.old) }
     ensures unfailed { OnOk result (W.failures writer.new ≡ W.failures writer.old) }
 {
-    let names = loaded.state.names()?;
+    let pairs = loaded.state.definitions()?;
     let _current = loaded.state.current();
-    put_listing(loaded, &names, writer)?;
+    put_listing(loaded, &pairs, writer)?;
     Ok(())
 }
 
 /// Writes the delimiters, the definitions and the diversions.
 fn put_listing<W: ByteSink>(
     loaded: &Loaded,
-    names: &[Bytes],
+    pairs: &[(&[u8], &[Def])],
     writer: &mut W,
 ) -> Result<(), DeviceFault>
     requires { AreDiversions loaded.now.state.diversions }
-    ensures puts { Puts result (W.contents writer.old) (W.contents writer.new) (steps.listing_text loaded.now names.now) }
+    ensures puts { Puts result (W.contents writer.old) (W.contents writer.new) (steps.listing_text loaded.now (map (λ p. (p.0.now, p.1.now)) pairs.now)) }
     ensures counted { W.failures writer.new ≡ count_after result (W.failures writer.old) }
 {
     put_settings(&loaded.state, writer)?;
-    put_names(&loaded.state, names, writer)?;
+    put_names(pairs, writer)?;
     put_diverted(loaded, writer)
 }
 
@@ -86,13 +85,12 @@ fn put_delimiters<W: ByteSink>(
 }
 
 /// Writes the definitions of the names, in their order.
-fn put_names<W: ByteSink>(state: &State, names: &[Bytes], writer: &mut W) -> Result<(), DeviceFault>
-    ensures puts { Puts result (W.contents writer.old) (W.contents writer.new) (steps.names_lines state.now names.now) }
+fn put_names<W: ByteSink>(pairs: &[(&[u8], &[Def])], writer: &mut W) -> Result<(), DeviceFault>
+    ensures puts { Puts result (W.contents writer.old) (W.contents writer.new) (steps.names_lines (map (λ p. (p.0.now, p.1.now)) pairs.now)) }
     ensures counted { W.failures writer.new ≡ count_after result (W.failures writer.old) }
 {
-    for name in names {
-        let name = name.as_slice();
-        put_stack(name, state.stack(name), writer)?;
+    for pair in pairs {
+        put_stack(pair.0, pair.1, writer)?;
     }
     Ok(())
 }

@@ -1,9 +1,9 @@
 //! Writes the canonical text of a state, part by part: no part of it is buffered.
 //!
-//! Memory can run out only while the names are listed, before the first byte is written. If a write
+//! Memory can run out only while the names are sorted, before the first byte is written. If a write
 //! fails, the bytes written are a prefix of the text. Manual: "Frozen file format".
 
-ghost use Rattle.std.specs.Prelude.{◌≡◌, ℤ, pos, IfOk, OnOk, OnErr, [], Err};
+ghost use Rattle.std.specs.Prelude.{◌≡◌, ℤ, pos, IfOk, OnOk, OnErr, [], map, Err};
 ghost use Rattle.m4_state.specs.Device.{with_bytes, one_more, count_after, HasBegun, Puts};
 ghost use Rattle.m4_state.specs.State.{AreDiversions, IsSized};
 ghost use Rattle.m4_frozen.specs.Directive as directives;
@@ -12,7 +12,6 @@ ghost use Rattle.m4_frozen.specs.WriterSteps as steps;
 
 use crate::fault::WriteFault;
 use itoa::Buffer;
-use m4_state::bytes::Bytes;
 use m4_state::definition::Def;
 use m4_state::device::{ByteSink, DeviceFault};
 use m4_state::state::State;
@@ -46,38 +45,38 @@ pub fn write_frozen<W: ByteSink>(state: &State, writer: &mut W) -> Result<(), Wr
         → W.failures writer.new ≡ W.failures writer.old }
 {
     let _current = state.current();
-    let names = state.names()?;
-    put_frozen(state, &names, writer)?;
+    let pairs = state.definitions()?;
+    put_frozen(state, &pairs, writer)?;
     Ok(())
 }
 
 /// Writes the header, the directives and the end line.
 fn put_frozen<W: ByteSink>(
     state: &State,
-    names: &[Bytes],
+    pairs: &[(&[u8], &[Def])],
     writer: &mut W,
 ) -> Result<(), DeviceFault>
     requires { AreDiversions state.now.diversions }
-    ensures puts { Puts result (W.contents writer.old) (W.contents writer.new) (steps.frozen_text state.now names.now) }
+    ensures puts { Puts result (W.contents writer.old) (W.contents writer.new) (steps.frozen_text state.now (map (λ p. (p.0.now, p.1.now)) pairs.now)) }
     ensures counted { W.failures writer.new ≡ count_after result (W.failures writer.old) }
 {
     write_all(writer, HEADER)?;
-    put_directives(state, names, writer)?;
+    put_directives(state, pairs, writer)?;
     write_all(writer, END_LINE)
 }
 
 /// Writes the delimiters, the definitions and the diversions.
 fn put_directives<W: ByteSink>(
     state: &State,
-    names: &[Bytes],
+    pairs: &[(&[u8], &[Def])],
     writer: &mut W,
 ) -> Result<(), DeviceFault>
     requires { AreDiversions state.now.diversions }
-    ensures puts { Puts result (W.contents writer.old) (W.contents writer.new) (steps.directives_text state.now names.now) }
+    ensures puts { Puts result (W.contents writer.old) (W.contents writer.new) (steps.directives_text state.now (map (λ p. (p.0.now, p.1.now)) pairs.now)) }
     ensures counted { W.failures writer.new ≡ count_after result (W.failures writer.old) }
 {
     put_settings(state, writer)?;
-    put_names(state, names, writer)?;
+    put_names(pairs, writer)?;
     put_diversions(state, writer)
 }
 
@@ -122,13 +121,12 @@ fn put_delimiters<W: ByteSink>(
 }
 
 /// Writes the definitions of the names, in their order.
-fn put_names<W: ByteSink>(state: &State, names: &[Bytes], writer: &mut W) -> Result<(), DeviceFault>
-    ensures puts { Puts result (W.contents writer.old) (W.contents writer.new) (steps.names_text state.now names.now) }
+fn put_names<W: ByteSink>(pairs: &[(&[u8], &[Def])], writer: &mut W) -> Result<(), DeviceFault>
+    ensures puts { Puts result (W.contents writer.old) (W.contents writer.new) (steps.names_text (map (λ p. (p.0.now, p.1.now)) pairs.now)) }
     ensures counted { W.failures writer.new ≡ count_after result (W.failures writer.old) }
 {
-    for name in names {
-        let name = name.as_slice();
-        put_stack(name, state.stack(name), writer)?;
+    for pair in pairs {
+        put_stack(pair.0, pair.1, writer)?;
     }
     Ok(())
 }

@@ -4,13 +4,17 @@ use Rattle.std.specs.Prelude.{ℕ, List, [], ◌∷◌, Vec}
 use Rattle.std.specs.FinMap.{put}
 use Rattle.std.specs.declared.alloc.Global.{Global}
 use Rattle.m4_state.specs.declared.definition.Def.{Def}
-use Rattle.m4_state.specs.Table.{Pairs, byte_order}
+use Rattle.m4_state.specs.Table.{Pair, Pairs, byte_order}
 
 -- a name and its definitions, as the hash table stores them
 abbrev pub Entry : Type 0
-Entry = Vec ℕ Global × Vec Def Global
+Entry = Vec ℕ Global × List Def
+
+-- the pair that an entry means
+abbrev pub pair_of : Entry → Pair
+pair_of e = (e.0.items, e.1)
 
 -- each entry inserted in its place
 abbrev pub in_order : List Entry → Pairs
 in_order [] = []
-in_order (e ∷ es) = put byte_order e.0.items e.1.items (in_order es)
+in_order (e ∷ es) = put byte_order e.0.items e.1 (in_order es)

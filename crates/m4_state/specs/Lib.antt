@@ -6,6 +6,7 @@ pub mod DiversionEntries
 pub mod Entries
 pub mod Fresh
 pub mod State
+pub mod StackView
 pub mod StateView
 pub mod Table
 pub mod Memory

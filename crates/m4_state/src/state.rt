@@ -5,7 +5,7 @@
 //! each call defines the complete new record; if an allocation fails, the state is unchanged.
 
 ghost use Rattle.m4_state.specs.Fresh.{fresh_name};
-ghost use Rattle.std.specs.Prelude.{◌≡◌, ◌∷◌, [], IfOk, IfSome, IfNone, OnOk, OnErr, option_copied, option_map};
+ghost use Rattle.std.specs.Prelude.{◌≡◌, ◌∷◌, [], IfOk, IfSome, IfNone, OnOk, OnErr, map, option_copied, option_map};
 
 use crate::builtin::Builtin;
 use crate::bytes::Bytes;
@@ -137,6 +137,15 @@ impl State {
         ensures { IfOk result (λ names. names.items ≡ names_of self.now) }
     {
         Ok(self.table.names()?)
+    }
+
+    /// Returns the names that have a definition, in byte order, each with its definitions, the oldest
+    /// first. Each call sorts them; no name is copied.
+    pub fn definitions(&self) -> Result<Vec<(&[u8], &[Def])>, StateFault>
+        // exact steps: the pairs of the record, in its order
+        ensures { IfOk result (λ pairs. map (λ p. (p.0.now, p.1.now)) pairs.items ≡ self.now.table) }
+    {
+        Ok(self.table.definitions()?)
     }
 
     /// Pushes a definition on those of a name. Manual: "Temporarily redefining macros".

@@ -19,13 +19,15 @@ enum Step {
     Undefine(&'static [u8]),
     // Reports the definitions of a name.
     Look(&'static [u8]),
+    // Reports each name with its definitions, as one call returns them.
+    LookAtAll,
 }
 
 // A row's name, whether the state is a fresh one or empty, the steps, and a report: for each name its
 // definitions, the oldest first, and the length of the newest.
 type Row = (&'static str, bool, &'static [Step], &'static [u8]);
 
-static ROWS: [Row; 7] = [
+static ROWS: [Row; 8] = [
     ("an empty state", false, &[Step::Look(b"a")], b"a\n"),
     (
         "a fresh state has its builtins, and two names without text",
@@ -100,6 +102,27 @@ static ROWS: [Row; 7] = [
         b"a, text 2; 1\nb, text 4; 1\nc, text 3; 1\n",
     ),
     (
+        "one call returns all names with their definitions, in byte order",
+        false,
+        &[
+            Step::LookAtAll,
+            Step::Push(b"b", Given::Text(b"old")),
+            Step::Push(b"", Given::Named(b"dnl")),
+            Step::Push(b"ba", Given::Text(b"")),
+            Step::Push(b"b", Given::Named(b"format")),
+            Step::LookAtAll,
+            Step::Pop(b"ba"),
+            Step::Undefine(b""),
+            Step::Pop(b"b"),
+            Step::LookAtAll,
+        ],
+        b", builtin dnl\n\
+          b, text old, placeholder format\n\
+          ba, text \n\
+          b, text old\n\
+          b, text old; 3\n",
+    ),
+    (
         "the newest definition is on top",
         false,
         &[
@@ -163,6 +186,23 @@ fn look(state: &State, name: &[u8], report: &mut Report) {
     report.add(b"\n");
 }
 
+// Adds each name with its definitions.
+fn list_definitions(state: &State, report: &mut Report) {
+    match state.definitions() {
+        Ok(pairs) => {
+            for (name, stack) in &pairs {
+                report.add(name);
+                for definition in *stack {
+                    report.add(b", ");
+                    describe_definition(definition, report);
+                }
+                report.add(b"\n");
+            }
+        }
+        Err(StateFault::OutOfMemory) => report.refuse(),
+    }
+}
+
 // Pushes or defines a name.
 fn define(
     alloc: Global,
@@ -195,6 +235,10 @@ fn do_step(alloc: Global, state: &mut State, step: Step, report: &mut Report) {
         }
         Step::Look(name) => {
             look(state, name, report);
+            Ok(())
+        }
+        Step::LookAtAll => {
+            list_definitions(state, report);
             Ok(())
         }
     };

@@ -1,10 +1,10 @@
-use Rattle.std.proofs.Common.{◌≡◌, drop}
+use Rattle.std.proofs.Common.{◌≡◌, map, drop}
 use Rattle.m4_state.specs.Device.{HasPut}
 use Rattle.m4_frozen.specs.WriterSteps.{names_text}
 use Rattle.m4_frozen.proofs.writer.put_names.Given as goal
 
 -- the names that are left are the rest of the text
-abbrev pub invariant-loop-name : goal.invariant-loop-name
-invariant-loop-name g l =
-    HasPut (g.W.ByteSink.contents l.initial.writer) (g.W.ByteSink.contents l.writer) (names_text l.state l.names) (names_text l.state (drop l.name-index l.names))
+abbrev pub invariant-loop-pair : goal.invariant-loop-pair
+invariant-loop-pair g l =
+    HasPut (g.W.ByteSink.contents l.initial.writer) (g.W.ByteSink.contents l.writer) (names_text (map (λ p. (p.0.now, p.1.now)) l.pairs)) (names_text (map (λ p. (p.0.now, p.1.now)) (drop l.pair-index l.pairs)))
     × (g.W.ByteSink.failures l.writer ≡ g.W.ByteSink.failures l.initial.writer)

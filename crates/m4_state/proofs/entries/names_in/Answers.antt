@@ -1,14 +1,14 @@
-use Rattle.std.proofs.Common.{rules}
-use Rattle.std.specs.Ordering.{is_lt}
-use Rattle.std.specs.Cmp.Lexicographic.{nat_list_cmp_total}
-use Rattle.std.proofs.lemmas.List.Sorted.{ranks_by, answers_always}
-use Rattle.m4_state.specs.Table.{byte_order}
-use Rattle.m4_state.proofs.SortedNames.{sorted_names_in_order}
+use Rattle.std.proofs.Common.{◌++◌, map, sym, ap, ◌∙◌, arith}
+use Rattle.std.proofs.lemmas.List.{append-nil, drop_all}
+use Rattle.std.proofs.lemmas.Simd.{map-map}
+use Rattle.m4_state.specs.Table.{Pair, Pairs}
 use Rattle.m4_state.proofs.entries.names_in.Goals as goal
 
--- the names were copied, and then sorted
+-- the names of the pairs were copied
 pub returns : goal.returns
 returns c =
-    sorted_names_in_order c.args.entries.now.entries c.in_ok-names.names.items c.sort_unstable_by.new.self.items
-    c.in_ok-names.ensures.names c.in_ok-names.ensures.distinct c.sort_unstable_by.ensures.permutation
-    (c.sort_unstable_by.ensures.sorted (λ x y. is_lt (byte_order x y)) (ranks_by nat_list_cmp_total (λ x. x)) (answers_always _ _ _ (λ f a r g h. search rules)))
+    let names = c.loop-name.names.items in
+    let none = drop_all c.loop-name.name-index c.deref-name-items.result.now (omega (arith, c.loop-name-test.false)) in
+    sym (append-nil names) ∙ ap (λ ps. names ++ map (λ p. p.0.now) ps) (sym none) ∙ c.loop-name.invariant
+    ∙ ap (λ ps. map (λ p. p.0.now) ps) c.deref-name-items.ensures.value
+    ∙ sym (map-map (λ (p : Pair). p.0) (λ p. (p.0.now, p.1.now)) c.in_ok-pairs.pairs.items) ∙ ap (λ (ps : Pairs). map (λ (p : Pair). p.0) ps) c.in_ok-pairs.ensures

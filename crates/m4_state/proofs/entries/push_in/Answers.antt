@@ -10,7 +10,7 @@ use Rattle.m4_state.proofs.entries.push_in.Goals as goal
 -- a change that was refused left the stack's definitions as they were
 pub returns-in_err-push-in-Some-clause-err : goal.returns-in_err-push-in-Some-clause-err
 returns-in_err-push-in-Some-clause-err c =
-    let kept = same_in_order c.args.entries.now.entries c.in-Some.i c.index_mut.result.now c.push.new.self c.index_mut.ensures.value c.in_err-push-in-Some.ensures.items in
+    let kept = same_in_order c.args.entries.now.entries c.in-Some.i c.index_mut.result.now c.push.new.self c.index_mut.ensures.value c.in_err-push-in-Some.ensures.err in
     search (rules, kept)
 
 -- the name was there
@@ -18,9 +18,9 @@ pub returns-in_ok-push-in-Some-clause-ok : goal.returns-in_ok-push-in-Some-claus
 returns-in_ok-push-in-Some-clause-ok c =
     let es = c.args.entries.now.entries in
     let found = rw (c.as_slice.ensures.value) at c.in-Some.ensures.index in
-    let old : stack_at (in_order es) c.args.name ≡ c.index_mut.result.now.items = stack_at_place c.args.entries.now c.args.name c.in-Some.i c.index_mut.result.now (sym found) c.index_mut.ensures.value in
+    let old : stack_at (in_order es) c.args.name ≡ c.index_mut.result.now = stack_at_place c.args.entries.now c.args.name c.in-Some.i c.index_mut.result.now (sym found) c.index_mut.ensures.value in
     write_in_order c.args.entries.now c.args.name c.in-Some.i c.index_mut.result.now (sym found) c.index_mut.ensures.value c.in-Some.ensures.unique c.push.new.self
-    ∙ ap (λ (xs : List Def). put byte_order c.args.name xs (in_order es)) (c.in_ok-push-in-Some.ensures.items ∙ ap (λ (xs : List Def). xs ++ c.args.def ∷ []) (sym old))
+    ∙ ap (λ (xs : List Def). put byte_order c.args.name xs (in_order es)) (c.in_ok-push-in-Some.ensures.ok ∙ ap (λ (xs : List Def). xs ++ c.args.def ∷ []) (sym old))
 
 pub returns-in_ok-push-in-Some-clause-table : goal.returns-in_ok-push-in-Some-clause-table
 returns-in_ok-push-in-Some-clause-table c = subst IsTable (sym (returns-in_ok-push-in-Some-clause-ok c)) (IsTable-push _ c.args.name c.args.def c.requires.table c.requires.definition)

@@ -1,0 +1,93 @@
+-- The pairs of entries, sorted by their names, are the pairs in byte order.
+use Rattle.std.proofs.Common.{◌≡◌, ℕ, ◌+◌, ◌<◌, Bool, true, false, cond, ◌&&◌, T, List, [], ◌∷◌, map, get_or, length, Some, Ordering, Less, Equal, Greater, nat_eq, refl, sym, ap, subst, ◌∙◌, arith}
+use Rattle.std.specs.List.{AllByRecursion, IsDistinct}
+use Rattle.std.specs.List.Sorted.{IsSortedBy, IsPermutation, IsStrictlySortedBy}
+use Rattle.std.specs.Ordering.{is_lt, is_eq, ordering_reverse, eq_by_cmp}
+use Rattle.std.specs.Cmp.Lexicographic.{pointwise, texts_ties, nat_list_cmp_total, nat_list_eq_equiv}
+use Rattle.std.specs.Map.{keys_of, lookup}
+use Rattle.std.specs.FinMap.{find, is_sorted}
+use Rattle.std.specs.FinMap.Entries.{below_all, same_entries}
+use Rattle.std.proofs.lemmas.List.{get_or-map, length-map}
+use Rattle.std.proofs.lemmas.Simd.{map-map}
+use Rattle.std.proofs.lemmas.List.Sorted.{IsPermutation-map}
+use Rattle.std.proofs.lemmas.Map.Keys.{sorted_head, sorted_tail, sorted_from_all_adjacent, apart_from_distinct, IsDistinct-IsPermutation}
+use Rattle.indexmap.proofs.MapLemmas.{lookup_permutation}
+use Rattle.m4_state.specs.Entries.{Entry, pair_of, in_order}
+use Rattle.m4_state.specs.Table.{Pair, Pairs, byte_order}
+use Rattle.m4_state.proofs.Tables.{byte_order-IsAntisymmetric}
+use Rattle.m4_state.proofs.InOrder.{has_bytes, same_key, sorted_in_order, find-in_order}
+
+-- names that differ as keys differ as bytes
+pub distinct_names : (es : List Entry) → IsDistinct same_key (keys_of es) → IsDistinct (pointwise nat_eq) (keys_of (map pair_of es))
+unfolding IsDistinct
+distinct_names [] h = tt
+distinct_names (e ∷ es) h = (each es h.0, distinct_names es h.1)
+  where
+    each : (fs : List Entry) → AllByRecursion (λ y. same_key e.0 y ≡ false) (keys_of fs) → AllByRecursion (λ y. pointwise nat_eq e.0.items y ≡ false) (keys_of (map pair_of fs))
+    each [] h = tt
+    each (f ∷ fs) h = (h.0, each fs h.1)
+
+-- neither less nor equal the other way round
+rising : (r : Ordering) → is_lt r ≡ false → is_eq r ≡ false → ordering_reverse r ≡ Less
+rising Less a b = absurd cc
+rising Equal a b = absurd cc
+rising Greater a b = refl
+
+-- distinct names in order rise strictly
+strictly : (ns : List (List ℕ)) → IsSortedBy (λ x y. is_lt (byte_order x y)) ns → IsDistinct (pointwise nat_eq) ns → IsStrictlySortedBy byte_order ns
+strictly ns up apart =
+    sorted_from_all_adjacent nat_list_cmp_total ns [] (λ k lt.
+    let x = get_or ns k [] in
+    let y = get_or ns (k + 1) [] in
+    let differ : eq_by_cmp byte_order y x ≡ false = sym (texts_ties y x) ∙ nat_list_eq_equiv.symm y x ∙ apart_from_distinct (pointwise nat_eq) ns k (k + 1) [] apart (omega arith) lt in
+    nat_list_cmp_total.antisymm x y ∙ rising (byte_order y x) (up k [] (omega arith) lt) differ)
+
+both : (a b : Bool) → T a → T b → T (a && b)
+both true b p q = q
+both false b p q = absurd p
+
+-- so do pairs whose names do
+rising_pairs : (ps : Pairs) → IsStrictlySortedBy byte_order (keys_of ps) → T (is_sorted byte_order ps)
+rising_pairs [] h = tt
+rising_pairs (p ∷ ps) h = both _ _ (below ps (sorted_head byte_order p.0 (keys_of ps) h)) (rising_pairs ps (sorted_tail byte_order p.0 (keys_of ps) h))
+  where
+    below : (qs : Pairs) → AllByRecursion (λ y. byte_order p.0 y ≡ Less) (keys_of qs) → T (below_all byte_order p.0 qs)
+    below [] h = tt
+    below (q ∷ qs) h = both _ _ (subst (λ (r : Ordering). T (is_lt r)) (sym h.0) tt) (below qs h.1)
+
+-- a look-up by order is one by equality
+find_is_lookup : (q : List ℕ) (ps : Pairs) → find byte_order q ps ≡ lookup (pointwise nat_eq q) ps
+find_is_lookup q [] = refl
+find_is_lookup q (p ∷ ps) = λ j. cond (sym (texts_ties q p.0) j) (Some p.1) (find_is_lookup q ps j)
+
+-- and the pairs have what the entries have
+lookup_pairs : (q : List ℕ) (es : List Entry) → lookup (pointwise nat_eq q) (map pair_of es) ≡ lookup (has_bytes q) es
+lookup_pairs q [] = refl
+lookup_pairs q (e ∷ es) = ap (cond (has_bytes q e.0) (Some e.1)) (lookup_pairs q es)
+
+-- the pairs of the entries in any order whose names rise
+sorted_pairs_in_order : (es : List Entry) (given moved : Pairs) → given ≡ map pair_of es → IsDistinct (pointwise nat_eq) (keys_of given) → IsPermutation given moved → IsSortedBy (λ x y. is_lt (byte_order x y)) (keys_of moved)
+    → moved ≡ in_order es
+sorted_pairs_in_order es given moved is apart moves up =
+    let apart_moved = IsDistinct-IsPermutation (pointwise nat_eq) nat_list_eq_equiv.symm (keys_of given) (keys_of moved) (IsPermutation-map (λ (p : Pair). p.0) given moved moves) apart in
+    same_entries byte_order nat_list_cmp_total byte_order-IsAntisymmetric moved (in_order es)
+    (rising_pairs moved (strictly (keys_of moved) up apart_moved)) (sorted_in_order es)
+    (λ q. find_is_lookup q moved ∙ lookup_permutation nat_list_eq_equiv given moved moves apart_moved (pointwise nat_eq q) (nat_list_eq_equiv.congr q)
+    ∙ ap (lookup (pointwise nat_eq q)) is ∙ lookup_pairs q es ∙ sym (find-in_order q es))
+
+-- what stands in the order of its names has names in order
+sorted_names : {X : Type 0} (name : X → List ℕ) (xs : List X) → IsSortedBy (λ x y. is_lt (byte_order (name x) (name y))) xs → IsSortedBy (λ x y. is_lt (byte_order x y)) (map name xs)
+sorted_names name [] up k d low lt = absurd (omega arith)
+sorted_names name (x ∷ xs) up k d low lt =
+    let count = length-map (x ∷ xs) name in
+    let within : k + 1 < length (x ∷ xs) = omega (arith, count) in
+    (λ j. is_lt (byte_order (get_or-map name (x ∷ xs) (k + 1) x d within j) (get_or-map name (x ∷ xs) k x d (omega arith) j))) ∙ up k x low within
+
+-- the same of what is seen as pairs
+pub shown_in_order : {X : Type 0} (show : X → Pair) (es : List Entry) (given moved : List X) → map show given ≡ map pair_of es → IsDistinct (pointwise nat_eq) (map (λ x. (show x).0) given) → IsPermutation given moved → IsSortedBy (λ x y. is_lt (byte_order (show x).0 (show y).0)) moved
+    → map show moved ≡ in_order es
+shown_in_order show es given moved is apart moves up =
+    sorted_pairs_in_order es (map show given) (map show moved) is
+    (subst (IsDistinct (pointwise nat_eq)) (sym (map-map (λ (p : Pair). p.0) show given)) apart)
+    (IsPermutation-map show given moved moves)
+    (subst (IsSortedBy (λ x y. is_lt (byte_order x y))) (sym (map-map (λ (p : Pair). p.0) show moved)) (sorted_names (λ x. (show x).0) moved up))

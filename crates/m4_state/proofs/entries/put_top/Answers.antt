@@ -1,7 +1,0 @@
-use Rattle.std.proofs.Common.{arith}
-use Rattle.m4_state.proofs.Tables.{set_last}
-use Rattle.m4_state.proofs.entries.put_top.Goals as goal
-
--- the last definition was replaced
-pub returns-in-Some-clause-ok : goal.returns-in-Some-clause-ok
-returns-in-Some-clause-ok c = set_last c.args.stack.now.items c.in-Some.last c.args.def (omega (arith, c.in-Some.ensures))
