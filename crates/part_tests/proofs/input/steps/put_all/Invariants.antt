@@ -1,5 +1,5 @@
 use Rattle.std.specs.Prelude.{◌≡◌, None}
-use Rattle.part_tests.proofs.input.pieces.push_all.Given as goal
+use Rattle.part_tests.proofs.input.steps.put_all.Given as goal
 
 -- no definition is pending
 abbrev pub invariant-loop-text : goal.invariant-loop-text
