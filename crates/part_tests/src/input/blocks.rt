@@ -63,10 +63,10 @@ static IN_HAND: [Row; 7] = [
     },
     Row {
         name: "pushed text joins the bytes of a later block",
-        texts: &[b"a"],
         file: b"b c",
         blocks: &[1],
         steps: &[
+            Step::Push(b"a"),
             Step::Look,
             Step::More,
             Step::Look,
@@ -205,7 +205,7 @@ fn lists_over_blocks(rt: HostRuntime) {
     tried(&rt, rt.alloc(), &LISTS);
 }
 
-static LINES: [Row; 4] = [
+static LINES: [Row; 6] = [
     Row {
         name: "a line is skipped over blocks, and none of it is kept",
         file: b"foo bar\nbaz",
@@ -263,14 +263,6 @@ static LINES: [Row; 4] = [
         want: b"read fault\n[]\nread fault\nline 1\n",
         ..PLAIN
     },
-];
-
-#[test]
-fn lines_over_blocks(rt: HostRuntime) {
-    tried(&rt, rt.alloc(), &LINES);
-}
-
-static FAULTS: [Row; 2] = [
     Row {
         name: "a reader that fails after two bytes",
         file: b"ab",
@@ -307,8 +299,8 @@ static FAULTS: [Row; 2] = [
 ];
 
 #[test]
-fn faults_between_blocks(rt: HostRuntime) {
-    tried(&rt, rt.alloc(), &FAULTS);
+fn lines_and_faults_over_blocks(rt: HostRuntime) {
+    tried(&rt, rt.alloc(), &LINES);
 }
 
 // Tokens whose blocks are asked for until they are decided.
@@ -388,10 +380,9 @@ static TOKENS: [Row; 9] = [
     },
     Row {
         name: "pushed text begins a name that goes on in the file",
-        texts: &[b"ab"],
         file: b"cd e",
         blocks: &[1],
-        steps: &[Step::Token, Step::Taken, Step::Look],
+        steps: &[Step::Push(b"ab"), Step::Token, Step::Taken, Step::Look],
         want: b"asked\ntaken 3\n4: name abcd\n",
         ..PLAIN
     },

@@ -66,9 +66,14 @@ static LISTS: [Row; 8] = [
     },
     Row {
         name: "a definition is before all text",
-        definition: Some(Given::Named(b"dnl")),
         file: b"(",
-        steps: &[Step::SeesParen, Step::Taken, Step::Next, Step::Next],
+        steps: &[
+            Step::PushDefinition(Given::Named(b"dnl")),
+            Step::SeesParen,
+            Step::Taken,
+            Step::Next,
+            Step::Next,
+        ],
         want: b"no list\ntaken 0\nbuiltin dnl\nbyte (\n",
         ..BLOCKED
     },
@@ -82,9 +87,9 @@ fn lists_that_follow(rt: HostRuntime) {
 static OTHERS: [Row; 7] = [
     Row {
         name: "the definition before the text is taken once",
-        definition: Some(Given::Named(b"dnl")),
         file: b"f",
         steps: &[
+            Step::PushDefinition(Given::Named(b"dnl")),
             Step::TakeDefinition,
             Step::TakeDefinition,
             Step::Taken,
@@ -95,16 +100,20 @@ static OTHERS: [Row; 7] = [
     },
     Row {
         name: "pushed text joins the bytes after it",
-        texts: &[b"a"],
         file: b"b c",
-        steps: &[Step::Next, Step::Next],
+        steps: &[Step::Push(b"a"), Step::Next, Step::Next],
         want: b"name ab\nbyte  \n",
         ..BLOCKED
     },
     Row {
         name: "what was pushed last comes first",
-        texts: &[b"cd' e", b"`ab"],
-        steps: &[Step::Next, Step::Next, Step::Next],
+        steps: &[
+            Step::Push(b"cd' e"),
+            Step::Push(b"`ab"),
+            Step::Next,
+            Step::Next,
+            Step::Next,
+        ],
         want: b"string abcd\nbyte  \nname e\n",
         ..BLOCKED
     },
@@ -124,9 +133,9 @@ static OTHERS: [Row; 7] = [
     },
     Row {
         name: "lines count the newlines of the file, and not those of pushed text",
-        texts: &[b"\n"],
         file: b"`a\n\n'\nb",
         steps: &[
+            Step::Push(b"\n"),
             Step::Name,
             Step::Line,
             Step::Next,

@@ -46,9 +46,10 @@ pub enum Step {
     TakeDefinition,
     /// Removes so many bytes in hand, or all if there are fewer.
     Take(usize),
-    /// Pushes a text, or so many letters, where no definition is.
+    /// Pushes a text, so many letters, or a definition, where no definition is.
     Push(&'static [u8]),
     PushMany(usize),
+    PushDefinition(Given),
     /// The bytes in hand, the line, the file's name, and how many bytes the reader returned.
     Hand,
     Line,
@@ -56,29 +57,25 @@ pub enum Step {
     Taken,
 }
 
-/// A file a.m4 and the numbers of bytes that its reader returns at a time; texts and a definition that are
-/// pushed before it; steps and their results.
+/// A file a.m4, the numbers of bytes that its reader returns at a time, and whether it fails at the end; steps
+/// and their results.
 pub struct Row {
     pub name: &'static str,
     pub delims: &'static Delims<'static>,
     pub file: &'static [u8],
     pub blocks: &'static [usize],
     pub fails: bool,
-    pub texts: &'static [&'static [u8]],
-    pub definition: Option<Given>,
     pub steps: &'static [Step],
     pub want: &'static [u8],
 }
 
-/// A row with the usual delimiters and nothing before the file, which is read in one block.
+/// A row with the usual delimiters, whose file is read in one block.
 pub const PLAIN: Row = Row {
     name: "",
     delims: &USUAL,
     file: b"",
     blocks: &[4096],
     fails: false,
-    texts: &[],
-    definition: None,
     steps: &[],
     want: b"",
 };
@@ -307,28 +304,27 @@ fn take_front(input: &mut Input, n: usize) {
     input.consume(len);
 }
 
-// Pushes a text.
-fn put(alloc: Global, input: &mut Input, text: &[u8], report: &mut Report)
-    requires { input.old.pending.definition ≡ None }
+// Removes a definition, where there should be none.
+fn take_none(input: &mut Input, report: &mut Report)
     ensures { input.new.pending.definition ≡ None }
 {
+    if input.take_definition().is_some() {
+        report.add(b"a definition was in front\n");
+    }
+}
+
+// Pushes a text.
+fn put(alloc: Global, input: &mut Input, text: &[u8], report: &mut Report) {
+    take_none(input, report);
     if push(alloc, input, text).is_err() {
         report.refuse();
     }
 }
 
-// Pushes a text where no definition is.
-fn put_first(alloc: Global, input: &mut Input, text: &[u8], report: &mut Report) {
-    if input.take_definition().is_some() {
-        report.add(b"a definition was in front\n");
-    }
-    put(alloc, input, text, report);
-}
-
-// Pushes so many letters where no definition is.
+// Pushes so many letters.
 fn put_many(alloc: Global, input: &mut Input, count: usize, report: &mut Report) {
     match repeated(alloc, b'x', count) {
-        Ok(text) => put_first(alloc, input, &text, report),
+        Ok(text) => put(alloc, input, &text, report),
         Err(AllocError) => report.refuse(),
     }
 }
@@ -356,8 +352,9 @@ fn answer(
         Step::SkipLine => add_skipped(input.skip_line(reader), report),
         Step::TakeDefinition => take_definition(input, report),
         Step::Take(n) => take_front(input, n),
-        Step::Push(text) => put_first(alloc, input, text, report),
+        Step::Push(text) => put(alloc, input, text, report),
         Step::PushMany(count) => put_many(alloc, input, count, report),
+        Step::PushDefinition(given) => put_definition(alloc, input, given, report),
         Step::Hand => describe_hand(input, report),
         Step::Line => describe_line(input, report),
         Step::Name => describe_name(input, report),
@@ -365,20 +362,9 @@ fn answer(
     }
 }
 
-// Pushes texts, the last one first.
-fn put_all(alloc: Global, input: &mut Input, texts: &[&[u8]], report: &mut Report)
-    requires { input.old.pending.definition ≡ None }
-    ensures { input.new.pending.definition ≡ None }
-{
-    for text in texts {
-        put(alloc, input, text, report);
-    }
-}
-
 // Pushes a definition.
-fn put_definition(alloc: Global, input: &mut Input, given: Given, report: &mut Report)
-    requires { input.old.pending.definition ≡ None }
-{
+fn put_definition(alloc: Global, input: &mut Input, given: Given, report: &mut Report) {
+    take_none(input, report);
     match made(alloc, given) {
         Ok(definition) => {
             if input.push_front(Pushed::Definition(definition)).is_err() {
@@ -389,21 +375,10 @@ fn put_definition(alloc: Global, input: &mut Input, given: Given, report: &mut R
     }
 }
 
-// Pushes the texts of a row and then its definition, if there is one.
-fn put_row(alloc: Global, input: &mut Input, row: &Row, report: &mut Report)
-    requires { input.old.pending.definition ≡ None }
-{
-    put_all(alloc, input, row.texts, report);
-    if let Some(given) = row.definition {
-        put_definition(alloc, input, given, report);
-    }
-}
-
 // Adds the results of a row's steps.
 fn see(alloc: Global, row: &Row, block: usize, name: Bytes, report: &mut Report) {
     let mut reader = MemSource::new(row.file, block.max(1), row.fails);
     let mut input = Input::file(alloc, name);
-    put_row(alloc, &mut input, row, report);
     for step in row.steps {
         answer(alloc, &mut input, &mut reader, row.delims, *step, report);
     }
