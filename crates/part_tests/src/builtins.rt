@@ -12,6 +12,7 @@ mod effects;
 mod heads;
 mod messages;
 mod numbers;
+mod steps;
 mod substitutions;
 mod texts;
 
@@ -23,12 +24,12 @@ use m4_builtins::place::Place;
 use m4_state::bytes::Bytes;
 use std::alloc::{AllocError, Global};
 
-// An argument of a row.
+/// An argument of a row.
 #[derive(Clone, Copy)]
-enum Argument {
-    // A text.
+pub enum Argument {
+    /// A text.
     Text(&'static [u8]),
-    // A definition.
+    /// A definition.
     Definition(Given),
 }
 

@@ -1,7 +1,7 @@
 //! Expressions: their values, also of texts that are deeply nested, numbers in a radix, and white space.
 //! Manual: "Evaluating integer expressions".
 
-use crate::report::{Report, joined};
+use crate::report::{Report, joined, repeated};
 use crate::shows::shows;
 use m4_eval::blank::{is_blank, is_space, spaces_len};
 use m4_eval::digits::in_radix;
@@ -89,17 +89,10 @@ fn value_seen(alloc: Global, text: &[u8]) -> Result<Vec<u8>, AllocError> {
     report.text()
 }
 
-// Returns a byte many times.
-fn repeated(alloc: Global, byte: (u8, usize)) -> Result<Vec<u8>, AllocError> {
-    let mut bytes = Vec::new(alloc);
-    bytes.resize(byte.1, byte.0)?;
-    Ok(bytes)
-}
-
 // Returns the value of a text between many bytes.
 fn nested_seen(alloc: Global, row: &Nested) -> Result<Vec<u8>, AllocError> {
-    let first = repeated(alloc, row.1)?;
-    let last = repeated(alloc, row.3)?;
+    let first = repeated(alloc, row.1.0, row.1.1)?;
+    let last = repeated(alloc, row.3.0, row.3.1)?;
     let text = joined(alloc, &[first.as_slice(), row.2, last.as_slice()])?;
     value_seen(alloc, text.as_slice())
 }

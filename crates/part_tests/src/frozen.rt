@@ -9,7 +9,7 @@ mod faults;
 mod listing;
 mod states;
 
-use crate::report::{Report, printed};
+use crate::report::{Report, joined, printed, repeated};
 use m4_frozen::fault::{FrozenFault, WriteFault};
 use m4_frozen::loading::Loaded;
 use m4_frozen::reading::read_frozen;
@@ -38,11 +38,18 @@ fn read(alloc: Global, bytes: &[u8], block: usize, fails: bool) -> Result<Loaded
 
 // Returns a comment line of this many bytes with its newline, and then these bytes.
 fn after_a_comment(alloc: Global, before: usize, bytes: &[u8]) -> Result<Vec<u8>, AllocError> {
-    let mut file = Vec::new(alloc);
-    file.resize(before.saturating_sub(1), b'#')?;
-    file.push(b'\n')?;
-    file.extend_from_slice(bytes)?;
-    Ok(file)
+    let comment = repeated(alloc, b'#', before.saturating_sub(1))?;
+    joined(alloc, &[&comment, b"\n", bytes])
+}
+
+// Reports how reading ends.
+fn refused(alloc: Global, bytes: &[u8], block: usize, fails: bool) -> Result<Vec<u8>, AllocError> {
+    let mut report = Report::new(alloc);
+    match read(alloc, bytes, block, fails) {
+        Ok(_loaded) => report.add(b"loaded"),
+        Err(fault) => describe(alloc, fault, &mut report),
+    }
+    report.text()
 }
 
 // Adds a fault and its place.

@@ -1,4 +1,4 @@
-//! Definitions and byte strings in rows.
+//! Definitions in rows, and the state that rows begin with.
 
 ghost use Rattle.std.specs.Prelude.{IfOk};
 ghost use Rattle.m4_state.specs.Definition.{IsDefinition};
@@ -7,6 +7,8 @@ use crate::report::Report;
 use m4_state::builtin::Builtin;
 use m4_state::bytes::Bytes;
 use m4_state::definition::Def;
+use m4_state::fault::StateFault;
+use m4_state::state::State;
 use std::alloc::{AllocError, Global};
 
 /// A definition of a row.
@@ -37,5 +39,13 @@ pub fn describe_definition(definition: &Def, report: &mut Report) {
         Def::Text(text) => report.pair(b"text ", text.as_slice()),
         Def::Builtin(builtin) => report.pair(b"builtin ", builtin.name()),
         Def::Placeholder(name) => report.pair(b"placeholder ", name.as_slice()),
+    }
+}
+
+/// Returns a state without names.
+pub fn empty_state(alloc: Global) -> Result<State, AllocError> {
+    match State::empty(alloc) {
+        Ok(state) => Ok(state),
+        Err(StateFault::OutOfMemory) => Err(AllocError),
     }
 }

@@ -2,13 +2,14 @@
 //! Manual: "Lexical and syntactic conventions", "Changing the quote characters", "Deleting whitespace
 //! in input", "How m4 copies input to output".
 
-ghost use Rattle.std.specs.Prelude.{◌≡◌, None, OnOk};
+ghost use Rattle.std.specs.Prelude.{◌≡◌, None};
 
 mod blocks;
 mod calls;
 mod delims;
 mod looks;
 mod pieces;
+mod steps;
 mod tokens;
 
 use crate::given::describe_definition;
@@ -70,7 +71,7 @@ fn describe_fault(fault: InputFault, report: &mut Report) {
 // Pushes text back to the input.
 fn push(alloc: Global, input: &mut Input, bytes: &[u8]) -> Result<(), InputFault>
     requires { input.old.pending.definition ≡ None }
-    ensures { OnOk result (input.new.pending.definition ≡ None) }
+    ensures { input.new.pending.definition ≡ None }
 {
     match Bytes::from_slice(alloc, bytes) {
         Ok(text) => input.push_front(Pushed::Text(text)),

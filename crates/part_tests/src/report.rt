@@ -73,3 +73,10 @@ pub fn joined(alloc: Global, pieces: &[&[u8]]) -> Result<Vec<u8>, AllocError> {
 pub fn printed(alloc: Global, value: &impl fmt::Display) -> Result<Vec<u8>, AllocError> {
     joined(alloc, &[format!(in alloc; "{value}")?.as_bytes()])
 }
+
+/// Returns a byte so many times.
+pub fn repeated(alloc: Global, byte: u8, count: usize) -> Result<Vec<u8>, AllocError> {
+    let mut bytes = Vec::new(alloc);
+    bytes.resize(count, byte)?;
+    Ok(bytes)
+}

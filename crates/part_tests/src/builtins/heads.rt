@@ -3,9 +3,9 @@
 use crate::given::{Given, describe_definition, made};
 use crate::report::Report;
 use crate::shows::shows;
-use m4_builtins::args::{Arg, ArgList};
 use m4_builtins::head::Head;
-use m4_state::bytes::Bytes;
+use m4_builtins::place::Place;
+use m4_state::definition::Def;
 use std::alloc::{AllocError, Global};
 
 // A row's name, a call's name, its definition, its file and its line, and the data of the head: name,
@@ -71,62 +71,62 @@ static ROWS: [Row; 7] = [
     ),
 ];
 
-// Adds the name and the place.
-fn describe_place(head: &Head, buffer: Vec<u8>, report: &mut Report) {
-    report.add(head.name());
-    report.add(b" ");
-    report.add(head.file());
+// Adds a place.
+fn describe_place(file: &[u8], line: u64, report: &mut Report) {
+    report.add(file);
     report.add(b":");
-    report.number(head.line());
-    match head.place(buffer) {
-        Ok(place) => {
-            report.add(b" ");
-            report.add(place.file.as_slice());
-            report.add(b":");
-            report.number(place.line);
-        }
-        Err(AllocError) => report.refuse(),
-    }
+    report.number(line);
 }
 
-// Adds the data on the definition.
-fn describe_macro(head: &Head, report: &mut Report) {
+// Adds the data on the place and the definition.
+fn describe_parts(head: &Head, place: &Place, definition: &Def, report: &mut Report) {
+    report.pair(head.name(), b" ");
+    describe_place(head.file(), head.line(), report);
+    report.add(b" ");
+    describe_place(place.file.as_slice(), place.line, report);
     if head.needs_list() {
         report.add(b", needs a list");
     }
     if let Some(text) = head.text() {
-        report.add(b", text ");
-        report.add(text);
+        report.pair(b", text ", text);
     }
-    match head.definition() {
-        Ok(definition) => {
-            report.add(b", ");
-            describe_definition(&definition, report);
-        }
-        Err(AllocError) => report.refuse(),
-    }
+    report.add(b", ");
+    describe_definition(definition, report);
 }
 
 // Returns a buffer with contents that are to be discarded.
 fn used(alloc: Global) -> Result<Vec<u8>, AllocError> {
-    let mut buffer = Vec::new(alloc);
-    buffer.extend_from_slice(b"what was there before")?;
-    Ok(buffer)
+    Vec::from_slice(alloc, b"what was there before")
+}
+
+// Makes a head.
+fn head_of(
+    alloc: Global,
+    name: &[u8],
+    given: Given,
+    place: (&[u8], u64),
+) -> Result<Head, AllocError> {
+    let definition = made(alloc, given)?;
+    Head::new(used(alloc)?, name, &definition, place.0, place.1)
 }
 
 // Reports the data of a head.
+fn parts(alloc: Global, head: &Head) -> Result<Vec<u8>, AllocError> {
+    let place = head.place(used(alloc)?)?;
+    let definition = head.definition()?;
+    let mut report = Report::new(alloc);
+    describe_parts(head, &place, &definition, &mut report);
+    report.text()
+}
+
+// Makes a head, and reports its data.
 fn kept(
     alloc: Global,
     name: &[u8],
     given: Given,
     place: (&[u8], u64),
 ) -> Result<Vec<u8>, AllocError> {
-    let mut report = Report::new(alloc);
-    let definition = made(alloc, given)?;
-    let head = Head::new(used(alloc)?, name, &definition, place.0, place.1)?;
-    describe_place(&head, used(alloc)?, &mut report);
-    describe_macro(&head, &mut report);
-    report.text()
+    parts(alloc, &head_of(alloc, name, given, place)?)
 }
 
 #[test]

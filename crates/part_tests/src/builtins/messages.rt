@@ -1,10 +1,11 @@
 //! The lines of messages. Manual: "Location within input".
 
 use super::place_of;
-use crate::report::{joined, printed};
+use crate::report::{Report, printed};
 use crate::shows::shows;
 use m4_builtins::fault::BuiltinFault;
 use m4_builtins::messages::{dropped_message, error_message};
+use m4_state::bytes::Bytes;
 use std::alloc::{AllocError, Global};
 
 // A row's name, a file, a line, and the messages for an error there and for a dropped definition.
@@ -25,19 +26,30 @@ static ROWS: [(&str, &[u8], u64, &[u8]); 2] = [
     ),
 ];
 
+// Adds a message.
+fn describe(message: Result<Bytes, BuiltinFault>, report: &mut Report) {
+    match message {
+        Ok(text) => report.add(text.as_slice()),
+        Err(BuiltinFault::OutOfMemory) => report.refuse(),
+    }
+}
+
 // Returns an error and a warning at a place.
-fn message_at(alloc: Global, file: &[u8], line: u64) -> Result<Vec<u8>, BuiltinFault> {
+fn messages_at(alloc: Global, file: &[u8], line: u64) -> Result<Vec<u8>, AllocError> {
     let place = place_of(alloc, file, line)?;
-    let error = error_message(alloc, &place, b"end of file in string")?;
-    let warning = dropped_message(alloc, &place)?;
-    Ok(joined(alloc, &[error.as_slice(), warning.as_slice()])?)
+    let mut report = Report::new(alloc);
+    describe(
+        error_message(alloc, &place, b"end of file in string"),
+        &mut report,
+    );
+    describe(dropped_message(alloc, &place), &mut report);
+    report.text()
 }
 
 #[test]
 fn messages_name_their_place(rt: HostRuntime) {
     for &(name, file, line, want) in &ROWS {
-        let got = message_at(rt.alloc(), file, line).map_err(|_refused| AllocError);
-        shows(&rt, name, want, got);
+        shows(&rt, name, want, messages_at(rt.alloc(), file, line));
     }
 }
 

@@ -1,6 +1,6 @@
 //! A reader and a writer over memory, for different numbers of bytes at a time.
 
-use crate::report::{Report, joined};
+use crate::report::{Report, joined, repeated};
 use crate::shows::{agrees, shows};
 use m4_state::device::{ByteSink, ByteSource, DeviceFault};
 use m4_state::memory::{MemSink, MemSource};
@@ -45,7 +45,7 @@ fn taken_of(alloc: Global, at_most: usize, fails: bool) -> Result<Vec<u8>, Alloc
 #[test]
 fn all_that_is_given_is_taken(rt: HostRuntime) {
     for &(name, fails, want) in &READERS {
-        for at_most in SIZES {
+        for &at_most in &SIZES {
             shows(&rt, name, want, taken_of(rt.alloc(), at_most, fails));
         }
     }
@@ -59,7 +59,7 @@ fn taken_of_a_long_text(alloc: Global, text: &[u8]) -> Result<Vec<u8>, AllocErro
 
 #[test]
 fn a_long_text_is_taken(rt: HostRuntime) -> Result<(), Fail> {
-    let text = vec![in rt.alloc(); b'x'; 1000000]?;
+    let text = repeated(rt.alloc(), b'x', 1_000_000)?;
     let got = taken_of_a_long_text(rt.alloc(), &text);
     shows(&rt, "a text of 1,000,000 bytes", &text, got);
     Ok(())
@@ -80,26 +80,18 @@ fn takes_of(alloc: Global, bytes: &[u8], fails: bool) -> Result<Vec<u8>, AllocEr
     report.text()
 }
 
+// A row's name, the bytes of a reader, whether it fails after them, and the results.
+static TAKES: [(&str, &[u8], bool, &[u8]); 3] = [
+    ("at the end", b"ab", false, b"2 0 0 "),
+    ("amid", b"ab", true, b"2 fault fault "),
+    ("at once", b"", true, b"fault fault fault "),
+];
+
 #[test]
 fn readers_end_and_fail_again(rt: HostRuntime) {
-    shows(
-        &rt,
-        "at the end",
-        b"2 0 0 ",
-        takes_of(rt.alloc(), b"ab", false),
-    );
-    shows(
-        &rt,
-        "amid",
-        b"2 fault fault ",
-        takes_of(rt.alloc(), b"ab", true),
-    );
-    shows(
-        &rt,
-        "at once",
-        b"fault fault fault ",
-        takes_of(rt.alloc(), b"", true),
-    );
+    for &(name, bytes, fails, want) in &TAKES {
+        shows(&rt, name, want, takes_of(rt.alloc(), bytes, fails));
+    }
 }
 
 // Adds the contents of a writer after a result.
@@ -122,27 +114,28 @@ fn put_into(alloc: Global, room: usize, at_most: usize) -> Result<Vec<u8>, Alloc
     held(alloc, answer, &writer)
 }
 
-#[test]
-fn a_beginning_is_put_where_the_room_ends(rt: HostRuntime) {
-    for room in 0..BYTES.len() {
-        for at_most in SIZES {
-            let want = joined(rt.alloc(), &[BYTES.split_at(room).0, b"; fault"]);
-            agrees(
-                &rt,
-                "too little room",
-                want,
-                put_into(rt.alloc(), room, at_most),
-            );
-        }
-    }
+// Returns the expected report for this much room: a beginning and a fault, or all.
+fn put_where(alloc: Global, room: usize) -> Result<Vec<u8>, AllocError> {
+    let end: &[u8] = if room < BYTES.len() {
+        b"; fault"
+    } else {
+        b"; put"
+    };
+    joined(alloc, &[BYTES.split_at(room.min(BYTES.len())).0, end])
 }
 
 #[test]
-fn all_bytes_are_put_where_there_is_room(rt: HostRuntime) {
-    for at_most in SIZES {
-        let want = joined(rt.alloc(), &[BYTES, b"; put"]);
-        let got = put_into(rt.alloc(), BYTES.len(), at_most);
-        agrees(&rt, "room for all", want, got);
+fn bytes_are_put_up_to_the_room(rt: HostRuntime) {
+    for room in 0..=BYTES.len() {
+        for &at_most in &SIZES {
+            let got = put_into(rt.alloc(), room, at_most);
+            agrees(
+                &rt,
+                "room for a beginning or all",
+                put_where(rt.alloc(), room),
+                got,
+            );
+        }
     }
 }
 
@@ -153,11 +146,14 @@ fn pieces_put(alloc: Global) -> Result<Vec<u8>, AllocError> {
     held(alloc, answer, &writer)
 }
 
+// Bytes that are put after one another.
+const PUTS: [&[u8]; 2] = [b"abc", b"c"];
+
 // Reports the results of a writer with room for two bytes, and its contents.
 fn puts_of(alloc: Global) -> Result<Vec<u8>, AllocError> {
     let mut report = Report::new(alloc);
     let mut writer = MemSink::new(alloc, 2, 4)?;
-    for bytes in [b"abc".as_slice(), b"c"] {
+    for bytes in &PUTS {
         match writer.put(bytes) {
             Ok(n) => report.number(n),
             Err(DeviceFault) => report.add(b" fault "),

@@ -1,7 +1,7 @@
 //! Files that are read and written again, as their canonical text.
 
 use super::{BLOCK, BLOCKS, HEAD, LAST, ROOM, after_a_comment, describe, describe_written, read};
-use crate::report::{Report, joined};
+use crate::report::{Report, joined, repeated};
 use crate::shows::agrees;
 use m4_frozen::loading::Loaded;
 use m4_frozen::writer::write_frozen;
@@ -108,10 +108,10 @@ fn write_loaded(loaded: &Loaded, writer: &mut MemSink, report: &mut Report) {
     report.add(loaded.issued.as_slice());
 }
 
-// Writes a file's bytes again, this many bytes at a time.
-fn again(alloc: Global, bytes: &[u8], block: usize) -> Result<Vec<u8>, AllocError> {
+// Writes a file's bytes again, this many bytes at a time, to a writer with this much room.
+fn again(alloc: Global, bytes: &[u8], block: usize, room: usize) -> Result<Vec<u8>, AllocError> {
     let mut report = Report::new(alloc);
-    let mut writer = MemSink::new(alloc, ROOM, block.max(1))?;
+    let mut writer = MemSink::new(alloc, room, block.max(1))?;
     match read(alloc, bytes, block, false) {
         Ok(loaded) => write_loaded(&loaded, &mut writer, &mut report),
         Err(fault) => describe(alloc, fault, &mut report),
@@ -122,9 +122,9 @@ fn again(alloc: Global, bytes: &[u8], block: usize) -> Result<Vec<u8>, AllocErro
 #[test]
 fn files_are_frozen_again(rt: HostRuntime) {
     for &(name, bytes, between, issued) in &ROWS {
-        for block in BLOCKS {
+        for &block in &BLOCKS {
             let want = canonical(rt.alloc(), between, issued);
-            agrees(&rt, name, want, again(rt.alloc(), bytes, block));
+            agrees(&rt, name, want, again(rt.alloc(), bytes, block, ROOM));
         }
     }
 }
@@ -138,7 +138,7 @@ const EACH_CANONICAL: &[u8] = b"Q1,1\n[]\nC0,0\n\nT2,3\na\n# b\nF3,3\ndnldnl\nD1
 // Writes a file again after a comment that ends this many bytes before the first block does.
 fn again_later(alloc: Global, cut: usize) -> Result<Vec<u8>, AllocError> {
     let file = after_a_comment(alloc, BLOCK.saturating_sub(cut), EACH_LETTER)?;
-    again(alloc, &file, 4096)
+    again(alloc, &file, 4096, ROOM)
 }
 
 #[test]
@@ -178,7 +178,7 @@ fn begun_twice(alloc: Global, beginning: &[u8]) -> Result<Vec<u8>, AllocError> {
 #[test]
 fn a_writer_fails_after_each_byte(rt: HostRuntime) {
     for room in 0..FAILING_CANONICAL.len() {
-        for block in BLOCKS {
+        for &block in &BLOCKS {
             let want = begun_twice(rt.alloc(), FAILING_CANONICAL.split_at(room).0);
             let got = cut_short(rt.alloc(), room, block);
             agrees(&rt, "a writer that fails", want, got);
@@ -188,29 +188,21 @@ fn a_writer_fails_after_each_byte(rt: HostRuntime) {
 
 // Returns a definition whose text has 1,000,000 bytes.
 fn long_definition(alloc: Global) -> Result<Vec<u8>, AllocError> {
-    let mut definition = Vec::from_slice(alloc, b"T1,1000000\na")?;
-    definition.resize(1_000_012, b'x')?;
-    definition.push(b'\n')?;
-    Ok(definition)
+    let text = repeated(alloc, b'x', 1_000_000)?;
+    joined(alloc, &[b"T1,1000000\na", &text, b"\n"])
 }
 
-// Writes a file again with enough room for it.
-fn long_again(alloc: Global, file: &[u8]) -> Result<Vec<u8>, AllocError> {
-    let mut report = Report::new(alloc);
-    let mut writer = MemSink::new(alloc, file.len(), 4096)?;
-    match read(alloc, file, 4096, false) {
-        Ok(loaded) => write_loaded(&loaded, &mut writer, &mut report),
-        Err(fault) => describe(alloc, fault, &mut report),
-    }
-    report.text()
+// Writes a file with a definition again, with enough room for it.
+fn long_again(alloc: Global, definition: &[u8]) -> Result<Vec<u8>, AllocError> {
+    let file = joined(alloc, &[HEAD, definition, LAST])?;
+    again(alloc, &file, 4096, file.len())
 }
 
 #[test]
 fn a_large_text_comes_back(rt: HostRuntime) -> Result<(), Fail> {
     let definition = long_definition(rt.alloc())?;
-    let file = joined(rt.alloc(), &[HEAD, &definition, LAST])?;
     let want = canonical(rt.alloc(), &definition, b"");
-    let got = long_again(rt.alloc(), &file);
+    let got = long_again(rt.alloc(), &definition);
     agrees(&rt, "a text of 1,000,000 bytes", want, got);
     Ok(())
 }

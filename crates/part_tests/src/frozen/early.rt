@@ -1,6 +1,6 @@
 //! Files that are refused early: with lengths larger than any memory, and before the reader's end.
 
-use super::{BLOCK, BLOCKS, after_a_comment, describe, read};
+use super::{BLOCK, BLOCKS, after_a_comment, describe, refused};
 use crate::report::Report;
 use crate::shows::shows;
 use m4_frozen::reading::read_frozen;
@@ -56,21 +56,11 @@ static LENGTHS: [(&str, &[u8], &[u8]); 9] = [
     ),
 ];
 
-// Reports how reading ends.
-fn refused(alloc: Global, bytes: &[u8], block: usize) -> Result<Vec<u8>, AllocError> {
-    let mut report = Report::new(alloc);
-    match read(alloc, bytes, block, false) {
-        Ok(_loaded) => report.add(b"loaded"),
-        Err(fault) => describe(alloc, fault, &mut report),
-    }
-    report.text()
-}
-
 #[test]
 fn lengths_that_no_memory_has(rt: HostRuntime) {
     for &(name, bytes, want) in &LENGTHS {
-        for block in BLOCKS {
-            shows(&rt, name, want, refused(rt.alloc(), bytes, block));
+        for &block in &BLOCKS {
+            shows(&rt, name, want, refused(rt.alloc(), bytes, block, false));
         }
     }
 }

@@ -1,6 +1,6 @@
 //! Files that are refused: each fault with the offset of its byte.
 
-use super::{BLOCK, BLOCKS, after_a_comment, describe, read};
+use super::{BLOCK, BLOCKS, after_a_comment, describe, refused};
 use crate::report::{Report, printed};
 use crate::shows::{agrees, shows};
 use m4_frozen::fault::{FrozenFault, FrozenKind, WriteFault};
@@ -190,20 +190,10 @@ fn fault_text(alloc: Global, kind: FrozenKind, offset: usize) -> Result<Vec<u8>,
     report.text()
 }
 
-// Reports how reading ends.
-fn refused(alloc: Global, bytes: &[u8], block: usize, fails: bool) -> Result<Vec<u8>, AllocError> {
-    let mut report = Report::new(alloc);
-    match read(alloc, bytes, block, fails) {
-        Ok(_loaded) => report.add(b"loaded"),
-        Err(fault) => describe(alloc, fault, &mut report),
-    }
-    report.text()
-}
-
 #[test]
 fn faults_are_placed(rt: HostRuntime) {
     for &(name, bytes, fails, kind, offset) in &ROWS {
-        for block in BLOCKS {
+        for &block in &BLOCKS {
             let want = fault_text(rt.alloc(), kind, offset);
             agrees(&rt, name, want, refused(rt.alloc(), bytes, block, fails));
         }
@@ -259,7 +249,7 @@ fn beginning(alloc: Global, len: usize) -> Result<Vec<u8>, AllocError> {
 #[test]
 fn a_file_is_cut_at_each_byte(rt: HostRuntime) {
     for len in 0..=CUT.len() {
-        for block in BLOCKS {
+        for &block in &BLOCKS {
             let got = refused(rt.alloc(), CUT.split_at(len).0, block, false);
             agrees(&rt, "a file that is cut", beginning(rt.alloc(), len), got);
         }
@@ -294,7 +284,7 @@ fn failed_after(alloc: Global, len: usize) -> Result<Vec<u8>, AllocError> {
 #[test]
 fn a_reader_fails_after_each_byte(rt: HostRuntime) {
     for len in 0..=CUT.len() {
-        for block in BLOCKS {
+        for &block in &BLOCKS {
             let got = failed_twice(rt.alloc(), CUT.split_at(len).0, block);
             agrees(
                 &rt,

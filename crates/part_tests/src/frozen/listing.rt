@@ -52,7 +52,7 @@ fn listed(alloc: Global, bytes: &[u8], room: usize, block: usize) -> Result<Vec<
 #[test]
 fn files_are_listed(rt: HostRuntime) {
     for &(name, bytes, lines) in &ROWS {
-        for block in BLOCKS {
+        for &block in &BLOCKS {
             let want = joined(rt.alloc(), &[lines, b"; written\n"]);
             agrees(
                 &rt,

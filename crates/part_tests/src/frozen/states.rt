@@ -1,6 +1,7 @@
 //! States and their canonical text, and the state of a loaded file.
 
 use super::{HEAD, LAST, ROOM, describe, describe_written, read};
+use crate::given::empty_state;
 use crate::report::{Report, joined};
 use crate::shows::{agrees, shows};
 use m4_frozen::loading::Loaded;
@@ -70,7 +71,7 @@ fn do_step(alloc: Global, state: &mut State, step: Step) -> Result<(), StateFaul
 // Returns the canonical text of a row's state.
 fn frozen(alloc: Global, steps: &[Step]) -> Result<Vec<u8>, AllocError> {
     let mut report = Report::new(alloc);
-    let mut state = State::empty(alloc).map_err(|_refused| AllocError)?;
+    let mut state = empty_state(alloc)?;
     for step in steps {
         if do_step(alloc, &mut state, *step).is_err() {
             report.refuse();

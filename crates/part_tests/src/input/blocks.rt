@@ -1,86 +1,24 @@
 //! Input in blocks: what is in hand after each question to the reader, and what the bytes in hand decide.
 //! Manual: "How m4 copies input to output".
 
-ghost use Rattle.std.specs.Prelude.{◌≡◌, None, IfOk};
+ghost use Rattle.std.specs.Prelude.{◌≡◌, None};
 
-use super::{BLOCKS, USUAL, describe, describe_fault, push};
+use super::push;
+use super::steps::{
+    ANGLES, BLOCKED, PLAIN, Row, STARRED, Step, ask, describe_hand, describe_line, tried,
+};
 use crate::report::Report;
 use crate::shows::shows;
-use m4_input::delims::Delims;
-use m4_input::fault::InputFault;
-use m4_input::front::{Answer, Scan};
 use m4_input::input::Input;
 use m4_state::bytes::Bytes;
 use m4_state::memory::MemSource;
 use std::alloc::{AllocError, Global};
 
-// A step on an input.
-#[derive(Clone, Copy)]
-enum Step {
-    // Asks the reader once.
-    More,
-    // Asks the reader once, and again while the first token is open.
-    Token,
-    // The first token of the bytes in hand.
-    Look,
-    // Whether a list follows so many bytes.
-    List(usize),
-    // Skips the rest of the line as far as it is in hand.
-    Skip,
-    // The calls that ask by themselves: the first token, whether a list follows, the rest of the line.
-    Next,
-    SeesParen,
-    SkipLine,
-    // Asks until the first token is decided.
-    Decide,
-    // The bytes in hand, the line, and how many bytes the reader returned.
-    Hand,
-    Line,
-    Taken,
-}
-
-// A file a.m4, how many bytes its reader returns at a time, and text that is pushed before it; steps and
-// their results.
-struct Row {
-    name: &'static str,
-    delims: Delims<'static>,
-    file: &'static [u8],
-    block: usize,
-    fails: bool,
-    text: &'static [u8],
-    steps: &'static [Step],
-    want: &'static [u8],
-}
-
-// A row with the usual delimiters and nothing before the file.
-const PLAIN: Row = Row {
-    name: "",
-    delims: USUAL,
-    file: b"",
-    block: 4096,
-    fails: false,
-    text: b"",
-    steps: &[],
-    want: b"",
-};
-
-// Quotes of two bytes each.
-const ANGLES: Delims<'static> = Delims {
-    quotes: (b"<<", b">>"),
-    comments: (b"#", b"\n"),
-};
-
-// Comments whose begin begins with a parenthesis.
-const STARRED: Delims<'static> = Delims {
-    quotes: (b"`", b"'"),
-    comments: (b"(*", b"*)"),
-};
-
-static ROWS: [Row; 24] = [
+static IN_HAND: [Row; 7] = [
     Row {
         name: "a block is in hand, and then the end",
         file: b"abc",
-        block: 2,
+        blocks: &[2],
         steps: &[
             Step::Hand,
             Step::More,
@@ -103,7 +41,7 @@ static ROWS: [Row; 24] = [
     Row {
         name: "a word may go on at the end of the bytes in hand",
         file: b"abc d",
-        block: 3,
+        blocks: &[3],
         steps: &[Step::More, Step::Look, Step::More, Step::Look, Step::Hand],
         want: b"more\nneeds more\nmore\n3: name abc\n[abc d]\n",
         ..PLAIN
@@ -118,25 +56,56 @@ static ROWS: [Row; 24] = [
     Row {
         name: "a byte is decided at once",
         file: b"+a",
-        block: 1,
+        blocks: &[1],
         steps: &[Step::More, Step::Look, Step::Taken],
         want: b"more\n1: byte +\ntaken 1\n",
         ..PLAIN
     },
     Row {
+        name: "pushed text joins the bytes of a later block",
+        file: b"b c",
+        blocks: &[1],
+        steps: &[
+            Step::Push(b"a"),
+            Step::Look,
+            Step::More,
+            Step::Look,
+            Step::Decide,
+            Step::Taken,
+        ],
+        want: b"needs more\nmore\nneeds more\n2: name ab\ntaken 2\n",
+        ..PLAIN
+    },
+    Row {
+        name: "a name is read up to the byte after it",
+        file: b"foo bar",
+        blocks: &[1],
+        steps: &[Step::Next, Step::Taken, Step::Next, Step::Taken],
+        want: b"name foo\ntaken 4\nbyte  \ntaken 4\n",
+        ..PLAIN
+    },
+];
+
+#[test]
+fn blocks_and_what_they_decide(rt: HostRuntime) {
+    tried(&rt, rt.alloc(), &IN_HAND);
+}
+
+static CUT: [Row; 5] = [
+    Row {
         name: "a begin-quote that is cut",
-        delims: ANGLES,
+        delims: &ANGLES,
         file: b"<x",
-        block: 1,
+        blocks: &[1],
         steps: &[Step::More, Step::Look, Step::More, Step::Look],
         want: b"more\nneeds more\nmore\n1: byte <\n",
         ..PLAIN
     },
     Row {
         name: "a begin of comments that is cut",
-        delims: STARRED,
+        delims: &STARRED,
         file: b"(*a*)",
-        block: 1,
+        blocks: &[1],
         steps: &[
             Step::More,
             Step::Look,
@@ -150,9 +119,9 @@ static ROWS: [Row; 24] = [
     },
     Row {
         name: "an end-quote that is cut",
-        delims: ANGLES,
+        delims: &ANGLES,
         file: b"<<a>>b",
-        block: 4,
+        blocks: &[4],
         steps: &[Step::More, Step::Look, Step::More, Step::Look],
         want: b"more\nneeds more\nmore\n5: string a\n",
         ..PLAIN
@@ -167,11 +136,19 @@ static ROWS: [Row; 24] = [
     Row {
         name: "a token over several blocks",
         file: b"`a `b' c'd",
-        block: 1,
+        blocks: &[1],
         steps: &[Step::Decide, Step::Taken],
         want: b"9: string a `b' c\ntaken 9\n",
         ..PLAIN
     },
+];
+
+#[test]
+fn delimiters_that_are_cut(rt: HostRuntime) {
+    tried(&rt, rt.alloc(), &CUT);
+}
+
+static LISTS: [Row; 6] = [
     Row {
         name: "a list is decided by the byte after a name",
         file: b"f(g h",
@@ -188,26 +165,51 @@ static ROWS: [Row; 24] = [
     },
     Row {
         name: "a parenthesis that may begin a comment",
-        delims: STARRED,
+        delims: &STARRED,
         file: b"f(x",
-        block: 2,
+        blocks: &[2],
         steps: &[Step::More, Step::List(1), Step::More, Step::List(1)],
         want: b"more\nunknown\nmore\nlist\n",
         ..PLAIN
     },
     Row {
         name: "a parenthesis that begins a comment",
-        delims: STARRED,
+        delims: &STARRED,
         file: b"f(*",
-        block: 2,
+        blocks: &[2],
         steps: &[Step::More, Step::List(1), Step::More, Step::List(1)],
         want: b"more\nunknown\nmore\nno list\n",
         ..PLAIN
     },
     Row {
+        name: "a parenthesis in hand decides that a list follows",
+        file: b"f(x",
+        blocks: &[1],
+        steps: &[Step::Next, Step::SeesParen, Step::Taken],
+        want: b"name f\nlist\ntaken 2\n",
+        ..PLAIN
+    },
+    Row {
+        name: "a parenthesis that may begin a comment needs the byte after it",
+        delims: &STARRED,
+        file: b"f(x y",
+        blocks: &[1],
+        steps: &[Step::Next, Step::SeesParen, Step::Taken],
+        want: b"name f\nlist\ntaken 3\n",
+        ..PLAIN
+    },
+];
+
+#[test]
+fn lists_over_blocks(rt: HostRuntime) {
+    tried(&rt, rt.alloc(), &LISTS);
+}
+
+static LINES: [Row; 6] = [
+    Row {
         name: "a line is skipped over blocks, and none of it is kept",
         file: b"foo bar\nbaz",
-        block: 3,
+        blocks: &[3],
         steps: &[
             Step::More,
             Step::Skip,
@@ -238,9 +240,33 @@ static ROWS: [Row; 24] = [
         ..PLAIN
     },
     Row {
+        name: "a line is read up to the block with its newline",
+        file: b"foo\nbar\nbaz",
+        blocks: &[2],
+        steps: &[
+            Step::SkipLine,
+            Step::Taken,
+            Step::Hand,
+            Step::Line,
+            Step::Next,
+            Step::Taken,
+        ],
+        want: b"skipped\ntaken 4\n[]\nline 2\nname bar\ntaken 8\n",
+        ..PLAIN
+    },
+    Row {
+        name: "a reader fails within a line, which was skipped",
+        file: b"ab",
+        blocks: &[1],
+        fails: true,
+        steps: &[Step::SkipLine, Step::Hand, Step::Next, Step::Line],
+        want: b"read fault\n[]\nread fault\nline 1\n",
+        ..PLAIN
+    },
+    Row {
         name: "a reader that fails after two bytes",
         file: b"ab",
-        block: 1,
+        blocks: &[1],
         fails: true,
         steps: &[
             Step::More,
@@ -255,64 +281,9 @@ static ROWS: [Row; 24] = [
         ..PLAIN
     },
     Row {
-        name: "pushed text joins the bytes of a later block",
-        text: b"a",
-        file: b"b c",
-        block: 1,
-        steps: &[
-            Step::Look,
-            Step::More,
-            Step::Look,
-            Step::Decide,
-            Step::Taken,
-        ],
-        want: b"needs more\nmore\nneeds more\n2: name ab\ntaken 2\n",
-        ..PLAIN
-    },
-    Row {
-        name: "a name is read up to the byte after it",
-        file: b"foo bar",
-        block: 1,
-        steps: &[Step::Next, Step::Taken, Step::Next, Step::Taken],
-        want: b"name foo\ntaken 4\nbyte  \ntaken 4\n",
-        ..PLAIN
-    },
-    Row {
-        name: "a parenthesis in hand decides that a list follows",
-        file: b"f(x",
-        block: 1,
-        steps: &[Step::Next, Step::SeesParen, Step::Taken],
-        want: b"name f\nlist\ntaken 2\n",
-        ..PLAIN
-    },
-    Row {
-        name: "a parenthesis that may begin a comment needs the byte after it",
-        delims: STARRED,
-        file: b"f(x y",
-        block: 1,
-        steps: &[Step::Next, Step::SeesParen, Step::Taken],
-        want: b"name f\nlist\ntaken 3\n",
-        ..PLAIN
-    },
-    Row {
-        name: "a line is read up to the block with its newline",
-        file: b"foo\nbar\nbaz",
-        block: 2,
-        steps: &[
-            Step::SkipLine,
-            Step::Taken,
-            Step::Hand,
-            Step::Line,
-            Step::Next,
-            Step::Taken,
-        ],
-        want: b"skipped\ntaken 4\n[]\nline 2\nname bar\ntaken 8\n",
-        ..PLAIN
-    },
-    Row {
         name: "a reader fails within a token, which stays in hand",
         file: b"ab",
-        block: 1,
+        blocks: &[1],
         fails: true,
         steps: &[
             Step::Next,
@@ -325,32 +296,28 @@ static ROWS: [Row; 24] = [
         want: b"read fault\n[ab]\nread fault\nread fault\nread fault\ntaken 2\n",
         ..PLAIN
     },
-    Row {
-        name: "a reader fails within a line, which was skipped",
-        file: b"ab",
-        block: 1,
-        fails: true,
-        steps: &[Step::SkipLine, Step::Hand, Step::Next, Step::Line],
-        want: b"read fault\n[]\nread fault\nline 1\n",
-        ..PLAIN
-    },
 ];
+
+#[test]
+fn lines_and_faults_over_blocks(rt: HostRuntime) {
+    tried(&rt, rt.alloc(), &LINES);
+}
 
 // Tokens whose blocks are asked for until they are decided.
 static TOKENS: [Row; 9] = [
     Row {
         name: "a string is asked for to its end",
         file: b"`a `b' c'd",
-        block: 1,
+        blocks: &[1],
         steps: &[Step::More, Step::Token, Step::Taken, Step::Look],
         want: b"more\nasked\ntaken 9\n9: string a `b' c\n",
         ..PLAIN
     },
     Row {
         name: "a string with nested quotes of two bytes",
-        delims: ANGLES,
+        delims: &ANGLES,
         file: b"<<a<<b>>>>c",
-        block: 1,
+        blocks: &[1],
         steps: &[
             Step::More,
             Step::Token,
@@ -364,16 +331,16 @@ static TOKENS: [Row; 9] = [
     Row {
         name: "a comment is asked for to its end",
         file: b"#ab\nc",
-        block: 1,
+        blocks: &[1],
         steps: &[Step::More, Step::Token, Step::Taken, Step::Look],
         want: b"more\nasked\ntaken 4\n4: comment #ab\n\n",
         ..PLAIN
     },
     Row {
         name: "a comment whose end is cut",
-        delims: STARRED,
+        delims: &STARRED,
         file: b"(**a*)b",
-        block: 2,
+        blocks: &[2],
         steps: &[Step::More, Step::Token, Step::Taken, Step::Look],
         want: b"more\nasked\ntaken 6\n6: comment (**a*)\n",
         ..PLAIN
@@ -381,7 +348,7 @@ static TOKENS: [Row; 9] = [
     Row {
         name: "a name is asked for up to the byte after it",
         file: b"abc d",
-        block: 1,
+        blocks: &[1],
         steps: &[Step::More, Step::Token, Step::Taken, Step::Look],
         want: b"more\nasked\ntaken 4\n3: name abc\n",
         ..PLAIN
@@ -389,7 +356,7 @@ static TOKENS: [Row; 9] = [
     Row {
         name: "no more than a block is asked for where the first token is decided, or nothing is in hand",
         file: b"+abc",
-        block: 1,
+        blocks: &[1],
         steps: &[Step::Token, Step::Taken, Step::Token, Step::Taken],
         want: b"asked\ntaken 1\nasked\ntaken 2\n",
         ..PLAIN
@@ -397,7 +364,7 @@ static TOKENS: [Row; 9] = [
     Row {
         name: "a string that the file does not end",
         file: b"`ab",
-        block: 1,
+        blocks: &[1],
         steps: &[Step::More, Step::Token, Step::Hand, Step::Look],
         want: b"more\nasked\n[`ab]\nno end\n",
         ..PLAIN
@@ -405,7 +372,7 @@ static TOKENS: [Row; 9] = [
     Row {
         name: "a reader fails within a string, which stays in hand",
         file: b"`ab",
-        block: 1,
+        blocks: &[1],
         fails: true,
         steps: &[Step::More, Step::Token, Step::Hand, Step::Token],
         want: b"more\nread fault\n[`ab]\nread fault\n",
@@ -413,207 +380,54 @@ static TOKENS: [Row; 9] = [
     },
     Row {
         name: "pushed text begins a name that goes on in the file",
-        text: b"ab",
         file: b"cd e",
-        block: 1,
-        steps: &[Step::Token, Step::Taken, Step::Look],
+        blocks: &[1],
+        steps: &[Step::Push(b"ab"), Step::Token, Step::Taken, Step::Look],
         want: b"asked\ntaken 3\n4: name abcd\n",
         ..PLAIN
     },
 ];
 
-// Adds what the bytes in hand decide of the first token: its length, and the token.
-fn describe_found(found: &Scan, report: &mut Report) {
-    match found {
-        Scan::Found(token, len) => {
-            report.number(*len);
-            report.add(b": ");
-            describe(token, report);
-        }
-        Scan::Broken(_what) => report.add(b"no end\n"),
-        Scan::NeedsMore => report.add(b"needs more\n"),
-    }
-}
-
-// Asks the reader once, if it has not ended.
-fn ask(input: &mut Input, reader: &mut MemSource<'_>) -> Result<&'static [u8], InputFault> {
-    if let Some(fault) = input.fault() {
-        return Err(fault);
-    }
-    if !input.may_follow() {
-        return Ok(b"closed\n");
-    }
-    Ok(if input.more(reader)? {
-        b"more\n"
-    } else {
-        b"end\n"
-    })
-}
-
-// Asks the reader, and again while the first token is open, if the reader has not ended.
-fn ask_token(
-    input: &mut Input,
-    reader: &mut MemSource<'_>,
-    delims: &Delims<'_>,
-) -> Result<&'static [u8], InputFault> {
-    if let Some(fault) = input.fault() {
-        return Err(fault);
-    }
-    if !input.may_follow() {
-        return Ok(b"closed\n");
-    }
-    input.more_of_token(reader, delims)?;
-    Ok(b"asked\n")
-}
-
-// Looks at the first token, or returns the fault of an earlier step.
-fn look(input: &mut Input, delims: &Delims<'_>) -> Result<Scan, InputFault> {
-    if let Some(fault) = input.fault() {
-        return Err(fault);
-    }
-    input.look(delims)
-}
-
-// Asks until the first token is decided, at most a hundred times.
-fn decide(
-    input: &mut Input,
-    reader: &mut MemSource<'_>,
-    delims: &Delims<'_>,
-) -> Result<Scan, InputFault> {
-    for _ in 0..100 {
-        match look(input, delims)? {
-            Scan::NeedsMore => {
-                let _answer = ask(input, reader)?;
-            }
-            found => return Ok(found),
-        }
-    }
-    Ok(Scan::NeedsMore)
-}
-
-// Returns whether a list follows so many bytes.
-fn list_after(input: &Input, n: usize, delims: &Delims<'_>) -> &'static [u8] {
-    match input.piece() {
-        Some(text) if n <= text.len() => match input.list_after(n, delims) {
-            Answer::Yes => b"list\n",
-            Answer::No => b"no list\n",
-            Answer::Unknown => b"unknown\n",
-        },
-        _ => b"too few bytes\n",
-    }
-}
-
-// Adds the bytes in hand.
-fn describe_hand(input: &Input, report: &mut Report) {
-    match input.piece() {
-        Some(text) => {
-            report.add(b"[");
-            report.add(text);
-            report.add(b"]\n");
-        }
-        None => report.add(b"apart\n"),
-    }
-}
-
-// Makes a step, and adds its result.
-fn answer(
-    input: &mut Input,
-    reader: &mut MemSource<'_>,
-    delims: &Delims<'_>,
-    step: Step,
-    report: &mut Report,
-) -> Result<(), InputFault> {
-    match step {
-        Step::More => report.add(ask(input, reader)?),
-        Step::Token => report.add(ask_token(input, reader, delims)?),
-        Step::Look => describe_found(&look(input, delims)?, report),
-        Step::Decide => describe_found(&decide(input, reader, delims)?, report),
-        Step::List(n) => report.add(list_after(input, n, delims)),
-        Step::Skip => report.add(if input.skip_in_hand() {
-            b"all of the line\n"
-        } else {
-            b"part of the line\n"
-        }),
-        Step::Next => describe(&input.next(reader, delims)?, report),
-        Step::SeesParen => report.add(if input.sees_paren(reader, delims)? {
-            b"list\n"
-        } else {
-            b"no list\n"
-        }),
-        Step::SkipLine => {
-            input.skip_line(reader)?;
-            report.add(b"skipped\n");
-        }
-        Step::Hand => describe_hand(input, report),
-        Step::Line => {
-            report.counted(b"line ", input.line() as usize);
-            report.add(b"\n");
-        }
-        Step::Taken => {
-            report.counted(b"taken ", reader.taken());
-            report.add(b"\n");
-        }
-    }
-    Ok(())
-}
-
-// Returns the results of a row's steps.
-fn answers(alloc: Global, row: &Row) -> Result<Vec<u8>, AllocError> {
-    let mut report = Report::new(alloc);
-    let mut reader = MemSource::new(row.file, row.block.max(1), row.fails);
-    let mut input = Input::file(alloc, Bytes::from_slice(alloc, b"a.m4")?);
-    if push(alloc, &mut input, row.text).is_err() {
-        return Err(AllocError);
-    }
-    for step in row.steps {
-        if let Err(fault) = answer(&mut input, &mut reader, &row.delims, *step, &mut report) {
-            describe_fault(fault, &mut report);
-        }
-    }
-    report.text()
-}
-
-#[test]
-fn blocks_and_what_they_decide(rt: HostRuntime) {
-    for row in &ROWS {
-        shows(&rt, row.name, row.want, answers(rt.alloc(), row));
-    }
-}
-
 #[test]
 fn blocks_of_one_token(rt: HostRuntime) {
-    for row in &TOKENS {
-        shows(&rt, row.name, row.want, answers(rt.alloc(), row));
-    }
+    tried(&rt, rt.alloc(), &TOKENS);
 }
 
-// Texts whose first token takes all of them but the last byte, and the token.
-static LONG: [(&str, &[u8], &[u8]); 4] = [
-    ("a string", b"`a `b\nc' d'+", b"11: string a `b\nc' d\n"),
-    ("a comment", b"# a `b c\n+", b"9: comment # a `b c\n\n"),
-    ("a name", b"abc_123+", b"7: name abc_123\n"),
-    ("a byte", b"+", b"1: byte +\n"),
+// Texts whose first token takes all of them but the last byte.
+static LONG: [Row; 4] = [
+    Row {
+        name: "a string",
+        file: b"`a `b\nc' d'+",
+        steps: &[Step::Decide],
+        want: b"11: string a `b\nc' d\n",
+        ..BLOCKED
+    },
+    Row {
+        name: "a comment",
+        file: b"# a `b c\n+",
+        steps: &[Step::Decide],
+        want: b"9: comment # a `b c\n\n",
+        ..BLOCKED
+    },
+    Row {
+        name: "a name",
+        file: b"abc_123+",
+        steps: &[Step::Decide],
+        want: b"7: name abc_123\n",
+        ..BLOCKED
+    },
+    Row {
+        name: "a byte",
+        file: b"+",
+        steps: &[Step::Decide],
+        want: b"1: byte +\n",
+        ..BLOCKED
+    },
 ];
-
-// Returns the first token of a text whose reader returns so many bytes at a time.
-fn first(alloc: Global, text: &[u8], block: usize) -> Result<Vec<u8>, AllocError> {
-    let mut report = Report::new(alloc);
-    let mut reader = MemSource::new(text, block.max(1), false);
-    let mut input = Input::file(alloc, Bytes::from_slice(alloc, b"a.m4")?);
-    match decide(&mut input, &mut reader, &USUAL) {
-        Ok(found) => describe_found(&found, &mut report),
-        Err(fault) => describe_fault(fault, &mut report),
-    }
-    report.text()
-}
 
 #[test]
 fn tokens_over_blocks(rt: HostRuntime) {
-    for &(name, text, want) in &LONG {
-        for block in BLOCKS {
-            shows(&rt, name, want, first(rt.alloc(), text, block));
-        }
-    }
+    tried(&rt, rt.alloc(), &LONG);
 }
 
 // Returns a text of 300,000 bytes.
@@ -637,37 +451,19 @@ fn take_but_seven(input: &mut Input)
 }
 
 // Takes pushed text away again, if it was put directly before the bytes in hand; returns whether it was.
-fn take_pushed(alloc: Global, input: &mut Input) -> Result<bool, InputFault>
+fn take_pushed(alloc: Global, input: &mut Input) -> bool
     requires { input.old.pending.definition ≡ None }
 {
-    push(alloc, input, b"xyz")?;
+    if push(alloc, input, b"xyz").is_err() {
+        return false;
+    }
     match input.piece() {
         Some(text) if text.len() > 3 => {
             input.consume(3);
-            Ok(true)
+            true
         }
-        _ => Ok(false),
+        _ => false,
     }
-}
-
-// Reads a text in blocks, and keeps seven bytes at each. Counts the blocks after which other bytes are in
-// hand than these seven and the block, or pushed text is apart from them.
-fn count_wrong(alloc: Global, text: &[u8], input: &mut Input) -> Result<usize, InputFault> {
-    let mut reader = MemSource::new(text, 10_000, false);
-    let mut wrong = 0usize;
-    let mut at = 0usize;
-    for _ in 0..70 {
-        let _answer = ask(input, &mut reader)?;
-        if !is_hand(input, text.get(at..reader.taken())) {
-            wrong = wrong.saturating_add(1);
-        }
-        take_but_seven(input);
-        at = reader.taken().saturating_sub(7);
-        if !take_pushed(alloc, input)? {
-            wrong = wrong.saturating_add(1);
-        }
-    }
-    Ok(wrong)
 }
 
 // Returns whether these bytes are in hand.
@@ -678,18 +474,52 @@ fn is_hand(input: &Input, bytes: Option<&[u8]>) -> bool {
     }
 }
 
-// Reports the wrong blocks of a long text, the line, and the bytes in hand.
-fn walk(alloc: Global) -> Result<Vec<u8>, AllocError> {
-    let mut report = Report::new(alloc);
-    let text = long_text(alloc)?;
-    let mut input = Input::file(alloc, Bytes::from_slice(alloc, b"a.m4")?);
-    match count_wrong(alloc, &text, &mut input) {
-        Ok(wrong) => report.counted(b"wrong ", wrong),
-        Err(fault) => describe_fault(fault, &mut report),
+// Reads a block, and takes all but seven bytes. Returns whether it came, just the bytes of the text from
+// this place on were in hand, and pushed text then comes directly before the seven.
+fn is_right(
+    alloc: Global,
+    text: &[u8],
+    input: &mut Input,
+    reader: &mut MemSource<'_>,
+    at: usize,
+) -> bool {
+    let came = ask(input, reader).is_ok();
+    let held = is_hand(input, text.get(at..reader.taken()));
+    take_but_seven(input);
+    let joined = take_pushed(alloc, input);
+    came & held & joined
+}
+
+// Reads a text in blocks, and keeps seven bytes at each. Counts the blocks after which other bytes are in
+// hand than these seven and the block, or pushed text is apart from them.
+fn count_wrong(alloc: Global, text: &[u8], input: &mut Input) -> usize {
+    let mut reader = MemSource::new(text, 10_000, false);
+    let mut wrong = 0usize;
+    let mut at = 0usize;
+    for _ in 0..70 {
+        if !is_right(alloc, text, input, &mut reader, at) {
+            wrong = wrong.saturating_add(1);
+        }
+        at = reader.taken().saturating_sub(7);
     }
-    report.counted(b"\nline ", input.line() as usize);
+    wrong
+}
+
+// Adds the wrong blocks of a text, the line, and the bytes in hand.
+fn walk(alloc: Global, text: &[u8], name: Bytes, report: &mut Report) {
+    let mut input = Input::file(alloc, name);
+    report.counted(b"wrong ", count_wrong(alloc, text, &mut input));
     report.add(b"\n");
-    describe_hand(&input, &mut report);
+    describe_line(&input, report);
+    describe_hand(&input, report);
+}
+
+// Reports a long text.
+fn walked(alloc: Global) -> Result<Vec<u8>, AllocError> {
+    let text = long_text(alloc)?;
+    let name = Bytes::from_slice(alloc, b"a.m4")?;
+    let mut report = Report::new(alloc);
+    walk(alloc, &text, name, &mut report);
     report.text()
 }
 
@@ -700,6 +530,6 @@ fn long_file_in_blocks(rt: HostRuntime) {
         &rt,
         "a long file in blocks",
         b"wrong 0\nline 28672\n[defghi\n]\n",
-        walk(rt.alloc()),
+        walked(rt.alloc()),
     );
 }

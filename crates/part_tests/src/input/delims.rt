@@ -19,11 +19,15 @@ fn bracketed(alloc: Global) -> Result<State, StateFault> {
 
 // Returns the delimiters of that state.
 fn delims_of(alloc: Global) -> Result<Vec<u8>, AllocError> {
-    let state = bracketed(alloc).map_err(|_refused| AllocError)?;
-    let delims = Delims::of(&state);
-    let (begin, end) = delims.quotes;
-    let (hash, newline) = delims.comments;
-    joined(alloc, &[begin, end, hash, newline])
+    match bracketed(alloc) {
+        Ok(state) => {
+            let delims = Delims::of(&state);
+            let (begin, end) = delims.quotes;
+            let (hash, newline) = delims.comments;
+            joined(alloc, &[begin, end, hash, newline])
+        }
+        Err(StateFault::OutOfMemory) => Err(AllocError),
+    }
 }
 
 #[test]

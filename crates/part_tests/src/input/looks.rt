@@ -55,8 +55,9 @@ static OPEN_ROWS: [Row; 9] = [
 
 // Adds a part of the text: so many bytes from a place on.
 fn add_part(text: &[u8], at: usize, len: usize, report: &mut Report) {
-    for byte in text.iter().skip(at).take(len) {
-        report.add(&[*byte]);
+    match text.get(at..at.saturating_add(len)) {
+        Some(part) => report.add(part),
+        None => report.add(b"beyond the end"),
     }
 }
 

@@ -2,6 +2,7 @@
 //! empty, it is the usual one. Manual: "Changing the quote characters", "Changing the comment
 //! delimiters".
 
+use crate::given::empty_state;
 use crate::report::Report;
 use crate::shows::shows;
 use m4_state::bytes::Bytes;
@@ -73,7 +74,7 @@ fn describe(name: &[u8], pair: (&[u8], &[u8]), report: &mut Report) {
 // Reports a row.
 fn report_of(alloc: Global, pairs: &[(&[u8], &[u8])]) -> Result<Vec<u8>, AllocError> {
     let mut report = Report::new(alloc);
-    let mut state = State::empty(alloc).map_err(|_refused| AllocError)?;
+    let mut state = empty_state(alloc)?;
     for (begin, end) in pairs {
         if set(alloc, &mut state, begin, end).is_err() {
             report.refuse();

@@ -1,6 +1,7 @@
 //! Diversions: those with a positive number store text; 0 and negative numbers store none. Manual:
 //! "Diverting output", "Undiverting output".
 
+use crate::given::empty_state;
 use crate::report::Report;
 use crate::shows::shows;
 use m4_state::state::State;
@@ -199,7 +200,7 @@ fn do_step(state: &mut State, step: Step, report: &mut Report) {
 // Reports a row.
 fn report_of(alloc: Global, steps: &[Step]) -> Result<Vec<u8>, AllocError> {
     let mut report = Report::new(alloc);
-    let mut state = State::empty(alloc).map_err(|_refused| AllocError)?;
+    let mut state = empty_state(alloc)?;
     for step in steps {
         do_step(&mut state, *step, &mut report);
     }

@@ -1,6 +1,0 @@
-use Rattle.std.specs.Prelude.{◌≡◌, None}
-use Rattle.part_tests.proofs.input.pieces.push_all.Given as goal
-
--- no definition is pending
-abbrev pub invariant-loop-text : goal.invariant-loop-text
-invariant-loop-text l = l.input.pending.definition ≡ None

@@ -1,0 +1,215 @@
+//! Rows of steps on a state: calls of builtins and of other definitions, and questions about the state.
+
+ghost use Rattle.std.specs.List.{AllByRecursion};
+ghost use Rattle.m4_builtins.specs.Args.{IsArg};
+
+use super::{Argument, call_of, place_of, text_call_of};
+use crate::given::{Given, describe_definition, made};
+use crate::report::Report;
+use crate::shows::shows;
+use m4_builtins::act::act;
+use m4_builtins::args::Args;
+use m4_builtins::effect::Effect;
+use m4_builtins::fault::BuiltinFault;
+use m4_input::pushed::Pushed;
+use m4_state::fault::StateFault;
+use m4_state::state::State;
+use std::alloc::{AllocError, Global};
+use std::process::Abort;
+
+/// A change of a state, or a question about it.
+#[derive(Clone, Copy)]
+pub enum Step {
+    /// Calls a builtin with texts in line 1 of `a.m4`, and reports the effect.
+    Call(&'static [u8], &'static [&'static [u8]]),
+    /// Does the same with any arguments, in this line.
+    With(u64, &'static [u8], &'static [Argument]),
+    /// Calls a definition by a name with any arguments, at a place.
+    Other(Given, &'static [u8], &'static [Argument], (&'static [u8], u64)),
+    /// Adds a text to the current diversion.
+    Add(&'static [u8]),
+    /// Reports how many definitions a name has, and the newest.
+    Look(&'static [u8]),
+    /// Reports how many names there are.
+    Count,
+    /// Reports the quotes.
+    Quotes,
+    /// Reports the comment delimiters.
+    Comments,
+}
+
+/// A row's name, whether the state is fresh or empty, the steps, and the reports.
+pub type Row = (&'static str, bool, &'static [Step], &'static [u8]);
+
+// What is called: a definition, its name, and the place of the call.
+type Called = (Given, &'static [u8], (&'static [u8], u64));
+
+// Adds a line for a text.
+fn describe_text(label: &[u8], text: &[u8], report: &mut Report) {
+    report.pair(label, text);
+    report.add(b"\n");
+}
+
+// Adds what is pushed, if there is something.
+fn describe_push(effect: &Effect, report: &mut Report) {
+    match &effect.push {
+        Some(Pushed::Text(text)) => describe_text(b"push ", text.as_slice(), report),
+        Some(Pushed::Definition(_)) => report.add(b"push a definition\n"),
+        None => {}
+    }
+}
+
+// Adds what is left for the end of the run: a saved text, or an exit code.
+fn describe_end(effect: &Effect, report: &mut Report) {
+    if let Some(text) = &effect.wrap {
+        describe_text(b"wrap ", text.as_slice(), report);
+    }
+    if let Some(code) = effect.exit {
+        report.counted(b"exit ", code as usize);
+        report.add(b"\n");
+    }
+}
+
+// Adds the effect of a call.
+fn describe(effect: &Effect, report: &mut Report) {
+    describe_push(effect, report);
+    if effect.skip {
+        report.add(b"skip\n");
+    }
+    if !effect.output.as_slice().is_empty() {
+        describe_text(b"output ", effect.output.as_slice(), report);
+    }
+    report.add(effect.messages.as_slice());
+    describe_end(effect, report);
+}
+
+// Returns the effect of a call.
+fn acted(
+    alloc: Global,
+    state: &mut State,
+    called: Called,
+    args: &Args,
+) -> Result<Effect, BuiltinFault>
+    requires { AllByRecursion IsArg args.now.list }
+{
+    let definition = made(alloc, called.0)?;
+    let place = place_of(alloc, called.2.0, called.2.1)?;
+    act(alloc, &definition, args, &place, state)
+}
+
+// Makes a call, and adds its effect.
+fn act_on(alloc: Global, state: &mut State, called: Called, args: &Args, report: &mut Report)
+    requires { AllByRecursion IsArg args.now.list }
+{
+    match acted(alloc, state, called, args) {
+        Ok(effect) => describe(&effect, report),
+        Err(BuiltinFault::OutOfMemory) => report.refuse(),
+    }
+}
+
+// Makes a call with any arguments, and adds its effect.
+fn call(alloc: Global, state: &mut State, called: Called, list: &[Argument], report: &mut Report) {
+    match call_of(alloc, called.1, list) {
+        Ok(args) => act_on(alloc, state, called, &args, report),
+        Err(AllocError) => report.refuse(),
+    }
+}
+
+// Makes a call with texts, and adds its effect.
+fn text_call(
+    alloc: Global,
+    state: &mut State,
+    called: Called,
+    texts: &[&[u8]],
+    report: &mut Report,
+) {
+    match text_call_of(alloc, called.1, texts) {
+        Ok(args) => act_on(alloc, state, called, &args, report),
+        Err(AllocError) => report.refuse(),
+    }
+}
+
+// Adds a text to the current diversion.
+fn append(state: &mut State, text: &[u8], report: &mut Report) {
+    if state.append(text).is_err() {
+        report.refuse();
+    }
+}
+
+// Adds a name's definitions.
+fn look(state: &State, name: &[u8], report: &mut Report) {
+    report.add(name);
+    report.counted(b": ", state.stack(name).len());
+    if let Some(definition) = state.top(name) {
+        report.add(b", ");
+        describe_definition(definition, report);
+    }
+    report.add(b"\n");
+}
+
+// Adds a pair of delimiters.
+fn describe_pair(pair: (&[u8], &[u8]), report: &mut Report) {
+    report.pair(pair.0, b" and ");
+    report.pair(pair.1, b"\n");
+}
+
+// Adds the number of names.
+fn count(state: &State, report: &mut Report) {
+    match state.names() {
+        Ok(names) => report.number(names.len()),
+        Err(_refused) => report.refuse(),
+    }
+    report.add(b" names\n");
+}
+
+// Performs a step.
+fn do_step(alloc: Global, state: &mut State, step: Step, report: &mut Report) {
+    match step {
+        Step::Call(name, texts) => {
+            let called = (Given::Named(name), name, (b"a.m4".as_slice(), 1));
+            text_call(alloc, state, called, texts, report);
+        }
+        Step::With(line, name, list) => {
+            let called = (Given::Named(name), name, (b"a.m4".as_slice(), line));
+            call(alloc, state, called, list, report);
+        }
+        Step::Other(given, name, list, place) => {
+            call(alloc, state, (given, name, place), list, report);
+        }
+        Step::Add(text) => append(state, text, report),
+        Step::Look(name) => look(state, name, report),
+        Step::Count => count(state, report),
+        Step::Quotes => describe_pair(state.quotes(), report),
+        Step::Comments => describe_pair(state.comments(), report),
+    }
+}
+
+// Returns a state to start with.
+fn start(alloc: Global, fresh: bool) -> Result<State, StateFault> {
+    if fresh {
+        State::fresh(alloc, false)
+    } else {
+        State::empty(alloc)
+    }
+}
+
+// Adds the reports of a row's steps.
+fn see(alloc: Global, fresh: bool, steps: &[Step], report: &mut Report) {
+    match start(alloc, fresh) {
+        Ok(mut state) => {
+            for step in steps {
+                do_step(alloc, &mut state, *step, report);
+            }
+        }
+        Err(StateFault::OutOfMemory) => report.refuse(),
+    }
+}
+
+/// Compares the reports of each row's steps with the expected ones.
+pub fn tried(rt: &impl Abort, alloc: Global, rows: &[Row]) {
+    for &(name, fresh, steps, want) in rows {
+        let mut report = Report::new(alloc);
+        see(alloc, fresh, steps, &mut report);
+        shows(rt, name, want, report.text());
+    }
+}

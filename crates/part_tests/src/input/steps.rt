@@ -1,0 +1,404 @@
+//! Rows of steps on an input: its calls, and questions about the bytes in hand.
+
+ghost use Rattle.std.specs.Prelude.{◌≡◌, None};
+
+use super::{BLOCKS, USUAL, describe, describe_fault, push};
+use crate::given::{Given, describe_definition, made};
+use crate::report::{Report, repeated};
+use crate::shows::shows;
+use m4_input::delims::Delims;
+use m4_input::fault::InputFault;
+use m4_input::front::{Answer, Scan};
+use m4_input::input::Input;
+use m4_input::pushed::Pushed;
+use m4_input::token::Token;
+use m4_state::bytes::Bytes;
+use m4_state::memory::MemSource;
+use std::alloc::{AllocError, Global};
+use std::process::Abort;
+
+/// A step on an input.
+#[derive(Clone, Copy)]
+pub enum Step {
+    /// Asks the reader once.
+    More,
+    /// Asks the reader once, and again while the first token is open.
+    Token,
+    /// The first token of the bytes in hand.
+    Look,
+    /// Asks until the first token is decided.
+    Decide,
+    /// Whether a list follows so many bytes.
+    List(usize),
+    /// Skips the rest of the line as far as it is in hand.
+    Skip,
+    /// The next token, for which the input asks by itself.
+    Next,
+    /// The length of the next token, if it is a name.
+    NextLen,
+    /// The tokens up to the end.
+    Rest,
+    /// Whether a list follows, for which the input asks by itself.
+    SeesParen,
+    /// Skips the rest of the line, for which the input asks by itself.
+    SkipLine,
+    /// Removes the definition before the text.
+    TakeDefinition,
+    /// Removes so many bytes in hand, or all if there are fewer.
+    Take(usize),
+    /// Pushes a text, so many letters, or a definition, where no definition is.
+    Push(&'static [u8]),
+    PushMany(usize),
+    PushDefinition(Given),
+    /// The bytes in hand, the line, the file's name, and how many bytes the reader returned.
+    Hand,
+    Line,
+    Name,
+    Taken,
+}
+
+/// A file a.m4, the numbers of bytes that its reader returns at a time, and whether it fails at the end; steps
+/// and their results.
+pub struct Row {
+    pub name: &'static str,
+    pub delims: &'static Delims<'static>,
+    pub file: &'static [u8],
+    pub blocks: &'static [usize],
+    pub fails: bool,
+    pub steps: &'static [Step],
+    pub want: &'static [u8],
+}
+
+/// A row with the usual delimiters, whose file is read in one block.
+pub const PLAIN: Row = Row {
+    name: "",
+    delims: &USUAL,
+    file: b"",
+    blocks: &[4096],
+    fails: false,
+    steps: &[],
+    want: b"",
+};
+
+/// The same, but the file is read in blocks of each size.
+pub const BLOCKED: Row = Row {
+    blocks: &BLOCKS,
+    ..PLAIN
+};
+
+/// Quotes of two bytes each.
+pub const ANGLES: Delims<'static> = Delims {
+    quotes: (b"<<", b">>"),
+    comments: (b"#", b"\n"),
+};
+
+/// Comments whose begin begins with a parenthesis.
+pub const STARRED: Delims<'static> = Delims {
+    quotes: (b"`", b"'"),
+    comments: (b"(*", b"*)"),
+};
+
+// More tokens than any row has.
+const MOST: usize = 20;
+
+// Adds a result that is a line.
+fn add_line(line: Result<&'static [u8], InputFault>, report: &mut Report) {
+    match line {
+        Ok(line) => report.add(line),
+        Err(fault) => describe_fault(fault, report),
+    }
+}
+
+// Adds a token.
+fn add_token(token: Result<Token, InputFault>, report: &mut Report) {
+    match token {
+        Ok(token) => describe(&token, report),
+        Err(fault) => describe_fault(fault, report),
+    }
+}
+
+// Adds the length of a token, if it is a name.
+fn add_len(token: &Result<Token, InputFault>, report: &mut Report) {
+    match token {
+        Ok(Token::Name(name)) => report.counted(b"a name of ", name.as_slice().len()),
+        _ => report.add(b"no name"),
+    }
+    report.add(b"\n");
+}
+
+// Adds what the bytes in hand decide of the first token: its length, and the token.
+fn describe_found(found: &Scan, report: &mut Report) {
+    match found {
+        Scan::Found(token, len) => {
+            report.number(*len);
+            report.add(b": ");
+            describe(token, report);
+        }
+        Scan::Broken(_what) => report.add(b"no end\n"),
+        Scan::NeedsMore => report.add(b"needs more\n"),
+    }
+}
+
+// Adds the same, or a fault.
+fn add_found(found: Result<Scan, InputFault>, report: &mut Report) {
+    match found {
+        Ok(found) => describe_found(&found, report),
+        Err(fault) => describe_fault(fault, report),
+    }
+}
+
+// Adds whether a list follows.
+fn add_paren(sees: Result<bool, InputFault>, report: &mut Report) {
+    match sees {
+        Ok(true) => report.add(b"list\n"),
+        Ok(false) => report.add(b"no list\n"),
+        Err(fault) => describe_fault(fault, report),
+    }
+}
+
+// Adds that a line was skipped.
+fn add_skipped(skipped: Result<(), InputFault>, report: &mut Report) {
+    match skipped {
+        Ok(()) => report.add(b"skipped\n"),
+        Err(fault) => describe_fault(fault, report),
+    }
+}
+
+/// Asks the reader once, if it has not ended.
+pub fn ask(input: &mut Input, reader: &mut MemSource<'_>) -> Result<&'static [u8], InputFault> {
+    if let Some(fault) = input.fault() {
+        return Err(fault);
+    }
+    if !input.may_follow() {
+        return Ok(b"closed\n");
+    }
+    Ok(if input.more(reader)? {
+        b"more\n"
+    } else {
+        b"end\n"
+    })
+}
+
+// Asks the reader, and again while the first token is open, if the reader has not ended.
+fn ask_token(
+    input: &mut Input,
+    reader: &mut MemSource<'_>,
+    delims: &Delims<'_>,
+) -> Result<&'static [u8], InputFault> {
+    if let Some(fault) = input.fault() {
+        return Err(fault);
+    }
+    if !input.may_follow() {
+        return Ok(b"closed\n");
+    }
+    input.more_of_token(reader, delims)?;
+    Ok(b"asked\n")
+}
+
+// Looks at the first token, or returns the fault of an earlier step.
+fn look(input: &mut Input, delims: &Delims<'_>) -> Result<Scan, InputFault> {
+    match input.fault() {
+        Some(fault) => Err(fault),
+        None => input.look(delims),
+    }
+}
+
+// Asks until the first token is decided, at most a hundred times.
+fn decide(
+    input: &mut Input,
+    reader: &mut MemSource<'_>,
+    delims: &Delims<'_>,
+) -> Result<Scan, InputFault> {
+    for _ in 0..100 {
+        match look(input, delims)? {
+            Scan::NeedsMore => {
+                let _answer = ask(input, reader)?;
+            }
+            found => return Ok(found),
+        }
+    }
+    Ok(Scan::NeedsMore)
+}
+
+// Adds the tokens up to the end.
+fn add_rest(
+    input: &mut Input,
+    reader: &mut MemSource<'_>,
+    delims: &Delims<'_>,
+    report: &mut Report,
+) {
+    for _ in 0..MOST {
+        let token = input.next(reader, delims);
+        let ends = matches!(&token, Ok(Token::End));
+        add_token(token, report);
+        if ends {
+            break;
+        }
+    }
+}
+
+// Returns whether a list follows so many bytes.
+fn list_after(input: &Input, n: usize, delims: &Delims<'_>) -> &'static [u8] {
+    match input.piece() {
+        Some(text) if n <= text.len() => match input.list_after(n, delims) {
+            Answer::Yes => b"list\n",
+            Answer::No => b"no list\n",
+            Answer::Unknown => b"unknown\n",
+        },
+        _ => b"too few bytes\n",
+    }
+}
+
+/// Adds the bytes in hand.
+pub fn describe_hand(input: &Input, report: &mut Report) {
+    match input.piece() {
+        Some(text) => {
+            report.pair(b"[", text);
+            report.add(b"]\n");
+        }
+        None => report.add(b"apart\n"),
+    }
+}
+
+/// Adds the line.
+pub fn describe_line(input: &Input, report: &mut Report) {
+    report.counted(b"line ", input.line() as usize);
+    report.add(b"\n");
+}
+
+// Adds the file's name.
+fn describe_name(input: &Input, report: &mut Report) {
+    report.pair(input.name(), b"\n");
+}
+
+// Adds how many bytes the reader returned.
+fn describe_taken(reader: &MemSource<'_>, report: &mut Report) {
+    report.counted(b"taken ", reader.taken());
+    report.add(b"\n");
+}
+
+// Adds whether all of a line was skipped.
+fn describe_skip(all: bool, report: &mut Report) {
+    report.add(if all {
+        b"all of the line\n"
+    } else {
+        b"part of the line\n"
+    });
+}
+
+// Removes the definition before the text, and adds it.
+fn take_definition(input: &mut Input, report: &mut Report) {
+    match input.take_definition() {
+        Some(definition) => describe_definition(&definition, report),
+        None => report.add(b"none"),
+    }
+    report.add(b"\n");
+}
+
+// Removes so many bytes, or all if there are fewer.
+fn take_front(input: &mut Input, n: usize) {
+    let len = match input.piece() {
+        Some(text) => text.len().min(n),
+        None => 0,
+    };
+    input.consume(len);
+}
+
+// Removes a definition, where there should be none.
+fn take_none(input: &mut Input, report: &mut Report)
+    ensures { input.new.pending.definition ≡ None }
+{
+    if input.take_definition().is_some() {
+        report.add(b"a definition was in front\n");
+    }
+}
+
+// Pushes a text.
+fn put(alloc: Global, input: &mut Input, text: &[u8], report: &mut Report) {
+    take_none(input, report);
+    if push(alloc, input, text).is_err() {
+        report.refuse();
+    }
+}
+
+// Pushes so many letters.
+fn put_many(alloc: Global, input: &mut Input, count: usize, report: &mut Report) {
+    match repeated(alloc, b'x', count) {
+        Ok(text) => put(alloc, input, &text, report),
+        Err(AllocError) => report.refuse(),
+    }
+}
+
+// Makes a step, and adds its result.
+fn answer(
+    alloc: Global,
+    input: &mut Input,
+    reader: &mut MemSource<'_>,
+    delims: &Delims<'_>,
+    step: Step,
+    report: &mut Report,
+) {
+    match step {
+        Step::More => add_line(ask(input, reader), report),
+        Step::Token => add_line(ask_token(input, reader, delims), report),
+        Step::Look => add_found(look(input, delims), report),
+        Step::Decide => add_found(decide(input, reader, delims), report),
+        Step::List(n) => report.add(list_after(input, n, delims)),
+        Step::Skip => describe_skip(input.skip_in_hand(), report),
+        Step::Next => add_token(input.next(reader, delims), report),
+        Step::NextLen => add_len(&input.next(reader, delims), report),
+        Step::Rest => add_rest(input, reader, delims, report),
+        Step::SeesParen => add_paren(input.sees_paren(reader, delims), report),
+        Step::SkipLine => add_skipped(input.skip_line(reader), report),
+        Step::TakeDefinition => take_definition(input, report),
+        Step::Take(n) => take_front(input, n),
+        Step::Push(text) => put(alloc, input, text, report),
+        Step::PushMany(count) => put_many(alloc, input, count, report),
+        Step::PushDefinition(given) => put_definition(alloc, input, given, report),
+        Step::Hand => describe_hand(input, report),
+        Step::Line => describe_line(input, report),
+        Step::Name => describe_name(input, report),
+        Step::Taken => describe_taken(reader, report),
+    }
+}
+
+// Pushes a definition.
+fn put_definition(alloc: Global, input: &mut Input, given: Given, report: &mut Report) {
+    take_none(input, report);
+    match made(alloc, given) {
+        Ok(definition) => {
+            if input.push_front(Pushed::Definition(definition)).is_err() {
+                report.refuse();
+            }
+        }
+        Err(AllocError) => report.refuse(),
+    }
+}
+
+// Adds the results of a row's steps.
+fn see(alloc: Global, row: &Row, block: usize, name: Bytes, report: &mut Report) {
+    let mut reader = MemSource::new(row.file, block.max(1), row.fails);
+    let mut input = Input::file(alloc, name);
+    for step in row.steps {
+        answer(alloc, &mut input, &mut reader, row.delims, *step, report);
+    }
+}
+
+// Compares the results of a row's steps with the expected ones.
+fn tried_in(rt: &impl Abort, alloc: Global, row: &Row, block: usize) {
+    let mut report = Report::new(alloc);
+    match Bytes::from_slice(alloc, b"a.m4") {
+        Ok(name) => see(alloc, row, block, name, &mut report),
+        Err(AllocError) => report.refuse(),
+    }
+    shows(rt, row.name, row.want, report.text());
+}
+
+/// Tries each row with each number of bytes that its reader returns at a time.
+pub fn tried(rt: &impl Abort, alloc: Global, rows: &[Row]) {
+    for row in rows {
+        for block in row.blocks {
+            tried_in(rt, alloc, row, *block);
+        }
+    }
+}
