@@ -48,14 +48,32 @@ pub fn act(
     // exact steps: the new state and the effect
     ensures { IfOk result (λ e. spec.act def.now args.now.name args.now.list place.now state.old ≡ record { state = state.new; effect = e }) }
 {
-    let mut step = begin(
+    act_on(
         alloc,
         def,
         args.name.as_slice(),
         args.list.as_slice(),
         place,
         state,
-    )?;
+    )
+}
+
+/// Makes a call whose name and arguments are borrowed, as [`act`] does.
+#[doc(hidden)]
+pub fn act_on(
+    alloc: Global,
+    def: &Def,
+    name: &[u8],
+    list: &[Arg],
+    place: &Place,
+    state: &mut State,
+) -> Result<Effect, BuiltinFault>
+    requires definition { IsDefinition def.now }
+    requires args { AllByRecursion IsArg list.now }
+    // exact steps: the new state and the effect
+    ensures { IfOk result (λ e. spec.act def.now name.now list.now place.now state.old ≡ record { state = state.new; effect = e }) }
+{
+    let mut step = begin(alloc, def, name, list, place, state)?;
     loop {
         match step {
             Step::Done(effect) => return Ok(effect),

@@ -3,7 +3,7 @@
 //! A call keeps its name, its definition and its place until its list ends, and there are as many heads
 //! as open calls. One allocation contains all three parts, so each call allocates once for them.
 
-ghost use Rattle.std.specs.Prelude.{◌≡◌, ◌+◌, ◌≤◌, List, ℕ, length, take, drop, IfOk, IfSome, IfNone};
+ghost use Rattle.std.specs.Prelude.{◌≡◌, ◌+◌, ◌≤◌, List, ℕ, length, take, drop, IfOk, OnOk, IfSome, IfNone};
 ghost use Rattle.m4_state.specs.Definition.{IsDefinition};
 ghost use Rattle.m4_state.specs.declared.definition.Def.TheVariants.{Text};
 ghost use Rattle.m4_builtins.specs.Act.{needs_list};
@@ -13,7 +13,7 @@ use crate::place::Place;
 use m4_state::builtin::Builtin;
 use m4_state::bytes::Bytes;
 use m4_state::definition::Def;
-use std::alloc::AllocError;
+use std::alloc::{AllocError, Global};
 use std::marker::Model;
 
 /// The kind of a definition. The bytes of a text or of a placeholder's name are stored separately.
@@ -115,6 +115,51 @@ impl Head {
             text_len: text.len(),
             strings,
         })
+    }
+
+    /// Creates a head without a name, for use by `renew`.
+    pub fn empty(alloc: Global) -> Head {
+        Head {
+            kind: Kind::Text,
+            line: 0,
+            name_len: 0,
+            text_len: 0,
+            strings: Vec::new(alloc),
+        }
+    }
+
+    /// Makes this the head with copies of these parts, and keeps its memory.
+    #[inline(always)]
+    pub fn renew(
+        &mut self,
+        name: &[u8],
+        definition: &Def,
+        file: &[u8],
+        line: u64,
+    ) -> Result<(), AllocError>
+        requires { IsDefinition definition.now }
+        ensures { OnOk result (self.new ≡ record {
+          definition = definition.now;
+          name = name.now;
+          place = record { file = file.now; line = line };
+        }) }
+    {
+        let alloc = *self.strings.allocator();
+        let strings = std::mem::replace(self, Head::empty(alloc)).into_strings();
+        *self = Head::new(strings, name, definition, file, line)?;
+        Ok(())
+    }
+
+    /// Returns the memory of the head's parts.
+    fn into_strings(self) -> Vec<u8> {
+        let Head {
+            kind: _kind,
+            line: _line,
+            name_len: _name_len,
+            text_len: _text_len,
+            strings,
+        } = self;
+        strings
     }
 
     /// Returns the name by which the macro was called.

@@ -28,7 +28,6 @@ use Rattle.m4_builtins.specs.Subst.{subst as substituted}
 use Rattle.m4_state.specs.declared.definition.Def.TheVariants.{Text}
 use Rattle.m4_engine.specs.declared.lookahead.Meaning.TheVariants as meanings
 use Rattle.m4_engine.specs.declared.turned.Turned.TheVariants as turns
-use Rattle.m4_builtins.specs.CallHead.{CallHead}
 use Rattle.m4_engine.specs.Nesting.{GoOn}
 use Rattle.m4_engine.specs.OpenCalls.{Goes}
 use Rattle.m4_state.specs.declared.delimiters.Delimiters.{Delimiters}
@@ -125,14 +124,14 @@ expansion_moves e e1 m x bare listed p p' (Ok u) h d i j k = λ name at before f
 expansion_moves e e1 m x bare listed p p' (Err y) h d i j k = tt
 
 -- a call that is made
-pub made_moves : (e e1 : Engine) (m : Meaning) (h : CallHead) (c : Call) (bare listed : Bool) (p p' : Pending) (r : Result Turned TurnFault) → m ≡ meanings.Call h → c ≡ call_of h.definition h.name h.place → p.definition ≡ None → paren_at (e.state).quotes (e.state).comments p ≡ answer_of listed → (listed ≡ false → needs_list h.definition ≡ false) → IfOk r (λ u. (before : Extended) → Moves p.may_follow e1 p' u (λ z more o l. step (outer_of e.open_calls) (call listed c (longer z more p) (here_of o l e (before z more))))) → NameMoves p.may_follow e e1 p p' r m bare
-made_moves e e1 m h c bare listed p p' (Ok u) f g q i j k = λ name at before b w.
+pub made_moves : (e e1 : Engine) (m : Meaning) (c : Call) (bare listed : Bool) (p p' : Pending) (r : Result Turned TurnFault) → m ≡ meanings.Call c → c ≡ call_of c.definition c.name c.place → p.definition ≡ None → paren_at (e.state).quotes (e.state).comments p ≡ answer_of listed → (listed ≡ false → needs_list c.definition ≡ false) → IfOk r (λ u. (before : Extended) → Moves p.may_follow e1 p' u (λ z more o l. step (outer_of e.open_calls) (call listed c (longer z more p) (here_of o l e (before z more))))) → NameMoves p.may_follow e e1 p p' r m bare
+made_moves e e1 m c bare listed p p' (Ok u) f g q i j k = λ name at before b w.
     let v = subst (λ (n : Meaning). IsMeaning n bare e.state name at) f w in
-    let d = h.definition in
-    let same : c ≡ call_of d name at = g ∙ ap (λ (x : List ℕ). call_of d x h.place) v.1 ∙ ap (call_of d name) v.2 in
+    let d = c.definition in
+    let same : c ≡ call_of d name at = g ∙ ap (λ (x : List ℕ). call_of d x c.place) v.1 ∙ ap (call_of d name) v.2 in
     moves_by p.may_follow e1 p' u _ _ (λ z more t o l. named e d name listed (longer z more p) (before z more) at o l (sym v.0) (paren_longer (e.state).quotes (e.state).comments p listed z more q i t) j (sym (b z more))
     ∙ ap (λ (c : Call). step (outer_of e.open_calls) (call listed c (longer z more p) (here_of o l e (before z more)))) (sym same)) (k before)
-made_moves e e1 m h c bare listed p p' (Err y) f g q i j k = tt
+made_moves e e1 m c bare listed p p' (Err y) f g q i j k = tt
 
 -- text goes where it goes
 text_goes : (cs : List Call) (x : List ℕ) (e : Engine) (p before : Pending) (o m : List ℕ) → e.open_calls ≡ cs → step (outer_of cs) (GoOn (put_text x (reading p (here_of o m (record e { open_calls = cs }) before)))) ≡ Goes (configuration o m (put_in cs x (record e { open_calls = cs })) p)
@@ -140,7 +139,7 @@ text_goes [] x e p before o m h = rw (append_assoc o e.output (issued (e.state).
 text_goes (c ∷ cs) x e p before o m h = rw (append-nil (o ++ e.output)) refl
 
 -- a name that needs a list and has none is text
-pub bare_moves : (e e1 : Engine) (m : Meaning) (h : CallHead) (bare listed : Bool) (p : Pending) → m ≡ meanings.Call h → p.definition ≡ None → paren_at (e.state).quotes (e.state).comments p ≡ answer_of listed → listed ≡ false → needs_list h.definition ≡ true → e1 ≡ with_text h.name e → (name : List ℕ) (at : Place) (before : Extended) → IsAt at before → IsMeaning m bare e.state name at → Moves p.may_follow e1 p turns.GoesOn (λ z more o l. step (outer_of e.open_calls) (take_name (top_of e.state name) name (longer z more p) (here_of o l e (before z more))))
+pub bare_moves : (e e1 : Engine) (m : Meaning) (h : Call) (bare listed : Bool) (p : Pending) → m ≡ meanings.Call h → p.definition ≡ None → paren_at (e.state).quotes (e.state).comments p ≡ answer_of listed → listed ≡ false → needs_list h.definition ≡ true → e1 ≡ with_text h.name e → (name : List ℕ) (at : Place) (before : Extended) → IsAt at before → IsMeaning m bare e.state name at → Moves p.may_follow e1 p turns.GoesOn (λ z more o l. step (outer_of e.open_calls) (take_name (top_of e.state name) name (longer z more p) (here_of o l e (before z more))))
 bare_moves e e1 m h bare listed p f q i j n g name at before b w = λ z more t o l.
     let v = subst (λ (k : Meaning). IsMeaning k bare e.state name at) f w in
     let s = here_of o l e (before z more) in

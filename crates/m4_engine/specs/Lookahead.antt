@@ -12,6 +12,7 @@ use Rattle.m4_input.specs.Paren.{paren_in}
 use Rattle.m4_input.specs.Input.{answer_of}
 use Rattle.m4_builtins.specs.declared.place.Place.{Place}
 use Rattle.m4_builtins.specs.Subst.{subst}
+use Rattle.m4_engine.specs.Expand.{call_of}
 use Rattle.m4_engine.specs.declared.lookahead.Meaning.{Meaning}
 use Rattle.m4_engine.specs.declared.lookahead.Meaning.TheVariants as meanings
 use Rattle.m4_engine.specs.declared.lookahead.Named.{Named}
@@ -22,13 +23,13 @@ use Rattle.m4_engine.specs.declared.lookahead.Lookahead.TheVariants as aheads
 abbrev pub IsMeaning : Meaning → Bool → State → List ℕ → Place → Type 0
 IsMeaning (meanings.Expansion x) bare s name place =
     (bare ≡ true) × (text : List ℕ) × (top_of s name ≡ Some (Text text)) × (x ≡ subst text name [] s.quotes)
-IsMeaning (meanings.Call h) bare s name place =
-    (top_of s name ≡ Some h.definition) × (h.name ≡ name) × (h.place ≡ place)
+IsMeaning (meanings.Call c) bare s name place =
+    (top_of s name ≡ Some c.definition) × (c.name ≡ name) × (c.place ≡ place) × (c ≡ call_of c.definition c.name c.place)
 
--- the expansion of a call is known only if it is bare
+-- the expansion of a call is known only if it is bare, and a call has no argument yet
 abbrev pub Fits : Meaning → Bool → Type 0
 Fits (meanings.Expansion x) bare = bare ≡ true
-Fits (meanings.Call h) bare = Unit {0}
+Fits (meanings.Call c) bare = c ≡ call_of c.definition c.name c.place
 
 -- a name with a definition is the first token; `room` says that the limits allow a call
 pub record IsNamed (n : Named) (s : State) (room : Bool) (p : Pending) : Type 0 where

@@ -1,6 +1,9 @@
 //! A call whose arguments are being collected. Manual: "Macro arguments", "Quoting arguments".
+//!
+//! A call is kept in a box, with its memory, and the next one takes it. So a call is moved by its address, and
+//! most calls ask for no memory.
 
-ghost use Rattle.std.specs.Prelude.{◌≡◌, ◌<◌, ◌-◌, suc, ◌++◌, ◌∷◌, [], true, false, nat_lt, Ok, OnOk, IfOk};
+ghost use Rattle.std.specs.Prelude.{◌≡◌, ◌<◌, ◌≤◌, ◌+◌, ◌-◌, suc, OnErr, ◌++◌, ◌∷◌, [], true, false, nat_lt, Ok, OnOk, IfOk, length, take};
 ghost use Rattle.std.specs.List.{AllByRecursion};
 ghost use Rattle.m4_state.specs.Definition.{IsDefinition};
 ghost use Rattle.m4_builtins.specs.Args.{IsArg};
@@ -11,89 +14,220 @@ ghost use Rattle.m4_engine.specs.Engine.{IsCall, warning_if_dropped};
 ghost use Rattle.m4_engine.specs.Expand.{call_of};
 
 use crate::role::Role;
-use crate::spare::Spare;
-use m4_builtins::args::{Arg, ArgList};
+use m4_builtins::args::Arg;
 use m4_builtins::head::Head;
 use m4_builtins::place::Place;
 use m4_state::bytes::Bytes;
 use m4_state::definition::Def;
-use std::alloc::AllocError;
+use std::alloc::{AllocError, Global};
 use std::marker::Model;
 
 /// A call whose list is not closed yet: its definition, name and place as they were when the name was read,
 /// the complete arguments, and the part of the next one that was read.
 #[derive(Debug)]
 pub struct OpenCall {
+    parts: Box<Parts>,
+}
+
+/// The parts of an open call. The first `count` arguments are complete; those after them are of earlier calls,
+/// and are kept for their memory.
+#[derive(Debug, Drop)]
+struct Parts {
     head: Head,
-    done: Vec<Arg>,
+    args: Vec<Arg>,
+    count: usize,
     parentheses: usize,
     begun: bool,
     bytes: Vec<u8>,
     tokens: Vec<Def>,
+    is_large: bool,
 }
 
 impl Model for OpenCall {
     ghost use Rattle.std.specs.Prelude.{◌≤◌, length};
     ghost use Rattle.m4_engine.specs.Expansion.{Call};
-    ghost use Rattle.m4_engine.specs.CallView.{call_view};
-    ghost use Rattle.m4_engine.specs.Engine.{IsCall};
+    ghost use Rattle.m4_engine.specs.CallView.{call_view, IsOpenCall};
 
     ghost Value = { Call };
 
     ghost view = { call_view };
 
-    ghost invariant = { λ c. (c.parentheses ≤ length c.bytes.items) × IsCall (call_view c) };
+    ghost invariant = { IsOpenCall };
 }
 
 // Written out so that a caller's proof contains one call, not the drop of each field.
 impl Drop for OpenCall {
     fn drop(self) {
-        let OpenCall {
-            head: _head,
-            done: _done,
-            parentheses: _parentheses,
-            begun: _begun,
-            bytes: _bytes,
-            tokens: _tokens,
-        } = self;
+        let OpenCall { parts: _parts } = self;
     }
 }
 
+/// A longer text is dropped when its call was made, and its memory with it.
+const LARGEST: usize = 256;
+
+/// Returns an argument that needs no memory.
+#[inline(always)]
+fn blank(alloc: Global) -> Arg
+    ensures { IsArg result }
+{
+    Arg::Text(Bytes::from(Vec::new(alloc)))
+}
+
+/// Drops the arguments that are large, and the definitions.
+fn drop_large(alloc: Global, args: &mut [Arg]) {
+    for arg in args.iter_mut() {
+        let is_large = match arg {
+            Arg::Text(text) => text.as_slice().len() > LARGEST,
+            Arg::Definition(_) => true,
+        };
+        if is_large {
+            *arg = blank(alloc);
+        }
+    }
+}
+
+/// Returns an empty buffer. It has the memory of the argument at an index, if there is one.
+#[inline(always)]
+fn buffer_at(alloc: Global, args: &mut [Arg], index: usize) -> Vec<u8>
+    ensures empty { result.items ≡ [] }
+    ensures before { take index args.new ≡ take index args.old }
+{
+    if index < args.len() {
+        let kept = std::mem::replace(&mut args[index], blank(alloc));
+        if let Arg::Text(text) = kept {
+            let mut buffer = text.into_vec();
+            buffer.clear();
+            return buffer;
+        }
+    }
+    Vec::new(alloc)
+}
+
+/// Puts an argument after the first `count` ones.
+#[inline(always)]
+fn put_at(args: &mut Vec<Arg>, count: usize, arg: Arg) -> Result<(), AllocError>
+    requires { count ≤ length args.old.items }
+    ensures put { OnOk result (take (count + 1) args.new.items ≡ take count args.old.items ++ arg ∷ []) }
+    ensures err { OnErr result (args.new.items ≡ args.old.items) }
+    ensures within { OnOk result (count + 1 ≤ length args.new.items) }
+{
+    if count < args.len() {
+        args[count] = arg;
+    } else {
+        args.push(arg)?;
+    }
+    Ok(())
+}
+
+/// Makes an argument of what was collected.
+#[inline(always)]
+fn argument(bytes: Vec<u8>, tokens: Vec<Def>) -> Arg
+    requires { AllByRecursion IsDefinition tokens.items }
+    ensures value { result ≡ argument_of bytes.items tokens.items }
+    ensures valid { IsArg result }
+{
+    let mut left = tokens;
+    if bytes.is_empty() && left.len() == 1 {
+        if let Some(definition) = left.pop() {
+            return Arg::Definition(definition);
+        }
+    }
+    Arg::Text(Bytes::from(bytes))
+}
+
 impl OpenCall {
-    /// Creates a call with no argument read yet.
-    pub fn new(head: Head, spare: &mut Spare) -> OpenCall
-        ensures { result ≡ call_of head.definition head.name head.place }
-    {
-        OpenCall {
-            head,
-            done: spare.list(),
+    /// Creates a call whose head has no name yet.
+    pub fn empty(alloc: Global) -> Result<OpenCall, AllocError> {
+        let parts = Parts {
+            head: Head::empty(alloc),
+            args: Vec::new(alloc),
+            count: 0,
             parentheses: 0,
             begun: false,
-            bytes: spare.buffer(),
-            tokens: Vec::new(spare.alloc()),
+            bytes: Vec::new(alloc),
+            tokens: Vec::new(alloc),
+            is_large: false,
+        };
+        Ok(OpenCall {
+            parts: Box::new(alloc, parts)?,
+        })
+    }
+
+    /// Makes this a call with no argument read yet, and keeps its memory.
+    pub fn renew(
+        &mut self,
+        name: &[u8],
+        definition: &Def,
+        file: &[u8],
+        line: u64,
+    ) -> Result<(), AllocError>
+        requires { IsDefinition definition.now }
+        ensures { OnOk result (self.new ≡ call_of definition.now name.now (record { file = file.now; line = line })) }
+    {
+        self.clear();
+        self.parts.head.renew(name, definition, file, line)
+    }
+
+    /// Drops the arguments, but keeps their memory.
+    #[inline(always)]
+    fn clear(&mut self)
+        ensures { self.new ≡ call_of self.old.definition self.old.name self.old.place }
+    {
+        self.parts.count = 0;
+        self.parts.parentheses = 0;
+        self.parts.begun = false;
+        self.parts.bytes.clear();
+        self.parts.tokens.clear();
+    }
+
+    /// Drops the arguments, and keeps the memory of at most so many of them, and of none that are large.
+    pub fn shed(&mut self, most: usize) {
+        self.clear();
+        self.parts.args.truncate(most);
+        if self.parts.is_large {
+            let alloc = *self.parts.bytes.allocator();
+            drop_large(alloc, &mut self.parts.args);
+            self.parts.bytes = Vec::new(alloc);
+            self.parts.head = Head::empty(alloc);
+            self.parts.is_large = false;
         }
+    }
+
+    /// Returns the parts of the call before its arguments.
+    pub fn head(&self) -> &Head
+        ensures { result.now ≡ record { definition = self.now.definition; name = self.now.name; place = self.now.place } }
+    {
+        &self.parts.head
+    }
+
+    /// Returns the arguments that are complete.
+    pub fn arguments(&self) -> &[Arg]
+        ensures list { result.now ≡ self.now.done }
+        ensures valid { AllByRecursion IsArg result.now }
+    {
+        self.parts.args.split_at(self.parts.count).0
     }
 
     /// Returns the place of the call's name.
     pub fn place(&self) -> Result<Place, AllocError>
         ensures { IfOk result (λ p. p ≡ self.now.place) }
     {
-        let alloc = *self.bytes.allocator();
-        self.head.place(Vec::new(alloc))
+        let alloc = *self.parts.bytes.allocator();
+        self.parts.head.place(Vec::new(alloc))
     }
 
     /// Returns whether a parenthesis is open in the current argument.
     pub fn is_nested(&self) -> bool
         ensures { result ≡ nat_lt 0 self.now.parentheses }
     {
-        self.parentheses > 0
+        self.parts.parentheses > 0
     }
 
     /// Marks the argument as begun: from now on white space belongs to it.
     pub fn begin(&mut self)
         ensures { self.new ≡ record self.old { begun = true } }
     {
-        self.begun = true;
+        self.parts.begun = true;
     }
 
     /// Returns the role of a byte that belongs to no other token.
@@ -103,8 +237,8 @@ impl OpenCall {
         match byte {
             b'(' => Role::Opening,
             b')' => Role::Closing,
-            b',' if self.parentheses == 0 => Role::Separator,
-            b' ' | 9..=13 if !self.begun => Role::Blank,
+            b',' if self.parts.parentheses == 0 => Role::Separator,
+            b' ' | 9..=13 if !self.parts.begun => Role::Blank,
             _ => Role::Other,
         }
     }
@@ -113,8 +247,8 @@ impl OpenCall {
     pub fn put(&mut self, text: &[u8]) -> Result<(), AllocError>
         ensures { OnOk result (self.new ≡ record self.old { begun = true; bytes = self.old.bytes ++ text.now }) }
     {
-        self.begun = true;
-        self.bytes.extend_from_slice(text)
+        self.parts.begun = true;
+        self.parts.bytes.extend_from_slice(text)
     }
 
     /// Appends a definition to the argument.
@@ -122,8 +256,8 @@ impl OpenCall {
         requires { IsDefinition definition }
         ensures { OnOk result (self.new ≡ record self.old { begun = true; tokens = self.old.tokens ++ definition ∷ [] }) }
     {
-        self.begun = true;
-        self.tokens.push(definition)?;
+        self.parts.begun = true;
+        self.parts.tokens.push(definition)?;
         Ok(())
     }
 
@@ -135,9 +269,9 @@ impl OpenCall {
           bytes = self.old.bytes ++ open_parenthesis ∷ [];
         }) }
     {
-        self.begun = true;
-        self.bytes.push(b'(')?;
-        self.parentheses += 1;
+        self.parts.begun = true;
+        self.parts.bytes.push(b'(')?;
+        self.parts.parentheses += 1;
         Ok(())
     }
 
@@ -150,9 +284,9 @@ impl OpenCall {
           bytes = self.old.bytes ++ close_parenthesis ∷ [];
         }) }
     {
-        self.begun = true;
-        self.bytes.push(b')')?;
-        self.parentheses -= 1;
+        self.parts.begun = true;
+        self.parts.bytes.push(b')')?;
+        self.parts.parentheses -= 1;
         Ok(())
     }
 
@@ -160,53 +294,37 @@ impl OpenCall {
     fn drops(&self) -> bool
         ensures { dropped_if_any self.now.place self.now.bytes self.now.tokens ≡ warning_if_dropped result self.now.place }
     {
-        match self.tokens.len() {
+        match self.parts.tokens.len() {
             0 => false,
-            1 => !self.bytes.is_empty(),
+            1 => !self.parts.bytes.is_empty(),
             _ => true,
         }
     }
 
-    /// Returns the collected argument without a copy, and clears it.
-    #[tactic(auto, using(crate::proofs::InOrder::argument_valid))]
-    fn argument(&mut self, spare: &mut Spare) -> Arg
-        requires { self.old.parentheses ≡ 0 }
-        ensures value { result ≡ argument_of self.old.bytes self.old.tokens }
-        ensures valid { IsArg result }
-        ensures call { IsCall self.new }
-        ensures rest { self.new ≡ record self.old { bytes = []; tokens = [] } }
-    {
-        let bytes = std::mem::replace(&mut self.bytes, spare.buffer());
-        if self.tokens.is_empty() {
-            return Arg::Text(Bytes::from(bytes));
-        }
-        let mut tokens = std::mem::replace(&mut self.tokens, Vec::new(spare.alloc()));
-        if bytes.is_empty() && tokens.len() == 1 {
-            if let Some(definition) = tokens.pop() {
-                return Arg::Definition(definition);
-            }
-        }
-        Arg::Text(Bytes::from(bytes))
-    }
-
     /// Ends the argument; returns whether definitions in it were dropped.
     #[tactic(auto, using(crate::proofs::Calls::done_valid))]
-    pub fn end_argument(&mut self, spare: &mut Spare) -> Result<bool, AllocError>
+    pub fn end_argument(&mut self) -> Result<bool, AllocError>
         requires { self.old.parentheses ≡ 0 }
         ensures { IfOk result (λ drops. (self.new ≡ with_argument self.old)
             × (dropped_if_any self.old.place self.old.bytes self.old.tokens ≡ warning_if_dropped drops self.old.place)) }
     {
         let drops = self.drops();
-        let argument = self.argument(spare);
-        self.begun = false;
-        self.done.push(argument)?;
+        let alloc = *self.parts.bytes.allocator();
+        let count = self.parts.count;
+        let next = buffer_at(alloc, &mut self.parts.args, count);
+        let bytes = std::mem::replace(&mut self.parts.bytes, next);
+        self.parts.is_large |= bytes.len() > LARGEST;
+        let tokens = std::mem::replace(&mut self.parts.tokens, Vec::new(alloc));
+        put_at(&mut self.parts.args, count, argument(bytes, tokens))?;
+        self.parts.count = count + 1;
+        self.parts.begun = false;
         Ok(drops)
     }
 
     /// Acts on a byte that belongs to no other token, unless it closes the list, or ends an argument that drops
     /// definitions. Returns whether it did.
     #[inline(always)]
-    pub fn take_byte(&mut self, byte: u8, spare: &mut Spare) -> Result<bool, AllocError>
+    pub fn take_byte(&mut self, byte: u8) -> Result<bool, AllocError>
         // exact steps: the byte's effect by its role, which is one on the call alone
         ensures taken { result ≡ Ok true → TakesByte byte self.old self.new }
         ensures left { result ≡ Ok false → self.new ≡ self.old }
@@ -216,31 +334,11 @@ impl OpenCall {
             Role::Opening => self.put_opening()?,
             Role::Closing if self.is_nested() => self.put_closing()?,
             Role::Separator if !self.drops() => {
-                let _drops_nothing = self.end_argument(spare)?;
+                let _drops_nothing = self.end_argument()?;
             }
             Role::Closing | Role::Separator => return Ok(false),
             Role::Other => self.put(&[byte])?,
         }
         Ok(true)
-    }
-
-    /// Splits a call with a complete list into its head and its arguments.
-    pub fn into_parts(self, spare: &mut Spare) -> (Head, ArgList)
-        ensures definition { result.0.definition ≡ self.definition }
-        ensures name { result.0.name ≡ self.name }
-        ensures place { result.0.place ≡ self.place }
-        ensures list { result.1 ≡ self.done }
-        ensures arguments { AllByRecursion IsArg result.1 }
-    {
-        let OpenCall {
-            head,
-            done,
-            parentheses: _parentheses,
-            begun: _begun,
-            bytes,
-            tokens: _tokens,
-        } = self;
-        spare.keep(bytes);
-        (head, ArgList::from(done))
     }
 }

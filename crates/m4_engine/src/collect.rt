@@ -12,7 +12,6 @@ ghost use Rattle.m4_engine.specs.Collected.{IsTextByte, AreTextBytes, IsListRun}
 
 use crate::call::OpenCall;
 use crate::front::{First, first_in_list};
-use crate::spare::Spare;
 use m4_input::delims::Delims;
 use m4_input::look::may_begin;
 use m4_state::state::State;
@@ -22,7 +21,6 @@ use std::alloc::AllocError;
 /// the token after them.
 pub fn collect<'a>(
     call: &mut OpenCall,
-    spare: &mut Spare,
     text: &[u8],
     state: &'a State,
     may_follow: bool,
@@ -38,7 +36,7 @@ pub fn collect<'a>(
     loop {
         let rest = text.split_at(len).1;
         let first = first_in_list(rest, state, &delims, may_follow);
-        let used = collect_first(call, spare, &first, rest, &delims)?;
+        let used = collect_first(call, &first, rest, &delims)?;
         if used == 0 {
             return Ok((len, first));
         }
@@ -71,7 +69,6 @@ fn digits_len(text: &[u8], delims: &Delims<'_>) -> usize
 #[inline(always)]
 fn collect_first(
     call: &mut OpenCall,
-    spare: &mut Spare,
     first: &First<'_>,
     text: &[u8],
     delims: &Delims<'_>,
@@ -91,7 +88,7 @@ fn collect_first(
             call.put(text.split_at(len).0)?;
             Ok(len)
         }
-        First::Byte(byte) => collect_bytes(call, spare, byte, text, delims),
+        First::Byte(byte) => collect_bytes(call, byte, text, delims),
         First::Called(..) | First::Other => Ok(0),
     }
 }
@@ -100,7 +97,6 @@ fn collect_first(
 #[inline(always)]
 fn collect_bytes(
     call: &mut OpenCall,
-    spare: &mut Spare,
     byte: u8,
     text: &[u8],
     delims: &Delims<'_>,
@@ -115,6 +111,6 @@ fn collect_bytes(
         call.put(text.split_at(digits).0)?;
         return Ok(digits);
     }
-    let taken = call.take_byte(byte, spare)?;
+    let taken = call.take_byte(byte)?;
     Ok(usize::from(taken))
 }

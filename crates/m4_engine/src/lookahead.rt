@@ -6,10 +6,10 @@ ghost use Rattle.m4_input.specs.Pending.{text_of};
 ghost use Rattle.m4_engine.specs.Plain.{IsFirst, FirstLies};
 ghost use Rattle.m4_engine.specs.Lookahead.{IsMeaning, IsLookaheadOf};
 
+use crate::call::OpenCall;
 use crate::front::First;
 use crate::spare::Spare;
 use crate::turned::TurnFault;
-use m4_builtins::head::Head;
 use m4_builtins::substitute::substitute;
 use m4_input::input::Input;
 use m4_state::bytes::Bytes;
@@ -22,7 +22,7 @@ pub enum Meaning {
     /// The expansion of a text macro that is called without a list.
     Expansion(Bytes),
     /// A call that still has to be made.
-    Call(Head),
+    Call(OpenCall),
 }
 
 /// A name that has a definition.
@@ -70,8 +70,8 @@ impl Meaning {
                 Ok(Meaning::Expansion(text))
             }
             _ => {
-                let head = Head::new(spare.buffer(), name, definition, place.0, place.1)?;
-                Ok(Meaning::Call(head))
+                let call = spare.call(name, definition, place.0, place.1)?;
+                Ok(Meaning::Call(call))
             }
         }
     }

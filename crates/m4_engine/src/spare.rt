@@ -1,37 +1,41 @@
-//! The memory of calls that were made, kept for later calls. Without it each argument would ask for memory of
-//! its own. Manual: "Macro arguments".
+//! Calls that were made, kept for the memory that later calls need. Manual: "Macro arguments".
 
-ghost use Rattle.std.specs.Prelude.{◌≡◌, []};
+ghost use Rattle.std.specs.Prelude.{◌≡◌, [], IfOk};
+ghost use Rattle.m4_state.specs.Definition.{IsDefinition};
+ghost use Rattle.m4_engine.specs.Expand.{call_of};
 
-use m4_builtins::args::{Arg, ArgList};
-use m4_state::bytes::Bytes;
-use std::alloc::Global;
+use crate::call::OpenCall;
+use m4_state::definition::Def;
+use std::alloc::{AllocError, Global};
 use std::marker::Model;
 
-/// How many buffers are kept at most: those of a long list.
-const MOST: usize = 4096;
+/// How many calls are kept at most.
+const MOST: usize = 256;
 
-/// How many bytes a buffer that is kept has room for at most. All buffers together keep at most a megabyte.
-const LARGEST: usize = 256;
+/// How many of them may keep the memory of a long list.
+const LONG: usize = 4;
 
-/// How many arguments a list that is kept has room for at most.
+/// How many arguments these keep at most, each. No argument that is kept is large, so that all of them take a few
+/// megabytes at most.
 const LONGEST: usize = 4096;
 
-/// Buffers without contents. They keep their memory.
+/// How many arguments any other call keeps at most.
+const USUAL: usize = 8;
+
+/// How many bytes a buffer that is kept has room for at most.
+const LARGEST: usize = 65536;
+
+/// Calls and a buffer without contents. They keep their memory.
 pub struct Spare {
     alloc: Global,
-    buffers: Vec<Vec<u8>>,
-    list: Vec<Arg>,
+    calls: Vec<OpenCall>,
+    buffer: Vec<u8>,
 }
 
 impl Model for Spare {
-    ghost use Rattle.std.specs.Prelude.{◌≡◌, []};
-
     ghost Value = { Unit {0} };
 
     ghost view = { λ s. tt };
-
-    ghost invariant = { λ s. s.list.items ≡ [] };
 }
 
 // Written out so that a caller's proof contains one call, not the drop of each field.
@@ -39,8 +43,8 @@ impl Drop for Spare {
     fn drop(self) {
         let Spare {
             alloc: _alloc,
-            buffers: _buffers,
-            list: _list,
+            calls: _calls,
+            buffer: _buffer,
         } = self;
     }
 }
@@ -50,58 +54,64 @@ impl Spare {
     pub fn new(alloc: Global) -> Spare {
         Spare {
             alloc,
-            buffers: Vec::new(alloc),
-            list: Vec::new(alloc),
+            calls: Vec::new(alloc),
+            buffer: Vec::new(alloc),
         }
     }
 
-    /// Returns the allocator of the buffers.
+    /// Returns the allocator of the memory that is kept.
     pub fn alloc(&self) -> Global {
         self.alloc
     }
 
+    /// Returns a call with no argument read yet.
+    #[inline(always)]
+    pub fn call(
+        &mut self,
+        name: &[u8],
+        definition: &Def,
+        file: &[u8],
+        line: u64,
+    ) -> Result<OpenCall, AllocError>
+        requires { IsDefinition definition.now }
+        ensures { IfOk result (λ c. c ≡ call_of definition.now name.now (record { file = file.now; line = line })) }
+    {
+        let mut call = match self.calls.pop() {
+            Some(kept) => kept,
+            None => OpenCall::empty(self.alloc)?,
+        };
+        call.renew(name, definition, file, line)?;
+        Ok(call)
+    }
+
+    /// Keeps a call that was made, unless enough are kept.
+    #[inline(always)]
+    pub fn keep(&mut self, call: OpenCall) {
+        let others = self.calls.len();
+        if others < MOST {
+            let mut kept = call;
+            kept.shed(if others < LONG { LONGEST } else { USUAL });
+            // If there is no memory to keep it in, it is dropped.
+            let _kept = self.calls.push(kept);
+        }
+    }
+
     /// Returns an empty buffer, with memory if one is kept.
+    #[inline(always)]
     pub fn buffer(&mut self) -> Vec<u8>
         ensures { result.items ≡ [] }
     {
-        match self.buffers.pop() {
-            Some(kept) => {
-                let mut buffer = kept;
-                buffer.clear();
-                buffer
-            }
-            None => Vec::new(self.alloc),
-        }
-    }
-
-    /// Returns an empty list, with memory if one is kept.
-    pub fn list(&mut self) -> Vec<Arg>
-        ensures { result.items ≡ [] }
-    {
         let alloc = self.alloc;
-        std::mem::replace(&mut self.list, Vec::new(alloc))
+        let mut buffer = std::mem::replace(&mut self.buffer, Vec::new(alloc));
+        buffer.clear();
+        buffer
     }
 
-    /// Keeps a buffer for later, unless it is large or enough are kept.
-    pub fn keep(&mut self, buffer: Vec<u8>) {
-        let is_small = buffer.capacity() <= LARGEST;
-        if is_small && self.buffers.len() < MOST {
-            // If there is no memory to keep it in, it is dropped.
-            let _kept = self.buffers.push(buffer);
-        }
-    }
-
-    /// Keeps the buffers of a call: that of its name, those of its arguments, and their list.
-    pub fn keep_call(&mut self, name: Bytes, list: ArgList) {
-        self.keep(name.into_vec());
-        let mut items = list.into_vec();
-        while let Some(arg) = items.pop() {
-            if let Arg::Text(text) = arg {
-                self.keep(text.into_vec());
-            }
-        }
-        if items.capacity() <= LONGEST {
-            self.list = items;
+    /// Keeps a buffer for later, unless it is large.
+    #[inline(always)]
+    pub fn keep_buffer(&mut self, buffer: Vec<u8>) {
+        if buffer.capacity() <= LARGEST {
+            self.buffer = buffer;
         }
     }
 }

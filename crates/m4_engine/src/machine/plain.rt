@@ -53,7 +53,7 @@ impl Machine {
         let Some(call) = &mut self.innermost else {
             return Ok(Lookahead::Unknown);
         };
-        let (len, first) = collect(call, &mut self.spare, text, &self.state, input.may_follow())?;
+        let (len, first) = collect(call, text, &self.state, input.may_follow())?;
         input.consume(len);
         lookahead_of(&mut self.spare, &self.state, room, first, input)
     }

@@ -26,8 +26,7 @@ use crate::machine::Machine;
 use crate::role::Role;
 use crate::turned::{TurnFault, Turned};
 use itoa::Buffer;
-use m4_builtins::act::act;
-use m4_builtins::args::{ArgList, Args};
+use m4_builtins::act::act_on;
 use m4_builtins::effect::Effect;
 use m4_builtins::messages::{dropped_message, error_message};
 use m4_builtins::place::Place;
@@ -100,20 +99,16 @@ impl Machine {
         ensures { Steps result self.old self.new input.old input.new (λ t. Moves input.old.pending.may_follow self.new input.new.pending t
             (λ z more o m. called_within self.old.open_calls call (here_of o m self.old (longer z more input.old.pending)))) }
     {
-        let (head, list) = call.into_parts(&mut self.spare);
+        let head = call.head();
         // The text is read in place, without a copy.
         if let Some(text) = head.text() {
             let quotes = self.state.quotes();
-            let text = substitute(self.alloc, text, head.name(), list.as_slice(), quotes)?;
-            self.spare.keep_call(head.into_name(), list);
+            let text = substitute(self.alloc, text, head.name(), call.arguments(), quotes)?;
+            self.spare.keep(call);
             return self.take_text(text, input);
         }
         let definition = head.definition()?;
         let place = head.place(self.spare.buffer())?;
-        let args = Args {
-            name: head.into_name(),
-            list,
-        };
         // Its clauses say that the state is valid, so a pushed value is valid too.
         let _in_order = self.state.current();
         let Effect {
@@ -123,9 +118,16 @@ impl Machine {
             wrap,
             skip,
             exit,
-        } = act(self.alloc, &definition, &args, &place, &mut self.state)?;
-        self.spare.keep_call(args.name, args.list);
-        self.spare.keep(place.file.into_vec());
+        } = act_on(
+            self.alloc,
+            &definition,
+            head.name(),
+            call.arguments(),
+            &place,
+            &mut self.state,
+        )?;
+        self.spare.keep(call);
+        self.spare.keep_buffer(place.file.into_vec());
         self.put_effect(messages.as_slice(), output.as_slice(), wrap)?;
         if let Some(code) = exit {
             return Ok(Turned::Ends(Cause::Exited(code)));
@@ -145,7 +147,7 @@ impl Machine {
         let Some(call) = &mut self.innermost else {
             return Ok(());
         };
-        if call.end_argument(&mut self.spare)? {
+        if call.end_argument()? {
             let place = call.place()?;
             let message = dropped_message(self.alloc, &place)?;
             self.add_message(message.as_slice())?;
@@ -353,15 +355,14 @@ impl Machine {
             listed,
             meaning,
         } = named;
-        let head = match meaning {
+        let call = match meaning {
             Meaning::Expansion(text) => return self.take_expansion(text, input),
-            Meaning::Call(head) => head,
+            Meaning::Call(call) => call,
         };
-        if !listed && head.needs_list() {
-            self.put_text(head.name())?;
+        if !listed && call.head().needs_list() {
+            self.put_text(call.head().name())?;
             return Ok(Turned::GoesOn);
         }
-        let call = OpenCall::new(head, &mut self.spare);
         self.take_call(call, listed, input)
     }
 

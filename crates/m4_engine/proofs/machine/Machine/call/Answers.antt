@@ -15,7 +15,7 @@ use Rattle.m4_engine.proofs.machine.Machine.call.Goals as goal
 pub returns-in-Some-exit : goal.returns-in-Some-exit
 returns-in-Some-exit c = record {
   moves = λ z more k o m.
-      let a : Acted = record { state = c.act.new.state; effect = c.in_ok-push.field-0 } in
+      let a : Acted = record { state = c.act_on.new.state; effect = c.in_ok-push.field-0 } in
       called_exits c.args.self.now c.put_effect.new.self c.args.call a (longer z more c.args.input.now.pending) c.in-Some-exit.code (search rules) (search rules) (search rules) o m;
   ready = search rules;
   limits = search rules;
@@ -25,7 +25,7 @@ returns-in-Some-exit c = record {
 pub returns-then-skip : goal.returns-then-skip
 returns-then-skip c = record {
   moves = λ z more k o m.
-      let a : Acted = record { state = c.act.new.state; effect = c.in_ok-push.field-0 } in
+      let a : Acted = record { state = c.act_on.new.state; effect = c.in_ok-push.field-0 } in
       called_skips c.args.self.now c.put_effect.new.self c.args.call a (longer z more c.args.input.now.pending) (search rules) (search rules) (search rules) (search rules) o m;
   ready = search rules;
   limits = search rules;
@@ -35,7 +35,7 @@ returns-then-skip c = record {
 pub returns : goal.returns
 returns c = record {
   moves = λ z more k o m.
-      let a : Acted = record { state = c.act.new.state; effect = c.in_ok-push.field-0 } in
+      let a : Acted = record { state = c.act_on.new.state; effect = c.in_ok-push.field-0 } in
       called_goes c.args.self.now c.put_effect.new.self c.args.call a (longer z more c.args.input.now.pending) (longer z more c.push_value.new.input.pending) (search rules) (search rules) (search rules) (search rules) (c.in_ok-push_value.ensures.pushes z more) o m;
   ready = search rules;
   limits = search rules;
@@ -58,6 +58,6 @@ returns-in-Some c = record {
 -- what was pushed is in order
 pub push_value-requires-clause-valid : goal.push_value-requires-clause-valid
 push_value-requires-clause-valid c =
-    let a : Acted = record { state = c.act.new.state; effect = c.in_ok-push.field-0 } in
-    let same : c.self.inside.state ≡ c.args.self.now.state = search rules in
+    let a : Acted = record { state = c.act_on.new.state; effect = c.in_ok-push.field-0 } in
+    let same : c.self-2.inside.state ≡ c.args.self.now.state = search rules in
     acted_pushes c.args.call.definition c.args.call.name c.args.call.done c.args.call.place c.args.self.now.state a (subst IsState same c.current-in_order.ensures.valid) (search rules) (search rules)

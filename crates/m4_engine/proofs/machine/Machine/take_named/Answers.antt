@@ -1,8 +1,5 @@
-use Rattle.std.proofs.Common.{subst, rules}
-use Rattle.std.specs.Prelude.{IfOk}
-use Rattle.m4_input.specs.Input.{longer}
-use Rattle.m4_engine.specs.Expand.{call}
-use Rattle.m4_engine.specs.Engine.{Engine, Extended, Moves, step, outer_of, here_of, is_bare}
+use Rattle.std.proofs.Common.{rules}
+use Rattle.m4_engine.specs.Engine.{is_bare}
 use Rattle.m4_engine.proofs.Bare.{bare_fits}
 use Rattle.m4_engine.proofs.Seen.{expansion_moves, made_moves, bare_moves}
 use Rattle.m4_engine.proofs.machine.Machine.take_named.Goals as goal
@@ -22,7 +19,7 @@ returns-in-Expansion c = record {
 pub returns-then-needs_list : goal.returns-then-needs_list
 returns-then-needs_list c = record {
   moves = let n = c.args.named in
-      bare_moves c.args.self.now c.put_text.new.self n.meaning c.in-Call.head (is_bare n.listed c.args.self.now) n.listed c.args.input.now.pending c.in-Call.is c.requires.input.taken c.requires.list (search rules) (search rules) (search rules);
+      bare_moves c.args.self.now c.put_text.new.self n.meaning c.in-Call.call (is_bare n.listed c.args.self.now) n.listed c.args.input.now.pending c.in-Call.is c.requires.input.taken c.requires.list (search rules) (search rules) (search rules);
   ready = search rules;
   limits = search rules;
   made = search rules;
@@ -32,9 +29,7 @@ pub returns : goal.returns
 returns c = record {
   moves = let e = c.args.self.now in
       let n = c.args.named in
-      let p = c.args.input.now.pending in
-      let moves = subst (λ (x : Engine). IfOk c.take_call.result (λ u. (before : Extended) → Moves p.may_follow c.take_call.new.self c.take_call.new.input.pending u (λ z more o l. step (outer_of x.open_calls) (call n.listed c.new-call.result (longer z more p) (here_of o l x (before z more)))))) c.self.view_is c.take_call.ensures.moves in
-      made_moves e c.take_call.new.self n.meaning c.in-Call.head c.new-call.result (is_bare n.listed e) n.listed p c.take_call.new.input.pending c.take_call.result c.in-Call.is c.new-call.ensures c.requires.input.taken c.requires.list (search rules) moves;
+      made_moves e c.take_call.new.self n.meaning c.in-Call.call (is_bare n.listed e) n.listed c.args.input.now.pending c.take_call.new.input.pending c.take_call.result c.in-Call.is (search rules) c.requires.input.taken c.requires.list (search rules) c.take_call.ensures.moves;
   ready = search rules;
   limits = search rules;
   made = search rules;
