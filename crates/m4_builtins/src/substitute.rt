@@ -29,11 +29,27 @@ pub fn substitute(
     ensures { IfOk result (λ b. b ≡ subst text.now name.now list.now (pair_of quotes.entry)) }
 {
     let mut out = Vec::with_capacity(alloc, text.len())?;
+    substitute_onto(&mut out, text, name, list, quotes)?;
+    Ok(Bytes::from(out))
+}
+
+/// Appends a text with the name and the arguments of a call substituted, as [`substitute`] does.
+#[doc(hidden)]
+pub fn substitute_onto(
+    out: &mut Vec<u8>,
+    text: &[u8],
+    name: &[u8],
+    list: &[Arg],
+    quotes: (&[u8], &[u8]),
+) -> Result<(), BuiltinFault>
+    // exact steps: the text with the arguments substituted
+    ensures { OnOk result (out.new.items ≡ out.old.items ++ subst text.now name.now list.now (pair_of quotes.entry)) }
+{
     let mut rest = text;
     while !rest.is_empty() {
-        rest = push_front(&mut out, rest, name, list, quotes)?;
+        rest = push_front(out, rest, name, list, quotes)?;
     }
-    Ok(Bytes::from(out))
+    Ok(())
 }
 
 /// Appends the bytes before the first dollar, and the replacement of that dollar. Returns the rest of

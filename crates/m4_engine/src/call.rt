@@ -7,6 +7,7 @@ ghost use Rattle.std.specs.Prelude.{◌≡◌, ◌<◌, ◌≤◌, ◌+◌, ◌-
 ghost use Rattle.std.specs.List.{AllByRecursion};
 ghost use Rattle.m4_state.specs.Definition.{IsDefinition};
 ghost use Rattle.m4_builtins.specs.Args.{IsArg};
+ghost use Rattle.m4_builtins.specs.declared.args.Arg.TheVariants as arguments;
 ghost use Rattle.m4_input.specs.Ascii.{open_parenthesis, close_parenthesis};
 ghost use Rattle.m4_engine.specs.Args.{role_of, argument_of, dropped_if_any, with_argument};
 ghost use Rattle.m4_engine.specs.Collected.{TakesByte};
@@ -86,21 +87,29 @@ fn drop_large(alloc: Global, args: &mut [Arg]) {
     }
 }
 
-/// Returns an empty buffer. It has the memory of the argument at an index, if there is one.
+/// Puts a text after the first `count` arguments, if a text of an earlier call is there, whose memory the buffer
+/// then has. Returns whether it did, and if so the buffer is empty.
 #[inline(always)]
-fn buffer_at(alloc: Global, args: &mut [Arg], index: usize) -> Vec<u8>
-    ensures empty { result.items ≡ [] }
-    ensures before { take index args.new ≡ take index args.old }
+fn put_text_at(args: &mut Vec<Arg>, count: usize, bytes: &mut Vec<u8>) -> bool
+    ensures put { result ≡ true → take (count + 1) args.new.items ≡ take count args.old.items ++ arguments.Text bytes.old.items ∷ [] }
+    ensures empty { result ≡ true → bytes.new.items ≡ [] }
+    ensures within { result ≡ true → count + 1 ≤ length args.new.items }
+    ensures left { result ≡ false → (args.new.items ≡ args.old.items) × (bytes.new.items ≡ bytes.old.items) }
 {
-    if index < args.len() {
-        let kept = std::mem::replace(&mut args[index], blank(alloc));
-        if let Arg::Text(text) = kept {
-            let mut buffer = text.into_vec();
-            buffer.clear();
-            return buffer;
-        }
+    if count >= args.len() {
+        return false;
     }
-    Vec::new(alloc)
+    let alloc = *bytes.allocator();
+    match &mut args[count] {
+        Arg::Text(kept) => {
+            let text = std::mem::replace(bytes, Vec::new(alloc));
+            let old = std::mem::replace(kept, Bytes::from(text));
+            *bytes = old.into_vec();
+            bytes.clear();
+            true
+        }
+        Arg::Definition(_) => false,
+    }
 }
 
 /// Puts an argument after the first `count` ones.
@@ -302,8 +311,27 @@ impl OpenCall {
     }
 
     /// Ends the argument; returns whether definitions in it were dropped.
-    #[tactic(auto, using(crate::proofs::Calls::done_valid))]
+    #[tactic(auto, using(crate::proofs::Calls::done_valid, crate::proofs::Calls::text_argument))]
     pub fn end_argument(&mut self) -> Result<bool, AllocError>
+        requires { self.old.parentheses ≡ 0 }
+        ensures { IfOk result (λ drops. (self.new ≡ with_argument self.old)
+            × (dropped_if_any self.old.place self.old.bytes self.old.tokens ≡ warning_if_dropped drops self.old.place)) }
+    {
+        let parts = &mut *self.parts;
+        parts.is_large |= parts.bytes.len() > LARGEST;
+        // Most arguments are texts, and most find the memory of an earlier one.
+        if parts.tokens.is_empty() && put_text_at(&mut parts.args, parts.count, &mut parts.bytes) {
+            parts.count += 1;
+            parts.begun = false;
+            return Ok(false);
+        }
+        self.end_any_argument()
+    }
+
+    /// Ends an argument that has definitions, or is in a place that no earlier one had.
+    #[inline(never)]
+    #[tactic(auto, using(crate::proofs::Calls::done_valid))]
+    fn end_any_argument(&mut self) -> Result<bool, AllocError>
         requires { self.old.parentheses ≡ 0 }
         ensures { IfOk result (λ drops. (self.new ≡ with_argument self.old)
             × (dropped_if_any self.old.place self.old.bytes self.old.tokens ≡ warning_if_dropped drops self.old.place)) }
@@ -311,9 +339,7 @@ impl OpenCall {
         let drops = self.drops();
         let alloc = *self.parts.bytes.allocator();
         let count = self.parts.count;
-        let next = buffer_at(alloc, &mut self.parts.args, count);
-        let bytes = std::mem::replace(&mut self.parts.bytes, next);
-        self.parts.is_large |= bytes.len() > LARGEST;
+        let bytes = std::mem::replace(&mut self.parts.bytes, Vec::new(alloc));
         let tokens = std::mem::replace(&mut self.parts.tokens, Vec::new(alloc));
         put_at(&mut self.parts.args, count, argument(bytes, tokens))?;
         self.parts.count = count + 1;

@@ -10,7 +10,7 @@ use crate::call::OpenCall;
 use crate::front::First;
 use crate::spare::Spare;
 use crate::turned::TurnFault;
-use m4_builtins::substitute::substitute;
+use m4_builtins::substitute::substitute_onto;
 use m4_input::input::Input;
 use m4_state::bytes::Bytes;
 use m4_state::definition::Def;
@@ -65,9 +65,9 @@ impl Meaning {
         let _in_order = state.current();
         match definition {
             Def::Text(text) if bare => {
-                let alloc = spare.alloc();
-                let text = substitute(alloc, text.as_slice(), name, &[], state.quotes())?;
-                Ok(Meaning::Expansion(text))
+                let mut expansion = spare.buffer();
+                substitute_onto(&mut expansion, text.as_slice(), name, &[], state.quotes())?;
+                Ok(Meaning::Expansion(Bytes::from(expansion)))
             }
             _ => {
                 let call = spare.call(name, definition, place.0, place.1)?;

@@ -66,6 +66,7 @@ impl Input {
     ghost use Rattle.m4_input.specs.Text.{LiesIn};
     ghost use Rattle.m4_input.specs.OpenToken.{IsOpenAt};
     ghost use Rattle.m4_input.specs.InputView.{fault_of};
+    ghost use Rattle.m4_input.specs.declared.pushed.Pushed.TheVariants as pushes;
 
     /// Creates the input of a file that is read from its start.
     pub fn file(alloc: Global, name: Bytes) -> Input
@@ -170,18 +171,37 @@ impl Input {
         ensures again { IfSome self.old.fault (λ f. result ≡ Err f) }
         ensures fault { self.old.fault ≡ None → IfErr result (λ f. f ≡ InputFault.OutOfMemory) }
     {
-        if let Some(fault) = self.fault {
-            return Err(fault);
-        }
         match value {
-            Pushed::Text(text) => match self.text.push(text.as_slice()) {
-                Ok(()) => Ok(()),
-                Err(AllocError) => Err(InputFault::OutOfMemory),
-            },
+            Pushed::Text(text) => self.push_text(text.as_slice()),
             Pushed::Definition(def) => {
+                if let Some(fault) = self.fault {
+                    return Err(fault);
+                }
                 self.definition = Some(def);
                 Ok(())
             }
+        }
+    }
+
+    /// Inserts a text at the start, as `push_front` does.
+    #[doc(hidden)]
+    pub fn push_text(&mut self, text: &[u8]) -> Result<(), InputFault>
+        requires { self.old.pending.definition ≡ None }
+        // exact steps: the text at the start; if the call fails, the input is as it was
+        ensures ok { OnOk result (
+            (self.new ≡ record self.old { pending = with_pushed (pushes.Text text.now) self.old.pending })
+            × (self.old.fault ≡ None)) }
+        ensures err { OnErr result (self.new ≡ self.old) }
+        // an earlier fault again, otherwise OutOfMemory
+        ensures again { IfSome self.old.fault (λ f. result ≡ Err f) }
+        ensures fault { self.old.fault ≡ None → IfErr result (λ f. f ≡ InputFault.OutOfMemory) }
+    {
+        if let Some(fault) = self.fault {
+            return Err(fault);
+        }
+        match self.text.push(text) {
+            Ok(()) => Ok(()),
+            Err(AllocError) => Err(InputFault::OutOfMemory),
         }
     }
 

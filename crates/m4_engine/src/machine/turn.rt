@@ -8,6 +8,7 @@ ghost use Rattle.m4_input.specs.Paren.{paren_at};
 ghost use Rattle.m4_input.specs.Token.{Refused, scan};
 ghost use Rattle.m4_input.specs.declared.front.Scan.TheVariants.{Found};
 ghost use Rattle.m4_input.specs.declared.token.Token.TheVariants.{Name};
+ghost use Rattle.m4_input.specs.declared.pushed.Pushed.TheVariants as pushes;
 ghost use Rattle.m4_builtins.specs.Messages.{error};
 ghost use Rattle.m4_input.specs.Input.{Held, answer_of, longer};
 ghost use Rattle.m4_input.specs.Pending.{Pending, line_of, text_of, consumed};
@@ -30,7 +31,7 @@ use m4_builtins::act::act_on;
 use m4_builtins::effect::Effect;
 use m4_builtins::messages::{dropped_message, error_message};
 use m4_builtins::place::Place;
-use m4_builtins::substitute::substitute;
+use m4_builtins::substitute::substitute_onto;
 use m4_input::delims::Delims;
 use m4_input::front::{Answer, Scan, Unended};
 use m4_input::input::Input;
@@ -51,6 +52,20 @@ fn push_value(input: &mut Input, push: Option<Pushed>) -> Result<(), TurnFault>
         return Ok(());
     };
     match input.push_front(value) {
+        Ok(()) => Ok(()),
+        Err(fault) => Err(TurnFault::of(fault)),
+    }
+}
+
+/// Pushes a text.
+#[inline(always)]
+#[tactic(auto, using(crate::proofs::Inputs::pushed))]
+fn push_text(input: &mut Input, text: &[u8]) -> Result<(), TurnFault>
+    requires { IsTaken input.old }
+    ensures pushes { OnOk result (Pushes input.old.pending input.new.pending (Some (pushes.Text text.now))) }
+    ensures stays { OnOk result (Stays input.old input.new) }
+{
+    match input.push_text(text) {
         Ok(()) => Ok(()),
         Err(fault) => Err(TurnFault::of(fault)),
     }
@@ -103,9 +118,10 @@ impl Machine {
         // The text is read in place, without a copy.
         if let Some(text) = head.text() {
             let quotes = self.state.quotes();
-            let text = substitute(self.alloc, text, head.name(), call.arguments(), quotes)?;
+            let mut expansion = self.spare.buffer();
+            substitute_onto(&mut expansion, text, head.name(), call.arguments(), quotes)?;
             self.spare.keep(call);
-            return self.take_text(text, input);
+            return self.take_text(Bytes::from(expansion), input);
         }
         let definition = head.definition()?;
         let place = head.place(self.spare.buffer())?;
@@ -396,8 +412,9 @@ impl Machine {
             → Moves input.old.pending.may_follow self.new input.new.pending t
             (λ z more o m. called_within self.old.open_calls c (here_of o m self.old (longer z more input.old.pending)))) }
     {
+        push_text(input, text.as_slice())?;
+        self.spare.keep_buffer(text.into_vec());
         self.put_effect(b"", b"", None)?;
-        push_value(input, Some(Pushed::Text(text)))?;
         Ok(Turned::GoesOn)
     }
 

@@ -1,4 +1,4 @@
-use Rattle.std.proofs.Common.{◌≡◌, List, ℕ, subst, rules}
+use Rattle.std.proofs.Common.{◌≡◌, ◌++◌, [], List, ℕ, ap, ◌∙◌, subst, rules}
 use Rattle.std.specs.Prelude.{IfOk}
 use Rattle.m4_state.specs.declared.definition.Def.TheVariants.{Text}
 use Rattle.m4_state.specs.State.{IsState}
@@ -11,6 +11,10 @@ use Rattle.m4_engine.specs.Engine.{Engine, Moves, called_within, here_of}
 use Rattle.m4_engine.proofs.Acts.{called_goes, called_skips, called_exits, acted_pushes}
 use Rattle.m4_engine.proofs.Bare.{substituted_by, called_as}
 use Rattle.m4_engine.proofs.machine.Machine.call.Goals as goal
+
+-- what was appended to nothing is all
+onto : {b x made y : List ℕ} → b ≡ [] → x ≡ b ++ y → made ≡ x → made ≡ y
+onto {b} {x} {made} {y} e f g = g ∙ f ∙ ap (λ (z : List ℕ). z ++ y) e
 
 pub returns-in-Some-exit : goal.returns-in-Some-exit
 returns-in-Some-exit c = record {
@@ -46,10 +50,11 @@ pub returns-in-Some : goal.returns-in-Some
 returns-in-Some c = record {
   moves =
       let text = c.in-Some.text.now in
+      let made = c.from.result in
       let p = c.args.input.now.pending in
-      let moves = subst (λ (x : Engine). IfOk c.take_text.result (λ t. (k : Call) (y : List ℕ) → k.definition ≡ Text y → c.in_ok-text.text ≡ substituted y k.name k.done x.state.quotes → Moves p.may_follow c.take_text.new.self c.take_text.new.input.pending t (λ z more o m. called_within x.open_calls k (here_of o m x (longer z more p))))) c.self.view_is c.take_text.ensures.moves in
-      called_as p.may_follow c.args.self.now c.take_text.new.self c.in_ok-text.text text c.args.call (λ z more. longer z more p) c.take_text.new.input.pending c.take_text.result moves (search rules)
-      (substituted_by text c.in_ok-text.text _ c.args.call.name _ c.args.call.done (pair_of c.quotes-quotes.result) _ c.in_ok-text.ensures (search rules) (search rules) (search rules) (search rules));
+      let moves = subst (λ (x : Engine). IfOk c.take_text.result (λ t. (k : Call) (y : List ℕ) → k.definition ≡ Text y → made ≡ substituted y k.name k.done x.state.quotes → Moves p.may_follow c.take_text.new.self c.take_text.new.input.pending t (λ z more o m. called_within x.open_calls k (here_of o m x (longer z more p))))) c.self.view_is c.take_text.ensures.moves in
+      called_as p.may_follow c.args.self.now c.take_text.new.self made text c.args.call (λ z more. longer z more p) c.take_text.new.input.pending c.take_text.result moves (search rules)
+      (substituted_by text made _ c.args.call.name _ c.args.call.done (pair_of c.quotes-quotes.result) _ (onto c.buffer-expansion.ensures c.in_ok-substitute_onto.ensures c.from.ensures) (search rules) (search rules) (search rules) (search rules));
   ready = search rules;
   limits = search rules;
   made = search rules;

@@ -1,10 +1,13 @@
-use Rattle.std.proofs.Common.{rules}
+use Rattle.std.proofs.Common.{List, ℕ, Some, subst, rules}
+use Rattle.m4_input.specs.declared.pushed.Pushed.TheVariants as pushes
+use Rattle.m4_engine.specs.Engine.{Pushes}
 use Rattle.m4_engine.proofs.Bare.{text_goes}
 use Rattle.m4_engine.proofs.machine.Machine.take_text.Goals as goal
 
 pub returns : goal.returns
 returns c = record {
-  moves = λ k x d h. text_goes c.args.input.now.pending.may_follow c.args.self.now c.put_effect.new.self k x c.args.text c.args.input.now.pending c.push_value.new.input.pending d h (search rules) c.in_ok-push_value.ensures.pushes;
+  moves = λ k x d h. text_goes c.args.input.now.pending.may_follow c.args.self.now c.put_effect.new.self k x c.args.text c.args.input.now.pending c.push_text.new.input.pending d h (search rules)
+      (subst (λ (y : List ℕ). Pushes c.args.input.now.pending c.push_text.new.input.pending (Some (pushes.Text y))) c.as_slice.ensures.value c.in_ok-push_text.ensures.pushes);
   ready = search rules;
   limits = search rules;
   made = search rules;
