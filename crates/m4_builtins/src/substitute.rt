@@ -1,6 +1,6 @@
 //! Substitution: replaces `$0`, `$1`, `$#`, `$*` and `$@` in a text by a call's name and arguments.
 
-ghost use Rattle.std.specs.Prelude.{◌≡◌, ◌==◌, ◌≤◌, ◌^◌, [], ◌∷◌, ◌++◌, IfOk, OnOk, ℕ, ◌<◌, length, map, not, decimal};
+ghost use Rattle.std.specs.Prelude.{◌≡◌, ◌==◌, ◌≤◌, ◌^◌, [], ◌∷◌, ◌++◌, IfOk, OnOk, ℕ, ◌<◌, length, map, not, decimal, take, IfSome};
 ghost use Rattle.m4_input.specs.Ascii.{dollar, is_digit};
 ghost use Rattle.m4_input.specs.Token.{run_length};
 ghost use Rattle.m4_input.specs.DelimsView.{pair_of};
@@ -66,7 +66,7 @@ fn push_front<'a>(
     ensures shorter { IfOk result (λ rest. 0 < length text.now → length rest.now < length text.now) }
 {
     let (plain, from_dollar) = text.split_at(plain_len(text));
-    out.extend_from_slice(plain)?;
+    push_bytes(out, plain)?;
     match from_dollar.split_first() {
         Some((_, after)) => {
             let used = push_dollar(out, after, name, list, quotes)?;
@@ -103,8 +103,8 @@ fn push_dollar(
 {
     match after.first() {
         Some(b'0'..=b'9') => {
-            let len = digits_len(after);
-            push_numbered(out, number_of(after.split_at(len).0), name, list)?;
+            let (len, number) = number_at(after);
+            push_numbered(out, number, name, list)?;
             Ok(len)
         }
         Some(b'#') => {
@@ -124,6 +124,41 @@ fn push_dollar(
             Ok(0)
         }
     }
+}
+
+/// Returns how many digits are at the start, and the number that they spell; most often there is one.
+#[inline(always)]
+fn number_at(bytes: &[u8]) -> (usize, Option<usize>)
+    ensures len { result.0 ≡ run_length is_digit bytes.now }
+    ensures within { result.0 ≤ length bytes.now }
+    ensures number { IsNumber result.1 (number_of (take result.0 bytes.now)) }
+{
+    match only_digit(bytes) {
+        Some(digit) => (1, Some(digit)),
+        None => {
+            let len = digits_len(bytes);
+            (len, number_of(bytes.split_at(len).0))
+        }
+    }
+}
+
+/// Returns the digit at the start if no other one follows it.
+#[inline(always)]
+fn only_digit(bytes: &[u8]) -> Option<usize>
+    ensures len { IfSome result (λ n. run_length is_digit bytes.now ≡ 1) }
+    ensures within { IfSome result (λ n. 1 ≤ length bytes.now) }
+    ensures number { IfSome result (λ n. number_of (take 1 bytes.now) ≡ n) }
+{
+    let (first, rest) = bytes.split_first()?;
+    if !first.is_ascii_digit() {
+        return None;
+    }
+    if let Some(next) = rest.first() {
+        if next.is_ascii_digit() {
+            return None;
+        }
+    }
+    Some(usize::from(*first - b'0'))
 }
 
 /// Counts the digits at the start.
@@ -165,9 +200,9 @@ fn push_numbered(
         return Ok(());
     };
     if n == 0 {
-        out.extend_from_slice(name)?;
+        push_bytes(out, name)?;
     } else if n <= count {
-        out.extend_from_slice(text_of(&list[n - 1]))?;
+        push_bytes(out, text_of(&list[n - 1]))?;
     }
     Ok(())
 }
@@ -190,7 +225,7 @@ pub(crate) fn push_joined(out: &mut Vec<u8>, args: &[Arg], separator: u8) -> Res
         if !first {
             out.push(separator)?;
         }
-        out.extend_from_slice(text_of(arg))?;
+        push_bytes(out, text_of(arg))?;
         first = false;
     }
     Ok(())
@@ -217,6 +252,7 @@ pub(crate) fn push_quoted(
 }
 
 /// Appends a text between quotes.
+#[inline(always)]
 pub(crate) fn push_one_quoted(
     out: &mut Vec<u8>,
     text: &[u8],
@@ -224,21 +260,27 @@ pub(crate) fn push_one_quoted(
 ) -> Result<(), AllocError>
     ensures { OnOk result (out.new.items ≡ out.old.items ++ quoted (pair_of quotes.entry) text.now) }
 {
-    push_delimiter(out, quotes.0)?;
-    out.extend_from_slice(text)?;
-    push_delimiter(out, quotes.1)
+    push_bytes(out, quotes.0)?;
+    push_bytes(out, text)?;
+    push_bytes(out, quotes.1)
 }
 
-/// Appends a delimiter. Most have one byte, which is appended without a call that copies.
+/// Appends a text. One of a byte or two, as most quotes and many arguments are, takes no call that copies.
 #[inline(always)]
-fn push_delimiter(out: &mut Vec<u8>, delimiter: &[u8]) -> Result<(), AllocError>
-    ensures { OnOk result (out.new.items ≡ out.old.items ++ delimiter.now) }
+fn push_bytes(out: &mut Vec<u8>, text: &[u8]) -> Result<(), AllocError>
+    ensures { OnOk result (out.new.items ≡ out.old.items ++ text.now) }
 {
-    match delimiter {
+    match text {
+        [] => Ok(()),
         [byte] => {
             out.push(*byte)?;
             Ok(())
         }
-        _ => out.extend_from_slice(delimiter),
+        [first, second] => {
+            out.push(*first)?;
+            out.push(*second)?;
+            Ok(())
+        }
+        _ => out.extend_from_slice(text),
     }
 }

@@ -1,7 +1,7 @@
 //! Tests on a text: does an argument list follow, and how long is the line?
 //! Manual: "Macro invocation", "Deleting whitespace in input".
 
-ghost use Rattle.std.specs.Prelude.{◌≡◌, ◌≤◌, true, false, IfSome, length, drop};
+ghost use Rattle.std.specs.Prelude.{◌≡◌, ◌≤◌, ◌+◌, ◌∷◌, true, false, IfSome, length, drop};
 ghost use Rattle.m4_input.specs.DelimsView.{pair_of};
 ghost use Rattle.m4_input.specs.Input.{answer_of};
 ghost use Rattle.m4_input.specs.Paren.{paren_in};
@@ -10,6 +10,7 @@ ghost use Rattle.m4_input.specs.Token.{starts_with, may_start};
 
 use crate::delims::Delims;
 use crate::front::Answer;
+use crate::look::may_begin;
 use crate::window::Window;
 
 /// A begin and an end delimiter.
@@ -18,6 +19,7 @@ type Pair<'a> = (&'a [u8], &'a [u8]);
 impl<'a> Window<'a> {
     /// Returns whether the token at a place is an opening parenthesis; `Unknown` if more bytes may follow
     /// that decide it.
+    #[inline(always)]
     pub fn list_at(&self, at: usize, delims: &Delims<'_>, may_follow: bool) -> Answer
         requires { at ≤ length self.now }
         ensures { paren_in (pair_of delims.now.quotes) (pair_of delims.now.comments) may_follow
@@ -29,6 +31,20 @@ impl<'a> Window<'a> {
             None if may_follow => return Answer::Unknown,
             None => return Answer::No,
         }
+        // Hardly ever does a delimiter begin with a parenthesis, and this takes two comparisons.
+        if may_begin(b'(', &delims.comments) || may_begin(b'(', &delims.quotes) {
+            self.list_by_delimiters(at, delims, may_follow)
+        } else {
+            Answer::Yes
+        }
+    }
+
+    /// Returns whether the parenthesis at a place is a token by itself, and begins no delimiter.
+    fn list_by_delimiters(&self, at: usize, delims: &Delims<'_>, may_follow: bool) -> Answer
+        requires { drop at self.now ≡ 40 ∷ drop (at + 1) self.now }
+        ensures { paren_in (pair_of delims.now.quotes) (pair_of delims.now.comments) may_follow
+            (drop at self.now) ≡ result }
+    {
         let comments = &delims.comments;
         let quotes = &delims.quotes;
         if self.opens_at(at, comments) || self.opens_at(at, quotes) {

@@ -148,13 +148,25 @@ impl Input {
 
     /// Discards a definition and the first n bytes.
     #[doc(hidden)]
+    #[inline(always)]
     pub fn consume(&mut self, n: usize)
         requires within { n ≤ length (text_of self.old.pending) }
         // exact steps: the rest after n bytes
         ensures { self.new ≡ record self.old { pending = consumed n self.old.pending } }
     {
-        self.definition = None;
+        // Hardly ever is there one, and dropping none takes more than the test.
+        if self.definition.is_some() {
+            self.drop_definition();
+        }
         self.text.consume(n);
+    }
+
+    /// Discards a definition.
+    #[inline(never)]
+    fn drop_definition(&mut self)
+        ensures { self.new ≡ record self.old { pending = record self.old.pending { definition = None } } }
+    {
+        self.definition = None;
     }
 
     /// Inserts a value at the start, to be read before everything else. Returns `OutOfMemory` if an

@@ -14,7 +14,7 @@ ghost use Rattle.m4_input.specs.Token.{starts_with, may_start, run_length, unend
 use crate::delims::Delims;
 use crate::front::{Answer, Kind, Look, Unended};
 use crate::quoted::{quoted_len, single};
-use crate::window::{Window, is_letter_byte};
+use crate::window::{Window, is_letter_byte, word_len};
 
 /// A begin and an end delimiter.
 type Pair<'a> = (&'a [u8], &'a [u8]);
@@ -26,10 +26,18 @@ pub fn plain_token(text: &[u8], delims: &Delims<'_>, may_follow: bool) -> Option
         may_follow text.now ≡ scan_of l text.now) }
     ensures lies { IfSome result (λ l. LookLies text.now l) }
 {
-    Window::new(&[], text).look_plain(delims, may_follow)
+    let (first, _) = text.split_first()?;
+    if may_begin(*first, &delims.comments) || may_begin(*first, &delims.quotes) {
+        None
+    } else if is_letter_byte(*first) {
+        Some(name_token(text, may_follow))
+    } else {
+        Some(Look::Byte(*first))
+    }
 }
 
-/// Returns the first token of a text.
+/// Returns the first token of a text. The quickest tests come first: most tokens begin with no delimiter, and most
+/// delimiters are quotes of one byte.
 #[inline(always)]
 pub fn first_token(text: &[u8], delims: &Delims<'_>, may_follow: bool) -> Look
     // exact steps: what the definition of the first token decides
@@ -37,7 +45,55 @@ pub fn first_token(text: &[u8], delims: &Delims<'_>, may_follow: bool) -> Look
         ≡ scan_of result text.now }
     ensures lies { LookLies text.now result }
 {
-    Window::new(&[], text).look(delims, may_follow)
+    if let Some(look) = plain_token(text, delims, may_follow) {
+        return look;
+    }
+    match quoted_token(text, delims, may_follow) {
+        Some(look) => look,
+        None => token_by_kind(text, delims, may_follow),
+    }
+}
+
+/// Returns the name at the start of a text.
+#[inline(always)]
+fn name_token(text: &[u8], may_follow: bool) -> Look
+    requires { 0 < run_length is_name_byte text.now }
+    ensures value { name_at may_follow text.now ≡ scan_of result text.now }
+    ensures lies { LookLies text.now result }
+{
+    let len = word_len(text);
+    if may_follow && len == text.len() {
+        Look::NeedsMore
+    } else {
+        Look::Name(len)
+    }
+}
+
+/// Returns the first token of a text, if its first byte alone decides that it is a string: the quotes have one byte
+/// each, and neither a comment nor a name can begin with that byte.
+#[inline(always)]
+fn quoted_token(text: &[u8], delims: &Delims<'_>, may_follow: bool) -> Option<Look>
+    ensures value { IfSome result (λ l. scan (pair_of delims.now.quotes) (pair_of delims.now.comments)
+        may_follow text.now ≡ scan_of l text.now) }
+    ensures lies { IfSome result (λ l. LookLies text.now l) }
+{
+    let (first, rest) = text.split_first()?;
+    let begin = single(delims.quotes.0)?;
+    let end = single(delims.quotes.1)?;
+    if *first != begin || is_letter_byte(*first) || may_begin(*first, &delims.comments) {
+        return None;
+    }
+    Some(short_string(rest, begin, end, may_follow))
+}
+
+/// Returns the first token of a text, by its kind.
+#[inline(never)]
+fn token_by_kind(text: &[u8], delims: &Delims<'_>, may_follow: bool) -> Look
+    ensures value { scan (pair_of delims.now.quotes) (pair_of delims.now.comments) may_follow text.now
+        ≡ scan_of result text.now }
+    ensures lies { LookLies text.now result }
+{
+    Window::new(&[], text).look_by_kind(delims, may_follow)
 }
 
 /// Returns whether the first token of a text is an opening parenthesis; `Unknown` if more bytes may follow
@@ -64,68 +120,18 @@ pub fn may_begin(first: u8, pair: &Pair<'_>) -> bool
 
 impl<'a> Window<'a> {
     /// Returns the first token.
-    #[inline(always)]
     pub fn look(&self, delims: &Delims<'_>, may_follow: bool) -> Look
         ensures value { scan (pair_of delims.now.quotes) (pair_of delims.now.comments) may_follow self.now
             ≡ scan_of result self.now }
         ensures lies { LookLies self.now result }
     {
-        match self.look_plain(delims, may_follow) {
-            Some(look) => look,
-            None => self.look_at_delimiter(delims, may_follow),
-        }
-    }
-
-    /// Returns the first token, if no delimiter can begin with its first byte.
-    #[inline(always)]
-    pub fn look_plain(&self, delims: &Delims<'_>, may_follow: bool) -> Option<Look>
-        ensures value { IfSome result (λ l. scan (pair_of delims.now.quotes) (pair_of delims.now.comments)
-            may_follow self.now ≡ scan_of l self.now) }
-        ensures lies { IfSome result (λ l. LookLies self.now l) }
-    {
-        let first = self.byte(0)?;
-        if may_begin(first, &delims.comments) || may_begin(first, &delims.quotes) {
-            None
-        } else if is_letter_byte(first) {
-            Some(self.look_at_name(may_follow))
-        } else {
-            Some(Look::Byte(first))
-        }
-    }
-
-    /// Returns the first token, with the quickest test first: most delimiters are quotes of one byte.
-    #[inline(always)]
-    fn look_at_delimiter(&self, delims: &Delims<'_>, may_follow: bool) -> Look
-        ensures value { scan (pair_of delims.now.quotes) (pair_of delims.now.comments) may_follow self.now
-            ≡ scan_of result self.now }
-        ensures lies { LookLies self.now result }
-    {
-        match self.look_short_quotes(delims, may_follow) {
-            Some(look) => look,
+        match self.tail(0) {
+            Some(text) => first_token(text, delims, may_follow),
             None => self.look_by_kind(delims, may_follow),
         }
     }
 
-    /// Returns the first token, if its first byte alone decides that it is a string: the quotes have one byte
-    /// each, and neither a comment nor a name can begin with that byte.
-    #[inline(always)]
-    fn look_short_quotes(&self, delims: &Delims<'_>, may_follow: bool) -> Option<Look>
-        ensures value { IfSome result (λ l. scan (pair_of delims.now.quotes) (pair_of delims.now.comments)
-            may_follow self.now ≡ scan_of l self.now) }
-        ensures lies { IfSome result (λ l. LookLies self.now l) }
-    {
-        let first = self.byte(0)?;
-        let begin = single(delims.quotes.0)?;
-        let end = single(delims.quotes.1)?;
-        if first != begin || is_letter_byte(first) || may_begin(first, &delims.comments) {
-            return None;
-        }
-        let rest = self.tail(1)?;
-        Some(short_string(rest, begin, end, may_follow))
-    }
-
     /// Returns the first token, by its kind.
-    #[inline(always)]
     fn look_by_kind(&self, delims: &Delims<'_>, may_follow: bool) -> Look
         ensures value { scan (pair_of delims.now.quotes) (pair_of delims.now.comments) may_follow self.now
             ≡ scan_of result self.now }

@@ -26,12 +26,43 @@ pub enum Followed {
     Open(usize),
 }
 
-/// So many bytes are looked at one by one before a search begins. A search takes longer to start than a look at a
-/// few bytes, and quotes are often close to each other.
+/// So many bytes at the start of a string are looked at one by one, with no call: most strings are short.
+const SHORT: usize = 64;
+
+/// So many bytes after a quote are looked at one by one before a search begins. A search takes longer to start than a
+/// look at a few bytes, and quotes are often close to each other.
 const STEPS: usize = 16;
 
-/// Follows a string through a text, before which `depth` nested strings are open, from quote to quote.
+/// Follows a string through a text, before which `depth` nested strings are open: byte by byte at first, and then from
+/// quote to quote.
 pub fn follow_quoted(text: &[u8], depth: usize, begin: u8, end: u8) -> Followed
+    requires { depth + length text.now < 2 ^ 64 }
+    ensures { Follows (record { begin = begin ∷ []; end = end ∷ [] }) depth text.now result }
+{
+    let short = text.len().min(SHORT);
+    let mut open = depth;
+    let mut k = 0usize;
+    'bytes: while k < short {
+        let byte = text[k];
+        if byte == end {
+            if open == 0 {
+                return Followed::Ends(k);
+            }
+            open -= 1;
+        } else if byte == begin {
+            open += 1;
+        }
+        k += 1;
+    }
+    match follow_far(text.split_at(k).1, open, begin, end) {
+        Followed::Ends(len) => Followed::Ends(k + len),
+        Followed::Open(open) => Followed::Open(open),
+    }
+}
+
+/// The same from quote to quote. Not inlined, so that a short string waits for nothing that a search prepares.
+#[inline(never)]
+fn follow_far(text: &[u8], depth: usize, begin: u8, end: u8) -> Followed
     requires { depth + length text.now < 2 ^ 64 }
     ensures { Follows (record { begin = begin ∷ []; end = end ∷ [] }) depth text.now result }
 {

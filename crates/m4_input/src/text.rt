@@ -80,11 +80,10 @@ impl Text {
     pub fn piece(&self) -> Option<&[u8]>
         ensures { IfSome result (λ x. x.now ≡ text_in self.now) }
     {
-        if self.pushed.is_empty() {
-            Some(self.piece.rest())
-        } else {
-            None
+        if !self.pushed.is_empty() {
+            return None;
         }
+        Some(self.piece.rest())
     }
 
     /// Inserts text at the start. If an allocation fails, nothing changes.
@@ -102,8 +101,22 @@ impl Text {
         Ok(())
     }
 
-    /// Discards the first n bytes.
+    /// Discards the first n bytes. Mostly no text is stored separately.
+    #[inline(always)]
     pub fn consume(&mut self, n: usize)
+        requires { n ≤ length (text_in self.old) }
+        ensures { self.new ≡ text_after n self.old }
+    {
+        if self.pushed.is_empty() {
+            self.piece.consume(n);
+        } else {
+            self.consume_apart(n);
+        }
+    }
+
+    /// The same, first of the text that is stored separately.
+    #[inline(never)]
+    fn consume_apart(&mut self, n: usize)
         requires { n ≤ length (text_in self.old) }
         ensures { self.new ≡ text_after n self.old }
     {

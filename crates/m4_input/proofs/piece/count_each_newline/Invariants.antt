@@ -1,6 +1,6 @@
 use Rattle.std.proofs.Common.{◌≡◌, ◌+◌, ◌≤◌, drop}
 use Rattle.m4_input.specs.Pending.{newlines_in}
-use Rattle.m4_input.proofs.piece.count_newlines.Given as goal
+use Rattle.m4_input.proofs.piece.count_each_newline.Given as goal
 
 -- those so far and those of the rest
 abbrev pub invariant-loop-byte : goal.invariant-loop-byte

@@ -1,10 +1,10 @@
-use Rattle.std.proofs.Common.{◌≡◌, ◌∷◌, List, ℕ, false, sym, ap, subst, ◌∙◌}
+use Rattle.std.proofs.Common.{◌≡◌, ◌∷◌, List, ℕ, false, sym, ap, subst, ◌∙◌, rules}
 use Rattle.m4_input.specs.Ascii.{is_letter}
 use Rattle.m4_input.specs.DelimsView.{pair_of}
 use Rattle.m4_input.specs.Look.{scan_of, LookLies}
 use Rattle.m4_input.specs.Token.{starts_with, may_start, scan}
 use Rattle.m4_input.proofs.Looks.{string_first}
-use Rattle.m4_input.proofs.window.Window.look_short_quotes.Goals as goal
+use Rattle.m4_input.proofs.look.quoted_token.Goals as goal
 
 pub returns : goal.returns
 returns c =
@@ -12,10 +12,10 @@ returns c =
     let k = pair_of c.args.delims.now.comments in
     let m = c.args.may_follow in
     let b = c.in_ok-begin.begin in
-    let y = c.in_ok-rest.rest.now in
+    let y = c.in_ok-first.rest.now in
     let look = c.short_string.result in
-    let same : c.in_ok-first.first ≡ b = c.if-first-begin.false in
-    let whole : b ∷ y ≡ c.args.self.now = ap (λ a. a ∷ y) (sym same) ∙ ap (λ (z : List ℕ). c.in_ok-first.first ∷ z) c.in_ok-rest.ensures ∙ sym c.in_ok-first.ensures.some in
+    let same : c.in_ok-first.first.now ≡ b = c.if-first-begin.false in
+    let whole : b ∷ y ≡ c.args.text.now = ap (λ a. a ∷ y) (sym same) ∙ (search rules) in
     let letter : is_letter b ≡ false = ap is_letter (sym same) ∙ sym c.is_letter_byte.ensures ∙ c.if-is_letter_byte.false in
     let starts : starts_with k (b ∷ y) ≡ false = subst (λ a. starts_with k (a ∷ y) ≡ false) same (c.may_begin.ensures.starts c.if-may_begin.false y) in
     let may : may_start k m (b ∷ y) ≡ false = subst (λ a. may_start k m (a ∷ y) ≡ false) same (c.may_begin.ensures.may c.if-may_begin.false m y) in

@@ -5,7 +5,7 @@ use Rattle.m4_input.specs.Text.{HeldText, text_after}
 use Rattle.m4_input.specs.TextView.{view_of}
 use Rattle.m4_input.proofs.Parts.{drop_reverse, pushed_after}
 use Rattle.m4_input.proofs.Pieces.{apart_taken, apart_left}
-use Rattle.m4_input.proofs.text.Text.consume.Goals as goal
+use Rattle.m4_input.proofs.text.Text.consume_apart.Goals as goal
 
 pub returns-then-n-len : goal.returns-then-n-len
 returns-then-n-len c =
