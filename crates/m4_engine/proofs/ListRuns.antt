@@ -1,5 +1,5 @@
 -- ListRuns: tokens of a list in order.
-use Rattle.std.proofs.Common.{◌≡◌, inr, Bool, ℕ, ◌+◌, ◌<◌, ◌≤◌, true, false, if◌then◌else◌, List, [], ◌∷◌, ◌++◌, take, drop, length, refl, sym, ap, ◌∙◌, subst, arith, append-nil, append_assoc}
+use Rattle.std.proofs.Common.{◌≡◌, inr, Bool, ℕ, ◌+◌, ◌<◌, ◌≤◌, true, false, List, [], ◌∷◌, ◌++◌, take, drop, length, refl, sym, ap, ◌∙◌, subst, arith, append-nil, append_assoc}
 use Rattle.std.proofs.lemmas.List.{drop-drop, length-take-le, take-append-drop}
 use Rattle.m4_state.specs.declared.delimiters.Delimiters.{Delimiters}
 use Rattle.m4_state.specs.State.{State}
@@ -7,11 +7,11 @@ use Rattle.m4_input.specs.Token.{scan}
 use Rattle.m4_input.specs.declared.front.Scan.TheVariants.{Found}
 use Rattle.m4_input.specs.declared.token.Token.TheVariants.{Byte}
 use Rattle.m4_engine.specs.declared.role.Role.{Role}
-use Rattle.m4_engine.specs.declared.role.Role.TheVariants.{Other}
+use Rattle.m4_engine.specs.declared.role.Role.TheVariants.{Blank, Other}
 use Rattle.m4_engine.specs.Nesting.{Turn, GoOn}
 use Rattle.m4_engine.specs.Expansion.{Call, Mode, Collecting, Expansion, Kept, Ended, issued_in, diverted_in, mode_with_text, put_text}
 use Rattle.m4_engine.specs.Args.{role_of, take_byte}
-use Rattle.m4_engine.specs.Collected.{TakesByte, IsTextByte, AreTextBytes, IsListToken, AreListTokens, bytes_in, IsListRun}
+use Rattle.m4_engine.specs.Collected.{TakesByte, IsTextByte, AreTextBytes, IsBlankByte, AreBlankBytes, IsListToken, AreListTokens, bytes_in, IsListRun}
 
 -- no token
 pub list_none : (s : State) (m : Bool) (c : Call) (x : List ℕ) → IsListRun s m 0 c c x
@@ -39,11 +39,6 @@ pub list_end : (s : State) (m : Bool) (k n : ℕ) (c d e : Call) (x y : List ℕ
 list_end s m k n c d e x y r g h z =
     let q : k + n ≡ k = omega arith in
     subst (λ (j : ℕ). IsListRun s m j c e x) q (list_on s m k n c d e x y r g h)
-
--- a byte, if it was taken
-pub byte_or_none : (s : State) (m : Bool) (b : ℕ) (c d : Call) (x : List ℕ) (taken : Bool) (n : ℕ) → n ≡ (if taken then 1 else 0) → scan s.quotes s.comments m x ≡ Found (Byte b) 1 → (taken ≡ true → TakesByte b c d) → (taken ≡ false → d ≡ c) → IsListRun s m n c d x
-byte_or_none s m b c d x true n e h f g = subst (λ (j : ℕ). IsListRun s m j c d x) (sym e) (list_one s m 1 c d x (inr (b, h, f refl)))
-byte_or_none s m b c d x false n e h f g = subst (λ (j : ℕ). IsListRun s m j c d x) (sym e) (subst (λ (a : Call). IsListRun s m 0 c a x) (sym (g refl)) (list_none s m c x))
 
 -- ---- bytes that are text
 
@@ -97,3 +92,45 @@ text_bytes_on q k (a ∷ x) b h t = (h.0, text_bytes_on q k x b h.1 t)
 
 pub text_bytes_more : (q k : Delimiters) (n : ℕ) (x : List ℕ) (b : ℕ) → AreTextBytes q k (take n x) → IsTextByte q k b → take (n + 1) x ≡ take n x ++ b ∷ [] → AreTextBytes q k (take (n + 1) x)
 text_bytes_more q k n x b h t e = subst (AreTextBytes q k) (sym e) (text_bytes_on q k (take n x) b h t)
+
+-- ---- bytes that are dropped
+
+blank_taken : (b : ℕ) (c : Call) → role_of b c ≡ Blank → TakesByte b c c
+blank_taken b c r s h =
+    ap (λ (v : Role). take_byte v b c s) r
+    ∙ ap (λ (v : Mode). let t : Turn Expansion Kept Ended = GoOn (record s { mode = v }) in t) h
+
+blanks_taken : (s : State) (m : Bool) (x y : List ℕ) (c : Call) → c.begun ≡ false → AreBlankBytes s.quotes s.comments x → IsListRun s m (length x) c c (x ++ y)
+blanks_taken s m [] y c n h = list_none s m c y
+blanks_taken s m (b ∷ x) y c n h =
+    let k : 1 + length x ≡ length (b ∷ x) = omega arith in
+    subst (λ (j : ℕ). IsListRun s m j c c ((b ∷ x) ++ y)) k
+    (list_on s m 1 (length x) c c c (b ∷ (x ++ y)) (x ++ y) (list_one s m 1 c c (b ∷ (x ++ y)) (inr (b, (h.0).alone m (x ++ y), blank_taken b c ((h.0).blank c n)))) refl
+    (blanks_taken s m x y c n h.1))
+
+-- the first n bytes of a text are dropped at once
+blanks_at_once : (s : State) (m : Bool) (n : ℕ) (x : List ℕ) (c : Call) → n ≤ length x → c.begun ≡ false → AreBlankBytes s.quotes s.comments (take n x) → IsListRun s m n c c x
+blanks_at_once s m n x c w f h =
+    let k : length (take n x) ≡ n = length-take-le n x w in
+    subst (λ (y : List ℕ). IsListRun s m n c c y) (take-append-drop n x)
+    (subst (λ (j : ℕ). IsListRun s m j c c (take n x ++ drop n x)) k (blanks_taken s m (take n x) (drop n x) c f h))
+
+-- a byte, and the bytes after it that are dropped
+pub byte_and_blanks : (s : State) (m : Bool) (b n : ℕ) (c d : Call) (x y : List ℕ) → scan s.quotes s.comments m x ≡ Found (Byte b) 1 → TakesByte b c d → d.begun ≡ false → y ≡ drop 1 x → n ≤ length y → AreBlankBytes s.quotes s.comments (take n y) → IsListRun s m (1 + n) c d x
+byte_and_blanks s m b n c d x y h t f g w k = list_on s m 1 n c d d x y (list_one s m 1 c d x (inr (b, h, t))) g (blanks_at_once s m n y d w f k)
+
+-- a byte alone
+pub byte_taken : (s : State) (m : Bool) (b : ℕ) (c d : Call) (x : List ℕ) → scan s.quotes s.comments m x ≡ Found (Byte b) 1 → TakesByte b c d → IsListRun s m 1 c d x
+byte_taken s m b c d x h t = list_one s m 1 c d x (inr (b, h, t))
+
+-- no byte
+pub byte_left : (s : State) (m : Bool) (c d : Call) (x : List ℕ) → d ≡ c → IsListRun s m 0 c d x
+byte_left s m c d x g = subst (λ (a : Call). IsListRun s m 0 c a x) (sym g) (list_none s m c x)
+
+-- a byte more
+blank_bytes_on : (q k : Delimiters) (x : List ℕ) (b : ℕ) → AreBlankBytes q k x → IsBlankByte q k b → AreBlankBytes q k (x ++ b ∷ [])
+blank_bytes_on q k [] b h t = (t, tt)
+blank_bytes_on q k (a ∷ x) b h t = (h.0, blank_bytes_on q k x b h.1 t)
+
+pub blank_bytes_more : (q k : Delimiters) (n : ℕ) (x : List ℕ) (b : ℕ) → AreBlankBytes q k (take n x) → IsBlankByte q k b → take (n + 1) x ≡ take n x ++ b ∷ [] → AreBlankBytes q k (take (n + 1) x)
+blank_bytes_more q k n x b h t e = subst (AreBlankBytes q k) (sym e) (blank_bytes_on q k (take n x) b h t)

@@ -1,7 +1,7 @@
 -- Collected: tokens of a list that change the innermost open call alone.
 -- Not believed: it only says which turns a run may make at once, by the tokens of `scan`.
--- Words: TakesByte, IsTextByte, AreTextBytes, IsText, IsListToken, AreListTokens, bytes_in, IsListRun.
-use Rattle.std.specs.Prelude.{◌≡◌, ℕ, ◌+◌, Bool, true, List, [], ◌∷◌, ◌++◌, drop, None, ◌⊎◌}
+-- Words: TakesByte, IsTextByte, AreTextBytes, IsBlankByte, AreBlankBytes, IsText, IsListToken, AreListTokens, bytes_in, IsListRun.
+use Rattle.std.specs.Prelude.{◌≡◌, ℕ, ◌+◌, Bool, true, false, List, [], ◌∷◌, ◌++◌, drop, None, ◌⊎◌}
 use Rattle.m4_state.specs.declared.delimiters.Delimiters.{Delimiters}
 use Rattle.m4_state.specs.State.{State, top_of}
 use Rattle.m4_input.specs.declared.token.Token.TheVariants.{Name, Str, Byte}
@@ -9,7 +9,7 @@ use Rattle.m4_input.specs.declared.front.Scan.TheVariants.{Found}
 use Rattle.m4_input.specs.Token.{scan}
 use Rattle.m4_engine.specs.Nesting.{GoOn}
 use Rattle.m4_engine.specs.Expansion.{Call, Collecting, Expansion}
-use Rattle.m4_engine.specs.declared.role.Role.TheVariants.{Other}
+use Rattle.m4_engine.specs.declared.role.Role.TheVariants.{Blank, Other}
 use Rattle.m4_engine.specs.Args.{role_of, take_byte}
 
 -- a byte that belongs to no other token makes d of the open call c, and has no other effect
@@ -26,6 +26,15 @@ pub record IsTextByte (q k : Delimiters) (b : ℕ) : Type 0 where
 abbrev pub AreTextBytes : Delimiters → Delimiters → List ℕ → Type 0
 AreTextBytes q k [] = Unit {0}
 AreTextBytes q k (b ∷ x) = IsTextByte q k b × AreTextBytes q k x
+
+-- a byte is a token of its own, whatever follows it, and is dropped before an argument's first token
+pub record IsBlankByte (q k : Delimiters) (b : ℕ) : Type 0 where
+  pub alone : (m : Bool) (y : List ℕ) → scan q k m (b ∷ y) ≡ Found (Byte b) 1
+  pub blank : (c : Call) → c.begun ≡ false → role_of b c ≡ Blank
+
+abbrev pub AreBlankBytes : Delimiters → Delimiters → List ℕ → Type 0
+AreBlankBytes q k [] = Unit {0}
+AreBlankBytes q k (b ∷ x) = IsBlankByte q k b × AreBlankBytes q k x
 
 -- the first token, of n bytes, is a string or a name without a definition: the text t
 abbrev pub IsText : State → Bool → ℕ → List ℕ → List ℕ → Type 0

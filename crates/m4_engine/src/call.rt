@@ -232,6 +232,13 @@ impl OpenCall {
         self.parts.parentheses > 0
     }
 
+    /// Returns whether the argument has begun: until then white space is dropped.
+    pub fn has_begun(&self) -> bool
+        ensures { result ≡ self.now.begun }
+    {
+        self.parts.begun
+    }
+
     /// Marks the argument as begun: from now on white space belongs to it.
     pub fn begin(&mut self)
         ensures { self.new ≡ record self.old { begun = true } }
@@ -257,7 +264,14 @@ impl OpenCall {
         ensures { OnOk result (self.new ≡ record self.old { begun = true; bytes = self.old.bytes ++ text.now }) }
     {
         self.parts.begun = true;
-        self.parts.bytes.extend_from_slice(text)
+        match text {
+            // One byte needs no call that copies.
+            [byte] => {
+                self.parts.bytes.push(*byte)?;
+                Ok(())
+            }
+            _ => self.parts.bytes.extend_from_slice(text),
+        }
     }
 
     /// Appends a definition to the argument.

@@ -8,7 +8,7 @@ ghost use Rattle.m4_input.specs.Token.{scan};
 ghost use Rattle.m4_input.specs.declared.front.Scan.TheVariants.{Found};
 ghost use Rattle.m4_input.specs.declared.token.Token.TheVariants.{Byte};
 ghost use Rattle.m4_engine.specs.Plain.{IsFirst, FirstLies};
-ghost use Rattle.m4_engine.specs.Collected.{IsTextByte, AreTextBytes, IsListRun};
+ghost use Rattle.m4_engine.specs.Collected.{IsTextByte, AreTextBytes, IsBlankByte, AreBlankBytes, IsListRun};
 
 use crate::call::OpenCall;
 use crate::front::{First, first_in_list};
@@ -111,6 +111,50 @@ fn collect_bytes(
         call.put(text.split_at(digits).0)?;
         return Ok(digits);
     }
+    collect_byte(call, byte, text, delims)
+}
+
+/// Collects the first byte, which is a token of its own, and the spaces after it if they are dropped.
+#[inline(always)]
+fn collect_byte(
+    call: &mut OpenCall,
+    byte: u8,
+    text: &[u8],
+    delims: &Delims<'_>,
+) -> Result<usize, AllocError>
+    requires { 0 < length text.now }
+    ensures collected { IfOk result (λ n. (s : State) (m : Bool) → pair_of delims.now.quotes ≡ s.quotes → pair_of delims.now.comments ≡ s.comments
+        → scan s.quotes s.comments m text.now ≡ Found (Byte byte) 1 → IsListRun s m n call.old call.new text.now) }
+    ensures within { IfOk result (λ n. n ≤ length text.now) }
+{
     let taken = call.take_byte(byte)?;
-    Ok(usize::from(taken))
+    if !taken {
+        return Ok(0);
+    }
+    if call.has_begun() {
+        return Ok(1);
+    }
+    let spaces = spaces_len(text.split_at(1).1, delims);
+    Ok(1 + spaces)
+}
+
+/// Returns whether a byte is a space with which no delimiter begins: a token of its own, whatever follows it.
+#[inline(always)]
+fn is_plain_space(byte: u8, delims: &Delims<'_>) -> bool
+    ensures { result ≡ true → IsBlankByte (pair_of delims.now.quotes) (pair_of delims.now.comments) byte }
+{
+    byte == b' ' && !may_begin(byte, &delims.comments) && !may_begin(byte, &delims.quotes)
+}
+
+/// Counts the spaces at the start. Before an argument's first token they are dropped, so they are passed together.
+#[inline(always)]
+fn spaces_len(text: &[u8], delims: &Delims<'_>) -> usize
+    ensures bytes { AreBlankBytes (pair_of delims.now.quotes) (pair_of delims.now.comments) (take result text.now) }
+    ensures within { result ≤ length text.now }
+{
+    let mut k = 0;
+    while k < text.len() && is_plain_space(text[k], delims) {
+        k += 1;
+    }
+    k
 }

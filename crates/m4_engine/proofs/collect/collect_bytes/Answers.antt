@@ -2,7 +2,7 @@ use Rattle.std.proofs.Common.{rules, take, subst}
 use Rattle.m4_state.specs.declared.delimiters.Delimiters.{Delimiters}
 use Rattle.m4_input.specs.DelimsView.{pair_of}
 use Rattle.m4_engine.specs.Collected.{AreTextBytes}
-use Rattle.m4_engine.proofs.ListRuns.{bytes_at_once, byte_or_none}
+use Rattle.m4_engine.proofs.ListRuns.{bytes_at_once}
 use Rattle.m4_engine.proofs.collect.collect_bytes.Goals as goal
 
 pub returns-then-digits-gt0-clause-collected : goal.returns-then-digits-gt0-clause-collected
@@ -12,7 +12,3 @@ returns-then-digits-gt0-clause-collected c = λ s m q k h.
     bytes_at_once s m n x c.args.call.now c.put.new.self (search rules) c.digits_len-digits.ensures.within
     (subst (λ (d : Delimiters). AreTextBytes s.quotes d (take n x)) k (subst (λ (d : Delimiters). AreTextBytes d (pair_of c.args.delims.now.comments) (take n x)) q c.digits_len-digits.ensures.bytes))
     (search rules)
-
-pub returns-clause-collected : goal.returns-clause-collected
-returns-clause-collected c = λ s m q k h.
-    byte_or_none s m c.args.byte c.args.call.now c.take_byte.new.self c.args.text.now c.in_ok-taken.taken c.from.result (search rules) h (search rules) (search rules)
