@@ -257,7 +257,7 @@ fn push_between(out: &mut Vec<u8>, text: &[u8], begin: u8, end: u8) -> Result<()
         ++ quoted (record { begin = begin ∷ []; end = end ∷ [] }) text.now) }
 {
     out.push(begin)?;
-    out.extend_from_slice(text)?;
+    push_bytes(out, text)?;
     out.push(end)?;
     Ok(())
 }
