@@ -5,7 +5,7 @@ use Rattle.m4_state.specs.declared.delimiters.Delimiters.{Delimiters}
 use Rattle.m4_input.specs.Ascii.{dollar, digit_zero}
 use Rattle.m4_input.specs.Token.{run_length}
 use Rattle.m4_builtins.specs.declared.args.Arg.{Arg}
-use Rattle.m4_builtins.specs.Args.{joined, text_of_arg, or_empty}
+use Rattle.m4_builtins.specs.Args.{joined, quoted, text_of_arg, or_empty}
 use Rattle.m4_builtins.specs.Subst.{subst_from, after_dollar, nth_text}
 use Rattle.m4_builtins.specs.Numbers.{IsNumber}
 
@@ -18,6 +18,32 @@ joined_rest false separator (x ∷ xs) = separator ++ joined separator (x ∷ xs
 pub joined_step : (separator x : List ℕ) (xs : List (List ℕ)) → joined separator (x ∷ xs) ≡ x ++ joined_rest false separator xs
 joined_step separator x [] = sym (append-nil x)
 joined_step separator x (y ∷ ys) = append_assoc x separator (joined separator (y ∷ ys))
+
+-- a text is written between quotes, after a separator if it is not the first
+module _ (q : Delimiters) (separator out mid new text all : List ℕ) (rest : List (List ℕ)) (first : Bool) where
+  abbrev this : List ℕ
+  this = quoted q text
+
+  abbrev left : List ℕ
+  left = joined_rest false separator (map (quoted q) rest)
+
+  rejoined : (b : Bool) → first ≡ b → out ++ joined_rest first separator (this ∷ map (quoted q) rest) ≡ all → out ++ joined_rest b separator (this ∷ map (quoted q) rest) ≡ all
+  rejoined b is before = ap (λ (v : Bool). out ++ joined_rest v separator (this ∷ map (quoted q) rest)) (sym is) ∙ before
+
+  pub quoted_first : first ≡ true → mid ≡ out → new ≡ mid ++ this → out ++ joined_rest first separator (this ∷ map (quoted q) rest) ≡ all → new ++ left ≡ all
+  quoted_first is m n before =
+      ap (λ (y : List ℕ). y ++ left) (n ∙ ap (λ (y : List ℕ). y ++ this) m)
+      ∙ append_assoc out this left
+      ∙ ap (λ (y : List ℕ). out ++ y) (sym (joined_step separator this (map (quoted q) rest)))
+      ∙ rejoined true is before
+
+  pub quoted_later : first ≡ false → mid ≡ out ++ separator → new ≡ mid ++ this → out ++ joined_rest first separator (this ∷ map (quoted q) rest) ≡ all → new ++ left ≡ all
+  quoted_later is m n before =
+      ap (λ (y : List ℕ). y ++ left) (n ∙ ap (λ (y : List ℕ). y ++ this) m)
+      ∙ append_assoc (out ++ separator) this left
+      ∙ append_assoc out separator (this ++ left)
+      ∙ ap (λ (y : List ℕ). out ++ (separator ++ y)) (sym (joined_step separator this (map (quoted q) rest)))
+      ∙ rejoined false is before
 
 -- the number of digits after those whose number is n
 abbrev pub number_from : ℕ → List ℕ → ℕ

@@ -10,6 +10,7 @@ ghost use Rattle.m4_builtins.specs.Act.{needs_list};
 ghost use Rattle.m4_builtins.specs.HeadView.{definition_at};
 
 use crate::place::Place;
+use crate::substitute::push_bytes;
 use m4_state::builtin::Builtin;
 use m4_state::bytes::Bytes;
 use m4_state::definition::Def;
@@ -83,6 +84,7 @@ fn part(bytes: &[u8], at: usize, len: usize) -> &[u8]
 
 impl Head {
     /// Creates a head with copies of these parts, in a buffer whose contents are discarded.
+    #[inline(always)]
     pub fn new(
         buffer: Vec<u8>,
         name: &[u8],
@@ -105,9 +107,9 @@ impl Head {
         let mut strings = buffer;
         strings.clear();
         strings.reserve(len)?;
-        strings.extend_from_slice(name)?;
-        strings.extend_from_slice(text)?;
-        strings.extend_from_slice(file)?;
+        push_bytes(&mut strings, name)?;
+        push_bytes(&mut strings, text)?;
+        push_bytes(&mut strings, file)?;
         Ok(Head {
             kind,
             line,

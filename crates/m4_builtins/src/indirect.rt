@@ -34,7 +34,9 @@ pub(crate) enum Step<'a> {
     On(Builtin, &'a [Arg]),
 }
 
-/// Starts a call of a definition under a name: a text or a placeholder is finished, a builtin is not.
+/// Starts a call of a definition under a name: a text or a placeholder is finished, a builtin is not. Inlined, so that
+/// a builtin's call moves no [`Step`].
+#[inline(always)]
 pub(crate) fn begin<'a>(
     alloc: Global,
     def: &Def,

@@ -231,9 +231,54 @@ pub(crate) fn push_joined(out: &mut Vec<u8>, args: &[Arg], separator: u8) -> Res
     Ok(())
 }
 
-/// Appends the arguments, each between quotes, with a comma between any two of them.
-#[tactic(auto, using(crate::proofs::Joins::joined_step))]
+/// Appends the arguments, each between quotes, with a comma between any two of them. Most quotes have one byte.
 pub(crate) fn push_quoted(
+    out: &mut Vec<u8>,
+    args: &[Arg],
+    quotes: (&[u8], &[u8]),
+) -> Result<(), AllocError>
+    ensures { OnOk result (out.new.items ≡ out.old.items ++ all_quoted (pair_of quotes.entry) (map text_of_arg args.now)) }
+{
+    match quotes {
+        ([begin], [end]) => push_all_between(out, args, *begin, *end),
+        _ => push_each_quoted(out, args, quotes),
+    }
+}
+
+/// The same with quotes of one byte each.
+#[inline(never)]
+#[tactic(auto, using(crate::proofs::Joins::joined_step))]
+fn push_all_between(out: &mut Vec<u8>, args: &[Arg], begin: u8, end: u8) -> Result<(), AllocError>
+    ensures { OnOk result (out.new.items ≡ out.old.items
+        ++ all_quoted (record { begin = begin ∷ []; end = end ∷ [] }) (map text_of_arg args.now)) }
+{
+    let mut first = true;
+    for arg in args {
+        if !first {
+            out.push(b',')?;
+        }
+        push_between(out, text_of(arg), begin, end)?;
+        first = false;
+    }
+    Ok(())
+}
+
+/// Appends a text between quotes of one byte each.
+#[inline(always)]
+fn push_between(out: &mut Vec<u8>, text: &[u8], begin: u8, end: u8) -> Result<(), AllocError>
+    ensures { OnOk result (out.new.items ≡ out.old.items
+        ++ quoted (record { begin = begin ∷ []; end = end ∷ [] }) text.now) }
+{
+    out.push(begin)?;
+    push_bytes(out, text)?;
+    out.push(end)?;
+    Ok(())
+}
+
+/// The same with any quotes.
+#[inline(never)]
+#[tactic(auto, using(crate::proofs::Joins::joined_step))]
+fn push_each_quoted(
     out: &mut Vec<u8>,
     args: &[Arg],
     quotes: (&[u8], &[u8]),
@@ -267,7 +312,7 @@ pub(crate) fn push_one_quoted(
 
 /// Appends a text. One of a byte or two, as most quotes and many arguments are, takes no call that copies.
 #[inline(always)]
-fn push_bytes(out: &mut Vec<u8>, text: &[u8]) -> Result<(), AllocError>
+pub(crate) fn push_bytes(out: &mut Vec<u8>, text: &[u8]) -> Result<(), AllocError>
     ensures { OnOk result (out.new.items ≡ out.old.items ++ text.now) }
 {
     match text {

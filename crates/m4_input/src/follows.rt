@@ -78,6 +78,10 @@ impl<'a> Window<'a> {
         ensures within { IfSome result (λ n. n ≤ length self.now) }
     {
         let _small = self.len();
+        // The rest of a line is often its newline alone, which takes no search.
+        if let Some(b'\n') = self.byte(0) {
+            return Some(1);
+        }
         match self.find(0, b"\n") {
             Some(n) => Some(n + 1),
             None => None,

@@ -26,31 +26,34 @@ pub enum Followed {
     Open(usize),
 }
 
-/// So many bytes at the start of a string are looked at one by one, with no call: most strings are short.
-const SHORT: usize = 64;
+/// So many bytes at the start of a string, and after each quote in it, are looked at one by one, with no call: most
+/// strings are short, and quotes are often close to each other.
+const NEAR: usize = 64;
 
-/// So many bytes after a quote are looked at one by one before a search begins. A search takes longer to start than a
-/// look at a few bytes, and quotes are often close to each other.
+/// So many bytes after a quote that a search found are looked at one by one before the next search begins. A search
+/// takes longer to start than a look at a few bytes.
 const STEPS: usize = 16;
 
-/// Follows a string through a text, before which `depth` nested strings are open: byte by byte at first, and then from
-/// quote to quote.
+/// Follows a string through a text, before which `depth` nested strings are open: byte by byte as long as its quotes
+/// are near to each other, and then from quote to quote.
 pub fn follow_quoted(text: &[u8], depth: usize, begin: u8, end: u8) -> Followed
     requires { depth + length text.now < 2 ^ 64 }
     ensures { Follows (record { begin = begin ∷ []; end = end ∷ [] }) depth text.now result }
 {
-    let short = text.len().min(SHORT);
+    let mut near = text.len().min(NEAR);
     let mut open = depth;
     let mut k = 0usize;
-    'bytes: while k < short {
+    'bytes: while k < near {
         let byte = text[k];
         if byte == end {
             if open == 0 {
                 return Followed::Ends(k);
             }
             open -= 1;
+            near = k.saturating_add(NEAR).min(text.len());
         } else if byte == begin {
             open += 1;
+            near = k.saturating_add(NEAR).min(text.len());
         }
         k += 1;
     }

@@ -107,10 +107,9 @@ impl Text {
         requires { n ≤ length (text_in self.old) }
         ensures { self.new ≡ text_after n self.old }
     {
-        if self.pushed.is_empty() {
-            self.piece.consume(n);
-        } else {
-            self.consume_apart(n);
+        match self.pushed.len() {
+            0 => self.piece.consume(n),
+            _ => self.consume_apart(n),
         }
     }
 

@@ -4,7 +4,7 @@ use Rattle.m4_input.specs.DelimsView.{pair_of}
 use Rattle.m4_builtins.specs.Args.{text_of_arg, quoted}
 use Rattle.m4_builtins.specs.Subst.{all_quoted}
 use Rattle.m4_builtins.proofs.Joins.{joined_rest}
-use Rattle.m4_builtins.proofs.substitute.push_quoted.Given as goal
+use Rattle.m4_builtins.proofs.substitute.push_each_quoted.Given as goal
 
 abbrev pub invariant-loop-arg : goal.invariant-loop-arg
 invariant-loop-arg l = l.out.items ++ joined_rest l.first (comma ∷ []) (map (quoted (pair_of l.quotes)) (map text_of_arg (drop l.arg-index l.args))) ≡ l.fn.out.items ++ all_quoted (pair_of l.quotes) (map text_of_arg l.args)
