@@ -152,6 +152,11 @@ impl Head {
         Ok(())
     }
 
+    /// Returns how many bytes its memory has room for.
+    pub fn room(&self) -> usize {
+        self.strings.capacity()
+    }
+
     /// Returns the memory of the head's parts.
     fn into_strings(self) -> Vec<u8> {
         let Head {

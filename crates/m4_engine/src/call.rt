@@ -66,6 +66,9 @@ impl Drop for OpenCall {
 /// A longer text is dropped when its call was made, and its memory with it.
 const LARGEST: usize = 256;
 
+/// A head with room for more bytes is dropped too.
+const LARGEST_HEAD: usize = 8192;
+
 /// Returns an argument that needs no memory.
 #[inline(always)]
 fn blank(alloc: Global) -> Arg
@@ -189,17 +192,28 @@ impl OpenCall {
         self.parts.tokens.clear();
     }
 
-    /// Drops the arguments, and keeps the memory of at most so many of them, and of none that are large.
+    /// Drops the arguments, and keeps the memory of at most so many of them, and of nothing that is large.
+    #[inline(always)]
     pub fn shed(&mut self, most: usize) {
         self.clear();
-        self.parts.args.truncate(most);
-        if self.parts.is_large {
-            let alloc = *self.parts.bytes.allocator();
-            drop_large(alloc, &mut self.parts.args);
-            self.parts.bytes = Vec::new(alloc);
-            self.parts.head = Head::empty(alloc);
-            self.parts.is_large = false;
+        let is_long = self.parts.args.len() > most;
+        if is_long || self.parts.is_large || self.parts.head.room() > LARGEST_HEAD {
+            self.shed_memory(most);
         }
+    }
+
+    /// Drops the memory of all but so many arguments, and of what is large.
+    #[inline(never)]
+    fn shed_memory(&mut self, most: usize) {
+        let alloc = *self.parts.bytes.allocator();
+        self.clear();
+        self.parts.args.truncate(most);
+        drop_large(alloc, &mut self.parts.args);
+        self.parts.bytes = Vec::new(alloc);
+        if self.parts.head.room() > LARGEST_HEAD {
+            self.parts.head = Head::empty(alloc);
+        }
+        self.parts.is_large = false;
     }
 
     /// Returns the parts of the call before its arguments.

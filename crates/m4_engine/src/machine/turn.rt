@@ -97,8 +97,12 @@ impl Machine {
     ) -> Result<(), TurnFault>
         ensures { OnOk result (self.new ≡ with_made messages.now output.now wrap self.old) }
     {
-        self.add_message(messages)?;
-        self.output.extend_from_slice(output)?;
+        if !messages.is_empty() {
+            self.add_message(messages)?;
+        }
+        if !output.is_empty() {
+            self.output.extend_from_slice(output)?;
+        }
         if let Some(text) = wrap {
             self.save(text)?;
         }
