@@ -3,6 +3,7 @@
 mod ends;
 mod failing;
 mod faults;
+mod following;
 mod lines;
 mod modes;
 mod names;

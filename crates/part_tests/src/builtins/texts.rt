@@ -38,7 +38,7 @@ static LENGTHS: [Row; 6] = [
     ),
 ];
 
-static PLACES: [Row; 14] = [
+static PLACES: [Row; 9] = [
     (
         "the first of one place",
         false,
@@ -93,6 +93,9 @@ static PLACES: [Row; 14] = [
         &[Step::Call(b"index", &[b"aab", b"ab"])],
         b"push 1\n",
     ),
+];
+
+static FAR_PLACES: [Row; 5] = [
     (
         "the last byte of a long text",
         false,
@@ -131,7 +134,7 @@ static PLACES: [Row; 14] = [
     ),
 ];
 
-static PARTS: [Row; 18] = [
+static PARTS: [Row; 9] = [
     (
         "three bytes of six",
         false,
@@ -186,6 +189,10 @@ static PARTS: [Row; 18] = [
         &[Step::Call(b"substr", &[b"abc", b" +1", b" 1"])],
         b"push b\n",
     ),
+];
+
+// The same for arguments that are empty, no numbers, missing or in excess.
+static WARNED_PARTS: [Row; 9] = [
     (
         "an empty place",
         false,
@@ -242,7 +249,7 @@ static PARTS: [Row; 18] = [
     ),
 ];
 
-static REPLACED: [Row; 17] = [
+static REPLACED: [Row; 9] = [
     (
         "a range that falls",
         false,
@@ -297,6 +304,10 @@ static REPLACED: [Row; 17] = [
         &[Step::Call(b"translit", &[b"abc", b"a-a", b"xy"])],
         b"push xbc\n",
     ),
+];
+
+// The same for dashes, for all bytes and none, and for arguments that are missing or in excess.
+static DASHES: [Row; 8] = [
     (
         "a dash alone",
         false,
@@ -358,11 +369,26 @@ fn texts_are_searched(rt: HostRuntime) {
 }
 
 #[test]
+fn long_texts_are_searched(rt: HostRuntime) {
+    tried(&rt, rt.alloc(), &FAR_PLACES);
+}
+
+#[test]
 fn texts_are_cut(rt: HostRuntime) {
     tried(&rt, rt.alloc(), &PARTS);
 }
 
 #[test]
+fn texts_are_cut_with_a_warning(rt: HostRuntime) {
+    tried(&rt, rt.alloc(), &WARNED_PARTS);
+}
+
+#[test]
 fn bytes_are_replaced(rt: HostRuntime) {
     tried(&rt, rt.alloc(), &REPLACED);
+}
+
+#[test]
+fn dashes_are_replaced(rt: HostRuntime) {
+    tried(&rt, rt.alloc(), &DASHES);
 }

@@ -97,12 +97,23 @@ pub fn files<'a>(
 }
 
 /// The outputs of a run, and how it ended.
-#[derive(Drop)]
 pub struct Seen {
     pub output: MemSink,
     pub messages: MemSink,
     pub frozen_text: MemSink,
     pub ending: Ending,
+}
+
+// Written out, so that a caller's proof sees one call and not the drop of each field.
+impl Drop for Seen {
+    fn drop(self) {
+        let Seen {
+            output: _output,
+            messages: _messages,
+            frozen_text: _frozen_text,
+            ending: _ending,
+        } = self;
+    }
 }
 
 /// Runs over these sources, with this much room for output and for messages, and writers that accept

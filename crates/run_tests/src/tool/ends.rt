@@ -1,11 +1,13 @@
 //! The lines that the program adds at the end of a run.
 
-use super::shows::{shows, text_of};
+use crate::runs::given::sink;
+use crate::runs::report::Report;
+use crate::runs::shows::shows;
 use m4_engine::ending::Cause;
 use m4_frozen::fault::{FrozenFault, FrozenKind};
-use m4_state::memory::MemSink;
 use m4_tool::endings::{last_fault, put_refused};
-use std::test::Fail;
+use std::alloc::{AllocError, Global};
+use std::process::Abort;
 
 // A row's name, why a run ended, whether its output was flushed then, and the line after `m4: `.
 static ENDS: [(&str, Cause, bool, &str); 7] = [
@@ -45,22 +47,42 @@ static REFUSED: [(&str, Cause, &str); 4] = [
     ("done", Cause::Done, ""),
 ];
 
-#[test]
-fn refused_files_are_reported(rt: HostRuntime) -> Result<(), Fail> {
-    for (row, cause, want) in &REFUSED {
-        let mut messages = MemSink::new(rt.alloc(), 100, 7)?;
-        let put = put_refused(*cause, b"F", &mut messages);
-        assert!(&rt; put.is_ok());
-        shows(&rt, row, want, text_of(messages.written()));
+// Returns the line for a frozen file, and a mark before it if it was not written.
+fn refused_line(
+    rt: &(impl Abort + Alloc<A = Global>),
+    cause: Cause,
+) -> Result<Vec<u8>, AllocError> {
+    let mut report = Report::new(rt.alloc());
+    let mut messages = sink(rt, 100, 7);
+    if put_refused(cause, b"F", &mut messages).is_err() {
+        report.add(b"not written: ");
     }
-    Ok(())
+    report.add(messages.written());
+    report.text()
 }
 
 #[test]
-fn ends_are_reported(rt: HostRuntime) -> Result<(), Fail> {
-    for (row, cause, flushed, want) in &ENDS {
-        let got = last_fault(*cause, *flushed).unwrap_or("no line");
-        shows(&rt, row, want, got);
+fn refused_files_are_reported(rt: HostRuntime) {
+    for &(row, cause, want) in &REFUSED {
+        shows(&rt, row, want.as_bytes(), refused_line(&rt, cause));
     }
-    Ok(())
+}
+
+// Returns the line for an end, or that there is none.
+fn end_line(alloc: Global, cause: Cause, flushed: bool) -> Result<Vec<u8>, AllocError> {
+    let mut report = Report::new(alloc);
+    report.add(last_fault(cause, flushed).unwrap_or("no line").as_bytes());
+    report.text()
+}
+
+#[test]
+fn ends_are_reported(rt: HostRuntime) {
+    for &(row, cause, flushed, want) in &ENDS {
+        shows(
+            &rt,
+            row,
+            want.as_bytes(),
+            end_line(rt.alloc(), cause, flushed),
+        );
+    }
 }

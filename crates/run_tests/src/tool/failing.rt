@@ -4,16 +4,16 @@
 
 ghost use Rattle.std.specs.Prelude.{None};
 
-use super::shows::{shows, text_of};
-use super::worlds::FILES;
+use super::following::{AT_MOST, Around, USUAL, add_made, end_of, expected, last_of, seen_of};
+use crate::runs::given::sink;
+use crate::runs::report::Report;
+use crate::runs::shows::agrees;
 use m4_state::device::{ByteSink, DeviceFault};
 use m4_state::memory::MemSink;
-use m4_tool::follow::follow;
 use m4_tool::followed::Failure;
-use m4_tool::line::read_line;
-use m4_tool::mem_world::MemWorld;
 use m4_tool::world::Shows;
-use std::test::Fail;
+use std::alloc::{AllocError, Global};
+use std::process::Abort;
 
 // The words of a line, standard input, which fails after these bytes, and the status, the least and the
 // most output, and the messages.
@@ -177,66 +177,134 @@ static FLUSHES: [(&[&str], u8, &str, &str); 8] = [
     (&["m4r", "--canon=none"], 1, "", "m4: cannot open `none'\n"),
 ];
 
-#[test]
-fn readers_fail(rt: HostRuntime) -> Result<(), Fail> {
-    for (words, input, status, least, most, messages) in &READERS {
-        let Ok(line) = read_line(rt.alloc(), words) else {
-            return Err(Fail::from("a line that is refused"));
-        };
-        let mut out = MemSink::new(rt.alloc(), 1000, 7)?;
-        let mut reported = MemSink::new(rt.alloc(), 1000, 7)?;
-        let mut world = MemWorld::new(rt.alloc(), &FILES, input, true);
-        world.fail_input();
-        let followed = follow(rt.alloc(), &line, world, &mut out, &mut reported);
-        let row = words.last().copied().unwrap_or("");
-        assert!(&rt; followed.status == *status, "{row}");
-        assert!(&rt; followed.world.made().is_none(), "{row}");
-        shows(&rt, row, messages, text_of(reported.written()));
-        let output = text_of(out.written());
-        assert!(&rt; output.starts_with(least), "{row}: {output:?}");
-        assert!(&rt; most.starts_with(output), "{row}: {output:?}");
+// Adds that an output lies between these two, or the output.
+fn add_between(output: &[u8], (least, most): (&str, &str), report: &mut Report) {
+    if output.starts_with(least.as_bytes()) && most.as_bytes().starts_with(output) {
+        add_bounds(least, most, report);
+    } else {
+        report.add(output);
     }
-    Ok(())
+}
+
+// Adds the least and the most output.
+fn add_bounds(least: &str, most: &str, report: &mut Report) {
+    for piece in ["between <", least, "> and <", most, ">"] {
+        report.add(piece.as_bytes());
+    }
+}
+
+// Reports the end of a line whose standard input fails: the status, the file that was made, the messages, and
+// whether the output lies between these two.
+fn seen_between(
+    rt: &(impl Abort + Alloc<A = Global>),
+    words: &[&str],
+    around: Around,
+    bounds: (&str, &str),
+) -> Result<Vec<u8>, AllocError> {
+    let mut report = Report::new(rt.alloc());
+    let mut out = sink(rt, around.room, AT_MOST);
+    let mut messages = sink(rt, around.space, AT_MOST);
+    let end = end_of(rt, words, around, &mut out, &mut messages);
+    report.print(&end.status);
+    add_made(&end.world, &mut report);
+    report.add(b"|");
+    report.add(messages.written());
+    report.add(b"|");
+    add_between(out.written(), bounds, &mut report);
+    report.text()
+}
+
+// Returns the expected report on such a line, which makes no file.
+fn expected_between(
+    alloc: Global,
+    status: u8,
+    messages: &str,
+    (least, most): (&str, &str),
+) -> Result<Vec<u8>, AllocError> {
+    let mut report = Report::new(alloc);
+    report.print(&status);
+    for piece in ["|nothing is made|", messages, "|"] {
+        report.add(piece.as_bytes());
+    }
+    add_bounds(least, most, &mut report);
+    report.text()
 }
 
 #[test]
-fn writers_fail(rt: HostRuntime) -> Result<(), Fail> {
-    for (words, room, space, status, output, messages) in &WRITERS {
-        let Ok(line) = read_line(rt.alloc(), words) else {
-            return Err(Fail::from("a line that is refused"));
+fn readers_fail(rt: HostRuntime) {
+    for &(words, input, status, least, most, messages) in &READERS {
+        let around = Around {
+            input,
+            fails: true,
+            ..USUAL
         };
-        let mut out = MemSink::new(rt.alloc(), *room, 7)?;
-        let mut reported = MemSink::new(rt.alloc(), *space, 7)?;
-        let world = MemWorld::new(rt.alloc(), &FILES, b"", true);
-        let followed = follow(rt.alloc(), &line, world, &mut out, &mut reported);
-        let row = words.last().copied().unwrap_or("");
-        assert!(&rt; followed.status == *status, "{row}");
-        assert!(&rt; followed.world.made().is_none(), "{row}");
-        shows(&rt, row, output, text_of(out.written()));
-        shows(&rt, row, messages, text_of(reported.written()));
+        let want = expected_between(rt.alloc(), status, messages, (least, most));
+        let got = seen_between(&rt, words, around, (least, most));
+        agrees(&rt, last_of(words), want, got);
     }
-    Ok(())
 }
 
 #[test]
-fn last_flushes_fail(rt: HostRuntime) -> Result<(), Fail> {
-    for (words, status, output, messages) in &FLUSHES {
-        let Ok(line) = read_line(rt.alloc(), words) else {
-            return Err(Fail::from("a line that is refused"));
+fn writers_fail(rt: HostRuntime) {
+    for &(words, room, space, status, output, messages) in &WRITERS {
+        let around = Around {
+            room,
+            space,
+            ..USUAL
         };
-        let mut out = Unflushed {
-            sink: MemSink::new(rt.alloc(), 1000, 7)?,
-        };
-        let mut reported = Unflushed {
-            sink: MemSink::new(rt.alloc(), 1000, 7)?,
-        };
-        let world = MemWorld::new(rt.alloc(), &FILES, b"", true);
-        let followed = follow(rt.alloc(), &line, world, &mut out, &mut reported);
-        let row = words.last().copied().unwrap_or("");
-        assert!(&rt; followed.status == *status, "{row}");
-        assert!(&rt; followed.failure == Some(Failure::Write), "{row}");
-        shows(&rt, row, output, text_of(out.sink.written()));
-        shows(&rt, row, messages, text_of(reported.sink.written()));
+        let want = expected(rt.alloc(), status, output, messages);
+        agrees(&rt, last_of(words), want, seen_of(&rt, words, around));
     }
-    Ok(())
+}
+
+// Makes a writer with ample room that can't be flushed.
+fn never_flushed(rt: &(impl Abort + Alloc<A = Global>)) -> Unflushed {
+    Unflushed {
+        sink: sink(rt, 1000, AT_MOST),
+    }
+}
+
+// Returns the report on a line whose outputs can't be flushed.
+fn printed_unflushed(
+    alloc: Global,
+    status: u8,
+    failure: Option<Failure>,
+    output: &[u8],
+    messages: &[u8],
+) -> Result<Vec<u8>, AllocError> {
+    let mut report = Report::new(alloc);
+    report.print(&status);
+    report.print(&failure);
+    report.add(b"|");
+    report.add(output);
+    report.add(b"|");
+    report.add(messages);
+    report.text()
+}
+
+// Reports the end of such a line.
+fn seen_unflushed(
+    rt: &(impl Abort + Alloc<A = Global>),
+    words: &[&str],
+) -> Result<Vec<u8>, AllocError> {
+    let mut out = never_flushed(rt);
+    let mut messages = never_flushed(rt);
+    let end = end_of(rt, words, USUAL, &mut out, &mut messages);
+    printed_unflushed(
+        rt.alloc(),
+        end.status,
+        end.failure,
+        out.sink.written(),
+        messages.sink.written(),
+    )
+}
+
+#[test]
+fn last_flushes_fail(rt: HostRuntime) {
+    for &(words, status, output, messages) in &FLUSHES {
+        let (output, messages) = (output.as_bytes(), messages.as_bytes());
+        let failure = Some(Failure::Write);
+        let want = printed_unflushed(rt.alloc(), status, failure, output, messages);
+        agrees(&rt, last_of(words), want, seen_unflushed(&rt, words));
+    }
 }

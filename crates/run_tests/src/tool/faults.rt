@@ -1,12 +1,12 @@
 //! The line for each fault of a mode. It has the number and the name that the kind displays.
 
-use super::shows::{shows, text_of};
+use crate::runs::given::sink;
+use crate::runs::report::Report;
+use crate::runs::shows::shows;
 use m4_frozen::fault::{FrozenFault, FrozenKind};
-use m4_state::memory::MemSink;
 use m4_tool::fault::ModeFault;
-use std::alloc::Global;
+use std::alloc::{AllocError, Global};
 use std::process::Abort;
-use std::test::Fail;
 
 // A kind of fault at byte 12 of the file F, and its line. The kinds are in docs/FROZEN_FILE.md.
 static KINDS: [(FrozenKind, &str); 11] = [
@@ -44,25 +44,32 @@ static KINDS: [(FrozenKind, &str); 11] = [
     (FrozenKind::OutOfMemory, "m4: F: F11 OutOfMemory\n"),
 ];
 
+// Returns the line for a kind, and a mark before it if it was not written.
+fn line_of(rt: &(impl Abort + Alloc<A = Global>), kind: FrozenKind) -> Result<Vec<u8>, AllocError> {
+    let mut report = Report::new(rt.alloc());
+    let mut line = sink(rt, 100, 100);
+    let fault = ModeFault::Frozen(FrozenFault { kind, offset: 12 });
+    if fault.report(b"F", &mut line).is_err() {
+        report.add(b"not written: ");
+    }
+    report.add(line.written());
+    report.text()
+}
+
 // Compares the line for a kind with its row, and finds in it the text that the kind displays.
-fn check_kind(
-    rt: &(impl Abort + Alloc<A = Global>),
-    kind: FrozenKind,
-    want: &str,
-) -> Result<(), Fail> {
-    let shown = format!(in rt.alloc(); "{kind}")?;
-    let mut line = MemSink::new(rt.alloc(), 100, 100)?;
-    let put = ModeFault::Frozen(FrozenFault { kind, offset: 12 }).report(b"F", &mut line);
-    assert!(rt; put.is_ok());
-    shows(rt, shown.as_str(), want, text_of(line.written()));
-    assert!(rt; want.contains(shown.as_str()), "{want} lacks {shown}");
-    Ok(())
+fn check_kind(rt: &(impl Abort + Alloc<A = Global>), kind: FrozenKind, want: &str) {
+    match format!(in rt.alloc(); "{kind}") {
+        Ok(shown) => {
+            shows(rt, shown.as_str(), want.as_bytes(), line_of(rt, kind));
+            assert!(rt; want.contains(shown.as_str()), "{want} lacks {shown}");
+        }
+        Err(AllocError) => panic!(rt; "{want}: out of memory"),
+    }
 }
 
 #[test]
-fn kinds_have_their_line(rt: HostRuntime) -> Result<(), Fail> {
-    for (kind, want) in &KINDS {
-        check_kind(&rt, *kind, want)?;
+fn kinds_have_their_line(rt: HostRuntime) {
+    for &(kind, want) in &KINDS {
+        check_kind(&rt, kind, want);
     }
-    Ok(())
 }

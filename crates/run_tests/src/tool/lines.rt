@@ -1,11 +1,11 @@
 //! A table of command lines and their meaning. The kinds of refusal are those of Rust's clap.
 
-use super::shows::shows;
+use crate::runs::report::Report;
+use crate::runs::shows::shows;
 use m4_engine::options::Options;
 use m4_tool::line::{Line, LineFault, read_line};
-use std::alloc::Global;
+use std::alloc::{AllocError, Global};
 use std::process::Abort;
-use std::test::Fail;
 
 // The words of a line, and the result: a mode with its file, or a refusal.
 static MODES: [(&[&str], &str); 22] = [
@@ -157,18 +157,47 @@ static RUNS: [(&[&str], &str); 24] = [
     ),
 ];
 
-// Returns the result for a line, as the tables write it.
-fn answer_of(alloc: Global, line: &Result<Line, LineFault>) -> Result<String, Fail> {
+// Adds the result for a line, as the tables write it.
+fn add_answer(line: &Result<Line, LineFault>, report: &mut Report) {
     match line {
-        Ok(line) => asked_of(alloc, line),
-        Err(LineFault::ModeNotAlone) => Ok(String::from_str(alloc, "a mode not alone")?),
-        Err(LineFault::OutOfMemory) => Ok(String::from_str(alloc, "out of memory")?),
-        Err(LineFault::Parse(error)) => Ok(format!(in alloc; "refused: {:?}", error.kind())?),
+        Ok(line) => add_asked(line, report),
+        Err(LineFault::ModeNotAlone) => report.add(b"a mode not alone"),
+        Err(LineFault::OutOfMemory) => report.add(b"out of memory"),
+        Err(LineFault::Parse(error)) => {
+            report.add(b"refused: ");
+            report.print(&error.kind());
+        }
     }
 }
 
-// Returns the content of a line: a mode with its file, a run with frozen files, or a run.
-fn asked_of(alloc: Global, line: &Line) -> Result<String, Fail> {
+// Adds a mode and its file.
+fn add_mode(mode: &[u8], file: &String, report: &mut Report) {
+    report.add(mode);
+    report.add(file.as_str().as_bytes());
+}
+
+// Adds the limits of a run, and the files that it reads.
+fn add_run(line: &Line, report: &mut Report) {
+    report.add(b"run ");
+    report.print(&line.options.nesting);
+    report.add(b" ");
+    report.print(&line.options.calls);
+    report.add(b" ");
+    report.print(&line.files);
+}
+
+// Adds the frozen files of a run, and the files that it reads.
+fn add_frozen(line: &Line, report: &mut Report) {
+    report.add(b"from ");
+    report.print(&line.reload);
+    report.add(b" to ");
+    report.print(&line.freeze);
+    report.add(b", run ");
+    report.print(&line.files);
+}
+
+// Adds the content of a line: a mode with its file, a run with frozen files, or a run.
+fn add_asked(line: &Line, report: &mut Report) {
     let Options {
         calls,
         nesting,
@@ -177,60 +206,54 @@ fn asked_of(alloc: Global, line: &Line) -> Result<String, Fail> {
     } = line.options;
     let is_usual = nesting == 1024 && calls == 4294967295;
     let is_plain = is_usual && line.files.is_empty() && !freeze;
-    let files = &line.files;
     match (&line.canon, &line.inspect, &line.reload, &line.freeze) {
-        _ if prefix || freeze != line.freeze.is_some() => Ok(format!(in alloc; "{line:?}")?),
-        (Some(file), None, None, None) if is_plain => Ok(format!(in alloc; "canon {file}")?),
-        (None, Some(file), None, None) if is_plain => Ok(format!(in alloc; "inspect {file}")?),
-        (None, None, None, None) => Ok(format!(in alloc; "run {nesting} {calls} {files:?}")?),
-        (None, None, reload, freeze) if is_usual => frozen_of(alloc, reload, freeze, files),
-        _ => Ok(format!(in alloc; "{line:?}")?),
+        _ if prefix || freeze != line.freeze.is_some() => report.print(line),
+        (Some(file), None, None, None) if is_plain => add_mode(b"canon ", file, report),
+        (None, Some(file), None, None) if is_plain => add_mode(b"inspect ", file, report),
+        (None, None, None, None) => add_run(line, report),
+        (None, None, _, _) if is_usual => add_frozen(line, report),
+        _ => report.print(line),
     }
 }
 
-// Returns the frozen files of a run, and the files that it reads.
-fn frozen_of(
-    alloc: Global,
-    reload: &Option<String>,
-    freeze: &Option<String>,
-    files: &Vec<String>,
-) -> Result<String, Fail> {
-    Ok(format!(in alloc; "from {reload:?} to {freeze:?}, run {files:?}")?)
+// Reports a line.
+fn answer_of(alloc: Global, words: &[&str]) -> Result<Vec<u8>, AllocError> {
+    let mut report = Report::new(alloc);
+    add_answer(&read_line(alloc, words), &mut report);
+    report.text()
 }
 
 // Compares the result for a line with its row.
-fn check_row(
-    rt: &(impl Abort + Alloc<A = Global>),
-    words: &[&str],
-    want: &str,
-) -> Result<(), Fail> {
-    let line = read_line(rt.alloc(), words);
-    let got = answer_of(rt.alloc(), &line)?;
-    let row = format!(in rt.alloc(); "{words:?}")?;
-    shows(rt, row.as_str(), want, got.as_str());
-    Ok(())
+fn check_row(rt: &(impl Abort + Alloc<A = Global>), words: &[&str], want: &str) {
+    match format!(in rt.alloc(); "{words:?}") {
+        Ok(row) => shows(
+            rt,
+            row.as_str(),
+            want.as_bytes(),
+            answer_of(rt.alloc(), words),
+        ),
+        Err(AllocError) => panic!(rt; "{want}: out of memory"),
+    }
+}
+
+// Compares the result for each line with its row.
+fn check(rt: &(impl Abort + Alloc<A = Global>), rows: &[(&'static [&'static str], &'static str)]) {
+    for &(words, want) in rows {
+        check_row(rt, words, want);
+    }
 }
 
 #[test]
-fn each_line_with_a_mode_is_read(rt: HostRuntime) -> Result<(), Fail> {
-    for (words, want) in &MODES {
-        check_row(&rt, words, want)?;
-    }
-    Ok(())
+fn each_line_with_a_mode_is_read(rt: HostRuntime) {
+    check(&rt, &MODES);
 }
 
 #[test]
-fn each_line_with_a_frozen_file_is_read(rt: HostRuntime) -> Result<(), Fail> {
-    for (words, want) in &FROZEN {
-        check_row(&rt, words, want)?;
-    }
-    Ok(())
+fn each_line_with_a_frozen_file_is_read(rt: HostRuntime) {
+    check(&rt, &FROZEN);
 }
 
 #[test]
-fn each_line_with_no_mode_is_read(rt: HostRuntime) -> Result<(), Fail> {
-    for (words, want) in &RUNS {
-        check_row(&rt, words, want)?;
-    }
-    Ok(())
+fn each_line_with_no_mode_is_read(rt: HostRuntime) {
+    check(&rt, &RUNS);
 }

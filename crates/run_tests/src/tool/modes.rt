@@ -3,14 +3,15 @@
 //! The files and their texts were written by hand from the format. Each row is run with readers and
 //! writers of several sizes, since no result may depend on them. Manual: "Frozen file format".
 
-ghost use Rattle.std.specs.Prelude.{◌<◌};
-
-use super::shows::{shows, text_of};
-use m4_state::memory::{MemSink, MemSource};
+use super::following::add_written;
+use super::shows::text_of;
+use crate::runs::given::sink;
+use crate::runs::report::Report;
+use crate::runs::shows::agrees;
+use m4_state::memory::MemSource;
 use m4_tool::modes::{canon, inspect};
 use std::alloc::{AllocError, Global};
 use std::process::Abort;
-use std::test::Fail;
 
 // Expands to the canonical text with these directives.
 macro_rules! canonical {
@@ -138,53 +139,64 @@ fn written_as<'a>(file: &'a [u8], text: &'a str) -> Row<'a> {
     }
 }
 
-// Runs a row with these devices, and compares the results.
-fn check_by(
+// Reports a row with these devices: the status, the output and the messages.
+fn seen_by(
     rt: &(impl Abort + Alloc<A = Global>),
     row: Row<'_>,
     devices: Devices,
-) -> Result<(), AllocError>
-    requires { 0 < devices.at_most }
-{
+) -> Result<Vec<u8>, AllocError> {
     let alloc = rt.alloc();
-    let mut reader = MemSource::new(row.file, devices.at_most, row.fails);
-    let mut out = MemSink::new(alloc, devices.out_room, devices.at_most)?;
-    let mut errors = MemSink::new(alloc, devices.messages_room, devices.at_most)?;
+    let mut report = Report::new(alloc);
+    let mut reader = MemSource::new(row.file, devices.at_most.max(1), row.fails);
+    let mut out = sink(rt, devices.out_room, devices.at_most);
+    let mut errors = sink(rt, devices.messages_room, devices.at_most);
     let status = match row.mode {
         Mode::Canon => canon(alloc, b"F", &mut reader, &mut out, &mut errors),
         Mode::Inspect => inspect(alloc, b"F", &mut reader, &mut out, &mut errors),
     };
-    let name = text_of(row.file);
-    shows(rt, name, row.output, text_of(out.written()));
-    shows(rt, name, row.messages, text_of(errors.written()));
-    assert_eq!(rt; status, row.status, "{name}");
-    Ok(())
+    report.print(&status);
+    add_written(&out, &errors, &mut report);
+    report.text()
+}
+
+// Returns the expected report on a row.
+fn expected(alloc: Global, row: Row<'_>) -> Result<Vec<u8>, AllocError> {
+    let mut report = Report::new(alloc);
+    report.print(&row.status);
+    for piece in ["|", row.output, "|", row.messages] {
+        report.add(piece.as_bytes());
+    }
+    report.text()
+}
+
+// Runs a row with these devices, and compares the reports.
+fn check_by(rt: &(impl Abort + Alloc<A = Global>), row: Row<'_>, devices: Devices) {
+    let want = expected(rt.alloc(), row);
+    agrees(rt, text_of(row.file), want, seen_by(rt, row, devices));
 }
 
 // Runs a row with devices of each size.
-fn check_row(rt: &(impl Abort + Alloc<A = Global>), row: Row<'_>) -> Result<(), AllocError> {
+fn check_row(rt: &(impl Abort + Alloc<A = Global>), row: Row<'_>) {
     for at_most in SIZES {
         let devices = Devices {
             at_most,
             out_room: AMPLE,
             messages_room: AMPLE,
         };
-        check_by(rt, row, devices)?;
+        check_by(rt, row, devices);
     }
-    Ok(())
 }
 
 #[test]
-fn files_have_their_canonical_text(rt: HostRuntime) -> Result<(), Fail> {
+fn files_have_their_canonical_text(rt: HostRuntime) {
     for (file, text) in &CANONICAL {
-        check_row(&rt, written_as(file, text))?;
-        check_row(&rt, written_as(text.as_bytes(), text))?;
+        check_row(&rt, written_as(file, text));
+        check_row(&rt, written_as(text.as_bytes(), text));
     }
-    Ok(())
 }
 
 #[test]
-fn refused_files_have_their_line(rt: HostRuntime) -> Result<(), Fail> {
+fn refused_files_have_their_line(rt: HostRuntime) {
     for (file, fails, status, messages) in &REFUSED {
         let row = Row {
             mode: Mode::Canon,
@@ -194,26 +206,24 @@ fn refused_files_have_their_line(rt: HostRuntime) -> Result<(), Fail> {
             output: "",
             messages,
         };
-        check_row(&rt, row)?;
+        check_row(&rt, row);
     }
-    Ok(())
 }
 
 #[test]
-fn files_are_listed(rt: HostRuntime) -> Result<(), Fail> {
+fn files_are_listed(rt: HostRuntime) {
     for (file, lines) in &LISTED {
         let row = Row {
             mode: Mode::Inspect,
             ..written_as(file, lines)
         };
-        check_row(&rt, row)?;
+        check_row(&rt, row);
     }
-    Ok(())
 }
 
 // If an output has too little room for the text, it contains a prefix of it.
 #[test]
-fn an_output_that_fails_has_a_beginning(rt: HostRuntime) -> Result<(), Fail> {
+fn an_output_that_fails_has_a_beginning(rt: HostRuntime) {
     let (file, text) = &CANONICAL[1];
     for room in 0..text.len() {
         let row = Row {
@@ -227,14 +237,13 @@ fn an_output_that_fails_has_a_beginning(rt: HostRuntime) -> Result<(), Fail> {
             out_room: room,
             messages_room: AMPLE,
         };
-        check_by(&rt, row, devices)?;
+        check_by(&rt, row, devices);
     }
-    Ok(())
 }
 
 // If messages have too little room, they contain a prefix of the line, and the status is the fault's.
 #[test]
-fn messages_that_fail_have_a_beginning(rt: HostRuntime) -> Result<(), Fail> {
+fn messages_that_fail_have_a_beginning(rt: HostRuntime) {
     let row = Row {
         status: 63,
         messages: "m4: F:",
@@ -245,6 +254,5 @@ fn messages_that_fail_have_a_beginning(rt: HostRuntime) -> Result<(), Fail> {
         out_room: AMPLE,
         messages_room: 6,
     };
-    check_by(&rt, row, devices)?;
-    Ok(())
+    check_by(&rt, row, devices);
 }

@@ -1,9 +1,9 @@
 //! The texts of clap that a user may see: help, and the refusal of a line.
 
+use clap::Error;
 use m4_tool::line::{LineFault, read_line};
-use std::alloc::Global;
+use std::alloc::{AllocError, Global};
 use std::process::Abort;
-use std::test::Fail;
 
 // The words of a line, whether they are a mistake, and parts of the text.
 static TEXTS: [(&[&str], bool, &[&str]); 7] = [
@@ -53,24 +53,6 @@ static TEXTS: [(&[&str], bool, &[&str]); 7] = [
     ),
 ];
 
-// Checks that the text of clap for a line contains the parts.
-fn check_text(
-    rt: &(impl Abort + Alloc<A = Global>),
-    words: &[&str],
-    is_mistake: bool,
-    parts: &[&str],
-) -> Result<(), Fail> {
-    match read_line(rt.alloc(), words) {
-        Err(LineFault::Parse(error)) => {
-            let text = format!(in rt.alloc(); "{error}")?;
-            check_parts(rt, text.as_str(), parts);
-            assert_eq!(rt; error.use_stderr(), is_mistake, "{text}");
-            Ok(())
-        }
-        _ => Err(Fail::from("a line was followed")),
-    }
-}
-
 // Checks that a text contains the parts.
 fn check_parts(rt: &impl Abort, text: &str, parts: &[&str]) {
     for part in parts {
@@ -78,10 +60,38 @@ fn check_parts(rt: &impl Abort, text: &str, parts: &[&str]) {
     }
 }
 
-#[test]
-fn texts_name_what_they_are_about(rt: HostRuntime) -> Result<(), Fail> {
-    for (words, is_mistake, parts) in &TEXTS {
-        check_text(&rt, words, *is_mistake, parts)?;
+// Checks that the text of clap contains the parts, and whether it is that of a mistake.
+fn check_error(
+    rt: &(impl Abort + Alloc<A = Global>),
+    error: &Error,
+    is_mistake: bool,
+    parts: &[&str],
+) {
+    match format!(in rt.alloc(); "{error}") {
+        Ok(text) => {
+            check_parts(rt, text.as_str(), parts);
+            assert_eq!(rt; error.use_stderr(), is_mistake, "{text}");
+        }
+        Err(AllocError) => panic!(rt; "out of memory"),
     }
-    Ok(())
+}
+
+// Checks the text of clap for a line.
+fn check_text(
+    rt: &(impl Abort + Alloc<A = Global>),
+    words: &[&str],
+    is_mistake: bool,
+    parts: &[&str],
+) {
+    match read_line(rt.alloc(), words) {
+        Err(LineFault::Parse(error)) => check_error(rt, &error, is_mistake, parts),
+        _ => panic!(rt; "a line was followed"),
+    }
+}
+
+#[test]
+fn texts_name_what_they_are_about(rt: HostRuntime) {
+    for &(words, is_mistake, parts) in &TEXTS {
+        check_text(&rt, words, is_mistake, parts);
+    }
 }

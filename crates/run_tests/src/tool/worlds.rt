@@ -1,15 +1,13 @@
 //! Lines that are followed in a world in memory: the status, the output, the messages, and the file that is
 //! made. The files and the expected results were written by hand.
 
-use super::shows::{shows, text_of};
-use m4_state::memory::MemSink;
-use m4_tool::follow::follow;
+use super::following::{AT_MOST, Around, USUAL, add_made, end_of, expected, last_of, seen_of};
+use crate::runs::given::sink;
+use crate::runs::report::Report;
+use crate::runs::shows::agrees;
 use m4_tool::given::Given;
-use m4_tool::line::read_line;
-use m4_tool::mem_world::MemWorld;
-use std::alloc::Global;
+use std::alloc::{AllocError, Global};
 use std::process::Abort;
-use std::test::Fail;
 
 /// The files of all rows: the name, the bytes, and whether the reader fails after them.
 pub static FILES: [Given<'static>; 11] = [
@@ -194,41 +192,41 @@ static MODES: [(&[&str], &[u8], u8, &str, &str); 8] = [
     ),
 ];
 
-// Follows a line in a world where no file can be made, and checks its status, its output and its messages.
-fn check_lines(
-    rt: &(impl Abort + Alloc<A = Global>),
-    rows: &[(&[&str], &[u8], u8, &str, &str)],
-) -> Result<(), Fail> {
-    for (words, input, status, output, messages) in rows {
-        let Ok(line) = read_line(rt.alloc(), words) else {
-            return Err(Fail::from("a line that is refused"));
+// The words of a line, standard input, and the status, the output and the messages.
+type Row = (
+    &'static [&'static str],
+    &'static [u8],
+    u8,
+    &'static str,
+    &'static str,
+);
+
+// Compares the report on each row, in a world where no file can be made.
+fn compare(rt: &(impl Abort + Alloc<A = Global>), rows: &[Row]) {
+    for &(words, input, status, output, messages) in rows {
+        let around = Around {
+            input,
+            makes: false,
+            ..USUAL
         };
-        let mut out = MemSink::new(rt.alloc(), 1000, 7)?;
-        let mut reported = MemSink::new(rt.alloc(), 1000, 7)?;
-        let world = MemWorld::new(rt.alloc(), &FILES, input, false);
-        let followed = follow(rt.alloc(), &line, world, &mut out, &mut reported);
-        let row = words.last().copied().unwrap_or("");
-        assert!(rt; followed.status == *status, "{row}");
-        assert!(rt; followed.world.made().is_none(), "{row}");
-        shows(rt, row, output, text_of(out.written()));
-        shows(rt, row, messages, text_of(reported.written()));
+        let want = expected(rt.alloc(), status, output, messages);
+        agrees(rt, last_of(words), want, seen_of(rt, words, around));
     }
-    Ok(())
 }
 
 #[test]
-fn lines_are_followed(rt: HostRuntime) -> Result<(), Fail> {
-    check_lines(&rt, &LINES)
+fn lines_are_followed(rt: HostRuntime) {
+    compare(&rt, &LINES);
 }
 
 #[test]
-fn faults_are_reported(rt: HostRuntime) -> Result<(), Fail> {
-    check_lines(&rt, &REFUSED)
+fn faults_are_reported(rt: HostRuntime) {
+    compare(&rt, &REFUSED);
 }
 
 #[test]
-fn modes_are_followed(rt: HostRuntime) -> Result<(), Fail> {
-    check_lines(&rt, &MODES)
+fn modes_are_followed(rt: HostRuntime) {
+    compare(&rt, &MODES);
 }
 
 // The words of a line that freezes, whether a file can be made, the room of the output, and the status, the
@@ -272,25 +270,54 @@ static FROZEN: [(&[&str], bool, usize, u8, &str, &str, &str); 4] = [
     ),
 ];
 
-#[test]
-fn files_are_frozen(rt: HostRuntime) -> Result<(), Fail> {
-    for (words, makes, room, status, messages, name, bytes) in &FROZEN {
-        let Ok(line) = read_line(rt.alloc(), words) else {
-            return Err(Fail::from("a line that is refused"));
-        };
-        let mut out = MemSink::new(rt.alloc(), *room, 7)?;
-        let mut reported = MemSink::new(rt.alloc(), 1000, 7)?;
-        let world = MemWorld::new(rt.alloc(), &FILES, b"", *makes);
-        let followed = follow(rt.alloc(), &line, world, &mut out, &mut reported);
-        assert!(&rt; followed.status == *status, "{name}");
-        shows(&rt, name, messages, text_of(reported.written()));
-        shows(&rt, name, name, text_of(followed.world.made_name()));
-        shows(
-            &rt,
-            name,
-            bytes,
-            text_of(followed.world.made().unwrap_or(b"")),
-        );
+// Reports a line that freezes: the status, the file that was made, and the messages.
+fn seen_frozen(
+    rt: &(impl Abort + Alloc<A = Global>),
+    words: &[&str],
+    around: Around,
+) -> Result<Vec<u8>, AllocError> {
+    let mut report = Report::new(rt.alloc());
+    let mut out = sink(rt, around.room, AT_MOST);
+    let mut messages = sink(rt, around.space, AT_MOST);
+    let end = end_of(rt, words, around, &mut out, &mut messages);
+    report.print(&end.status);
+    add_made(&end.world, &mut report);
+    report.add(b"|");
+    report.add(messages.written());
+    report.text()
+}
+
+// Returns the expected report on such a line; no name means that no file is made.
+fn expected_frozen(
+    alloc: Global,
+    status: u8,
+    messages: &str,
+    (name, bytes): (&str, &str),
+) -> Result<Vec<u8>, AllocError> {
+    let mut report = Report::new(alloc);
+    report.print(&status);
+    let made = match name {
+        "" => ["|", "nothing is made", ""],
+        _ => ["|", name, ": "],
+    };
+    for piece in made {
+        report.add(piece.as_bytes());
     }
-    Ok(())
+    for piece in [bytes, "|", messages] {
+        report.add(piece.as_bytes());
+    }
+    report.text()
+}
+
+#[test]
+fn files_are_frozen(rt: HostRuntime) {
+    for &(words, makes, room, status, messages, name, bytes) in &FROZEN {
+        let around = Around {
+            makes,
+            room,
+            ..USUAL
+        };
+        let want = expected_frozen(rt.alloc(), status, messages, (name, bytes));
+        agrees(&rt, name, want, seen_frozen(&rt, words, around));
+    }
 }
