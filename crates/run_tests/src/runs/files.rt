@@ -52,6 +52,22 @@ static TOKENS: [Row; 7] = [
     ),
 ];
 
+// Calls after others that had more arguments, longer ones, or definitions for arguments.
+static LATER: [Row; 2] = [
+    (
+        "a call has its own arguments, and none of an earlier call",
+        "define(`f',`<$#:$@>')f(1,2,  3,4)f(`x')f()f f((5, 6), ( 7))\n",
+        "<4:1,2,3,4><1:x><1:><0:> <2:(5, 6),( 7)>\n",
+        6,
+    ),
+    (
+        "a definition is an argument of its own call alone",
+        "define(`d',defn(`len'))define(`e',`$1')d(abc)e(x) e()e(d(yz))\n",
+        "3x 2\n",
+        8,
+    ),
+];
+
 // Calls: their arguments, and their expansions.
 static CALLS: [Row; 12] = [
     (
@@ -216,6 +232,11 @@ fn plain_tokens_are_copied(rt: HostRuntime) {
 #[test]
 fn calls_are_read_again(rt: HostRuntime) {
     compare(&rt, &CALLS);
+}
+
+#[test]
+fn later_calls_are_their_own(rt: HostRuntime) {
+    compare(&rt, &LATER);
 }
 
 #[test]
