@@ -176,21 +176,6 @@ impl Head {
         self.strings.split_at(self.name_len).0
     }
 
-    /// Returns the name, without a copy.
-    pub fn into_name(self) -> Bytes
-        ensures { result ≡ self.name }
-    {
-        let Head {
-            kind: _kind,
-            line: _line,
-            name_len,
-            text_len: _text_len,
-            mut strings,
-        } = self;
-        strings.truncate(name_len);
-        Bytes::from(strings)
-    }
-
     /// Returns the name of the call's file; empty in wrapped text.
     pub fn file(&self) -> &[u8]
         ensures { result.now ≡ self.now.place.file }

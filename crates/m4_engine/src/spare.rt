@@ -59,11 +59,6 @@ impl Spare {
         }
     }
 
-    /// Returns the allocator of the memory that is kept.
-    pub fn alloc(&self) -> Global {
-        self.alloc
-    }
-
     /// Returns a call with no argument read yet.
     #[inline(always)]
     pub fn call(
