@@ -37,7 +37,7 @@ pub(crate) fn define(
     match first {
         Arg::Text(name) => {
             let def = definition_in(alloc, rest)?;
-            state.define(name.share()?, def)?;
+            state.define(name.as_slice(), def)?;
             Ok(Effect::nothing(alloc))
         }
         Arg::Definition(_) => {
@@ -64,7 +64,7 @@ pub(crate) fn pushdef(
     match first {
         Arg::Text(name) => {
             let def = definition_in(alloc, rest)?;
-            state.push(name.share()?, def)?;
+            state.push(name.as_slice(), def)?;
             Ok(Effect::nothing(alloc))
         }
         Arg::Definition(_) => {

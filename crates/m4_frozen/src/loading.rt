@@ -308,7 +308,8 @@ impl Loading {
             return Ok(None);
         }
         let after = expect_byte(b'\n', after)?;
-        self.state.push(name, Def::Text(Bytes::from(text)))?;
+        self.state
+            .push(name.as_slice(), Def::Text(Bytes::from(text)))?;
         Ok(Some(after))
     }
 
@@ -347,14 +348,14 @@ impl Loading {
                 Bytes::from_slice(alloc, begin)?,
                 Bytes::from_slice(alloc, end)?,
             ),
-            Directive::Text(name, text) => self.state.push(
-                Bytes::from_slice(alloc, name)?,
-                Def::Text(Bytes::from_slice(alloc, text)?),
-            ),
-            Directive::Builtin(name, builtin) => self.state.push(
-                Bytes::from_slice(alloc, name)?,
-                builtin_or_placeholder(alloc, builtin)?,
-            ),
+            Directive::Text(name, text) => {
+                let text = Bytes::from_slice(alloc, text)?;
+                self.state.push(name, Def::Text(text))
+            }
+            Directive::Builtin(name, builtin) => {
+                let builtin = builtin_or_placeholder(alloc, builtin)?;
+                self.state.push(name, builtin)
+            }
             Directive::Diversion(number, text) => {
                 self.state.divert(*number);
                 self.add(text)

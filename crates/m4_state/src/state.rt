@@ -92,9 +92,9 @@ impl State {
     {
         let mut state = State::empty(alloc)?;
         let empty = Bytes::from(Vec::new(alloc));
-        state.push(Bytes::from_slice(alloc, b"__gnu__")?, Def::Text(empty))?;
+        state.push(b"__gnu__", Def::Text(empty))?;
         let empty = Bytes::from(Vec::new(alloc));
-        state.push(Bytes::from_slice(alloc, b"__unix__")?, Def::Text(empty))?;
+        state.push(b"__unix__", Def::Text(empty))?;
         for builtin in Builtin::TABLE {
             state.push_builtin(alloc, prefix, builtin)?;
         }
@@ -111,7 +111,7 @@ impl State {
         ensures { OnOk result (self.new ≡ with_builtin prefix self.old builtin) }
     {
         let name = fresh_name(alloc, prefix, builtin)?;
-        self.push(name, Def::Builtin(builtin))
+        self.push(name.as_slice(), Def::Builtin(builtin))
     }
 
     /// Returns the definitions of a name, the oldest first; none if it has none. The time is
@@ -148,22 +148,23 @@ impl State {
         Ok(self.table.definitions()?)
     }
 
-    /// Pushes a definition on those of a name. Manual: "Temporarily redefining macros".
-    pub fn push(&mut self, name: Bytes, def: Def) -> Result<(), StateFault>
+    /// Pushes a definition on those of a name, which is copied if it is new. Manual: "Temporarily redefining macros".
+    pub fn push(&mut self, name: &[u8], def: Def) -> Result<(), StateFault>
         requires { IsDefinition def }
         // exact steps: the complete new record; if an allocation fails, it is unchanged
-        ensures ok { OnOk result (self.new ≡ pushed self.old name def) }
+        ensures ok { OnOk result (self.new ≡ pushed self.old name.now def) }
         ensures err { OnErr result (self.new ≡ self.old) }
     {
         self.table.push(name, def)?;
         Ok(())
     }
 
-    /// Replaces the top definition of a name, or adds the first one. Manual: "Defining a macro".
-    pub fn define(&mut self, name: Bytes, def: Def) -> Result<(), StateFault>
+    /// Replaces the top definition of a name, or adds the first one, with a copy of the name. Manual:
+    /// "Defining a macro".
+    pub fn define(&mut self, name: &[u8], def: Def) -> Result<(), StateFault>
         requires { IsDefinition def }
         // exact steps: the complete new record; if an allocation fails, it is unchanged
-        ensures ok { OnOk result (self.new ≡ defined self.old name def) }
+        ensures ok { OnOk result (self.new ≡ defined self.old name.now def) }
         ensures err { OnErr result (self.new ≡ self.old) }
     {
         self.table.define(name, def)?;

@@ -53,7 +53,6 @@ static ROWS: [(&str, &[Step], &[u8]); 2] = [
 fn do_step(alloc: Global, state: &mut State, step: Step) -> Result<(), StateFault> {
     match step {
         Step::Define(name, text) => {
-            let name = Bytes::from_slice(alloc, name)?;
             let text = Bytes::from_slice(alloc, text)?;
             state.define(name, Def::Text(text))
         }

@@ -4,7 +4,6 @@
 use crate::given::{Given, describe_definition, made};
 use crate::report::Report;
 use crate::shows::shows;
-use m4_state::bytes::Bytes;
 use m4_state::definition::Def;
 use m4_state::fault::StateFault;
 use m4_state::state::State;
@@ -211,7 +210,6 @@ fn define(
     name: &[u8],
     given: Given,
 ) -> Result<(), StateFault> {
-    let name = Bytes::from_slice(alloc, name)?;
     let definition = made(alloc, given)?;
     if pushes {
         state.push(name, definition)

@@ -1,4 +1,4 @@
-use Rattle.std.proofs.Common.{◌≡◌, List, [], ◌∷◌, ◌++◌, sym, ap, subst, ◌∙◌, rules}
+use Rattle.std.proofs.Common.{◌≡◌, List, [], ◌∷◌, ◌++◌, sym, ap, subst, ◌∙◌, rules, arith}
 use Rattle.std.specs.FinMap.{put}
 use Rattle.m4_state.specs.declared.definition.Def.{Def}
 use Rattle.m4_state.specs.Entries.{in_order}
@@ -17,29 +17,29 @@ returns-in_err-push-in-Some-clause-err c =
 pub returns-in_ok-push-in-Some-clause-ok : goal.returns-in_ok-push-in-Some-clause-ok
 returns-in_ok-push-in-Some-clause-ok c =
     let es = c.args.entries.now.entries in
-    let found = rw (c.as_slice.ensures.value) at c.in-Some.ensures.index in
-    let old : stack_at (in_order es) c.args.name ≡ c.index_mut.result.now = stack_at_place c.args.entries.now c.args.name c.in-Some.i c.index_mut.result.now (sym found) c.index_mut.ensures.value in
-    write_in_order c.args.entries.now c.args.name c.in-Some.i c.index_mut.result.now (sym found) c.index_mut.ensures.value c.in-Some.ensures.unique c.push.new.self
-    ∙ ap (λ (xs : List Def). put byte_order c.args.name xs (in_order es)) (c.in_ok-push-in-Some.ensures.ok ∙ ap (λ (xs : List Def). xs ++ c.args.def ∷ []) (sym old))
+    let found = c.in-Some.ensures.index in
+    let old : stack_at (in_order es) c.args.name.now ≡ c.index_mut.result.now = stack_at_place c.args.entries.now c.args.name.now c.in-Some.i c.index_mut.result.now (sym found) c.index_mut.ensures.value in
+    write_in_order c.args.entries.now c.args.name.now c.in-Some.i c.index_mut.result.now (sym found) c.index_mut.ensures.value c.in-Some.ensures.unique c.push.new.self
+    ∙ ap (λ (xs : List Def). put byte_order c.args.name.now xs (in_order es)) (c.in_ok-push-in-Some.ensures.ok ∙ ap (λ (xs : List Def). xs ++ c.args.def ∷ []) (sym old))
 
 pub returns-in_ok-push-in-Some-clause-table : goal.returns-in_ok-push-in-Some-clause-table
-returns-in_ok-push-in-Some-clause-table c = subst IsTable (sym (returns-in_ok-push-in-Some-clause-ok c)) (IsTable-push _ c.args.name c.args.def c.requires.table c.requires.definition)
+returns-in_ok-push-in-Some-clause-table c = subst IsTable (sym (returns-in_ok-push-in-Some-clause-ok c)) (IsTable-push _ c.args.name.now c.args.def c.requires.table c.requires.definition)
 
 pub returns-in_ok-push-in-Some-clause-sized : goal.returns-in_ok-push-in-Some-clause-sized
 returns-in_ok-push-in-Some-clause-sized c =
-    subst IsSizedTable (sym (returns-in_ok-push-in-Some-clause-ok c)) (IsSizedTable-push _ c.args.name c.args.def c.requires.sized (search (rules, c.as_slice.ensures.sized)) c.len-len.ensures.sized)
+    subst IsSizedTable (sym (returns-in_ok-push-in-Some-clause-ok c)) (IsSizedTable-push _ c.args.name.now c.args.def c.requires.sized (omega arith) c.len-len.ensures.sized)
 
 -- the name is new
 pub returns-in_ok-insert_in-in-None-clause-ok : goal.returns-in_ok-insert_in-in-None-clause-ok
 returns-in_ok-insert_in-in-None-clause-ok c =
     let es = c.args.entries.now.entries in
-    let none = rw (c.as_slice.ensures.value) at c.in-None.ensures.index in
-    let old : stack_at (in_order es) c.args.name ≡ [] = stack_at_no_place c.args.entries.now c.args.name (sym none) in
-    c.in_ok-insert_in-in-None.ensures.ok ∙ ap (λ (xs : List Def). put byte_order c.args.name xs (in_order es)) (ap (λ (xs : List Def). xs ++ c.args.def ∷ []) (sym old))
+    let none = c.in-None.ensures.index in
+    let old : stack_at (in_order es) c.args.name.now ≡ [] = stack_at_no_place c.args.entries.now c.args.name.now (sym none) in
+    c.in_ok-insert_in-in-None.ensures.ok ∙ ap (λ (xs : List Def). put byte_order c.args.name.now xs (in_order es)) (ap (λ (xs : List Def). xs ++ c.args.def ∷ []) (sym old))
 
 pub returns-in_ok-insert_in-in-None-clause-table : goal.returns-in_ok-insert_in-in-None-clause-table
-returns-in_ok-insert_in-in-None-clause-table c = subst IsTable (sym (returns-in_ok-insert_in-in-None-clause-ok c)) (IsTable-push _ c.args.name c.args.def c.requires.table c.requires.definition)
+returns-in_ok-insert_in-in-None-clause-table c = subst IsTable (sym (returns-in_ok-insert_in-in-None-clause-ok c)) (IsTable-push _ c.args.name.now c.args.def c.requires.table c.requires.definition)
 
 pub returns-in_ok-insert_in-in-None-clause-sized : goal.returns-in_ok-insert_in-in-None-clause-sized
 returns-in_ok-insert_in-in-None-clause-sized c =
-    subst IsSizedTable (sym (returns-in_ok-insert_in-in-None-clause-ok c)) (IsSizedTable-push _ c.args.name c.args.def c.requires.sized (search (rules, c.as_slice.ensures.sized)) c.len-len.ensures.sized)
+    subst IsSizedTable (sym (returns-in_ok-insert_in-in-None-clause-ok c)) (IsSizedTable-push _ c.args.name.now c.args.def c.requires.sized (omega arith) c.len-len.ensures.sized)
