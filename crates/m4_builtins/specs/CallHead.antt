@@ -2,7 +2,7 @@
 -- Not believed: it only names the three parts. Manual: "Macro invocation".
 use Rattle.std.specs.Prelude.{ℕ, List}
 use Rattle.m4_state.specs.declared.definition.Def.{Def}
-use Rattle.m4_builtins.specs.declared.place.Place.{Place}
+use Rattle.m4_builtins.specs.Place.{Place}
 
 -- the definition, the name and the place of a call, as they were when the name was read
 pub record CallHead : Type 0 where

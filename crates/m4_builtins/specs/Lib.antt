@@ -1,6 +1,7 @@
 pub mod Args
 pub mod Subst
 pub mod Messages
+pub mod Place
 pub mod Acted
 pub mod Numeric
 pub mod Naming
@@ -21,3 +22,4 @@ pub mod Steps
 pub mod Numbers
 pub mod CallHead
 pub mod HeadView
+pub mod EffectView

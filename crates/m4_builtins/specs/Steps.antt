@@ -6,28 +6,28 @@ use Rattle.m4_state.specs.declared.definition.Def.TheVariants as defs
 use Rattle.m4_state.specs.State.{State}
 use Rattle.m4_builtins.specs.declared.indirect.Step.{Step}
 use Rattle.m4_builtins.specs.declared.indirect.Step.TheVariants as steps
-use Rattle.m4_builtins.specs.declared.place.Place.{Place}
+use Rattle.m4_builtins.specs.Place.{Place}
 use Rattle.m4_builtins.specs.Args.{IsArg}
-use Rattle.m4_builtins.specs.Acted.{Acted}
+use Rattle.m4_builtins.specs.Acted.{Effect, Acted, nothing}
 use Rattle.m4_builtins.specs.Act.{act}
 
--- the effect of a call is complete, or is that of a builtin with these arguments
-abbrev pub LeadsTo : Acted → Place → State → Step → Type 0
-LeadsTo acted p s (steps.Done effect) = acted ≡ record { state = s; effect = effect }
-LeadsTo acted p s (steps.On b list) =
-    (acted ≡ act (defs.Builtin b) [] list.now p s) × AllByRecursion IsArg list.now
+-- the effect of a call is complete, or is clear and the call is that of a builtin with these arguments
+abbrev pub LeadsTo : Acted → Place → State → Effect → Step → Type 0
+LeadsTo acted p s e steps.Done = acted ≡ record { state = s; effect = e }
+LeadsTo acted p s e (steps.On b list) =
+    (acted ≡ act (defs.Builtin b) [] list.now p s) × AllByRecursion IsArg list.now × (e ≡ nothing)
 
 -- the call continues, if it does, with fewer than n arguments
 abbrev pub IsShorter : ℕ → Step → Type 0
-IsShorter n (steps.Done effect) = Unit {0}
+IsShorter n steps.Done = Unit {0}
 IsShorter n (steps.On b list) = length list.now < n
 
 -- the call continues, if it does, only if any number of arguments is allowed
 abbrev pub IsUnbounded : Option ℕ → Step → Type 0
-IsUnbounded most (steps.Done effect) = Unit {0}
+IsUnbounded most steps.Done = Unit {0}
 IsUnbounded most (steps.On b list) = most ≡ None
 
 -- the number of arguments that a step has left, with the builtin counted too
 abbrev pub left_of : Step → ℕ
-left_of (steps.Done effect) = 0
+left_of steps.Done = 0
 left_of (steps.On b list) = suc (length list.now)

@@ -1,7 +1,7 @@
 //! Makes a call: a text expands, a builtin acts with its arguments, a placeholder only warns. Each
 //! builtin has one line in [`row`], and its function in the module of its chapter.
 
-ghost use Rattle.std.specs.Prelude.{◌≡◌, ◌++◌, IfOk, [], length, nat_lt};
+ghost use Rattle.std.specs.Prelude.{◌≡◌, IfOk, OnOk, [], length, nat_lt};
 ghost use Rattle.std.specs.List.{AllByRecursion};
 ghost use Rattle.m4_state.specs.Definition.{IsDefinition};
 ghost use Rattle.m4_state.specs.Builtin.{most_of};
@@ -28,7 +28,6 @@ use crate::printing::{dumpdef, errprint, file, line};
 use crate::texts::{index, len, substr};
 use crate::translit::translit;
 use m4_state::builtin::Builtin;
-use m4_state::bytes::Bytes;
 use m4_state::definition::Def;
 use m4_state::state::State;
 use std::alloc::{AllocError, Global};
@@ -40,7 +39,7 @@ pub fn act(
     alloc: Global,
     def: &Def,
     args: &Args,
-    place: &Place,
+    place: &Place<'_>,
     state: &mut State,
 ) -> Result<Effect, BuiltinFault>
     requires definition { IsDefinition def.now }
@@ -48,36 +47,39 @@ pub fn act(
     // exact steps: the new state and the effect
     ensures { IfOk result (λ e. spec.act def.now args.now.name args.now.list place.now state.old ≡ record { state = state.new; effect = e }) }
 {
+    let mut effect = Effect::new(alloc);
     act_on(
-        alloc,
+        &mut effect,
         def,
         args.name.as_slice(),
         args.list.as_slice(),
         place,
         state,
-    )
+    )?;
+    Ok(effect)
 }
 
-/// Makes a call whose name and arguments are borrowed, as [`act`] does.
+/// Makes a call whose name and arguments are borrowed, as [`act`] does, and fills an effect that is clear.
 #[doc(hidden)]
 pub fn act_on(
-    alloc: Global,
+    effect: &mut Effect,
     def: &Def,
     name: &[u8],
     list: &[Arg],
-    place: &Place,
+    place: &Place<'_>,
     state: &mut State,
-) -> Result<Effect, BuiltinFault>
+) -> Result<(), BuiltinFault>
+    requires fresh { effect.old ≡ nothing }
     requires definition { IsDefinition def.now }
     requires args { AllByRecursion IsArg list.now }
     // exact steps: the new state and the effect
-    ensures { IfOk result (λ e. spec.act def.now name.now list.now place.now state.old ≡ record { state = state.new; effect = e }) }
+    ensures { OnOk result (spec.act def.now name.now list.now place.now state.old ≡ record { state = state.new; effect = effect.new }) }
 {
-    let mut step = begin(alloc, def, name, list, place, state)?;
+    let mut step = begin(effect, def, name, list, place, state)?;
     loop {
         match step {
-            Step::Done(effect) => return Ok(effect),
-            Step::On(builtin, list) => step = act_builtin(alloc, builtin, list, place, state)?,
+            Step::Done => return Ok(()),
+            Step::On(builtin, list) => step = act_builtin(effect, builtin, list, place, state)?,
         }
     }
 }
@@ -85,29 +87,31 @@ pub fn act_on(
 /// Calls a builtin. With too few arguments it warns, and most builtins do nothing else. Arguments above
 /// its maximum are ignored, with a warning before the builtin's own.
 fn act_builtin<'a>(
-    alloc: Global,
+    effect: &mut Effect,
     builtin: Builtin,
     list: &'a [Arg],
-    place: &Place,
+    place: &Place<'_>,
     state: &mut State,
 ) -> Result<Step<'a>, BuiltinFault>
-    requires { AllByRecursion IsArg list.now }
-    ensures leads { IfOk result (λ step. LeadsTo (spec.act (defs.Builtin builtin) [] list.now place.now state.old) place.now state.new step) }
+    requires fresh { effect.old ≡ nothing }
+    requires args { AllByRecursion IsArg list.now }
+    ensures leads { IfOk result (λ step. LeadsTo (spec.act (defs.Builtin builtin) [] list.now place.now state.old) place.now state.new effect.new step) }
     ensures shorter { IfOk result (λ step. IsShorter (length list.now) step) }
 {
     if list.len() < builtin.least_args() {
-        let mut effect = given_though_few(alloc, builtin, list)?;
-        effect.messages = too_few_message(alloc, place, builtin)?;
-        return Ok(Step::Done(effect));
+        give_though_few(effect, builtin, list)?;
+        effect.warn(too_few_message(effect.alloc(), place, builtin)?);
+        return Ok(Step::Done);
     }
-    let step = row(alloc, builtin, list, place, state)?;
+    let step = row(effect, builtin, list, place, state)?;
     if !is_above(builtin.most_args(), list.len()) {
         return Ok(step);
     }
     match step {
-        Step::Done(effect) => {
-            let warning = excess_message(alloc, place, builtin)?;
-            Ok(Step::Done(warning_first(alloc, warning, effect)?))
+        Step::Done => {
+            let warning = excess_message(effect.alloc(), place, builtin)?;
+            effect.warn_first(warning)?;
+            Ok(Step::Done)
         }
         Step::On(..) => Ok(step),
     }
@@ -116,77 +120,70 @@ fn act_builtin<'a>(
 /// Calls a builtin with enough arguments. If an argument is a definition and the builtin reads a text, it
 /// counts as empty.
 fn row<'a>(
-    alloc: Global,
+    effect: &mut Effect,
     name: Builtin,
     list: &'a [Arg],
-    place: &Place,
+    place: &Place<'_>,
     state: &mut State,
 ) -> Result<Step<'a>, BuiltinFault>
-    requires { AllByRecursion IsArg list.now }
-    ensures leads { IfOk result (λ step. LeadsTo (spec.row (spec.goes_on list.now place.now state.old) name list.now place.now state.old) place.now state.new step) }
+    requires fresh { effect.old ≡ nothing }
+    requires args { AllByRecursion IsArg list.now }
+    ensures leads { IfOk result (λ step. LeadsTo (spec.row (spec.goes_on list.now place.now state.old) name list.now place.now state.old) place.now state.new effect.new step) }
     ensures shorter { IfOk result (λ step. IsShorter (length list.now) step) }
     ensures unbounded { IfOk result (λ step. IsUnbounded (most_of name) step) }
 {
-    let effect = match name {
-        Builtin::Indir => return indir(alloc, list, place, state),
-        Builtin::IndirBuiltin => return builtin(alloc, list, place, state),
-        Builtin::Define => define(alloc, list, place, state)?,
-        Builtin::Undefine => {
-            undefine(list, state);
-            Effect::nothing(alloc)
-        }
-        Builtin::Pushdef => pushdef(alloc, list, place, state)?,
-        Builtin::Popdef => {
-            popdef(list, state);
-            Effect::nothing(alloc)
-        }
-        Builtin::Defn => defn(alloc, list, place, state)?,
-        Builtin::Ifdef => ifdef(alloc, list, state)?,
-        Builtin::Ifelse => ifelse(alloc, list, place, state)?,
-        Builtin::Shift => shift(alloc, list, state)?,
-        Builtin::Dumpdef => dumpdef(alloc, list, place, state)?,
-        Builtin::Dnl => Effect::skipping(alloc),
-        Builtin::Changequote => {
-            changequote(alloc, list, state)?;
-            Effect::nothing(alloc)
-        }
-        Builtin::Changecom => {
-            changecom(alloc, list, state)?;
-            Effect::nothing(alloc)
-        }
-        Builtin::Divert => divert(alloc, list, place, state)?,
-        Builtin::Undivert => undivert(alloc, list, place, state)?,
-        Builtin::Divnum => divnum(alloc, state)?,
-        Builtin::Len => len(alloc, list, state)?,
-        Builtin::Index => index(alloc, list, state)?,
-        Builtin::Substr => substr(alloc, list, place, state)?,
-        Builtin::Translit => translit(alloc, list, state)?,
-        Builtin::Incr => incr(alloc, list, place, state)?,
-        Builtin::Decr => decr(alloc, list, place, state)?,
-        Builtin::Eval => eval(alloc, list, place, state)?,
-        Builtin::Errprint => errprint(alloc, list, state)?,
-        Builtin::M4wrap => m4wrap(alloc, list, state)?,
-        Builtin::M4exit => m4exit(alloc, list, place, state)?,
-        Builtin::File => file(alloc, place, state)?,
-        Builtin::Line => line(alloc, place, state)?,
-    };
-    Ok(Step::Done(effect))
+    match name {
+        Builtin::Indir => return indir(effect, list, place, state),
+        Builtin::IndirBuiltin => return builtin(effect, list, place, state),
+        Builtin::Define => define(effect, list, place, state)?,
+        Builtin::Undefine => undefine(list, state),
+        Builtin::Pushdef => pushdef(effect, list, place, state)?,
+        Builtin::Popdef => popdef(list, state),
+        Builtin::Defn => defn(effect, list, place, state)?,
+        Builtin::Ifdef => ifdef(effect, list, state)?,
+        Builtin::Ifelse => ifelse(effect, list, place, state)?,
+        Builtin::Shift => shift(effect, list, state)?,
+        Builtin::Dumpdef => dumpdef(effect, list, place, state)?,
+        Builtin::Dnl => effect.skip_line(),
+        Builtin::Changequote => changequote(effect.alloc(), list, state)?,
+        Builtin::Changecom => changecom(effect.alloc(), list, state)?,
+        Builtin::Divert => divert(effect, list, place, state)?,
+        Builtin::Undivert => undivert(effect, list, place, state)?,
+        Builtin::Divnum => divnum(effect, state)?,
+        Builtin::Len => len(effect, list, state)?,
+        Builtin::Index => index(effect, list, state)?,
+        Builtin::Substr => substr(effect, list, place, state)?,
+        Builtin::Translit => translit(effect, list, state)?,
+        Builtin::Incr => incr(effect, list, place, state)?,
+        Builtin::Decr => decr(effect, list, place, state)?,
+        Builtin::Eval => eval(effect, list, place, state)?,
+        Builtin::Errprint => errprint(effect, list, state)?,
+        Builtin::M4wrap => m4wrap(effect, list, state)?,
+        Builtin::M4exit => m4exit(effect, list, place, state)?,
+        Builtin::File => file(effect, place, state)?,
+        Builtin::Line => line(effect, place, state)?,
+    }
+    Ok(Step::Done)
 }
 
-/// Returns the expansion of a call with missing arguments: with one argument, `index` expands to 0,
-/// `substr` to all of it, and `translit` to it unchanged.
-fn given_though_few(alloc: Global, builtin: Builtin, list: &[Arg]) -> Result<Effect, AllocError>
-    ensures { IfOk result (λ e. e ≡ record nothing { push = spec.given_though_few builtin list.now }) }
+/// Expands as a call with missing arguments does: with one argument, `index` expands to 0, `substr` to all
+/// of it, and `translit` to it unchanged.
+fn give_though_few(
+    effect: &mut Effect,
+    builtin: Builtin,
+    list: &[Arg],
+) -> Result<(), AllocError>
+    requires { effect.old ≡ nothing }
+    ensures { OnOk result (effect.new ≡ record nothing { push = spec.given_though_few builtin list.now }) }
 {
     let [arg] = list else {
-        return Ok(Effect::nothing(alloc));
+        return Ok(());
     };
-    let text = match builtin {
-        Builtin::Index => b"0",
-        Builtin::Substr | Builtin::Translit => text_of(arg),
-        _ => return Ok(Effect::nothing(alloc)),
-    };
-    Ok(Effect::pushing(alloc, Bytes::from_slice(alloc, text)?))
+    match builtin {
+        Builtin::Index => effect.give_copy(b"0"),
+        Builtin::Substr | Builtin::Translit => effect.give_copy(text_of(arg)),
+        _ => Ok(()),
+    }
 }
 
 /// Returns whether a count is above the maximum.
@@ -197,15 +194,4 @@ fn is_above(most: Option<usize>, count: usize) -> bool
         Some(most) => most < count,
         None => false,
     }
-}
-
-/// Inserts a message before the others of an effect.
-fn warning_first(alloc: Global, message: Bytes, effect: Effect) -> Result<Effect, AllocError>
-    ensures { IfOk result (λ e. e ≡ record effect { messages = message ++ effect.messages }) }
-{
-    let mut effect = effect;
-    let mut messages = Vec::from_slice(alloc, message.as_slice())?;
-    messages.extend_from_slice(effect.messages.as_slice())?;
-    effect.messages = Bytes::from(messages);
-    Ok(effect)
 }

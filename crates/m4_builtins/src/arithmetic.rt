@@ -1,6 +1,6 @@
 //! The builtins that increment and decrement. Manual: "Decrement and increment operators".
 
-ghost use Rattle.std.specs.Prelude.{◌≡◌, IfOk, Some};
+ghost use Rattle.std.specs.Prelude.{◌≡◌, OnOk, Some};
 ghost use Rattle.std.specs.Fmt.{signed_decimal};
 ghost use Rattle.m4_input.specs.declared.pushed.Pushed.TheVariants as pushes;
 ghost use Rattle.m4_builtins.specs.Acted.{nothing};
@@ -14,53 +14,63 @@ use itoa::Buffer;
 use m4_state::builtin::Builtin;
 use m4_state::bytes::Bytes;
 use m4_state::state::State;
-use std::alloc::{AllocError, Global};
+use std::alloc::AllocError;
 
 /// Adds 1 to a number; the greatest number wraps to the least. Manual: "Decrement and increment
 /// operators".
 pub(crate) fn incr(
-    alloc: Global,
+    effect: &mut Effect,
     list: &[Arg],
-    place: &Place,
+    place: &Place<'_>,
     state: &State,
-) -> Result<Effect, AllocError>
-    ensures { IfOk result (λ e. spec.incr list.now place.now state.now ≡ record { state = state.now; effect = e }) }
+) -> Result<(), AllocError>
+    requires { effect.old ≡ nothing }
+    ensures { OnOk result (spec.incr list.now place.now state.now ≡ record { state = state.now; effect = effect.new }) }
 {
     let _ = state;
+    let alloc = effect.alloc();
     let mut messages = Vec::new(alloc);
     let text = text_at(list, 0);
     match number_in(alloc, text, place, Builtin::Incr, &mut messages)? {
-        Some(number) => pushing_number(alloc, number.wrapping_add(1), Bytes::from(messages)),
-        None => Ok(Effect::with_messages(alloc, Bytes::from(messages))),
+        Some(number) => give_number(effect, number.wrapping_add(1), Bytes::from(messages)),
+        None => {
+            effect.warn(Bytes::from(messages));
+            Ok(())
+        }
     }
 }
 
 /// Subtracts 1 from a number; the least number wraps to the greatest. Manual: "Decrement and increment
 /// operators".
 pub(crate) fn decr(
-    alloc: Global,
+    effect: &mut Effect,
     list: &[Arg],
-    place: &Place,
+    place: &Place<'_>,
     state: &State,
-) -> Result<Effect, AllocError>
-    ensures { IfOk result (λ e. spec.decr list.now place.now state.now ≡ record { state = state.now; effect = e }) }
+) -> Result<(), AllocError>
+    requires { effect.old ≡ nothing }
+    ensures { OnOk result (spec.decr list.now place.now state.now ≡ record { state = state.now; effect = effect.new }) }
 {
     let _ = state;
+    let alloc = effect.alloc();
     let mut messages = Vec::new(alloc);
     let text = text_at(list, 0);
     match number_in(alloc, text, place, Builtin::Decr, &mut messages)? {
-        Some(number) => pushing_number(alloc, number.wrapping_sub(1), Bytes::from(messages)),
-        None => Ok(Effect::with_messages(alloc, Bytes::from(messages))),
+        Some(number) => give_number(effect, number.wrapping_sub(1), Bytes::from(messages)),
+        None => {
+            effect.warn(Bytes::from(messages));
+            Ok(())
+        }
     }
 }
 
-/// Returns the effect that pushes a number, with these messages.
-fn pushing_number(alloc: Global, number: i32, messages: Bytes) -> Result<Effect, AllocError>
-    ensures { IfOk result (λ e. e ≡ record nothing { push = Some (pushes.Text (signed_decimal number)); messages = messages }) }
+/// Expands to a number, with these messages.
+fn give_number(effect: &mut Effect, number: i32, messages: Bytes) -> Result<(), AllocError>
+    requires { effect.old ≡ nothing }
+    ensures { OnOk result (effect.new ≡ record nothing { push = Some (pushes.Text (signed_decimal number)); messages = messages }) }
 {
     let mut buffer = Buffer::new();
-    let text = Bytes::from_slice(alloc, buffer.format(number).as_bytes())?;
-    let mut effect = Effect::pushing(alloc, text);
-    effect.messages = messages;
-    Ok(effect)
+    effect.give_copy(buffer.format(number).as_bytes())?;
+    effect.warn(messages);
+    Ok(())
 }

@@ -1,7 +1,8 @@
 //! The builtins that choose among their arguments. Manual: "Testing if a macro is defined", "If-else
 //! construct, or multibranch", "Recursion in m4".
 
-ghost use Rattle.std.specs.Prelude.{◌≡◌, IfOk};
+ghost use Rattle.std.specs.Prelude.{◌≡◌, OnOk};
+ghost use Rattle.m4_builtins.specs.Acted.{nothing};
 ghost use Rattle.m4_builtins.specs.Args.{texts_of};
 ghost use Rattle.m4_builtins.specs.Branching as spec;
 
@@ -11,48 +12,45 @@ use crate::messages::{excess_message, too_few_message};
 use crate::place::Place;
 use crate::substitute::push_quoted;
 use m4_state::builtin::Builtin;
-use m4_state::bytes::Bytes;
 use m4_state::state::State;
-use std::alloc::{AllocError, Global};
+use std::alloc::AllocError;
 
 /// Expands to the second argument if the first has a definition, otherwise to the third. Manual:
 /// "Testing if a macro is defined".
-pub(crate) fn ifdef(alloc: Global, list: &[Arg], state: &State) -> Result<Effect, AllocError>
-    ensures { IfOk result (λ e. spec.ifdef list.now state.now ≡ record { state = state.now; effect = e }) }
+pub(crate) fn ifdef(effect: &mut Effect, list: &[Arg], state: &State) -> Result<(), AllocError>
+    requires { effect.old ≡ nothing }
+    ensures { OnOk result (spec.ifdef list.now state.now ≡ record { state = state.now; effect = effect.new }) }
 {
     let text = match state.top(text_at(list, 0)) {
         Some(_) => text_at(list, 1),
         None => text_at(list, 2),
     };
-    Ok(Effect::pushing(alloc, Bytes::from_slice(alloc, text)?))
+    effect.give_copy(text)
 }
 
 /// Compares two arguments. Expands to the third if they are equal; otherwise continues after it. Manual:
 /// "If-else construct, or multibranch".
 pub(crate) fn ifelse(
-    alloc: Global,
+    effect: &mut Effect,
     list: &[Arg],
-    place: &Place,
+    place: &Place<'_>,
     state: &State,
-) -> Result<Effect, AllocError>
-    ensures { IfOk result (λ e. spec.ifelse list.now place.now state.now ≡ record { state = state.now; effect = e }) }
+) -> Result<(), AllocError>
+    requires { effect.old ≡ nothing }
+    ensures { OnOk result (spec.ifelse list.now place.now state.now ≡ record { state = state.now; effect = effect.new }) }
 {
     let _ = state;
     match list {
-        [] | [_] => Ok(Effect::nothing(alloc)),
-        [_, _] => {
-            let warning = too_few_message(alloc, place, Builtin::Ifelse)?;
-            Ok(Effect::with_messages(alloc, warning))
-        }
+        [] | [_] => {}
+        [_, _] => effect.warn(too_few_message(effect.alloc(), place, Builtin::Ifelse)?),
         [..] => {
-            let text = Bytes::from_slice(alloc, chosen(list))?;
-            let mut effect = Effect::pushing(alloc, text);
+            effect.give_copy(chosen(list))?;
             if has_extra(list.len()) {
-                effect.messages = excess_message(alloc, place, Builtin::Ifelse)?;
+                effect.warn(excess_message(effect.alloc(), place, Builtin::Ifelse)?);
             }
-            Ok(effect)
         }
     }
+    Ok(())
 }
 
 /// Returns the text that is chosen, of three or more arguments.
@@ -80,12 +78,14 @@ fn has_extra(count: usize) -> bool
 }
 
 /// Expands to all arguments but the first, each between quotes. Manual: "Recursion in m4".
-pub(crate) fn shift(alloc: Global, list: &[Arg], state: &State) -> Result<Effect, AllocError>
-    ensures { IfOk result (λ e. spec.shift list.now state.now ≡ record { state = state.now; effect = e }) }
+pub(crate) fn shift(effect: &mut Effect, list: &[Arg], state: &State) -> Result<(), AllocError>
+    requires { effect.old ≡ nothing }
+    ensures { OnOk result (spec.shift list.now state.now ≡ record { state = state.now; effect = effect.new }) }
 {
-    let mut text = Vec::new(alloc);
+    let mut text = effect.buffer();
     if let Some((_, rest)) = list.split_first() {
         push_quoted(&mut text, rest, state.quotes())?;
     }
-    Ok(Effect::pushing(alloc, Bytes::from(text)))
+    effect.give(text);
+    Ok(())
 }

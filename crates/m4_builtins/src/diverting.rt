@@ -3,6 +3,7 @@
 
 ghost use Rattle.std.specs.Prelude.{◌≡◌, ◌++◌, OnOk, IfOk, flat_map, filter_map};
 ghost use Rattle.m4_state.specs.declared.builtin.Builtin.TheVariants as builtins;
+ghost use Rattle.m4_builtins.specs.Acted.{nothing};
 ghost use Rattle.m4_builtins.specs.Diverting as spec;
 ghost use Rattle.m4_builtins.specs.Numeric.{number_of_reading, reading_warning};
 
@@ -20,34 +21,39 @@ use std::alloc::{AllocError, Global};
 /// Selects the diversion with a number; 0 if there is no argument. An invalid number changes nothing.
 /// Manual: "Diverting output".
 pub(crate) fn divert(
-    alloc: Global,
+    effect: &mut Effect,
     list: &[Arg],
-    place: &Place,
+    place: &Place<'_>,
     state: &mut State,
-) -> Result<Effect, BuiltinFault>
-    ensures { IfOk result (λ e. spec.divert list.now place.now state.old ≡ record { state = state.new; effect = e }) }
+) -> Result<(), BuiltinFault>
+    requires { effect.old ≡ nothing }
+    ensures { OnOk result (spec.divert list.now place.now state.old ≡ record { state = state.new; effect = effect.new }) }
 {
     let Some(first) = list.first() else {
         state.divert(0);
-        return Ok(Effect::nothing(alloc));
+        return Ok(());
     };
+    let alloc = effect.alloc();
     let mut messages = Vec::new(alloc);
     if let Some(number) = number_in(alloc, text_of(first), place, Builtin::Divert, &mut messages)? {
         state.divert(number);
     }
-    Ok(Effect::with_messages(alloc, Bytes::from(messages)))
+    effect.warn(Bytes::from(messages));
+    Ok(())
 }
 
 /// Undiverts the diversions with these numbers, or all if there is no argument. Invalid numbers are
 /// skipped. Manual: "Undiverting output".
 pub(crate) fn undivert(
-    alloc: Global,
+    effect: &mut Effect,
     list: &[Arg],
-    place: &Place,
+    place: &Place<'_>,
     state: &mut State,
-) -> Result<Effect, BuiltinFault>
-    ensures { IfOk result (λ e. spec.undivert list.now place.now state.old ≡ record { state = state.new; effect = e }) }
+) -> Result<(), BuiltinFault>
+    requires { effect.old ≡ nothing }
+    ensures { OnOk result (spec.undivert list.now place.now state.old ≡ record { state = state.new; effect = effect.new }) }
 {
+    let alloc = effect.alloc();
     let mut messages = Vec::new(alloc);
     let numbers = match list {
         [] => held_numbers(alloc, state)?,
@@ -55,18 +61,18 @@ pub(crate) fn undivert(
     };
     let mut output = Vec::new(alloc);
     bring_back(numbers.as_slice(), state, &mut output)?;
-    let mut effect = Effect::with_messages(alloc, Bytes::from(messages));
-    effect.output = Bytes::from(output);
-    Ok(effect)
+    effect.warn(Bytes::from(messages));
+    effect.issue(output);
+    Ok(())
 }
 
 /// Expands to the number of the current diversion. Manual: "Diversion numbers".
-pub(crate) fn divnum(alloc: Global, state: &State) -> Result<Effect, AllocError>
-    ensures { IfOk result (λ e. spec.divnum state.now ≡ record { state = state.now; effect = e }) }
+pub(crate) fn divnum(effect: &mut Effect, state: &State) -> Result<(), AllocError>
+    requires { effect.old ≡ nothing }
+    ensures { OnOk result (spec.divnum state.now ≡ record { state = state.now; effect = effect.new }) }
 {
     let mut buffer = Buffer::new();
-    let text = Bytes::from_slice(alloc, buffer.format(state.current()).as_bytes())?;
-    Ok(Effect::pushing(alloc, text))
+    effect.give_copy(buffer.format(state.current()).as_bytes())
 }
 
 /// Returns the numbers of the diversions that contain text, in rising order.
@@ -88,7 +94,7 @@ fn held_numbers(alloc: Global, state: &State) -> Result<Vec<i32>, AllocError>
 fn numbers_in(
     alloc: Global,
     list: &[Arg],
-    place: &Place,
+    place: &Place<'_>,
     messages: &mut Vec<u8>,
 ) -> Result<Vec<i32>, AllocError>
     ensures numbers { IfOk result (λ v. v.items ≡ filter_map number_of_reading (spec.readings_of list.now)) }

@@ -1,95 +1,237 @@
 //! The effects of a call that the run still has to apply, apart from the state's change.
 
-ghost use Rattle.std.specs.Prelude.{◌≡◌, Some, true};
+ghost use Rattle.std.specs.Prelude.{◌≡◌, ◌++◌, [], OnOk, Some, None, true};
 
-use m4_input::pushed::Pushed;
 use m4_state::bytes::Bytes;
-use std::alloc::Global;
+use m4_state::definition::Def;
+use std::alloc::{AllocError, Global};
+use std::marker::Model;
 
-/// The effect of a call.
+/// The kind of a value that is inserted before the input. The bytes of a text are stored separately.
 #[derive(Debug, Drop)]
-pub struct Effect {
-    /// A value that is inserted before the input, to be read again.
-    pub push: Option<Pushed>,
-    /// The messages to be written.
-    pub messages: Bytes,
-    /// The output to be written at once.
-    pub output: Bytes,
-    /// A text that is read after all input.
-    pub wrap: Option<Bytes>,
-    /// Whether the rest of the line is skipped.
-    pub skip: bool,
-    /// The code with which the run ends here.
-    pub exit: Option<u8>,
+enum Kind {
+    Nothing,
+    Text,
+    Definition(Def),
 }
+
+/// The effect of a call. Calls fill one effect in turn, so that most of them ask for no memory.
+#[derive(Debug)]
+pub struct Effect {
+    kind: Kind,
+    text: Vec<u8>,
+    messages: Vec<u8>,
+    output: Vec<u8>,
+    wrap: Option<Bytes>,
+    skip: bool,
+    exit: Option<u8>,
+}
+
+/// A value that is inserted before the input, to be read again.
+#[derive(Clone, Copy, Debug)]
+pub enum Push<'a> {
+    /// There is none.
+    Nothing,
+    /// A text.
+    Text(&'a [u8]),
+    /// A builtin or a placeholder.
+    Definition(&'a Def),
+}
+
+impl Model for Effect {
+    ghost use Rattle.m4_builtins.specs.Acted.{Effect as Effects};
+    ghost use Rattle.m4_builtins.specs.EffectView.{effect_view};
+
+    ghost Value = { Effects };
+
+    ghost view = { effect_view };
+}
+
+// Written out so that a caller's proof contains one call, not the drop of each field.
+impl Drop for Effect {
+    fn drop(self) {
+        let Effect {
+            kind: _kind,
+            text: _text,
+            messages: _messages,
+            output: _output,
+            wrap: _wrap,
+            skip: _skip,
+            exit: _exit,
+        } = self;
+    }
+}
+
+/// The memory of a longer text is not kept for the next call.
+const LARGEST: usize = 65536;
 
 impl Effect {
     ghost use Rattle.m4_input.specs.declared.pushed.Pushed.TheVariants as pushes;
     ghost use Rattle.m4_builtins.specs.Acted.{nothing};
+    ghost use Rattle.m4_builtins.specs.EffectView.{pushed_by};
 
     /// Creates an effect that leaves nothing to do.
-    pub(crate) fn nothing(alloc: Global) -> Effect
+    pub fn new(alloc: Global) -> Effect
         ensures { result ≡ nothing }
     {
         Effect {
-            push: None,
-            messages: Bytes::from(Vec::new(alloc)),
-            output: Bytes::from(Vec::new(alloc)),
+            kind: Kind::Nothing,
+            text: Vec::new(alloc),
+            messages: Vec::new(alloc),
+            output: Vec::new(alloc),
             wrap: None,
             skip: false,
             exit: None,
         }
     }
 
-    /// Creates an effect with only messages.
-    pub(crate) fn with_messages(alloc: Global, messages: Bytes) -> Effect
-        ensures { result ≡ record nothing { messages = messages } }
+    /// Makes this an effect that leaves nothing to do. Memory is kept, unless it is large.
+    pub fn clear(&mut self)
+        ensures { self.new ≡ nothing }
     {
-        let mut effect = Effect::nothing(alloc);
-        effect.messages = messages;
-        effect
+        let alloc = self.alloc();
+        self.kind = Kind::Nothing;
+        self.wrap = None;
+        self.skip = false;
+        self.exit = None;
+        self.messages.clear();
+        self.output.clear();
+        if self.text.capacity() > LARGEST {
+            self.text = Vec::new(alloc);
+        }
     }
 
-    /// Creates an effect that inserts a value before the input.
-    pub(crate) fn giving(alloc: Global, value: Pushed) -> Effect
-        ensures { result ≡ record nothing { push = Some value } }
+    /// Returns the value that is inserted before the input.
+    pub fn push(&self) -> Push<'_>
+        ensures { pushed_by result ≡ self.now.push }
     {
-        let mut effect = Effect::nothing(alloc);
-        effect.push = Some(value);
-        effect
+        match &self.kind {
+            Kind::Nothing => Push::Nothing,
+            Kind::Text => Push::Text(self.text.as_slice()),
+            Kind::Definition(definition) => Push::Definition(definition),
+        }
     }
 
-    /// Creates an effect that inserts a text before the input.
-    pub(crate) fn pushing(alloc: Global, text: Bytes) -> Effect
-        ensures { result ≡ record nothing { push = Some (pushes.Text text) } }
+    /// Returns the messages to be written.
+    pub fn messages(&self) -> &[u8]
+        ensures { result.now ≡ self.now.messages }
     {
-        Effect::giving(alloc, Pushed::Text(text))
+        self.messages.as_slice()
     }
 
-    /// Creates an effect that skips the rest of the line.
-    pub(crate) fn skipping(alloc: Global) -> Effect
-        ensures { result ≡ record nothing { skip = true } }
+    /// Returns the output to be written at once.
+    pub fn output(&self) -> &[u8]
+        ensures { result.now ≡ self.now.output }
     {
-        let mut effect = Effect::nothing(alloc);
-        effect.skip = true;
-        effect
+        self.output.as_slice()
     }
 
-    /// Creates an effect that saves a text until all input is read.
-    pub(crate) fn wrapping(alloc: Global, text: Bytes) -> Effect
-        ensures { result ≡ record nothing { wrap = Some text } }
+    /// Removes the text that is read after all input, and returns it.
+    pub fn take_wrap(&mut self) -> Option<Bytes>
+        ensures taken { result ≡ self.old.wrap }
+        ensures rest { self.new ≡ record self.old { wrap = None } }
     {
-        let mut effect = Effect::nothing(alloc);
-        effect.wrap = Some(text);
-        effect
+        self.wrap.take()
     }
 
-    /// Creates an effect that ends the run with a code.
-    pub(crate) fn exiting(alloc: Global, code: u8) -> Effect
-        ensures { result ≡ record nothing { exit = Some code } }
+    /// Returns whether the rest of the line is skipped.
+    pub fn skips(&self) -> bool
+        ensures { result ≡ self.now.skip }
     {
-        let mut effect = Effect::nothing(alloc);
-        effect.exit = Some(code);
-        effect
+        self.skip
+    }
+
+    /// Returns the code with which the run ends here.
+    pub fn exit(&self) -> Option<u8>
+        ensures { result ≡ self.now.exit }
+    {
+        self.exit
+    }
+
+    /// Returns the allocator of the effect's texts.
+    pub(crate) fn alloc(&self) -> Global {
+        *self.text.allocator()
+    }
+
+    /// Returns an empty buffer for a text that is then inserted by `give`.
+    pub(crate) fn buffer(&mut self) -> Vec<u8>
+        requires { self.old ≡ nothing }
+        ensures empty { result.items ≡ [] }
+        ensures stays { self.new ≡ nothing }
+    {
+        let alloc = self.alloc();
+        let mut buffer = std::mem::replace(&mut self.text, Vec::new(alloc));
+        buffer.clear();
+        buffer
+    }
+
+    /// Inserts a text before the input.
+    pub(crate) fn give(&mut self, text: Vec<u8>)
+        ensures { self.new ≡ record self.old { push = Some (pushes.Text text.items) } }
+    {
+        self.text = text;
+        self.kind = Kind::Text;
+    }
+
+    /// Inserts a copy of a text before the input.
+    pub(crate) fn give_copy(&mut self, text: &[u8]) -> Result<(), AllocError>
+        ensures { OnOk result (self.new ≡ record self.old { push = Some (pushes.Text text.now) }) }
+    {
+        self.text.clear();
+        self.text.extend_from_slice(text)?;
+        self.kind = Kind::Text;
+        Ok(())
+    }
+
+    /// Inserts a definition before the input.
+    pub(crate) fn give_definition(&mut self, definition: Def)
+        ensures { self.new ≡ record self.old { push = Some (pushes.Definition definition) } }
+    {
+        self.kind = Kind::Definition(definition);
+    }
+
+    /// Sets the messages.
+    pub(crate) fn warn(&mut self, messages: Bytes)
+        ensures { self.new ≡ record self.old { messages = messages } }
+    {
+        self.messages = messages.into_vec();
+    }
+
+    /// Inserts a message before the others.
+    pub(crate) fn warn_first(&mut self, message: Bytes) -> Result<(), AllocError>
+        ensures { OnOk result (self.new ≡ record self.old { messages = message ++ self.old.messages }) }
+    {
+        let mut messages = message.into_vec();
+        messages.extend_from_slice(&self.messages)?;
+        self.messages = messages;
+        Ok(())
+    }
+
+    /// Sets the output that is written at once.
+    pub(crate) fn issue(&mut self, output: Vec<u8>)
+        ensures { self.new ≡ record self.old { output = output.items } }
+    {
+        self.output = output;
+    }
+
+    /// Saves a text until all input is read.
+    pub(crate) fn save(&mut self, text: Bytes)
+        ensures { self.new ≡ record self.old { wrap = Some text } }
+    {
+        self.wrap = Some(text);
+    }
+
+    /// Skips the rest of the line.
+    pub(crate) fn skip_line(&mut self)
+        ensures { self.new ≡ record self.old { skip = true } }
+    {
+        self.skip = true;
+    }
+
+    /// Ends the run with a code.
+    pub(crate) fn end_with(&mut self, code: u8)
+        ensures { self.new ≡ record self.old { exit = Some code } }
+    {
+        self.exit = Some(code);
     }
 }

@@ -1,7 +1,8 @@
 //! The builtins that save text for the end of the input, or end the run. Manual: "Saving text until end
 //! of input", "Exiting from m4".
 
-ghost use Rattle.std.specs.Prelude.{◌≡◌, IfOk};
+ghost use Rattle.std.specs.Prelude.{◌≡◌, OnOk};
+ghost use Rattle.m4_builtins.specs.Acted.{nothing};
 ghost use Rattle.m4_builtins.specs.Ending as spec;
 
 use crate::args::{Arg, text_of};
@@ -13,54 +14,64 @@ use crate::substitute::push_joined;
 use m4_state::builtin::Builtin;
 use m4_state::bytes::Bytes;
 use m4_state::state::State;
-use std::alloc::{AllocError, Global};
+use std::alloc::AllocError;
 
 /// Saves the arguments, joined by spaces, until all input is read. Manual: "Saving text until end of
 /// input".
-pub(crate) fn m4wrap(alloc: Global, list: &[Arg], state: &State) -> Result<Effect, AllocError>
-    ensures { IfOk result (λ e. spec.m4wrap list.now state.now ≡ record { state = state.now; effect = e }) }
+pub(crate) fn m4wrap(effect: &mut Effect, list: &[Arg], state: &State) -> Result<(), AllocError>
+    requires { effect.old ≡ nothing }
+    ensures { OnOk result (spec.m4wrap list.now state.now ≡ record { state = state.now; effect = effect.new }) }
 {
     let _ = state;
+    let alloc = effect.alloc();
     let mut text = Vec::new(alloc);
     push_joined(&mut text, list, b' ')?;
-    Ok(Effect::wrapping(alloc, Bytes::from(text)))
+    effect.save(Bytes::from(text));
+    Ok(())
 }
 
 /// Ends the run with a code: 0 if there is no argument, and 1 with a warning if the argument is no code.
 /// Manual: "Exiting from m4".
 pub(crate) fn m4exit(
-    alloc: Global,
+    effect: &mut Effect,
     list: &[Arg],
-    place: &Place,
+    place: &Place<'_>,
     state: &State,
-) -> Result<Effect, AllocError>
-    ensures { IfOk result (λ e. spec.m4exit list.now place.now state.now ≡ record { state = state.now; effect = e }) }
+) -> Result<(), AllocError>
+    requires { effect.old ≡ nothing }
+    ensures { OnOk result (spec.m4exit list.now place.now state.now ≡ record { state = state.now; effect = effect.new }) }
 {
     let Some(first) = list.first() else {
-        return Ok(Effect::exiting(alloc, 0));
+        effect.end_with(0);
+        return Ok(());
     };
-    exiting_by(alloc, reading_of(text_of(first)), place, state)
+    end_by(effect, reading_of(text_of(first)), place, state)
 }
 
 /// Ends the run with the code that an argument was read as.
-fn exiting_by(
-    alloc: Global,
+fn end_by(
+    effect: &mut Effect,
     reading: Reading,
-    place: &Place,
+    place: &Place<'_>,
     state: &State,
-) -> Result<Effect, AllocError>
-    ensures { IfOk result (λ e. spec.exits_reading reading place.now state.now ≡ record { state = state.now; effect = e }) }
+) -> Result<(), AllocError>
+    requires { effect.old ≡ nothing }
+    ensures { OnOk result (spec.exits_reading reading place.now state.now ≡ record { state = state.now; effect = effect.new }) }
 {
     let _ = state;
+    let alloc = effect.alloc();
     let (code, warning) = match reading {
         Reading::Number(number) => match u8::try_from(number) {
-            Ok(code) => return Ok(Effect::exiting(alloc, code)),
+            Ok(code) => {
+                effect.end_with(code);
+                return Ok(());
+            }
             Err(_) => (1, bad_status_message(alloc, place)?),
         },
         Reading::Empty => (0, empty_number_message(alloc, place, Builtin::M4exit)?),
         Reading::NotNumeric => (1, not_numeric_message(alloc, place, Builtin::M4exit)?),
     };
-    let mut effect = Effect::exiting(alloc, code);
-    effect.messages = warning;
-    Ok(effect)
+    effect.end_with(code);
+    effect.warn(warning);
+    Ok(())
 }

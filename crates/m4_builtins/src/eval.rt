@@ -1,7 +1,8 @@
 //! The builtin that computes an expression; m4_eval computes its value. Manual: "Evaluating integer
 //! expressions".
 
-ghost use Rattle.std.specs.Prelude.{◌≡◌, IfOk, option_copied, option_map};
+ghost use Rattle.std.specs.Prelude.{◌≡◌, IfOk, OnOk, option_copied, option_map};
+ghost use Rattle.m4_builtins.specs.Acted.{nothing};
 ghost use Rattle.m4_builtins.specs.Args.{text_of_arg};
 ghost use Rattle.m4_builtins.specs.Eval as spec;
 ghost use Rattle.m4_builtins.specs.ReadsAs.{ReadsAs};
@@ -26,21 +27,22 @@ use std::alloc::{AllocError, Global};
 /// digits as the third one says. The first invalid argument ends the call with a warning. Manual:
 /// "Evaluating integer expressions".
 pub(crate) fn eval(
-    alloc: Global,
+    effect: &mut Effect,
     list: &[Arg],
-    place: &Place,
+    place: &Place<'_>,
     state: &State,
-) -> Result<Effect, AllocError>
-    ensures { IfOk result (λ e. spec.eval list.now place.now state.now ≡ record { state = state.now; effect = e }) }
+) -> Result<(), AllocError>
+    requires { effect.old ≡ nothing }
+    ensures { OnOk result (spec.eval list.now place.now state.now ≡ record { state = state.now; effect = effect.new }) }
 {
     let _ = state;
+    let alloc = effect.alloc();
     let mut messages = Vec::new(alloc);
-    let mut effect = match digits_in(alloc, list, place, &mut messages)? {
-        Some(digits) => Effect::pushing(alloc, Bytes::from(digits)),
-        None => Effect::nothing(alloc),
-    };
-    effect.messages = Bytes::from(messages);
-    Ok(effect)
+    if let Some(digits) = digits_in(alloc, list, place, &mut messages)? {
+        effect.give(digits);
+    }
+    effect.warn(Bytes::from(messages));
+    Ok(())
 }
 
 /// Returns the digits of the expression's value; none if an argument is invalid. Adds the warnings to the
@@ -48,7 +50,7 @@ pub(crate) fn eval(
 fn digits_in(
     alloc: Global,
     list: &[Arg],
-    place: &Place,
+    place: &Place<'_>,
     messages: &mut Vec<u8>,
 ) -> Result<Option<Vec<u8>>, AllocError>
     ensures { IfOk result (λ digits. ReadsAs (spec.with_digits list.now place.now) (option_map (λ v. v.items) digits) messages.old.items messages.new.items) }
@@ -69,7 +71,7 @@ fn digits_in(
 fn radix_in(
     alloc: Global,
     text: &[u8],
-    place: &Place,
+    place: &Place<'_>,
     messages: &mut Vec<u8>,
 ) -> Result<Option<Radix>, AllocError>
     ensures { IfOk result (λ radix. ReadsAs (λ s. spec.with_radix place.now s text.now) radix messages.old.items messages.new.items) }
@@ -91,7 +93,7 @@ fn radix_in(
 fn width_in(
     alloc: Global,
     arg: Option<&Arg>,
-    place: &Place,
+    place: &Place<'_>,
     messages: &mut Vec<u8>,
 ) -> Result<Option<usize>, AllocError>
     ensures { IfOk result (λ width. ReadsAs (λ s. spec.with_width place.now s (option_map text_of_arg (option_copied arg.entry))) width messages.old.items messages.new.items) }
@@ -116,7 +118,7 @@ fn width_in(
 fn value_in(
     alloc: Global,
     text: &[u8],
-    place: &Place,
+    place: &Place<'_>,
     messages: &mut Vec<u8>,
 ) -> Result<Option<i32>, AllocError>
     ensures { IfOk result (λ value. ReadsAs (λ s. spec.with_value place.now s text.now) value messages.old.items messages.new.items) }

@@ -221,17 +221,11 @@ impl Head {
         }
     }
 
-    /// Returns the place of the call, with its file in a buffer whose contents are discarded.
-    pub fn place(&self, buffer: Vec<u8>) -> Result<Place, AllocError>
-        ensures { IfOk result (λ p. p ≡ self.now.place) }
+    /// Returns the place of the call.
+    pub fn place(&self) -> Place<'_>
+        ensures { result ≡ self.now.place }
     {
-        let mut file = buffer;
-        file.clear();
-        file.extend_from_slice(self.file())?;
-        Ok(Place {
-            file: Bytes::from(file),
-            line: self.line,
-        })
+        Place::new(self.file(), self.line)
     }
 
     /// Returns whether the definition is recognised only with parameters.

@@ -7,7 +7,7 @@
 
 ghost use Rattle.std.specs.Prelude.{◌≡◌, ◌<◌, ℕ, IfOk, length};
 ghost use Rattle.std.specs.List.{AllByRecursion};
-ghost use Rattle.m4_builtins.specs.Act.{act, goes_on};
+ghost use Rattle.m4_builtins.specs.Act.{act, goes_on, nothing};
 ghost use Rattle.m4_builtins.specs.Args.{IsArg};
 ghost use Rattle.m4_builtins.specs.Indirect as spec;
 ghost use Rattle.m4_builtins.specs.Steps.{LeadsTo, IsShorter};
@@ -19,17 +19,16 @@ use crate::messages::{
     bad_name_message, unknown_builtin_message, unknown_macro_message, unsupported_message,
 };
 use crate::place::Place;
-use crate::substitute::substitute;
+use crate::substitute::substitute_onto;
 use m4_state::builtin::Builtin;
 use m4_state::definition::Def;
 use m4_state::state::State;
-use std::alloc::Global;
 
 /// A call that is finished, or the call that continues it.
 #[derive(Drop)]
 pub(crate) enum Step<'a> {
-    /// The call is finished.
-    Done(Effect),
+    /// The call is finished, and its effect is complete.
+    Done,
     /// The call continues as that of a builtin with these arguments.
     On(Builtin, &'a [Arg]),
 }
@@ -38,80 +37,85 @@ pub(crate) enum Step<'a> {
 /// a builtin's call moves no [`Step`].
 #[inline(always)]
 pub(crate) fn begin<'a>(
-    alloc: Global,
+    effect: &mut Effect,
     def: &Def,
     name: &[u8],
     list: &'a [Arg],
-    place: &Place,
+    place: &Place<'_>,
     state: &State,
 ) -> Result<Step<'a>, BuiltinFault>
-    requires { AllByRecursion IsArg list.now }
-    ensures leads { IfOk result (λ step. LeadsTo (act def.now name.now list.now place.now state.now) place.now state.now step) }
+    requires fresh { effect.old ≡ nothing }
+    requires args { AllByRecursion IsArg list.now }
+    ensures leads { IfOk result (λ step. LeadsTo (act def.now name.now list.now place.now state.now) place.now state.now effect.new step) }
     ensures shorter { (n : ℕ) → length list.now < n → IfOk result (λ step. IsShorter n step) }
 {
     match def {
         Def::Text(text) => {
-            let text = substitute(alloc, text.as_slice(), name, list, state.quotes())?;
-            Ok(Step::Done(Effect::pushing(alloc, text)))
+            let mut expansion = effect.buffer();
+            substitute_onto(&mut expansion, text.as_slice(), name, list, state.quotes())?;
+            effect.give(expansion);
+            Ok(Step::Done)
         }
         Def::Builtin(builtin) => Ok(Step::On(*builtin, list)),
         Def::Placeholder(other) => {
-            let warning = unsupported_message(alloc, place, other.as_slice())?;
-            Ok(Step::Done(Effect::with_messages(alloc, warning)))
+            effect.warn(unsupported_message(effect.alloc(), place, other.as_slice())?);
+            Ok(Step::Done)
         }
     }
 }
 
 /// Calls the macro that the first argument names. Manual: "Indirect call of macros".
 pub(crate) fn indir<'a>(
-    alloc: Global,
+    effect: &mut Effect,
     list: &'a [Arg],
-    place: &Place,
+    place: &Place<'_>,
     state: &State,
 ) -> Result<Step<'a>, BuiltinFault>
-    requires { AllByRecursion IsArg list.now }
-    ensures leads { IfOk result (λ step. LeadsTo (spec.indir (goes_on list.now place.now state.now) list.now place.now state.now) place.now state.now step) }
+    requires fresh { effect.old ≡ nothing }
+    requires args { AllByRecursion IsArg list.now }
+    ensures leads { IfOk result (λ step. LeadsTo (spec.indir (goes_on list.now place.now state.now) list.now place.now state.now) place.now state.now effect.new step) }
     ensures shorter { IfOk result (λ step. IsShorter (length list.now) step) }
 {
     let Some((first, rest)) = list.split_first() else {
-        return Ok(Step::Done(Effect::nothing(alloc)));
+        return Ok(Step::Done);
     };
     let Arg::Text(name) = first else {
-        let warning = bad_name_message(alloc, place, Builtin::Indir)?;
-        return Ok(Step::Done(Effect::with_messages(alloc, warning)));
+        effect.warn(bad_name_message(effect.alloc(), place, Builtin::Indir)?);
+        return Ok(Step::Done);
     };
     match state.top(name.as_slice()) {
-        Some(def) => begin(alloc, def, name.as_slice(), rest, place, state),
+        Some(def) => begin(effect, def, name.as_slice(), rest, place, state),
         None => {
-            let warning = unknown_macro_message(alloc, place, name.as_slice())?;
-            Ok(Step::Done(Effect::with_messages(alloc, warning)))
+            effect.warn(unknown_macro_message(effect.alloc(), place, name.as_slice())?);
+            Ok(Step::Done)
         }
     }
 }
 
 /// Calls the builtin whose own name is the first argument. Manual: "Indirect call of builtins".
 pub(crate) fn builtin<'a>(
-    alloc: Global,
+    effect: &mut Effect,
     list: &'a [Arg],
-    place: &Place,
+    place: &Place<'_>,
     state: &State,
 ) -> Result<Step<'a>, BuiltinFault>
-    requires { AllByRecursion IsArg list.now }
-    ensures leads { IfOk result (λ step. LeadsTo (spec.builtin (goes_on list.now place.now state.now) list.now place.now state.now) place.now state.now step) }
+    requires fresh { effect.old ≡ nothing }
+    requires args { AllByRecursion IsArg list.now }
+    ensures leads { IfOk result (λ step. LeadsTo (spec.builtin (goes_on list.now place.now state.now) list.now place.now state.now) place.now state.now effect.new step) }
     ensures shorter { IfOk result (λ step. IsShorter (length list.now) step) }
 {
     let Some((first, rest)) = list.split_first() else {
-        return Ok(Step::Done(Effect::nothing(alloc)));
+        return Ok(Step::Done);
     };
     let Arg::Text(name) = first else {
-        let warning = bad_name_message(alloc, place, Builtin::IndirBuiltin)?;
-        return Ok(Step::Done(Effect::with_messages(alloc, warning)));
+        effect.warn(bad_name_message(effect.alloc(), place, Builtin::IndirBuiltin)?);
+        return Ok(Step::Done);
     };
     match Builtin::by_name(name.as_slice()) {
         Some(builtin) => Ok(Step::On(builtin, rest)),
         None => {
-            let warning = unknown_builtin_message(alloc, place, name.as_slice())?;
-            Ok(Step::Done(Effect::with_messages(alloc, warning)))
+            effect.warn(unknown_builtin_message(effect.alloc(), place, name.as_slice())?);
+            Ok(Step::Done)
         }
     }
 }

@@ -1,10 +1,11 @@
 //! The builtins that define names, delete their definitions and return them. Manual: "Defining a
 //! macro", "Deleting a macro", "Temporarily redefining macros", "Renaming macros".
 
-ghost use Rattle.std.specs.Prelude.{◌≡◌, ◌++◌, fold, flat_map, IfOk, OnOk, option_copied};
+ghost use Rattle.std.specs.Prelude.{◌≡◌, ◌++◌, fold, flat_map, IfOk, OnOk, Some, option_copied};
 ghost use Rattle.std.specs.List.{AllByRecursion};
 ghost use Rattle.m4_state.specs.State.{popped, undefined};
 ghost use Rattle.m4_input.specs.DelimsView.{pair_of};
+ghost use Rattle.m4_builtins.specs.Acted.{nothing};
 ghost use Rattle.m4_builtins.specs.Args.{IsArg, text_of_arg, quoted};
 ghost use Rattle.m4_builtins.specs.Naming as spec;
 
@@ -14,7 +15,6 @@ use crate::fault::BuiltinFault;
 use crate::messages::{bad_name_message, dropped_message};
 use crate::place::Place;
 use crate::substitute::push_one_quoted;
-use m4_input::pushed::Pushed;
 use m4_state::builtin::Builtin;
 use m4_state::bytes::Bytes;
 use m4_state::definition::Def;
@@ -23,55 +23,57 @@ use std::alloc::{AllocError, Global};
 
 /// Defines the first argument, a name, as the second one. Manual: "Defining a macro".
 pub(crate) fn define(
-    alloc: Global,
+    effect: &mut Effect,
     list: &[Arg],
-    place: &Place,
+    place: &Place<'_>,
     state: &mut State,
-) -> Result<Effect, BuiltinFault>
-    requires { AllByRecursion IsArg list.now }
-    ensures { IfOk result (λ e. spec.define list.now place.now state.old ≡ record { state = state.new; effect = e }) }
+) -> Result<(), BuiltinFault>
+    requires fresh { effect.old ≡ nothing }
+    requires args { AllByRecursion IsArg list.now }
+    ensures { OnOk result (spec.define list.now place.now state.old ≡ record { state = state.new; effect = effect.new }) }
 {
     let Some((first, rest)) = list.split_first() else {
-        return Ok(Effect::nothing(alloc));
+        return Ok(());
     };
+    let alloc = effect.alloc();
     match first {
         Arg::Text(name) => {
             let def = definition_in(alloc, rest)?;
             state.define(name.as_slice(), def)?;
-            Ok(Effect::nothing(alloc))
         }
         Arg::Definition(_) => {
-            let warning = bad_name_message(alloc, place, Builtin::Define)?;
-            Ok(Effect::with_messages(alloc, warning))
+            effect.warn(bad_name_message(alloc, place, Builtin::Define)?);
         }
     }
+    Ok(())
 }
 
 /// Pushes the second argument onto the definitions of the first one. Manual: "Temporarily redefining
 /// macros".
 pub(crate) fn pushdef(
-    alloc: Global,
+    effect: &mut Effect,
     list: &[Arg],
-    place: &Place,
+    place: &Place<'_>,
     state: &mut State,
-) -> Result<Effect, BuiltinFault>
-    requires { AllByRecursion IsArg list.now }
-    ensures { IfOk result (λ e. spec.pushdef list.now place.now state.old ≡ record { state = state.new; effect = e }) }
+) -> Result<(), BuiltinFault>
+    requires fresh { effect.old ≡ nothing }
+    requires args { AllByRecursion IsArg list.now }
+    ensures { OnOk result (spec.pushdef list.now place.now state.old ≡ record { state = state.new; effect = effect.new }) }
 {
     let Some((first, rest)) = list.split_first() else {
-        return Ok(Effect::nothing(alloc));
+        return Ok(());
     };
+    let alloc = effect.alloc();
     match first {
         Arg::Text(name) => {
             let def = definition_in(alloc, rest)?;
             state.push(name.as_slice(), def)?;
-            Ok(Effect::nothing(alloc))
         }
         Arg::Definition(_) => {
-            let warning = bad_name_message(alloc, place, Builtin::Pushdef)?;
-            Ok(Effect::with_messages(alloc, warning))
+            effect.warn(bad_name_message(alloc, place, Builtin::Pushdef)?);
         }
     }
+    Ok(())
 }
 
 /// Returns the first of these arguments as a definition, or the empty text if there is none.
@@ -105,55 +107,62 @@ pub(crate) fn popdef(list: &[Arg], state: &mut State)
 
 /// Expands to the definition of a name, or to the texts of several names. Manual: "Renaming macros".
 pub(crate) fn defn(
-    alloc: Global,
+    effect: &mut Effect,
     list: &[Arg],
-    place: &Place,
+    place: &Place<'_>,
     state: &State,
-) -> Result<Effect, BuiltinFault>
-    ensures { IfOk result (λ e. spec.defn list.now place.now state.now ≡ record { state = state.now; effect = e }) }
+) -> Result<(), BuiltinFault>
+    requires { effect.old ≡ nothing }
+    ensures { OnOk result (spec.defn list.now place.now state.now ≡ record { state = state.now; effect = effect.new }) }
 {
     match list {
-        [] => Ok(Effect::nothing(alloc)),
+        [] => Ok(()),
         [name] => {
-            let given = definition_given(alloc, state.top(text_of(name)), state.quotes())?;
-            Ok(Effect::giving(alloc, given))
+            give_definition(effect, state.top(text_of(name)), state.quotes())?;
+            Ok(())
         }
         [..] => {
-            let mut texts = Vec::new(alloc);
+            let alloc = effect.alloc();
+            let mut texts = effect.buffer();
             let mut warnings = Vec::new(alloc);
             push_texts(alloc, list, place, state, &mut texts, &mut warnings)?;
-            let mut effect = Effect::pushing(alloc, Bytes::from(texts));
-            effect.messages = Bytes::from(warnings);
-            Ok(effect)
+            effect.give(texts);
+            effect.warn(Bytes::from(warnings));
+            Ok(())
         }
     }
 }
 
-/// Returns a text between quotes, or the builtin or placeholder itself; an empty text if there is none.
-fn definition_given(
-    alloc: Global,
+/// Expands to a text between quotes, or to the builtin or placeholder itself; to an empty text if there is none.
+fn give_definition(
+    effect: &mut Effect,
     def: Option<&Def>,
     quotes: (&[u8], &[u8]),
-) -> Result<Pushed, AllocError>
-    ensures { IfOk result (λ v. v ≡ spec.definition_given (pair_of quotes.entry) (option_copied def.entry)) }
+) -> Result<(), AllocError>
+    requires { effect.old ≡ nothing }
+    ensures { OnOk result (effect.new
+        ≡ record nothing { push = Some (spec.definition_given (pair_of quotes.entry) (option_copied def.entry)) }) }
 {
-    let mut text = Vec::new(alloc);
     match def {
-        None => Ok(Pushed::Text(Bytes::from(text))),
+        None => effect.give_copy(&[])?,
         Some(Def::Text(defined)) => {
+            let mut text = effect.buffer();
             push_one_quoted(&mut text, defined.as_slice(), quotes)?;
-            Ok(Pushed::Text(Bytes::from(text)))
+            effect.give(text);
         }
-        Some(Def::Builtin(builtin)) => Ok(Pushed::Definition(Def::Builtin(*builtin))),
-        Some(Def::Placeholder(name)) => Ok(Pushed::Definition(Def::Placeholder(name.share()?))),
+        Some(Def::Builtin(builtin)) => effect.give_definition(Def::Builtin(*builtin)),
+        Some(Def::Placeholder(name)) => {
+            effect.give_definition(Def::Placeholder(name.share()?));
+        }
     }
+    Ok(())
 }
 
 /// Appends the texts of names, each between quotes, and a warning on each builtin or placeholder.
 fn push_texts(
     alloc: Global,
     list: &[Arg],
-    place: &Place,
+    place: &Place<'_>,
     state: &State,
     texts: &mut Vec<u8>,
     warnings: &mut Vec<u8>,
@@ -180,7 +189,7 @@ fn push_texts(
 fn push_text(
     alloc: Global,
     def: Option<&Def>,
-    place: &Place,
+    place: &Place<'_>,
     quotes: (&[u8], &[u8]),
     texts: &mut Vec<u8>,
     warnings: &mut Vec<u8>,

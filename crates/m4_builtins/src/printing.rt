@@ -3,6 +3,7 @@
 
 ghost use Rattle.std.specs.Prelude.{◌≡◌, ◌++◌, IfOk, OnOk, option_copied};
 ghost use Rattle.m4_input.specs.DelimsView.{pair_of};
+ghost use Rattle.m4_builtins.specs.Acted.{nothing};
 ghost use Rattle.m4_builtins.specs.Printing as spec;
 ghost use Rattle.m4_builtins.specs.Args.{texts_of};
 
@@ -22,20 +23,23 @@ use std::alloc::{AllocError, Global};
 /// the names. Warns of names without a definition before that. Manual: "Displaying macro
 /// definitions".
 pub(crate) fn dumpdef(
-    alloc: Global,
+    effect: &mut Effect,
     list: &[Arg],
-    place: &Place,
+    place: &Place<'_>,
     state: &State,
-) -> Result<Effect, BuiltinFault>
-    ensures { IfOk result (λ e. spec.dumpdef list.now place.now state.now ≡ record { state = state.now; effect = e }) }
+) -> Result<(), BuiltinFault>
+    requires { effect.old ≡ nothing }
+    ensures { OnOk result (spec.dumpdef list.now place.now state.now ≡ record { state = state.now; effect = effect.new }) }
 {
+    let alloc = effect.alloc();
     // All memory for names is allocated before the first message is made.
     let mut names = names_shown(alloc, list, state)?;
     let mut messages = Vec::new(alloc);
     push_warnings(alloc, names.as_slice(), place, state, &mut messages)?;
     names.sort_unstable_by(|a, b| a.as_slice().cmp(b.as_slice()));
     push_lines(names.as_slice(), state, &mut messages)?;
-    Ok(Effect::with_messages(alloc, Bytes::from(messages)))
+    effect.warn(Bytes::from(messages));
+    Ok(())
 }
 
 /// Returns the requested names, or all.
@@ -63,7 +67,7 @@ fn copied_texts(alloc: Global, list: &[Arg]) -> Result<Vec<Bytes>, AllocError>
 fn push_warnings(
     alloc: Global,
     names: &[Bytes],
-    place: &Place,
+    place: &Place<'_>,
     state: &State,
     messages: &mut Vec<u8>,
 ) -> Result<(), AllocError>
@@ -81,7 +85,7 @@ fn push_warning(
     alloc: Global,
     name: &[u8],
     def: Option<&Def>,
-    place: &Place,
+    place: &Place<'_>,
     messages: &mut Vec<u8>,
 ) -> Result<(), AllocError>
     ensures { OnOk result (messages.new.items
@@ -147,36 +151,49 @@ fn push_bracketed(name: &[u8], messages: &mut Vec<u8>) -> Result<(), AllocError>
 }
 
 /// Writes the arguments, joined by spaces, to the messages. Manual: "Printing error messages".
-pub(crate) fn errprint(alloc: Global, list: &[Arg], state: &State) -> Result<Effect, AllocError>
-    ensures { IfOk result (λ e. spec.errprint list.now state.now ≡ record { state = state.now; effect = e }) }
+pub(crate) fn errprint(effect: &mut Effect, list: &[Arg], state: &State) -> Result<(), AllocError>
+    requires { effect.old ≡ nothing }
+    ensures { OnOk result (spec.errprint list.now state.now ≡ record { state = state.now; effect = effect.new }) }
 {
     let _ = state;
+    let alloc = effect.alloc();
     let mut text = Vec::new(alloc);
     push_joined(&mut text, list, b' ')?;
-    Ok(Effect::with_messages(alloc, Bytes::from(text)))
+    effect.warn(Bytes::from(text));
+    Ok(())
 }
 
 /// Expands to the name of the input between quotes; to an empty one in wrapped text, whose line is 0.
 /// Manual: "Printing current location".
-pub(crate) fn file(alloc: Global, place: &Place, state: &State) -> Result<Effect, AllocError>
-    ensures { IfOk result (λ e. spec.file place.now state.now ≡ record { state = state.now; effect = e }) }
+pub(crate) fn file(
+    effect: &mut Effect,
+    place: &Place<'_>,
+    state: &State,
+) -> Result<(), AllocError>
+    requires { effect.old ≡ nothing }
+    ensures { OnOk result (spec.file place.now state.now ≡ record { state = state.now; effect = effect.new }) }
 {
-    let name = if place.line == 0 {
+    let name = if place.line() == 0 {
         &[]
     } else {
-        place.file.as_slice()
+        place.file()
     };
-    let mut text = Vec::new(alloc);
+    let mut text = effect.buffer();
     push_one_quoted(&mut text, name, state.quotes())?;
-    Ok(Effect::pushing(alloc, Bytes::from(text)))
+    effect.give(text);
+    Ok(())
 }
 
 /// Expands to the line of the call; to 0 in wrapped text. Manual: "Printing current location".
-pub(crate) fn line(alloc: Global, place: &Place, state: &State) -> Result<Effect, AllocError>
-    ensures { IfOk result (λ e. spec.line place.now state.now ≡ record { state = state.now; effect = e }) }
+pub(crate) fn line(
+    effect: &mut Effect,
+    place: &Place<'_>,
+    state: &State,
+) -> Result<(), AllocError>
+    requires { effect.old ≡ nothing }
+    ensures { OnOk result (spec.line place.now state.now ≡ record { state = state.now; effect = effect.new }) }
 {
     let _ = state;
     let mut buffer = Buffer::new();
-    let text = Bytes::from_slice(alloc, buffer.format(place.line).as_bytes())?;
-    Ok(Effect::pushing(alloc, text))
+    effect.give_copy(buffer.format(place.line()).as_bytes())
 }

@@ -1,7 +1,9 @@
 //! The builtins that measure texts, search them and cut them. Manual: "Calculating length of strings",
 //! "Searching for substrings", "Extracting substrings".
 
-ghost use Rattle.std.specs.Prelude.{◌≡◌, IfOk, decimal};
+ghost use Rattle.std.specs.Prelude.{◌≡◌, OnOk, Some, decimal};
+ghost use Rattle.m4_input.specs.declared.pushed.Pushed.TheVariants as pushes;
+ghost use Rattle.m4_builtins.specs.Acted.{nothing};
 ghost use Rattle.m4_builtins.specs.Texts as spec;
 
 use crate::args::{Arg, text_at, text_of};
@@ -13,61 +15,65 @@ use m4_state::builtin::Builtin;
 use m4_state::bytes::Bytes;
 use m4_state::state::State;
 use memchr::memmem;
-use std::alloc::{AllocError, Global};
+use std::alloc::AllocError;
 
 /// Expands to the number of bytes of the first argument. Manual: "Calculating length of strings".
-pub(crate) fn len(alloc: Global, list: &[Arg], state: &State) -> Result<Effect, AllocError>
-    ensures { IfOk result (λ e. spec.len list.now state.now ≡ record { state = state.now; effect = e }) }
+pub(crate) fn len(effect: &mut Effect, list: &[Arg], state: &State) -> Result<(), AllocError>
+    requires { effect.old ≡ nothing }
+    ensures { OnOk result (spec.len list.now state.now ≡ record { state = state.now; effect = effect.new }) }
 {
     let _ = state;
-    let text = decimal_of(alloc, text_at(list, 0).len())?;
-    Ok(Effect::pushing(alloc, text))
+    give_count(effect, text_at(list, 0).len())
 }
 
 /// Expands to the first place of the second argument in the first one, from 0; to -1 if there is none.
 /// Takes time in proportion to both. Manual: "Searching for substrings".
-pub(crate) fn index(alloc: Global, list: &[Arg], state: &State) -> Result<Effect, AllocError>
-    ensures { IfOk result (λ e. spec.index list.now state.now ≡ record { state = state.now; effect = e }) }
+pub(crate) fn index(effect: &mut Effect, list: &[Arg], state: &State) -> Result<(), AllocError>
+    requires { effect.old ≡ nothing }
+    ensures { OnOk result (spec.index list.now state.now ≡ record { state = state.now; effect = effect.new }) }
 {
     let _ = state;
-    let text = match place_in(text_at(list, 0), text_at(list, 1)) {
-        Some(place) => decimal_of(alloc, place)?,
-        None => Bytes::from_slice(alloc, b"-1")?,
-    };
-    Ok(Effect::pushing(alloc, text))
+    match place_in(text_at(list, 0), text_at(list, 1)) {
+        Some(place) => give_count(effect, place),
+        None => effect.give_copy(b"-1"),
+    }
 }
 
 /// Expands to the first argument from the place that the second one names, and to at most as many bytes
 /// as the third one says. Both numbers are read before anything is cut; the first invalid one ends the
 /// call. Manual: "Extracting substrings".
 pub(crate) fn substr(
-    alloc: Global,
+    effect: &mut Effect,
     list: &[Arg],
-    place: &Place,
+    place: &Place<'_>,
     state: &State,
-) -> Result<Effect, AllocError>
-    ensures { IfOk result (λ e. spec.substr list.now place.now state.now ≡ record { state = state.now; effect = e }) }
+) -> Result<(), AllocError>
+    requires { effect.old ≡ nothing }
+    ensures { OnOk result (spec.substr list.now place.now state.now ≡ record { state = state.now; effect = effect.new }) }
 {
     let _ = state;
     let [text, from, counts @ ..] = list else {
-        return Ok(Effect::nothing(alloc));
+        return Ok(());
     };
+    let alloc = effect.alloc();
     let mut messages = Vec::new(alloc);
     let number = number_in(alloc, text_of(from), place, Builtin::Substr, &mut messages)?;
     let Some(from) = number else {
-        return Ok(Effect::with_messages(alloc, Bytes::from(messages)));
+        effect.warn(Bytes::from(messages));
+        return Ok(());
     };
     let mut part = from_place(text_of(text), from);
     if let [count, ..] = counts {
         let number = number_in(alloc, text_of(count), place, Builtin::Substr, &mut messages)?;
         let Some(count) = number else {
-            return Ok(Effect::with_messages(alloc, Bytes::from(messages)));
+            effect.warn(Bytes::from(messages));
+            return Ok(());
         };
         part = at_most(part, count);
     }
-    let mut effect = Effect::pushing(alloc, Bytes::from_slice(alloc, part)?);
-    effect.messages = Bytes::from(messages);
-    Ok(effect)
+    effect.give_copy(part)?;
+    effect.warn(Bytes::from(messages));
+    Ok(())
 }
 
 /// Returns the bytes from a place on; none if the place is negative, or after the end of the text.
@@ -97,10 +103,11 @@ fn place_in(text: &[u8], part: &[u8]) -> Option<usize>
     memmem::find(text, part)
 }
 
-/// Returns a count in decimal.
-fn decimal_of(alloc: Global, count: usize) -> Result<Bytes, AllocError>
-    ensures { IfOk result (λ x. x ≡ decimal count) }
+/// Expands to a count in decimal.
+fn give_count(effect: &mut Effect, count: usize) -> Result<(), AllocError>
+    requires { effect.old ≡ nothing }
+    ensures { OnOk result (effect.new ≡ record nothing { push = Some (pushes.Text (decimal count)) }) }
 {
     let mut buffer = Buffer::new();
-    Bytes::from_slice(alloc, buffer.format(count).as_bytes())
+    effect.give_copy(buffer.format(count).as_bytes())
 }

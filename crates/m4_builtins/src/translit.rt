@@ -4,12 +4,12 @@
 //! text is read once.
 
 ghost use Rattle.std.specs.Prelude.{◌≡◌, ◌++◌, ◌<◌, ◌-◌, ◌+◌, ℕ, None, Some, IfOk, OnOk, get_or};
+ghost use Rattle.m4_builtins.specs.Acted.{nothing};
 ghost use Rattle.m4_builtins.specs.ByteTable.{Replaces};
 ghost use Rattle.m4_builtins.specs.Translit as spec;
 
 use crate::args::{Arg, text_at};
 use crate::effect::Effect;
-use m4_state::bytes::Bytes;
 use m4_state::state::State;
 use std::alloc::{AllocError, Global};
 
@@ -19,14 +19,17 @@ type Changes = [Option<u8>; 256];
 /// Expands to the first argument with the bytes of the second one replaced by those of the third. Takes
 /// time in proportion to the text and to the expanded ranges. Manual: "Translating
 /// characters".
-pub(crate) fn translit(alloc: Global, list: &[Arg], state: &State) -> Result<Effect, AllocError>
-    ensures { IfOk result (λ e. spec.translit list.now state.now ≡ record { state = state.now; effect = e }) }
+pub(crate) fn translit(effect: &mut Effect, list: &[Arg], state: &State) -> Result<(), AllocError>
+    requires { effect.old ≡ nothing }
+    ensures { OnOk result (spec.translit list.now state.now ≡ record { state = state.now; effect = effect.new }) }
 {
     let _ = state;
+    let alloc = effect.alloc();
     let from = ranges(alloc, text_at(list, 1))?;
     let to = ranges(alloc, text_at(list, 2))?;
     let text = translated(alloc, text_at(list, 0), from.as_slice(), to.as_slice())?;
-    Ok(Effect::pushing(alloc, Bytes::from(text)))
+    effect.give(text);
+    Ok(())
 }
 
 /// Returns a text with its ranges expanded.

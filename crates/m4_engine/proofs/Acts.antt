@@ -4,7 +4,7 @@ use Rattle.std.specs.List.{AllByRecursion}
 use Rattle.m4_state.specs.declared.definition.Def.{Def}
 use Rattle.m4_state.specs.State.{State, IsState}
 use Rattle.m4_builtins.specs.declared.args.Arg.{Arg}
-use Rattle.m4_builtins.specs.declared.place.Place.{Place}
+use Rattle.m4_builtins.specs.Place.{Place}
 use Rattle.m4_builtins.specs.Args.{IsArg}
 use Rattle.m4_builtins.proofs.ActKeeps.{act_pushes}
 use Rattle.m4_input.specs.Pending.{Pending, text_of, line_length}

@@ -11,7 +11,7 @@ use Rattle.m4_input.specs.Input.{answer_of, longer}
 use Rattle.m4_input.specs.Token.{Taken, token_at}
 use Rattle.m4_input.specs.declared.token.Token.TheVariants.{Name, Byte}
 use Rattle.m4_input.proofs.Parts.{drop_parts}
-use Rattle.m4_builtins.specs.declared.place.Place.{Place}
+use Rattle.m4_builtins.specs.Place.{Place}
 use Rattle.m4_builtins.specs.Act.{needs_list}
 use Rattle.m4_engine.specs.declared.lookahead.Meaning.{Meaning}
 use Rattle.m4_engine.specs.declared.lookahead.Named.{Named}

@@ -7,7 +7,7 @@ use Rattle.m4_state.specs.State.{State, appended}
 use Rattle.m4_input.specs.Pending.{Pending, text_of, consumed, line_length}
 use Rattle.m4_engine.specs.Plain.{total, ArePlain}
 use Rattle.m4_engine.specs.Collected.{IsListRun}
-use Rattle.m4_builtins.specs.declared.place.Place.{Place}
+use Rattle.m4_builtins.specs.Place.{Place}
 use Rattle.m4_builtins.specs.Messages.{dropped}
 use Rattle.m4_engine.specs.Expansion.{Call, Limits, RunSoFar, Mode, Outside, Collecting, Kept, Expansion, Ended, Ends, NeedsInput, issued, place_at}
 use Rattle.m4_state.specs.Definition.{IsDefinition}

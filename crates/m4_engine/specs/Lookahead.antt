@@ -10,7 +10,7 @@ use Rattle.m4_input.specs.Pending.{Pending, text_of, name_of, line_of}
 use Rattle.m4_input.specs.Token.{scan}
 use Rattle.m4_input.specs.Paren.{paren_in}
 use Rattle.m4_input.specs.Input.{answer_of}
-use Rattle.m4_builtins.specs.declared.place.Place.{Place}
+use Rattle.m4_builtins.specs.Place.{Place}
 use Rattle.m4_builtins.specs.Subst.{subst}
 use Rattle.m4_engine.specs.Expand.{call_of}
 use Rattle.m4_engine.specs.declared.lookahead.Meaning.{Meaning}

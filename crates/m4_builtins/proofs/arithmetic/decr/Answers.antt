@@ -3,7 +3,7 @@ use Rattle.std.specs.Fmt.{signed_decimal}
 use Rattle.std.specs.Int.{int_wrapping_sub}
 use Rattle.std.proofs.lemmas.Result.{IfOk-weaker}
 use Rattle.m4_state.specs.declared.builtin.Builtin.TheVariants.{Decr}
-use Rattle.m4_builtins.specs.declared.effect.Effect.{Effect}
+use Rattle.m4_builtins.specs.Acted.{Effect}
 use Rattle.m4_builtins.specs.Args.{text_at}
 use Rattle.m4_builtins.specs.Acted.{Acted}
 use Rattle.m4_builtins.specs.Numeric.{reading_of, number_of_reading}
@@ -16,7 +16,7 @@ returns-in-Some c =
     let s = c.args.state.now in
     let text = λ (n : ℤ). signed_decimal (int_wrapping_sub w32 n (pos 1)) in
     let read : Some c.in-Some.number ≡ number_of_reading (reading_of (text_at c.args.list.now 0)) = search rules in
-    IfOk-weaker c.pushing_number.result _ _
-    (λ e made. with_number-expands c.args.place.now Decr s text (reading_of (text_at c.args.list.now 0)) c.in-Some.number c.from.result read (search rules)
+    IfOk-weaker c.give_number.result _ _
+    (λ done made. with_number-expands c.args.place.now Decr s text (reading_of (text_at c.args.list.now 0)) c.in-Some.number c.from.result read (search rules)
     ∙ ap (λ (f : Effect). let r : Acted = record { state = s; effect = f } in r) (sym made))
-    c.pushing_number.ensures
+    c.give_number.ensures

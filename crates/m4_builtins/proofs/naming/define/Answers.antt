@@ -8,5 +8,5 @@ use Rattle.m4_builtins.proofs.naming.define.Goals as goal
 -- the second argument is in order as a definition
 pub define-requires : goal.define-requires
 define-requires c =
-    let valid = subst (AllByRecursion IsArg) c.in-Some.ensures.cases.0 c.requires in
+    let valid = subst (AllByRecursion IsArg) c.in-Some.ensures.cases.0 c.requires.args in
     subst IsDefinition (sym c.in_ok-def-in-Text.ensures) (second_valid c.in-Some.rest.now valid.1)

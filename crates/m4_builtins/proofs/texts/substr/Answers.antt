@@ -2,7 +2,8 @@ use Rattle.std.proofs.Common.{◌≡◌, refl, sym, ap, ◌∙◌, Some, None, [
 use Rattle.std.specs.Prelude.{FitsSigned}
 use Rattle.std.specs.Int.{w32}
 use Rattle.std.proofs.lemmas.Int.{to_z-of_z}
-use Rattle.m4_builtins.specs.Acted.{only_warning}
+use Rattle.m4_input.specs.declared.pushed.Pushed.TheVariants as pushes
+use Rattle.m4_builtins.specs.Acted.{Effect, only_warning}
 use Rattle.m4_builtins.specs.Args.{text_of_arg}
 use Rattle.m4_builtins.specs.Texts.{from_place, at_most}
 use Rattle.m4_builtins.proofs.Cut.{leaves, pushed_with, number_of, warning_on, read_of, warned_of, substr-no_place, substr-no_count, substr-rest, substr-counted}
@@ -21,7 +22,8 @@ returns-in_default-number c =
     let warned : c.number_in.new.messages.items ≡ warning_on p b = warned_of p _ _ [] _ b c.new-messages.ensures.items c.in_ok-number.ensures.warns c.text_of.ensures in
     substr-no_place p s list (take (length list - 2) (drop 2 list)) a b c.in-len2-up.len_at_least c.text-item.is c.from-item.is refl number
     ∙ ap (only_warning s) (sym (c.from.ensures ∙ warned))
-    ∙ ap (leaves s) (sym c.with_messages.ensures)
+    ∙ ap (λ (e : Effect). leaves s (record e { messages = c.from.result })) (sym c.requires)
+    ∙ ap (leaves s) (sym c.warn.ensures)
 
 -- the count is no number
 pub returns-in_default-number-2 : goal.returns-in_default-number-2
@@ -38,7 +40,8 @@ returns-in_default-number-2 c =
     let warned_2 : c.number_in-in-len1-up.new.messages.items ≡ warning_on p b ++ warning_on p d = warned_of p _ _ (warning_on p b) _ d warned c.in_ok-number-2.ensures.warns c.text_of-in-len1-up.ensures in
     substr-no_count p s list (take (length list - 2) (drop 2 list)) a b c.in-len2-up.len_at_least c.text-item.is c.from-item.is refl c.in-Some.from number d c.in-len1-up.len_at_least c.count-item.is number_2
     ∙ ap (only_warning s) (sym (c.from-in_default-number-2.ensures ∙ warned_2))
-    ∙ ap (leaves s) (sym c.with_messages-in_default-number-2.ensures)
+    ∙ ap (λ (e : Effect). leaves s (record e { messages = c.from-in_default-number-2.result })) (sym c.requires)
+    ∙ ap (leaves s) (sym c.warn-in_default-number-2.ensures)
 
 -- there is no count, or it is a number
 pub returns : goal.returns
@@ -56,11 +59,12 @@ returns c =
     let counts = take (length list - 2) (drop 2 list) in
     elim c.if-counts-lt1.branch [
       | in_default-counts w ↦
-          pushed_with s _ c.pushing-effect.result c.from-2.result (warning_on p b) c.in_ok-from_slice.field-0 (from_place from (text_of_arg a))
+          pushed_with s _ c.give_copy.new.self c.from-2.result (warning_on p b) _ (from_place from (text_of_arg a))
           (substr-rest p s list counts a b c.in-len2-up.len_at_least c.text-item.is c.from-item.is refl from number w.in_default-counts.len_below)
-          c.pushing-effect.ensures
-          (c.in_ok-from_slice.ensures ∙ ap (λ v. v.now) w.part-is ∙ cut ∙ ap (from_place from) c.text_of-2.ensures)
+          (c.in_ok-give_copy.ensures ∙ ap (λ (f : Effect). record f { push = Some (pushes.Text c.if-counts-lt1.part.now) }) c.requires)
+          (ap (λ v. v.now) w.part-is ∙ cut ∙ ap (from_place from) c.text_of-2.ensures)
           (c.from-2.ensures ∙ ap (λ v. v.items) w.messages-is ∙ warned)
+          ∙ ap (leaves s) (sym c.warn-2.ensures)
       | in-len1-up+in_ok-number-2+in-Some-number w ↦
           let d = w.count-item.result in
           let count = w.in-Some-number.count in
@@ -68,9 +72,10 @@ returns c =
           let cut_2 : w.at_most-part.result.now ≡ at_most count c.from_place-part.result.now = rw (to_z-of_z w32 count fits_2) at w.at_most-part.ensures in
           let number_2 : Some count ≡ number_of d = read_of _ _ _ d w.in-Some-number.is w.in_ok-number-2.ensures.number w.text_of-in-len1-up.ensures in
           let warned_2 : w.number_in-in-len1-up.new.messages.items ≡ warning_on p b ++ warning_on p d = warned_of p _ _ (warning_on p b) _ d warned w.in_ok-number-2.ensures.warns w.text_of-in-len1-up.ensures in
-          pushed_with s _ c.pushing-effect.result c.from-2.result (warning_on p b ++ warning_on p d) c.in_ok-from_slice.field-0 (at_most count (from_place from (text_of_arg a)))
+          pushed_with s _ c.give_copy.new.self c.from-2.result (warning_on p b ++ warning_on p d) _ (at_most count (from_place from (text_of_arg a)))
           (substr-counted p s list counts a b c.in-len2-up.len_at_least c.text-item.is c.from-item.is refl from number d count w.in-len1-up.len_at_least w.count-item.is number_2)
-          c.pushing-effect.ensures
-          (c.in_ok-from_slice.ensures ∙ ap (λ v. v.now) w.part-is ∙ cut_2 ∙ ap (at_most count) (cut ∙ ap (from_place from) c.text_of-2.ensures))
+          (c.in_ok-give_copy.ensures ∙ ap (λ (f : Effect). record f { push = Some (pushes.Text c.if-counts-lt1.part.now) }) c.requires)
+          (ap (λ v. v.now) w.part-is ∙ cut_2 ∙ ap (at_most count) (cut ∙ ap (from_place from) c.text_of-2.ensures))
           (c.from-2.ensures ∙ ap (λ v. v.items) w.messages-is ∙ warned_2)
+          ∙ ap (leaves s) (sym c.warn-2.ensures)
     ]

@@ -1,6 +1,6 @@
 use Rattle.std.proofs.Common.{rules}
 use Rattle.m4_input.specs.declared.front.Unended.TheVariants.{InString, InComment}
-use Rattle.m4_builtins.specs.declared.place.Place.{Place}
+use Rattle.m4_builtins.specs.Place.{Place}
 use Rattle.m4_engine.proofs.Turning.{unended_moves}
 use Rattle.m4_engine.proofs.machine.Machine.take_unended.Goals as goal
 
