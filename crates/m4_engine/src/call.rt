@@ -232,11 +232,10 @@ impl OpenCall {
     }
 
     /// Returns the place of the call's name.
-    pub fn place(&self) -> Result<Place, AllocError>
-        ensures { IfOk result (λ p. p ≡ self.now.place) }
+    pub fn place(&self) -> Place<'_>
+        ensures { result ≡ self.now.place }
     {
-        let alloc = *self.parts.bytes.allocator();
-        self.parts.head.place(Vec::new(alloc))
+        self.parts.head.place()
     }
 
     /// Returns whether a parenthesis is open in the current argument.

@@ -143,7 +143,7 @@ impl Machine {
     }
 
     /// Appends an error message.
-    pub fn add_error(&mut self, place: &Place, text: &[u8]) -> Result<(), TurnFault>
+    pub fn add_error(&mut self, place: &Place<'_>, text: &[u8]) -> Result<(), TurnFault>
         ensures { OnOk result (self.new ≡ with_engine_message (error place.now text.now) self.old) }
     {
         let message = error_message(self.alloc, place, text)?;

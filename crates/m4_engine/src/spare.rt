@@ -2,9 +2,11 @@
 
 ghost use Rattle.std.specs.Prelude.{◌≡◌, [], IfOk};
 ghost use Rattle.m4_state.specs.Definition.{IsDefinition};
+ghost use Rattle.m4_builtins.specs.Acted.{nothing};
 ghost use Rattle.m4_engine.specs.Expand.{call_of};
 
 use crate::call::OpenCall;
+use m4_builtins::effect::Effect;
 use m4_state::definition::Def;
 use std::alloc::{AllocError, Global};
 use std::marker::Model;
@@ -25,11 +27,12 @@ const USUAL: usize = 8;
 /// How many bytes a buffer that is kept has room for at most.
 const LARGEST: usize = 65536;
 
-/// Calls and a buffer without contents. They keep their memory.
+/// Calls, a buffer and an effect without contents. They keep their memory.
 pub struct Spare {
     alloc: Global,
     calls: Vec<OpenCall>,
     buffer: Vec<u8>,
+    effect: Option<Box<Effect>>,
 }
 
 impl Model for Spare {
@@ -45,6 +48,7 @@ impl Drop for Spare {
             alloc: _alloc,
             calls: _calls,
             buffer: _buffer,
+            effect: _effect,
         } = self;
     }
 }
@@ -56,6 +60,7 @@ impl Spare {
             alloc,
             calls: Vec::new(alloc),
             buffer: Vec::new(alloc),
+            effect: None,
         }
     }
 
@@ -100,6 +105,27 @@ impl Spare {
         let mut buffer = std::mem::replace(&mut self.buffer, Vec::new(alloc));
         buffer.clear();
         buffer
+    }
+
+    /// Returns an effect that leaves nothing to do, with memory if one is kept.
+    #[inline(always)]
+    pub fn effect(&mut self) -> Result<Box<Effect>, AllocError>
+        ensures { IfOk result (λ e. e.value ≡ nothing) }
+    {
+        match self.effect.take() {
+            Some(kept) => {
+                let mut effect = kept;
+                effect.clear();
+                Ok(effect)
+            }
+            None => Ok(Box::new(self.alloc, Effect::new(self.alloc))?),
+        }
+    }
+
+    /// Keeps an effect that was applied.
+    #[inline(always)]
+    pub fn keep_effect(&mut self, effect: Box<Effect>) {
+        self.effect = Some(effect);
     }
 
     /// Keeps a buffer for later, unless it is large.

@@ -15,6 +15,8 @@ ghost use Rattle.m4_input.specs.Pending.{Pending, line_of, text_of, consumed};
 ghost use Rattle.m4_engine.specs.Engine.{Moves, IsTaken, IsToken, IsReady, Makes, Steps, Turns, Pushes, Extended, IsAt, Stays, with_made, ending_argument, with_engine_message, with_one_call, calls_text, nested_text, is_deep_in, IfHead, IsLookahead, is_bare, allows_call, mode_of, close_in, step, here_of, outer_of, called_within};
 ghost use Rattle.m4_engine.specs.Lookahead.{IsMeaning, Fits};
 ghost use Rattle.m4_builtins.specs.Act.{IsPushed};
+ghost use Rattle.m4_builtins.specs.EffectView.{pushed_by};
+ghost use Rattle.m4_state.specs.Definition.{IsDefinition};
 ghost use Rattle.m4_builtins.specs.Subst.{subst};
 ghost use Rattle.m4_state.specs.declared.definition.Def.TheVariants.{Text};
 ghost use Rattle.m4_engine.specs.Expansion.{Call};
@@ -28,7 +30,7 @@ use crate::role::Role;
 use crate::turned::{TurnFault, Turned};
 use itoa::Buffer;
 use m4_builtins::act::act_on;
-use m4_builtins::effect::Effect;
+use m4_builtins::effect::{Effect, Push};
 use m4_builtins::messages::{dropped_message, error_message};
 use m4_builtins::place::Place;
 use m4_builtins::substitute::substitute_onto;
@@ -42,16 +44,28 @@ use m4_state::definition::Def;
 
 /// Pushes the value of a call, if it has one.
 #[tactic(auto, using(crate::proofs::Inputs::pushed, crate::proofs::Inputs::nothing_pushed))]
-fn push_value(input: &mut Input, push: Option<Pushed>) -> Result<(), TurnFault>
+fn push_value(input: &mut Input, push: Push<'_>) -> Result<(), TurnFault>
     requires input { IsTaken input.old }
-    requires valid { IsPushed push }
-    ensures pushes { OnOk result (Pushes input.old.pending input.new.pending push) }
+    requires valid { IsPushed (pushed_by push) }
+    ensures pushes { OnOk result (Pushes input.old.pending input.new.pending (pushed_by push.entry)) }
     ensures stays { OnOk result (Stays input.old input.new) }
 {
-    let Some(value) = push else {
-        return Ok(());
-    };
-    match input.push_front(value) {
+    match push {
+        Push::Nothing => Ok(()),
+        Push::Text(text) => push_text(input, text),
+        Push::Definition(definition) => push_definition(input, definition.share()?),
+    }
+}
+
+/// Pushes a definition.
+#[tactic(auto, using(crate::proofs::Inputs::pushed))]
+fn push_definition(input: &mut Input, definition: Def) -> Result<(), TurnFault>
+    requires input { IsTaken input.old }
+    requires valid { IsDefinition definition }
+    ensures pushes { OnOk result (Pushes input.old.pending input.new.pending (Some (pushes.Definition definition))) }
+    ensures stays { OnOk result (Stays input.old input.new) }
+{
+    match input.push_front(Pushed::Definition(definition)) {
         Ok(()) => Ok(()),
         Err(fault) => Err(TurnFault::of(fault)),
     }
@@ -81,35 +95,47 @@ impl Machine {
         let Some(call) = &self.innermost else {
             return Ok(Turned::Ends(Cause::Done));
         };
-        let place = call.place()?;
+        let place = call.place();
         let message = error_message(self.alloc, &place, b"end of input in argument list")?;
         self.add_message(message.as_slice())?;
         Ok(Turned::Ends(Cause::EndInArguments))
     }
 
-    /// Adds the messages, the output and the saved text that a call made; `read_on` pushes and skips.
+    /// Adds the messages, the output and the saved text that a call made. Its value is pushed later.
     #[inline(always)]
-    fn put_effect(
-        &mut self,
-        messages: &[u8],
-        output: &[u8],
-        wrap: Option<Bytes>,
-    ) -> Result<(), TurnFault>
-        ensures { OnOk result (self.new ≡ with_made messages.now output.now wrap self.old) }
+    fn put_effect(&mut self, effect: &mut Effect) -> Result<(), TurnFault>
+        ensures made { OnOk result (self.new ≡ with_made effect.old.messages effect.old.output effect.old.wrap self.old) }
+        ensures left { OnOk result (effect.new ≡ record effect.old { wrap = None }) }
     {
-        if !messages.is_empty() {
-            self.add_message(messages)?;
+        if !effect.messages().is_empty() {
+            self.add_message(effect.messages())?;
         }
-        if !output.is_empty() {
-            self.output.extend_from_slice(output)?;
+        if !effect.output().is_empty() {
+            self.output.extend_from_slice(effect.output())?;
         }
-        if let Some(text) = wrap {
+        if let Some(text) = effect.take_wrap() {
             self.save(text)?;
         }
+        self.begin_argument();
+        Ok(())
+    }
+
+    /// Keeps an effect that was applied.
+    #[inline(always)]
+    fn keep_effect(&mut self, effect: Box<Effect>)
+        ensures { self.new ≡ self.old }
+    {
+        self.spare.keep_effect(effect);
+    }
+
+    /// Marks the argument that contains a call as begun.
+    #[inline(always)]
+    fn begin_argument(&mut self)
+        ensures { self.new ≡ with_made [] [] None self.old }
+    {
         if let Some(around) = &mut self.innermost {
             around.begin();
         }
-        Ok(())
     }
 
     /// Makes a call whose arguments are complete.
@@ -128,34 +154,28 @@ impl Machine {
             return self.take_text(Bytes::from(expansion), input);
         }
         let definition = head.definition()?;
-        let place = head.place(self.spare.buffer())?;
         // Its clauses say that the state is valid, so a pushed value is valid too.
         let _in_order = self.state.current();
-        let Effect {
-            push,
-            messages,
-            output,
-            wrap,
-            skip,
-            exit,
-        } = act_on(
-            self.alloc,
+        let mut effect = self.spare.effect()?;
+        act_on(
+            &mut effect,
             &definition,
             head.name(),
             call.arguments(),
-            &place,
+            &head.place(),
             &mut self.state,
         )?;
         self.spare.keep(call);
-        self.spare.keep_buffer(place.file.into_vec());
-        self.put_effect(messages.as_slice(), output.as_slice(), wrap)?;
-        if let Some(code) = exit {
+        self.put_effect(&mut effect)?;
+        if let Some(code) = effect.exit() {
             return Ok(Turned::Ends(Cause::Exited(code)));
         }
-        if skip {
+        if effect.skips() {
+            self.keep_effect(effect);
             return Ok(Turned::SkipsLine);
         }
-        push_value(input, push)?;
+        push_value(input, effect.push())?;
+        self.keep_effect(effect);
         Ok(Turned::GoesOn)
     }
 
@@ -168,7 +188,7 @@ impl Machine {
             return Ok(());
         };
         if call.end_argument()? {
-            let place = call.place()?;
+            let place = call.place();
             let message = dropped_message(self.alloc, &place)?;
             self.add_message(message.as_slice())?;
         }
@@ -214,7 +234,7 @@ impl Machine {
     }
 
     /// Adds the error that a call exceeds a limit.
-    fn report_limit(&mut self, place: &Place, limit: u64, what: &[u8]) -> Result<(), TurnFault>
+    fn report_limit(&mut self, place: &Place<'_>, limit: u64, what: &[u8]) -> Result<(), TurnFault>
         ensures { OnOk result (self.new
             ≡ with_engine_message (error place.now (codes "more than " ++ decimal limit ++ what.now)) self.old) }
     {
@@ -230,7 +250,7 @@ impl Machine {
     fn report_call_limit(&mut self, call: &OpenCall) -> Result<(), TurnFault>
         ensures { OnOk result (self.new ≡ with_engine_message (error call.now.place (calls_text self.old.limits.calls)) self.old) }
     {
-        let place = call.place()?;
+        let place = call.place();
         self.report_limit(&place, self.most_calls, b" calls")
     }
 
@@ -238,7 +258,7 @@ impl Machine {
     fn report_nesting_limit(&mut self, call: &OpenCall) -> Result<(), TurnFault>
         ensures { OnOk result (self.new ≡ with_engine_message (error call.now.place (nested_text self.old.limits.nesting)) self.old) }
     {
-        let place = call.place()?;
+        let place = call.place();
         self.report_limit(&place, self.most_nested, b" nested calls")
     }
 
@@ -418,7 +438,7 @@ impl Machine {
     {
         push_text(input, text.as_slice())?;
         self.spare.keep_buffer(text.into_vec());
-        self.put_effect(b"", b"", None)?;
+        self.begin_argument();
         Ok(Turned::GoesOn)
     }
 
@@ -461,8 +481,7 @@ impl Machine {
             → Moves may self.new p t (λ z more o m. step (outer_of self.old.open_calls)
             (take_front (Refused what line) (here_of o m self.old (before z more))))) }
     {
-        let file = Bytes::from_slice(self.alloc, input.name())?;
-        let place = Place { file, line };
+        let place = Place::new(input.name(), line);
         match what {
             Unended::InString => {
                 self.add_error(&place, b"end of input in string")?;
