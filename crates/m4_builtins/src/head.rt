@@ -84,7 +84,6 @@ fn part(bytes: &[u8], at: usize, len: usize) -> &[u8]
 
 impl Head {
     /// Creates a head with copies of these parts, in a buffer whose contents are discarded.
-    #[inline(always)]
     pub fn new(
         buffer: Vec<u8>,
         name: &[u8],
@@ -99,34 +98,24 @@ impl Head {
           place = record { file = file.now; line = line };
         }) }
     {
-        let (kind, text) = kind_of(definition);
-        let len = name
-            .len()
-            .saturating_add(text.len())
-            .saturating_add(file.len());
-        let mut strings = buffer;
-        strings.clear();
-        strings.reserve(len)?;
-        push_bytes(&mut strings, name)?;
-        push_bytes(&mut strings, text)?;
-        push_bytes(&mut strings, file)?;
-        Ok(Head {
-            kind,
-            line,
-            name_len: name.len(),
-            text_len: text.len(),
-            strings,
-        })
+        let mut head = Head::over(buffer);
+        head.renew(name, definition, file, line)?;
+        Ok(head)
     }
 
     /// Creates a head without a name, for use by `renew`.
     pub fn empty(alloc: Global) -> Head {
+        Head::over(Vec::new(alloc))
+    }
+
+    /// Creates a head whose parts are still to be copied into a buffer.
+    fn over(buffer: Vec<u8>) -> Head {
         Head {
             kind: Kind::Text,
             line: 0,
             name_len: 0,
             text_len: 0,
-            strings: Vec::new(alloc),
+            strings: buffer,
         }
     }
 
@@ -146,27 +135,25 @@ impl Head {
           place = record { file = file.now; line = line };
         }) }
     {
-        let alloc = *self.strings.allocator();
-        let strings = std::mem::replace(self, Head::empty(alloc)).into_strings();
-        *self = Head::new(strings, name, definition, file, line)?;
+        let (kind, text) = kind_of(definition);
+        // If memory runs out, this is a head with an empty text.
+        self.kind = Kind::Text;
+        self.name_len = 0;
+        self.text_len = 0;
+        self.line = line;
+        self.strings.clear();
+        push_bytes(&mut self.strings, name)?;
+        push_bytes(&mut self.strings, text)?;
+        push_bytes(&mut self.strings, file)?;
+        self.kind = kind;
+        self.name_len = name.len();
+        self.text_len = text.len();
         Ok(())
     }
 
     /// Returns how many bytes its memory has room for.
     pub fn room(&self) -> usize {
         self.strings.capacity()
-    }
-
-    /// Returns the memory of the head's parts.
-    fn into_strings(self) -> Vec<u8> {
-        let Head {
-            kind: _kind,
-            line: _line,
-            name_len: _name_len,
-            text_len: _text_len,
-            strings,
-        } = self;
-        strings
     }
 
     /// Returns the name by which the macro was called.

@@ -153,6 +153,17 @@ impl Machine {
             self.spare.keep(call);
             return self.take_text(Bytes::from(expansion), input);
         }
+        self.call_builtin(call, input)
+    }
+
+    /// Makes the call of a builtin or of a placeholder whose arguments are complete.
+    #[inline(never)]
+    fn call_builtin(&mut self, call: OpenCall, input: &mut Input) -> Result<Turned, TurnFault>
+        requires { IsTaken input.old }
+        ensures { Steps result self.old self.new input.old input.new (λ t. Moves input.old.pending.may_follow self.new input.new.pending t
+            (λ z more o m. called_within self.old.open_calls call (here_of o m self.old (longer z more input.old.pending)))) }
+    {
+        let head = call.head();
         let definition = head.definition()?;
         // Its clauses say that the state is valid, so a pushed value is valid too.
         let _in_order = self.state.current();
