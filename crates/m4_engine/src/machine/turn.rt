@@ -139,6 +139,7 @@ impl Machine {
     }
 
     /// Makes a call whose arguments are complete.
+    #[inline(never)]
     fn call(&mut self, call: OpenCall, input: &mut Input) -> Result<Turned, TurnFault>
         requires { IsTaken input.old }
         ensures { Steps result self.old self.new input.old input.new (λ t. Moves input.old.pending.may_follow self.new input.new.pending t
@@ -191,6 +192,7 @@ impl Machine {
     }
 
     /// Ends the current argument of the innermost call.
+    #[inline(always)]
     fn end_argument(&mut self) -> Result<(), TurnFault>
         requires { IfHead self.old.open_calls (λ c. c.parentheses ≡ 0) }
         ensures { OnOk result (self.new ≡ ending_argument self.old) }
@@ -207,6 +209,7 @@ impl Machine {
     }
 
     /// Acts on a byte that belongs to no other token.
+    #[inline(always)]
     fn take_byte(&mut self, byte: u8, input: &mut Input) -> Result<Turned, TurnFault>
         requires { IsTaken input.old }
         ensures { Steps result self.old self.new input.old input.new (λ t. Moves input.old.pending.may_follow self.new input.new.pending t
@@ -230,6 +233,7 @@ impl Machine {
 
     /// Acts on the parenthesis that closes the innermost list: makes its call.
     #[tactic(auto, using(crate::proofs::Acts::closing_result))]
+    #[inline(always)]
     fn take_closing(&mut self, input: &mut Input) -> Result<Turned, TurnFault>
         requires list { IfHead self.old.open_calls (λ c. c.parentheses ≡ 0) }
         requires input { IsTaken input.old }
