@@ -2,10 +2,9 @@
 //! the loop ends at a name that may be called, at the parenthesis that closes the list, and at a token that one
 //! look does not decide. Manual: "Macro arguments", "Quoting arguments".
 
-ghost use Rattle.std.specs.Prelude.{◌≡◌, ◌<◌, ◌≤◌, ◌∷◌, Bool, true, false, List, ℕ, IfOk, length, take, drop};
-ghost use Rattle.std.specs.Char.{is_ascii_digit};
+ghost use Rattle.std.specs.Prelude.{◌≡◌, ◌<◌, ◌≤◌, Bool, true, IfOk, length, take, drop};
 ghost use Rattle.m4_input.specs.DelimsView.{pair_of};
-ghost use Rattle.m4_input.specs.Token.{scan, starts_with, may_start};
+ghost use Rattle.m4_input.specs.Token.{scan};
 ghost use Rattle.m4_input.specs.declared.front.Scan.TheVariants.{Found};
 ghost use Rattle.m4_input.specs.declared.token.Token.TheVariants.{Byte};
 ghost use Rattle.m4_engine.specs.Plain.{IsFirst, FirstLies};
@@ -45,36 +44,21 @@ pub fn collect<'a>(
     }
 }
 
-/// Returns whether the first of two delimiters begins with a digit.
+/// Returns whether a byte is a digit with which no delimiter begins: a token of its own, whatever follows it.
 #[inline(always)]
-fn begins_with_digit(pair: &(&[u8], &[u8])) -> bool
-    ensures starts { result ≡ false → (b : ℕ) → is_ascii_digit b ≡ true → (y : List ℕ) → starts_with (pair_of pair.now) (b ∷ y) ≡ false }
-    ensures may { result ≡ false → (b : ℕ) → is_ascii_digit b ≡ true → (m : Bool) (y : List ℕ) → may_start (pair_of pair.now) m (b ∷ y) ≡ false }
+fn is_plain_digit(byte: u8, delims: &Delims<'_>) -> bool
+    ensures { result ≡ true → IsTextByte (pair_of delims.now.quotes) (pair_of delims.now.comments) byte }
 {
-    match pair.0.first() {
-        Some(byte) => byte.is_ascii_digit(),
-        None => false,
-    }
+    byte.is_ascii_digit() && !may_begin(byte, &delims.comments) && !may_begin(byte, &delims.quotes)
 }
 
-/// Returns whether each digit is a token of its own, whatever follows it: no delimiter begins with one.
-#[inline(always)]
-fn are_plain_digits(delims: &Delims<'_>) -> bool
-    ensures { result ≡ true → (b : ℕ) → is_ascii_digit b ≡ true → IsTextByte (pair_of delims.now.quotes) (pair_of delims.now.comments) b }
-{
-    !begins_with_digit(&delims.comments) && !begins_with_digit(&delims.quotes)
-}
-
-/// Counts the digits at the start, if each is a token of its own. They are text, so they are collected together.
+/// Counts the digits at the start. They are text, so they are collected together.
 fn digits_len(text: &[u8], delims: &Delims<'_>) -> usize
     ensures bytes { AreTextBytes (pair_of delims.now.quotes) (pair_of delims.now.comments) (take result text.now) }
     ensures within { result ≤ length text.now }
 {
-    if !are_plain_digits(delims) {
-        return 0;
-    }
     let mut k = 0;
-    while k < text.len() && text[k].is_ascii_digit() {
+    while k < text.len() && is_plain_digit(text[k], delims) {
         k += 1;
     }
     k

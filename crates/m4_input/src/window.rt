@@ -44,25 +44,12 @@ pub fn is_word_byte(b: u8) -> bool
     is_letter_byte(b) || b.is_ascii_digit()
 }
 
-/// Counts the lower-case letters at the start. Most names have no other bytes, and these take the fewest tests.
-#[inline(always)]
-fn lower_len(bytes: &[u8]) -> usize
-    ensures rest { result + run_length is_name_byte (drop result bytes.now) ≡ run_length is_name_byte bytes.now }
-    ensures within { result ≤ length bytes.now }
-{
-    let mut k = 0;
-    while k < bytes.len() && bytes[k].is_ascii_lowercase() {
-        k += 1;
-    }
-    k
-}
-
 /// Counts the bytes of the name at the start.
 pub fn word_len(bytes: &[u8]) -> usize
     ensures value { result ≡ run_length is_name_byte bytes.now }
     ensures within { result ≤ length bytes.now }
 {
-    let mut k = lower_len(bytes);
+    let mut k = 0;
     while k < bytes.len() && is_word_byte(bytes[k]) {
         k += 1;
     }

@@ -7,5 +7,5 @@ use Rattle.m4_engine.proofs.collect.digits_len.Goals as goal
 pub loop-k-preserved : goal.loop-k-preserved
 loop-k-preserved c = record {
   within = search rules;
-  bytes = text_bytes_more (pair_of c.args.delims.now.quotes) (pair_of c.args.delims.now.comments) c.loop-k.k c.args.text.now _ c.loop-k.invariant.bytes (c.are_plain_digits.ensures (search rules) _ (search rules)) (take_more c.args.text.now c.loop-k.k 0 c.loop-k-test.true);
+  bytes = text_bytes_more (pair_of c.args.delims.now.quotes) (pair_of c.args.delims.now.comments) c.loop-k.k c.args.text.now _ c.loop-k.invariant.bytes (c.is_plain_digit.ensures c.if-is_plain_digit.true) (take_more c.args.text.now c.loop-k.k 0 c.loop-k-test.true);
 }
