@@ -14,6 +14,7 @@ mod diverted;
 mod entries;
 pub mod fault;
 pub mod memory;
+mod name;
 mod stack;
 pub mod standard;
 pub mod state;
