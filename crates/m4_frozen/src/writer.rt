@@ -26,7 +26,7 @@ const HEADER: &[u8] = b"# m4 frozen state\nV1\n";
 const END_LINE: &[u8] = b"# End of frozen state file\n";
 
 /// How many bytes of a directive are gathered, at most.
-const GATHERED: usize = 512;
+const GATHERED: usize = 256;
 
 /// Writes the canonical text of a state. Manual: "Frozen file format".
 pub fn write_frozen<W: ByteSink>(state: &State, writer: &mut W) -> Result<(), WriteFault>

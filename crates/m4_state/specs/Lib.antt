@@ -1,4 +1,5 @@
 pub mod Builtin
+pub mod ByteWords
 pub mod Definition
 pub mod Delimiters
 pub mod Device

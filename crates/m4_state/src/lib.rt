@@ -15,6 +15,7 @@ mod entries;
 pub mod fault;
 pub mod memory;
 mod name;
+mod order;
 mod stack;
 pub mod standard;
 pub mod state;
