@@ -206,7 +206,12 @@ fn put_strings<W: ByteSink>(
     let mut second_length = Buffer::new();
     let second_length = second_length.format(second.len()).as_bytes();
     let mut gathered = ArrayVec::new();
-    match gather(&mut gathered, letter, (first_length, second_length), (first, second)) {
+    match gather(
+        &mut gathered,
+        letter,
+        (first_length, second_length),
+        (first, second),
+    ) {
         Ok(()) => write_all(writer, gathered.as_slice()),
         Err(_full) => write_pieces(
             writer,

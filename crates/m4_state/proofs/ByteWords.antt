@@ -92,9 +92,9 @@ module _ (xs ys : List ℕ) (bx : AreBytes xs) (by : AreBytes ys) where
   lengths_decide i x y m h ex ey e =
       let same = (words_at i (omega arith) (omega arith) h).alike (sym ex ∙ e ∙ ey) in
       sym (
-        past i xs ys (omega arith) (omega arith) h
-        ∙ past 8 (drop i xs) (drop i ys) (omega (arith, length-drop i xs)) (omega (arith, length-drop i ys)) same
-        ∙ ended xs ys (drop 8 (drop i xs)) (drop 8 (drop i ys)) (i + 8) (omega (arith, length-drop 8 (drop i xs), length-drop i xs)) (omega (arith, length-drop 8 (drop i ys), length-drop i ys)) m
+      past i xs ys (omega arith) (omega arith) h
+      ∙ past 8 (drop i xs) (drop i ys) (omega (arith, length-drop i xs)) (omega (arith, length-drop i ys)) same
+      ∙ ended xs ys (drop 8 (drop i xs)) (drop 8 (drop i ys)) (i + 8) (omega (arith, length-drop 8 (drop i xs), length-drop i xs)) (omega (arith, length-drop 8 (drop i ys), length-drop i ys)) m
       )
 
 -- the n bytes from i + k on, as they are read one by one

@@ -3,30 +3,80 @@
 //! Most names are short. They are held in place, so they need no memory of their own. A name is hashed
 //! as one piece, and not byte by byte.
 
-ghost use Rattle.std.specs.Prelude.{◌≡◌, ◌∷◌, [], List, ℕ, IfOk, nat_eq};
+ghost use Rattle.std.specs.Prelude.{◌≡◌, ◌≤◌, ◌∷◌, [], List, ℕ, IfOk, length, nat_eq};
 ghost use Rattle.std.specs.Cmp.{on_equiv, on_per, partial_equiv_from_equiv};
 ghost use Rattle.std.specs.Cmp.Lexicographic.{pointwise, nat_list_eq_equiv, bytes_decides};
 ghost use Rattle.std.proofs.Common.{ap};
 
 use indexmap::Equivalent;
-use smallvec::SmallVec;
 use std::alloc::{AllocError, Global};
 use std::hash::{Hash, Hasher};
 use std::marker::Model;
 
-/// How many bytes of a name are held in place.
-const SHORT: usize = 16;
+/// How many bytes of a name are held in place, at most.
+const SHORT: usize = 22;
 
 /// A name that is a key. Contracts see it as a list of bytes.
 #[derive(Debug, Drop)]
 pub struct Name {
-    bytes: SmallVec<u8, SHORT>,
+    kept: Kept,
+}
+
+/// Where the bytes are.
+#[derive(Debug, Drop)]
+enum Kept {
+    /// In place.
+    Short(ShortBytes),
+    /// In a vector, which is in a box so that a key is small.
+    Long(Box<Vec<u8>>),
+}
+
+/// The first `len` of these bytes. Contracts see them as a list.
+#[derive(Debug, Drop)]
+struct ShortBytes {
+    len: u8,
+    bytes: [u8; SHORT],
 }
 
 impl Model for Name {
+    ghost use Rattle.std.specs.Prelude.{List, ℕ};
+    ghost use Rattle.m4_state.specs.NameView.{bytes_of};
+
     ghost Value = { List ℕ };
 
-    ghost view = { λ name. name.bytes.items };
+    ghost view = { λ name. bytes_of name.kept };
+}
+
+impl Model for ShortBytes {
+    ghost use Rattle.std.specs.Prelude.{List, ℕ, ◌≤◌, length, take};
+
+    ghost Value = { List ℕ };
+
+    ghost view = { λ short. take short.len short.bytes };
+
+    ghost invariant = { λ short. short.len ≤ length short.bytes };
+}
+
+impl ShortBytes {
+    /// Copies a short name.
+    fn from_slice(name: &[u8]) -> ShortBytes
+        requires { length name.now ≤ 22 }
+        ensures { result ≡ name.now }
+    {
+        let mut bytes = [0; SHORT];
+        bytes[..name.len()].copy_from_slice(name);
+        ShortBytes {
+            len: name.len() as u8,
+            bytes,
+        }
+    }
+
+    /// Returns the bytes.
+    fn as_slice(&self) -> &[u8]
+        ensures { result.now ≡ self.now }
+    {
+        &self.bytes[..self.len as usize]
+    }
 }
 
 impl Name {
@@ -34,16 +84,22 @@ impl Name {
     pub fn from_slice(alloc: Global, name: &[u8]) -> Result<Name, AllocError>
         ensures { IfOk result (λ key. key ≡ name.now) }
     {
-        Ok(Name {
-            bytes: SmallVec::from_slice(alloc, name)?,
-        })
+        let kept = if name.len() <= SHORT {
+            Kept::Short(ShortBytes::from_slice(name))
+        } else {
+            Kept::Long(Box::new(alloc, Vec::from_slice(alloc, name)?)?)
+        };
+        Ok(Name { kept })
     }
 
     /// Returns the bytes.
     pub fn as_slice(&self) -> &[u8]
         ensures { result.now ≡ self.now }
     {
-        self.bytes.as_slice()
+        match &self.kept {
+            Kept::Short(bytes) => bytes.as_slice(),
+            Kept::Long(bytes) => bytes.as_slice(),
+        }
     }
 }
 
