@@ -1,16 +1,18 @@
-//! Writes the canonical text of a state, part by part: no part of it is buffered.
+//! Writes the canonical text of a state, directive by directive: only a short one is gathered first.
 //!
 //! Memory can run out only while the names are sorted, before the first byte is written. If a write
 //! fails, the bytes written are a prefix of the text. Manual: "Frozen file format".
 
-ghost use Rattle.std.specs.Prelude.{◌≡◌, ℤ, pos, IfOk, OnOk, OnErr, [], map, Err};
+ghost use Rattle.std.specs.Prelude.{◌≡◌, ◌∷◌, ◌++◌, ℤ, pos, IfOk, OnOk, OnErr, [], map, Err};
 ghost use Rattle.m4_state.specs.Device.{with_bytes, one_more, count_after, HasBegun, Puts};
 ghost use Rattle.m4_state.specs.State.{AreDiversions, IsSized};
+ghost use Rattle.m4_frozen.specs.Ascii.{comma, newline};
 ghost use Rattle.m4_frozen.specs.Directive as directives;
 ghost use Rattle.m4_frozen.specs.Freeze as texts;
 ghost use Rattle.m4_frozen.specs.WriterSteps as steps;
 
 use crate::fault::WriteFault;
+use arrayvec::{ArrayVec, CapacityError};
 use itoa::Buffer;
 use m4_state::definition::Def;
 use m4_state::device::{ByteSink, DeviceFault};
@@ -22,6 +24,9 @@ const HEADER: &[u8] = b"# m4 frozen state\nV1\n";
 
 /// The last line.
 const END_LINE: &[u8] = b"# End of frozen state file\n";
+
+/// How many bytes of a directive are gathered, at most.
+const GATHERED: usize = 256;
 
 /// Writes the canonical text of a state. Manual: "Frozen file format".
 pub fn write_frozen<W: ByteSink>(state: &State, writer: &mut W) -> Result<(), WriteFault>
@@ -185,7 +190,8 @@ fn put_current<W: ByteSink>(current: i32, last: i32, writer: &mut W) -> Result<(
     put_diversion(current, &[], writer)
 }
 
-/// Writes a letter, two lengths and two strings.
+/// Writes a letter, two lengths and two strings. If they are short, they are gathered and put as one
+/// piece.
 fn put_strings<W: ByteSink>(
     letter: u8,
     first: &[u8],
@@ -199,20 +205,49 @@ fn put_strings<W: ByteSink>(
     let first_length = first_length.format(first.len()).as_bytes();
     let mut second_length = Buffer::new();
     let second_length = second_length.format(second.len()).as_bytes();
-    let letter = [letter];
-    write_pieces(
-        writer,
-        &[
-            &letter,
-            first_length,
-            b",",
-            second_length,
-            b"\n",
-            first,
-            second,
-            b"\n",
-        ],
-    )
+    let mut gathered = ArrayVec::new();
+    match gather(
+        &mut gathered,
+        letter,
+        (first_length, second_length),
+        (first, second),
+    ) {
+        Ok(()) => write_all(writer, gathered.as_slice()),
+        Err(_full) => write_pieces(
+            writer,
+            &[
+                &[letter],
+                first_length,
+                b",",
+                second_length,
+                b"\n",
+                first,
+                second,
+                b"\n",
+            ],
+        ),
+    }
+}
+
+/// Gathers a letter, two lengths and two strings, if there is room for all of them.
+fn gather(
+    gathered: &mut ArrayVec<u8, GATHERED>,
+    letter: u8,
+    lengths: (&[u8], &[u8]),
+    strings: (&[u8], &[u8]),
+) -> Result<(), CapacityError>
+    requires { gathered.old.items ≡ [] }
+    ensures { OnOk result (gathered.new.items ≡ letter ∷ lengths.entry.0.now ++ comma ∷ lengths.entry.1.now ++ newline ∷ []
+        ++ strings.entry.0.now ++ strings.entry.1.now ++ newline ∷ []) }
+{
+    gathered.push(letter);
+    gathered.try_extend_from_slice(lengths.0)?;
+    gathered.try_extend_from_slice(b",")?;
+    gathered.try_extend_from_slice(lengths.1)?;
+    gathered.try_extend_from_slice(b"\n")?;
+    gathered.try_extend_from_slice(strings.0)?;
+    gathered.try_extend_from_slice(strings.1)?;
+    gathered.try_extend_from_slice(b"\n")
 }
 
 /// Writes `D`, a number, a length and a text.

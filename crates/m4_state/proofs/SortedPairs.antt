@@ -23,7 +23,7 @@ unfolding IsDistinct
 distinct_names [] h = tt
 distinct_names (e ∷ es) h = (each es h.0, distinct_names es h.1)
   where
-    each : (fs : List Entry) → AllByRecursion (λ y. same_key e.0 y ≡ false) (keys_of fs) → AllByRecursion (λ y. pointwise nat_eq e.0.items y ≡ false) (keys_of (map pair_of fs))
+    each : (fs : List Entry) → AllByRecursion (λ y. same_key e.0 y ≡ false) (keys_of fs) → AllByRecursion (λ y. pointwise nat_eq e.0 y ≡ false) (keys_of (map pair_of fs))
     each [] h = tt
     each (f ∷ fs) h = (h.0, each fs h.1)
 

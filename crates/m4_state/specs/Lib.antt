@@ -1,4 +1,5 @@
 pub mod Builtin
+pub mod ByteWords
 pub mod Definition
 pub mod Delimiters
 pub mod Device
@@ -6,6 +7,7 @@ pub mod DiversionEntries
 pub mod Entries
 pub mod Fresh
 pub mod State
+pub mod NameView
 pub mod StackView
 pub mod StateView
 pub mod Table

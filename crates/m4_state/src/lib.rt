@@ -14,6 +14,8 @@ mod diverted;
 mod entries;
 pub mod fault;
 pub mod memory;
+mod name;
+mod order;
 mod stack;
 pub mod standard;
 pub mod state;

@@ -1,0 +1,119 @@
+-- Names that are compared as numbers: words of eight bytes compare as the bytes do.
+use Rattle.std.proofs.Common.{◌≡◌, ℕ, zero, suc, ◌+◌, ◌-◌, ◌*◌, ◌<◌, ◌≤◌, min, List, [], ◌∷◌, length, get_or, take, drop, drop-cons, Ordering, Less, Equal, Greater, refl, sym, ap, subst, ◌∙◌, arith}
+use Rattle.std.specs.Ordering.{nat_cmp, ordering_then, MatchOrdering}
+use Rattle.std.specs.Cmp.{ranks}
+use Rattle.std.specs.Cmp.Lexicographic.{slice_cmp}
+use Rattle.std.proofs.lemmas.List.{length-drop, get_or-drop}
+use Rattle.m4_state.specs.ByteWords.{word, AreBytes}
+
+-- ---- how two numbers compare
+by_rank : (x y : ℕ) (r : Ordering) → MatchOrdering r (x < y) (x ≡ y) (y < x) → (x < y → r ≡ Less) × (x ≡ y → r ≡ Equal) × (y < x → r ≡ Greater)
+by_rank x y Less h = let l : x < y = h in (λ _. refl, λ e. absurd (omega arith), λ g. absurd (omega arith))
+by_rank x y Equal h = let e : x ≡ y = h in (λ l. absurd (omega arith), λ _. refl, λ g. absurd (omega arith))
+by_rank x y Greater h = let g : y < x = h in (λ l. absurd (omega arith), λ e. absurd (omega arith), λ _. refl)
+
+below : {x y : ℕ} → x < y → nat_cmp x y ≡ Less
+below {x} {y} = (by_rank x y _ (ranks x y)).0
+
+tied : {x y : ℕ} → x ≡ y → nat_cmp x y ≡ Equal
+tied {x} {y} = (by_rank x y _ (ranks x y)).1
+
+above : {x y : ℕ} → y < x → nat_cmp x y ≡ Greater
+above {x} {y} = (by_rank x y _ (ranks x y)).2
+
+-- ---- bytes as numbers
+
+-- the numbers x and y were read from the first n bytes, and compare as those do
+pub record Settles (us vs : List ℕ) (n x y : ℕ) : Type 0 where
+  pub apart : (x ≡ y → ⊥) → slice_cmp nat_cmp us vs ≡ nat_cmp x y
+  pub alike : x ≡ y → take n us ≡ take n vs
+
+-- a number that is less stays less, whatever follows
+rises : (n a b : ℕ) (us vs : List ℕ) → n ≤ length us → n ≤ length vs → AreBytes us → a < b → word a (take n us) < word b (take n vs)
+rises zero a b us vs p q h l = l
+rises (suc n) a b [] vs p q h l = absurd (omega arith)
+rises (suc n) a b (u ∷ us) [] p q h l = absurd (omega arith)
+rises (suc n) a b (u ∷ us) (v ∷ vs) p q h l =
+    let small : u < 256 = h 0 in
+    rises n (a * 256 + u) (b * 256 + v) us vs (omega arith) (omega arith) (λ k. h (suc k)) (omega arith)
+
+spells : (n a : ℕ) (us vs : List ℕ) → n ≤ length us → n ≤ length vs → AreBytes us → AreBytes vs → Settles us vs n (word a (take n us)) (word a (take n vs))
+spells zero a us vs p q g h = record { apart = λ f. absurd (f refl); alike = λ _. refl }
+spells (suc n) a [] vs p q g h = absurd (omega arith)
+spells (suc n) a (u ∷ us) [] p q g h = absurd (omega arith)
+spells (suc n) a (u ∷ us) (v ∷ vs) p q g h = by (spells n (a * 256 + u) us vs (omega arith) (omega arith) (λ k. g (suc k)) (λ k. h (suc k))) (nat_cmp u v) refl (ranks u v)
+  where
+    by : Settles us vs n (word (a * 256 + u) (take n us)) (word (a * 256 + u) (take n vs))
+        → (r : Ordering) → nat_cmp u v ≡ r → MatchOrdering r (u < v) (u ≡ v) (v < u) → Settles (u ∷ us) (v ∷ vs) (suc n) (word (a * 256 + u) (take n us)) (word (a * 256 + v) (take n vs))
+    by rest Less e l =
+        let under : u < v = l in
+        let t = rises n (a * 256 + u) (a * 256 + v) us vs (omega arith) (omega arith) (λ k. g (suc k)) (omega arith) in
+        record { apart = λ _. ap (λ r. ordering_then r (slice_cmp nat_cmp us vs)) e ∙ sym (below t); alike = λ s. absurd (omega arith) }
+    by rest Greater e l =
+        let over : v < u = l in
+        let t = rises n (a * 256 + v) (a * 256 + u) vs us (omega arith) (omega arith) (λ k. h (suc k)) (omega arith) in
+        record { apart = λ _. ap (λ r. ordering_then r (slice_cmp nat_cmp us vs)) e ∙ sym (above t); alike = λ s. absurd (omega arith) }
+    by rest Equal e l =
+        let level : u ≡ v = l in
+        let t = subst (λ z. Settles us vs n (word (a * 256 + u) (take n us)) (word (a * 256 + z) (take n vs))) level rest in
+        record { apart = λ f. ap (λ r. ordering_then r (slice_cmp nat_cmp us vs)) e ∙ t.apart f; alike = λ s j. level j ∷ t.alike s j }
+
+-- equal beginnings decide nothing
+past : (i : ℕ) (xs ys : List ℕ) → i ≤ length xs → i ≤ length ys → take i xs ≡ take i ys → slice_cmp nat_cmp xs ys ≡ slice_cmp nat_cmp (drop i xs) (drop i ys)
+past zero xs ys a b h = refl
+past (suc i) [] ys a b h = absurd (omega arith)
+past (suc i) (x ∷ xs) [] a b h = absurd (omega arith)
+past (suc i) (x ∷ xs) (y ∷ ys) a b h =
+    let head : x ≡ y = cc in
+    let rest : take i xs ≡ take i ys = cc in
+    ap (λ r. ordering_then r (slice_cmp nat_cmp xs ys)) (tied head) ∙ past i xs ys (omega arith) (omega arith) rest
+
+-- where one string has ended, the lengths decide
+ended : (xs ys us vs : List ℕ) (k : ℕ) → length us ≡ length xs - k → length vs ≡ length ys - k → k ≡ min (length xs) (length ys) → slice_cmp nat_cmp us vs ≡ nat_cmp (length xs) (length ys)
+ended xs ys [] [] k p q m = let e : length xs ≡ length ys = omega arith in sym (tied e)
+ended xs ys [] (v ∷ vs) k p q m = let l : length xs < length ys = omega arith in sym (below l)
+ended xs ys (u ∷ us) [] k p q m = let g : length ys < length xs = omega arith in sym (above g)
+ended xs ys (u ∷ us) (v ∷ vs) k p q m = absurd (omega arith)
+
+module _ (xs ys : List ℕ) (bx : AreBytes xs) (by : AreBytes ys) where
+  -- the words from i on, where the bytes before are alike
+  pub words_at : (i : ℕ) → i + 8 ≤ length xs → i + 8 ≤ length ys → take i xs ≡ take i ys → Settles (drop i xs) (drop i ys) 8 (word 0 (take 8 (drop i xs))) (word 0 (take 8 (drop i ys)))
+  words_at i p q h =
+      spells 8 0 (drop i xs) (drop i ys) (omega (arith, length-drop i xs)) (omega (arith, length-drop i ys))
+      (λ k. subst (λ (b : ℕ). b < 256) (sym (get_or-drop i xs k 0)) (bx (i + k))) (λ k. subst (λ (b : ℕ). b < 256) (sym (get_or-drop i ys k 0)) (by (i + k)))
+
+  -- words that differ decide
+  pub words_decide : (i x y : ℕ) → i + 8 ≤ length xs → i + 8 ≤ length ys → take i xs ≡ take i ys → x ≡ word 0 (take 8 (drop i xs)) → y ≡ word 0 (take 8 (drop i ys)) → (x ≡ y → ⊥) → nat_cmp x y ≡ slice_cmp nat_cmp xs ys
+  words_decide i x y p q h ex ey f =
+      (λ j. nat_cmp (ex j) (ey j)) ∙ sym (past i xs ys (omega arith) (omega arith) h ∙ (words_at i p q h).apart (λ e. f (ex ∙ e ∙ sym ey)))
+
+  -- words that are equal, up to the end of a string, leave it to the lengths
+  pub lengths_decide : (i x y : ℕ) → i + 8 ≡ min (length xs) (length ys) → take i xs ≡ take i ys → x ≡ word 0 (take 8 (drop i xs)) → y ≡ word 0 (take 8 (drop i ys)) → x ≡ y → nat_cmp (length xs) (length ys) ≡ slice_cmp nat_cmp xs ys
+  lengths_decide i x y m h ex ey e =
+      let same = (words_at i (omega arith) (omega arith) h).alike (sym ex ∙ e ∙ ey) in
+      sym (
+      past i xs ys (omega arith) (omega arith) h
+      ∙ past 8 (drop i xs) (drop i ys) (omega (arith, length-drop i xs)) (omega (arith, length-drop i ys)) same
+      ∙ ended xs ys (drop 8 (drop i xs)) (drop 8 (drop i ys)) (i + 8) (omega (arith, length-drop 8 (drop i xs), length-drop i xs)) (omega (arith, length-drop 8 (drop i ys), length-drop i ys)) m
+      )
+
+-- the n bytes from i + k on, as they are read one by one
+abbrev reads : List ℕ → ℕ → ℕ → ℕ → List ℕ
+reads xs i k zero = []
+reads xs i k (suc n) = get_or xs (i + k) 0 ∷ reads xs i (suc k) n
+
+read_out : (n : ℕ) (xs : List ℕ) (i k : ℕ) → i + k + n ≤ length xs → take n (drop (i + k) xs) ≡ reads xs i k n
+read_out zero xs i k le = refl
+read_out (suc n) xs i k le =
+    let next : suc (i + k) ≡ i + suc k = omega arith in
+    ap (take (suc n)) (drop-cons xs (i + k) 0 (omega arith))
+    ∙ ap (λ l. get_or xs (i + k) 0 ∷ l) (ap (λ m. take n (drop m xs)) next ∙ read_out n xs i (suc k) (omega arith))
+
+-- eight bytes, as they are read
+pub eight_bytes : (xs : List ℕ) (i : ℕ) → i + 8 ≤ length xs
+    → get_or xs i 0 * 72057594037927936 + get_or xs (i + 1) 0 * 281474976710656 + get_or xs (i + 2) 0 * 1099511627776 + get_or xs (i + 3) 0 * 4294967296
+    + get_or xs (i + 4) 0 * 16777216 + get_or xs (i + 5) 0 * 65536 + get_or xs (i + 6) 0 * 256 + get_or xs (i + 7) 0 ≡ word 0 (take 8 (drop i xs))
+eight_bytes xs i le =
+    let start : i ≡ i + 0 = omega arith in
+    let here : get_or xs (i + 0) 0 ≡ get_or xs i 0 = ap (λ k. get_or xs k 0) (omega arith) in
+    omega (arith, here) ∙ sym (ap (word 0) (ap (λ m. take 8 (drop m xs)) start ∙ read_out 8 xs i 0 (omega arith)))
