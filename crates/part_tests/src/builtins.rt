@@ -20,7 +20,6 @@ use crate::given::{Given, made};
 use crate::report::Report;
 use crate::shows::shows;
 use m4_builtins::args::{Arg, ArgList, Args};
-use m4_builtins::place::Place;
 use m4_state::bytes::Bytes;
 use std::alloc::{AllocError, Global};
 
@@ -68,14 +67,6 @@ fn text_call_of(alloc: Global, name: &[u8], texts: &[&[u8]]) -> Result<Args, All
     Ok(Args {
         name: Bytes::from_slice(alloc, name)?,
         list: ArgList::from(items),
-    })
-}
-
-// Makes the place of a line in a file.
-fn place_of(alloc: Global, file: &[u8], line: u64) -> Result<Place, AllocError> {
-    Ok(Place {
-        file: Bytes::from_slice(alloc, file)?,
-        line,
     })
 }
 

@@ -4,7 +4,6 @@ use crate::given::{Given, describe_definition, made};
 use crate::report::Report;
 use crate::shows::shows;
 use m4_builtins::head::Head;
-use m4_builtins::place::Place;
 use m4_state::definition::Def;
 use std::alloc::{AllocError, Global};
 
@@ -79,11 +78,12 @@ fn describe_place(file: &[u8], line: u64, report: &mut Report) {
 }
 
 // Adds the data on the place and the definition.
-fn describe_parts(head: &Head, place: &Place, definition: &Def, report: &mut Report) {
+fn describe_parts(head: &Head, definition: &Def, report: &mut Report) {
+    let place = head.place();
     report.pair(head.name(), b" ");
     describe_place(head.file(), head.line(), report);
     report.add(b" ");
-    describe_place(place.file.as_slice(), place.line, report);
+    describe_place(place.file(), place.line(), report);
     if head.needs_list() {
         report.add(b", needs a list");
     }
@@ -112,10 +112,9 @@ fn head_of(
 
 // Reports the data of a head.
 fn parts(alloc: Global, head: &Head) -> Result<Vec<u8>, AllocError> {
-    let place = head.place(used(alloc)?)?;
     let definition = head.definition()?;
     let mut report = Report::new(alloc);
-    describe_parts(head, &place, &definition, &mut report);
+    describe_parts(head, &definition, &mut report);
     report.text()
 }
 

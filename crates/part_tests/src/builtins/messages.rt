@@ -1,10 +1,10 @@
 //! The lines of messages. Manual: "Location within input".
 
-use super::place_of;
 use crate::report::{Report, printed};
 use crate::shows::shows;
 use m4_builtins::fault::BuiltinFault;
 use m4_builtins::messages::{dropped_message, error_message};
+use m4_builtins::place::Place;
 use m4_state::bytes::Bytes;
 use std::alloc::{AllocError, Global};
 
@@ -36,7 +36,7 @@ fn describe(message: Result<Bytes, BuiltinFault>, report: &mut Report) {
 
 // Returns an error and a warning at a place.
 fn messages_at(alloc: Global, file: &[u8], line: u64) -> Result<Vec<u8>, AllocError> {
-    let place = place_of(alloc, file, line)?;
+    let place = Place::new(file, line);
     let mut report = Report::new(alloc);
     describe(
         error_message(alloc, &place, b"end of file in string"),

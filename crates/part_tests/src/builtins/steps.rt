@@ -3,15 +3,15 @@
 ghost use Rattle.std.specs.List.{AllByRecursion};
 ghost use Rattle.m4_builtins.specs.Args.{IsArg};
 
-use super::{Argument, call_of, place_of, text_call_of};
+use super::{Argument, call_of, text_call_of};
 use crate::given::{Given, describe_definition, made};
 use crate::report::Report;
 use crate::shows::shows;
 use m4_builtins::act::act;
 use m4_builtins::args::Args;
-use m4_builtins::effect::Effect;
+use m4_builtins::effect::{Effect, Push};
 use m4_builtins::fault::BuiltinFault;
-use m4_input::pushed::Pushed;
+use m4_builtins::place::Place;
 use m4_state::fault::StateFault;
 use m4_state::state::State;
 use std::alloc::{AllocError, Global};
@@ -51,35 +51,35 @@ fn describe_text(label: &[u8], text: &[u8], report: &mut Report) {
 }
 
 // Adds what is pushed, if there is something.
-fn describe_push(effect: &Effect, report: &mut Report) {
-    match &effect.push {
-        Some(Pushed::Text(text)) => describe_text(b"push ", text.as_slice(), report),
-        Some(Pushed::Definition(_)) => report.add(b"push a definition\n"),
-        None => {}
+fn describe_push(push: Push<'_>, report: &mut Report) {
+    match push {
+        Push::Nothing => {}
+        Push::Text(text) => describe_text(b"push ", text, report),
+        Push::Definition(_) => report.add(b"push a definition\n"),
     }
 }
 
 // Adds what is left for the end of the run: a saved text, or an exit code.
-fn describe_end(effect: &Effect, report: &mut Report) {
-    if let Some(text) = &effect.wrap {
+fn describe_end(effect: &mut Effect, report: &mut Report) {
+    if let Some(text) = effect.take_wrap() {
         describe_text(b"wrap ", text.as_slice(), report);
     }
-    if let Some(code) = effect.exit {
+    if let Some(code) = effect.exit() {
         report.counted(b"exit ", code as usize);
         report.add(b"\n");
     }
 }
 
 // Adds the effect of a call.
-fn describe(effect: &Effect, report: &mut Report) {
-    describe_push(effect, report);
-    if effect.skip {
+fn describe(effect: &mut Effect, report: &mut Report) {
+    describe_push(effect.push(), report);
+    if effect.skips() {
         report.add(b"skip\n");
     }
-    if !effect.output.as_slice().is_empty() {
-        describe_text(b"output ", effect.output.as_slice(), report);
+    if !effect.output().is_empty() {
+        describe_text(b"output ", effect.output(), report);
     }
-    report.add(effect.messages.as_slice());
+    report.add(effect.messages());
     describe_end(effect, report);
 }
 
@@ -93,7 +93,7 @@ fn acted(
     requires { AllByRecursion IsArg args.now.list }
 {
     let definition = made(alloc, called.0)?;
-    let place = place_of(alloc, called.2.0, called.2.1)?;
+    let place = Place::new(called.2.0, called.2.1);
     act(alloc, &definition, args, &place, state)
 }
 
@@ -102,7 +102,7 @@ fn act_on(alloc: Global, state: &mut State, called: Called, args: &Args, report:
     requires { AllByRecursion IsArg args.now.list }
 {
     match acted(alloc, state, called, args) {
-        Ok(effect) => describe(&effect, report),
+        Ok(mut effect) => describe(&mut effect, report),
         Err(BuiltinFault::OutOfMemory) => report.refuse(),
     }
 }
