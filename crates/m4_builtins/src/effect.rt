@@ -62,9 +62,6 @@ impl Drop for Effect {
     }
 }
 
-/// The memory of a longer text is not kept for the next call.
-const LARGEST: usize = 65536;
-
 impl Effect {
     ghost use Rattle.m4_input.specs.declared.pushed.Pushed.TheVariants as pushes;
     ghost use Rattle.m4_builtins.specs.Acted.{nothing};
@@ -85,20 +82,23 @@ impl Effect {
         }
     }
 
-    /// Makes this an effect that leaves nothing to do. Memory is kept, unless it is large.
+    /// Makes this an effect that leaves nothing to do. Its memory is kept.
     pub fn clear(&mut self)
         ensures { self.new ≡ nothing }
     {
-        let alloc = self.alloc();
         self.kind = Kind::Nothing;
         self.wrap = None;
         self.skip = false;
         self.exit = None;
         self.messages.clear();
         self.output.clear();
-        if self.text.capacity() > LARGEST {
-            self.text = Vec::new(alloc);
-        }
+    }
+
+    /// Returns how many bytes its memory has room for.
+    pub fn room(&self) -> usize {
+        let text = self.text.capacity();
+        let written = self.messages.capacity().saturating_add(self.output.capacity());
+        text.saturating_add(written)
     }
 
     /// Returns the value that is inserted before the input.

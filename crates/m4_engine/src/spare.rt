@@ -24,7 +24,7 @@ const LONGEST: usize = 4096;
 /// How many arguments any other call keeps at most.
 const USUAL: usize = 8;
 
-/// How many bytes a buffer that is kept has room for at most.
+/// How many bytes a buffer or an effect that is kept has room for at most.
 const LARGEST: usize = 65536;
 
 /// Calls, a buffer and an effect without contents. They keep their memory.
@@ -122,10 +122,12 @@ impl Spare {
         }
     }
 
-    /// Keeps an effect that was applied.
+    /// Keeps an effect that was applied, unless it is large.
     #[inline(always)]
     pub fn keep_effect(&mut self, effect: Box<Effect>) {
-        self.effect = Some(effect);
+        if effect.room() <= LARGEST {
+            self.effect = Some(effect);
+        }
     }
 
     /// Keeps a buffer for later, unless it is large.
