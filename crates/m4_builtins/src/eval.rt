@@ -38,17 +38,19 @@ pub(crate) fn eval(
     let _ = state;
     let alloc = effect.alloc();
     let mut messages = Vec::new(alloc);
-    if let Some(digits) = digits_in(alloc, list, place, &mut messages)? {
+    let buffer = effect.buffer();
+    if let Some(digits) = digits_in(alloc, buffer, list, place, &mut messages)? {
         effect.give(digits);
     }
     effect.warn(Bytes::from(messages));
     Ok(())
 }
 
-/// Returns the digits of the expression's value; none if an argument is invalid. Adds the warnings to the
-/// messages.
+/// Returns the digits of the expression's value, in the memory of a buffer; none if an argument is invalid.
+/// Adds the warnings to the messages.
 fn digits_in(
     alloc: Global,
+    buffer: Vec<u8>,
     list: &[Arg],
     place: &Place<'_>,
     messages: &mut Vec<u8>,
@@ -64,7 +66,7 @@ fn digits_in(
     let Some(value) = value_in(alloc, text_at(list, 0), place, messages)? else {
         return Ok(None);
     };
-    Ok(Some(in_radix(alloc, value, radix, width)?))
+    Ok(Some(in_radix(buffer, value, radix, width)?))
 }
 
 /// Returns the radix: 10 if its argument is missing or empty, none if it is invalid.

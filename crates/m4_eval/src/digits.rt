@@ -5,14 +5,15 @@ ghost use Rattle.std.specs.Fmt.{digits, digit_glyph};
 ghost use Rattle.m4_eval.specs.InRadix as spec;
 
 use crate::radix::Radix;
-use std::alloc::{AllocError, Global};
+use std::alloc::AllocError;
 
 /// Returns a value in a radix: `-` if it is negative, and the digits of its absolute value, in lower
-/// case. Zeros before the digits fill them up to `width`; the sign is not counted.
+/// case. Zeros before the digits fill them up to `width`; the sign is not counted. The text is in the
+/// memory of a buffer whose contents are discarded.
 ///
 /// Fails only if an allocation fails. The time and the memory are proportional to the result.
 pub fn in_radix(
-    alloc: Global,
+    buffer: Vec<u8>,
     value: i32,
     radix: Radix,
     width: usize,
@@ -24,7 +25,8 @@ pub fn in_radix(
     let start = write_digits(value.unsigned_abs(), radix, &mut room);
     let digits = room.as_slice().split_at(start).1;
     let zeros = width.saturating_sub(digits.len());
-    let mut text = Vec::with_capacity(alloc, width.max(digits.len()).saturating_add(1))?;
+    let mut text = buffer;
+    text.clear();
     if value < 0 {
         text.push(b'-')?;
     }

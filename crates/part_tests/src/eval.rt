@@ -104,7 +104,7 @@ fn written_seen(alloc: Global, row: &Written) -> Result<Vec<u8>, AllocError> {
         Some(radix) => {
             report.number(radix.value());
             report.add(b": ");
-            report.add(in_radix(alloc, row.1, radix, row.3)?.as_slice());
+            report.add(in_radix(Vec::new(alloc), row.1, radix, row.3)?.as_slice());
         }
         None => report.add(b"no radix"),
     }
