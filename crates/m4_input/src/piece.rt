@@ -57,14 +57,33 @@ fn count_newlines(bytes: &[u8]) -> usize
     }
 }
 
-/// The same in a loop. Not inlined, so that the loop has the registers for itself.
+/// How many bytes are counted at a time. Their count fits into a byte, so one instruction counts many of them.
+const FEW: usize = 255;
+
+/// The same for any number of bytes. Not inlined, so that the loop has the registers for itself.
 #[inline(never)]
 fn count_each_newline(bytes: &[u8]) -> usize
     ensures { result ≡ newlines_in bytes.now }
 {
     let mut count = 0usize;
+    let mut rest = bytes;
+    while rest.len() > FEW {
+        let (few, others) = rest.split_at(FEW);
+        count += usize::from(count_few(few));
+        rest = others;
+    }
+    count + usize::from(count_few(rest))
+}
+
+/// The same for so few bytes that a byte can count them.
+#[inline(always)]
+fn count_few(bytes: &[u8]) -> u8
+    requires { length bytes.now ≤ 255 }
+    ensures { result ≡ newlines_in bytes.now }
+{
+    let mut count = 0u8;
     for byte in bytes {
-        count += usize::from(*byte == b'\n');
+        count += u8::from(*byte == b'\n');
     }
     count
 }

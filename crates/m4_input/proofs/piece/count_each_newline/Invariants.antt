@@ -1,7 +1,10 @@
-use Rattle.std.proofs.Common.{◌≡◌, ◌+◌, ◌≤◌, drop}
+use Rattle.std.proofs.Common.{◌≡◌, ◌+◌, ◌≤◌, length}
 use Rattle.m4_input.specs.Pending.{newlines_in}
 use Rattle.m4_input.proofs.piece.count_each_newline.Given as goal
 
 -- those so far and those of the rest
-abbrev pub invariant-loop-byte : goal.invariant-loop-byte
-invariant-loop-byte l = (l.count ≤ l.byte-index) × (l.count + newlines_in (drop l.byte-index l.bytes) ≡ newlines_in l.bytes)
+abbrev pub invariant-loop-rest : goal.invariant-loop-rest
+invariant-loop-rest l = (l.count + length l.rest ≤ length l.bytes) × (l.count + newlines_in l.rest ≡ newlines_in l.bytes)
+
+abbrev pub decreases-loop-rest : goal.decreases-loop-rest
+decreases-loop-rest l = length l.rest
