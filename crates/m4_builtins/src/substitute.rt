@@ -1,6 +1,6 @@
 //! Substitution: replaces `$0`, `$1`, `$#`, `$*` and `$@` in a text by a call's name and arguments.
 
-ghost use Rattle.std.specs.Prelude.{◌≡◌, ◌==◌, ◌≤◌, ◌^◌, [], ◌∷◌, ◌++◌, IfOk, OnOk, ℕ, ◌<◌, length, map, not, decimal, take, IfSome};
+ghost use Rattle.std.specs.Prelude.{◌≡◌, ◌==◌, ◌≤◌, ◌^◌, [], ◌∷◌, ◌++◌, IfOk, OnOk, ℕ, ◌+◌, ◌<◌, length, map, not, decimal, take, drop, IfSome};
 ghost use Rattle.m4_input.specs.Ascii.{dollar, is_digit};
 ghost use Rattle.m4_input.specs.Token.{run_length};
 ghost use Rattle.m4_input.specs.DelimsView.{pair_of};
@@ -65,8 +65,8 @@ fn push_front<'a>(
         ≡ out.old.items ++ subst text.now name.now list.now (pair_of quotes.entry)) }
     ensures shorter { IfOk result (λ rest. 0 < length text.now → length rest.now < length text.now) }
 {
-    let (plain, from_dollar) = text.split_at(plain_len(text));
-    push_bytes(out, plain)?;
+    let plain = push_plain(out, text)?;
+    let from_dollar = text.split_at(plain).1;
     match from_dollar.split_first() {
         Some((_, after)) => {
             let used = push_dollar(out, after, name, list, quotes)?;
@@ -74,6 +74,39 @@ fn push_front<'a>(
         }
         None => Ok(from_dollar),
     }
+}
+
+/// Appends the bytes before the first dollar, and returns how many there are.
+#[inline(always)]
+fn push_plain(out: &mut Vec<u8>, text: &[u8]) -> Result<usize, AllocError>
+    ensures count { IfOk result (λ n. n ≡ run_length (λ b. not (b == dollar)) text.now) }
+    ensures within { IfOk result (λ n. n ≤ length text.now) }
+    ensures pushed { IfOk result (λ n. out.new.items ≡ out.old.items ++ take n text.now) }
+{
+    let near = push_near(out, text)?;
+    let rest = text.split_at(near).1;
+    let more = plain_len(rest);
+    push_bytes(out, rest.split_at(more).0)?;
+    Ok(near + more)
+}
+
+/// How many bytes are appended one by one.
+const NEAR: usize = 16;
+
+/// Appends the first bytes that are no dollar, at most `NEAR`, and returns how many there are. Most dollars are
+/// near, and a few bytes take less time than a search and a call that copies.
+#[inline(always)]
+fn push_near(out: &mut Vec<u8>, text: &[u8]) -> Result<usize, AllocError>
+    ensures count { IfOk result (λ n. n + run_length (λ b. not (b == dollar)) (drop n text.now) ≡ run_length (λ b. not (b == dollar)) text.now) }
+    ensures within { IfOk result (λ n. n ≤ length text.now) }
+    ensures pushed { IfOk result (λ n. out.new.items ≡ out.old.items ++ take n text.now) }
+{
+    let mut k = 0;
+    while k < NEAR && k < text.len() && text[k] != b'$' {
+        out.push(text[k])?;
+        k += 1;
+    }
+    Ok(k)
 }
 
 /// Counts the bytes before the first dollar.
