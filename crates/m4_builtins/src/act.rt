@@ -168,11 +168,7 @@ fn row<'a>(
 
 /// Expands as a call with missing arguments does: with one argument, `index` expands to 0, `substr` to all
 /// of it, and `translit` to it unchanged.
-fn give_though_few(
-    effect: &mut Effect,
-    builtin: Builtin,
-    list: &[Arg],
-) -> Result<(), AllocError>
+fn give_though_few(effect: &mut Effect, builtin: Builtin, list: &[Arg]) -> Result<(), AllocError>
     requires { effect.old ≡ nothing }
     ensures { OnOk result (effect.new ≡ record nothing { push = spec.given_though_few builtin list.now }) }
 {

@@ -96,9 +96,9 @@ impl Effect {
 
     /// Returns how many bytes its memory has room for.
     pub fn room(&self) -> usize {
-        let text = self.text.capacity();
-        let written = self.messages.capacity().saturating_add(self.output.capacity());
-        text.saturating_add(written)
+        let (text, messages) = (self.text.capacity(), self.messages.capacity());
+        text.saturating_add(messages)
+            .saturating_add(self.output.capacity())
     }
 
     /// Returns the value that is inserted before the input.

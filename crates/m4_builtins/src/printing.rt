@@ -165,19 +165,11 @@ pub(crate) fn errprint(effect: &mut Effect, list: &[Arg], state: &State) -> Resu
 
 /// Expands to the name of the input between quotes; to an empty one in wrapped text, whose line is 0.
 /// Manual: "Printing current location".
-pub(crate) fn file(
-    effect: &mut Effect,
-    place: &Place<'_>,
-    state: &State,
-) -> Result<(), AllocError>
+pub(crate) fn file(effect: &mut Effect, place: &Place<'_>, state: &State) -> Result<(), AllocError>
     requires { effect.old ≡ nothing }
     ensures { OnOk result (spec.file place.now state.now ≡ record { state = state.now; effect = effect.new }) }
 {
-    let name = if place.line() == 0 {
-        &[]
-    } else {
-        place.file()
-    };
+    let name = if place.line() == 0 { &[] } else { place.file() };
     let mut text = effect.buffer();
     push_one_quoted(&mut text, name, state.quotes())?;
     effect.give(text);
@@ -185,11 +177,7 @@ pub(crate) fn file(
 }
 
 /// Expands to the line of the call; to 0 in wrapped text. Manual: "Printing current location".
-pub(crate) fn line(
-    effect: &mut Effect,
-    place: &Place<'_>,
-    state: &State,
-) -> Result<(), AllocError>
+pub(crate) fn line(effect: &mut Effect, place: &Place<'_>, state: &State) -> Result<(), AllocError>
     requires { effect.old ≡ nothing }
     ensures { OnOk result (spec.line place.now state.now ≡ record { state = state.now; effect = effect.new }) }
 {
