@@ -2,13 +2,13 @@
 use Rattle.std.proofs.Common.{◌≡◌, Bool, inl, inr, ℕ, ◌+◌, ◌<◌, List, [], ◌++◌, refl, sym, ap, ◌∙◌, subst, arith, append-nil, append_assoc}
 use Rattle.m4_input.specs.Pending.{Pending}
 use Rattle.m4_input.specs.Input.{longer}
-use Rattle.m4_engine.specs.declared.ending.Cause.{Cause}
 use Rattle.m4_engine.specs.declared.turned.Turned.TheVariants as turns
+use Rattle.m4_engine.specs.declared.turned.TurnEnd.{TurnEnd}
 use Rattle.m4_engine.specs.Nesting.{Turn, Halt, Close, GoOn, Bare, Opens, Outcome, Halted, Closed}
 use Rattle.m4_engine.specs.OpenCalls.{Goes, meaning, moved_meaning}
 use Rattle.m4_engine.specs.Expansion.{Expansion, Kept, Ended, Ends}
 use Rattle.m4_engine.specs.Expand.{turn, join, out_of_bound_at, size_of, calls_left, expand}
-use Rattle.m4_engine.specs.Engine.{Engine, so_far_of, outer_of, here_of, configuration, after_flush, moved, MayFollow, Moves}
+use Rattle.m4_engine.specs.Engine.{Engine, so_far_of, outer_of, here_of, configuration, after_flush, moved, MayFollow, Moves, cause_of_end}
 use Rattle.m4_engine.proofs.Longer.{nothing_more, nothing_follows}
 use Rattle.m4_engine.proofs.CallsFall.{falls}
 use Rattle.m4_engine.proofs.MachineIsNesting.{move_keeps}
@@ -117,7 +117,7 @@ moved_on e e' p p' z more o m c h =
     ∙ move_keeps Expansion Kept Ended turn join out_of_bound_at size_of calls_left falls (configuration o m e (longer z more p))
 
 -- the end is what it came to
-pub end_means : (e e' : Engine) (p p' : Pending) (z : List ℕ) (more : Bool) (o m : List ℕ) (cause : Cause) → MayFollow p.may_follow z more → Moves p.may_follow e' p' (turns.Ends cause) (λ z more o m. moved (configuration o m e (longer z more p))) → meaning_of o m e (longer z more p) ≡ Halted (record { so_far = so_far_of o m e'; reason = Ends cause })
-end_means e e' p p' z more o m cause c h =
+pub end_means : (e e' : Engine) (p p' : Pending) (z : List ℕ) (more : Bool) (o m : List ℕ) (end : TurnEnd) → MayFollow p.may_follow z more → Moves p.may_follow e' p' (turns.Ends end) (λ z more o m. moved (configuration o m e (longer z more p))) → meaning_of o m e (longer z more p) ≡ Halted (record { so_far = so_far_of o m e'; reason = Ends (cause_of_end end) })
+end_means e e' p p' z more o m end c h =
     sym (move_keeps Expansion Kept Ended turn join out_of_bound_at size_of calls_left falls (configuration o m e (longer z more p)))
     ∙ ap (moved_meaning Expansion Kept Ended turn join expand) (h z more c o m)

@@ -7,17 +7,18 @@ use Rattle.m4_input.specs.Input.{Held, longer, all_read, after_line}
 use Rattle.m4_input.specs.Blocks.{LineGives}
 use Rattle.m4_input.proofs.Decided.{line_open, no_newline}
 use Rattle.m4_engine.specs.declared.ending.Cause.{Cause}
-use Rattle.m4_engine.specs.declared.ending.Cause.TheVariants as causes
 use Rattle.m4_engine.specs.declared.in_hand.InHand.TheVariants as hands
 use Rattle.m4_engine.specs.declared.in_hand.Wanted.{Wanted}
 use Rattle.m4_engine.specs.declared.in_hand.Wanted.TheVariants as wanted
 use Rattle.m4_engine.specs.declared.turned.Turned.{Turned}
 use Rattle.m4_engine.specs.declared.turned.Turned.TheVariants as turns
+use Rattle.m4_engine.specs.declared.turned.TurnEnd.{TurnEnd}
+use Rattle.m4_engine.specs.declared.turned.TurnEnd.TheVariants as turn_ends
 use Rattle.m4_engine.specs.Nesting.{Outcome, Halted, Closed, then_on}
 use Rattle.m4_engine.specs.OpenCalls.{pop, resume, moved_meaning}
 use Rattle.m4_engine.specs.Expansion.{RunSoFar, Expansion, Kept, Ended, Ends, NeedsInput}
 use Rattle.m4_engine.specs.Expand.{turn, join, expand, skip_line, skip_all, out_of_bound_at, size_of, calls_left}
-use Rattle.m4_engine.specs.Engine.{Engine, MayFollow, Moving, so_far_of, outer_of, here_of, configuration, after_flush, moved, IsReady, Moves, Needs, IsMade, IsTurned, StaysBy, Passes}
+use Rattle.m4_engine.specs.Engine.{Engine, MayFollow, Moving, so_far_of, outer_of, here_of, configuration, after_flush, moved, IsReady, Moves, Needs, IsTurned, StaysBy, Passes, cause_of_end}
 use Rattle.m4_engine.specs.Expands.{FlushesPrefix, FlushesSome}
 use Rattle.m4_engine.specs.Continued.{skipped_first, comes_to, Leads, IsFlushed, HandNeeds, HandEnds, HandBreaks, HandGives, HasMade, so_far_in}
 use Rattle.m4_engine.specs.Writers.{Contents, writers, HasWritten}
@@ -202,18 +203,18 @@ same_so_far : (a b : List ℕ) (e : Engine) → so_far_of (a ++ e.output) (b ++ 
 same_so_far a b e = rw (append-nil (a ++ e.output), append-nil (b ++ e.messages)) refl
 
 -- a turn after which the expansion ends
-pub ended : (w : Wanted) (e0 e e' e2 : Engine) (p0 p' : Pending) (i : Held) (out0 reported0 out reported out' reported' : Option (List ℕ)) (t : Turned) (cause : Cause) → Running w e0 p0 out0 reported0 e i out reported → Moves (i.pending).may_follow e' p' t (λ z more o m. moved (configuration o m e (longer z more i.pending))) → t ≡ turns.Ends cause → e2 ≡ after_flush e' → e'.limits ≡ e.limits → out' ≡ with_bytes out e'.output → reported' ≡ with_bytes reported e'.messages → HandEnds w e0 p0 cause e2 (writers out0 out' reported0 reported')
-ended w e0 e e' e2 p0 p' i out0 reported0 out reported out' reported' t cause r h k j l f g =
-    subst (λ (x : Engine). HandEnds w e0 p0 cause x (writers out0 out' reported0 reported')) (sym j)
+pub ended : (w : Wanted) (e0 e e' e2 : Engine) (p0 p' : Pending) (i : Held) (out0 reported0 out reported out' reported' : Option (List ℕ)) (t : Turned) (end : TurnEnd) → Running w e0 p0 out0 reported0 e i out reported → Moves (i.pending).may_follow e' p' t (λ z more o m. moved (configuration o m e (longer z more i.pending))) → t ≡ turns.Ends end → e2 ≡ after_flush e' → e'.limits ≡ e.limits → out' ≡ with_bytes out e'.output → reported' ≡ with_bytes reported e'.messages → HandEnds w e0 p0 (cause_of_end end) e2 (writers out0 out' reported0 reported')
+ended w e0 e e' e2 p0 p' i out0 reported0 out reported out' reported' t end r h k j l f g =
+    subst (λ (x : Engine). HandEnds w e0 p0 (cause_of_end end) x (writers out0 out' reported0 reported')) (sym j)
     (record {
       o = r.o ++ e'.output;
       m = r.m ++ e'.messages;
       written = more_written r.o r.m e'.output e'.messages out0 out out' reported0 reported reported' r.written f g;
       ends = λ z more c a b.
           sym ((r.leads).means z more c a b)
-          ∙ end_means e e' i.pending p' z more (a ++ r.o) (b ++ r.m) cause (subst (λ v. MayFollow v z more) (sym (r.leads).follows) c)
+          ∙ end_means e e' i.pending p' z more (a ++ r.o) (b ++ r.m) end (subst (λ v. MayFollow v z more) (sym (r.leads).follows) c)
           (subst (λ (x : Turned). Moves (i.pending).may_follow e' p' x (λ z more o m. moved (configuration o m e (longer z more i.pending)))) k h)
-          ∙ ap (λ (s : RunSoFar). Halted (let d : Ended = record { so_far = s; reason = Ends cause } in d))
+          ∙ ap (λ (s : RunSoFar). Halted (let d : Ended = record { so_far = s; reason = Ends (cause_of_end end) } in d))
           (sym (same_so_far (a ++ r.o) (b ++ r.m) e')
           ∙ ap (λ (n : List ℕ). so_far_of n ((b ++ r.m) ++ e'.messages) (after_flush e')) (append_assoc a r.o e'.output)
           ∙ ap (λ (n : List ℕ). so_far_of (a ++ (r.o ++ e'.output)) n (after_flush e')) (append_assoc b r.m e'.messages));
@@ -381,23 +382,18 @@ line_done_by i j v w e h = subst (LineGives i j) e h
 pub flushed_all : (e : Engine) (out out' reported reported' : Option (List ℕ)) (e2 : Engine) → e2 ≡ after_flush e → out' ≡ with_bytes out e.output → reported' ≡ with_bytes reported e.messages → FlushesSome e e2 (writers out out' reported reported')
 flushed_all e out out' reported reported' e2 h f g = some_all e e2 out out' reported reported' h f g
 
--- a turn ends an expansion by none of these
-pub hand_ends : (w : Wanted) (old new : Engine) (i j : Held) (c : Contents) (cause : Cause) → IsMade (turns.Ends cause) → HandEnds w old i.pending cause new c → HandGives w old new i j c (hands.Ends cause)
-hand_ends w old new i j c causes.Done m h = h
-hand_ends w old new i j c (causes.Exited n) m h = h
-hand_ends w old new i j c causes.EndInString m h = h
-hand_ends w old new i j c causes.EndInComment m h = h
-hand_ends w old new i j c causes.EndInArguments m h = h
-hand_ends w old new i j c causes.ExpansionLimit m h = h
-hand_ends w old new i j c causes.NestingLimit m h = h
-hand_ends w old new i j c (causes.Frozen f) m h = absurd m
-hand_ends w old new i j c causes.Read m h = absurd m
-hand_ends w old new i j c causes.Write m h = absurd m
-hand_ends w old new i j c causes.OutOfMemory m h = absurd m
+-- a turn ends an expansion by no fault of a device or of an allocation
+hand_ends_so : (w : Wanted) (old new : Engine) (i j : Held) (c : Contents) (end : TurnEnd) → HandEnds w old i.pending (cause_of_end end) new c → HandGives w old new i j c (hands.Ends (cause_of_end end))
+hand_ends_so w old new i j c turn_ends.Done h = h
+hand_ends_so w old new i j c (turn_ends.Exited n) h = h
+hand_ends_so w old new i j c turn_ends.EndInString h = h
+hand_ends_so w old new i j c turn_ends.EndInComment h = h
+hand_ends_so w old new i j c turn_ends.EndInArguments h = h
+hand_ends_so w old new i j c turn_ends.ExpansionLimit h = h
+hand_ends_so w old new i j c turn_ends.NestingLimit h = h
 
--- a turn that ended
-pub made_end : (e e' : Engine) (i j : Held) (t : Turned) (cause : Cause) → t ≡ turns.Ends cause → IsTurned e e' i j t → IsMade (turns.Ends cause)
-made_end e e' i j t cause h m = subst (IsTurned e e' i j) h m
+pub hand_ends : (w : Wanted) (old new : Engine) (i j : Held) (c : Contents) (end : TurnEnd) (cause : Cause) → cause ≡ cause_of_end end → HandEnds w old i.pending (cause_of_end end) new c → HandGives w old new i j c (hands.Ends cause)
+hand_ends w old new i j c end cause k h = subst (λ (x : Cause). HandGives w old new i j c (hands.Ends x)) (sym k) (hand_ends_so w old new i j c end h)
 
 -- the loop begins, by what is wanted
 pub begins_so : (e : Engine) (i k : Held) (w : Wanted) (out reported : Option (List ℕ)) → w ≡ wanted.Token → k ≡ i → IsReady i → Running w e i.pending out reported e k out reported

@@ -15,11 +15,14 @@ use Rattle.m4_input.specs.declared.token.Token.{Token}
 use Rattle.m4_input.specs.declared.pushed.Pushed.{Pushed}
 use Rattle.m4_input.specs.declared.token.Token.TheVariants.{Definition}
 use Rattle.m4_input.specs.Input.{Held, longer}
+use Rattle.m4_engine.specs.declared.ending.Cause.{Cause}
 use Rattle.m4_engine.specs.declared.ending.Cause.TheVariants as causes
 use Rattle.m4_engine.specs.declared.lookahead.Lookahead.{Lookahead}
 use Rattle.m4_engine.specs.Lookahead.{IsLookaheadOf}
 use Rattle.m4_engine.specs.declared.turned.Turned.{Turned}
 use Rattle.m4_engine.specs.declared.turned.TurnFault.{TurnFault}
+use Rattle.m4_engine.specs.declared.turned.TurnEnd.{TurnEnd}
+use Rattle.m4_engine.specs.declared.turned.TurnEnd.TheVariants as turn_ends
 use Rattle.m4_engine.specs.declared.turned.Turned.TheVariants as turns
 use Rattle.m4_engine.specs.Args.{dropped_if_any, with_argument, end_argument}
 use Rattle.m4_engine.specs.Nesting.{Turn, GoOn, Close, Halted}
@@ -143,6 +146,16 @@ Pushes p p' value = (z : List ℕ) (more : Bool) → with_value value (longer z 
 abbrev pub line_move : List Call → Expansion → Move Expansion Kept Ended
 line_move cs s = pop Expansion Kept Ended turn join (outer_of cs) (skip_line (line_length (text_of s.pending)) s)
 
+-- the cause by which a turn ends an expansion
+abbrev pub cause_of_end : TurnEnd → Cause
+cause_of_end turn_ends.Done = causes.Done
+cause_of_end (turn_ends.Exited code) = causes.Exited code
+cause_of_end turn_ends.EndInString = causes.EndInString
+cause_of_end turn_ends.EndInComment = causes.EndInComment
+cause_of_end turn_ends.EndInArguments = causes.EndInArguments
+cause_of_end turn_ends.ExpansionLimit = causes.ExpansionLimit
+cause_of_end turn_ends.NestingLimit = causes.NestingLimit
+
 -- the machine and the result after a turn agree with f, the definitions' move, whatever follows the bytes in
 -- hand; `may` says whether anything may
 abbrev pub Moves : Bool → Engine → Pending → Turned → Moving → Type 0
@@ -153,9 +166,9 @@ Moves may e p turns.SkipsLine f =
     (z : List ℕ) (more : Bool) → MayFollow may z more
     → (o m : List ℕ) → f z more o m ≡ line_move e.open_calls (here_of o m e (longer z more p))
 Moves may e p turns.NeedsMore f = Unit {0}
-Moves may e p (turns.Ends cause) f =
+Moves may e p (turns.Ends end) f =
     (z : List ℕ) (more : Bool) → MayFollow may z more
-    → (o m : List ℕ) → f z more o m ≡ Stops (Halted (record { so_far = so_far_of o m e; reason = Ends cause }))
+    → (o m : List ℕ) → f z more o m ≡ Stops (Halted (record { so_far = so_far_of o m e; reason = Ends (cause_of_end end) }))
 
 -- an input without a fault; if a definition is its first token, it is valid
 abbrev pub IsFront : Option Def → Type 0
@@ -199,18 +212,12 @@ pub record IsTaken (i : Held) : Type 0 where
   pub ready : IsReady i
   pub taken : (i.pending).definition ≡ None
 
--- a step after the first token needs no more bytes, and ends an expansion by no fault of a frozen file, of a
--- device or of an allocation
+-- a step after the first token needs no more bytes
 abbrev pub IsMade : Turned → Type 0
-IsMade (turns.Ends (causes.Frozen fault)) = ⊥
-IsMade (turns.Ends causes.Read) = ⊥
-IsMade (turns.Ends causes.Write) = ⊥
-IsMade (turns.Ends causes.OutOfMemory) = ⊥
 IsMade turns.NeedsMore = ⊥
 IsMade t = Unit {0}
 
--- the outcome of each step of a turn, if no allocation fails: the definitions' move, and the limits; it ends
--- the expansion by no fault of a device or of an allocation
+-- the outcome of each step of a turn, if no allocation fails: the definitions' move, and the limits
 pub record Makes (result : Result Turned TurnFault) (old new : Engine) (to : Turned → Type 0) : Type 0 where
   pub moves : IfOk result to
   pub limits : OnOk result (new.limits ≡ old.limits)
@@ -218,7 +225,7 @@ pub record Makes (result : Result Turned TurnFault) (old new : Engine) (to : Tur
 
 -- the input after a turn that does not end the expansion
 abbrev pub StaysBy : Held → Held → Turned → Type 0
-StaysBy i j (turns.Ends cause) = Unit {0}
+StaysBy i j (turns.Ends end) = Unit {0}
 StaysBy i j t = Stays i j
 
 -- the same; and if the expansion continues, the input is ready

@@ -145,9 +145,9 @@ impl Machine {
                         Err(DeviceFault) => InHand::Ends(Cause::Write),
                     };
                 }
-                Turned::Ends(cause) => {
+                Turned::Ends(end) => {
                     return match self.flush(earlier, out, messages) {
-                        Ok(()) => InHand::Ends(cause),
+                        Ok(()) => InHand::Ends(end.cause()),
                         Err(DeviceFault) => InHand::Ends(Cause::Write),
                     };
                 }

@@ -23,11 +23,10 @@ ghost use Rattle.m4_engine.specs.Expansion.{Call};
 ghost use Rattle.m4_engine.specs.Expand.{take_token, take_front, take_name, take_other, take_end, call as call_turn, call_of};
 
 use crate::call::OpenCall;
-use crate::ending::Cause;
 use crate::lookahead::{Lookahead, Meaning, Named};
 use crate::machine::Machine;
 use crate::role::Role;
-use crate::turned::{TurnFault, Turned};
+use crate::turned::{TurnEnd, TurnFault, Turned};
 use itoa::Buffer;
 use m4_builtins::act::act_on;
 use m4_builtins::effect::{Effect, Push};
@@ -93,12 +92,12 @@ impl Machine {
             (take_end (mode_of self.old.open_calls) (here_of o m self.old (before z more))))) }
     {
         let Some(call) = &self.innermost else {
-            return Ok(Turned::Ends(Cause::Done));
+            return Ok(Turned::Ends(TurnEnd::Done));
         };
         let place = call.place();
         let message = error_message(self.alloc, &place, b"end of input in argument list")?;
         self.add_message(message.as_slice())?;
-        Ok(Turned::Ends(Cause::EndInArguments))
+        Ok(Turned::Ends(TurnEnd::EndInArguments))
     }
 
     /// Adds the messages, the output and the saved text that a call made. Its value is pushed later.
@@ -180,7 +179,7 @@ impl Machine {
         self.spare.keep(call);
         self.put_effect(&mut effect)?;
         if let Some(code) = effect.exit() {
-            return Ok(Turned::Ends(Cause::Exited(code)));
+            return Ok(Turned::Ends(TurnEnd::Exited(code)));
         }
         if effect.skips() {
             self.keep_effect(effect);
@@ -329,12 +328,12 @@ impl Machine {
     {
         if !self.has_room() {
             self.report_call_limit(&call)?;
-            return Ok(Turned::Ends(Cause::ExpansionLimit));
+            return Ok(Turned::Ends(TurnEnd::ExpansionLimit));
         }
         self.count();
         if self.is_deep() {
             self.report_nesting_limit(&call)?;
-            return Ok(Turned::Ends(Cause::NestingLimit));
+            return Ok(Turned::Ends(TurnEnd::NestingLimit));
         }
         if !listed {
             return self.call(call, input);
@@ -500,11 +499,11 @@ impl Machine {
         match what {
             Unended::InString => {
                 self.add_error(&place, b"end of input in string")?;
-                Ok(Turned::Ends(Cause::EndInString))
+                Ok(Turned::Ends(TurnEnd::EndInString))
             }
             Unended::InComment => {
                 self.add_error(&place, b"end of input in comment")?;
-                Ok(Turned::Ends(Cause::EndInComment))
+                Ok(Turned::Ends(TurnEnd::EndInComment))
             }
         }
     }

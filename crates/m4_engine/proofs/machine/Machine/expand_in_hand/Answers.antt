@@ -1,6 +1,6 @@
 use Rattle.std.proofs.Common.{◌≡◌, ◌≤◌, true, false, length, rules, arith, refl, ◌∙◌}
 use Rattle.m4_engine.proofs.OnlyGrows.{output_stays}
-use Rattle.m4_engine.proofs.Running.{begins_so, begins_past, not_both, passed, went_on, went_past_line, fell, fell_past_line, ended, needed, needs_line_after, breaks, write_breaks, needs_line_so, line_done_by, hand_ends, made_end, flushed_all}
+use Rattle.m4_engine.proofs.Running.{begins_so, begins_past, not_both, passed, went_on, went_past_line, fell, fell_past_line, ended, needed, needs_line_after, breaks, write_breaks, needs_line_so, line_done_by, hand_ends, flushed_all}
 use Rattle.m4_engine.proofs.Passing.{passes_ready}
 use Rattle.m4_engine.proofs.machine.Machine.expand_in_hand.Goals.{in-Token, in-Line}
 use Rattle.m4_engine.proofs.machine.Machine.expand_in_hand.Goals as goal
@@ -117,5 +117,5 @@ returns-in-Ok-flush-clause-gives g c =
 pub returns-in-Ok-flush-2-clause-gives : goal.returns-in-Ok-flush-2-clause-gives
 returns-in-Ok-flush-2-clause-gives g c =
     let r = passed c.args.wanted c.args.self.now c.turns.self c.pass_plain.new.self c.args.input.now.pending c.turns.input c.pass_plain.new.input _ _ _ _ c.turns.invariant.runs c.in-Ok.ensures.passes in
-    hand_ends c.args.wanted c.args.self.now c.flush-in-Ends.new.self c.args.input.now c.turn.new.input _ c.in-Ends.cause (made_end c.pass_plain.new.self c.turn.new.self c.pass_plain.new.input c.turn.new.input c.in-Ok-turn.turned c.in-Ends.cause c.in-Ends.is c.in-Ok-turn.ensures.made)
-    (ended c.args.wanted c.args.self.now c.pass_plain.new.self c.turn.new.self c.flush-in-Ends.new.self c.args.input.now.pending c.turn.new.input.pending c.pass_plain.new.input _ _ _ _ _ _ c.in-Ok-turn.turned c.in-Ends.cause r c.in-Ok-turn.ensures.moves c.in-Ends.is c.in-Ok-flush-2.ensures.engine c.in-Ok-turn.ensures.limits c.in-Ok-flush-2.ensures.output c.in-Ok-flush-2.ensures.messages)
+    hand_ends c.args.wanted c.args.self.now c.flush-in-Ends.new.self c.args.input.now c.turn.new.input _ c.in-Ends.end _ c.cause.ensures
+    (ended c.args.wanted c.args.self.now c.pass_plain.new.self c.turn.new.self c.flush-in-Ends.new.self c.args.input.now.pending c.turn.new.input.pending c.pass_plain.new.input _ _ _ _ _ _ c.in-Ok-turn.turned c.in-Ends.end r c.in-Ok-turn.ensures.moves c.in-Ends.is c.in-Ok-flush-2.ensures.engine c.in-Ok-turn.ensures.limits c.in-Ok-flush-2.ensures.output c.in-Ok-flush-2.ensures.messages)
