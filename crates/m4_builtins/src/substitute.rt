@@ -344,8 +344,9 @@ pub(crate) fn push_one_quoted(
 }
 
 /// Appends a text. One of a byte or two, as most quotes and many arguments are, takes no call that copies.
+#[doc(hidden)]
 #[inline(always)]
-pub(crate) fn push_bytes(out: &mut Vec<u8>, text: &[u8]) -> Result<(), AllocError>
+pub fn push_bytes(out: &mut Vec<u8>, text: &[u8]) -> Result<(), AllocError>
     ensures { OnOk result (out.new.items ≡ out.old.items ++ text.now) }
 {
     match text {

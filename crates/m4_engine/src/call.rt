@@ -102,12 +102,9 @@ fn put_text_at(args: &mut Vec<Arg>, count: usize, bytes: &mut Vec<u8>) -> bool
     if count >= args.len() {
         return false;
     }
-    let alloc = *bytes.allocator();
     match &mut args[count] {
         Arg::Text(kept) => {
-            let text = std::mem::replace(bytes, Vec::new(alloc));
-            let old = std::mem::replace(kept, Bytes::from(text));
-            *bytes = old.into_vec();
+            kept.swap(bytes);
             bytes.clear();
             true
         }
@@ -192,10 +189,10 @@ impl OpenCall {
         self.parts.tokens.clear();
     }
 
-    /// Drops the arguments, and keeps the memory of at most so many of them, and of nothing that is large.
+    /// Makes sure that the memory that is kept is of at most so many arguments, and of nothing that is large. The
+    /// contents are dropped by `renew`.
     #[inline(always)]
     pub fn shed(&mut self, most: usize) {
-        self.clear();
         let is_long = self.parts.args.len() > most;
         if is_long || self.parts.is_large || self.parts.head.room() > LARGEST_HEAD {
             self.shed_memory(most);

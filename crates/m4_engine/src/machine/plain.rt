@@ -10,6 +10,7 @@ use crate::front::plain_run;
 use crate::lookahead::{Lookahead, lookahead_of};
 use crate::machine::Machine;
 use crate::turned::TurnFault;
+use m4_builtins::substitute::push_bytes;
 use m4_input::input::Input;
 
 impl Machine {
@@ -33,7 +34,7 @@ impl Machine {
             return Ok(Lookahead::Unknown);
         };
         let (len, first) = plain_run(text, &self.state, input.may_follow(), BLOCK);
-        self.output.extend_from_slice(text.split_at(len).0)?;
+        push_bytes(&mut self.output, text.split_at(len).0)?;
         input.consume(len);
         let lookahead = lookahead_of(&mut self.spare, &self.state, room, first, input)?;
         Ok(lookahead)
