@@ -10,7 +10,7 @@ ghost use Rattle.m4_builtins.specs.Act.{needs_list};
 ghost use Rattle.m4_builtins.specs.HeadView.{definition_at};
 
 use crate::place::Place;
-use crate::substitute::push_bytes;
+use m4_state::append::append;
 use m4_state::builtin::Builtin;
 use m4_state::bytes::Bytes;
 use m4_state::definition::Def;
@@ -142,9 +142,9 @@ impl Head {
         self.text_len = 0;
         self.line = line;
         self.strings.clear();
-        push_bytes(&mut self.strings, name)?;
-        push_bytes(&mut self.strings, text)?;
-        push_bytes(&mut self.strings, file)?;
+        append(&mut self.strings, name)?;
+        append(&mut self.strings, text)?;
+        append(&mut self.strings, file)?;
         self.kind = kind;
         self.name_len = name.len();
         self.text_len = text.len();

@@ -11,6 +11,7 @@ ghost use Rattle.m4_builtins.specs.Numbers.{IsNumber};
 use crate::args::{Arg, text_of};
 use crate::fault::BuiltinFault;
 use itoa::Buffer;
+use m4_state::append::{append, append_front};
 use m4_state::bytes::Bytes;
 use std::alloc::{AllocError, Global};
 
@@ -83,30 +84,9 @@ fn push_plain(out: &mut Vec<u8>, text: &[u8]) -> Result<usize, AllocError>
     ensures within { IfOk result (λ n. n ≤ length text.now) }
     ensures pushed { IfOk result (λ n. out.new.items ≡ out.old.items ++ take n text.now) }
 {
-    let near = push_near(out, text)?;
-    let rest = text.split_at(near).1;
-    let more = plain_len(rest);
-    push_bytes(out, rest.split_at(more).0)?;
-    Ok(near + more)
-}
-
-/// How many bytes are appended one by one.
-const NEAR: usize = 16;
-
-/// Appends the first bytes that are no dollar, at most `NEAR`, and returns how many there are. Most dollars are
-/// near, and a few bytes take less time than a search and a call that copies.
-#[inline(always)]
-fn push_near(out: &mut Vec<u8>, text: &[u8]) -> Result<usize, AllocError>
-    ensures count { IfOk result (λ n. n + run_length (λ b. not (b == dollar)) (drop n text.now) ≡ run_length (λ b. not (b == dollar)) text.now) }
-    ensures within { IfOk result (λ n. n ≤ length text.now) }
-    ensures pushed { IfOk result (λ n. out.new.items ≡ out.old.items ++ take n text.now) }
-{
-    let mut k = 0;
-    while k < NEAR && k < text.len() && text[k] != b'$' {
-        out.push(text[k])?;
-        k += 1;
-    }
-    Ok(k)
+    let plain = plain_len(text);
+    append_front(out, text, plain)?;
+    Ok(plain)
 }
 
 /// Counts the bytes before the first dollar.
@@ -233,9 +213,9 @@ fn push_numbered(
         return Ok(());
     };
     if n == 0 {
-        push_bytes(out, name)?;
+        append(out, name)?;
     } else if n <= count {
-        push_bytes(out, text_of(&list[n - 1]))?;
+        append(out, text_of(&list[n - 1]))?;
     }
     Ok(())
 }
@@ -258,7 +238,7 @@ pub(crate) fn push_joined(out: &mut Vec<u8>, args: &[Arg], separator: u8) -> Res
         if !first {
             out.push(separator)?;
         }
-        push_bytes(out, text_of(arg))?;
+        append(out, text_of(arg))?;
         first = false;
     }
     Ok(())
@@ -303,7 +283,7 @@ fn push_between(out: &mut Vec<u8>, text: &[u8], begin: u8, end: u8) -> Result<()
         ++ quoted (record { begin = begin ∷ []; end = end ∷ [] }) text.now) }
 {
     out.push(begin)?;
-    push_bytes(out, text)?;
+    append(out, text)?;
     out.push(end)?;
     Ok(())
 }
@@ -338,28 +318,7 @@ pub(crate) fn push_one_quoted(
 ) -> Result<(), AllocError>
     ensures { OnOk result (out.new.items ≡ out.old.items ++ quoted (pair_of quotes.entry) text.now) }
 {
-    push_bytes(out, quotes.0)?;
-    push_bytes(out, text)?;
-    push_bytes(out, quotes.1)
-}
-
-/// Appends a text. One of a byte or two, as most quotes and many arguments are, takes no call that copies.
-#[doc(hidden)]
-#[inline(always)]
-pub fn push_bytes(out: &mut Vec<u8>, text: &[u8]) -> Result<(), AllocError>
-    ensures { OnOk result (out.new.items ≡ out.old.items ++ text.now) }
-{
-    match text {
-        [] => Ok(()),
-        [byte] => {
-            out.push(*byte)?;
-            Ok(())
-        }
-        [first, second] => {
-            out.push(*first)?;
-            out.push(*second)?;
-            Ok(())
-        }
-        _ => out.extend_from_slice(text),
-    }
+    append(out, quotes.0)?;
+    append(out, text)?;
+    append(out, quotes.1)
 }

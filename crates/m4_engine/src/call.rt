@@ -18,6 +18,7 @@ use crate::role::Role;
 use m4_builtins::args::Arg;
 use m4_builtins::head::Head;
 use m4_builtins::place::Place;
+use m4_state::append::{append, append_front};
 use m4_state::bytes::Bytes;
 use m4_state::definition::Def;
 use std::alloc::{AllocError, Global};
@@ -273,15 +274,20 @@ impl OpenCall {
     pub fn put(&mut self, text: &[u8]) -> Result<(), AllocError>
         ensures { OnOk result (self.new ≡ record self.old { begun = true; bytes = self.old.bytes ++ text.now }) }
     {
-        self.parts.begun = true;
-        match text {
-            // One byte needs no call that copies.
-            [byte] => {
-                self.parts.bytes.push(*byte)?;
-                Ok(())
-            }
-            _ => self.parts.bytes.extend_from_slice(text),
-        }
+        let parts = &mut *self.parts;
+        parts.begun = true;
+        append(&mut parts.bytes, text)
+    }
+
+    /// Appends the first `len` bytes of a text to the argument.
+    #[inline(always)]
+    pub fn put_front(&mut self, text: &[u8], len: usize) -> Result<(), AllocError>
+        requires { len ≤ length text.now }
+        ensures { OnOk result (self.new ≡ record self.old { begun = true; bytes = self.old.bytes ++ take len text.now }) }
+    {
+        let parts = &mut *self.parts;
+        parts.begun = true;
+        append_front(&mut parts.bytes, text, len)
     }
 
     /// Appends a definition to the argument.

@@ -81,11 +81,11 @@ fn collect_first(
     match *first {
         First::Quoted(begin, len, all) => {
             let after = text.split_at(begin).1;
-            call.put(after.split_at(len).0)?;
+            call.put_front(after, len)?;
             Ok(all)
         }
         First::Word(len) => {
-            call.put(text.split_at(len).0)?;
+            call.put_front(text, len)?;
             Ok(len)
         }
         First::Byte(byte) => collect_bytes(call, byte, text, delims),
@@ -108,7 +108,7 @@ fn collect_bytes(
 {
     let digits = digits_len(text, delims);
     if digits > 0 {
-        call.put(text.split_at(digits).0)?;
+        call.put_front(text, digits)?;
         return Ok(digits);
     }
     collect_byte(call, byte, text, delims)

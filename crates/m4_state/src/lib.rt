@@ -4,6 +4,7 @@
 //! Contracts see a [`state::State`] as one record of lists (`specs/State.antt`), however it is stored.
 #![tactic(auto)]
 
+pub mod append;
 pub mod builtin;
 pub mod bytes;
 pub mod definition;

@@ -10,8 +10,8 @@ use crate::front::plain_run;
 use crate::lookahead::{Lookahead, lookahead_of};
 use crate::machine::Machine;
 use crate::turned::TurnFault;
-use m4_builtins::substitute::push_bytes;
 use m4_input::input::Input;
+use m4_state::append::append;
 
 impl Machine {
     /// Consumes tokens at the start of the input that call nothing: up to a block of them if text goes to the
@@ -34,7 +34,7 @@ impl Machine {
             return Ok(Lookahead::Unknown);
         };
         let (len, first) = plain_run(text, &self.state, input.may_follow(), BLOCK);
-        push_bytes(&mut self.output, text.split_at(len).0)?;
+        append(&mut self.output, text.split_at(len).0)?;
         input.consume(len);
         let lookahead = lookahead_of(&mut self.spare, &self.state, room, first, input)?;
         Ok(lookahead)

@@ -9,6 +9,6 @@ pub returns-then-digits-gt0-clause-collected : goal.returns-then-digits-gt0-clau
 returns-then-digits-gt0-clause-collected c = λ s m q k h.
     let n = c.digits_len-digits.result in
     let x = c.args.text.now in
-    bytes_at_once s m n x c.args.call.now c.put.new.self (search rules) c.digits_len-digits.ensures.within
+    bytes_at_once s m n x c.args.call.now c.put_front.new.self (search rules) c.digits_len-digits.ensures.within
     (subst (λ (d : Delimiters). AreTextBytes s.quotes d (take n x)) k (subst (λ (d : Delimiters). AreTextBytes d (pair_of c.args.delims.now.comments) (take n x)) q c.digits_len-digits.ensures.bytes))
     (search rules)

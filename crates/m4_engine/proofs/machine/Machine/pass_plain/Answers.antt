@@ -13,7 +13,7 @@ lookahead_of-requires-clause-lies c = lies_after c.plain_run-len.result.1 c.args
 pub returns-clause-lookahead : goal.returns-clause-lookahead
 returns-clause-lookahead c =
     let old : Engine = engine_view c.self.inside in
-    let new : Engine = record old { output = c.push_bytes.new.out.items } in
+    let new : Engine = record old { output = c.append.new.out.items } in
     seen_same c.in_ok-lookahead.lookahead old new c.allows_call-room.result c.consume.new.self.pending (search rules) refl refl refl refl c.in_ok-lookahead.ensures
 
 pub returns-clause-passes : goal.returns-clause-passes

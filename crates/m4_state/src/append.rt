@@ -1,0 +1,43 @@
+//! Appends bytes to a vector. Most texts of a macro are short, and a call that copies takes longer than a few
+//! bytes do.
+
+ghost use Rattle.std.specs.Prelude.{◌≡◌, ◌≤◌, ◌++◌, OnOk, OnErr, length, take};
+
+use std::alloc::AllocError;
+
+/// How many bytes are copied as one piece.
+const PIECE: usize = 16;
+
+/// Appends a text. One of a byte or two, as most quotes and many arguments are, takes no call that copies.
+#[inline(always)]
+pub fn append(out: &mut Vec<u8>, text: &[u8]) -> Result<(), AllocError>
+    ensures ok { OnOk result (out.new.items ≡ out.old.items ++ text.now) }
+    ensures err { OnErr result (out.new.items ≡ out.old.items) }
+{
+    match text {
+        [] => Ok(()),
+        [byte] => {
+            out.push(*byte)?;
+            Ok(())
+        }
+        [first, second] => out.extend_from_slice(&[*first, *second]),
+        _ => out.extend_from_slice(text),
+    }
+}
+
+/// Appends the first `len` bytes of a text. A few of them are copied as one piece of a fixed length, where the text is as
+/// long, and what comes after them is cut off again: that takes no call that copies.
+#[inline(always)]
+pub fn append_front(out: &mut Vec<u8>, text: &[u8], len: usize) -> Result<(), AllocError>
+    requires { len ≤ length text.now }
+    ensures ok { OnOk result (out.new.items ≡ out.old.items ++ take len text.now) }
+    ensures err { OnErr result (out.new.items ≡ out.old.items) }
+{
+    if len > PIECE || text.len() < PIECE {
+        return append(out, text.split_at(len).0);
+    }
+    let old = out.len();
+    out.extend_from_slice(text.split_at(PIECE).0)?;
+    out.truncate(old + len);
+    Ok(())
+}
