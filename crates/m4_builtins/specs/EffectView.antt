@@ -1,6 +1,6 @@
 -- EffectView: the meaning of the fields of an effect, and of the value that it inserts.
--- Not believed: it only connects the code with specs/Acted.antt. Words: inserted, effect_view, pushed_by.
-use Rattle.std.specs.Prelude.{ℕ, List, Option, Some, None}
+-- Not believed: it only connects the code with specs/Acted.antt. Words: inserted, effect_view, IsEffect, pushed_by.
+use Rattle.std.specs.Prelude.{◌≡◌, ℕ, false, List, Option, Some, None}
 use Rattle.m4_input.specs.declared.pushed.Pushed.{Pushed}
 use Rattle.m4_input.specs.declared.pushed.Pushed.TheVariants as pushes
 use Rattle.m4_builtins.specs.declared.effect.Effect.TheInside.{Inside}
@@ -8,7 +8,7 @@ use Rattle.m4_builtins.specs.declared.effect.Kind.{Kind}
 use Rattle.m4_builtins.specs.declared.effect.Kind.TheVariants as kinds
 use Rattle.m4_builtins.specs.declared.effect.Push.{Push}
 use Rattle.m4_builtins.specs.declared.effect.Push.TheVariants as seen
-use Rattle.m4_builtins.specs.Acted.{Effect}
+use Rattle.m4_builtins.specs.Acted.{Effect, nothing}
 
 -- the value of a kind, with text x
 abbrev pub inserted : Kind → List ℕ → Option Pushed
@@ -25,6 +25,10 @@ effect_view e = record {
   skip = e.skip;
   exit = e.exit;
 }
+
+-- without more to do, there is at most a value to insert
+abbrev pub IsEffect : Inside → Type 0
+IsEffect e = e.has_more ≡ false → effect_view e ≡ record nothing { push = inserted e.kind e.text.items }
 
 -- the value that is seen in place
 abbrev pub pushed_by : Push → Option Pushed

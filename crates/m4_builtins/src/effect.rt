@@ -1,6 +1,6 @@
 //! The effects of a call that the run still has to apply, apart from the state's change.
 
-ghost use Rattle.std.specs.Prelude.{◌≡◌, ◌++◌, [], OnOk, Some, None, true};
+ghost use Rattle.std.specs.Prelude.{◌≡◌, ◌++◌, [], OnOk, Some, None, true, false};
 
 use m4_state::bytes::Bytes;
 use m4_state::definition::Def;
@@ -15,11 +15,13 @@ enum Kind {
     Definition(Def),
 }
 
-/// The effect of a call. Calls fill one effect in turn, so that most of them ask for no memory.
+/// The effect of a call. Calls fill one effect in turn, so that most of them ask for no memory. Most leave nothing to
+/// do but to insert a value, which `has_more` says in one test.
 #[derive(Debug)]
 pub struct Effect {
     kind: Kind,
     text: Vec<u8>,
+    has_more: bool,
     messages: Vec<u8>,
     output: Vec<u8>,
     wrap: Option<Bytes>,
@@ -40,11 +42,13 @@ pub enum Push<'a> {
 
 impl Model for Effect {
     ghost use Rattle.m4_builtins.specs.Acted.{Effect as Effects};
-    ghost use Rattle.m4_builtins.specs.EffectView.{effect_view};
+    ghost use Rattle.m4_builtins.specs.EffectView.{effect_view, IsEffect};
 
     ghost Value = { Effects };
 
     ghost view = { effect_view };
+
+    ghost invariant = { IsEffect };
 }
 
 // Written out so that a caller's proof contains one call, not the drop of each field.
@@ -53,6 +57,7 @@ impl Drop for Effect {
         let Effect {
             kind: _kind,
             text: _text,
+            has_more: _has_more,
             messages: _messages,
             output: _output,
             wrap: _wrap,
@@ -74,6 +79,7 @@ impl Effect {
         Effect {
             kind: Kind::Nothing,
             text: Vec::new(alloc),
+            has_more: false,
             messages: Vec::new(alloc),
             output: Vec::new(alloc),
             wrap: None,
@@ -87,11 +93,29 @@ impl Effect {
         ensures { self.new ≡ nothing }
     {
         self.kind = Kind::Nothing;
+        if self.has_more {
+            self.clear_more();
+        }
+    }
+
+    /// Leaves nothing to do but to insert the value.
+    #[inline(never)]
+    fn clear_more(&mut self)
+        ensures { self.new ≡ record nothing { push = self.old.push } }
+    {
+        self.has_more = false;
         self.wrap = None;
         self.skip = false;
         self.exit = None;
         self.messages.clear();
         self.output.clear();
+    }
+
+    /// Returns whether there is more to do than to insert a value.
+    pub fn has_more(&self) -> bool
+        ensures { result ≡ false → self.now ≡ record nothing { push = self.now.push } }
+    {
+        self.has_more
     }
 
     /// Returns how many bytes its memory has room for.
@@ -194,6 +218,7 @@ impl Effect {
     pub(crate) fn warn(&mut self, messages: Bytes)
         ensures { self.new ≡ record self.old { messages = messages } }
     {
+        self.has_more = true;
         self.messages = messages.into_vec();
     }
 
@@ -203,6 +228,7 @@ impl Effect {
     {
         let mut messages = message.into_vec();
         messages.extend_from_slice(&self.messages)?;
+        self.has_more = true;
         self.messages = messages;
         Ok(())
     }
@@ -211,6 +237,7 @@ impl Effect {
     pub(crate) fn issue(&mut self, output: Vec<u8>)
         ensures { self.new ≡ record self.old { output = output.items } }
     {
+        self.has_more = true;
         self.output = output;
     }
 
@@ -218,6 +245,7 @@ impl Effect {
     pub(crate) fn save(&mut self, text: Bytes)
         ensures { self.new ≡ record self.old { wrap = Some text } }
     {
+        self.has_more = true;
         self.wrap = Some(text);
     }
 
@@ -225,6 +253,7 @@ impl Effect {
     pub(crate) fn skip_line(&mut self)
         ensures { self.new ≡ record self.old { skip = true } }
     {
+        self.has_more = true;
         self.skip = true;
     }
 
@@ -232,6 +261,7 @@ impl Effect {
     pub(crate) fn end_with(&mut self, code: u8)
         ensures { self.new ≡ record self.old { exit = Some code } }
     {
+        self.has_more = true;
         self.exit = Some(code);
     }
 }

@@ -106,6 +106,19 @@ impl Machine {
         ensures made { OnOk result (self.new ≡ with_made effect.old.messages effect.old.output effect.old.wrap self.old) }
         ensures left { OnOk result (effect.new ≡ record effect.old { wrap = None }) }
     {
+        if effect.has_more() {
+            return self.put_more(effect);
+        }
+        self.begin_argument();
+        Ok(())
+    }
+
+    /// The same, if there is more than a value.
+    #[inline(never)]
+    fn put_more(&mut self, effect: &mut Effect) -> Result<(), TurnFault>
+        ensures made { OnOk result (self.new ≡ with_made effect.old.messages effect.old.output effect.old.wrap self.old) }
+        ensures left { OnOk result (effect.new ≡ record effect.old { wrap = None }) }
+    {
         if !effect.messages().is_empty() {
             self.add_message(effect.messages())?;
         }
