@@ -16,7 +16,7 @@ impl Delimiters {
     ghost use Rattle.m4_state.specs.Delimiters.{default_quotes, default_comments, chosen, IsPaired, IsSizedPair};
 
     /// Returns the quotes of a new state: a backquote and an apostrophe.
-    pub fn default_quotes(alloc: Global) -> Result<Delimiters, AllocError>
+    pub(crate) fn default_quotes(alloc: Global) -> Result<Delimiters, AllocError>
         ensures { IfOk result (λ d. d ≡ default_quotes) }
     {
         Ok(Delimiters {
@@ -26,7 +26,7 @@ impl Delimiters {
     }
 
     /// Returns the comment delimiters of a new state: a number sign and a newline.
-    pub fn default_comments(alloc: Global) -> Result<Delimiters, AllocError>
+    pub(crate) fn default_comments(alloc: Global) -> Result<Delimiters, AllocError>
         ensures { IfOk result (λ d. d ≡ default_comments) }
     {
         Ok(Delimiters {
@@ -36,7 +36,11 @@ impl Delimiters {
     }
 
     /// Returns quotes with this begin and end.
-    pub fn chosen_quotes(alloc: Global, begin: Bytes, end: Bytes) -> Result<Delimiters, AllocError>
+    pub(crate) fn chosen_quotes(
+        alloc: Global,
+        begin: Bytes,
+        end: Bytes,
+    ) -> Result<Delimiters, AllocError>
         ensures chosen { IfOk result (λ d. d ≡ chosen default_quotes begin end) }
         ensures valid { IfOk result (λ d. IsPaired d × IsSizedPair d) }
     {
@@ -44,7 +48,7 @@ impl Delimiters {
     }
 
     /// Returns comment delimiters with this begin and end.
-    pub fn chosen_comments(
+    pub(crate) fn chosen_comments(
         alloc: Global,
         begin: Bytes,
         end: Bytes,
