@@ -1,5 +1,6 @@
-//! The calls of a state and the table of builtins.
+//! The calls of a state, the table of builtins, and bytes.
 
+mod appended;
 mod builtins;
 mod delimiters;
 mod diversions;
