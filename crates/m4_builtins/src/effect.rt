@@ -218,7 +218,8 @@ impl Effect {
     pub(crate) fn warn(&mut self, messages: Bytes)
         ensures { self.new ≡ record self.old { messages = messages } }
     {
-        self.has_more = true;
+        // Builtins that read numbers always set them, and mostly there are none.
+        self.has_more |= !messages.as_slice().is_empty();
         self.messages = messages.into_vec();
     }
 
