@@ -52,7 +52,7 @@ fn make_room(room: &mut Vec<u8>, end: usize) -> Result<(), AllocError>
     ensures room { OnOk result (end < length room.new.items) }
 {
     if end == room.len() {
-        room.extend_from_slice(&[0u8; BLOCK])?;
+        room.resize(end + BLOCK, 0)?;
     }
     Ok(())
 }
