@@ -28,6 +28,9 @@ const END_LINE: &[u8] = b"# End of frozen state file\n";
 /// How many bytes of a directive are gathered, at most.
 const GATHERED: usize = 256;
 
+/// The room in which a short directive is gathered. It is used for one directive after another.
+type Gathered = ArrayVec<u8, GATHERED>;
+
 /// Writes the canonical text of a state. Manual: "Frozen file format".
 pub fn write_frozen<W: ByteSink>(state: &State, writer: &mut W) -> Result<(), WriteFault>
     // exact writer: the canonical text, and nothing else
@@ -122,7 +125,7 @@ fn put_delimiters<W: ByteSink>(
     if begin == default_begin && end == default_end {
         return Ok(());
     }
-    put_strings(letter, begin, end, writer)
+    put_gathered(letter, begin, end, &mut Gathered::new(), writer)
 }
 
 /// Writes the definitions of the names, in their order.
@@ -130,19 +133,25 @@ fn put_names<W: ByteSink>(pairs: &[(&[u8], &[Def])], writer: &mut W) -> Result<(
     ensures puts { Puts result (W.contents writer.old) (W.contents writer.new) (steps.names_text (map (λ p. (p.0.now, p.1.now)) pairs.now)) }
     ensures counted { W.failures writer.new ≡ count_after result (W.failures writer.old) }
 {
+    let mut gathered = Gathered::new();
     for pair in pairs {
-        put_stack(pair.0, pair.1, writer)?;
+        put_stack(pair.0, pair.1, &mut gathered, writer)?;
     }
     Ok(())
 }
 
 /// Writes the definitions of one name, the oldest first.
-fn put_stack<W: ByteSink>(name: &[u8], stack: &[Def], writer: &mut W) -> Result<(), DeviceFault>
+fn put_stack<W: ByteSink>(
+    name: &[u8],
+    stack: &[Def],
+    gathered: &mut Gathered,
+    writer: &mut W,
+) -> Result<(), DeviceFault>
     ensures puts { Puts result (W.contents writer.old) (W.contents writer.new) (steps.stack_text name.now stack.now) }
     ensures counted { W.failures writer.new ≡ count_after result (W.failures writer.old) }
 {
     for definition in stack {
-        put_definition(name, definition, writer)?;
+        put_definition(name, definition, gathered, writer)?;
     }
     Ok(())
 }
@@ -151,6 +160,7 @@ fn put_stack<W: ByteSink>(name: &[u8], stack: &[Def], writer: &mut W) -> Result<
 fn put_definition<W: ByteSink>(
     name: &[u8],
     definition: &Def,
+    gathered: &mut Gathered,
     writer: &mut W,
 ) -> Result<(), DeviceFault>
     ensures puts { Puts result (W.contents writer.old) (W.contents writer.new)
@@ -158,9 +168,11 @@ fn put_definition<W: ByteSink>(
     ensures counted { W.failures writer.new ≡ count_after result (W.failures writer.old) }
 {
     match definition {
-        Def::Text(text) => put_strings(b'T', name, text.as_slice(), writer),
-        Def::Builtin(builtin) => put_strings(b'F', name, builtin.name(), writer),
-        Def::Placeholder(builtin) => put_strings(b'F', name, builtin.as_slice(), writer),
+        Def::Text(text) => put_gathered(b'T', name, text.as_slice(), gathered, writer),
+        Def::Builtin(builtin) => put_gathered(b'F', name, builtin.name(), gathered, writer),
+        Def::Placeholder(builtin) => {
+            put_gathered(b'F', name, builtin.as_slice(), gathered, writer)
+        }
     }
 }
 
@@ -192,10 +204,11 @@ fn put_current<W: ByteSink>(current: i32, last: i32, writer: &mut W) -> Result<(
 
 /// Writes a letter, two lengths and two strings. If they are short, they are gathered and put as one
 /// piece.
-fn put_strings<W: ByteSink>(
+fn put_gathered<W: ByteSink>(
     letter: u8,
     first: &[u8],
     second: &[u8],
+    gathered: &mut Gathered,
     writer: &mut W,
 ) -> Result<(), DeviceFault>
     ensures puts { Puts result (W.contents writer.old) (W.contents writer.new) (texts.two_strings letter first.now second.now) }
@@ -205,9 +218,9 @@ fn put_strings<W: ByteSink>(
     let first_length = first_length.format(first.len()).as_bytes();
     let mut second_length = Buffer::new();
     let second_length = second_length.format(second.len()).as_bytes();
-    let mut gathered = ArrayVec::new();
+    gathered.clear();
     match gather(
-        &mut gathered,
+        gathered,
         letter,
         (first_length, second_length),
         (first, second),
@@ -231,7 +244,7 @@ fn put_strings<W: ByteSink>(
 
 /// Gathers a letter, two lengths and two strings, if there is room for all of them.
 fn gather(
-    gathered: &mut ArrayVec<u8, GATHERED>,
+    gathered: &mut Gathered,
     letter: u8,
     lengths: (&[u8], &[u8]),
     strings: (&[u8], &[u8]),
