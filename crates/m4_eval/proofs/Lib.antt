@@ -9,6 +9,7 @@ pub mod Tied
 pub mod Quotients
 pub mod Stacks
 pub mod Operands
+pub mod Chains
 pub mod Numbers
 pub mod WrittenDigits
 pub mod ReadBack

@@ -47,7 +47,7 @@ bits_are radix n (b ∷ x) =
     go again true = again
     go again false = refl
 
-small : (n : ℕ) → n < 37 → pos n ≡ bits_of n
+pub small : (n : ℕ) → n < 37 → pos n ≡ bits_of n
 small n h = sym (int_wrap_fits w32 (pos n) (record { sfits = omega (arith, h) }))
 
 -- all digits

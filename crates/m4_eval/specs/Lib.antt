@@ -8,4 +8,5 @@ pub mod ReadExpression
 pub mod EvaluateSteps
 pub mod Laws
 pub mod GrammarView
+pub mod ChainView
 pub mod LexerView

@@ -40,6 +40,37 @@ fn write_digits(number: u32, radix: Radix, room: &mut [u8; 64]) -> usize
     ensures within { result < 64 }
     ensures value { drop result room.new ≡ digits radix false number }
 {
+    if radix.value() == 10 {
+        write_decimal(number, room)
+    } else {
+        write_in(number, radix, room)
+    }
+}
+
+/// Writes the decimal digits of a number at the end of a buffer, and returns where they start. A division
+/// by a constant takes far less time than one by a radix.
+fn write_decimal(number: u32, room: &mut [u8; 64]) -> usize
+    ensures within { result < 64 }
+    ensures value { drop result room.new ≡ digits 10 false number }
+{
+    let mut i = 64;
+    let mut rest = number;
+    while i > 0 {
+        i -= 1;
+        room[i] = digit_byte(rest % 10);
+        rest /= 10;
+        if rest == 0 {
+            break;
+        }
+    }
+    i
+}
+
+/// Writes the digits of a number in a radix at the end of a buffer, and returns where they start.
+fn write_in(number: u32, radix: Radix, room: &mut [u8; 64]) -> usize
+    ensures within { result < 64 }
+    ensures value { drop result room.new ≡ digits radix false number }
+{
     let base = radix.value();
     let mut i = 64;
     let mut rest = number;

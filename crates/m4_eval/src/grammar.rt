@@ -13,6 +13,7 @@ ghost use Rattle.m4_eval.specs.Expression.{level_of};
 ghost use Rattle.m4_eval.specs.GrammarView.{place, NoSign, NoneJoined, NotOpened, placed};
 
 use crate::blank::is_space;
+use crate::chain::chain_value;
 use crate::frame::Frame;
 use crate::lexer::{literal, operator, sign};
 use crate::operator::{Operator, Sign};
@@ -160,6 +161,9 @@ fn read_token(
 pub(crate) fn value_of(alloc: Global, text: &[u8]) -> Result<Option<Option<i32>>, AllocError>
     ensures value { IfOk result (λ v. v ≡ value_at text.now) }
 {
+    if let Some(value) = chain_value(text) {
+        return Ok(Some(value));
+    }
     let mut waiting = Vec::new(alloc);
     let mut current = None;
     let mut rest = text;

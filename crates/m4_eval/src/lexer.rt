@@ -2,7 +2,7 @@
 //!
 //! Manual: "Evaluating integer expressions".
 
-ghost use Rattle.std.specs.Prelude.{◌≡◌, ◌≤◌, ◌+◌, zero, ℕ, length, take, option_map, pos, IfSome};
+ghost use Rattle.std.specs.Prelude.{◌≡◌, ◌≤◌, ◌+◌, zero, ℕ, length, take, drop, option_map, pos, Some, IfSome};
 ghost use Rattle.m4_eval.specs.ReadExpression.{is_alphanumeric, run_of, sign_at, operator_at, literal_at, number_of, in_marked_radix, in_radix_from, in_stated_radix};
 ghost use Rattle.m4_eval.specs.LexerView.{next_bits, bits_after, bits_of, in_bits, radix_said};
 ghost use Rattle.std.specs.Char.{digit_value};
@@ -43,6 +43,7 @@ pub(crate) fn sign(byte: u8) -> Option<Sign>
 }
 
 /// Returns the operator that begins with a byte, and the number of its bytes after that one.
+#[inline(always)]
 pub(crate) fn operator(byte: u8, after: &[u8]) -> Option<(Operator, usize)>
     ensures value { result ≡ operator_at byte after.now }
     ensures within { IfSome result (λ o. o.1 ≤ length after.now) }
@@ -117,6 +118,30 @@ fn from_digit(radix: u8, first: u8, after: &[u8]) -> Option<(i32, usize)>
     }
     let run = after.split_at(run_len(after)).0;
     Some((go_on(i32::from(value), radix, run)?, run.len()))
+}
+
+/// Reads the decimal number that begins with a digit, up to the first byte that is neither a digit nor a
+/// letter. Returns the number, which wraps, and the text after it; nothing if there is a letter.
+#[inline(always)]
+pub(crate) fn decimal(first: u8, after: &[u8]) -> Option<(i32, &[u8])>
+    ensures read { IfSome result (λ r. (bits_after 10 (pos (digit_value first)) (run_of after.now) ≡ Some r.0)
+        × (r.1.now ≡ drop (length (run_of after.now)) after.now)) }
+    ensures within { IfSome result (λ r. length r.1.now ≤ length after.now) }
+{
+    let mut number = i32::from(digit_of(first));
+    let mut rest = after;
+    while let Some((byte, others)) = rest.split_first() {
+        let digit = digit_of(*byte);
+        if digit >= 36 {
+            return Some((number, rest));
+        }
+        if digit >= 10 {
+            return None;
+        }
+        number = add_digit(number, 10, digit);
+        rest = others;
+    }
+    Some((number, rest))
 }
 
 /// Reads the digits after the mark of a radix, which is one byte after the first.

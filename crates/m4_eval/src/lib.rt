@@ -7,6 +7,7 @@
 #![tactic(auto)]
 
 pub mod blank;
+mod chain;
 pub mod digits;
 pub mod evaluate;
 // It is public for the auxiliary definitions, which use it too.
