@@ -10,6 +10,7 @@ ghost use Rattle.m4_input.specs.Token.{starts_with, may_start};
 
 use crate::delims::Delims;
 use crate::front::Answer;
+use crate::look::may_begin;
 use crate::window::Window;
 
 /// A begin and an end delimiter.
@@ -18,6 +19,7 @@ type Pair<'a> = (&'a [u8], &'a [u8]);
 impl<'a> Window<'a> {
     /// Returns whether the token at a place is an opening parenthesis; `Unknown` if more bytes may follow
     /// that decide it.
+    #[inline(always)]
     pub fn list_at(&self, at: usize, delims: &Delims<'_>, may_follow: bool) -> Answer
         requires { at ≤ length self.now }
         ensures { paren_in (pair_of delims.now.quotes) (pair_of delims.now.comments) may_follow
@@ -29,7 +31,12 @@ impl<'a> Window<'a> {
             None if may_follow => return Answer::Unknown,
             None => return Answer::No,
         }
-        self.list_by_delimiters(at, delims, may_follow)
+        // Hardly ever does a delimiter begin with a parenthesis, and this takes two comparisons.
+        if may_begin(b'(', &delims.comments) || may_begin(b'(', &delims.quotes) {
+            self.list_by_delimiters(at, delims, may_follow)
+        } else {
+            Answer::Yes
+        }
     }
 
     /// Returns whether the parenthesis at a place is a token by itself, and begins no delimiter.

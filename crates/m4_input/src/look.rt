@@ -50,7 +50,7 @@ pub fn first_token(text: &[u8], delims: &Delims<'_>, may_follow: bool) -> Look
     }
     match quoted_token(text, delims, may_follow) {
         Some(look) => look,
-        None => token_by_kind(text, *delims, may_follow),
+        None => token_by_kind(text, delims, may_follow),
     }
 }
 
@@ -86,15 +86,14 @@ fn quoted_token(text: &[u8], delims: &Delims<'_>, may_follow: bool) -> Option<Lo
     Some(short_string(rest, begin, end, may_follow))
 }
 
-/// Returns the first token of a text, by its kind. It has a copy of the delimiters, so that the loops over quick
-/// tokens keep theirs in registers.
+/// Returns the first token of a text, by its kind.
 #[inline(never)]
-fn token_by_kind(text: &[u8], delims: Delims<'_>, may_follow: bool) -> Look
-    ensures value { scan (pair_of delims.entry.quotes) (pair_of delims.entry.comments) may_follow text.now
+fn token_by_kind(text: &[u8], delims: &Delims<'_>, may_follow: bool) -> Look
+    ensures value { scan (pair_of delims.now.quotes) (pair_of delims.now.comments) may_follow text.now
         ≡ scan_of result text.now }
     ensures lies { LookLies text.now result }
 {
-    Window::new(&[], text).look_by_kind(&delims, may_follow)
+    Window::new(&[], text).look_by_kind(delims, may_follow)
 }
 
 /// Returns whether the first token of a text is an opening parenthesis; `Unknown` if more bytes may follow
@@ -104,28 +103,7 @@ pub fn list_follows(text: &[u8], delims: &Delims<'_>, may_follow: bool) -> Answe
     // exact steps: whether a list follows
     ensures { paren_in (pair_of delims.now.quotes) (pair_of delims.now.comments) may_follow text.now ≡ result }
 {
-    let first = match text.first() {
-        Some(first) => *first,
-        None if may_follow => return Answer::Unknown,
-        None => return Answer::No,
-    };
-    if first != b'(' {
-        return Answer::No;
-    }
-    // Hardly ever does a delimiter begin with a parenthesis, and this takes two comparisons.
-    if may_begin(b'(', &delims.comments) || may_begin(b'(', &delims.quotes) {
-        list_by_delimiters(text, *delims, may_follow)
-    } else {
-        Answer::Yes
-    }
-}
-
-/// Returns whether the first token of a text is an opening parenthesis, if it may be a delimiter's first byte.
-#[inline(never)]
-fn list_by_delimiters(text: &[u8], delims: Delims<'_>, may_follow: bool) -> Answer
-    ensures { paren_in (pair_of delims.entry.quotes) (pair_of delims.entry.comments) may_follow text.now ≡ result }
-{
-    Window::new(&[], text).list_at(0, &delims, may_follow)
+    Window::new(&[], text).list_at(0, delims, may_follow)
 }
 
 /// Returns whether the first of two delimiters begins with this byte.
