@@ -5,6 +5,7 @@ pub mod ReadBack
 pub mod Parts
 pub mod Spelled
 pub mod RowsRefused
+pub mod FewDigits
 pub mod FirstFault
 pub mod LongestFront
 pub mod NamedRead

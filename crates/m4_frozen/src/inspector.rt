@@ -3,7 +3,7 @@
 //! A line is written part by part, so no part of the listing is buffered. Memory can run out only
 //! while the names are sorted, before the first byte is written.
 
-ghost use Rattle.std.specs.Prelude.{◌≡◌, ◌<◌, OnOk, map, Err};
+ghost use Rattle.std.specs.Prelude.{◌≡◌, ◌<◌, OnOk, Err};
 ghost use Rattle.std.specs.List.{flat_map, list_all};
 ghost use Rattle.m4_state.specs.Device.{with_bytes, one_more, count_after, HasBegun, Puts};
 ghost use Rattle.m4_state.specs.State.{AreDiversions};
@@ -15,6 +15,7 @@ use crate::loading::Loaded;
 use itoa::Buffer;
 use m4_state::definition::Def;
 use m4_state::device::{ByteSink, DeviceFault};
+use m4_state::named::Named;
 use m4_state::state::State;
 use m4_state::transfer::{write_all, write_pieces};
 
@@ -45,11 +46,11 @@ pub fn list<W: ByteSink>(loaded: &Loaded, writer: &mut W) -> Result<(), WriteFau
 /// Writes the delimiters, the definitions and the diversions.
 fn put_listing<W: ByteSink>(
     loaded: &Loaded,
-    pairs: &[(&[u8], &[Def])],
+    pairs: &[Named],
     writer: &mut W,
 ) -> Result<(), DeviceFault>
     requires { AreDiversions loaded.now.state.diversions }
-    ensures puts { Puts result (W.contents writer.old) (W.contents writer.new) (steps.listing_text loaded.now (map (λ p. (p.0.now, p.1.now)) pairs.now)) }
+    ensures puts { Puts result (W.contents writer.old) (W.contents writer.new) (steps.listing_text loaded.now pairs.now) }
     ensures counted { W.failures writer.new ≡ count_after result (W.failures writer.old) }
 {
     put_settings(&loaded.state, writer)?;
@@ -85,12 +86,12 @@ fn put_delimiters<W: ByteSink>(
 }
 
 /// Writes the definitions of the names, in their order.
-fn put_names<W: ByteSink>(pairs: &[(&[u8], &[Def])], writer: &mut W) -> Result<(), DeviceFault>
-    ensures puts { Puts result (W.contents writer.old) (W.contents writer.new) (steps.names_lines (map (λ p. (p.0.now, p.1.now)) pairs.now)) }
+fn put_names<W: ByteSink>(pairs: &[Named], writer: &mut W) -> Result<(), DeviceFault>
+    ensures puts { Puts result (W.contents writer.old) (W.contents writer.new) (steps.names_lines pairs.now) }
     ensures counted { W.failures writer.new ≡ count_after result (W.failures writer.old) }
 {
     for pair in pairs {
-        put_stack(pair.0, pair.1, writer)?;
+        put_stack(pair.name(), pair.stack(), writer)?;
     }
     Ok(())
 }

@@ -3,7 +3,7 @@
 //! A number's value is checked before the byte that follows its digits. The fault of a number that is
 //! too large is at its first digit, or at its sign. Manual: "Frozen file format".
 
-ghost use Rattle.std.specs.Prelude.{◌≡◌, ◌<◌, ◌^◌, IsTrue, IfOk};
+ghost use Rattle.std.specs.Prelude.{◌≡◌, ◌<◌, ◌^◌, IsTrue, IfOk, IfSome, Ok};
 ghost use Rattle.std.specs.Option.{SomeIff};
 ghost use Rattle.std.specs.List.{list_all};
 ghost use Rattle.std.specs.Char.{is_ascii_digit};
@@ -75,9 +75,50 @@ fn some_digits(bytes: &[u8]) -> Result<(&[u8], &[u8]), Refusal>
     Err(refused_at(FrozenKind::DigitExpected, bytes))
 }
 
-/// Reads the length of a string; returns it and the bytes after it.
-#[tactic(auto, unfolding(crate::specs::ReaderSteps::length_at))]
+/// Reads the length of a string; returns it and the bytes after it. Most lengths have few digits and no blanks before
+/// them.
+#[inline(always)]
 pub(crate) fn length(bytes: &[u8]) -> Result<(u64, &[u8]), Refusal>
+    ensures { Gives (λ x. (x.0, x.1.now)) result (steps.length_at bytes.now) }
+{
+    match few_digits(bytes) {
+        Some(found) => Ok(found),
+        None => any_length(bytes),
+    }
+}
+
+/// Returns the value of one digit to three, if that many are at the start and another byte follows, and the bytes after
+/// them.
+#[inline(always)]
+fn few_digits(bytes: &[u8]) -> Option<(u64, &[u8])>
+    ensures { IfSome result (λ x. steps.length_at bytes.now ≡ Ok (x.0, x.1.now)) }
+{
+    match bytes {
+        [a, b, ..] if a.is_ascii_digit() && !b.is_ascii_digit() => {
+            Some((u64::from(*a - b'0'), bytes.split_at(1).1))
+        }
+        [a, b, c, ..] if a.is_ascii_digit() && b.is_ascii_digit() && !c.is_ascii_digit() => Some((
+            u64::from(*a - b'0') * 10 + u64::from(*b - b'0'),
+            bytes.split_at(2).1,
+        )),
+        [a, b, c, d, ..]
+            if a.is_ascii_digit()
+                && b.is_ascii_digit()
+                && c.is_ascii_digit()
+                && !d.is_ascii_digit() => {
+            Some((
+                u64::from(*a - b'0') * 100 + u64::from(*b - b'0') * 10 + u64::from(*c - b'0'),
+                bytes.split_at(3).1,
+            ))
+        }
+        _ => None,
+    }
+}
+
+/// The same with blanks before it, or with any number of digits.
+#[inline(never)]
+#[tactic(auto, unfolding(crate::specs::ReaderSteps::length_at))]
+fn any_length(bytes: &[u8]) -> Result<(u64, &[u8]), Refusal>
     ensures { Gives (λ x. (x.0, x.1.now)) result (steps.length_at bytes.now) }
 {
     let number = skip_blanks(bytes);

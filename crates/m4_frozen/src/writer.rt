@@ -3,10 +3,9 @@
 //! Memory can run out only while the names are sorted, before the first byte is written. If a write
 //! fails, the bytes written are a prefix of the text. Manual: "Frozen file format".
 
-ghost use Rattle.std.specs.Prelude.{◌≡◌, ◌∷◌, ◌++◌, ℤ, pos, IfOk, OnOk, OnErr, [], map, Err};
+ghost use Rattle.std.specs.Prelude.{◌≡◌, ◌++◌, ℤ, pos, IfOk, OnOk, OnErr, [], Err, decimal};
 ghost use Rattle.m4_state.specs.Device.{with_bytes, one_more, count_after, HasBegun, Puts};
 ghost use Rattle.m4_state.specs.State.{AreDiversions, IsSized};
-ghost use Rattle.m4_frozen.specs.Ascii.{comma, newline};
 ghost use Rattle.m4_frozen.specs.Directive as directives;
 ghost use Rattle.m4_frozen.specs.Freeze as texts;
 ghost use Rattle.m4_frozen.specs.WriterSteps as steps;
@@ -16,6 +15,7 @@ use arrayvec::{ArrayVec, CapacityError};
 use itoa::Buffer;
 use m4_state::definition::Def;
 use m4_state::device::{ByteSink, DeviceFault};
+use m4_state::named::Named;
 use m4_state::state::State;
 use m4_state::transfer::{write_all, write_pieces};
 
@@ -61,11 +61,11 @@ pub fn write_frozen<W: ByteSink>(state: &State, writer: &mut W) -> Result<(), Wr
 /// Writes the header, the directives and the end line.
 fn put_frozen<W: ByteSink>(
     state: &State,
-    pairs: &[(&[u8], &[Def])],
+    pairs: &[Named],
     writer: &mut W,
 ) -> Result<(), DeviceFault>
     requires { AreDiversions state.now.diversions }
-    ensures puts { Puts result (W.contents writer.old) (W.contents writer.new) (steps.frozen_text state.now (map (λ p. (p.0.now, p.1.now)) pairs.now)) }
+    ensures puts { Puts result (W.contents writer.old) (W.contents writer.new) (steps.frozen_text state.now pairs.now) }
     ensures counted { W.failures writer.new ≡ count_after result (W.failures writer.old) }
 {
     write_all(writer, HEADER)?;
@@ -76,11 +76,11 @@ fn put_frozen<W: ByteSink>(
 /// Writes the delimiters, the definitions and the diversions.
 fn put_directives<W: ByteSink>(
     state: &State,
-    pairs: &[(&[u8], &[Def])],
+    pairs: &[Named],
     writer: &mut W,
 ) -> Result<(), DeviceFault>
     requires { AreDiversions state.now.diversions }
-    ensures puts { Puts result (W.contents writer.old) (W.contents writer.new) (steps.directives_text state.now (map (λ p. (p.0.now, p.1.now)) pairs.now)) }
+    ensures puts { Puts result (W.contents writer.old) (W.contents writer.new) (steps.directives_text state.now pairs.now) }
     ensures counted { W.failures writer.new ≡ count_after result (W.failures writer.old) }
 {
     put_settings(state, writer)?;
@@ -129,13 +129,13 @@ fn put_delimiters<W: ByteSink>(
 }
 
 /// Writes the definitions of the names, in their order.
-fn put_names<W: ByteSink>(pairs: &[(&[u8], &[Def])], writer: &mut W) -> Result<(), DeviceFault>
-    ensures puts { Puts result (W.contents writer.old) (W.contents writer.new) (steps.names_text (map (λ p. (p.0.now, p.1.now)) pairs.now)) }
+fn put_names<W: ByteSink>(pairs: &[Named], writer: &mut W) -> Result<(), DeviceFault>
+    ensures puts { Puts result (W.contents writer.old) (W.contents writer.new) (steps.names_text pairs.now) }
     ensures counted { W.failures writer.new ≡ count_after result (W.failures writer.old) }
 {
     let mut gathered = Gathered::new();
     for pair in pairs {
-        put_stack(pair.0, pair.1, &mut gathered, writer)?;
+        put_stack(pair.name(), pair.stack(), &mut gathered, writer)?;
     }
     Ok(())
 }
@@ -214,53 +214,85 @@ fn put_gathered<W: ByteSink>(
     ensures puts { Puts result (W.contents writer.old) (W.contents writer.new) (texts.two_strings letter first.now second.now) }
     ensures counted { W.failures writer.new ≡ count_after result (W.failures writer.old) }
 {
+    gathered.clear();
+    match gather(gathered, letter, first, second) {
+        Ok(()) => write_all(writer, gathered.as_slice()),
+        Err(_full) => put_long(letter, first, second, writer),
+    }
+}
+
+/// Writes the same in pieces.
+#[inline(never)]
+fn put_long<W: ByteSink>(
+    letter: u8,
+    first: &[u8],
+    second: &[u8],
+    writer: &mut W,
+) -> Result<(), DeviceFault>
+    ensures puts { Puts result (W.contents writer.old) (W.contents writer.new) (texts.two_strings letter first.now second.now) }
+    ensures counted { W.failures writer.new ≡ count_after result (W.failures writer.old) }
+{
     let mut first_length = Buffer::new();
     let first_length = first_length.format(first.len()).as_bytes();
     let mut second_length = Buffer::new();
     let second_length = second_length.format(second.len()).as_bytes();
-    gathered.clear();
-    match gather(
-        gathered,
-        letter,
-        (first_length, second_length),
-        (first, second),
-    ) {
-        Ok(()) => write_all(writer, gathered.as_slice()),
-        Err(_full) => write_pieces(
-            writer,
-            &[
-                &[letter],
-                first_length,
-                b",",
-                second_length,
-                b"\n",
-                first,
-                second,
-                b"\n",
-            ],
-        ),
-    }
+    write_pieces(
+        writer,
+        &[
+            &[letter],
+            first_length,
+            b",",
+            second_length,
+            b"\n",
+            first,
+            second,
+            b"\n",
+        ],
+    )
 }
 
 /// Gathers a letter, two lengths and two strings, if there is room for all of them.
 fn gather(
     gathered: &mut Gathered,
     letter: u8,
-    lengths: (&[u8], &[u8]),
-    strings: (&[u8], &[u8]),
+    first: &[u8],
+    second: &[u8],
 ) -> Result<(), CapacityError>
     requires { gathered.old.items ≡ [] }
-    ensures { OnOk result (gathered.new.items ≡ letter ∷ lengths.entry.0.now ++ comma ∷ lengths.entry.1.now ++ newline ∷ []
-        ++ strings.entry.0.now ++ strings.entry.1.now ++ newline ∷ []) }
+    ensures { OnOk result (gathered.new.items ≡ texts.two_strings letter first.now second.now) }
 {
     gathered.push(letter);
-    gathered.try_extend_from_slice(lengths.0)?;
+    gather_length(gathered, first.len())?;
     gathered.try_extend_from_slice(b",")?;
-    gathered.try_extend_from_slice(lengths.1)?;
+    gather_length(gathered, second.len())?;
     gathered.try_extend_from_slice(b"\n")?;
-    gathered.try_extend_from_slice(strings.0)?;
-    gathered.try_extend_from_slice(strings.1)?;
+    gathered.try_extend_from_slice(first)?;
+    gathered.try_extend_from_slice(second)?;
     gathered.try_extend_from_slice(b"\n")
+}
+
+/// Gathers a length, if there is room for it. Most have a digit or two, which need no buffer of their own.
+#[inline(always)]
+fn gather_length(gathered: &mut Gathered, length: usize) -> Result<(), CapacityError>
+    ensures { OnOk result (gathered.new.items ≡ gathered.old.items ++ decimal length) }
+{
+    if length < 10 {
+        return gathered.try_extend_from_slice(&[b'0' + length as u8]);
+    }
+    if length < 100 {
+        let (tens, ones) = (length as u8 / 10, length as u8 % 10);
+        return gathered.try_extend_from_slice(&[b'0' + tens, b'0' + ones]);
+    }
+    gather_long_length(gathered, length)
+}
+
+/// Gathers a length of any number of digits, if there is room for it.
+#[inline(never)]
+fn gather_long_length(gathered: &mut Gathered, length: usize) -> Result<(), CapacityError>
+    ensures { OnOk result (gathered.new.items ≡ gathered.old.items ++ decimal length) }
+{
+    let mut digits = Buffer::new();
+    gathered.try_extend_from_slice(digits.format(length).as_bytes())
 }
 
 /// Writes `D`, a number, a length and a text.

@@ -1,5 +1,5 @@
 -- Appends: what a piece of a fixed length appends, once what comes after the bytes wanted is cut off.
-use Rattle.std.proofs.Common.{◌≡◌, ◌++◌, ◌+◌, ◌≤◌, ◌∙◌, List, ℕ, ap, subst, sym}
+use Rattle.std.proofs.Common.{◌≡◌, ◌++◌, ◌+◌, ◌≤◌, ◌∙◌, List, ℕ, ap}
 use Rattle.std.specs.Prelude.{take, length}
 use Rattle.std.proofs.lemmas.List.{take-take}
 use Rattle.std.proofs.Math.Seq.{take-append-add}

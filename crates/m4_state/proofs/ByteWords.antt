@@ -1,10 +1,10 @@
 -- Names that are compared as numbers: words of eight bytes compare as the bytes do.
-use Rattle.std.proofs.Common.{◌≡◌, ℕ, zero, suc, ◌+◌, ◌-◌, ◌*◌, ◌<◌, ◌≤◌, min, List, [], ◌∷◌, length, get_or, take, drop, drop-cons, Ordering, Less, Equal, Greater, refl, sym, ap, subst, ◌∙◌, arith}
+use Rattle.std.proofs.Common.{◌≡◌, ℕ, zero, suc, ◌+◌, ◌*◌, ◌<◌, ◌≤◌, List, [], ◌∷◌, length, get_or, take, drop, drop-cons, Ordering, Less, Equal, Greater, refl, sym, ap, subst, ◌∙◌, arith}
 use Rattle.std.specs.Ordering.{nat_cmp, ordering_then, MatchOrdering}
 use Rattle.std.specs.Cmp.{ranks}
 use Rattle.std.specs.Cmp.Lexicographic.{slice_cmp}
 use Rattle.std.proofs.lemmas.List.{length-drop, get_or-drop}
-use Rattle.m4_state.specs.ByteWords.{word, AreBytes}
+use Rattle.m4_state.specs.ByteWords.{word, AreBytes, filled, IsRank}
 
 -- ---- how two numbers compare
 by_rank : (x y : ℕ) (r : Ordering) → MatchOrdering r (x < y) (x ≡ y) (y < x) → (x < y → r ≡ Less) × (x ≡ y → r ≡ Equal) × (y < x → r ≡ Greater)
@@ -68,13 +68,6 @@ past (suc i) (x ∷ xs) (y ∷ ys) a b h =
     let rest : take i xs ≡ take i ys = cc in
     ap (λ r. ordering_then r (slice_cmp nat_cmp xs ys)) (tied head) ∙ past i xs ys (omega arith) (omega arith) rest
 
--- where one string has ended, the lengths decide
-ended : (xs ys us vs : List ℕ) (k : ℕ) → length us ≡ length xs - k → length vs ≡ length ys - k → k ≡ min (length xs) (length ys) → slice_cmp nat_cmp us vs ≡ nat_cmp (length xs) (length ys)
-ended xs ys [] [] k p q m = let e : length xs ≡ length ys = omega arith in sym (tied e)
-ended xs ys [] (v ∷ vs) k p q m = let l : length xs < length ys = omega arith in sym (below l)
-ended xs ys (u ∷ us) [] k p q m = let g : length ys < length xs = omega arith in sym (above g)
-ended xs ys (u ∷ us) (v ∷ vs) k p q m = absurd (omega arith)
-
 module _ (xs ys : List ℕ) (bx : AreBytes xs) (by : AreBytes ys) where
   -- the words from i on, where the bytes before are alike
   pub words_at : (i : ℕ) → i + 8 ≤ length xs → i + 8 ≤ length ys → take i xs ≡ take i ys → Settles (drop i xs) (drop i ys) 8 (word 0 (take 8 (drop i xs))) (word 0 (take 8 (drop i ys)))
@@ -86,16 +79,6 @@ module _ (xs ys : List ℕ) (bx : AreBytes xs) (by : AreBytes ys) where
   pub words_decide : (i x y : ℕ) → i + 8 ≤ length xs → i + 8 ≤ length ys → take i xs ≡ take i ys → x ≡ word 0 (take 8 (drop i xs)) → y ≡ word 0 (take 8 (drop i ys)) → (x ≡ y → ⊥) → nat_cmp x y ≡ slice_cmp nat_cmp xs ys
   words_decide i x y p q h ex ey f =
       (λ j. nat_cmp (ex j) (ey j)) ∙ sym (past i xs ys (omega arith) (omega arith) h ∙ (words_at i p q h).apart (λ e. f (ex ∙ e ∙ sym ey)))
-
-  -- words that are equal, up to the end of a string, leave it to the lengths
-  pub lengths_decide : (i x y : ℕ) → i + 8 ≡ min (length xs) (length ys) → take i xs ≡ take i ys → x ≡ word 0 (take 8 (drop i xs)) → y ≡ word 0 (take 8 (drop i ys)) → x ≡ y → nat_cmp (length xs) (length ys) ≡ slice_cmp nat_cmp xs ys
-  lengths_decide i x y m h ex ey e =
-      let same = (words_at i (omega arith) (omega arith) h).alike (sym ex ∙ e ∙ ey) in
-      sym (
-      past i xs ys (omega arith) (omega arith) h
-      ∙ past 8 (drop i xs) (drop i ys) (omega (arith, length-drop i xs)) (omega (arith, length-drop i ys)) same
-      ∙ ended xs ys (drop 8 (drop i xs)) (drop 8 (drop i ys)) (i + 8) (omega (arith, length-drop 8 (drop i xs), length-drop i xs)) (omega (arith, length-drop 8 (drop i ys), length-drop i ys)) m
-      )
 
 -- the n bytes from i + k on, as they are read one by one
 abbrev reads : List ℕ → ℕ → ℕ → ℕ → List ℕ
@@ -117,3 +100,43 @@ eight_bytes xs i le =
     let start : i ≡ i + 0 = omega arith in
     let here : get_or xs (i + 0) 0 ≡ get_or xs i 0 = ap (λ k. get_or xs k 0) (omega arith) in
     omega (arith, here) ∙ sym (ap (word 0) (ap (λ m. take 8 (drop m xs)) start ∙ read_out 8 xs i 0 (omega arith)))
+
+-- ---- names as two numbers
+
+length-filled : (n : ℕ) (xs : List ℕ) → length (filled n xs) ≡ n
+length-filled zero xs = refl
+length-filled (suc n) [] = ap suc (length-filled n [])
+length-filled (suc n) (x ∷ xs) = ap suc (length-filled n xs)
+
+-- names whose first bytes differ, zeros for those that are not there, compare as these do
+filled_decide : (n : ℕ) (xs ys : List ℕ) → (filled n xs ≡ filled n ys → ⊥) → slice_cmp nat_cmp (filled n xs) (filled n ys) ≡ slice_cmp nat_cmp xs ys
+filled_decide zero xs ys f = absurd (f refl)
+filled_decide (suc n) [] [] f = absurd (f refl)
+filled_decide (suc n) [] (suc y ∷ ys) f = let l : 0 < suc y = omega arith in ap (λ r. ordering_then r (slice_cmp nat_cmp (filled n []) (filled n ys))) (below l)
+filled_decide (suc n) [] (zero ∷ []) f = absurd (f refl)
+filled_decide (suc n) [] (zero ∷ y ∷ ys) f = filled_decide n [] (y ∷ ys) (λ e. f (ap (λ l. 0 ∷ l) e))
+filled_decide (suc n) (suc x ∷ xs) [] f = let g : 0 < suc x = omega arith in ap (λ r. ordering_then r (slice_cmp nat_cmp (filled n xs) (filled n []))) (above g)
+filled_decide (suc n) (zero ∷ []) [] f = absurd (f refl)
+filled_decide (suc n) (zero ∷ x ∷ xs) [] f = filled_decide n (x ∷ xs) [] (λ e. f (ap (λ l. 0 ∷ l) e))
+filled_decide (suc n) (x ∷ xs) (y ∷ ys) f = by (nat_cmp x y) (ranks x y) (filled_decide n xs ys)
+  where
+    by : (r : Ordering) → MatchOrdering r (x < y) (x ≡ y) (y < x)
+        → ((filled n xs ≡ filled n ys → ⊥) → slice_cmp nat_cmp (filled n xs) (filled n ys) ≡ slice_cmp nat_cmp xs ys)
+        → ordering_then r (slice_cmp nat_cmp (filled n xs) (filled n ys)) ≡ ordering_then r (slice_cmp nat_cmp xs ys)
+    by Less l rest = refl
+    by Greater l rest = refl
+    by Equal l rest = let level : x ≡ y = l in rest (λ s. f (λ j. level j ∷ s j))
+
+module _ (xs ys : List ℕ) (a b c d : ℕ) (rx : IsRank xs a b) (ry : IsRank ys c d) where
+  -- first numbers that differ decide
+  pub first_decides : (a ≡ c → ⊥) → nat_cmp a c ≡ slice_cmp nat_cmp xs ys
+  first_decides f =
+      words_decide (filled 16 xs) (filled 16 ys) rx.bytes ry.bytes 0 a c (omega (arith, length-filled 16 xs)) (omega (arith, length-filled 16 ys)) refl rx.high ry.high f
+      ∙ filled_decide 16 xs ys (λ e. f (rx.high ∙ ap (λ l. word 0 (take 8 l)) e ∙ sym ry.high))
+
+  -- if they are equal, second ones that differ do
+  pub second_decides : a ≡ c → (b ≡ d → ⊥) → nat_cmp b d ≡ slice_cmp nat_cmp xs ys
+  second_decides e f =
+      let same = (words_at (filled 16 xs) (filled 16 ys) rx.bytes ry.bytes 0 (omega (arith, length-filled 16 xs)) (omega (arith, length-filled 16 ys)) refl).alike (sym rx.high ∙ e ∙ ry.high) in
+      words_decide (filled 16 xs) (filled 16 ys) rx.bytes ry.bytes 8 b d (omega (arith, length-filled 16 xs)) (omega (arith, length-filled 16 ys)) same rx.low ry.low f
+      ∙ filled_decide 16 xs ys (λ s. f (rx.low ∙ ap (λ l. word 0 (take 8 (drop 8 l))) s ∙ sym ry.low))

@@ -1,6 +1,6 @@
 -- Laws that crates above cite: a builtin is found by its name; a text is put piece by piece into a
 -- writer, and taken block by block from a reader.
-use Rattle.std.proofs.Common.{◌≡◌, ℕ, ◌+◌, ◌<◌, List, [], ◌++◌, map, length, get_or, take, drop, drop-cons, add-one, Option, Some, None, Result, Ok, Err, refl, sym, ap, ◌∙◌, append_assoc}
+use Rattle.std.proofs.Common.{◌≡◌, ℕ, ◌+◌, ◌<◌, List, [], ◌++◌, length, get_or, take, drop, drop-cons, add-one, Option, Some, None, Result, Ok, Err, refl, sym, ap, ◌∙◌, append_assoc}
 use Rattle.std.specs.List.{flat_map}
 use Rattle.std.specs.Prelude.{IsErr}
 use Rattle.std.proofs.lemmas.List.{take-append-drop, append-nil}
@@ -97,10 +97,6 @@ HasPut-last new (Err x) bytes piece p q = HasPut-cut bytes piece [] (record { fr
 -- the first of the items that are left
 pub flat_map-drop : {X : Type 0} (f : X → List ℕ) (xs : List X) (i : ℕ) (d : X) → i < length xs → flat_map f (drop i xs) ≡ f (get_or xs i d) ++ flat_map f (drop (i + 1) xs)
 flat_map-drop f xs i d lt = ap (flat_map f) (drop-cons xs i d lt) ∙ ap (λ (j : ℕ). f (get_or xs i d) ++ flat_map f (drop j xs)) (sym (add-one i))
-
--- the same of items that are seen as others
-pub flat_map-map-drop : {X Y : Type 0} (f : Y → List ℕ) (see : X → Y) (xs : List X) (i : ℕ) (d : X) → i < length xs → flat_map f (map see (drop i xs)) ≡ f (see (get_or xs i d)) ++ flat_map f (map see (drop (i + 1) xs))
-flat_map-map-drop {X = X} f see xs i d lt = ap (λ (ys : List X). flat_map f (map see ys)) (drop-cons xs i d lt) ∙ ap (λ (j : ℕ). f (see (get_or xs i d)) ++ flat_map f (map see (drop j xs))) (sym (add-one i))
 
 -- a call that failed amid a text leaves a beginning of it
 pub Puts-refused : {A E : Type 0} (r : Result A E) (old new : Option (List ℕ)) (text : List ℕ) → IsErr r → HasBegun old new text → Puts r old new text

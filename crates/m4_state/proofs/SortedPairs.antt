@@ -8,7 +8,6 @@ use Rattle.std.specs.Map.{keys_of, lookup}
 use Rattle.std.specs.FinMap.{find, is_sorted}
 use Rattle.std.specs.FinMap.Entries.{below_all, same_entries}
 use Rattle.std.proofs.lemmas.List.{get_or-map, length-map}
-use Rattle.std.proofs.lemmas.Simd.{map-map}
 use Rattle.std.proofs.lemmas.List.Sorted.{IsPermutation-map}
 use Rattle.std.proofs.lemmas.Map.Keys.{sorted_head, sorted_tail, sorted_from_all_adjacent, apart_from_distinct, IsDistinct-IsPermutation}
 use Rattle.indexmap.proofs.MapLemmas.{lookup_permutation}
@@ -65,29 +64,21 @@ lookup_pairs : (q : List ℕ) (es : List Entry) → lookup (pointwise nat_eq q) 
 lookup_pairs q [] = refl
 lookup_pairs q (e ∷ es) = ap (cond (has_bytes q e.0) (Some e.1)) (lookup_pairs q es)
 
--- the pairs of the entries in any order whose names rise
-sorted_pairs_in_order : (es : List Entry) (given moved : Pairs) → given ≡ map pair_of es → IsDistinct (pointwise nat_eq) (keys_of given) → IsPermutation given moved → IsSortedBy (λ x y. is_lt (byte_order x y)) (keys_of moved)
+-- pairs in the order of their names have names in order
+sorted_names : (ps : Pairs) → IsSortedBy (λ x y. is_lt (byte_order x.0 y.0)) ps → IsSortedBy (λ x y. is_lt (byte_order x y)) (keys_of ps)
+sorted_names [] up k d low lt = absurd (omega arith)
+sorted_names (p ∷ ps) up k d low lt =
+    let name : Pair → List ℕ = λ q. q.0 in
+    let count = length-map (p ∷ ps) name in
+    let within : k + 1 < length (p ∷ ps) = omega (arith, count) in
+    (λ j. is_lt (byte_order (get_or-map name (p ∷ ps) (k + 1) p d within j) (get_or-map name (p ∷ ps) k p d (omega arith) j))) ∙ up k p low within
+
+-- the pairs of the entries, sorted by their names
+pub sorted_in_byte_order : (es : List Entry) (given moved : Pairs) → given ≡ map pair_of es → IsDistinct (pointwise nat_eq) (keys_of given) → IsPermutation given moved → IsSortedBy (λ x y. is_lt (byte_order x.0 y.0)) moved
     → moved ≡ in_order es
-sorted_pairs_in_order es given moved is apart moves up =
+sorted_in_byte_order es given moved is apart moves up =
     let apart_moved = IsDistinct-IsPermutation (pointwise nat_eq) nat_list_eq_equiv.symm (keys_of given) (keys_of moved) (IsPermutation-map (λ (p : Pair). p.0) given moved moves) apart in
     same_entries byte_order nat_list_cmp_total byte_order-IsAntisymmetric moved (in_order es)
-    (rising_pairs moved (strictly (keys_of moved) up apart_moved)) (sorted_in_order es)
+    (rising_pairs moved (strictly (keys_of moved) (sorted_names moved up) apart_moved)) (sorted_in_order es)
     (λ q. find_is_lookup q moved ∙ lookup_permutation nat_list_eq_equiv given moved moves apart_moved (pointwise nat_eq q) (nat_list_eq_equiv.congr q)
     ∙ ap (lookup (pointwise nat_eq q)) is ∙ lookup_pairs q es ∙ sym (find-in_order q es))
-
--- what stands in the order of its names has names in order
-sorted_names : {X : Type 0} (name : X → List ℕ) (xs : List X) → IsSortedBy (λ x y. is_lt (byte_order (name x) (name y))) xs → IsSortedBy (λ x y. is_lt (byte_order x y)) (map name xs)
-sorted_names name [] up k d low lt = absurd (omega arith)
-sorted_names name (x ∷ xs) up k d low lt =
-    let count = length-map (x ∷ xs) name in
-    let within : k + 1 < length (x ∷ xs) = omega (arith, count) in
-    (λ j. is_lt (byte_order (get_or-map name (x ∷ xs) (k + 1) x d within j) (get_or-map name (x ∷ xs) k x d (omega arith) j))) ∙ up k x low within
-
--- the same of what is seen as pairs
-pub shown_in_order : {X : Type 0} (show : X → Pair) (es : List Entry) (given moved : List X) → map show given ≡ map pair_of es → IsDistinct (pointwise nat_eq) (map (λ x. (show x).0) given) → IsPermutation given moved → IsSortedBy (λ x y. is_lt (byte_order (show x).0 (show y).0)) moved
-    → map show moved ≡ in_order es
-shown_in_order show es given moved is apart moves up =
-    sorted_pairs_in_order es (map show given) (map show moved) is
-    (subst (IsDistinct (pointwise nat_eq)) (sym (map-map (λ (p : Pair). p.0) show given)) apart)
-    (IsPermutation-map show given moved moves)
-    (subst (IsSortedBy (λ x y. is_lt (byte_order x y))) (sym (map-map (λ (p : Pair). p.0) show moved)) (sorted_names (λ x. (show x).0) moved up))

@@ -1,6 +1,6 @@
 -- Bytes as one number.
 -- Not believed: the byte order of names is `byte_order`, whatever the numbers are.
-use Rattle.std.specs.Prelude.{ℕ, ◌+◌, ◌*◌, ◌<◌, List, [], ◌∷◌, slice_index}
+use Rattle.std.specs.Prelude.{◌≡◌, ℕ, zero, suc, ◌+◌, ◌*◌, ◌<◌, List, [], ◌∷◌, take, drop, slice_index}
 
 -- the number that the bytes spell after n, the first one the greatest
 abbrev pub word : ℕ → List ℕ → ℕ
@@ -10,3 +10,15 @@ word n (b ∷ bs) = word (n * 256 + b) bs
 -- each is a byte
 abbrev pub AreBytes : List ℕ → Type 0
 AreBytes xs = (k : ℕ) → slice_index xs k < 256
+
+-- the first n bytes, and zeros where there are none
+abbrev pub filled : ℕ → List ℕ → List ℕ
+filled zero xs = []
+filled (suc n) [] = 0 ∷ filled n []
+filled (suc n) (x ∷ xs) = x ∷ filled n xs
+
+-- the first sixteen bytes of a name spell these numbers
+pub record IsRank (name : List ℕ) (first second : ℕ) : Type 0 where
+  pub bytes : AreBytes (filled 16 name)
+  pub high : first ≡ word 0 (take 8 (filled 16 name))
+  pub low : second ≡ word 0 (take 8 (drop 8 (filled 16 name)))

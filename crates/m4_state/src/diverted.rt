@@ -1,6 +1,6 @@
 //! Texts by their numbers, as diversions store them.
 
-ghost use Rattle.std.specs.Prelude.{◌≡◌, ◌<◌, ◌++◌, ◌^◌, length, IsTrue, OnOk, OnErr, option_map};
+ghost use Rattle.std.specs.Prelude.{◌≡◌, ◌<◌, ◌++◌, ◌^◌, length, IsTrue, IfOk, OnOk, OnErr, option_map};
 ghost use Rattle.std.specs.Ordering.{int_cmp};
 ghost use Rattle.std.specs.FinMap.{find, put, is_sorted};
 ghost use Rattle.m4_state.specs.State.{text_at, without_text};
@@ -8,6 +8,14 @@ ghost use Rattle.m4_state.specs.DiversionEntries.{texts_of};
 
 use std::alloc::{AllocError, Global};
 use std::collections::BTreeMap;
+
+/// A text with fewer bytes than this is short. A page of memory is as large, and one that is never
+/// written takes no time and no memory.
+const SHORT: usize = 4096;
+
+/// How much room a text begins with, at most, unless it is longer itself. A reader gives half as much at a
+/// time, so that a text of two pieces fits.
+const ROOM: usize = 65536;
 
 /// Adds to the text of a number. Allocations come first, so if one fails nothing changes.
 pub fn append_in(
@@ -29,11 +37,27 @@ pub fn append_in(
             let _held = held.len();
         }
         None => {
-            let held = Vec::from_slice(alloc, text)?;
+            let held = begun_with(alloc, text)?;
             texts.insert(number, held)?;
         }
     }
     Ok(())
+}
+
+/// Copies the first piece of a text. After one that is not short more pieces may come: three times as many bytes have
+/// room after it, up to `ROOM`, so that they are added without a copy of what is there.
+fn begun_with(alloc: Global, text: &[u8]) -> Result<Vec<u8>, AllocError>
+    ensures items { IfOk result (λ held. held.items ≡ text.now) }
+{
+    let len = text.len();
+    let room = if len < SHORT || len > ROOM {
+        len
+    } else {
+        (4 * len).min(ROOM)
+    };
+    let mut held = Vec::with_capacity(alloc, room)?;
+    held.extend_from_slice(text)?;
+    Ok(held)
 }
 
 /// Removes the text of a number, and returns it, if there is one. Allocates nothing.

@@ -16,7 +16,7 @@ mod entries;
 pub mod fault;
 pub mod memory;
 mod name;
-mod order;
+pub mod named;
 mod stack;
 pub mod standard;
 pub mod state;

@@ -67,6 +67,19 @@ impl Stack {
         ensures ok { OnOk result (self.new ≡ self.old ++ definition ∷ []) }
         ensures err { OnErr result (self.new ≡ self.old) }
     {
+        if let Kept::Several(definitions) = &mut self.kept {
+            definitions.push(definition)?;
+            return Ok(());
+        }
+        self.push_second(alloc, definition)
+    }
+
+    /// Adds a definition to one that is held in place. If an allocation fails, nothing changes.
+    #[inline(never)]
+    fn push_second(&mut self, alloc: Global, definition: Def) -> Result<(), AllocError>
+        ensures ok { OnOk result (self.new ≡ self.old ++ definition ∷ []) }
+        ensures err { OnErr result (self.new ≡ self.old) }
+    {
         let kept = replace(&mut self.kept, Kept::Several(Vec::new(alloc)));
         let (kept, pushed) = pushed_on(kept, alloc, definition);
         self.kept = kept;

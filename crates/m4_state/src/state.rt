@@ -5,7 +5,7 @@
 //! each call defines the complete new record; if an allocation fails, the state is unchanged.
 
 ghost use Rattle.m4_state.specs.Fresh.{fresh_name};
-ghost use Rattle.std.specs.Prelude.{◌≡◌, ◌∷◌, [], IfOk, IfSome, IfNone, OnOk, OnErr, map, option_copied, option_map};
+ghost use Rattle.std.specs.Prelude.{◌≡◌, ◌∷◌, [], IfOk, IfSome, IfNone, OnOk, OnErr, option_copied, option_map};
 
 use crate::builtin::Builtin;
 use crate::bytes::Bytes;
@@ -13,6 +13,7 @@ use crate::definition::Def;
 use crate::delimiters::Delimiters;
 use crate::diversions::Diversions;
 use crate::fault::StateFault;
+use crate::named::Named;
 use crate::table::Table;
 use std::alloc::{AllocError, Global};
 use std::marker::Model;
@@ -140,10 +141,10 @@ impl State {
     }
 
     /// Returns the names that have a definition, in byte order, each with its definitions, the oldest
-    /// first. Each call sorts them; no name is copied.
-    pub fn definitions(&self) -> Result<Vec<(&[u8], &[Def])>, StateFault>
+    /// first. Each call sorts them; both are borrowed.
+    pub fn definitions(&self) -> Result<Vec<Named<'_>>, StateFault>
         // exact steps: the pairs of the record, in its order
-        ensures { IfOk result (λ pairs. map (λ p. (p.0.now, p.1.now)) pairs.items ≡ self.now.table) }
+        ensures { IfOk result (λ named. named.items ≡ self.now.table) }
     {
         Ok(self.table.definitions()?)
     }

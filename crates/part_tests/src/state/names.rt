@@ -188,10 +188,10 @@ fn look(state: &State, name: &[u8], report: &mut Report) {
 // Adds each name with its definitions.
 fn list_definitions(state: &State, report: &mut Report) {
     match state.definitions() {
-        Ok(pairs) => {
-            for (name, stack) in &pairs {
-                report.add(name);
-                for definition in *stack {
+        Ok(all) => {
+            for named in &all {
+                report.add(named.name());
+                for definition in named.stack() {
                     report.add(b", ");
                     describe_definition(definition, report);
                 }

@@ -1,4 +1,4 @@
-use Rattle.std.proofs.Common.{◌≡◌, map, drop}
+use Rattle.std.proofs.Common.{◌≡◌, drop}
 use Rattle.m4_state.specs.Device.{HasPut}
 use Rattle.m4_frozen.specs.WriterSteps.{names_text}
 use Rattle.m4_frozen.proofs.writer.put_names.Given as goal
@@ -6,5 +6,5 @@ use Rattle.m4_frozen.proofs.writer.put_names.Given as goal
 -- the names that are left are the rest of the text
 abbrev pub invariant-loop-pair : goal.invariant-loop-pair
 invariant-loop-pair g l =
-    HasPut (g.W.ByteSink.contents l.initial.writer) (g.W.ByteSink.contents l.writer) (names_text (map (λ p. (p.0.now, p.1.now)) l.pairs)) (names_text (map (λ p. (p.0.now, p.1.now)) (drop l.pair-index l.pairs)))
+    HasPut (g.W.ByteSink.contents l.initial.writer) (g.W.ByteSink.contents l.writer) (names_text l.pairs) (names_text (drop l.pair-index l.pairs))
     × (g.W.ByteSink.failures l.writer ≡ g.W.ByteSink.failures l.initial.writer)

@@ -1,4 +1,4 @@
-use Rattle.std.proofs.Common.{◌≡◌, List, [], ◌∷◌, ◌++◌, Option, Some, None, sym, ap, subst, ◌∙◌, rules, arith}
+use Rattle.std.proofs.Common.{◌≡◌, List, [], ◌∷◌, ◌++◌, Some, None, sym, ap, subst, ◌∙◌, rules, arith}
 use Rattle.std.specs.FinMap.{put}
 use Rattle.std.specs.Map.{lookup}
 use Rattle.indexmap.specs.Entry.{entry_value, map_with_value}

@@ -1,8 +1,7 @@
 -- The first builtin of those that are left bears the name, or those after it do.
-use Rattle.std.proofs.Common.{◌≡◌, ℕ, suc, ◌+◌, ◌<◌, ◌≤◌, length, get_or, drop, drop-cons, drop_of_length-le, add-one, refl, sym, ap, ◌∙◌, Bool, true, false, cond, List, [], Option, Some, None, arith, rules}
+use Rattle.std.proofs.Common.{◌≡◌, ℕ, suc, ◌+◌, ◌<◌, ◌≤◌, length, get_or, drop, drop-cons, drop_of_length-le, add-one, refl, sym, ap, ◌∙◌, Bool, true, false, cond, List, Some, None, arith}
 use Rattle.std.specs.Prelude.{find}
 use Rattle.std.specs.Str.{bytes_eq}
-use Rattle.m4_state.specs.declared.builtin.Builtin.{Builtin}
 use Rattle.m4_state.specs.declared.builtin.Builtin.TheVariants.{Define}
 use Rattle.m4_state.specs.Builtin.{table, builtin_named, name_of}
 use Rattle.m4_state.proofs.builtin.Builtin.by_name.Goals as goal
