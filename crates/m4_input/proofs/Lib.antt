@@ -4,6 +4,7 @@ pub mod Scans
 pub mod Looks
 pub mod Parts
 pub mod Lines
+pub mod Names
 pub mod Calls
 pub mod Decided
 pub mod Blocks

@@ -7,10 +7,10 @@
 //!
 //! Contracts see `Held` (`specs/Input.antt`). Manual: "How m4 copies input to output".
 
-ghost use Rattle.std.specs.Prelude.{◌≡◌, ◌<◌, ◌≤◌, Some, None, OnOk, OnErr, IfOk, IfErr, IfSome, Ok, Err, true, false, length};
+ghost use Rattle.std.specs.Prelude.{◌≡◌, ◌<◌, ◌≤◌, Some, None, OnOk, OnErr, IfOk, IfErr, IfSome, Ok, Err, true, false, length, take};
 ghost use Rattle.m4_state.specs.Device.{Script};
 ghost use Rattle.m4_input.specs.DelimsView.{pair_of};
-ghost use Rattle.m4_input.specs.Pending.{consumed, line_of, name_of, text_of};
+ghost use Rattle.m4_input.specs.Pending.{consumed, line_of, name_of, newlines_in, text_of};
 
 use crate::delims::Delims;
 use crate::fault::InputFault;
@@ -159,6 +159,21 @@ impl Input {
             self.drop_definition();
         }
         self.text.consume(n);
+    }
+
+    /// Discards a definition and the first n bytes, none of which is a newline: those of a name.
+    #[doc(hidden)]
+    #[inline(always)]
+    pub fn pass(&mut self, n: usize)
+        requires within { n ≤ length (text_of self.old.pending) }
+        requires inline { newlines_in (take n (text_of self.old.pending)) ≡ 0 }
+        // exact steps: the rest after n bytes
+        ensures { self.new ≡ record self.old { pending = consumed n self.old.pending } }
+    {
+        if self.definition.is_some() {
+            self.drop_definition();
+        }
+        self.text.pass(n);
     }
 
     /// Discards a definition.

@@ -103,6 +103,25 @@ pub fn list_follows(text: &[u8], delims: &Delims<'_>, may_follow: bool) -> Answe
     // exact steps: whether a list follows
     ensures { paren_in (pair_of delims.now.quotes) (pair_of delims.now.comments) may_follow text.now ≡ result }
 {
+    match text.first() {
+        Some(b'(') => {}
+        Some(_) => return Answer::No,
+        None if may_follow => return Answer::Unknown,
+        None => return Answer::No,
+    }
+    // Hardly ever does a delimiter begin with a parenthesis.
+    if may_begin(b'(', &delims.comments) || may_begin(b'(', &delims.quotes) {
+        list_by_delimiters(text, delims, may_follow)
+    } else {
+        Answer::Yes
+    }
+}
+
+/// Returns the same by a comparison with each delimiter.
+#[inline(never)]
+fn list_by_delimiters(text: &[u8], delims: &Delims<'_>, may_follow: bool) -> Answer
+    ensures { paren_in (pair_of delims.now.quotes) (pair_of delims.now.comments) may_follow text.now ≡ result }
+{
     Window::new(&[], text).list_at(0, delims, may_follow)
 }
 

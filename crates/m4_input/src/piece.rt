@@ -255,4 +255,20 @@ impl Piece {
             self.at += n;
         }
     }
+
+    /// Discards the first n bytes, none of which is a newline, so that none of them is looked at.
+    #[inline(always)]
+    pub fn pass(&mut self, n: usize)
+        requires within { n ≤ length (text_in self.old) }
+        requires inline { newlines_in (take n (text_in self.old)) ≡ 0 }
+        ensures { self.new ≡ text_after n self.old }
+    {
+        if n <= self.ahead {
+            self.ahead -= n;
+            self.at += n;
+        } else {
+            self.ahead = 0;
+            self.at += n;
+        }
+    }
 }

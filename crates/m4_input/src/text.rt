@@ -4,7 +4,8 @@
 //! separately, last byte first, and so is all text that is pushed before it. Pushing and consuming text
 //! thus take time in proportion to its length.
 
-ghost use Rattle.std.specs.Prelude.{◌≡◌, ◌<◌, ◌≤◌, ◌++◌, [], IfSome, OnOk, OnErr, Ok, true, length};
+ghost use Rattle.std.specs.Prelude.{◌≡◌, ◌<◌, ◌≤◌, ◌++◌, [], IfSome, OnOk, OnErr, Ok, true, length, take};
+ghost use Rattle.m4_input.specs.Pending.{newlines_in};
 
 use crate::fault::InputFault;
 use crate::piece::Piece;
@@ -109,6 +110,19 @@ impl Text {
     {
         match self.pushed.len() {
             0 => self.piece.consume(n),
+            _ => self.consume_apart(n),
+        }
+    }
+
+    /// Discards the first n bytes, none of which is a newline.
+    #[inline(always)]
+    pub fn pass(&mut self, n: usize)
+        requires within { n ≤ length (text_in self.old) }
+        requires inline { newlines_in (take n (text_in self.old)) ≡ 0 }
+        ensures { self.new ≡ text_after n self.old }
+    {
+        match self.pushed.len() {
+            0 => self.piece.pass(n),
             _ => self.consume_apart(n),
         }
     }

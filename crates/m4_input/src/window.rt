@@ -13,6 +13,18 @@ use m4_state::bytes::Bytes;
 use std::alloc::{AllocError, Global};
 use std::marker::Model;
 
+// Each byte of a name is at its own place, and a comma at every other place: to look a byte up takes half of what the
+// comparisons with letters, digits and the underscore do.
+static NAME_BYTES: [u8; 256] = *b"\
+    ,,,,,,,,,,,,,,,,,,,,,,,,,,,,,,,,\
+    ,,,,,,,,,,,,,,,,0123456789,,,,,,\
+    ,ABCDEFGHIJKLMNOPQRSTUVWXYZ,,,,_\
+    ,abcdefghijklmnopqrstuvwxyz,,,,,\
+    ,,,,,,,,,,,,,,,,,,,,,,,,,,,,,,,,\
+    ,,,,,,,,,,,,,,,,,,,,,,,,,,,,,,,,\
+    ,,,,,,,,,,,,,,,,,,,,,,,,,,,,,,,,\
+    ,,,,,,,,,,,,,,,,,,,,,,,,,,,,,,,,";
+
 /// Two slices, read as one text.
 #[derive(Drop)]
 pub struct Window<'a> {
@@ -41,7 +53,7 @@ pub fn is_letter_byte(b: u8) -> bool
 pub fn is_word_byte(b: u8) -> bool
     ensures { result ≡ is_name_byte b }
 {
-    is_letter_byte(b) || b.is_ascii_digit()
+    NAME_BYTES[b as usize] != b','
 }
 
 /// Counts the bytes of the name at the start.
