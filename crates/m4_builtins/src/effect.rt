@@ -103,12 +103,14 @@ impl Effect {
     fn clear_more(&mut self)
         ensures { self.new ≡ record nothing { push = self.old.push } }
     {
+        let alloc = *self.text.allocator();
         self.has_more = false;
         self.wrap = None;
         self.skip = false;
         self.exit = None;
-        self.messages.clear();
-        self.output.clear();
+        // Hardly any call makes them, so their memory is not kept.
+        self.messages = Vec::new(alloc);
+        self.output = Vec::new(alloc);
     }
 
     /// Returns whether there is more to do than to insert a value.
@@ -118,11 +120,9 @@ impl Effect {
         self.has_more
     }
 
-    /// Returns how many bytes its memory has room for.
+    /// Returns how many bytes the memory of its value has room for.
     pub fn room(&self) -> usize {
-        let (text, messages) = (self.text.capacity(), self.messages.capacity());
-        text.saturating_add(messages)
-            .saturating_add(self.output.capacity())
+        self.text.capacity()
     }
 
     /// Returns the value that is inserted before the input.

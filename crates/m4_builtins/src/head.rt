@@ -10,7 +10,7 @@ ghost use Rattle.m4_builtins.specs.Act.{needs_list};
 ghost use Rattle.m4_builtins.specs.HeadView.{definition_at};
 
 use crate::place::Place;
-use m4_state::append::append;
+use m4_state::append::{append, append_front};
 use m4_state::builtin::Builtin;
 use m4_state::bytes::Bytes;
 use m4_state::definition::Def;
@@ -99,7 +99,7 @@ impl Head {
         }) }
     {
         let mut head = Head::over(buffer);
-        head.renew(name, definition, file, line)?;
+        head.renew(name, name.len(), definition, file, line)?;
         Ok(head)
     }
 
@@ -119,35 +119,38 @@ impl Head {
         }
     }
 
-    /// Makes this the head with copies of these parts, and keeps its memory.
+    /// Makes this the head with copies of these parts, and keeps its memory. The name is the first `len` bytes of a
+    /// text, which are copied in one piece if they are few.
     #[inline(always)]
     pub fn renew(
         &mut self,
-        name: &[u8],
+        text: &[u8],
+        len: usize,
         definition: &Def,
         file: &[u8],
         line: u64,
     ) -> Result<(), AllocError>
-        requires { IsDefinition definition.now }
+        requires within { len ≤ length text.now }
+        requires definition { IsDefinition definition.now }
         ensures { OnOk result (self.new ≡ record {
           definition = definition.now;
-          name = name.now;
+          name = take len text.now;
           place = record { file = file.now; line = line };
         }) }
     {
-        let (kind, text) = kind_of(definition);
+        let (kind, defined) = kind_of(definition);
         // If memory runs out, this is a head with an empty text.
         self.kind = Kind::Text;
         self.name_len = 0;
         self.text_len = 0;
         self.line = line;
         self.strings.clear();
-        append(&mut self.strings, name)?;
-        append(&mut self.strings, text)?;
+        append_front(&mut self.strings, text, len)?;
+        append(&mut self.strings, defined)?;
         append(&mut self.strings, file)?;
         self.kind = kind;
-        self.name_len = name.len();
-        self.text_len = text.len();
+        self.name_len = len;
+        self.text_len = defined.len();
         Ok(())
     }
 

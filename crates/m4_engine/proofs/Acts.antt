@@ -1,5 +1,5 @@
 -- Acts: what a call leaves is what the definitions' move leaves.
-use Rattle.std.proofs.Common.{◌≡◌, Bool, true, false, Some, None, ◌++◌, length, ℕ, List, [], ◌∷◌, refl, sym, ap, ◌∙◌, subst, append_assoc}
+use Rattle.std.proofs.Common.{◌≡◌, Bool, true, false, Some, None, ◌++◌, length, ℕ, List, [], ◌∷◌, refl, sym, ap, ◌∙◌, subst, append-nil, append_assoc}
 use Rattle.std.specs.List.{AllByRecursion}
 use Rattle.m4_state.specs.declared.definition.Def.{Def}
 use Rattle.m4_state.specs.State.{State, IsState}
@@ -10,6 +10,7 @@ use Rattle.m4_builtins.proofs.ActKeeps.{act_pushes}
 use Rattle.m4_input.specs.Pending.{Pending, text_of, line_length}
 use Rattle.m4_input.specs.Input.{Held, longer}
 use Rattle.m4_builtins.specs.Act.{Acted, IsPushed, act}
+use Rattle.m4_builtins.specs.Acted.{Effect}
 use Rattle.std.specs.Prelude.{Result, Ok, Err, IfOk}
 use Rattle.m4_engine.specs.declared.turned.Turned.{Turned}
 use Rattle.m4_engine.specs.declared.turned.TurnFault.{TurnFault}
@@ -20,8 +21,8 @@ use Rattle.m4_engine.specs.Expansion.{RunSoFar, Ends}
 use Rattle.m4_engine.specs.Nesting.{Halted, Close, Outcome, Closed}
 use Rattle.m4_engine.specs.OpenCalls.{Stops, Stacked, Move, Goes, pop}
 use Rattle.m4_engine.specs.Expansion.{Call, Limits, Expansion, Kept, Ended, reading}
-use Rattle.m4_engine.specs.Expand.{turn, join, effected, skip_line, skip_or_push, with_value, with_acted, mode_after_call}
-use Rattle.m4_engine.specs.Engine.{Engine, so_far_of, mode_of, kept_in, outer_of, here_of, configuration, with_made, called_within, ending_in, ending_argument, with_open_call, close_in, step, moved, put_in, put_token_in, IsReady, Makes, IsMade, StaysBy, Steps, IsTurned, Turns, MayFollow, Moving, Extended, line_move, Moves}
+use Rattle.m4_engine.specs.Expand.{turn, join, effected, skip_line, skip_or_push, with_saved, with_value, with_acted, mode_after_call}
+use Rattle.m4_engine.specs.Engine.{Engine, so_far_of, mode_of, kept_in, outer_of, here_of, configuration, begun_in, with_made, called_within, ending_in, ending_argument, with_open_call, close_in, step, moved, put_in, put_token_in, IsReady, Makes, IsMade, StaysBy, Steps, IsTurned, Turns, MayFollow, Moving, Extended, line_move, Moves}
 
 -- the state of an expansion after a call with these effects
 abbrev after : Acted → List ℕ → List ℕ → Engine → Pending → Expansion
@@ -46,6 +47,13 @@ effect_at a o m e p = effected (a.effect).exit (a.effect).skip (a.effect).push (
 
 called_is : (e : Engine) (c : Call) (a : Acted) (p : Pending) (o m : List ℕ) → act c.definition c.name c.done c.place e.state ≡ a → called_within e.open_calls c (here_of o m e p) ≡ popped e.open_calls (effect_at a o m e p)
 called_is e c a p o m h = ap (λ (a : Acted). popped e.open_calls (effect_at a o m e p)) h
+
+-- what a call made was added, and then the argument around it begun
+pub made_and_begun : (e : Engine) (s : State) (v : Effect) (messages output : List ℕ) (saved : List (List ℕ)) → messages ≡ e.messages ++ v.messages → output ≡ e.output ++ v.output → saved ≡ with_saved v.wrap e.saved → with_made [] [] None (record e { state = s; messages = messages; output = output; saved = saved }) ≡ with_made v.messages v.output v.wrap (record e { state = s })
+made_and_begun e s v messages output saved h i j =
+    ap (λ (x : List ℕ). let d : Engine = record e { state = s; output = x; messages = messages ++ []; saved = saved; open_calls = begun_in e.open_calls } in d) (append-nil output ∙ i)
+    ∙ ap (λ (x : List ℕ). let d : Engine = record e { state = s; output = e.output ++ v.output; messages = x; saved = saved; open_calls = begun_in e.open_calls } in d) (append-nil messages ∙ h)
+    ∙ ap (λ (x : List (List ℕ)). let d : Engine = record e { state = s; output = e.output ++ v.output; messages = e.messages ++ v.messages; saved = x; open_calls = begun_in e.open_calls } in d) j
 
 -- a call after which the expansion continues
 pub called_goes : (e e1 : Engine) (c : Call) (a : Acted) (p p' : Pending) → act c.definition c.name c.done c.place e.state ≡ a → (a.effect).exit ≡ None → (a.effect).skip ≡ false → e1 ≡ with_made (a.effect).messages (a.effect).output (a.effect).wrap (record e { state = a.state }) → with_value (a.effect).push p ≡ p' → (o m : List ℕ) → called_within e.open_calls c (here_of o m e p) ≡ Goes (configuration o m e1 p')

@@ -33,6 +33,7 @@ pub mod Turning
 pub mod LoopKeeps
 pub mod Begins
 pub mod PlainRuns
+pub mod TextBytes
 pub mod ListRuns
 pub mod Passing
 pub mod SkippedLines

@@ -1,5 +1,5 @@
 -- ListRuns: tokens of a list in order.
-use Rattle.std.proofs.Common.{◌≡◌, inr, Bool, ℕ, ◌+◌, ◌<◌, ◌≤◌, true, false, List, [], ◌∷◌, ◌++◌, take, drop, length, refl, sym, ap, ◌∙◌, subst, arith, append-nil, append_assoc}
+use Rattle.std.proofs.Common.{◌≡◌, inr, Bool, ℕ, suc, ◌+◌, ◌<◌, ◌≤◌, true, false, List, [], ◌∷◌, ◌++◌, take, drop, length, refl, sym, ap, ◌∙◌, subst, arith, append-nil, append_assoc}
 use Rattle.std.proofs.lemmas.List.{drop-drop, length-take-le, take-append-drop}
 use Rattle.m4_state.specs.declared.delimiters.Delimiters.{Delimiters}
 use Rattle.m4_state.specs.State.{State}
@@ -11,6 +11,7 @@ use Rattle.m4_engine.specs.declared.role.Role.TheVariants.{Blank, Other}
 use Rattle.m4_engine.specs.Nesting.{Turn, GoOn}
 use Rattle.m4_engine.specs.Expansion.{Call, Mode, Collecting, Expansion, Kept, Ended, issued_in, diverted_in, mode_with_text, put_text}
 use Rattle.m4_engine.specs.Args.{role_of, take_byte}
+use Rattle.m4_engine.proofs.TextBytes.{byte_first}
 use Rattle.m4_engine.specs.Collected.{TakesByte, IsTextByte, AreTextBytes, IsBlankByte, AreBlankBytes, IsListToken, AreListTokens, bytes_in, IsListRun}
 
 -- no token
@@ -60,30 +61,45 @@ text_taken b c r s h =
 twice_added : (b : ℕ) (x : List ℕ) (c : Call) → with_bytes x (with_bytes (b ∷ []) c) ≡ with_bytes (b ∷ x) c
 twice_added b x c = ap (λ (y : List ℕ). let d : Call = record c { begun = true; bytes = y } in d) (append_assoc c.bytes (b ∷ []) x)
 
-bytes_taken : (s : State) (m : Bool) (b : ℕ) (x y : List ℕ) (c : Call) → AreTextBytes s.quotes s.comments (b ∷ x) → IsListRun s m (length (b ∷ x)) c (with_bytes (b ∷ x) c) ((b ∷ x) ++ y)
-bytes_taken s m b [] y c h = list_one s m 1 c (with_bytes (b ∷ []) c) (b ∷ y) (inr (b, (h.0).alone m y, text_taken b c ((h.0).other c)))
-bytes_taken s m b (a ∷ x) y c h =
+bytes_taken : (s : State) (m : Bool) (b : ℕ) (x y : List ℕ) (c : Call) → c.begun ≡ true → AreTextBytes s.quotes s.comments (b ∷ x) → IsListRun s m (length (b ∷ x)) c (with_bytes (b ∷ x) c) ((b ∷ x) ++ y)
+bytes_taken s m b [] y c g h = list_one s m 1 c (with_bytes (b ∷ []) c) (b ∷ y) (inr (b, (h.0).alone m y, text_taken b c ((h.0).other c g)))
+bytes_taken s m b (a ∷ x) y c g h =
     let d : Call = with_bytes (b ∷ []) c in
-    let one = list_one s m 1 c d (b ∷ ((a ∷ x) ++ y)) (inr (b, (h.0).alone m ((a ∷ x) ++ y), text_taken b c ((h.0).other c))) in
-    let rest = bytes_taken s m a x y d h.1 in
+    let one = list_one s m 1 c d (b ∷ ((a ∷ x) ++ y)) (inr (b, (h.0).alone m ((a ∷ x) ++ y), text_taken b c ((h.0).other c g))) in
+    let rest = bytes_taken s m a x y d refl h.1 in
     let n : 1 + length (a ∷ x) ≡ length (b ∷ (a ∷ x)) = omega arith in
     subst (λ (k : ℕ). IsListRun s m k c (with_bytes (b ∷ (a ∷ x)) c) ((b ∷ (a ∷ x)) ++ y)) n
     (subst (λ (e : Call). IsListRun s m (1 + length (a ∷ x)) c e ((b ∷ (a ∷ x)) ++ y)) (twice_added b (a ∷ x) c)
     (list_on s m 1 (length (a ∷ x)) c d (with_bytes (a ∷ x) d) (b ∷ ((a ∷ x) ++ y)) ((a ∷ x) ++ y) one refl rest))
 
+-- no text changes nothing in an argument that has begun
+none_added : (c : Call) → c.begun ≡ true → with_bytes [] c ≡ c
+none_added c g =
+    ap (λ (y : List ℕ). let d : Call = record c { begun = true; bytes = y } in d) (append-nil c.bytes)
+    ∙ ap (λ (v : Bool). let d : Call = record c { begun = v } in d) (sym g)
+
 -- the first n bytes of a text are added at once
-pub bytes_at_once : (s : State) (m : Bool) (n : ℕ) (x : List ℕ) (c d : Call) → 0 < n → n ≤ length x → AreTextBytes s.quotes s.comments (take n x) → d ≡ with_bytes (take n x) c → IsListRun s m n c d x
-bytes_at_once s m n x c d l w h g =
+bytes_at_once : (s : State) (m : Bool) (n : ℕ) (x : List ℕ) (c d : Call) → c.begun ≡ true → n ≤ length x → AreTextBytes s.quotes s.comments (take n x) → d ≡ with_bytes (take n x) c → IsListRun s m n c d x
+bytes_at_once s m n x c d f w h g =
     let k : n ≡ length (take n x) = sym (length-take-le n x w) in
     let e : x ≡ take n x ++ drop n x = sym (take-append-drop n x) in
     subst (λ (a : Call). IsListRun s m n c a x) (sym g)
     (subst (λ (y : List ℕ). IsListRun s m n c (with_bytes (take n x) c) y) (sym e)
     (subst (λ (j : ℕ). IsListRun s m j c (with_bytes (take n x) c) (take n x ++ drop n x)) (sym k)
-    (by_front (take n x) (subst (λ j. 0 < j) k l) h)))
+    (by_front (take n x) h)))
   where
-    by_front : (y : List ℕ) → 0 < length y → AreTextBytes s.quotes s.comments y → IsListRun s m (length y) c (with_bytes y c) (y ++ drop n x)
-    by_front [] l h = absurd (omega arith)
-    by_front (b ∷ y) l h = bytes_taken s m b y (drop n x) c h
+    by_front : (y : List ℕ) → AreTextBytes s.quotes s.comments y → IsListRun s m (length y) c (with_bytes y c) (y ++ drop n x)
+    by_front [] h = subst (λ (a : Call). IsListRun s m 0 c a (drop n x)) (sym (none_added c f)) (list_none s m c (drop n x))
+    by_front (b ∷ y) h = bytes_taken s m b y (drop n x) c f h
+
+-- a byte that is text, and the bytes after it that are
+pub byte_and_texts : (s : State) (m : Bool) (b n : ℕ) (c d : Call) (x y : List ℕ) → scan s.quotes s.comments m x ≡ Found (Byte b) 1 → role_of b c ≡ Other → y ≡ drop 1 x → n ≤ length y → AreTextBytes s.quotes s.comments (take n y) → d ≡ with_bytes (take (1 + n) x) c → IsListRun s m (1 + n) c d x
+byte_and_texts s m b n c d x y h r g w t e =
+    let e1 : Call = with_bytes (b ∷ []) c in
+    let next : suc n ≡ 1 + n = omega arith in
+    let all : b ∷ take n y ≡ take (1 + n) x = ap (λ (z : List ℕ). b ∷ take n z) g ∙ ap (take (suc n)) (sym (byte_first s.quotes s.comments m x b h)) ∙ ap (λ k. take k x) next in
+    let after : d ≡ with_bytes (take n y) e1 = e ∙ ap (λ (z : List ℕ). with_bytes z c) (sym all) ∙ sym (twice_added b (take n y) c) in
+    list_on s m 1 n c e1 d x y (list_one s m 1 c e1 x (inr (b, h, text_taken b c r))) g (bytes_at_once s m n y e1 d refl w t after)
 
 -- a byte more
 text_bytes_on : (q k : Delimiters) (x : List ℕ) (b : ℕ) → AreTextBytes q k x → IsTextByte q k b → AreTextBytes q k (x ++ b ∷ [])

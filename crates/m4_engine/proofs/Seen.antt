@@ -4,12 +4,13 @@ use Rattle.std.specs.Prelude.{suc, nat_lt, not, ◌&&◌, length, Result, Ok, Er
 use Rattle.m4_state.specs.State.{State}
 use Rattle.m4_engine.specs.declared.front.First.{First}
 use Rattle.m4_engine.specs.Plain.{IsFirst, FirstLies}
-use Rattle.m4_input.specs.Pending.{Pending, text_of, name_of, line_of, consumed}
+use Rattle.m4_input.specs.Pending.{Pending, text_of, name_of, newlines_in, line_of, consumed}
 use Rattle.m4_input.specs.Paren.{paren_in, paren_at}
 use Rattle.m4_input.specs.declared.front.Answer.{Answer}
 use Rattle.m4_input.specs.Input.{answer_of, longer}
 use Rattle.m4_input.specs.Token.{Taken, token_at}
 use Rattle.m4_input.specs.declared.token.Token.TheVariants.{Name, Byte}
+use Rattle.m4_input.proofs.Names.{name_has_none}
 use Rattle.m4_input.proofs.Parts.{drop_parts}
 use Rattle.m4_builtins.specs.Place.{Place}
 use Rattle.m4_builtins.specs.Act.{needs_list}
@@ -22,16 +23,19 @@ use Rattle.m4_engine.specs.declared.turned.TurnFault.{TurnFault}
 use Rattle.m4_engine.specs.Expansion.{Call, Limits, place_at, issued, reading, put_text}
 use Rattle.m4_engine.specs.Expand.{call, call_of, take_call, call_without_list, take_name}
 use Rattle.m4_engine.specs.Lookahead.{IsMeaning, IsLookaheadOf}
-use Rattle.m4_engine.specs.Engine.{Engine, outer_of, here_of, allows_call, is_bare, configuration, put_in, with_text, step, MayFollow, Extended, IsAt, Moves, IsLookahead}
+use Rattle.m4_engine.specs.Engine.{Engine, outer_of, here_of, allows_call, is_bare, configuration, put_in, with_text, with_one_call, with_made, is_deep_in, step, MayFollow, Extended, IsAt, Moves, IsLookahead}
 use Rattle.m4_state.specs.State.{top_of}
 use Rattle.m4_builtins.specs.Subst.{subst as substituted}
-use Rattle.m4_state.specs.declared.definition.Def.TheVariants.{Text}
+use Rattle.m4_state.specs.declared.builtin.Builtin.TheVariants.{Dnl}
+use Rattle.m4_state.specs.declared.definition.Def.TheVariants.{Text, Builtin}
+use Rattle.m4_builtins.specs.Acted.{Acted, nothing}
 use Rattle.m4_engine.specs.declared.lookahead.Meaning.TheVariants as meanings
 use Rattle.m4_engine.specs.declared.turned.Turned.TheVariants as turns
 use Rattle.m4_engine.specs.Nesting.{GoOn}
 use Rattle.m4_engine.specs.OpenCalls.{Goes}
 use Rattle.m4_state.specs.declared.delimiters.Delimiters.{Delimiters}
-use Rattle.m4_engine.proofs.Acts.{moves_by}
+use Rattle.m4_engine.proofs.Acts.{moves_by, called_skips}
+use Rattle.m4_engine.proofs.Bare.{bare_goes}
 use Rattle.m4_engine.proofs.Longer.{found_longer, paren_longer}
 use Rattle.m4_engine.proofs.Named.{place_of, named}
 
@@ -96,6 +100,12 @@ name_means a e p n h k =
     let r = subst (λ (v : Lookahead). IsLookahead v e p) h k in
     subst (λ (x : Place). IsMeaning n.meaning (is_bare n.listed e) e.state (take n.len (text_of p)) x) (place_of p) r.meaning
 
+-- a name that was recognised has no newline
+pub name_is_inline : (a : Lookahead) (e : Engine) (p : Pending) (n : Named) → a ≡ aheads.Named n → IsLookahead a e p → newlines_in (take n.len (text_of p)) ≡ 0
+name_is_inline a e p n h k =
+    let r = subst (λ (v : Lookahead). IsLookahead v e p) h k in
+    name_has_none (e.state).quotes (e.state).comments p.may_follow (text_of p) _ n.len r.scanned
+
 -- a name that has a meaning, as a turn takes it
 module _ (may : Bool) (e e1 : Engine) (p p' : Pending) (r : Result Turned TurnFault) where
   abbrev pub NameMoves : Meaning → Bool → Type 0
@@ -122,6 +132,16 @@ expansion_moves e e1 m x bare listed p p' (Ok u) h d i j k = λ name at before f
     let c : Call = call_of (Text v.1) name at in
     moves_by p.may_follow e1 p' u _ _ (λ z more t o l. named e (Text v.1) name false (longer z more p) (before z more) at o l (sym v.2) (paren_longer (e.state).quotes (e.state).comments p false z more d (i ∙ ap answer_of j) t) (λ y. refl) (sym (f z more))) (k c v.1 refl v.3 before)
 expansion_moves e e1 m x bare listed p p' (Err y) h d i j k = tt
+
+-- a builtin that skips the line, called with no list
+pub line_skips : (e e1 : Engine) (m : Meaning) (bare listed : Bool) (p : Pending) → m ≡ meanings.LineSkip → p.definition ≡ None → paren_at (e.state).quotes (e.state).comments p ≡ answer_of listed → listed ≡ false → nat_lt e.calls (e.limits).calls ≡ true → is_deep_in e ≡ false → e1 ≡ with_made [] [] None (with_one_call e) → (name : List ℕ) (at : Place) (before : Extended) → IsAt at before → IsMeaning m bare e.state name at → Moves p.may_follow e1 p turns.SkipsLine (λ z more o l. step (outer_of e.open_calls) (take_name (top_of e.state name) name (longer z more p) (here_of o l e (before z more))))
+line_skips e e1 m bare listed p h d i j room shallow g name at before f w =
+    let v = subst (λ (n : Meaning). IsMeaning n bare e.state name at) h w in
+    let c : Call = call_of (Builtin Dnl) name at in
+    let a : Acted = record { state = e.state; effect = record nothing { skip = true } } in
+    moves_by p.may_follow e1 p turns.SkipsLine _ _ (λ z more t o l. named e (Builtin Dnl) name false (longer z more p) (before z more) at o l (sym v.1) (paren_longer (e.state).quotes (e.state).comments p false z more d (i ∙ ap answer_of j) t) (λ y. refl) (sym (f z more)))
+    (bare_goes p.may_follow e (with_one_call e) e1 c (λ z more. longer z more p) p (Ok turns.SkipsLine) room shallow refl
+    (λ z more t o l. called_skips (with_one_call e) e1 c a (longer z more p) refl refl refl g o l) before)
 
 -- a call that is made
 pub made_moves : (e e1 : Engine) (m : Meaning) (c : Call) (bare listed : Bool) (p p' : Pending) (r : Result Turned TurnFault) → m ≡ meanings.Call c → c ≡ call_of c.definition c.name c.place → p.definition ≡ None → paren_at (e.state).quotes (e.state).comments p ≡ answer_of listed → (listed ≡ false → needs_list c.definition ≡ false) → IfOk r (λ u. (before : Extended) → Moves p.may_follow e1 p' u (λ z more o l. step (outer_of e.open_calls) (call listed c (longer z more p) (here_of o l e (before z more))))) → NameMoves p.may_follow e e1 p p' r m bare

@@ -18,10 +18,10 @@ TakesByte b c d =
     (s : Expansion) → s.mode ≡ Collecting c
     → take_byte (role_of b c) b c s ≡ GoOn (record s { mode = Collecting d })
 
--- a byte is a token of its own, whatever follows it, and text everywhere in a list
+-- a byte is a token of its own, whatever follows it, and text in each argument that has begun
 pub record IsTextByte (q k : Delimiters) (b : ℕ) : Type 0 where
   pub alone : (m : Bool) (y : List ℕ) → scan q k m (b ∷ y) ≡ Found (Byte b) 1
-  pub other : (c : Call) → role_of b c ≡ Other
+  pub other : (c : Call) → c.begun ≡ true → role_of b c ≡ Other
 
 abbrev pub AreTextBytes : Delimiters → Delimiters → List ℕ → Type 0
 AreTextBytes q k [] = Unit {0}

@@ -2,7 +2,8 @@
 -- Not believed: it connects the code with `Expand`; the turns' lemmas prove that they agree.
 -- Words: IsMeaning, Fits, IsNamed, IsLookaheadOf.
 use Rattle.std.specs.Prelude.{◌≡◌, ◌&&◌, ◌<◌, ◌≤◌, not, Bool, true, ℕ, List, [], None, Some, length, take, drop}
-use Rattle.m4_state.specs.declared.definition.Def.TheVariants.{Text}
+use Rattle.m4_state.specs.declared.builtin.Builtin.TheVariants.{Dnl}
+use Rattle.m4_state.specs.declared.definition.Def.TheVariants.{Text, Builtin}
 use Rattle.m4_state.specs.State.{State, top_of}
 use Rattle.m4_input.specs.declared.front.Scan.TheVariants.{Found}
 use Rattle.m4_input.specs.declared.token.Token.TheVariants.{Name, Byte}
@@ -19,16 +20,18 @@ use Rattle.m4_engine.specs.declared.lookahead.Named.{Named}
 use Rattle.m4_engine.specs.declared.lookahead.Lookahead.{Lookahead}
 use Rattle.m4_engine.specs.declared.lookahead.Lookahead.TheVariants as aheads
 
--- the meaning of a name that is read at a place; `bare` says that a text macro is called without a list
+-- the meaning of a name that is read at a place; `bare` says that it is called without a list
 abbrev pub IsMeaning : Meaning → Bool → State → List ℕ → Place → Type 0
 IsMeaning (meanings.Expansion x) bare s name place =
     (bare ≡ true) × (text : List ℕ) × (top_of s name ≡ Some (Text text)) × (x ≡ subst text name [] s.quotes)
+IsMeaning meanings.LineSkip bare s name place = (bare ≡ true) × (top_of s name ≡ Some (Builtin Dnl))
 IsMeaning (meanings.Call c) bare s name place =
     (top_of s name ≡ Some c.definition) × (c.name ≡ name) × (c.place ≡ place) × (c ≡ call_of c.definition c.name c.place)
 
--- the expansion of a call is known only if it is bare, and a call has no argument yet
+-- what a call does is known only if it is bare, and a call has no argument yet
 abbrev pub Fits : Meaning → Bool → Type 0
 Fits (meanings.Expansion x) bare = bare ≡ true
+Fits meanings.LineSkip bare = bare ≡ true
 Fits (meanings.Call c) bare = c ≡ call_of c.definition c.name c.place
 
 -- a name with a definition is the first token; `room` says that the limits allow a call

@@ -163,19 +163,21 @@ impl OpenCall {
         })
     }
 
-    /// Makes this a call with no argument read yet, and keeps its memory.
+    /// Makes this a call with no argument read yet, and keeps its memory. The name is the first `len` bytes of a text.
     pub fn renew(
         &mut self,
-        name: &[u8],
+        text: &[u8],
+        len: usize,
         definition: &Def,
         file: &[u8],
         line: u64,
     ) -> Result<(), AllocError>
-        requires { IsDefinition definition.now }
-        ensures { OnOk result (self.new ≡ call_of definition.now name.now (record { file = file.now; line = line })) }
+        requires within { len ≤ length text.now }
+        requires definition { IsDefinition definition.now }
+        ensures { OnOk result (self.new ≡ call_of definition.now (take len text.now) (record { file = file.now; line = line })) }
     {
         self.clear();
-        self.parts.head.renew(name, definition, file, line)
+        self.parts.head.renew(text, len, definition, file, line)
     }
 
     /// Drops the arguments, but keeps their memory.

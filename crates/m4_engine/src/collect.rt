@@ -2,16 +2,19 @@
 //! the loop ends at a name that may be called, at the parenthesis that closes the list, and at a token that one
 //! look does not decide. Manual: "Macro arguments", "Quoting arguments".
 
-ghost use Rattle.std.specs.Prelude.{◌≡◌, ◌<◌, ◌≤◌, Bool, true, IfOk, length, take, drop};
+ghost use Rattle.std.specs.Prelude.{◌≡◌, ◌<◌, ◌≤◌, ℕ, Bool, true, IfOk, length, take, drop};
 ghost use Rattle.m4_input.specs.DelimsView.{pair_of};
 ghost use Rattle.m4_input.specs.Token.{scan};
 ghost use Rattle.m4_input.specs.declared.front.Scan.TheVariants.{Found};
 ghost use Rattle.m4_input.specs.declared.token.Token.TheVariants.{Byte};
 ghost use Rattle.m4_engine.specs.Plain.{IsFirst, FirstLies};
-ghost use Rattle.m4_engine.specs.Collected.{IsTextByte, AreTextBytes, IsBlankByte, AreBlankBytes, IsListRun};
+ghost use Rattle.m4_engine.specs.Args.{role_of};
+ghost use Rattle.m4_engine.specs.Collected.{IsBlankByte, AreBlankBytes, IsListRun};
 
 use crate::call::OpenCall;
 use crate::front::{First, first_in_list};
+use crate::role::Role;
+use crate::text_bytes::text_len;
 use m4_input::delims::Delims;
 use m4_input::look::may_begin;
 use m4_state::state::State;
@@ -44,28 +47,8 @@ pub fn collect<'a>(
     }
 }
 
-/// Returns whether a byte is a digit with which no delimiter begins: a token of its own, whatever follows it.
-#[inline(always)]
-fn is_plain_digit(byte: u8, delims: &Delims<'_>) -> bool
-    ensures { result ≡ true → IsTextByte (pair_of delims.now.quotes) (pair_of delims.now.comments) byte }
-{
-    byte.is_ascii_digit() && !may_begin(byte, &delims.comments) && !may_begin(byte, &delims.quotes)
-}
-
-/// Counts the digits at the start. They are text, so they are collected together.
-fn digits_len(text: &[u8], delims: &Delims<'_>) -> usize
-    ensures bytes { AreTextBytes (pair_of delims.now.quotes) (pair_of delims.now.comments) (take result text.now) }
-    ensures within { result ≤ length text.now }
-{
-    let mut k = 0;
-    while k < text.len() && is_plain_digit(text[k], delims) {
-        k += 1;
-    }
-    k
-}
-
-/// Collects the first token, and the digits after it if it is one, if that changes the call alone. Returns how
-/// many bytes were collected; none if the token was left.
+/// Collects the first token, if that changes the call alone, and bytes after it that are collected or dropped with
+/// it. Returns how many bytes were used; none if the token was left.
 #[inline(always)]
 fn collect_first(
     call: &mut OpenCall,
@@ -88,33 +71,12 @@ fn collect_first(
             call.put_front(text, len)?;
             Ok(len)
         }
-        First::Byte(byte) => collect_bytes(call, byte, text, delims),
+        First::Byte(byte) => collect_byte(call, byte, text, delims),
         First::Called(..) | First::Other => Ok(0),
     }
 }
 
-/// Collects the first byte, which is a token of its own, and the digits after it if it is one.
-#[inline(always)]
-fn collect_bytes(
-    call: &mut OpenCall,
-    byte: u8,
-    text: &[u8],
-    delims: &Delims<'_>,
-) -> Result<usize, AllocError>
-    requires { 0 < length text.now }
-    ensures collected { IfOk result (λ n. (s : State) (m : Bool) → pair_of delims.now.quotes ≡ s.quotes → pair_of delims.now.comments ≡ s.comments
-        → scan s.quotes s.comments m text.now ≡ Found (Byte byte) 1 → IsListRun s m n call.old call.new text.now) }
-    ensures within { IfOk result (λ n. n ≤ length text.now) }
-{
-    let digits = digits_len(text, delims);
-    if digits > 0 {
-        call.put_front(text, digits)?;
-        return Ok(digits);
-    }
-    collect_byte(call, byte, text, delims)
-}
-
-/// Collects the first byte, which is a token of its own, and the spaces after it if they are dropped.
+/// Collects the first byte, which is a token of its own, and the bytes after it that are collected or dropped with it.
 #[inline(always)]
 fn collect_byte(
     call: &mut OpenCall,
@@ -127,6 +89,9 @@ fn collect_byte(
         → scan s.quotes s.comments m text.now ≡ Found (Byte byte) 1 → IsListRun s m n call.old call.new text.now) }
     ensures within { IfOk result (λ n. n ≤ length text.now) }
 {
+    if call.role(byte) == Role::Other {
+        return collect_text(call, text, delims);
+    }
     let taken = call.take_byte(byte)?;
     if !taken {
         return Ok(0);
@@ -136,6 +101,19 @@ fn collect_byte(
     }
     let spaces = spaces_len(text.split_at(1).1, delims);
     Ok(1 + spaces)
+}
+
+/// Collects the first byte, which is text, and the bytes after it that are.
+#[inline(always)]
+fn collect_text(call: &mut OpenCall, text: &[u8], delims: &Delims<'_>) -> Result<usize, AllocError>
+    requires { 0 < length text.now }
+    ensures collected { IfOk result (λ n. (s : State) (m : Bool) (b : ℕ) → pair_of delims.now.quotes ≡ s.quotes → pair_of delims.now.comments ≡ s.comments
+        → scan s.quotes s.comments m text.now ≡ Found (Byte b) 1 → role_of b call.old ≡ Role.Other → IsListRun s m n call.old call.new text.now) }
+    ensures within { IfOk result (λ n. n ≤ length text.now) }
+{
+    let len = 1 + text_len(text.split_at(1).1, delims);
+    call.put_front(text, len)?;
+    Ok(len)
 }
 
 /// Returns whether a byte is a space with which no delimiter begins: a token of its own, whatever follows it.

@@ -19,4 +19,5 @@ pub mod session;
 pub mod source;
 mod spare;
 pub mod stop;
+mod text_bytes;
 mod turned;

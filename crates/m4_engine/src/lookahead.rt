@@ -1,6 +1,6 @@
 //! The next token, as far as it was recognised when the tokens before it were passed.
 
-ghost use Rattle.std.specs.Prelude.{◌≡◌, ◌&&◌, not, None, Some, IfOk, length};
+ghost use Rattle.std.specs.Prelude.{◌≡◌, ◌≤◌, ◌&&◌, not, None, Some, IfOk, length, take};
 ghost use Rattle.m4_state.specs.State.{top_of};
 ghost use Rattle.m4_input.specs.Pending.{text_of};
 ghost use Rattle.m4_engine.specs.Plain.{IsFirst, FirstLies};
@@ -12,6 +12,7 @@ use crate::spare::Spare;
 use crate::turned::TurnFault;
 use m4_builtins::substitute::substitute_onto;
 use m4_input::input::Input;
+use m4_state::builtin::Builtin;
 use m4_state::bytes::Bytes;
 use m4_state::definition::Def;
 use m4_state::state::State;
@@ -21,6 +22,8 @@ use m4_state::state::State;
 pub enum Meaning {
     /// The expansion of a text macro that is called without a list.
     Expansion(Bytes),
+    /// A call of the builtin that skips the rest of the line, without a list. No call needs memory for it.
+    LineSkip,
     /// A call that still has to be made.
     Call(OpenCall),
 }
@@ -48,29 +51,41 @@ pub enum Lookahead {
 }
 
 impl Meaning {
-    /// Returns the meaning of a name with this definition, read at this file and line. For a text macro that is
-    /// called without a list (`bare`) it is the expansion, made without a copy of the text.
+    /// Returns the meaning of a name, the first `len` bytes of a text, with this definition, read at this file and
+    /// line. If it is called without a
+    /// list (`bare`), the meaning of a text macro is its expansion, made without a copy of the text, and `dnl`,
+    /// which many lines end with, is known at once.
     #[inline(always)]
     pub fn of(
         spare: &mut Spare,
         state: &State,
         bare: bool,
-        name: &[u8],
+        text: &[u8],
+        len: usize,
         definition: &Def,
         place: (&[u8], u64),
     ) -> Result<Meaning, TurnFault>
-        requires { top_of state.now name.now ≡ Some definition.now }
-        ensures { IfOk result (λ m. IsMeaning m bare state.now name.now (record { file = place.entry.0.now; line = place.entry.1 })) }
+        requires within { len ≤ length text.now }
+        requires top { top_of state.now (take len text.now) ≡ Some definition.now }
+        ensures { IfOk result (λ m. IsMeaning m bare state.now (take len text.now) (record { file = place.entry.0.now; line = place.entry.1 })) }
     {
         let _in_order = state.current();
         match definition {
-            Def::Text(text) if bare => {
+            Def::Text(defined) if bare => {
+                let name = text.split_at(len).0;
                 let mut expansion = spare.buffer();
-                substitute_onto(&mut expansion, text.as_slice(), name, &[], state.quotes())?;
+                substitute_onto(
+                    &mut expansion,
+                    defined.as_slice(),
+                    name,
+                    &[],
+                    state.quotes(),
+                )?;
                 Ok(Meaning::Expansion(Bytes::from(expansion)))
             }
+            Def::Builtin(Builtin::Dnl) if bare => Ok(Meaning::LineSkip),
             _ => {
-                let call = spare.call(name, definition, place.0, place.1)?;
+                let call = spare.call(text, len, definition, place.0, place.1)?;
                 Ok(Meaning::Call(call))
             }
         }
@@ -94,10 +109,9 @@ pub fn lookahead_of(
     match (first, input.piece()) {
         (First::Byte(byte), _) => Ok(Lookahead::Byte(byte)),
         (First::Called(len, listed, definition), Some(text)) => {
-            let name = text.split_at(len).0;
             let place = (input.name(), input.line());
             let bare = !listed && room;
-            let meaning = Meaning::of(spare, state, bare, name, definition, place)?;
+            let meaning = Meaning::of(spare, state, bare, text, len, definition, place)?;
             Ok(Lookahead::Named(Named {
                 len,
                 listed,

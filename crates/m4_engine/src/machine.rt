@@ -17,6 +17,7 @@ mod turn;
 use crate::call::OpenCall;
 use crate::spare::Spare;
 use crate::turned::TurnFault;
+use m4_builtins::effect::Effect;
 use m4_builtins::messages::error_message;
 use m4_builtins::place::Place;
 use m4_state::bytes::Bytes;
@@ -39,6 +40,8 @@ pub struct Machine {
     messages: Vec<u8>,
     saved: Vec<Bytes>,
     spare: Spare,
+    // The effect of the call that is made, or of the last one, whose memory the next one takes.
+    effect: Effect,
 }
 
 impl Model for Machine {
@@ -68,6 +71,7 @@ impl Drop for Machine {
             messages: _messages,
             saved: _saved,
             spare: _spare,
+            effect: _effect,
         } = self;
     }
 }
@@ -101,6 +105,7 @@ impl Machine {
             messages: Vec::new(alloc),
             saved: Vec::new(alloc),
             spare: Spare::new(alloc),
+            effect: Effect::new(alloc),
         }
     }
 

@@ -1,12 +1,10 @@
 //! Calls that were made, kept for the memory that later calls need. Manual: "Macro arguments".
 
-ghost use Rattle.std.specs.Prelude.{◌≡◌, [], IfOk};
+ghost use Rattle.std.specs.Prelude.{◌≡◌, ◌≤◌, [], IfOk, length, take};
 ghost use Rattle.m4_state.specs.Definition.{IsDefinition};
-ghost use Rattle.m4_builtins.specs.Acted.{nothing};
 ghost use Rattle.m4_engine.specs.Expand.{call_of};
 
 use crate::call::OpenCall;
-use m4_builtins::effect::Effect;
 use m4_state::definition::Def;
 use std::alloc::{AllocError, Global};
 use std::marker::Model;
@@ -25,14 +23,13 @@ const LONGEST: usize = 4096;
 const USUAL: usize = 8;
 
 /// How many bytes a buffer or an effect that is kept has room for at most.
-const LARGEST: usize = 65536;
+pub const LARGEST: usize = 65536;
 
-/// Calls, a buffer and an effect without contents. They keep their memory.
+/// Calls and a buffer without contents. They keep their memory.
 pub struct Spare {
     alloc: Global,
     calls: Vec<OpenCall>,
     buffer: Vec<u8>,
-    effect: Option<Box<Effect>>,
 }
 
 impl Model for Spare {
@@ -48,7 +45,6 @@ impl Drop for Spare {
             alloc: _alloc,
             calls: _calls,
             buffer: _buffer,
-            effect: _effect,
         } = self;
     }
 }
@@ -60,27 +56,28 @@ impl Spare {
             alloc,
             calls: Vec::new(alloc),
             buffer: Vec::new(alloc),
-            effect: None,
         }
     }
 
-    /// Returns a call with no argument read yet.
+    /// Returns a call with no argument read yet. The name is the first `len` bytes of a text.
     #[inline(always)]
     pub fn call(
         &mut self,
-        name: &[u8],
+        text: &[u8],
+        len: usize,
         definition: &Def,
         file: &[u8],
         line: u64,
     ) -> Result<OpenCall, AllocError>
-        requires { IsDefinition definition.now }
-        ensures { IfOk result (λ c. c ≡ call_of definition.now name.now (record { file = file.now; line = line })) }
+        requires within { len ≤ length text.now }
+        requires definition { IsDefinition definition.now }
+        ensures { IfOk result (λ c. c ≡ call_of definition.now (take len text.now) (record { file = file.now; line = line })) }
     {
         let mut call = match self.calls.pop() {
             Some(kept) => kept,
             None => OpenCall::empty(self.alloc)?,
         };
-        call.renew(name, definition, file, line)?;
+        call.renew(text, len, definition, file, line)?;
         Ok(call)
     }
 
@@ -105,29 +102,6 @@ impl Spare {
         let mut buffer = std::mem::replace(&mut self.buffer, Vec::new(alloc));
         buffer.clear();
         buffer
-    }
-
-    /// Returns an effect that leaves nothing to do, with memory if one is kept.
-    #[inline(always)]
-    pub fn effect(&mut self) -> Result<Box<Effect>, AllocError>
-        ensures { IfOk result (λ e. e.value ≡ nothing) }
-    {
-        match self.effect.take() {
-            Some(kept) => {
-                let mut effect = kept;
-                effect.clear();
-                Ok(effect)
-            }
-            None => Ok(Box::new(self.alloc, Effect::new(self.alloc))?),
-        }
-    }
-
-    /// Keeps an effect that was applied, unless it is large.
-    #[inline(always)]
-    pub fn keep_effect(&mut self, effect: Box<Effect>) {
-        if effect.room() <= LARGEST {
-            self.effect = Some(effect);
-        }
     }
 
     /// Keeps a buffer for later, unless it is large.

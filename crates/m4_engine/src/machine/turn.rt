@@ -20,12 +20,13 @@ ghost use Rattle.m4_state.specs.Definition.{IsDefinition};
 ghost use Rattle.m4_builtins.specs.Subst.{subst};
 ghost use Rattle.m4_state.specs.declared.definition.Def.TheVariants.{Text};
 ghost use Rattle.m4_engine.specs.Expansion.{Call};
-ghost use Rattle.m4_engine.specs.Expand.{take_token, take_front, take_name, take_other, take_end, call as call_turn, call_of};
+ghost use Rattle.m4_engine.specs.Expand.{with_saved, take_token, take_front, take_name, take_other, take_end, call as call_turn, call_of};
 
 use crate::call::OpenCall;
 use crate::lookahead::{Lookahead, Meaning, Named};
 use crate::machine::Machine;
 use crate::role::Role;
+use crate::spare::LARGEST;
 use crate::turned::{TurnEnd, TurnFault, Turned};
 use itoa::Buffer;
 use m4_builtins::act::act_on;
@@ -40,6 +41,7 @@ use m4_input::pushed::Pushed;
 use m4_input::token::Token;
 use m4_state::bytes::Bytes;
 use m4_state::definition::Def;
+use std::alloc::AllocError;
 
 /// Pushes the value of a call, if it has one.
 #[tactic(auto, using(crate::proofs::Inputs::pushed, crate::proofs::Inputs::nothing_pushed))]
@@ -54,6 +56,36 @@ fn push_value(input: &mut Input, push: Push<'_>) -> Result<(), TurnFault>
         Push::Text(text) => push_text(input, text),
         Push::Definition(definition) => push_definition(input, definition.share()?),
     }
+}
+
+/// Adds the messages, the output and the saved text that a call made to those before them. Its value is pushed later.
+/// Not inlined, since hardly any call makes them.
+#[inline(never)]
+fn put_more(
+    effect: &mut Effect,
+    messages: &mut Vec<u8>,
+    output: &mut Vec<u8>,
+    saved: &mut Vec<Bytes>,
+) -> Result<(), TurnFault>
+    ensures messages { OnOk result (messages.new.items ≡ messages.old.items ++ effect.old.messages) }
+    ensures output { OnOk result (output.new.items ≡ output.old.items ++ effect.old.output) }
+    ensures saved { OnOk result (saved.new.items ≡ with_saved effect.old.wrap saved.old.items) }
+    ensures left { OnOk result (effect.new ≡ record effect.old { wrap = None }) }
+{
+    messages.extend_from_slice(effect.messages())?;
+    output.extend_from_slice(effect.output())?;
+    if let Some(text) = effect.take_wrap() {
+        push_saved(saved, text)?;
+    }
+    Ok(())
+}
+
+/// Saves a text after the others.
+fn push_saved(saved: &mut Vec<Bytes>, text: Bytes) -> Result<(), AllocError>
+    ensures { OnOk result (saved.new.items ≡ saved.old.items ++ text ∷ []) }
+{
+    saved.push(text)?;
+    Ok(())
 }
 
 /// Pushes a definition.
@@ -100,46 +132,6 @@ impl Machine {
         Ok(Turned::Ends(TurnEnd::EndInArguments))
     }
 
-    /// Adds the messages, the output and the saved text that a call made. Its value is pushed later.
-    #[inline(always)]
-    fn put_effect(&mut self, effect: &mut Effect) -> Result<(), TurnFault>
-        ensures made { OnOk result (self.new ≡ with_made effect.old.messages effect.old.output effect.old.wrap self.old) }
-        ensures left { OnOk result (effect.new ≡ record effect.old { wrap = None }) }
-    {
-        if effect.has_more() {
-            return self.put_more(effect);
-        }
-        self.begin_argument();
-        Ok(())
-    }
-
-    /// The same, if there is more than a value.
-    #[inline(never)]
-    fn put_more(&mut self, effect: &mut Effect) -> Result<(), TurnFault>
-        ensures made { OnOk result (self.new ≡ with_made effect.old.messages effect.old.output effect.old.wrap self.old) }
-        ensures left { OnOk result (effect.new ≡ record effect.old { wrap = None }) }
-    {
-        if !effect.messages().is_empty() {
-            self.add_message(effect.messages())?;
-        }
-        if !effect.output().is_empty() {
-            self.output.extend_from_slice(effect.output())?;
-        }
-        if let Some(text) = effect.take_wrap() {
-            self.save(text)?;
-        }
-        self.begin_argument();
-        Ok(())
-    }
-
-    /// Keeps an effect that was applied.
-    #[inline(always)]
-    fn keep_effect(&mut self, effect: Box<Effect>)
-        ensures { self.new ≡ self.old }
-    {
-        self.spare.keep_effect(effect);
-    }
-
     /// Marks the argument that contains a call as begun.
     #[inline(always)]
     fn begin_argument(&mut self)
@@ -180,9 +172,9 @@ impl Machine {
         let definition = head.definition()?;
         // Its clauses say that the state is valid, so a pushed value is valid too.
         let _in_order = self.state.current();
-        let mut effect = self.spare.effect()?;
+        self.effect.clear();
         act_on(
-            &mut effect,
+            &mut self.effect,
             &definition,
             head.name(),
             call.arguments(),
@@ -190,17 +182,39 @@ impl Machine {
             &mut self.state,
         )?;
         self.spare.keep(call);
-        self.put_effect(&mut effect)?;
-        if let Some(code) = effect.exit() {
-            return Ok(Turned::Ends(TurnEnd::Exited(code)));
+        if self.effect.has_more() {
+            put_more(
+                &mut self.effect,
+                &mut self.messages,
+                &mut self.output,
+                &mut self.saved,
+            )?;
+            if let Some(code) = self.effect.exit() {
+                self.begin_argument();
+                return Ok(Turned::Ends(TurnEnd::Exited(code)));
+            }
+            if self.effect.skips() {
+                self.begin_argument();
+                return Ok(Turned::SkipsLine);
+            }
+            push_value(input, self.effect.push())?;
+            self.begin_argument();
+            return Ok(Turned::GoesOn);
         }
-        if effect.skips() {
-            self.keep_effect(effect);
-            return Ok(Turned::SkipsLine);
+        push_value(input, self.effect.push())?;
+        if self.effect.room() > LARGEST {
+            self.drop_effect();
         }
-        push_value(input, effect.push())?;
-        self.keep_effect(effect);
+        self.begin_argument();
         Ok(Turned::GoesOn)
+    }
+
+    /// Drops the memory of an effect that was applied.
+    #[inline(never)]
+    fn drop_effect(&mut self)
+        ensures { self.new ≡ self.old }
+    {
+        self.effect = Effect::new(self.alloc);
     }
 
     /// Ends the current argument of the innermost call.
@@ -392,6 +406,7 @@ impl Machine {
             &self.state,
             bare,
             name.as_slice(),
+            name.as_slice().len(),
             definition,
             place,
         )?;
@@ -424,6 +439,10 @@ impl Machine {
         } = named;
         let call = match meaning {
             Meaning::Expansion(text) => return self.take_expansion(text, input),
+            Meaning::LineSkip => {
+                self.take_line_skip();
+                return Ok(Turned::SkipsLine);
+            }
             Meaning::Call(call) => call,
         };
         if !listed && call.head().needs_list() {
@@ -453,6 +472,16 @@ impl Machine {
     {
         self.count();
         self.take_text(text, input)
+    }
+
+    /// Counts a call of the builtin that skips the rest of the line. The call is a token of the argument around it.
+    #[inline(always)]
+    fn take_line_skip(&mut self)
+        requires { nat_lt self.old.calls self.old.limits.calls ≡ true }
+        ensures { self.new ≡ with_made [] [] None (with_one_call self.old) }
+    {
+        self.count();
+        self.begin_argument();
     }
 
     /// Pushes a text with its arguments substituted: it is read before everything else.
@@ -536,7 +565,7 @@ impl Machine {
                 self.take_byte(byte, input)
             }
             Lookahead::Named(named) => {
-                input.consume(named.len);
+                input.pass(named.len);
                 self.take_named(named, input)
             }
         }

@@ -1,17 +1,18 @@
 use Rattle.std.proofs.Common.{◌≡◌, ◌++◌, [], List, ℕ, ap, sym, ◌∙◌, subst, rules}
-use Rattle.std.specs.Prelude.{IfOk, Option}
+use Rattle.std.specs.Prelude.{Option, None}
 use Rattle.m4_state.specs.declared.definition.Def.TheVariants.{Text}
 use Rattle.m4_state.specs.State.{IsState}
 use Rattle.m4_input.specs.DelimsView.{pair_of}
 use Rattle.m4_input.specs.Input.{longer}
 use Rattle.m4_input.specs.declared.pushed.Pushed.{Pushed}
-use Rattle.m4_builtins.specs.Act.{Acted, IsPushed}
+use Rattle.m4_builtins.specs.Acted.{Acted, Effect, nothing}
+use Rattle.m4_builtins.specs.Act.{IsPushed}
 use Rattle.m4_builtins.specs.EffectView.{pushed_by}
 use Rattle.m4_builtins.specs.Subst.{subst as substituted}
 use Rattle.m4_engine.specs.Expansion.{Call}
-use Rattle.m4_engine.specs.Engine.{Engine, Moves, called_within, here_of}
-use Rattle.m4_engine.specs.Expand.{with_value}
-use Rattle.m4_engine.proofs.Acts.{called_goes, called_skips, called_exits, acted_pushes}
+use Rattle.m4_engine.specs.Engine.{Engine, with_made}
+use Rattle.m4_engine.specs.Expand.{with_saved, with_value}
+use Rattle.m4_engine.proofs.Acts.{made_and_begun, called_goes, called_skips, called_exits, acted_pushes}
 use Rattle.m4_engine.proofs.Bare.{substituted_by, called_as}
 use Rattle.m4_engine.proofs.machine.Machine.call_builtin.Goals as goal
 
@@ -19,7 +20,12 @@ pub returns-in-Some : goal.returns-in-Some
 returns-in-Some c = record {
   moves = λ z more k o m.
       let a : Acted = record { state = c.act_on.new.state; effect = c.act_on.new.effect } in
-      called_exits c.args.self.now c.put_effect.new.self c.args.call a (longer z more c.args.input.now.pending) c.in-Some.code (search rules) (search rules) (search rules) o m;
+      let plain : c.begin_argument.new.self ≡ with_made [] [] None (record c.args.self.now { state = a.state; messages = c.put_more.new.messages.items; output = c.put_more.new.output.items; saved = c.put_more.new.saved.items }) = search rules in
+      let made = plain ∙ made_and_begun c.args.self.now a.state a.effect _ _ _
+      (c.in_ok-put_more.ensures.messages ∙ ap (λ (x : Engine). x.messages ++ (a.effect).messages) c.self.view_is)
+      (c.in_ok-put_more.ensures.output ∙ ap (λ (x : Engine). x.output ++ (a.effect).output) c.self.view_is)
+      (c.in_ok-put_more.ensures.saved ∙ ap (λ (x : Engine). with_saved (a.effect).wrap x.saved) c.self.view_is) in
+      called_exits c.args.self.now c.begin_argument.new.self c.args.call a (longer z more c.args.input.now.pending) c.in-Some.code (search rules) (search rules) made o m;
   ready = search rules;
   limits = search rules;
   made = search rules;
@@ -29,18 +35,28 @@ pub returns-then-skips : goal.returns-then-skips
 returns-then-skips c = record {
   moves = λ z more k o m.
       let a : Acted = record { state = c.act_on.new.state; effect = c.act_on.new.effect } in
-      called_skips c.args.self.now c.keep_effect.new.self c.args.call a (longer z more c.args.input.now.pending) (search rules) (search rules) (search rules) (search rules) o m;
+      let plain : c.begin_argument-then-skips.new.self ≡ with_made [] [] None (record c.args.self.now { state = a.state; messages = c.put_more.new.messages.items; output = c.put_more.new.output.items; saved = c.put_more.new.saved.items }) = search rules in
+      let made = plain ∙ made_and_begun c.args.self.now a.state a.effect _ _ _
+      (c.in_ok-put_more.ensures.messages ∙ ap (λ (x : Engine). x.messages ++ (a.effect).messages) c.self.view_is)
+      (c.in_ok-put_more.ensures.output ∙ ap (λ (x : Engine). x.output ++ (a.effect).output) c.self.view_is)
+      (c.in_ok-put_more.ensures.saved ∙ ap (λ (x : Engine). with_saved (a.effect).wrap x.saved) c.self.view_is) in
+      called_skips c.args.self.now c.begin_argument-then-skips.new.self c.args.call a (longer z more c.args.input.now.pending) (search rules) (search rules) (search rules) made o m;
   ready = search rules;
   limits = search rules;
   made = search rules;
 }
 
-pub returns : goal.returns
-returns c = record {
+pub returns-then-has_more : goal.returns-then-has_more
+returns-then-has_more c = record {
   moves = λ z more k o m.
       let a : Acted = record { state = c.act_on.new.state; effect = c.act_on.new.effect } in
       let pushed : pushed_by c.push.result ≡ c.act_on.new.effect.push = search rules in
-      called_goes c.args.self.now c.keep_effect-2.new.self c.args.call a (longer z more c.args.input.now.pending) (longer z more c.push_value.new.input.pending) (search rules) (search rules) (search rules) (search rules)
+      let plain : c.begin_argument-then-has_more.new.self ≡ with_made [] [] None (record c.args.self.now { state = a.state; messages = c.put_more.new.messages.items; output = c.put_more.new.output.items; saved = c.put_more.new.saved.items }) = search rules in
+      let made = plain ∙ made_and_begun c.args.self.now a.state a.effect _ _ _
+      (c.in_ok-put_more.ensures.messages ∙ ap (λ (x : Engine). x.messages ++ (a.effect).messages) c.self.view_is)
+      (c.in_ok-put_more.ensures.output ∙ ap (λ (x : Engine). x.output ++ (a.effect).output) c.self.view_is)
+      (c.in_ok-put_more.ensures.saved ∙ ap (λ (x : Engine). with_saved (a.effect).wrap x.saved) c.self.view_is) in
+      called_goes c.args.self.now c.begin_argument-then-has_more.new.self c.args.call a (longer z more c.args.input.now.pending) (longer z more c.push_value.new.input.pending) (search rules) (search rules) (search rules) made
       (subst (λ (v : Option Pushed). with_value v (longer z more c.args.input.now.pending) ≡ longer z more c.push_value.new.input.pending) pushed (c.in_ok-push_value.ensures.pushes z more)) o m;
   ready = search rules;
   limits = search rules;
@@ -55,3 +71,29 @@ push_value-requires-clause-valid c =
     let pushed : pushed_by c.push.result ≡ c.act_on.new.effect.push = search rules in
     subst IsPushed (sym pushed)
     (acted_pushes c.args.call.definition c.args.call.name c.args.call.done c.args.call.place c.args.self.now.state a (subst IsState same c.current-in_order.ensures.valid) (search rules) (search rules))
+
+pub push_value-requires-2-clause-valid : goal.push_value-requires-2-clause-valid
+push_value-requires-2-clause-valid c =
+    let a : Acted = record { state = c.act_on.new.state; effect = c.act_on.new.effect } in
+    let same : c.self.inside.state ≡ c.args.self.now.state = search rules in
+    let pushed : pushed_by c.push-2.result ≡ c.act_on.new.effect.push = search rules in
+    subst IsPushed (sym pushed)
+    (acted_pushes c.args.call.definition c.args.call.name c.args.call.done c.args.call.place c.args.self.now.state a (subst IsState same c.current-in_order.ensures.valid) (search rules) (search rules))
+
+-- there was nothing to do but to insert the value
+pub returns : goal.returns
+returns c = record {
+  moves = λ z more k o m.
+      let e = c.args.self.now in
+      let a : Acted = record { state = c.act_on.new.state; effect = c.act_on.new.effect } in
+      let pushed : pushed_by c.push-2.result ≡ c.act_on.new.effect.push = search rules in
+      let none : a.effect ≡ record nothing { push = (a.effect).push } = c.has_more.ensures (search rules) in
+      let plain : c.begin_argument-2.new.self ≡ with_made [] [] None (record e { state = a.state }) = search rules in
+      called_goes e c.begin_argument-2.new.self c.args.call a (longer z more c.args.input.now.pending) (longer z more c.push_value-2.new.input.pending) (search rules)
+      (ap (λ (v : Effect). v.exit) none) (ap (λ (v : Effect). v.skip) none)
+      (plain ∙ ap (λ (v : Effect). with_made v.messages v.output v.wrap (record e { state = a.state })) (sym none))
+      (subst (λ (v : Option Pushed). with_value v (longer z more c.args.input.now.pending) ≡ longer z more c.push_value-2.new.input.pending) pushed (c.in_ok-push_value-2.ensures.pushes z more)) o m;
+  ready = search rules;
+  limits = search rules;
+  made = search rules;
+}

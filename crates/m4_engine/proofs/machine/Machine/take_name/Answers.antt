@@ -1,7 +1,9 @@
-use Rattle.std.proofs.Common.{subst, rules}
+use Rattle.std.proofs.Common.{List, ℕ, subst, rules}
+use Rattle.std.proofs.Math.Seq.{take-length}
 use Rattle.m4_input.specs.Pending.{name_of}
 use Rattle.m4_input.specs.declared.token.Token.TheVariants.{Name}
 use Rattle.m4_engine.specs.Engine.{Engine, is_bare}
+use Rattle.m4_engine.specs.Lookahead.{IsMeaning}
 use Rattle.m4_engine.specs.MachineView.{engine_view}
 use Rattle.m4_engine.proofs.Seen.{NameMoves, named_at, list_there, meaning_at}
 use Rattle.m4_engine.proofs.Turning.{found_steps, steps_from, word_turn, list_turn}
@@ -29,5 +31,6 @@ returns c =
     let moves = subst (λ (x : Engine). NameMoves q.may_follow x c.take_named.new.self q c.take_named.new.input.pending c.take_named.result c.in_ok-meaning.meaning (is_bare l x)) c.self.view_is c.take_named.ensures.moves in
     found_steps e c.take_named.new.self (Name c.args.name) c.args.len c.args.input.now c.consume-2.new.self c.take_named.new.input c.take_named.result c.requires.first c.requires.scanned c.consume-2.ensures
     (named_at e c.take_named.new.self p q c.take_named.new.input.pending c.take_named.result c.in_ok-meaning.meaning (is_bare l e) c.args.name (search rules) moves
-    (meaning_at c.in_ok-meaning.meaning (is_bare l e) e.state c.args.name (name_of p) c.args.line p (search rules) c.requires.line (search rules)))
+    (meaning_at c.in_ok-meaning.meaning (is_bare l e) e.state c.args.name (name_of p) c.args.line p (search rules) c.requires.line
+    (subst (λ (x : List ℕ). IsMeaning c.in_ok-meaning.meaning (is_bare l e) e.state x (record { file = name_of p; line = c.args.line })) (take-length c.args.name) (search rules))))
     (steps_from e (engine_view c.self.inside) c.take_named.new.self c.consume-2.new.self c.take_named.new.input c.take_named.result c.self.view_is c.take_named.ensures)

@@ -1,7 +1,7 @@
 use Rattle.std.proofs.Common.{◌-◌, ◌≤◌, length, take}
 use Rattle.m4_input.specs.DelimsView.{pair_of}
 use Rattle.m4_engine.specs.Collected.{AreTextBytes}
-use Rattle.m4_engine.proofs.collect.digits_len.Given as goal
+use Rattle.m4_engine.proofs.text_bytes.text_len.Given as goal
 
 -- the bytes so far are text
 abbrev pub invariant-loop-k : goal.invariant-loop-k
