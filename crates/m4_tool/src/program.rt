@@ -13,16 +13,18 @@ use crate::shared::{BLOCK, SharedOutputs};
 use crate::std_world::{StdShown, StdWorld};
 use std::alloc::{AllocError, Global};
 use std::env::Env;
-use std::io::{self, BufWriter, ErrorKind, Input, Write};
+use std::io::{self, BufWriter, ErrorKind, Read, Write};
 use std::rt::Files;
 
-/// Follows the command line of the process, and returns the exit status. `errors` is standard error.
-pub fn exit_status<E: Write + Drop>(
-    rt: &(impl Env + Files + Input + Alloc<A = Global> + Print + Eprint),
+/// Follows the command line of the process, and returns the exit status. `input` is standard input, which is read block
+/// by block, and `errors` is standard error.
+pub fn exit_status<I: Read + Copy, E: Write + Drop>(
+    rt: &(impl Env + Files + Alloc<A = Global> + Print + Eprint),
+    input: I,
     errors: E,
 ) -> u8 {
     match words_of_process(rt) {
-        Ok(words) => status_of_words(rt, errors, words.as_slice()),
+        Ok(words) => status_of_words(rt, input, errors, words.as_slice()),
         Err(fault) => report_unread_words(rt, &fault),
     }
 }
@@ -34,13 +36,14 @@ fn words_of_process(rt: &(impl Env + Alloc<A = Global>)) -> io::Result<Vec<Strin
 }
 
 // Follows the line of these words, or reports why it is refused.
-fn status_of_words<E: Write + Drop>(
-    rt: &(impl Files + Input + Alloc<A = Global> + Print + Eprint),
+fn status_of_words<I: Read + Copy, E: Write + Drop>(
+    rt: &(impl Files + Alloc<A = Global> + Print + Eprint),
+    input: I,
     errors: E,
     words: &[String],
 ) -> u8 {
     match line_of(rt.alloc(), words) {
-        Ok(line) => run_line(rt, errors, &line),
+        Ok(line) => run_line(rt, input, errors, &line),
         Err(fault) => report_line_fault(rt, &fault),
     }
 }
@@ -70,24 +73,26 @@ fn borrowed<'a>(alloc: Global, words: &'a [String]) -> Result<Vec<&'a str>, Allo
 }
 
 // Follows the line. Its output and its messages are written in blocks.
-fn run_line<E: Write + Drop>(
-    rt: &(impl Files + Input + Alloc<A = Global> + Print + Eprint),
+fn run_line<I: Read + Copy, E: Write + Drop>(
+    rt: &(impl Files + Alloc<A = Global> + Print + Eprint),
+    input: I,
     errors: E,
     line: &Line,
 ) -> u8 {
-    follow_line(rt, errors, line).unwrap_or_else(|_refused| report(rt, "out of memory"))
+    follow_line(rt, input, errors, line).unwrap_or_else(|_refused| report(rt, "out of memory"))
 }
 
 // Follows the line in the world of this runtime; an error is a block that could not be allocated.
-fn follow_line<E: Write + Drop>(
-    rt: &(impl Files + Input + Alloc<A = Global> + Print + Eprint),
+fn follow_line<I: Read + Copy, E: Write + Drop>(
+    rt: &(impl Files + Alloc<A = Global> + Print + Eprint),
+    input: I,
     errors: E,
     line: &Line,
 ) -> io::Result<u8> {
     let output = BufWriter::with_capacity(rt.alloc(), BLOCK, io::writer(rt))?;
     let messages = BufWriter::with_capacity(rt.alloc(), BLOCK, errors)?;
     let shared = SharedOutputs::new(output, messages);
-    let world = StdWorld::new(rt, &shared)?;
+    let world = StdWorld::new(rt, input, &shared)?;
     let mut out = StdShown::new(shared.output());
     let mut messages = StdShown::new(shared.messages());
     let followed = follow(rt.alloc(), line, world, &mut out, &mut messages);

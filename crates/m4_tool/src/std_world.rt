@@ -3,15 +3,19 @@
 ghost use Rattle.std.specs.Prelude.{◌≡◌, IfErr, None, false};
 ghost use Rattle.std.specs.IoError.{error_kind};
 
-use crate::shared::{BLOCK, FlushBeforeRead, SharedOutputs};
+use crate::shared::{FlushBeforeRead, SharedOutputs};
 use crate::sources::FileOrInput;
 use crate::world::{Shows, World};
 use m4_state::device::{ByteSink, DeviceFault};
 use m4_state::standard::StdSource;
 use std::alloc::Global;
 use std::fs;
-use std::io::{self, BufWriter, ErrorKind, Input, Write};
+use std::io::{self, BufWriter, ErrorKind, Read, Write};
 use std::rt::Files;
+
+/// How many bytes of a made file are buffered, at most. A text that is as long is written with no copy, and a small file
+/// touches little memory.
+const BLOCK: usize = 32768;
 
 /// The file that was made, if one was.
 #[derive(Drop)]
@@ -38,26 +42,37 @@ impl<F: Write> Write for Made<F> {
 /// The files and the standard input of a process, and the file that was made. Before standard input is
 /// read, both outputs are flushed. The made file is written in blocks.
 #[derive(Drop)]
-pub struct StdWorld<'a, R: Files + Input, W, E> {
+pub struct StdWorld<'a, R: Files, I, W, E> {
     rt: &'a R,
+    input: I,
     outputs: &'a SharedOutputs<W, E>,
     made: BufWriter<Made<<R as Files>::File>>,
 }
 
-impl<'a, R: Files + Input + Alloc<A = Global>, W, E> StdWorld<'a, R, W, E> {
-    /// Returns the world of this runtime, whose process writes to these outputs. Allocates a block.
-    pub fn new(rt: &'a R, outputs: &'a SharedOutputs<W, E>) -> io::Result<StdWorld<'a, R, W, E>>
+impl<'a, R: Files + Alloc<A = Global>, I, W, E> StdWorld<'a, R, I, W, E> {
+    /// Returns the world of this runtime, with this standard input, whose process writes to these outputs. Allocates a
+    /// block.
+    pub fn new(
+        rt: &'a R,
+        input: I,
+        outputs: &'a SharedOutputs<W, E>,
+    ) -> io::Result<StdWorld<'a, R, I, W, E>>
+    where
+        I: Drop,
         ensures { IfErr result (λ error. error_kind error ≡ ErrorKind.OutOfMemory) }
     {
         let made = BufWriter::with_capacity(rt.alloc(), BLOCK, Made { file: None })?;
-        Ok(StdWorld { rt, outputs, made })
+        Ok(StdWorld {
+            rt,
+            input,
+            outputs,
+            made,
+        })
     }
 }
 
-impl<'a, R: Files + Input, W: Write, E: Write> World for StdWorld<'a, R, W, E> {
-    type Reader = StdSource<
-        FileOrInput<<R as Files>::File, FlushBeforeRead<'a, <R as Input>::Reader, W, E>>,
-    >;
+impl<'a, R: Files, I: Read + Copy, W: Write, E: Write> World for StdWorld<'a, R, I, W, E> {
+    type Reader = StdSource<FileOrInput<<R as Files>::File, FlushBeforeRead<'a, I, W, E>>>;
 
     ghost files = { λ _. None };
 
@@ -70,9 +85,7 @@ impl<'a, R: Files + Input, W: Write, E: Write> World for StdWorld<'a, R, W, E> {
     fn open(
         &self,
         name: &[u8],
-    ) -> Option<
-        StdSource<FileOrInput<<R as Files>::File, FlushBeforeRead<'a, <R as Input>::Reader, W, E>>>,
-    > {
+    ) -> Option<StdSource<FileOrInput<<R as Files>::File, FlushBeforeRead<'a, I, W, E>>>> {
         let Ok(path) = std::str::from_utf8(name) else {
             return None;
         };
@@ -84,10 +97,8 @@ impl<'a, R: Files + Input, W: Write, E: Write> World for StdWorld<'a, R, W, E> {
 
     fn stdin(
         &mut self,
-    ) -> StdSource<
-        FileOrInput<<R as Files>::File, FlushBeforeRead<'a, <R as Input>::Reader, W, E>>,
-    > {
-        let input = FlushBeforeRead::new(self.rt.reader(), self.outputs);
+    ) -> StdSource<FileOrInput<<R as Files>::File, FlushBeforeRead<'a, I, W, E>>> {
+        let input = FlushBeforeRead::new(self.input, self.outputs);
         StdSource::new(FileOrInput::Input(input))
     }
 

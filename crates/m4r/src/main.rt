@@ -5,5 +5,5 @@ use m4_tool::program::exit_status;
 use std::process::ExitCode;
 
 fn main(rt: HostRuntime) -> ExitCode {
-    ExitCode::from(exit_status(&rt, rt.stderr()))
+    ExitCode::from(exit_status(&rt, rt.stdin(), rt.stderr()))
 }
