@@ -10,8 +10,8 @@ pub enum Directive<'a> {
     Quotes(&'a [u8], &'a [u8]),
     /// `C`: the comments' begin and end.
     Comments(&'a [u8], &'a [u8]),
-    /// `T`: a name, and the text that is pushed on it.
-    Text(&'a [u8], &'a [u8]),
+    /// `T`: a name with the text that is pushed on it directly after it, and the name's length.
+    Text(&'a [u8], usize),
     /// `F`: a name, and the name of the builtin that is pushed on it.
     Builtin(&'a [u8], &'a [u8]),
     /// `D`: the number of a diversion, and the text that is added to it.

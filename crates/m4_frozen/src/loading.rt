@@ -6,7 +6,7 @@ ghost use Rattle.m4_state.specs.Definition.{IsDefinition};
 ghost use Rattle.m4_frozen.specs.Denote.{with_directive, issued_by, definition_named};
 ghost use Rattle.m4_state.specs.State.{appended};
 ghost use Rattle.m4_frozen.specs.Directive as directives;
-ghost use Rattle.m4_frozen.specs.DirectiveView.{directive_of};
+ghost use Rattle.m4_frozen.specs.DirectiveView.{directive_of, IsJoined};
 ghost use Rattle.m4_frozen.specs.Underway as underway;
 
 use crate::begun::{Begun, NamedText};
@@ -332,6 +332,7 @@ impl Loading {
     /// Applies a directive to the state, or to the issued text. On an error a part of it may be applied;
     /// the state is then dropped.
     fn apply(&mut self, alloc: Global, directive: &Directive<'_>) -> Result<(), StateFault>
+        requires { IsJoined directive.now }
         ensures applied { OnOk result (self.new ≡ record self.old {
           state = with_directive self.old.state (directive_of directive.now);
           issued = self.new.issued;
@@ -348,10 +349,7 @@ impl Loading {
                 Bytes::from_slice(alloc, begin)?,
                 Bytes::from_slice(alloc, end)?,
             ),
-            Directive::Text(name, text) => {
-                let text = Bytes::from_slice(alloc, text)?;
-                self.state.push(name, Def::Text(text))
-            }
+            Directive::Text(both, middle) => self.state.push_text(both, *middle),
             Directive::Builtin(name, builtin) => {
                 let builtin = builtin_or_placeholder(alloc, builtin)?;
                 self.state.push(name, builtin)

@@ -5,16 +5,16 @@
 //! cite the reader's own steps, `specs/ReaderSteps.antt`.
 //! Manual: "Frozen file format".
 
-ghost use Rattle.std.specs.Prelude.{◌≡◌, ◌≤◌, ◌-◌, ◌∷◌, ℕ, List, length, drop, IfSome, IfNone};
+ghost use Rattle.std.specs.Prelude.{◌≡◌, ◌≤◌, ◌-◌, ◌∷◌, ℕ, List, length, drop, IfOk, IfSome, IfNone};
 ghost use Rattle.std.specs.Option.{option_map};
-ghost use Rattle.m4_frozen.specs.DirectiveView.{directive_of};
+ghost use Rattle.m4_frozen.specs.DirectiveView.{directive_of, IsJoined};
 ghost use Rattle.m4_frozen.specs.ReaderSteps as steps;
 ghost use Rattle.m4_frozen.specs.StepOutcome.{Gives};
 
 use crate::directive::Directive;
 use crate::fault::{FrozenKind, Refusal, refused_at};
 use crate::number::{are_digits, version};
-use crate::strings::{diversion, expect_byte, pair};
+use crate::strings::{diversion, expect_byte, joined_pair, pair};
 
 /// Returns whether a fault of this kind stays, whatever follows the bytes from its place on.
 ///
@@ -63,8 +63,9 @@ pub(crate) fn line_after(letter: u8, bytes: &[u8]) -> Option<&[u8]>
 /// Reads the next directive, if there is one; returns it and the bytes after it.
 #[tactic(auto, unfolding(crate::specs::ReaderSteps::directive_at))]
 pub(crate) fn next_directive(bytes: &[u8]) -> Result<Option<(Directive<'_>, &[u8])>, Refusal>
-    ensures { Gives (option_map (λ x. (directive_of x.0, x.1.now))) result
+    ensures gives { Gives (option_map (λ x. (directive_of x.0, x.1.now))) result
         (steps.next_at bytes.now) }
+    ensures joined { IfOk result (λ next. IfSome next (λ x. IsJoined x.0)) }
 {
     match bytes {
         [] => Ok(None),
@@ -77,8 +78,8 @@ pub(crate) fn next_directive(bytes: &[u8]) -> Result<Option<(Directive<'_>, &[u8
             Ok(Some((Directive::Comments(begin, end), rest)))
         }
         [b'T', rest @ ..] => {
-            let ((name, text), rest) = pair(rest)?;
-            Ok(Some((Directive::Text(name, text), rest)))
+            let ((both, middle), rest) = joined_pair(rest)?;
+            Ok(Some((Directive::Text(both, middle), rest)))
         }
         [b'F', rest @ ..] => {
             let ((name, builtin), rest) = pair(rest)?;

@@ -5,7 +5,7 @@
 //! Contracts cite the reader's own steps, `specs/ReaderSteps.antt`.
 //! Manual: "Frozen file format".
 
-ghost use Rattle.std.specs.Prelude.{◌≡◌};
+ghost use Rattle.std.specs.Prelude.{◌≡◌, ◌≤◌, IfOk, length, take, drop};
 ghost use Rattle.m4_frozen.specs.ReaderSteps as steps;
 ghost use Rattle.m4_frozen.specs.StepOutcome.{Gives};
 
@@ -41,21 +41,36 @@ pub(crate) fn pair_head(bytes: &[u8]) -> Result<((&[u8], u64), &[u8]), Refusal>
 {
     let (n, rest) = length(bytes)?;
     let rest = expect_byte(b',', skip_blanks(rest))?;
-    let (m, rest) = length(rest)?;
+    let (len, rest) = length(rest)?;
     let rest = expect_byte(b'\n', rest)?;
     let (first, rest) = string(n, rest)?;
-    Ok(((first, m), rest))
+    Ok(((first, len), rest))
+}
+
+/// Reads two lengths and both strings; returns the strings as one slice, the length of the first, and
+/// the bytes after them.
+#[tactic(auto, unfolding(crate::specs::ReaderSteps::pair_at, crate::specs::ReaderSteps::string_at))]
+pub(crate) fn joined_pair(bytes: &[u8]) -> Result<((&[u8], usize), &[u8]), Refusal>
+    ensures gives { Gives (λ x. ((take x.0.1 x.0.0.now, drop x.0.1 x.0.0.now), x.1.now)) result (steps.pair_at bytes.now) }
+    ensures within { IfOk result (λ x. x.0.1 ≤ length x.0.0.now) }
+{
+    let (n, rest) = length(bytes)?;
+    let rest = expect_byte(b',', skip_blanks(rest))?;
+    let (m, rest) = length(rest)?;
+    let strings = expect_byte(b'\n', rest)?;
+    let (first, rest) = string(n, strings)?;
+    let (second, rest) = string(m, rest)?;
+    let rest = expect_byte(b'\n', rest)?;
+    let both = strings.split_at(first.len() + second.len()).0;
+    Ok(((both, first.len()), rest))
 }
 
 /// Reads two lengths and both strings; returns the strings and the bytes after them.
-#[tactic(auto, unfolding(crate::specs::ReaderSteps::pair_at))]
 pub(crate) fn pair(bytes: &[u8]) -> Result<((&[u8], &[u8]), &[u8]), Refusal>
     ensures { Gives (λ x. ((x.0.0.now, x.0.1.now), x.1.now)) result (steps.pair_at bytes.now) }
 {
-    let ((first, m), rest) = pair_head(bytes)?;
-    let (second, rest) = string(m, rest)?;
-    let rest = expect_byte(b'\n', rest)?;
-    Ok(((first, second), rest))
+    let ((both, middle), rest) = joined_pair(bytes)?;
+    Ok((both.split_at(middle), rest))
 }
 
 /// Reads a diversion's number and the length of its text; returns both and the bytes after their line.

@@ -28,6 +28,9 @@ const END_LINE: &[u8] = b"# End of frozen state file\n";
 /// How many bytes of a directive are gathered, at most.
 const GATHERED: usize = 256;
 
+/// How many names are looked at together before they are written.
+const AHEAD: usize = 32;
+
 /// The room in which a short directive is gathered. It is used for one directive after another.
 type Gathered = ArrayVec<u8, GATHERED>;
 
@@ -134,10 +137,41 @@ fn put_names<W: ByteSink>(pairs: &[Named], writer: &mut W) -> Result<(), DeviceF
     ensures counted { W.failures writer.new ≡ count_after result (W.failures writer.old) }
 {
     let mut gathered = Gathered::new();
-    for pair in pairs {
+    let mut seen = 0;
+    for (i, pair) in pairs.iter().enumerate() {
+        if i % AHEAD == 0 {
+            look_at(pairs.split_at(i).1, &mut seen);
+        }
         put_stack(pair.name(), pair.stack(), &mut gathered, writer)?;
     }
     Ok(())
+}
+
+/// Looks at the first names and at their first texts before they are written. In their order they are far
+/// apart in memory: here the processor waits for many of them at once, and not for one after the other.
+/// Nothing depends on what was `seen`. It is stored so that the compiler keeps the looks.
+#[inline(never)]
+fn look_at(pairs: &[Named], seen: &mut u8) {
+    let (pairs, _rest) = pairs.split_at(AHEAD.min(pairs.len()));
+    for pair in pairs {
+        *seen ^= first_byte(pair.name()) ^ first_byte_of_text(pair.stack());
+    }
+}
+
+/// Returns the first byte, or 0.
+fn first_byte(bytes: &[u8]) -> u8 {
+    match bytes {
+        [first, ..] => *first,
+        [] => 0,
+    }
+}
+
+/// Returns the first byte of the oldest definition, if that is a text, or 0.
+fn first_byte_of_text(stack: &[Def]) -> u8 {
+    match stack.first() {
+        Some(Def::Text(text)) => first_byte(text.as_slice()),
+        _ => 0,
+    }
 }
 
 /// Writes the definitions of one name, the oldest first.

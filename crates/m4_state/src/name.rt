@@ -3,7 +3,7 @@
 //! Most names are short. They are held in place, so they need no memory of their own. A name is hashed
 //! as one piece, and not byte by byte.
 
-ghost use Rattle.std.specs.Prelude.{◌≡◌, ◌≤◌, ◌∷◌, [], List, ℕ, IfOk, length, nat_eq};
+ghost use Rattle.std.specs.Prelude.{◌≡◌, ◌≤◌, ◌∷◌, [], List, ℕ, IfOk, IfSome, length, take, nat_eq};
 ghost use Rattle.std.specs.Cmp.{on_equiv, on_per, partial_equiv_from_equiv};
 ghost use Rattle.std.specs.Cmp.Lexicographic.{pointwise, nat_list_eq_equiv, bytes_decides};
 ghost use Rattle.std.proofs.Common.{ap};
@@ -71,6 +71,17 @@ impl ShortBytes {
         }
     }
 
+    /// Takes the first `len` bytes of a piece.
+    fn of_piece(piece: &[u8; SHORT], len: usize) -> ShortBytes
+        requires { len ≤ 22 }
+        ensures { result ≡ take len piece.now }
+    {
+        ShortBytes {
+            len: len as u8,
+            bytes: *piece,
+        }
+    }
+
     /// Returns the bytes.
     fn as_slice(&self) -> &[u8]
         ensures { result.now ≡ self.now }
@@ -90,6 +101,23 @@ impl Name {
             Kept::Long(Box::new(alloc, Vec::from_slice(alloc, name)?)?)
         };
         Ok(Name { kept })
+    }
+
+    /// Returns the first `len` bytes as a short name, if it is one. Enough bytes are copied for any short
+    /// name: a piece of fixed size needs no call.
+    #[inline(always)]
+    pub fn short_front(bytes: &[u8], len: usize) -> Option<Name>
+        ensures { IfSome result (λ key. key ≡ take len bytes.now) }
+    {
+        if len > SHORT {
+            return None;
+        }
+        match bytes.first_chunk::<SHORT>() {
+            Some(piece) => Some(Name {
+                kept: Kept::Short(ShortBytes::of_piece(piece, len)),
+            }),
+            None => None,
+        }
     }
 
     /// Returns the bytes.

@@ -5,7 +5,7 @@
 //! each call defines the complete new record; if an allocation fails, the state is unchanged.
 
 ghost use Rattle.m4_state.specs.Fresh.{fresh_name};
-ghost use Rattle.std.specs.Prelude.{◌≡◌, ◌∷◌, [], IfOk, IfSome, IfNone, OnOk, OnErr, option_copied, option_map};
+ghost use Rattle.std.specs.Prelude.{◌≡◌, ◌≤◌, ◌∷◌, [], IfOk, IfSome, IfNone, OnOk, OnErr, length, take, drop, option_copied, option_map};
 
 use crate::builtin::Builtin;
 use crate::bytes::Bytes;
@@ -67,6 +67,7 @@ impl Drop for State {
 
 impl State {
     ghost use Rattle.m4_state.specs.Definition.{IsDefinition};
+    ghost use Rattle.m4_state.specs.declared.definition.Def.TheVariants as defs;
     ghost use Rattle.m4_state.specs.Fresh.{fresh, with_builtin};
     ghost use Rattle.m4_state.specs.State.{IsState, IsSized, empty, names_of, stack_of, top_of, pushed, popped, defined, undefined, with_quotes, with_comments, diverted, appended, undiverted, issued_from, unless_empty, diversion_of, next_after};
 
@@ -157,6 +158,18 @@ impl State {
         ensures err { OnErr result (self.new ≡ self.old) }
     {
         self.table.push(name, def)?;
+        Ok(())
+    }
+
+    /// Pushes a copy of the bytes from `middle` on, as a text, on the definitions of the name before them,
+    /// which is copied if it is new. Manual: "Temporarily redefining macros".
+    pub fn push_text(&mut self, bytes: &[u8], middle: usize) -> Result<(), StateFault>
+        requires { middle ≤ length bytes.now }
+        // exact steps: the complete new record; if an allocation fails, it is unchanged
+        ensures ok { OnOk result (self.new ≡ pushed self.old (take middle bytes.now) (defs.Text (drop middle bytes.now))) }
+        ensures err { OnErr result (self.new ≡ self.old) }
+    {
+        self.table.push_text(bytes, middle)?;
         Ok(())
     }
 

@@ -13,6 +13,8 @@ use std::alloc::{AllocError, Global};
 #[derive(Clone, Copy)]
 enum Step {
     Push(&'static [u8], Given),
+    // Pushes a text that comes directly after its name: both as one slice, and the name's length.
+    PushText(&'static [u8], usize),
     Define(&'static [u8], Given),
     Pop(&'static [u8]),
     Undefine(&'static [u8]),
@@ -26,7 +28,7 @@ enum Step {
 // definitions, the oldest first, and the length of the newest.
 type Row = (&'static str, bool, &'static [Step], &'static [u8]);
 
-static ROWS: [Row; 8] = [
+static ROWS: [Row; 9] = [
     ("an empty state", false, &[Step::Look(b"a")], b"a\n"),
     (
         "a fresh state has its builtins, and two names without text",
@@ -120,6 +122,23 @@ static ROWS: [Row; 8] = [
           ba, text \n\
           b, text old\n\
           b, text old; 3\n",
+    ),
+    (
+        "a text is pushed with its name before it, short or long",
+        false,
+        &[
+            Step::PushText(b"xa text of thirty bytes or more", 1),
+            Step::PushText(b"xnew", 1),
+            Step::PushText(b"", 0),
+            Step::PushText(b"a name of twenty-three.text", 23),
+            Step::PushText(b"a name of twenty-two...", 22),
+            Step::PushText(b"no text", 7),
+        ],
+        b", text ; 0\n\
+          a name of twenty-three., text text; 4\n\
+          a name of twenty-two.., text .; 1\n\
+          no text, text ; 0\n\
+          x, text a text of thirty bytes or more, text new; 3\n",
     ),
     (
         "the newest definition is on top",
@@ -222,6 +241,7 @@ fn define(
 fn do_step(alloc: Global, state: &mut State, step: Step, report: &mut Report) {
     let done = match step {
         Step::Push(name, given) => define(alloc, state, true, name, given),
+        Step::PushText(both, middle) => state.push_text(both, middle.min(both.len())),
         Step::Define(name, given) => define(alloc, state, false, name, given),
         Step::Pop(name) => {
             state.pop(name);

@@ -1,65 +1,19 @@
-use Rattle.std.proofs.Common.{◌≡◌, List, [], ◌∷◌, ◌++◌, Some, None, sym, ap, subst, ◌∙◌, rules, arith}
-use Rattle.std.specs.FinMap.{put}
-use Rattle.std.specs.Map.{lookup}
-use Rattle.indexmap.specs.Entry.{entry_value, map_with_value}
-use Rattle.m4_state.specs.declared.definition.Def.{Def}
-use Rattle.m4_state.specs.Entries.{in_order}
-use Rattle.m4_state.specs.Table.{byte_order, stack_at, IsTable, IsSizedTable}
-use Rattle.m4_state.proofs.InOrder.{has_bytes, stack_at_found, put_in_order, same_in_order}
+use Rattle.std.proofs.Common.{◌<◌, ◌^◌, ℕ, List, length, sym, ap, subst, arith}
+use Rattle.indexmap.proofs.MapLemmas.{OnOk-map}
+use Rattle.m4_state.specs.Entries.{Entry, in_order}
+use Rattle.m4_state.specs.Table.{IsTable, IsSizedTable}
 use Rattle.m4_state.proofs.Tables.{IsTable-push, IsSizedTable-push}
 use Rattle.m4_state.proofs.entries.push_in.Goals as goal
 
--- a change that was refused left the stack's definitions as they were
-pub returns-in_err-push-in-Occupied-clause-err : goal.returns-in_err-push-in-Occupied-clause-err
-unfolding entry_value map_with_value
-returns-in_err-push-in-Occupied-clause-err c =
-    let o = c.in-Occupied.entry in
-    let kept = same_in_order o.map.now.entries o.index c.into_mut.result.now c.push.new.self c.into_mut.ensures.value c.in_err-push-in-Occupied.ensures.err in
-    search (rules, kept)
+-- a definition keeps the table in order
+pub returns-clause-table : goal.returns-clause-table
+returns-clause-table c =
+    let roomy = subst (λ (es : List Entry). IsTable (in_order es)) (sym c.make_room.ensures) c.requires.table in
+    OnOk-map c.push_key_in.result _ _ (λ e. subst IsTable (sym e) (IsTable-push _ c.in_ok-key.key c.args.def roomy c.requires.definition)) c.push_key_in.ensures.ok
 
--- the name was there
-pub returns-in_ok-push-in-Occupied-clause-ok : goal.returns-in_ok-push-in-Occupied-clause-ok
-returns-in_ok-push-in-Occupied-clause-ok c =
-    let e = c.in_ok-entry.field-0 in
-    let stack = c.push.new.self in
-    let old = c.make_room.new.entries.entries in
-    let key = c.in_ok-from_slice.field-0 in
-    let named = c.in_ok-from_slice.ensures in
-    let updates = c.in_ok-entry.ensures.update.0 stack in
-    let found : lookup (has_bytes key) old ≡ Some c.into_mut.result.now = sym c.in_ok-entry.ensures.value ∙ ap entry_value c.in-Occupied.is ∙ c.into_mut.ensures.value in
-    let more = c.in_ok-push-in-Occupied.ensures.ok ∙ ap (λ (xs : List Def). xs ++ c.args.def ∷ []) (sym (stack_at_found key old _ found)) in
-    ◌∙◌ {b = in_order (map_with_value e stack).entries} (search rules)
-    (put_in_order key old (map_with_value e stack).entries stack updates.3 updates.1
-    ∙ ap (λ (xs : List Def). put byte_order key xs (in_order old)) more
-    ∙ (λ j. put byte_order (named j) (stack_at (in_order (c.make_room.ensures j)) (named j) ++ c.args.def ∷ []) (in_order (c.make_room.ensures j))))
-
-pub returns-in_ok-push-in-Occupied-clause-table : goal.returns-in_ok-push-in-Occupied-clause-table
-returns-in_ok-push-in-Occupied-clause-table c = subst IsTable (sym (returns-in_ok-push-in-Occupied-clause-ok c)) (IsTable-push _ c.args.name.now c.args.def c.requires.table c.requires.definition)
-
-pub returns-in_ok-push-in-Occupied-clause-sized : goal.returns-in_ok-push-in-Occupied-clause-sized
-returns-in_ok-push-in-Occupied-clause-sized c =
-    subst IsSizedTable (sym (returns-in_ok-push-in-Occupied-clause-ok c)) (IsSizedTable-push _ c.args.name.now c.args.def c.requires.sized (omega arith) c.len-len.ensures.sized)
-
--- the name is new
-pub returns-in-Vacant-clause-ok : goal.returns-in-Vacant-clause-ok
-unfolding entry_value
-returns-in-Vacant-clause-ok c =
-    let e = c.in_ok-entry.field-0 in
-    let stack = c.of.result in
-    let old = c.make_room.new.entries.entries in
-    let key = c.in_ok-from_slice.field-0 in
-    let named = c.in_ok-from_slice.ensures in
-    let updates = c.in_ok-entry.ensures.update.0 stack in
-    let found : lookup (has_bytes key) old ≡ None = sym c.in_ok-entry.ensures.value ∙ ap entry_value c.in-Vacant.is in
-    let more = c.of.ensures ∙ ap (λ (xs : List Def). xs ++ c.args.def ∷ []) (sym (stack_at_found key old _ found)) in
-    ◌∙◌ {b = in_order (map_with_value e stack).entries} (search rules)
-    (put_in_order key old (map_with_value e stack).entries stack updates.3 updates.1
-    ∙ ap (λ (xs : List Def). put byte_order key xs (in_order old)) more
-    ∙ (λ j. put byte_order (named j) (stack_at (in_order (c.make_room.ensures j)) (named j) ++ c.args.def ∷ []) (in_order (c.make_room.ensures j))))
-
-pub returns-in-Vacant-clause-table : goal.returns-in-Vacant-clause-table
-returns-in-Vacant-clause-table c = subst IsTable (sym (returns-in-Vacant-clause-ok c)) (IsTable-push _ c.args.name.now c.args.def c.requires.table c.requires.definition)
-
-pub returns-in-Vacant-clause-sized : goal.returns-in-Vacant-clause-sized
-returns-in-Vacant-clause-sized c =
-    subst IsSizedTable (sym (returns-in-Vacant-clause-ok c)) (IsSizedTable-push _ c.args.name.now c.args.def c.requires.sized (omega arith) c.len-len.ensures.sized)
+-- and sized
+pub returns-clause-sized : goal.returns-clause-sized
+returns-clause-sized c =
+    let named : length c.in_ok-key.key < 2 ^ 64 = omega (arith, ap (λ (bs : List ℕ). length bs) c.in_ok-key.ensures) in
+    let roomy = subst (λ (es : List Entry). IsSizedTable (in_order es)) (sym c.make_room.ensures) c.requires.sized in
+    OnOk-map c.push_key_in.result _ _ (λ e. subst IsSizedTable (sym e) (IsSizedTable-push _ c.in_ok-key.key c.args.def roomy named c.len-len.ensures.sized)) c.push_key_in.ensures.ok
