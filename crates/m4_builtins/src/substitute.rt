@@ -11,6 +11,7 @@ ghost use Rattle.m4_builtins.specs.Numbers.{IsNumber};
 use crate::args::{Arg, text_of};
 use crate::fault::BuiltinFault;
 use itoa::Buffer;
+use m4_input::lanes::{LANES, len_before};
 use m4_state::append::{append, append_front};
 use m4_state::bytes::Bytes;
 use std::alloc::{AllocError, Global};
@@ -89,8 +90,26 @@ fn push_plain(out: &mut Vec<u8>, text: &[u8]) -> Result<usize, AllocError>
     Ok(plain)
 }
 
-/// Counts the bytes before the first dollar.
+/// Counts the bytes before the first dollar, sixteen at a time while there are as many.
+#[inline(always)]
 fn plain_len(bytes: &[u8]) -> usize
+    ensures value { result ≡ run_length (λ b. not (b == dollar)) bytes.now }
+    ensures within { result ≤ length bytes.now }
+{
+    let mut k = 0;
+    while bytes.len() - k >= LANES {
+        let plain = len_before(b'$', bytes, k);
+        if plain < LANES {
+            return k + plain;
+        }
+        k += LANES;
+    }
+    k + plain_len_by_bytes(bytes.split_at(k).1)
+}
+
+/// The same byte by byte.
+#[inline(always)]
+fn plain_len_by_bytes(bytes: &[u8]) -> usize
     ensures value { result ≡ run_length (λ b. not (b == dollar)) bytes.now }
     ensures within { result ≤ length bytes.now }
 {

@@ -4,6 +4,9 @@ pub mod Scans
 pub mod Looks
 pub mod Parts
 pub mod Lines
+pub mod Scanned
+pub mod ByteTables
+pub mod Marks
 pub mod Names
 pub mod Calls
 pub mod Decided

@@ -1,47 +1,15 @@
 -- Names: the bytes of a name are no newlines.
-use Rattle.std.proofs.Common.{◌≡◌, ◌+◌, ℕ, zero, suc, Bool, true, false, cond, List, [], ◌∷◌, Option, None, Some, take, drop, length, refl, sym, ap, ◌∙◌, subst, arith}
+use Rattle.std.proofs.Common.{◌≡◌, ◌+◌, ℕ, zero, suc, Bool, true, false, cond, List, [], ◌∷◌, take, drop, refl, sym, ap, ◌∙◌, subst, arith}
 use Rattle.std.specs.Prelude.{◌==◌}
 use Rattle.std.proofs.lemmas.Bool.{eqb-true}
 use Rattle.std.proofs.lemmas.List.Sums.{sum_by-cons}
 use Rattle.m4_state.specs.declared.delimiters.Delimiters.{Delimiters}
-use Rattle.m4_input.specs.declared.front.Kind.{Kind}
-use Rattle.m4_input.specs.declared.front.Kind.TheVariants.{CommentHere, NameHere, StringHere, ByteHere, Undecided}
-use Rattle.m4_input.specs.declared.front.Unended.{Unended}
-use Rattle.m4_input.specs.declared.front.Unended.TheVariants.{InString, InComment}
 use Rattle.m4_input.specs.declared.front.Scan.TheVariants.{Found}
 use Rattle.m4_input.specs.declared.token.Token.TheVariants.{Name}
 use Rattle.m4_input.specs.Ascii.{newline, is_name_byte}
 use Rattle.m4_input.specs.Pending.{newlines_in}
-use Rattle.m4_input.specs.Token.{run_length, before, level, unended, comment_found, name_unless, string_found, kind_of, scan_kind, scan}
-
-no_end : (m : Bool) (w : Unended) (t : List ℕ) (n r : ℕ) → unended m w ≡ Found (Name t) n → n ≡ r
-no_end true w t n r h = cc
-no_end false w t n r h = cc
-
-no_comment : (c : Delimiters) (m : Bool) (x t : List ℕ) (n r : ℕ) (o : Option ℕ) → comment_found c m x o ≡ Found (Name t) n → n ≡ r
-no_comment c m x t n r None h = no_end m InComment t n r h
-no_comment c m x t n r (Some k) h = cc
-
-no_string : (q : Delimiters) (m : Bool) (x t : List ℕ) (n r : ℕ) (o : Option ℕ) → string_found q m x o ≡ Found (Name t) n → n ≡ r
-no_string q m x t n r None h = no_end m InString t n r h
-no_string q m x t n r (Some k) h = cc
-
-run_named : (v : Bool) (r : ℕ) (x t : List ℕ) (n : ℕ) → name_unless v r x ≡ Found (Name t) n → n ≡ r
-run_named true r x t n h = cc
-run_named false r x t n h = cc
-
-kind_named : (k : Kind) (q c : Delimiters) (m : Bool) (b : ℕ) (y t : List ℕ) (n : ℕ) → scan_kind k q c m b y ≡ Found (Name t) n → n ≡ run_length is_name_byte (b ∷ y)
-kind_named CommentHere q c m b y t n h = no_comment c m (b ∷ y) t n _ (before c.end (drop (length c.begin) (b ∷ y))) h
-kind_named NameHere q c m b y t n h = run_named _ _ (b ∷ y) t n h
-kind_named StringHere q c m b y t n h = let z = drop (length q.begin) (b ∷ y) in no_string q m z t n _ (level q m 0 0 z) h
-kind_named ByteHere q c m b y t n h = cc
-kind_named Undecided q c m b y t n h = cc
-
--- a name is the longest run of its bytes
-scan_named : (q c : Delimiters) (m : Bool) (x t : List ℕ) (n : ℕ) → scan q c m x ≡ Found (Name t) n → n ≡ run_length is_name_byte x
-scan_named q c true [] t n h = cc
-scan_named q c false [] t n h = cc
-scan_named q c m (b ∷ y) t n h = kind_named (kind_of q c m b y) q c m b y t n h
+use Rattle.m4_input.specs.Token.{run_length, scan}
+use Rattle.m4_input.proofs.Scanned.{name_run}
 
 not_newline : (b : ℕ) → is_name_byte b ≡ true → (b == newline) ≡ false
 not_newline b h = by (b == newline) refl
@@ -65,7 +33,7 @@ run_has_none (b ∷ x) = by (is_name_byte b) refl (run_has_none x)
     by false e rest = refl
 
 pub name_has_none : (q c : Delimiters) (m : Bool) (x t : List ℕ) (n : ℕ) → scan q c m x ≡ Found (Name t) n → newlines_in (take n x) ≡ 0
-name_has_none q c m x t n h = ap (λ (k : ℕ). newlines_in (take k x)) (scan_named q c m x t n h) ∙ run_has_none x
+name_has_none q c m x t n h = ap (λ (k : ℕ). newlines_in (take k x)) (name_run q c m x t n h) ∙ run_has_none x
 
 -- nor has a part of a text that has none
 pub part_has_none : (a : ℕ) (x : List ℕ) → newlines_in x ≡ 0 → newlines_in (drop a x) ≡ 0

@@ -5,12 +5,10 @@ use Rattle.std.proofs.Math.ListN.{get_or}
 use Rattle.std.proofs.Math.Bool.{or-true, or-false}
 use Rattle.std.proofs.lemmas.Bool.{eqb-true, eq-eqb, ne_eqb, ltb-true, ltb-false}
 use Rattle.std.proofs.lemmas.List.{length-drop, take_all, drop_more, get_or-drop}
-use Rattle.m4_state.specs.declared.delimiters.Delimiters.{Delimiters}
 use Rattle.m4_input.specs.declared.front.Mark.TheVariants.{BeginQuote, PlainByte}
 use Rattle.m4_input.specs.OpenToken.{HasPassed}
 use Rattle.m4_input.specs.Token.{mark_at, level}
-use Rattle.m4_input.proofs.Scans.{further}
-use Rattle.m4_input.proofs.OpenTokens.{short_past, short_up, short_down, short_end, all_followed, passed_level, passed_both}
+use Rattle.m4_input.proofs.OpenTokens.{short_past, short_up, short_down, short_end, all_followed}
 use Rattle.m4_input.proofs.ShortQuotes.{short, end_mark, begin_mark, plain_mark}
 use Rattle.memchr.specs.Find.{Passes, is_byte2, Nowhere, NoneBefore}
 
@@ -96,27 +94,6 @@ module _ (b e : ℕ) where
         let within : k + j < length x = is_within in
         (short_end b e n x (k + j) byte (subst (λ (i : ℕ). HasPassed (short b e) n x i (k + j)) none before_it) there (end_mark b e byte is), omega arith)
 
-  -- a byte that was looked at by itself
-  module _ (n : ℕ) (x : List ℕ) (m k : ℕ) (s : HasPassed (short b e) n x m k) (inside : k < length x) where
-    abbrev a : ℕ
-    a = get_or x k 0
-
-    here : drop k x ≡ a ∷ drop (k + 1) x
-    here = drop_more x k 0 inside
-
-    pub byte_past : (a ≡ e → ⊥) → (a ≡ b → ⊥) → HasPassed (short b e) n x m (k + 1)
-    byte_past ne nb = short_past b e n x m k a s here (plain_mark b e a nb ne)
-
-    pub byte_up : (a ≡ e → ⊥) → a ≡ b → HasPassed (short b e) n x (m + 1) (k + 1)
-    byte_up ne is = short_up b e n x m k a s here (begin_mark b e a is ne)
-
-    pub byte_down : a ≡ e → (m ≡ 0 → ⊥) → HasPassed (short b e) n x (m - 1) (k + 1)
-    byte_down is ne = short_down b e n x m k a s here (end_mark b e a is) ne
-
-    pub byte_close : a ≡ e → m ≡ 0 → (level (short b e) false n 0 x ≡ Some k) × (k + 1 ≤ length x)
-    byte_close is none =
-        (short_end b e n x k a (subst (λ (i : ℕ). HasPassed (short b e) n x i k) none s) here (end_mark b e a is), omega arith)
-
   -- bytes that were looked at have no quote, and the rest is searched
   module _ (x : List ℕ) (k : ℕ) (within : k ≤ length x) (near : Nowhere (is_quote x) 0 k) where
     none_up_to : (j : ℕ) → Nowhere (is_quote (drop k x)) 0 j → Nowhere (is_quote x) 0 (k + j)
@@ -147,20 +124,3 @@ module _ (b e : ℕ) where
         let l : length (drop k x) ≡ length x - k = len in
         let high : j < length (drop k x) = f.0.high in
         (record { low = omega arith; high = omega arith; before = none_up_to j f.0.before }, subst (λ (v : ℕ). is_byte2 b e v ≡ true) (get_or-drop k x j 0) f.1)
-
--- the rest, from k on, was followed by itself
-module _ (q : Delimiters) (n : ℕ) (x y : List ℕ) (m : ℕ) where
-  pub far_end : (k j : ℕ) → HasPassed q n x m k → y ≡ drop k x → (level q false m 0 y ≡ Some j) × (j + 1 ≤ length y) → (level q false n 0 x ≡ Some (k + j)) × (k + j + 1 ≤ length x)
-  far_end k j s h ends =
-      let len : length (drop k x) ≡ length x - k = length-drop k x in
-      let same : length y ≡ length (drop k x) = ap length h in
-      let within : k ≤ length x = s.within in
-      let high : j + 1 ≤ length y = ends.1 in
-      (passed_level q false n x m k s ∙ ap (further k) (ap (level q false m 0) (sym h) ∙ ends.0), omega arith)
-
-  pub far_open : (i k : ℕ) → HasPassed q n x m k → y ≡ drop k x → HasPassed q m y i (length y) → HasPassed q n x i (length x)
-  far_open i k s h opens =
-      let len : length (drop k x) ≡ length x - k = length-drop k x in
-      let same : length y ≡ length (drop k x) = ap length h in
-      let within : k ≤ length x = s.within in
-      all_followed q n x i (k + length y) (passed_both q n x y m i k s h opens) (omega arith)

@@ -11,6 +11,7 @@ pub mod fault;
 mod follows;
 pub mod front;
 pub mod input;
+pub mod lanes;
 pub mod look;
 mod open_token;
 mod piece;

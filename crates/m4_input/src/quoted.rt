@@ -6,6 +6,7 @@ ghost use Rattle.m4_input.specs.OpenToken.{Follows};
 ghost use Rattle.m4_input.specs.Token.{before, level};
 ghost use Rattle.memchr.specs.Find.{IsFirstByte, is_byte2};
 
+use crate::lanes::{LANES, len_before_either};
 use memchr::{memchr, memchr2};
 
 /// Returns the byte of a delimiter that has only one.
@@ -26,46 +27,12 @@ pub enum Followed {
     Open(usize),
 }
 
-/// So many bytes at the start of a string, and after each quote in it, are looked at one by one, with no call: most
-/// strings are short, and quotes are often close to each other.
+/// So many bytes from each place in a string on are looked at, sixteen at a time, before a search begins, which takes
+/// longer to start.
 const NEAR: usize = 64;
 
-/// So many bytes after a quote that a search found are looked at one by one before the next search begins. A search
-/// takes longer to start than a look at a few bytes.
-const STEPS: usize = 16;
-
-/// Follows a string through a text, before which `depth` nested strings are open: byte by byte as long as its quotes
-/// are near to each other, and then from quote to quote.
+/// Follows a string through a text, before which `depth` nested strings are open: from quote to quote.
 pub fn follow_quoted(text: &[u8], depth: usize, begin: u8, end: u8) -> Followed
-    requires { depth + length text.now < 2 ^ 64 }
-    ensures { Follows (record { begin = begin ∷ []; end = end ∷ [] }) depth text.now result }
-{
-    let mut near = text.len().min(NEAR);
-    let mut open = depth;
-    let mut k = 0usize;
-    'bytes: while k < near {
-        let byte = text[k];
-        if byte == end {
-            if open == 0 {
-                return Followed::Ends(k);
-            }
-            open -= 1;
-            near = k.saturating_add(NEAR).min(text.len());
-        } else if byte == begin {
-            open += 1;
-            near = k.saturating_add(NEAR).min(text.len());
-        }
-        k += 1;
-    }
-    match follow_far(text.split_at(k).1, open, begin, end) {
-        Followed::Ends(len) => Followed::Ends(k + len),
-        Followed::Open(open) => Followed::Open(open),
-    }
-}
-
-/// The same from quote to quote. Not inlined, so that a short string waits for nothing that a search prepares.
-#[inline(never)]
-fn follow_far(text: &[u8], depth: usize, begin: u8, end: u8) -> Followed
     requires { depth + length text.now < 2 ^ 64 }
     ensures { Follows (record { begin = begin ∷ []; end = end ∷ [] }) depth text.now result }
 {
@@ -85,21 +52,45 @@ fn follow_far(text: &[u8], depth: usize, begin: u8, end: u8) -> Followed
     Followed::Open(nested)
 }
 
+/// Returns how many bytes of a text are looked at sixteen at a time: none if it has fewer.
+#[inline(always)]
+fn near_len(text: &[u8]) -> usize
+    ensures within { result ≤ length text.now }
+    ensures long { 0 < result → 16 ≤ length text.now }
+{
+    if text.len() < LANES {
+        0
+    } else {
+        text.len().min(NEAR)
+    }
+}
+
 /// Returns the place of the first of these two bytes: a search for it, after a look at the bytes that are near.
+#[inline(always)]
 fn first_of_two(one: u8, other: u8, text: &[u8]) -> Option<usize>
     ensures { IsFirstByte (is_byte2 one other) text.now result }
 {
-    let near = text.len().min(STEPS);
+    let near = near_len(text);
     let mut k = 0usize;
-    'bytes: while k < near {
-        let byte = text[k];
-        if byte == one || byte == other {
-            return Some(k);
+    'lanes: while k < near {
+        // The last sixteen bytes of a text may overlap those before them.
+        let at = k.min(text.len() - LANES);
+        let plain = len_before_either(one, other, text, at);
+        if plain < LANES {
+            return Some(at + plain);
         }
-        k += 1;
+        k = at + LANES;
     }
-    let found = memchr2(one, other, &text[k..])?;
+    let found = first_far(one, other, &text[k..])?;
     Some(k + found)
+}
+
+/// Returns the same by a search. Not inlined, so that a short string waits for nothing that a search prepares.
+#[inline(never)]
+fn first_far(one: u8, other: u8, text: &[u8]) -> Option<usize>
+    ensures { IsFirstByte (is_byte2 one other) text.now result }
+{
+    memchr2(one, other, text)
 }
 
 /// Counts the bytes before the end-quote that closes the string.

@@ -8,6 +8,7 @@ ghost use Rattle.std.specs.Prelude.{◌≡◌, ◌+◌, ◌^◌, ◌<◌, ◌≤
 ghost use Rattle.m4_input.specs.Ascii.{is_letter, is_name_byte};
 ghost use Rattle.m4_input.specs.Token.{begins, is_cut, run_length, before};
 
+use crate::lanes::{LANES, short_word_len};
 use crate::quoted::{len_before, single};
 use m4_state::bytes::Bytes;
 use std::alloc::{AllocError, Global};
@@ -61,6 +62,12 @@ pub fn word_len(bytes: &[u8]) -> usize
     ensures value { result ≡ run_length is_name_byte bytes.now }
     ensures within { result ≤ length bytes.now }
 {
+    if bytes.len() >= LANES {
+        let len = short_word_len(bytes);
+        if len < LANES {
+            return len;
+        }
+    }
     let mut k = 0;
     while k < bytes.len() && is_word_byte(bytes[k]) {
         k += 1;

@@ -1,17 +1,23 @@
-use Rattle.std.proofs.Common.{◌<◌, ◌∷◌, [], length, arith}
-use Rattle.m4_input.proofs.QuoteSearch.{byte_close, far_end, far_open}
+use Rattle.std.proofs.Common.{◌+◌, ◌∷◌, [], sym, subst}
+use Rattle.m4_state.specs.declared.delimiters.Delimiters.{Delimiters}
+use Rattle.m4_input.specs.OpenToken.{HasPassed}
+use Rattle.m4_input.proofs.QuoteSearch.{found_begin, found_end, found_close, none_found}
+use Rattle.m4_input.proofs.quoted.follow_quoted.Goals.{then-text-k, else-text-k+else-nested-eq0}
 use Rattle.m4_input.proofs.quoted.follow_quoted.Goals as goal
 
-pub returns-then-open-eq0 : goal.returns-then-open-eq0
-returns-then-open-eq0 c =
+pub returns-then-nested-eq0 : goal.returns-then-nested-eq0
+returns-then-nested-eq0 c =
+    found_close c.args.begin c.args.end c.args.depth c.args.text.now c.quotes.nested c.quotes.k c.in-Some.plain c.quotes.invariant c.in-Some.ensures c.if-text-k.false c.if-nested-eq0.true
+
+pub quotes-preserved : goal.quotes-preserved
+quotes-preserved c =
+    let q : Delimiters = record { begin = c.args.begin ∷ []; end = c.args.end ∷ [] } in
     let x = c.args.text.now in
-    let inside : c.bytes.k < length x = omega arith in
-    byte_close c.args.begin c.args.end c.args.depth x c.bytes.open c.bytes.k c.bytes.invariant.2 inside c.if-byte-end.true c.if-open-eq0.true
+    let n = c.args.depth in
+    elim c.if-text-k.branch [
+      | then-text-k w ↦ subst (λ m. HasPassed q n x m (c.quotes.k + c.in-Some.plain + 1)) (sym w.nested-is) (found_begin c.args.begin c.args.end n x c.quotes.nested c.quotes.k c.in-Some.plain c.quotes.invariant c.in-Some.ensures w.if-text-k.true)
+      | else-text-k+else-nested-eq0 w ↦ subst (λ m. HasPassed q n x m (c.quotes.k + c.in-Some.plain + 1)) (sym w.nested-is) (found_end c.args.begin c.args.end n x c.quotes.nested c.quotes.k c.in-Some.plain c.quotes.invariant c.in-Some.ensures w.if-text-k.false w.if-nested-eq0.false)
+    ]
 
-pub returns-in-Ends : goal.returns-in-Ends
-returns-in-Ends c =
-    far_end (record { begin = c.args.begin ∷ []; end = c.args.end ∷ [] }) c.args.depth c.args.text.now c.split_at.result.1.now c.bytes.open c.bytes.k c.in-Ends.len c.bytes.invariant.2 c.split_at.ensures.back c.in-Ends.ensures
-
-pub returns-in-Open : goal.returns-in-Open
-returns-in-Open c =
-    far_open (record { begin = c.args.begin ∷ []; end = c.args.end ∷ [] }) c.args.depth c.args.text.now c.split_at.result.1.now c.bytes.open c.in-Open.open c.bytes.k c.bytes.invariant.2 c.split_at.ensures.back c.in-Open.ensures
+pub returns : goal.returns
+returns c = none_found c.args.begin c.args.end c.args.depth c.args.text.now c.quotes.nested c.quotes.k c.quotes.invariant c.in_default.ensures

@@ -1,0 +1,91 @@
+//! Sixteen bytes that are looked at together: most names, strings and pieces of a text are short, and to look at their
+//! bytes one by one takes longer. A text with fewer bytes is looked at by the callers.
+
+ghost use Rattle.std.specs.Prelude.{◌≡◌, ◌==◌, ◌+◌, ◌<◌, ◌≤◌, ℕ, Bool, List, not, drop, length, map};
+ghost use Rattle.std.specs.List.{prefix_len};
+ghost use Rattle.std.specs.Simd.Lanes.{mask_l};
+ghost use Rattle.memchr.specs.Find.{Nowhere, Passes, is_byte2};
+ghost use Rattle.m4_input.specs.Ascii.{is_name_byte};
+ghost use Rattle.m4_input.specs.Token.{run_length};
+
+use std::simd::prelude::*;
+
+/// How many bytes are looked at together.
+pub const LANES: usize = 16;
+
+/// Returns the first lane that is marked, or 16 if none is.
+#[inline(always)]
+fn first_lane(marks: u64) -> usize
+    ensures { (p : ℕ → Bool) (x : List ℕ) → length x ≡ 16 → marks ≡ mask_l (map p x) → result ≡ prefix_len (λ b. not (p b)) x }
+{
+    if marks == 0 {
+        LANES
+    } else {
+        marks.trailing_zeros() as usize
+    }
+}
+
+/// Returns a bit for each lane: whether it is this byte. The lowest bit is for the first lane.
+#[inline(always)]
+fn equal_marks(lanes: u8x16, byte: u8) -> u64
+    ensures { result ≡ mask_l (map (λ (b : ℕ). b == byte) lanes) }
+{
+    lanes.simd_eq(u8x16::splat(byte)).to_bitmask()
+}
+
+/// Returns a bit for each lane: whether its byte is one of these two.
+#[inline(always)]
+fn either_marks(lanes: u8x16, one: u8, other: u8) -> u64
+    ensures { result ≡ mask_l (map (is_byte2 one other) lanes) }
+{
+    (lanes.simd_eq(u8x16::splat(one)) | lanes.simd_eq(u8x16::splat(other))).to_bitmask()
+}
+
+/// Returns a bit for each lane: whether its byte is none that may occur in a name.
+#[inline(always)]
+fn other_marks(lanes: u8x16) -> u64
+    ensures { result ≡ mask_l (map (λ (b : ℕ). not (is_name_byte b)) lanes) }
+{
+    // With this bit, a capital letter is the small one.
+    let small = lanes | u8x16::splat(0x20);
+    let letters = small - u8x16::splat(b'a');
+    let digits = lanes - u8x16::splat(b'0');
+    (letters.simd_ge(u8x16::splat(26))
+        & digits.simd_ge(u8x16::splat(10))
+        & lanes.simd_ne(u8x16::splat(b'_'))).to_bitmask()
+}
+
+/// Counts the bytes from a place on before the first one that is this byte. It looks at sixteen, and returns 16 if none
+/// of them is.
+#[inline(always)]
+pub fn len_before(byte: u8, text: &[u8], at: usize) -> usize
+    requires room { at + 16 ≤ length text.now }
+    ensures within { result ≤ 16 }
+    ensures ends { result < 16 → run_length (λ b. not (b == byte)) (drop at text.now) ≡ result }
+    ensures passes { result ≡ 16 → run_length (λ b. not (b == byte)) (drop at text.now)
+        ≡ 16 + run_length (λ b. not (b == byte)) (drop (at + 16) text.now) }
+{
+    first_lane(equal_marks(u8x16::from_slice(&text[at..]), byte))
+}
+
+/// Counts the bytes from a place on before the first that is one of these two. It looks at sixteen, and returns 16 if
+/// none of them is.
+#[inline(always)]
+pub(crate) fn len_before_either(one: u8, other: u8, text: &[u8], at: usize) -> usize
+    requires room { at + 16 ≤ length text.now }
+    ensures within { result ≤ 16 }
+    ensures none { Nowhere (Passes (is_byte2 one other) text.now) at (at + result) }
+    ensures here { result < 16 → Passes (is_byte2 one other) text.now (at + result) }
+{
+    first_lane(either_marks(u8x16::from_slice(&text[at..]), one, other))
+}
+
+/// Counts the bytes of the name at the start, if it has fewer than sixteen, and else returns 16.
+#[inline(always)]
+pub(crate) fn short_word_len(text: &[u8]) -> usize
+    requires room { 16 ≤ length text.now }
+    ensures within { result ≤ 16 }
+    ensures value { result < 16 → result ≡ run_length is_name_byte text.now }
+{
+    first_lane(other_marks(u8x16::from_slice(text)))
+}
