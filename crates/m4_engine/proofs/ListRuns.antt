@@ -11,7 +11,7 @@ use Rattle.m4_engine.specs.declared.role.Role.TheVariants.{Blank, Other}
 use Rattle.m4_engine.specs.Nesting.{Turn, GoOn}
 use Rattle.m4_engine.specs.Expansion.{Call, Mode, Collecting, Expansion, Kept, Ended, issued_in, diverted_in, mode_with_text, put_text}
 use Rattle.m4_engine.specs.Args.{role_of, take_byte}
-use Rattle.m4_engine.proofs.TextBytes.{byte_first}
+use Rattle.m4_input.proofs.Scanned.{byte_first}
 use Rattle.m4_engine.specs.Collected.{TakesByte, IsTextByte, AreTextBytes, IsBlankByte, AreBlankBytes, IsListToken, AreListTokens, bytes_in, IsListRun}
 
 -- no token
@@ -97,7 +97,7 @@ pub byte_and_texts : (s : State) (m : Bool) (b n : ℕ) (c d : Call) (x y : List
 byte_and_texts s m b n c d x y h r g w t e =
     let e1 : Call = with_bytes (b ∷ []) c in
     let next : suc n ≡ 1 + n = omega arith in
-    let all : b ∷ take n y ≡ take (1 + n) x = ap (λ (z : List ℕ). b ∷ take n z) g ∙ ap (take (suc n)) (sym (byte_first s.quotes s.comments m x b h)) ∙ ap (λ k. take k x) next in
+    let all : b ∷ take n y ≡ take (1 + n) x = ap (λ (z : List ℕ). b ∷ take n z) g ∙ ap (take (suc n)) (sym (byte_first s.quotes s.comments m x b 1 h)) ∙ ap (λ k. take k x) next in
     let after : d ≡ with_bytes (take n y) e1 = e ∙ ap (λ (z : List ℕ). with_bytes z c) (sym all) ∙ sym (twice_added b (take n y) c) in
     list_on s m 1 n c e1 d x y (list_one s m 1 c e1 x (inr (b, h, text_taken b c r))) g (bytes_at_once s m n y e1 d refl w t after)
 

@@ -105,10 +105,6 @@ with_token d e = put_token_in e.open_calls d e
 abbrev pub with_engine_message : List ℕ → Engine → Engine
 with_engine_message x e = record e { messages = e.messages ++ x }
 
--- one more text saved for the end
-abbrev pub saving : List ℕ → Engine → Engine
-saving x e = record e { saved = e.saved ++ x ∷ [] }
-
 -- one more call counted
 abbrev pub with_one_call : Engine → Engine
 with_one_call e = record e { calls = suc e.calls }

@@ -92,10 +92,11 @@ fn first_of<'a>(
 {
     match look {
         Look::Name(len) => {
-            let (name, after) = text.split_at(len);
+            let name = text.split_at(len).0;
             let Some(definition) = state.top(name) else {
                 return First::Word(len);
             };
+            let after = text.split_at(len).1;
             match list_follows(after, delims, may_follow) {
                 Answer::Yes => First::Called(len, true, definition),
                 Answer::No => First::Called(len, false, definition),

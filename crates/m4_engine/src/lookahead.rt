@@ -52,9 +52,8 @@ pub enum Lookahead {
 
 impl Meaning {
     /// Returns the meaning of a name, the first `len` bytes of a text, with this definition, read at this file and
-    /// line. If it is called without a
-    /// list (`bare`), the meaning of a text macro is its expansion, made without a copy of the text, and `dnl`,
-    /// which many lines end with, is known at once.
+    /// line. If it is called without a list (`bare`), the meaning of a text macro is its expansion, made without a
+    /// copy of the text, and `dnl`, which many lines end with, is known at once.
     #[inline(always)]
     pub fn of(
         spare: &mut Spare,

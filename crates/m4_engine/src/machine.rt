@@ -5,7 +5,7 @@
 ghost use Rattle.std.specs.Prelude.{◌≡◌, suc, [], OnOk, IfOk, IfSome, IfNone};
 ghost use Rattle.m4_state.specs.Definition.{IsDefinition};
 ghost use Rattle.m4_builtins.specs.Messages.{error};
-ghost use Rattle.m4_engine.specs.Engine.{with_text, with_token, with_engine_message, saving, with_open_call, engine_at};
+ghost use Rattle.m4_engine.specs.Engine.{with_text, with_token, with_engine_message, with_open_call, engine_at};
 ghost use Rattle.m4_engine.specs.Session.{is_saved};
 ghost use Rattle.m4_engine.specs.Wraps.{joined_back};
 
@@ -173,14 +173,6 @@ impl Machine {
     {
         let around = self.outer.pop();
         std::mem::replace(&mut self.innermost, around)
-    }
-
-    /// Saves a text that is to be read at the end.
-    pub fn save(&mut self, text: Bytes) -> Result<(), AllocError>
-        ensures { OnOk result (self.new ≡ saving text self.old) }
-    {
-        self.saved.push(text)?;
-        Ok(())
     }
 
     /// Returns whether a text is saved for the end.
