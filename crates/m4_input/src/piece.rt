@@ -1,8 +1,9 @@
 //! The bytes of one file in one buffer, with pushed text before the unread bytes.
 //!
 //! The position of the next byte advances over the file's bytes. Pushed text overwrites bytes that were
-//! read, directly before the next byte, if there is room for it; the buffer begins with room for it, so that the
-//! results of a small file's calls are contiguous too. A block of the file is appended. If the buffer is full, and more bytes were read than are left, the buffer is not grown: the bytes that are
+//! read, directly before the next byte, if there is room for it; the buffer begins with a little room for it, and gets
+//! more when that is too little, so that the results of a small file's calls are contiguous too. A block of the file is
+//! appended. If the buffer is full, and more bytes were read than are left, the buffer is not grown: the bytes that are
 //! left are moved to the front of it, with room before them for pushed text. So reading a file and moving
 //! its bytes takes time in proportion to the file.
 
@@ -18,11 +19,13 @@ use std::marker::Model;
 /// How many bytes a reader is asked for at a time.
 const BLOCK: usize = 4096;
 
-/// How many bytes are free before the first block, and before the bytes that are left when these are moved to the
-/// front.
+/// How many bytes are free before the first block.
+const LITTLE: usize = 4096;
+
+/// How many bytes are free when these were too few, and before the bytes that are left when these are moved to the front.
 const ROOM: usize = 32768;
 
-/// The bytes before the first block.
+/// Free bytes.
 static FREE: [u8; ROOM] = [0; ROOM];
 
 /// Bytes of a file that were read, pushed text, and unread bytes.
@@ -123,21 +126,32 @@ fn append(bytes: &mut Vec<u8>, more: &[u8])
     }
 }
 
-/// Puts `ROOM` free bytes into an empty buffer, with room for a block after them.
+/// Puts a few free bytes into an empty buffer, with room for a block after them.
 fn begin_with_room(bytes: &mut Vec<u8>) -> Result<(), AllocError>
     requires { bytes.old.items ≡ [] }
-    ensures len { OnOk result (vec_len bytes.new ≡ 32768) }
+    ensures len { OnOk result (vec_len bytes.new ≡ 4096) }
     ensures room { OnOk result (vec_len bytes.new + block ≤ vec_capacity bytes.new) }
     ensures err { OnErr result (bytes.new.items ≡ []) }
 {
-    bytes.reserve(ROOM + BLOCK)?;
-    append(bytes, &FREE);
+    bytes.reserve(LITTLE + BLOCK)?;
+    append(bytes, FREE.split_at(LITTLE).0);
     // The room for the block is there; this only shows it.
     if let Err(AllocError) = bytes.reserve(BLOCK) {
         bytes.clear();
         return Err(AllocError);
     }
     Ok(())
+}
+
+/// Returns a copy of these bytes, with `ROOM` free bytes before them.
+fn with_room(alloc: Global, bytes: &[u8]) -> Result<Vec<u8>, AllocError>
+    ensures same { IfOk result (λ wide. drop 32768 wide.items ≡ bytes.now) }
+    ensures len { IfOk result (λ wide. vec_len wide ≡ 32768 + length bytes.now) }
+{
+    let mut wide = Vec::with_capacity(alloc, bytes.len().saturating_add(ROOM))?;
+    wide.extend_from_slice(&FREE)?;
+    wide.extend_from_slice(bytes)?;
+    Ok(wide)
 }
 
 /// Makes room for a block at the end. Returns where the bytes from a position on are then.
@@ -151,7 +165,7 @@ fn make_room(bytes: &mut Vec<u8>, at: usize) -> Result<usize, AllocError>
     let len = bytes.len();
     if len == 0 {
         begin_with_room(bytes)?;
-        return Ok(ROOM);
+        return Ok(LITTLE);
     }
     let is_full = bytes.capacity() < len.saturating_add(BLOCK);
     if is_full && at >= (len - at).saturating_add(ROOM + BLOCK) {
@@ -224,8 +238,36 @@ impl Piece {
         self.bytes.split_at(self.at).1
     }
 
-    /// Inserts text at the start if there is room for it; returns whether there was.
+    /// Inserts text at the start if there is room for it, or if room is made for it; returns whether there was.
     pub fn push(&mut self, text: &[u8]) -> bool
+        ensures done { result ≡ true → self.new ≡ record self.old { pushed = text.now ++ self.old.pushed } }
+        ensures full { result ≡ false → self.new ≡ self.old }
+    {
+        if text.len() > self.at {
+            self.widen(text.len());
+        }
+        self.push_into_room(text)
+    }
+
+    /// Makes more room for pushed text, if a text of this length then fits and no more was made before. If there is no
+    /// memory for it, there is as much room as there was.
+    #[inline(never)]
+    fn widen(&mut self, len: usize)
+        ensures { self.new ≡ self.old }
+    {
+        if len > ROOM || self.bytes.len() >= ROOM {
+            return;
+        }
+        let alloc = *self.bytes.allocator();
+        if let Ok(wide) = with_room(alloc, self.rest()) {
+            self.bytes = wide;
+            self.at = ROOM;
+        }
+    }
+
+    /// Inserts text at the start if there is room for it; returns whether there was.
+    #[inline(always)]
+    fn push_into_room(&mut self, text: &[u8]) -> bool
         ensures done { result ≡ true → self.new ≡ record self.old { pushed = text.now ++ self.old.pushed } }
         ensures full { result ≡ false → self.new ≡ self.old }
     {

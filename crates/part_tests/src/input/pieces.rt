@@ -22,6 +22,32 @@ fn text_that_is_apart(rt: HostRuntime) {
     tried(&rt, rt.alloc(), &APART);
 }
 
+static WIDENED: [Row; 1] = [Row {
+    name: "text longer than the first room gets more, and is contiguous with the file",
+    file: b"ab\nc",
+    steps: &[
+        Step::More,
+        Step::Take(1),
+        Step::PushMany(5_000),
+        Step::Take(4_998),
+        Step::Hand,
+        Step::Push(b"x\n"),
+        Step::Hand,
+        Step::Line,
+        Step::PushMany(20_000),
+        Step::Take(20_006),
+        Step::Hand,
+        Step::Line,
+    ],
+    want: b"more\n[xxb\nc]\n[x\nxxb\nc]\nline 1\n[c]\nline 2\n",
+    ..PLAIN
+}];
+
+#[test]
+fn text_that_gets_more_room(rt: HostRuntime) {
+    tried(&rt, rt.alloc(), &WIDENED);
+}
+
 static JOINED: [Row; 1] = [Row {
     name: "pushed text is contiguous with the file if there is room",
     file: b"ab\nc",

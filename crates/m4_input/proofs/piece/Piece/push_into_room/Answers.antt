@@ -2,7 +2,7 @@ use Rattle.std.proofs.Common.{◌≡◌, ◌-◌, ◌+◌, List, ℕ, ◌++◌, 
 use Rattle.m4_input.specs.Text.{HeldText}
 use Rattle.m4_input.proofs.Parts.{refilled}
 use Rattle.m4_input.proofs.Pieces.{piece_of, pushed_over}
-use Rattle.m4_input.proofs.piece.Piece.push.Goals as goal
+use Rattle.m4_input.proofs.piece.Piece.push_into_room.Goals as goal
 
 pub returns-clause-done : goal.returns-clause-done
 returns-clause-done c = λ _.
