@@ -10,7 +10,7 @@ use std::alloc::{AllocError, Global};
 use std::marker::Model;
 
 /// How many bytes are requested from a reader at a time.
-pub(crate) const BLOCK: usize = 32768;
+pub(crate) const BLOCK: usize = 16384;
 
 /// The last bytes that were read. Contracts see them as a list.
 #[derive(Drop)]

@@ -9,7 +9,7 @@ ghost use Rattle.m4_tool.specs.CommandLine.{AreInRange, IsModeNotAlone, IsRefusa
 use crate::follow::follow;
 use crate::line::{Line, LineFault, read_line};
 use crate::reports::{FAILED, report};
-use crate::shared::{BLOCK, SharedOutputs};
+use crate::shared::{BLOCK, MESSAGES, SharedOutputs};
 use crate::std_world::{StdShown, StdWorld};
 use std::alloc::{AllocError, Global};
 use std::env::Env;
@@ -48,7 +48,9 @@ fn status_of_words<I: Read + Copy, E: Write + Drop>(
     }
 }
 
-// Returns the line of these words.
+// Returns the line of these words. It is not inlined, and neither is `follow_line`: the run then uses the part of the
+// stack that `clap` has used.
+#[inline(never)]
 fn line_of(alloc: Global, words: &[String]) -> Result<Line, LineFault>
     ensures says { IfOk result (Says (map string_bytes words.now)) }
     ensures in_range { IfOk result AreInRange }
@@ -83,6 +85,7 @@ fn run_line<I: Read + Copy, E: Write + Drop>(
 }
 
 // Follows the line in the world of this runtime; an error is a block that could not be allocated.
+#[inline(never)]
 fn follow_line<I: Read + Copy, E: Write + Drop>(
     rt: &(impl Files + Alloc<A = Global> + Print + Eprint),
     input: I,
@@ -90,7 +93,7 @@ fn follow_line<I: Read + Copy, E: Write + Drop>(
     line: &Line,
 ) -> io::Result<u8> {
     let output = BufWriter::with_capacity(rt.alloc(), BLOCK, io::writer(rt))?;
-    let messages = BufWriter::with_capacity(rt.alloc(), BLOCK, errors)?;
+    let messages = BufWriter::with_capacity(rt.alloc(), MESSAGES, errors)?;
     let shared = SharedOutputs::new(output, messages);
     let world = StdWorld::new(rt, input, &shared)?;
     let mut out = StdShown::new(shared.output());

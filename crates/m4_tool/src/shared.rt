@@ -5,8 +5,11 @@
 use std::cell::RefCell;
 use std::io::{self, ErrorKind, Read, Write};
 
-/// How many bytes of an output are buffered, at most.
+/// How many bytes of the output are buffered, at most.
 pub const BLOCK: usize = 65536;
+
+/// How many bytes of messages are buffered, at most. Few runs have more, and a longer one is written with no copy.
+pub const MESSAGES: usize = 1024;
 
 /// A writer that is shared, together with another one. A call during another one fails; there is none.
 #[derive(Drop)]

@@ -20,7 +20,7 @@ use std::alloc::{AllocError, Global};
 const BLOCKS: [usize; 4] = [1, 2, 3, 4096];
 
 // How many bytes of a file are read at a time: files are cut at the ends of such blocks.
-const BLOCK: usize = 32768;
+const BLOCK: usize = 16384;
 
 // The first two lines of a canonical text, and its last one.
 const HEAD: &[u8] = b"# m4 frozen state\nV1\n";

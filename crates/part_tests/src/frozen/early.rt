@@ -75,8 +75,8 @@ static BLOCKED: [(&str, usize, &[u8]); 2] = [
     ),
     (
         "a fault near the end of the first block",
-        32000,
-        b"F5 UnknownDirective at 32003 within the first block",
+        16000,
+        b"F5 UnknownDirective at 16003 within the first block",
     ),
 ];
 
