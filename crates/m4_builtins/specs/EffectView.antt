@@ -8,7 +8,7 @@ use Rattle.m4_builtins.specs.declared.effect.Kind.{Kind}
 use Rattle.m4_builtins.specs.declared.effect.Kind.TheVariants as kinds
 use Rattle.m4_builtins.specs.declared.effect.Push.{Push}
 use Rattle.m4_builtins.specs.declared.effect.Push.TheVariants as seen
-use Rattle.m4_builtins.specs.Acted.{Effect, nothing}
+use Rattle.m4_builtins.specs.Acted.{Effect, IsPushed, nothing}
 
 -- the value of a kind, with text x
 abbrev pub inserted : Kind → List ℕ → Option Pushed
@@ -26,9 +26,10 @@ effect_view e = record {
   exit = e.exit;
 }
 
--- without more to do, there is at most a value to insert
-abbrev pub IsEffect : Inside → Type 0
-IsEffect e = e.has_more ≡ false → effect_view e ≡ record nothing { push = inserted e.kind e.text.items }
+-- without more to do, there is at most a value to insert, and a definition that is inserted is valid
+pub record IsEffect (e : Inside) : Type 0 where
+  pub more : e.has_more ≡ false → effect_view e ≡ record nothing { push = inserted e.kind e.text.items }
+  pub push : IsPushed (inserted e.kind e.text.items)
 
 -- the value that is seen in place
 abbrev pub pushed_by : Push → Option Pushed

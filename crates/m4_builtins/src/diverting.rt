@@ -79,8 +79,6 @@ pub(crate) fn divnum(effect: &mut Effect, state: &State) -> Result<(), AllocErro
 fn held_numbers(alloc: Global, state: &State) -> Result<Vec<i32>, AllocError>
     ensures { IfOk result (λ v. v.items ≡ spec.held_numbers state.now) }
 {
-    // Its clauses say that the state is valid.
-    let _current = state.current();
     let mut numbers = Vec::new(alloc);
     let mut last = 0;
     while let Some(number) = state.next_diversion(last) {

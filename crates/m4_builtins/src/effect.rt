@@ -16,7 +16,7 @@ enum Kind {
 }
 
 /// The effect of a call. Calls fill one effect in turn, so that most of them ask for no memory. Most leave nothing to
-/// do but to insert a value, which `has_more` says in one test.
+/// do but to insert a value, which `has_more` says in one test. A definition that is inserted is valid.
 #[derive(Debug)]
 pub struct Effect {
     kind: Kind,
@@ -69,7 +69,8 @@ impl Drop for Effect {
 
 impl Effect {
     ghost use Rattle.m4_input.specs.declared.pushed.Pushed.TheVariants as pushes;
-    ghost use Rattle.m4_builtins.specs.Acted.{nothing};
+    ghost use Rattle.m4_state.specs.Definition.{IsDefinition};
+    ghost use Rattle.m4_builtins.specs.Acted.{IsPushed, nothing};
     ghost use Rattle.m4_builtins.specs.EffectView.{pushed_by};
 
     /// Creates an effect that leaves nothing to do.
@@ -125,9 +126,10 @@ impl Effect {
         self.text.capacity()
     }
 
-    /// Returns the value that is inserted before the input.
+    /// Returns the value that is inserted before the input. A definition among these is valid.
     pub fn push(&self) -> Push<'_>
-        ensures { pushed_by result ≡ self.now.push }
+        ensures value { pushed_by result ≡ self.now.push }
+        ensures valid { IsPushed (pushed_by result) }
     {
         match &self.kind {
             Kind::Nothing => Push::Nothing,
@@ -209,6 +211,7 @@ impl Effect {
 
     /// Inserts a definition before the input.
     pub(crate) fn give_definition(&mut self, definition: Def)
+        requires { IsDefinition definition }
         ensures { self.new ≡ record self.old { push = Some (pushes.Definition definition) } }
     {
         self.kind = Kind::Definition(definition);

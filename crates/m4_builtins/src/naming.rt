@@ -1,8 +1,9 @@
 //! The builtins that define names, delete their definitions and return them. Manual: "Defining a
 //! macro", "Deleting a macro", "Temporarily redefining macros", "Renaming macros".
 
-ghost use Rattle.std.specs.Prelude.{◌≡◌, ◌++◌, fold, flat_map, IfOk, OnOk, Some, option_copied};
+ghost use Rattle.std.specs.Prelude.{◌≡◌, ◌++◌, fold, flat_map, IfOk, IfSome, OnOk, Some, option_copied};
 ghost use Rattle.std.specs.List.{AllByRecursion};
+ghost use Rattle.m4_state.specs.Definition.{IsDefinition};
 ghost use Rattle.m4_state.specs.State.{popped, undefined};
 ghost use Rattle.m4_input.specs.DelimsView.{pair_of};
 ghost use Rattle.m4_builtins.specs.Acted.{nothing};
@@ -139,7 +140,8 @@ fn give_definition(
     def: Option<&Def>,
     quotes: (&[u8], &[u8]),
 ) -> Result<(), AllocError>
-    requires { effect.old ≡ nothing }
+    requires fresh { effect.old ≡ nothing }
+    requires valid { IfSome (option_copied def) IsDefinition }
     ensures { OnOk result (effect.new
         ≡ record nothing { push = Some (spec.definition_given (pair_of quotes.entry) (option_copied def.entry)) }) }
 {

@@ -1,15 +1,10 @@
 -- Acts: what a call leaves is what the definitions' move leaves.
-use Rattle.std.proofs.Common.{◌≡◌, Bool, true, false, Some, None, ◌++◌, length, ℕ, List, [], ◌∷◌, refl, sym, ap, ◌∙◌, subst, append-nil, append_assoc}
-use Rattle.std.specs.List.{AllByRecursion}
+use Rattle.std.proofs.Common.{◌≡◌, Bool, true, false, Some, None, ◌++◌, length, ℕ, List, [], ◌∷◌, refl, sym, ap, ◌∙◌, append-nil, append_assoc}
 use Rattle.m4_state.specs.declared.definition.Def.{Def}
-use Rattle.m4_state.specs.State.{State, IsState}
-use Rattle.m4_builtins.specs.declared.args.Arg.{Arg}
-use Rattle.m4_builtins.specs.Place.{Place}
-use Rattle.m4_builtins.specs.Args.{IsArg}
-use Rattle.m4_builtins.proofs.ActKeeps.{act_pushes}
+use Rattle.m4_state.specs.State.{State}
 use Rattle.m4_input.specs.Pending.{Pending, text_of, line_length}
 use Rattle.m4_input.specs.Input.{Held, longer}
-use Rattle.m4_builtins.specs.Act.{Acted, IsPushed, act}
+use Rattle.m4_builtins.specs.Act.{Acted, act}
 use Rattle.m4_builtins.specs.Acted.{Effect}
 use Rattle.std.specs.Prelude.{Result, Ok, Err, IfOk}
 use Rattle.m4_engine.specs.declared.turned.Turned.{Turned}
@@ -163,7 +158,3 @@ text_limits (c ∷ cs) x e = refl
 pub token_limits : (cs : List Call) (d : Def) (e : Engine) → (put_token_in cs d e).limits ≡ e.limits
 token_limits [] d e = refl
 token_limits (c ∷ cs) d e = refl
-
--- what a call pushes is in order
-pub acted_pushes : (d : Def) (name : List ℕ) (list : List Arg) (p : Place) (s : State) (a : Acted) → IsState s → AllByRecursion IsArg list → act d name list p s ≡ a → IsPushed (a.effect).push
-acted_pushes d name list p s a is v h = subst (λ (b : Acted). IsPushed (b.effect).push) h (act_pushes d name list p s is v)

@@ -3,6 +3,7 @@
 -- (`m`), only tokens that they can't change are meant.
 -- Words: IsPlain, total, ArePlain, IsPlainRun, IsFirst, FirstLies.
 use Rattle.std.specs.Prelude.{◌≡◌, ◌<◌, ◌≤◌, ℕ, ◌+◌, Bool, List, [], ◌∷◌, Some, None, take, drop, ◌⊎◌}
+use Rattle.m4_state.specs.Definition.{IsDefinition}
 use Rattle.m4_state.specs.State.{State, top_of}
 use Rattle.m4_input.specs.declared.token.Token.TheVariants.{Name, Str, Byte}
 use Rattle.m4_input.specs.declared.front.Scan.TheVariants.{Found}
@@ -39,7 +40,7 @@ IsFirst s m x (firsts.Byte b) = (scan s.quotes s.comments m x ≡ Found (Byte b)
 IsFirst s m x (firsts.Quoted begin len all) = scan s.quotes s.comments m x ≡ Found (Str (take len (drop begin x))) all
 IsFirst s m x (firsts.Called n listed d) =
     (scan s.quotes s.comments m x ≡ Found (Name (take n x)) n) × (top_of s (take n x) ≡ Some d.now)
-    × (paren_in s.quotes s.comments m (drop n x) ≡ answer_of listed)
+    × (paren_in s.quotes s.comments m (drop n x) ≡ answer_of listed) × IsDefinition d.now
 IsFirst s m x firsts.Other = Unit {0}
 
 -- the first token is inside a text of m bytes

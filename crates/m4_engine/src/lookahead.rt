@@ -1,6 +1,7 @@
 //! The next token, as far as it was recognised when the tokens before it were passed.
 
 ghost use Rattle.std.specs.Prelude.{◌≡◌, ◌≤◌, ◌&&◌, not, None, Some, IfOk, length, take};
+ghost use Rattle.m4_state.specs.Definition.{IsDefinition};
 ghost use Rattle.m4_state.specs.State.{top_of};
 ghost use Rattle.m4_input.specs.Pending.{text_of};
 ghost use Rattle.m4_engine.specs.Plain.{IsFirst, FirstLies};
@@ -66,9 +67,9 @@ impl Meaning {
     ) -> Result<Meaning, TurnFault>
         requires within { len ≤ length text.now }
         requires top { top_of state.now (take len text.now) ≡ Some definition.now }
+        requires valid { IsDefinition definition.now }
         ensures { IfOk result (λ m. IsMeaning m bare state.now (take len text.now) (record { file = place.entry.0.now; line = place.entry.1 })) }
     {
-        let _in_order = state.current();
         match definition {
             Def::Text(defined) if bare => {
                 let name = text.split_at(len).0;

@@ -6,7 +6,6 @@
 ghost use Rattle.std.specs.Prelude.{◌≡◌, ◌<◌, OnOk, Err};
 ghost use Rattle.std.specs.List.{flat_map, list_all};
 ghost use Rattle.m4_state.specs.Device.{with_bytes, one_more, count_after, HasBegun, Puts};
-ghost use Rattle.m4_state.specs.State.{AreDiversions};
 ghost use Rattle.m4_frozen.specs.InspectorSteps as steps;
 ghost use Rattle.m4_frozen.specs.Listing as lines;
 
@@ -38,7 +37,6 @@ pub fn list<W: ByteSink>(loaded: &Loaded, writer: &mut W) -> Result<(), WriteFau
     ensures unfailed { OnOk result (W.failures writer.new ≡ W.failures writer.old) }
 {
     let pairs = loaded.state.definitions()?;
-    let _current = loaded.state.current();
     put_listing(loaded, &pairs, writer)?;
     Ok(())
 }
@@ -49,7 +47,6 @@ fn put_listing<W: ByteSink>(
     pairs: &[Named],
     writer: &mut W,
 ) -> Result<(), DeviceFault>
-    requires { AreDiversions loaded.now.state.diversions }
     ensures puts { Puts result (W.contents writer.old) (W.contents writer.new) (steps.listing_text loaded.now pairs.now) }
     ensures counted { W.failures writer.new ≡ count_after result (W.failures writer.old) }
 {
@@ -147,7 +144,6 @@ fn put_length<W: ByteSink>(text: &[u8], writer: &mut W) -> Result<(), DeviceFaul
 
 /// Writes the diversions that contain text, the current number, and the length of the issued text.
 fn put_diverted<W: ByteSink>(loaded: &Loaded, writer: &mut W) -> Result<(), DeviceFault>
-    requires { AreDiversions loaded.now.state.diversions }
     ensures puts { Puts result (W.contents writer.old) (W.contents writer.new) (steps.diverted_lines loaded.now) }
     ensures counted { W.failures writer.new ≡ count_after result (W.failures writer.old) }
 {
@@ -158,7 +154,6 @@ fn put_diverted<W: ByteSink>(loaded: &Loaded, writer: &mut W) -> Result<(), Devi
 
 /// Writes the diversions that contain text, by rising number.
 fn put_texts<W: ByteSink>(state: &State, writer: &mut W) -> Result<(), DeviceFault>
-    requires { AreDiversions state.now.diversions }
     ensures puts { Puts result (W.contents writer.old) (W.contents writer.new) (steps.texts_lines state.now.diversions) }
     ensures counted { W.failures writer.new ≡ count_after result (W.failures writer.old) }
 {

@@ -5,7 +5,7 @@
 
 ghost use Rattle.std.specs.Prelude.{◌≡◌, ◌++◌, ℤ, pos, IfOk, OnOk, OnErr, [], Err, decimal};
 ghost use Rattle.m4_state.specs.Device.{with_bytes, one_more, count_after, HasBegun, Puts};
-ghost use Rattle.m4_state.specs.State.{AreDiversions, IsSized};
+ghost use Rattle.m4_state.specs.State.{IsSized};
 ghost use Rattle.m4_frozen.specs.Directive as directives;
 ghost use Rattle.m4_frozen.specs.Freeze as texts;
 ghost use Rattle.m4_frozen.specs.WriterSteps as steps;
@@ -55,7 +55,6 @@ pub fn write_frozen<W: ByteSink>(state: &State, writer: &mut W) -> Result<(), Wr
     ensures unasked { result ≡ Err WriteFault.OutOfMemory
         → W.failures writer.new ≡ W.failures writer.old }
 {
-    let _current = state.current();
     let pairs = state.definitions()?;
     put_frozen(state, &pairs, writer)?;
     Ok(())
@@ -67,7 +66,6 @@ fn put_frozen<W: ByteSink>(
     pairs: &[Named],
     writer: &mut W,
 ) -> Result<(), DeviceFault>
-    requires { AreDiversions state.now.diversions }
     ensures puts { Puts result (W.contents writer.old) (W.contents writer.new) (steps.frozen_text state.now pairs.now) }
     ensures counted { W.failures writer.new ≡ count_after result (W.failures writer.old) }
 {
@@ -82,7 +80,6 @@ fn put_directives<W: ByteSink>(
     pairs: &[Named],
     writer: &mut W,
 ) -> Result<(), DeviceFault>
-    requires { AreDiversions state.now.diversions }
     ensures puts { Puts result (W.contents writer.old) (W.contents writer.new) (steps.directives_text state.now pairs.now) }
     ensures counted { W.failures writer.new ≡ count_after result (W.failures writer.old) }
 {
@@ -102,7 +99,6 @@ fn put_settings<W: ByteSink>(state: &State, writer: &mut W) -> Result<(), Device
 
 /// Writes the diversions that contain text, and the number of the current one.
 fn put_diversions<W: ByteSink>(state: &State, writer: &mut W) -> Result<(), DeviceFault>
-    requires { AreDiversions state.now.diversions }
     ensures puts { Puts result (W.contents writer.old) (W.contents writer.new) (steps.diverted_text state.now) }
     ensures counted { W.failures writer.new ≡ count_after result (W.failures writer.old) }
 {
@@ -212,7 +208,6 @@ fn put_definition<W: ByteSink>(
 
 /// Writes the diversions that contain text, by rising number. Returns the last one's number, or 0.
 fn put_texts<W: ByteSink>(state: &State, writer: &mut W) -> Result<i32, DeviceFault>
-    requires { AreDiversions state.now.diversions }
     ensures puts { Puts result (W.contents writer.old) (W.contents writer.new) (steps.texts_text state.now.diversions) }
     ensures last { IfOk result (λ n. n ≡ texts.last_number (pos 0) state.now.diversions) }
     ensures counted { W.failures writer.new ≡ count_after result (W.failures writer.old) }

@@ -69,7 +69,7 @@ impl State {
     ghost use Rattle.m4_state.specs.Definition.{IsDefinition};
     ghost use Rattle.m4_state.specs.declared.definition.Def.TheVariants as defs;
     ghost use Rattle.m4_state.specs.Fresh.{fresh, with_builtin};
-    ghost use Rattle.m4_state.specs.State.{IsState, IsSized, empty, names_of, stack_of, top_of, pushed, popped, defined, undefined, with_quotes, with_comments, diverted, appended, undiverted, issued_from, unless_empty, diversion_of, next_after};
+    ghost use Rattle.m4_state.specs.State.{AreDiversions, IsState, IsSized, empty, names_of, stack_of, top_of, pushed, popped, defined, undefined, with_quotes, with_comments, diverted, appended, undiverted, issued_from, unless_empty, diversion_of, next_after};
 
     /// Returns the empty state: no names, no diversions, the default delimiters.
     pub fn empty(alloc: Global) -> Result<State, StateFault>
@@ -125,12 +125,14 @@ impl State {
         self.table.stack(name)
     }
 
-    /// Returns the top definition of a name.
+    /// Returns the top definition of a name, which is a valid one.
     pub fn top(&self, name: &[u8]) -> Option<&Def>
         // exact steps: the last of the record's definitions of the name
-        ensures { option_copied result ≡ top_of self.now name.now }
+        ensures top { option_copied result ≡ top_of self.now name.now }
+        ensures valid { IfSome (option_copied result) IsDefinition }
     {
-        self.stack(name).last()
+        let definitions = self.table.stack(name);
+        definitions.last()
     }
 
     /// Returns the names that have a definition, in byte order. Each call sorts them.
@@ -142,10 +144,13 @@ impl State {
     }
 
     /// Returns the names that have a definition, in byte order, each with its definitions, the oldest
-    /// first. Each call sorts them; both are borrowed.
+    /// first. Each call sorts them; both are borrowed. Every state is valid, and none of its byte strings is
+    /// longer than 2^64 - 1.
     pub fn definitions(&self) -> Result<Vec<Named<'_>>, StateFault>
         // exact steps: the pairs of the record, in its order
-        ensures { IfOk result (λ named. named.items ≡ self.now.table) }
+        ensures pairs { IfOk result (λ named. named.items ≡ self.now.table) }
+        ensures valid { IsState self.now }
+        ensures sized { IsSized self.now }
     {
         Ok(self.table.definitions()?)
     }
@@ -306,10 +311,12 @@ impl State {
         self.diversions.text(number)
     }
 
-    /// Returns the least number above this one, and above 0, that has a text.
+    /// Returns the least number above this one, and above 0, that has a text. The numbers of a state are
+    /// positive, and they rise.
     pub fn next_diversion(&self, number: i32) -> Option<i32>
         // exact steps: the first number after this one
-        ensures { result ≡ next_after self.now.diversions number }
+        ensures next { result ≡ next_after self.now.diversions number }
+        ensures valid { AreDiversions self.now.diversions }
     {
         self.diversions.next(number)
     }

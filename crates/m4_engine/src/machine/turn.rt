@@ -170,8 +170,6 @@ impl Machine {
     {
         let head = call.head();
         let definition = head.definition()?;
-        // Its clauses say that the state is valid, so a pushed value is valid too.
-        let _in_order = self.state.current();
         self.effect.clear();
         act_on(
             &mut self.effect,

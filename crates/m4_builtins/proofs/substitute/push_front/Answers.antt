@@ -1,4 +1,4 @@
-use Rattle.std.proofs.Common.{◌∙◌, ap, ℕ, List, map, ◌++◌}
+use Rattle.std.proofs.Common.{map}
 use Rattle.m4_input.specs.DelimsView.{pair_of}
 use Rattle.m4_builtins.specs.Args.{text_of_arg}
 use Rattle.m4_builtins.proofs.Joins.{front_plain, front_dollar}

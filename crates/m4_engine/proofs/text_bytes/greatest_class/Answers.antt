@@ -1,4 +1,4 @@
-use Rattle.std.proofs.Common.{rules, arith, lt-ltb}
+use Rattle.std.proofs.Common.{arith, lt-ltb}
 use Rattle.m4_input.specs.DelimsView.{pair_of}
 use Rattle.m4_engine.proofs.TextBytes.{text_byte}
 use Rattle.m4_engine.proofs.text_bytes.greatest_class.Goals as goal

@@ -1,17 +1,11 @@
-use Rattle.std.proofs.Common.{◌≡◌, ◌++◌, [], List, ℕ, ap, sym, ◌∙◌, subst, rules}
-use Rattle.std.specs.Prelude.{IfOk, Option}
+use Rattle.std.proofs.Common.{◌≡◌, ◌++◌, [], List, ℕ, ap, ◌∙◌, subst, rules}
+use Rattle.std.specs.Prelude.{IfOk}
 use Rattle.m4_state.specs.declared.definition.Def.TheVariants.{Text}
-use Rattle.m4_state.specs.State.{IsState}
 use Rattle.m4_input.specs.DelimsView.{pair_of}
 use Rattle.m4_input.specs.Input.{longer}
-use Rattle.m4_input.specs.declared.pushed.Pushed.{Pushed}
-use Rattle.m4_builtins.specs.Act.{Acted, IsPushed}
-use Rattle.m4_builtins.specs.EffectView.{pushed_by}
 use Rattle.m4_builtins.specs.Subst.{subst as substituted}
 use Rattle.m4_engine.specs.Expansion.{Call}
 use Rattle.m4_engine.specs.Engine.{Engine, Moves, called_within, here_of}
-use Rattle.m4_engine.specs.Expand.{with_value}
-use Rattle.m4_engine.proofs.Acts.{called_goes, called_skips, called_exits, acted_pushes}
 use Rattle.m4_engine.proofs.Bare.{substituted_by, called_as}
 use Rattle.m4_engine.proofs.machine.Machine.call.Goals as goal
 

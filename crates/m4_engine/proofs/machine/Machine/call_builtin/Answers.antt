@@ -1,19 +1,12 @@
-use Rattle.std.proofs.Common.{◌≡◌, ◌++◌, [], List, ℕ, ap, sym, ◌∙◌, subst, rules}
+use Rattle.std.proofs.Common.{◌≡◌, ◌++◌, [], ap, sym, ◌∙◌, subst, rules}
 use Rattle.std.specs.Prelude.{Option, None}
-use Rattle.m4_state.specs.declared.definition.Def.TheVariants.{Text}
-use Rattle.m4_state.specs.State.{IsState}
-use Rattle.m4_input.specs.DelimsView.{pair_of}
 use Rattle.m4_input.specs.Input.{longer}
 use Rattle.m4_input.specs.declared.pushed.Pushed.{Pushed}
 use Rattle.m4_builtins.specs.Acted.{Acted, Effect, nothing}
-use Rattle.m4_builtins.specs.Act.{IsPushed}
 use Rattle.m4_builtins.specs.EffectView.{pushed_by}
-use Rattle.m4_builtins.specs.Subst.{subst as substituted}
-use Rattle.m4_engine.specs.Expansion.{Call}
 use Rattle.m4_engine.specs.Engine.{Engine, with_made}
 use Rattle.m4_engine.specs.Expand.{with_saved, with_value}
-use Rattle.m4_engine.proofs.Acts.{made_and_begun, called_goes, called_skips, called_exits, acted_pushes}
-use Rattle.m4_engine.proofs.Bare.{substituted_by, called_as}
+use Rattle.m4_engine.proofs.Acts.{made_and_begun, called_goes, called_skips, called_exits}
 use Rattle.m4_engine.proofs.machine.Machine.call_builtin.Goals as goal
 
 pub returns-in-Some : goal.returns-in-Some
@@ -62,23 +55,6 @@ returns-then-has_more c = record {
   limits = search rules;
   made = search rules;
 }
-
--- what was pushed is in order
-pub push_value-requires-clause-valid : goal.push_value-requires-clause-valid
-push_value-requires-clause-valid c =
-    let a : Acted = record { state = c.act_on.new.state; effect = c.act_on.new.effect } in
-    let same : c.self.inside.state ≡ c.args.self.now.state = search rules in
-    let pushed : pushed_by c.push.result ≡ c.act_on.new.effect.push = search rules in
-    subst IsPushed (sym pushed)
-    (acted_pushes c.args.call.definition c.args.call.name c.args.call.done c.args.call.place c.args.self.now.state a (subst IsState same c.current-in_order.ensures.valid) (search rules) (search rules))
-
-pub push_value-requires-2-clause-valid : goal.push_value-requires-2-clause-valid
-push_value-requires-2-clause-valid c =
-    let a : Acted = record { state = c.act_on.new.state; effect = c.act_on.new.effect } in
-    let same : c.self.inside.state ≡ c.args.self.now.state = search rules in
-    let pushed : pushed_by c.push-2.result ≡ c.act_on.new.effect.push = search rules in
-    subst IsPushed (sym pushed)
-    (acted_pushes c.args.call.definition c.args.call.name c.args.call.done c.args.call.place c.args.self.now.state a (subst IsState same c.current-in_order.ensures.valid) (search rules) (search rules))
 
 -- there was nothing to do but to insert the value
 pub returns : goal.returns

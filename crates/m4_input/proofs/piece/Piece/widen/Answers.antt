@@ -1,4 +1,4 @@
-use Rattle.std.proofs.Common.{◌≡◌, ◌++◌, List, ℕ, take, drop, refl, sym, ap, ◌∙◌}
+use Rattle.std.proofs.Common.{◌≡◌, List, ℕ, drop, sym, ap, ◌∙◌}
 use Rattle.m4_input.specs.Text.{text_in}
 use Rattle.m4_input.proofs.Pieces.{piece_moved, piece_text}
 use Rattle.m4_input.proofs.piece.Piece.widen.Goals as goal
