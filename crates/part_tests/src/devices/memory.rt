@@ -1,10 +1,11 @@
 //! A reader and a writer over memory, for different numbers of bytes at a time.
 
+use super::take_all;
 use crate::report::{Report, joined, repeated};
 use crate::shows::{agrees, shows};
 use m4_state::device::{ByteSink, ByteSource, DeviceFault};
 use m4_state::memory::{MemSink, MemSource};
-use m4_state::transfer::{read_all, write_all, write_pieces};
+use m4_state::transfer::{write_all, write_pieces};
 use std::alloc::{AllocError, Global};
 use std::test::Fail;
 
@@ -31,9 +32,10 @@ static READERS: [(&str, bool, &[u8]); 2] = [
 fn taken_of(alloc: Global, at_most: usize, fails: bool) -> Result<Vec<u8>, AllocError> {
     let mut report = Report::new(alloc);
     let mut reader = MemSource::new(BYTES, at_most.max(1), fails);
-    let taken = read_all(alloc, &mut reader)?;
-    report.add(&taken.bytes);
-    report.add(if taken.failed {
+    let mut bytes = Vec::new(alloc);
+    let failed = take_all(&mut reader, &mut bytes)?;
+    report.add(&bytes);
+    report.add(if failed {
         b"; failed after "
     } else {
         b"; ended after "
@@ -54,7 +56,9 @@ fn all_that_is_given_is_taken(rt: HostRuntime) {
 // Reads all of a long text.
 fn taken_of_a_long_text(alloc: Global, text: &[u8]) -> Result<Vec<u8>, AllocError> {
     let mut reader = MemSource::new(text, 4096, false);
-    Ok(read_all(alloc, &mut reader)?.bytes)
+    let mut bytes = Vec::new(alloc);
+    let _failed = take_all(&mut reader, &mut bytes)?;
+    Ok(bytes)
 }
 
 #[test]

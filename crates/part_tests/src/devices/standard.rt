@@ -1,10 +1,11 @@
 //! Devices over scripted readers and writers of std.
 
+use super::take_all;
 use crate::report::Report;
 use crate::shows::shows;
 use m4_state::device::{ByteSink, DeviceFault};
 use m4_state::standard::{StdSink, StdSource};
-use m4_state::transfer::{read_all, write_all};
+use m4_state::transfer::write_all;
 use std::alloc::{AllocError, Global};
 use std::io;
 use std::io::{Read, Write};
@@ -115,13 +116,10 @@ fn taken_of(alloc: Global, script: &'static [Answer]) -> Result<Vec<u8>, AllocEr
         script,
         taken: Vec::new(alloc),
     });
-    let taken = read_all(alloc, &mut reader)?;
-    report.add(&taken.bytes);
-    report.add(if taken.failed {
-        b"; failed"
-    } else {
-        b"; ended"
-    });
+    let mut bytes = Vec::new(alloc);
+    let failed = take_all(&mut reader, &mut bytes)?;
+    report.add(&bytes);
+    report.add(if failed { b"; failed" } else { b"; ended" });
     report.text()
 }
 
