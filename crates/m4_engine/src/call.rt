@@ -26,14 +26,13 @@ use std::marker::Model;
 
 /// A call whose list is not closed yet: its definition, name and place as they were when the name was read,
 /// the complete arguments, and the part of the next one that was read.
-#[derive(Debug)]
 pub struct OpenCall {
     parts: Box<Parts>,
 }
 
 /// The parts of an open call. The first `count` arguments are complete; those after them are of earlier calls,
 /// and are kept for their memory.
-#[derive(Debug, Drop)]
+#[derive(Drop)]
 struct Parts {
     head: Head,
     args: Vec<Arg>,

@@ -15,7 +15,7 @@ use m4_state::definition::Def;
 use m4_state::state::State;
 
 /// The first token of a text, as far as one look decides it.
-#[derive(Clone, Copy, Debug)]
+#[derive(Clone, Copy)]
 pub enum First<'a> {
     /// A name without a definition, with its length.
     Word(usize),

@@ -3,7 +3,7 @@
 use crate::ending::Cause;
 
 /// What an expansion needs more bytes for.
-#[derive(Clone, Copy, Debug, PartialEq, Eq)]
+#[derive(Clone, Copy)]
 pub enum Wanted {
     /// The next token, or whether a list follows a name.
     Token,
@@ -12,7 +12,7 @@ pub enum Wanted {
 }
 
 /// Why an expansion of the bytes in hand stopped.
-#[derive(Clone, Copy, Debug, PartialEq, Eq)]
+#[derive(Clone, Copy)]
 pub enum InHand {
     /// More bytes are needed. All output and messages were flushed.
     Needs(Wanted),

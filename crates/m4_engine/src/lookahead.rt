@@ -19,7 +19,7 @@ use m4_state::definition::Def;
 use m4_state::state::State;
 
 /// The meaning of a name that has a definition.
-#[derive(Debug, Drop)]
+#[derive(Drop)]
 pub enum Meaning {
     /// The expansion of a text macro that is called without a list.
     Expansion(Bytes),
@@ -30,7 +30,7 @@ pub enum Meaning {
 }
 
 /// A name that has a definition.
-#[derive(Debug, Drop)]
+#[derive(Drop)]
 pub struct Named {
     /// The name's length in bytes.
     pub len: usize,
@@ -41,7 +41,7 @@ pub struct Named {
 }
 
 /// The next token.
-#[derive(Debug, Drop)]
+#[derive(Drop)]
 pub enum Lookahead {
     /// Nothing is known about it.
     Unknown,

@@ -11,7 +11,7 @@ use m4_state::fault::StateFault;
 use std::alloc::AllocError;
 
 /// The outcome of a turn that was completed.
-#[derive(Clone, Copy, Debug, PartialEq, Eq)]
+#[derive(Clone, Copy)]
 pub enum Turned {
     /// The expansion continues.
     GoesOn,
@@ -24,7 +24,7 @@ pub enum Turned {
 }
 
 /// Why a turn ends the expansion: the causes that an input gives. One is returned by each turn, so it is small.
-#[derive(Clone, Copy, Debug, PartialEq, Eq)]
+#[derive(Clone, Copy)]
 pub enum TurnEnd {
     /// Everything was read.
     Done,
@@ -60,7 +60,7 @@ impl TurnEnd {
 }
 
 /// Why a turn was not completed. The run is over, and its state is not used again.
-#[derive(Clone, Copy, Debug, PartialEq, Eq)]
+#[derive(Clone, Copy)]
 pub enum TurnFault {
     /// An allocation failed.
     OutOfMemory,

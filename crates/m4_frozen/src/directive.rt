@@ -4,7 +4,7 @@
 //! their place in the file. Manual: "Frozen file format".
 
 /// A directive. Its strings borrow from the bytes of the file.
-#[derive(Clone, Copy, Debug, PartialEq, Eq)]
+#[derive(Clone, Copy)]
 pub enum Directive<'a> {
     /// `Q`: the quotes' begin and end.
     Quotes(&'a [u8], &'a [u8]),

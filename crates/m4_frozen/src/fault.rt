@@ -91,14 +91,14 @@ pub(crate) fn no_memory() -> FrozenFault
 }
 
 /// A fault, and the number of bytes from its place to the end of the file.
-#[derive(Clone, Copy, Debug, PartialEq, Eq)]
+#[derive(Clone, Copy)]
 pub(crate) struct Refusal {
     pub(crate) kind: FrozenKind,
     pub(crate) bytes_left: usize,
 }
 
 /// Why no more directives can be read.
-#[derive(Debug, Drop)]
+#[derive(Drop)]
 pub(crate) enum ReadStop {
     OutOfMemory,
     Refused(Refusal),

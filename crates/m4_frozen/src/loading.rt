@@ -76,7 +76,7 @@ impl Drop for Loading {
 }
 
 /// Loading has used all complete directives and needs more bytes.
-#[derive(Clone, Copy, Debug)]
+#[derive(Clone, Copy)]
 pub(crate) struct Pause {
     /// How many of the last bytes were not used yet.
     pub(crate) left: usize,

@@ -12,7 +12,7 @@ use m4_state::device::{ByteSource, DeviceFault};
 use std::alloc::{AllocError, Global};
 
 /// What the reader returns next, as far as is known.
-#[derive(Clone, Copy, Debug, PartialEq, Eq)]
+#[derive(Clone, Copy)]
 pub(crate) enum BlockRead {
     /// Perhaps more bytes.
     More,

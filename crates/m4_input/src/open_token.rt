@@ -16,7 +16,7 @@ use crate::window::Window;
 type Pair<'a> = (&'a [u8], &'a [u8]);
 
 /// A token that may go on in bytes that follow, and how far it was looked at.
-#[derive(Clone, Copy, Debug, PartialEq, Eq)]
+#[derive(Clone, Copy)]
 pub enum OpenToken {
     /// A name, of which so many bytes were looked at.
     Name(usize),

@@ -19,7 +19,7 @@ pub fn single(delimiter: &[u8]) -> Option<u8>
 }
 
 /// Where a string is after a text.
-#[derive(Clone, Copy, Debug, PartialEq, Eq)]
+#[derive(Clone, Copy)]
 pub enum Followed {
     /// It ends in the text: so many bytes come before the end-quote that closes it.
     Ends(usize),

@@ -17,13 +17,13 @@ use std::marker::Model;
 const SHORT: usize = 22;
 
 /// A name that is a key. Contracts see it as a list of bytes.
-#[derive(Debug, Drop)]
+#[derive(Drop)]
 pub struct Name {
     kept: Kept,
 }
 
 /// Where the bytes are.
-#[derive(Debug, Drop)]
+#[derive(Drop)]
 enum Kept {
     /// In place.
     Short(ShortBytes),
@@ -32,7 +32,7 @@ enum Kept {
 }
 
 /// The first `len` of these bytes. Contracts see them as a list.
-#[derive(Debug, Drop)]
+#[derive(Drop)]
 struct ShortBytes {
     len: u8,
     bytes: [u8; SHORT],
@@ -156,7 +156,7 @@ impl Hash for Name {
 }
 
 /// The bytes of a name that is looked up.
-#[derive(Clone, Copy, Debug)]
+#[derive(Clone, Copy)]
 pub struct Sought<'a>(pub &'a [u8]);
 
 impl PartialEq for Sought<'_> {

@@ -15,13 +15,13 @@ use std::mem::replace;
 use std::slice::from_ref;
 
 /// The definitions of a name, the oldest first. Contracts see them as a list.
-#[derive(Debug, Drop)]
+#[derive(Drop)]
 pub struct Stack {
     kept: Kept,
 }
 
 /// Where the definitions are.
-#[derive(Debug, Drop)]
+#[derive(Drop)]
 enum Kept {
     /// In place.
     One(Def),

@@ -1,4 +1,4 @@
-use Rattle.std.proofs.Common.{sym, subst}
+use Rattle.std.proofs.Common.{rules, sym, subst}
 use Rattle.std.specs.List.{AllByRecursion}
 use Rattle.m4_state.specs.Definition.{IsDefinition}
 use Rattle.m4_builtins.specs.Args.{IsArg}
@@ -10,3 +10,6 @@ pub push-requires : goal.push-requires
 push-requires c =
     let valid = subst (AllByRecursion IsArg) c.in-Some.ensures.cases.0 c.requires.args in
     subst IsDefinition (sym c.in_ok-def-in-Text.ensures) (second_valid c.in-Some.rest.now valid.1)
+
+pub returns-in_ok-push-in-Text : goal.returns-in_ok-push-in-Text
+returns-in_ok-push-in-Text c = search rules

@@ -1,4 +1,4 @@
-use Rattle.std.proofs.Common.{◌≡◌, ℕ, [], Option, Some, None, sym, ap, ◌∙◌, subst}
+use Rattle.std.proofs.Common.{rules, ◌≡◌, ℕ, [], Option, Some, None, sym, ap, ◌∙◌, subst}
 use Rattle.std.specs.Prelude.{IfSome}
 use Rattle.m4_input.specs.declared.fault.InputFault.{InputFault}
 use Rattle.std.proofs.Common.{◌++◌}
@@ -41,3 +41,6 @@ blocks-2-preserved g c =
           ∙ ap (λ (o : Option InputFault). failures_after None o n) m.1.sound
           ∙ i.2,
     )
+
+pub returns-then-is_some-clause-gives : goal.returns-then-is_some-clause-gives
+returns-then-is_some-clause-gives g c = search rules

@@ -7,3 +7,6 @@ pub returns-in-Open : goal.returns-in-Open
 returns-in-Open c =
     followed_after (pair_of c.args.quotes.now) c.args.self.now c.in-Some-Some-Some.tail.now (length c.args.quotes.now.0.now) c.args.depth c.in-Open.depth c.args.at c.requires.passed (search rules)
     (short_passed (pair_of c.args.quotes.now) c.in-Some-Some-Some.begin c.in-Some-Some-Some.end c.args.depth c.in-Some-Some-Some.tail.now c.in-Open.depth _ (search rules) (search rules) c.in-Open.ensures)
+
+pub returns-in-Ends : goal.returns-in-Ends
+returns-in-Ends c = search rules

@@ -1,0 +1,5 @@
+use Rattle.std.proofs.Common.{rules}
+use Rattle.m4_builtins.proofs.indirect.builtin.Goals as goal
+
+pub returns-in-Some-by_name-clause-leads : goal.returns-in-Some-by_name-clause-leads
+returns-in-Some-by_name-clause-leads c = search rules
