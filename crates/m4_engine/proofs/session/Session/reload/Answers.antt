@@ -8,3 +8,9 @@ returns-in-Err-write_all-clause-gives g c = (c.in-Ok.loaded.state, c.in-Ok.loade
 -- named, so that a body that misses it is refused here
 pub returns-clause-gives : goal.returns-clause-gives
 returns-clause-gives g c = search rules
+
+pub returns-in-Err-clause-gives : goal.returns-in-Err-clause-gives
+returns-in-Err-clause-gives g c = search rules
+
+pub returns-in-Err-clause-write : goal.returns-in-Err-clause-write
+returns-in-Err-clause-write g c = search rules
