@@ -5,7 +5,7 @@ DESTDIR =
 
 SOURCES := crates.txt $(shell find crates -name out -prune -o -type f -print)
 
-.PHONY: check demo program cases programs differences expressions install uninstall bench real-files mutants refused-memory wrong-bodies
+.PHONY: check demo program cases programs differences expressions chance install uninstall bench real-files mutants refused-memory wrong-bodies
 
 # The program: proved, then built. A crate that is not proved is not built.
 m4r: $(SOURCES)
@@ -40,6 +40,10 @@ differences: m4r
 # Expressions made by chance, on m4r and GNU m4; skipped where GNU m4 is not installed.
 expressions: m4r
 	tests/expressions
+
+# Macro programs made by chance, whole and from frozen files, on m4r and GNU m4; skipped where GNU m4 is not installed.
+chance: m4r
+	tests/chance
 
 # m4r and GNU m4 side by side, in time and memory. Give BENCH=--save to keep the numbers.
 bench: m4r
