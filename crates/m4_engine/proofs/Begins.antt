@@ -1,5 +1,5 @@
 -- Begins: writers that hold a beginning of what is to be written.
-use Rattle.std.proofs.Common.{◌≡◌, ℕ, ◌+◌, ◌≤◌, List, [], ◌++◌, ◌⊎◌, inl, inr, length, take, drop, Option, refl, sym, ap, ◌∙◌, append-nil, append_assoc, arith}
+use Rattle.std.proofs.Common.{◌≡◌, ℕ, ◌+◌, ◌≤◌, List, [], ◌++◌, ◌⊎◌, inl, inr, length, take, drop, Option, refl, sym, ap, subst, ◌∙◌, append-nil, append_assoc, arith}
 use Rattle.std.proofs.lemmas.List.{length-append, nil_from_length, take-append-drop, take-take}
 use Rattle.m4_state.proofs.CallerLaws.{with_bytes-append, with_bytes-nil}
 use Rattle.m4_state.specs.Device.{with_bytes, HasBegun}
@@ -77,6 +77,17 @@ taken o a m b n k all more l e = (
       ∙ ap (λ x. with_bytes o ((x ++ drop n (take k all)) ++ more)) (take-take n k all l)
       ∙ ap (λ x. with_bytes o x) (append_assoc (take n all) (drop n (take k all)) more),
 )
+
+-- the first k bytes could not all be written; where there are messages, k is n
+pub first_breaks : (o a m : Option (List ℕ)) (n k : ℕ) (all reported : List ℕ) → (reported ≡ []) ⊎ (n ≡ k) → HasBegun o a (take k all) → IsInOrder (take n all) reported (writers o a m m)
+first_breaks o a m n k all reported c h = record {
+  output_first = inl refl;
+  then_messages = go c;
+}
+  where
+    go : (reported ≡ []) ⊎ (n ≡ k) → HasBegun o a (take n all) ⊎ (m ≡ with_bytes m reported)
+    go (inl z) = inr (with_bytes-nil m ∙ ap (λ x. with_bytes m x) (sym z))
+    go (inr s) = inl (subst (λ j. HasBegun o a (take j all)) (sym s) h)
 
 -- the messages could not be written
 pub messages_break : (o a m b : Option (List ℕ)) (n k : ℕ) (all reported : List ℕ) → n ≤ k → (reported ≡ []) ⊎ (n ≡ k) → a ≡ with_bytes o (take k all) → HasBegun m b reported → IsInOrder (take n all) reported (writers o a m b)

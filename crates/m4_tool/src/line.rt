@@ -8,7 +8,7 @@ ghost use Rattle.std.specs.Prelude.{◌≡◌, ◌≢◌, ◌≤◌, ◌<◌, �
 ghost use Rattle.clap.specs.Walk.{texts};
 ghost use Rattle.clap.specs.Words.{app_of, first_of, found_of, new_app, one_of, rows_of, rule_of};
 ghost use Rattle.m4_tool.specs.CommandLine.{AreInRange, HoldsFound, IsLimit, IsModeNotAlone, IsRefusal, Says, ModeIsAlone};
-ghost use Rattle.m4_tool.specs.CommandLine.{file_word, files_in, mode_has_others, known_words, limit_word, path_word, has_files, has_options, asks, is_given, with_frozen, with_limits, with_modes, with_prefix, without_short_help};
+ghost use Rattle.m4_tool.specs.CommandLine.{file_word, files_in, help_word, mode_has_others, known_words, limit_word, path_word, has_files, has_options, asks, is_given, with_frozen, with_limits, with_modes, with_prefix, without_short_help};
 ghost use Rattle.m4_tool.specs.LineSteps.{HasRowsOf, IsNoRefusal, ClassifiesError};
 
 use clap::builder::ValueParser;
@@ -267,32 +267,28 @@ fn copies(alloc: Global, files: &[&str]) -> Result<Vec<String>, AllocError>
 fn known_command<'a>(alloc: Global) -> Result<Command<'a>, AllocError>
     ensures { IfOk result (λ command. app_of command ≡ known_words) }
 {
-    let help = Arg::new(alloc, "help")
-        .long("help")
-        .action(ArgAction::Help)
-        .help("Prints this help");
     let command = with_modes(alloc, start(alloc))?;
     let command = with_frozen(alloc, command)?;
     let command = with_limits(alloc, command)?;
     let command = with_prefix(alloc, command)?;
-    command.arg(files(alloc))?.arg(help)
+    let command = command.arg(files(alloc))?;
+    command.arg(help(alloc))
 }
 
 // Adds the modes to the command.
 fn with_modes<'a>(alloc: Global, command: Command<'a>) -> Result<Command<'a>, AllocError>
     ensures { IfOk result (λ more. app_of more ≡ with_modes (app_of command.entry)) }
 {
-    let canon = path_option(
+    let command = command.arg(path_option(
         alloc,
         "canon",
         "Prints the canonical text of the state in FILE",
-    );
-    let inspect = path_option(
+    ))?;
+    command.arg(path_option(
         alloc,
         "inspect",
         "Lists the contents of FILE, one line for each thing",
-    );
-    command.arg(canon)?.arg(inspect)
+    ))
 }
 
 // Adds the frozen files of a run to the command.
@@ -305,8 +301,9 @@ fn with_frozen<'a>(alloc: Global, command: Command<'a>) -> Result<Command<'a>, A
         "Writes the state at the end of the run to FILE, and prints no diversions",
     )
     .short('F');
+    let command = command.arg(freeze)?;
     let reload = path_option(alloc, "reload-state", "Starts from the state in FILE").short('R');
-    command.arg(freeze)?.arg(reload)
+    command.arg(reload)
 }
 
 // Adds the limits to the command.
@@ -320,13 +317,13 @@ fn with_limits<'a>(alloc: Global, command: Command<'a>) -> Result<Command<'a>, A
         "Allows at most N nested calls; 0 is no limit [default: 1024]",
     )
     .short('L');
-    let calls = limit_option(
+    let command = command.arg(nesting)?;
+    command.arg(limit_option(
         alloc,
         "expansions",
         1,
         "Allows at most N calls in all [default: 4294967295]",
-    );
-    command.arg(nesting)?.arg(calls)
+    ))
 }
 
 // Adds the option for prefixes to the command.
@@ -387,6 +384,17 @@ fn files<'a>(alloc: Global) -> Arg<'a>
         .action(ArgAction::Append)
         .value_name("FILE")
         .help("An input file; `-` is standard input")
+}
+
+// Returns the option for the help, which has no short name.
+fn help<'a>(alloc: Global) -> Arg<'a>
+    ensures rule { rule_of result ≡ help_word }
+    ensures local { result.global ≡ false }
+{
+    Arg::new(alloc, "help")
+        .long("help")
+        .action(ArgAction::Help)
+        .help("Prints this help")
 }
 
 // Distinguishes an error of `clap` that memory ran out from a refused line.

@@ -14,7 +14,8 @@ ghost use Rattle.m4_input.specs.Input.{Held, answer_of, longer};
 ghost use Rattle.m4_input.specs.Pending.{Pending, line_of, text_of, consumed};
 ghost use Rattle.m4_engine.specs.Engine.{Moves, IsTaken, IsToken, IsReady, Makes, Steps, Turns, Pushes, Extended, IsAt, Stays, with_made, ending_argument, with_engine_message, with_one_call, calls_text, nested_text, is_deep_in, IfHead, IsLookahead, is_bare, allows_call, mode_of, close_in, step, here_of, outer_of, called_within};
 ghost use Rattle.m4_engine.specs.Lookahead.{IsMeaning, Fits};
-ghost use Rattle.m4_builtins.specs.Act.{IsPushed};
+ghost use Rattle.m4_builtins.specs.Act.{IsPushed, act};
+ghost use Rattle.m4_builtins.specs.Acted.{nothing};
 ghost use Rattle.m4_builtins.specs.EffectView.{pushed_by};
 ghost use Rattle.m4_state.specs.Definition.{IsDefinition};
 ghost use Rattle.m4_builtins.specs.Subst.{subst};
@@ -41,7 +42,27 @@ use m4_input::pushed::Pushed;
 use m4_input::token::Token;
 use m4_state::bytes::Bytes;
 use m4_state::definition::Def;
+use m4_state::state::State;
 use std::alloc::AllocError;
+
+/// Acts on the complete arguments of a call: changes the state, and fills an effect that is clear.
+fn act_on_call(effect: &mut Effect, call: &OpenCall, state: &mut State) -> Result<(), TurnFault>
+    requires { effect.old ≡ nothing }
+    ensures { OnOk result (act call.now.definition call.now.name call.now.done call.now.place state.old
+        ≡ record { state = state.new; effect = effect.new }) }
+{
+    let head = call.head();
+    let definition = head.definition()?;
+    act_on(
+        effect,
+        &definition,
+        head.name(),
+        call.arguments(),
+        &head.place(),
+        state,
+    )?;
+    Ok(())
+}
 
 /// Pushes the value of a call, if it has one.
 #[tactic(auto, using(crate::proofs::Inputs::pushed, crate::proofs::Inputs::nothing_pushed))]
@@ -168,17 +189,8 @@ impl Machine {
         ensures { Steps result self.old self.new input.old input.new (λ t. Moves input.old.pending.may_follow self.new input.new.pending t
             (λ z more o m. called_within self.old.open_calls call (here_of o m self.old (longer z more input.old.pending)))) }
     {
-        let head = call.head();
-        let definition = head.definition()?;
         self.effect.clear();
-        act_on(
-            &mut self.effect,
-            &definition,
-            head.name(),
-            call.arguments(),
-            &head.place(),
-            &mut self.state,
-        )?;
+        act_on_call(&mut self.effect, &call, &mut self.state)?;
         self.spare.keep(call);
         if self.effect.has_more() {
             put_more(

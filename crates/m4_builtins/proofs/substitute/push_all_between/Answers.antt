@@ -1,4 +1,5 @@
 use Rattle.std.proofs.Common.{◌≡◌, ◌+◌, ◌++◌, [], ◌∷◌, ℕ, List, drop, map, sym, ap, subst, ◌∙◌, arith}
+use Rattle.std.proofs.lemmas.Grind.{common_steps}
 use Rattle.std.proofs.lemmas.List.{drop_more}
 use Rattle.m4_state.specs.declared.delimiters.Delimiters.{Delimiters}
 use Rattle.m4_input.specs.Ascii.{comma}
@@ -31,3 +32,6 @@ loop-arg-preserved c =
           let same : mid ≡ out = cc (w.out-is) in
           quoted_first q (comma ∷ []) out mid c.push_between.new.out.items (text_of_arg arg) all rest c.loop-arg.first w.if-not-first.false same written before
     ]
+
+pub returns : goal.returns
+returns c = grind (arith, common_steps)

@@ -1,5 +1,6 @@
 -- The lines go up to the first letter, or to the end.
 use Rattle.std.proofs.Common.{◌≡◌, take, sym, refl, inl, arith}
+use Rattle.std.proofs.lemmas.Grind.{common_steps}
 use Rattle.std.proofs.lemmas.List.{append-nil, take_all}
 use Rattle.m4_frozen.proofs.lines.skip_lines.Goals as goal
 
@@ -12,3 +13,9 @@ returns c =
       same = λ more. rw all at (c.loop-i.invariant more);
       begins = inl refl;
     }
+
+pub returns-then-b-ne10 : goal.returns-then-b-ne10
+returns-then-b-ne10 c = grind (arith, common_steps)
+
+pub loop-i-preserved : goal.loop-i-preserved
+loop-i-preserved c = grind (arith, common_steps)

@@ -9,7 +9,7 @@ pub returns : goal.returns
 returns c =
     let nesting_is : rule_of c.short-nesting.result ≡ nesting_word =
     ap rule_of c.short-nesting.ensures ∙ ap (λ (r : Rule). record r { short = Some 76 }) c.limit_option.ensures.rule in
-    let first = c.in_ok-arg.ensures.shape (search rules) ∙ ap (with_rule (app_of c.args.command)) nesting_is in
+    let first = c.in_ok-command.ensures.shape (search rules) ∙ ap (with_rule (app_of c.args.command)) nesting_is in
     IfOk-weaker c.arg-2.result _ _
-    (λ command added. added.shape c.limit_option-calls.ensures.local ∙ ap₂ with_rule first c.limit_option-calls.ensures.rule)
+    (λ command added. added.shape c.limit_option-2.ensures.local ∙ ap₂ with_rule first c.limit_option-2.ensures.rule)
     c.arg-2.ensures

@@ -1,4 +1,5 @@
-use Rattle.std.proofs.Common.{List, ℕ, Bool, ◌∷◌, Option, ap, subst, refl, rules}
+use Rattle.std.proofs.Common.{List, ℕ, Bool, ◌∷◌, Option, ap, subst, refl, rules, arith}
+use Rattle.std.proofs.lemmas.Grind.{common_steps}
 use Rattle.std.specs.Prelude.{reverse}
 use Rattle.m4_engine.specs.Collected.{IsListRun}
 use Rattle.m4_engine.specs.Expansion.{Call}
@@ -22,3 +23,6 @@ returns-clause-passes c =
     (subst (λ (e : Engine). Passes e new i c.consume.new.self) c.self.view_is
     (passes_inner old new c.in-Some-innermost.call c.collect.new.call cs i c.consume.new.self c.in_ok-len.len
     (ap (λ (o : Option Call). innermost_first o cs) c.in-Some-innermost.is) run c.in-Some.ensures.first refl c.consume.ensures))
+
+pub lookahead_of-requires-clause-lies : goal.lookahead_of-requires-clause-lies
+lookahead_of-requires-clause-lies c = grind (arith, common_steps)

@@ -1,4 +1,5 @@
-use Rattle.std.proofs.Common.{List, ℕ, subst, rules}
+use Rattle.std.proofs.Common.{List, ℕ, subst, rules, arith}
+use Rattle.std.proofs.lemmas.Grind.{common_steps}
 use Rattle.std.proofs.Math.Seq.{take-length}
 use Rattle.m4_input.specs.Pending.{name_of}
 use Rattle.m4_input.specs.declared.token.Token.TheVariants.{Name}
@@ -34,3 +35,6 @@ returns c =
     (meaning_at c.in_ok-meaning.meaning (is_bare l e) e.state c.args.name (name_of p) c.args.line p (search rules) c.requires.line
     (subst (λ (x : List ℕ). IsMeaning c.in_ok-meaning.meaning (is_bare l e) e.state x (record { file = name_of p; line = c.args.line })) (take-length c.args.name) (search rules))))
     (steps_from e (engine_view c.self.inside) c.take_named.new.self c.consume-2.new.self c.take_named.new.input c.take_named.result c.self.view_is c.take_named.ensures)
+
+pub of-requires-2-clause-top : goal.of-requires-2-clause-top
+of-requires-2-clause-top c = grind (arith, common_steps)

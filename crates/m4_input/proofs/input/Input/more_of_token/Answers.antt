@@ -4,7 +4,7 @@ use Rattle.m4_input.specs.Pending.{text_of}
 use Rattle.m4_input.specs.Token.{scan}
 use Rattle.m4_input.specs.Input.{Held, failures_after}
 use Rattle.m4_input.specs.OpenToken.{IsOpenAt}
-use Rattle.m4_input.proofs.TokenBlocks.{come_more, open_then, still_none, come_open}
+use Rattle.m4_input.proofs.TokenBlocks.{none_came, come_more, open_then, still_none, come_open}
 use Rattle.m4_input.proofs.input.Input.more_of_token.Goals as goal
 
 -- the token that was open, in the bytes in hand with the block
@@ -43,6 +43,23 @@ blocks-2-preserved g c =
       omega arith,
     )
 
+-- no token was open
+pub returns-in_default-clause-gives : goal.returns-in_default-clause-gives
+returns-in_default-clause-gives g c =
+    let q = pair_of c.args.delims.now.quotes in
+    let d = pair_of c.args.delims.now.comments in
+    let s = g.R.ByteSource.script c.args.reader.now in
+    come_more q d s s (g.R.ByteSource.script c.more.new.reader) c.args.self.now c.args.self.now c.more.new.self _ c.in_ok-_came._came
+    (none_came q d s c.args.self.now c.requires.open c.requires.sound) c.in_ok-_came.ensures.gives
+
+-- the reader is at its end
+pub returns-then-not-branch-clause-gives : goal.returns-then-not-branch-clause-gives
+returns-then-not-branch-clause-gives g c =
+    let i = c.blocks-2.invariant in
+    come_more (pair_of c.args.delims.now.quotes) (pair_of c.args.delims.now.comments) (g.R.ByteSource.script c.args.reader.now) (g.R.ByteSource.script c.blocks-2.reader) (g.R.ByteSource.script c.more-in-blocks-2.new.reader)
+    c.args.self.now c.blocks-2.self c.more-in-blocks-2.new.self i.0.0 c.in_ok-more.field-0 i.0.1 c.in_ok-more.ensures.gives
+
+-- the token is closed
 pub returns-in-None-clause-gives : goal.returns-in-None-clause-gives
 returns-in-None-clause-gives g c =
     let i = c.blocks-2.invariant in

@@ -1,4 +1,5 @@
 use Rattle.std.proofs.Common.{◌≡◌, ◌+◌, ◌-◌, ◌++◌, ◌≤◌, List, ℕ, Ok, length, take, drop, ap, sym, ◌∙◌, arith, length-drop}
+use Rattle.std.proofs.lemmas.Grind.{common_steps}
 use Rattle.std.specs.Prelude.{nat_lt}
 use Rattle.std.proofs.lemmas.List.{length-take}
 use Rattle.m4_input.specs.Text.{HeldText}
@@ -37,3 +38,9 @@ returns-in-Err-take-clause-gives g c =
       search (same, c.in-Err-take.ensures.fault),
       piece_moved p.bytes.items c.make_room.new.bytes.items p.at c.in-Ok.at p.ahead p.newlines c.in-Ok.ensures.same ∙ c.self.view_is,
     )
+
+pub invariant_of-self-in-Ok-take : goal.invariant_of-self-in-Ok-take
+invariant_of-self-in-Ok-take g c = grind (arith, common_steps)
+
+pub invariant_of-self-in-Err-take : goal.invariant_of-self-in-Err-take
+invariant_of-self-in-Err-take g c = grind (arith, common_steps)

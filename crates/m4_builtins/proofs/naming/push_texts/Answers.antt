@@ -1,0 +1,12 @@
+use Rattle.std.proofs.Common.{arith}
+use Rattle.std.proofs.lemmas.Grind.{common_steps}
+use Rattle.m4_builtins.proofs.naming.push_texts.Goals as goal
+
+pub loop-arg-preserved : goal.loop-arg-preserved
+loop-arg-preserved c = grind (arith, common_steps)
+
+pub returns-clause-texts : goal.returns-clause-texts
+returns-clause-texts c = grind (arith, common_steps)
+
+pub returns-clause-warnings : goal.returns-clause-warnings
+returns-clause-warnings c = grind (arith, common_steps)
