@@ -27,7 +27,7 @@ use crate::place::Place;
 use crate::printing::{dumpdef, errprint, file, line};
 use crate::texts::{index, len, substr};
 use crate::translit::translit;
-use m4_state::builtin::Builtin;
+use m4_state::builtin::{Builtin, Row};
 use m4_state::definition::Def;
 use m4_state::state::State;
 use std::alloc::{AllocError, Global};
@@ -98,13 +98,14 @@ fn act_builtin<'a>(
     ensures leads { IfOk result (λ step. LeadsTo (spec.act (defs.Builtin builtin) [] list.now place.now state.old) place.now state.new effect.new step) }
     ensures shorter { IfOk result (λ step. IsShorter (length list.now) step) }
 {
-    if list.len() < builtin.least_args() {
+    let Row { least, most, .. } = builtin.row();
+    if list.len() < least {
         give_though_few(effect, builtin, list)?;
         effect.warn(too_few_message(effect.alloc(), place, builtin)?);
         return Ok(Step::Done);
     }
     let step = row(effect, builtin, list, place, state)?;
-    if !is_above(builtin.most_args(), list.len()) {
+    if !is_above(most, list.len()) {
         return Ok(step);
     }
     match step {

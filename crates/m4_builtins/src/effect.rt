@@ -8,7 +8,7 @@ use std::alloc::{AllocError, Global};
 use std::marker::Model;
 
 /// The kind of a value that is inserted before the input. The bytes of a text are stored separately.
-#[derive(Debug, Drop)]
+#[derive(Drop)]
 enum Kind {
     Nothing,
     Text,
@@ -17,7 +17,6 @@ enum Kind {
 
 /// The effect of a call. Calls fill one effect in turn, so that most of them ask for no memory. Most leave nothing to
 /// do but to insert a value, which `has_more` says in one test. A definition that is inserted is valid.
-#[derive(Debug)]
 pub struct Effect {
     kind: Kind,
     text: Vec<u8>,
@@ -30,7 +29,7 @@ pub struct Effect {
 }
 
 /// A value that is inserted before the input, to be read again.
-#[derive(Clone, Copy, Debug)]
+#[derive(Clone, Copy)]
 pub enum Push<'a> {
     /// There is none.
     Nothing,

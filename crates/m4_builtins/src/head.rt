@@ -18,7 +18,7 @@ use std::alloc::{AllocError, Global};
 use std::marker::Model;
 
 /// The kind of a definition. The bytes of a text or of a placeholder's name are stored separately.
-#[derive(Clone, Copy, Debug)]
+#[derive(Clone, Copy)]
 enum Kind {
     Text,
     Builtin(Builtin),
@@ -28,7 +28,6 @@ enum Kind {
 /// The head of a call: its name, its definition and its place, as they were when the name was read. If a
 /// definition is changed or deleted while the list is read, no open call changes. Manual: "Macro
 /// invocation".
-#[derive(Debug)]
 pub struct Head {
     kind: Kind,
     line: u64,
@@ -223,7 +222,7 @@ impl Head {
         ensures { result ≡ needs_list self.now.definition }
     {
         match self.kind {
-            Kind::Builtin(builtin) => builtin.needs_args(),
+            Kind::Builtin(builtin) => builtin.row().needs_args,
             Kind::Text | Kind::Placeholder => false,
         }
     }

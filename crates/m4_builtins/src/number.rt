@@ -12,7 +12,7 @@ use m4_state::builtin::Builtin;
 use std::alloc::{AllocError, Global};
 
 /// The result of reading a numeric argument.
-#[derive(Clone, Copy, Debug, PartialEq, Eq)]
+#[derive(Clone, Copy)]
 pub enum Reading {
     /// A signed number of 32 bits.
     Number(i32),

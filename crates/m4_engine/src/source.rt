@@ -3,7 +3,7 @@
 use m4_state::bytes::Bytes;
 
 /// A source of a run.
-#[derive(Debug, Drop)]
+#[derive(Drop)]
 pub enum Source<R> {
     /// A file that was opened, with its reader.
     Opened {

@@ -6,7 +6,7 @@ ghost use Rattle.m4_engine.specs.Session.{status_after};
 use crate::ending::Cause;
 
 /// The error of a session's call after which the run does not continue.
-#[derive(Clone, Copy, Debug, PartialEq, Eq)]
+#[derive(Clone, Copy, Debug)]
 pub enum Stop {
     /// The run ended in this call, by this cause.
     Ended(Cause),

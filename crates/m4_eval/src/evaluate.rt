@@ -8,7 +8,7 @@ use crate::grammar::value_of;
 use std::alloc::{AllocError, Global};
 
 /// The value of a text, or why it has none.
-#[derive(Clone, Copy, Debug, PartialEq, Eq)]
+#[derive(Clone, Copy)]
 pub enum Evaluated {
     /// The value of the expression.
     Value(i32),

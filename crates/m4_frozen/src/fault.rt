@@ -142,7 +142,7 @@ pub(crate) fn refused_at(kind: FrozenKind, rest: &[u8]) -> Refusal
 }
 
 /// Why a text was not written completely.
-#[derive(Clone, Copy, Debug, PartialEq, Eq, Error)]
+#[derive(Clone, Copy, Debug, Error)]
 pub enum WriteFault {
     /// The writer failed. It received a prefix of the text.
     #[error("G1 Write")]

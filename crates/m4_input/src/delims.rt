@@ -5,7 +5,7 @@ ghost use Rattle.std.specs.Prelude.{◌≡◌};
 use m4_state::state::State;
 
 /// The begin and the end of quotes and of comments. Both are empty if they are disabled.
-#[derive(Clone, Copy, Debug)]
+#[derive(Clone, Copy)]
 pub struct Delims<'a> {
     /// The begin-quote and the end-quote.
     pub quotes: (&'a [u8], &'a [u8]),

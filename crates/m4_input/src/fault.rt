@@ -3,7 +3,7 @@
 use thiserror::Error;
 
 /// A fault of an input.
-#[derive(Clone, Copy, Debug, PartialEq, Eq, Error)]
+#[derive(Clone, Copy, Debug, Error)]
 pub enum InputFault {
     /// The input ends inside a quoted string that began at this line.
     #[error("I1 EndInString")]

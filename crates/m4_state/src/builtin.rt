@@ -9,7 +9,7 @@ ghost use Rattle.m4_state.specs.Builtin.{called};
 use std::marker::Model;
 
 /// A builtin of the table.
-#[derive(Clone, Copy, Debug, PartialEq, Eq)]
+#[derive(Clone, Copy)]
 pub enum Builtin {
     /// Sets the definition of a name. Manual: "Defining a macro".
     Define,
@@ -73,12 +73,17 @@ pub enum Builtin {
 
 /// How a builtin is called: its row of the table.
 #[derive(Drop)]
-struct Row {
-    name: &'static [u8],
-    needs_args: bool,
-    takes_tokens: bool,
-    least: usize,
-    most: Option<usize>,
+pub struct Row {
+    /// Its own name.
+    pub name: &'static [u8],
+    /// Whether the name is recognised only with parameters.
+    pub needs_args: bool,
+    /// Whether a definition may be an argument; if not, it counts as an empty text.
+    pub takes_tokens: bool,
+    /// The least number of arguments.
+    pub least: usize,
+    /// The greatest number of arguments; none if there is no limit.
+    pub most: Option<usize>,
 }
 
 impl Model for Row {
@@ -109,7 +114,7 @@ fn called(
 }
 
 impl Builtin {
-    ghost use Rattle.m4_state.specs.Builtin.{row_of, builtin_named, name_of, needs_args, takes_tokens, least_of, most_of};
+    ghost use Rattle.m4_state.specs.Builtin.{row_of, builtin_named, name_of};
 
     /// All builtins.
     pub const TABLE: [Builtin; 29] = [
@@ -157,7 +162,7 @@ impl Builtin {
     }
 
     /// Returns the builtin's row.
-    fn row(self) -> Row
+    pub fn row(self) -> Row
         ensures { result ≡ row_of self }
     {
         match self {
@@ -198,33 +203,5 @@ impl Builtin {
         ensures { result.now ≡ name_of self }
     {
         self.row().name
-    }
-
-    /// Returns whether the name is recognised only with parameters.
-    pub fn needs_args(self) -> bool
-        ensures { result ≡ needs_args self }
-    {
-        self.row().needs_args
-    }
-
-    /// Returns whether a definition may be an argument; if not, it counts as an empty text.
-    pub fn takes_tokens(self) -> bool
-        ensures { result ≡ takes_tokens self }
-    {
-        self.row().takes_tokens
-    }
-
-    /// Returns the least number of arguments.
-    pub fn least_args(self) -> usize
-        ensures { result ≡ least_of self }
-    {
-        self.row().least
-    }
-
-    /// Returns the greatest number of arguments; none if there is no limit.
-    pub fn most_args(self) -> Option<usize>
-        ensures { result ≡ most_of self }
-    {
-        self.row().most
     }
 }

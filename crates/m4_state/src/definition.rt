@@ -7,7 +7,7 @@ use crate::bytes::Bytes;
 use std::alloc::AllocError;
 
 /// A definition.
-#[derive(Debug, Drop)]
+#[derive(Drop)]
 pub enum Def {
     /// A text, to which a call expands.
     Text(Bytes),

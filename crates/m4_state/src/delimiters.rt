@@ -6,7 +6,7 @@ use crate::bytes::Bytes;
 use std::alloc::{AllocError, Global};
 
 /// The begin and the end of a quoted string, or of a comment. Both are empty if it is disabled.
-#[derive(Debug, Drop)]
+#[derive(Drop)]
 pub struct Delimiters {
     pub begin: Bytes,
     pub end: Bytes,

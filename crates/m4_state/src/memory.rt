@@ -9,7 +9,7 @@ use std::alloc::{AllocError, Global};
 use std::marker::Model;
 
 /// Returns the bytes of a slice, at most `at_most` for each take, and then ends or fails.
-#[derive(Debug, Drop)]
+#[derive(Drop)]
 pub struct MemSource<'a> {
     bytes: &'a [u8],
     given: usize,
@@ -99,7 +99,7 @@ impl ByteSource for MemSource<'_> {
 }
 
 /// Stores the bytes written, at most `at_most` for each put, and fails once its room is full.
-#[derive(Debug, Drop)]
+#[derive(Drop)]
 pub struct MemSink {
     held: Vec<u8>,
     room: usize,

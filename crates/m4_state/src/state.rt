@@ -76,11 +76,13 @@ impl State {
         // exact steps: the empty record
         ensures { IfOk result (λ s. s ≡ empty) }
     {
+        let quotes = Delimiters::default_quotes(alloc)?;
+        let comments = Delimiters::default_comments(alloc)?;
         Ok(State {
             alloc,
             table: Table::new(alloc),
-            quotes: Delimiters::default_quotes(alloc)?,
-            comments: Delimiters::default_comments(alloc)?,
+            quotes,
+            comments,
             diversions: Diversions::new(alloc),
             current: 0,
         })

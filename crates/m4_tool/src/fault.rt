@@ -11,7 +11,7 @@ use m4_state::device::{ByteSink, DeviceFault};
 use m4_state::transfer::{write_all, write_pieces};
 
 /// Why a mode did not do its work.
-#[derive(Clone, Copy, Debug, PartialEq, Eq)]
+#[derive(Clone, Copy)]
 pub enum ModeFault {
     /// The file is refused, or could not be read.
     Frozen(FrozenFault),

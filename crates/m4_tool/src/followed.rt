@@ -1,7 +1,7 @@
 //! How a line ends.
 
 /// Why a line was not followed to its defined end.
-#[derive(Clone, Copy, Debug, PartialEq, Eq)]
+#[derive(Clone, Copy, Debug)]
 pub enum Failure {
     /// A reader failed.
     Read,

@@ -1,7 +1,7 @@
 //! A file of a world in memory.
 
 /// A file that a [`MemWorld`](crate::mem_world::MemWorld) has from the start.
-#[derive(Clone, Copy, Debug)]
+#[derive(Clone, Copy)]
 pub struct Given<'a> {
     /// Its name.
     pub name: &'a [u8],

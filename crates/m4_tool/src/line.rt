@@ -70,7 +70,7 @@ pub struct Line {
 }
 
 /// Why a command line is refused.
-#[derive(Debug, Drop)]
+#[derive(Drop)]
 pub enum LineFault {
     /// A mode is given together with another mode, a limit, a prefix or a file.
     ModeNotAlone,

@@ -9,6 +9,7 @@ pub mod given;
 mod limits;
 mod prefixed;
 pub mod report;
+mod rows;
 mod scale;
 mod sessions;
 pub mod shows;

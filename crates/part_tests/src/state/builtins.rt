@@ -56,14 +56,15 @@ fn report_of(alloc: Global, name: &[u8]) -> Result<Vec<u8>, AllocError> {
 fn describe(builtin: Builtin, report: &mut Report) {
     report.add(builtin.name());
     report.add(b": ");
-    if builtin.needs_args() {
+    let row = builtin.row();
+    if row.needs_args {
         report.add(b"parameters, ");
     }
-    if builtin.takes_tokens() {
+    if row.takes_tokens {
         report.add(b"definitions, ");
     }
-    report.number(builtin.least_args());
-    match builtin.most_args() {
+    report.number(row.least);
+    match row.most {
         Some(most) => {
             report.add(b" to ");
             report.number(most);

@@ -31,7 +31,7 @@ type Row = (
     (u8, Cause),
 );
 
-static ROWS: [Row; 16] = [
+static FILES: [Row; 4] = [
     ("no source", &[], ROOM, "", "", (0, Cause::Done)),
     (
         "a definition of one file is called in the next",
@@ -67,6 +67,10 @@ static ROWS: [Row; 16] = [
         "m4:b.m4:1: ERROR: end of input in string\n",
         (1, Cause::EndInString),
     ),
+];
+
+// Files that are not opened, and runs that a macro ends.
+static NOT_OPENED: [Row; 5] = [
     (
         "a file that isn't opened",
         &[Given::Missing("nofile"), Given::File("z\n")],
@@ -108,6 +112,10 @@ static ROWS: [Row; 16] = [
         "",
         (0, Cause::Exited(0)),
     ),
+];
+
+// Readers that fail, and writers that are full.
+static FAULTS: [Row; 7] = [
     (
         "a reader that fails: what an earlier file saved is not read",
         &[Given::File("m4wrap(`never')one\n"), Given::Failing("two\n")],
@@ -170,14 +178,19 @@ static ROWS: [Row; 16] = [
     ),
 ];
 
-// What a reader returns before it fails, the output, and the messages. What these bytes decide, whatever follows
-// them, was written, and nothing else.
-static FAILING: [(&str, &str, &str, &str); 13] = [
+// A row's name, what a reader returns before it fails, the output, and the messages. What these bytes decide,
+// whatever follows them, was written, and nothing else.
+type Failing = (&'static str, &'static str, &'static str, &'static str);
+
+static OPEN_TOKENS: [Failing; 5] = [
     ("a name may go on", "ab", "", ""),
     ("a name has ended", "ab ", "ab ", ""),
     ("a comment has no end", "x#c", "x", ""),
     ("a begin-quote is cut", "changequote(<<,>>)a<", "a", ""),
     ("an end-quote is cut", "changequote(<<,>>)a<<b>", "a", ""),
+];
+
+static OPEN_CALLS: [Failing; 8] = [
     ("an argument list is open", "ab define(`a", "ab ", ""),
     ("a call may have a list", "define(`f',`x')f", "", ""),
     ("a call has no list", "define(`f',`x')f ", "x ", ""),
@@ -359,20 +372,40 @@ fn compare(rt: &(impl Abort + Alloc<A = Global>), rows: &[Row]) {
 }
 
 #[test]
-fn sources_and_writers(rt: HostRuntime) {
-    compare(&rt, &ROWS);
+fn files_in_their_order(rt: HostRuntime) {
+    compare(&rt, &FILES);
 }
 
 #[test]
-fn readers_that_fail(rt: HostRuntime) {
-    for &(name, text, output, messages) in &FAILING {
+fn sources_that_are_not_opened(rt: HostRuntime) {
+    compare(&rt, &NOT_OPENED);
+}
+
+#[test]
+fn faults_of_readers_and_writers(rt: HostRuntime) {
+    compare(&rt, &FAULTS);
+}
+
+// Compares the report on each run whose first reader fails, at each size of a block.
+fn compare_failing(rt: &(impl Abort + Alloc<A = Global>), rows: &[Failing]) {
+    for &(name, text, output, messages) in rows {
         for block in BLOCKS {
             let end = ended(1, Cause::Read);
             let want = printed_run(rt.alloc(), output.as_bytes(), messages.as_bytes(), end);
             let given = [Given::Failing(text), Given::File("never\n")];
-            agrees(&rt, name, want, seen_of(&rt, &given, block, ROOM));
+            agrees(rt, name, want, seen_of(rt, &given, block, ROOM));
         }
     }
+}
+
+#[test]
+fn readers_that_fail_within_a_token(rt: HostRuntime) {
+    compare_failing(&rt, &OPEN_TOKENS);
+}
+
+#[test]
+fn readers_that_fail_within_a_call(rt: HostRuntime) {
+    compare_failing(&rt, &OPEN_CALLS);
 }
 
 #[test]

@@ -3,47 +3,44 @@
 //! characters", "Decrement and increment operators", "Evaluating integer expressions", "Printing error
 //! messages", "Printing current location".
 
-use super::given::{BLOCKS, USUAL, ended, seen_of_file};
-use super::report::printed_run;
-use super::shows::agrees;
-use m4_engine::ending::Cause;
-use std::alloc::Global;
-use std::process::Abort;
+use super::rows::{DONE, Row, compare};
 
-// A row's name, a file that is read to its end, output and messages.
-type Row = (&'static str, &'static str, &'static str, &'static str);
-
-static TEXTS: [Row; 14] = [
+static TEXTS: [Row; 7] = [
     (
         "lengths, places, parts and neighbours",
         "len(`abc') index(`abcabc',`ca') index(`a',`z') substr(`abcdef',`2',`3') substr(`abc',`3') \
          incr(2147483647) decr(`-7')\n",
         "3 2 -1 cde  -2147483648 -8\n",
         "",
+        DONE,
     ),
     (
         "bytes are translated along ranges, or deleted",
         "translit(`abcba',`a-c',`C-A') translit(`hello',`l')\n",
         "CBABC heo\n",
         "",
+        DONE,
     ),
     (
         "ranges that rise and fall, and a minus that is first",
         "translit(`+,-12345', `+--1-5', `<;>a-c-a')\n",
         "<;>abcba\n",
         "",
+        DONE,
     ),
     (
         "without a list they are text",
         "len index substr translit incr decr errprint m4wrap\n",
         "len index substr translit incr decr errprint m4wrap\n",
         "",
+        DONE,
     ),
     (
         "an empty text has no bytes, and is found in front",
         "len() index(`a',) index(,`a') index(,) <substr(,`0')> <translit(,`a',`b')>\n",
         "0 0 -1 0 <> <>\n",
         "",
+        DONE,
     ),
     (
         "too few arguments",
@@ -52,6 +49,7 @@ static TEXTS: [Row; 14] = [
         "m4:a.m4:1: Warning: too few arguments to builtin `index'\n\
          m4:a.m4:1: Warning: too few arguments to builtin `substr'\n\
          m4:a.m4:1: Warning: too few arguments to builtin `translit'\n",
+        DONE,
     ),
     (
         "no argument at all",
@@ -61,7 +59,11 @@ static TEXTS: [Row; 14] = [
          m4:a.m4:1: Warning: too few arguments to builtin `substr'\n\
          m4:a.m4:1: Warning: too few arguments to builtin `translit'\n\
          m4:a.m4:1: Warning: too few arguments to builtin `len'\n",
+        DONE,
     ),
+];
+
+static PARTS_AND_NUMBERS: [Row; 7] = [
     (
         "excess arguments",
         "len(`a',`b') incr(`1',`2') translit(`a',`a',`b',`c')\n",
@@ -69,18 +71,21 @@ static TEXTS: [Row; 14] = [
         "m4:a.m4:1: Warning: excess arguments to builtin `len' ignored\n\
          m4:a.m4:1: Warning: excess arguments to builtin `incr' ignored\n\
          m4:a.m4:1: Warning: excess arguments to builtin `translit' ignored\n",
+        DONE,
     ),
     (
         "where a part begins and how long it is",
         "<substr(`abc',`-1')><substr(`abc',`1',`0')><substr(`abc',`1',`-1')><substr(`abc',`1',`9')>\n",
         "<><><><bc>\n",
         "",
+        DONE,
     ),
     (
         "the count of a part is read even where it begins after the text",
         "<substr(`abc',`9',`x')>\n",
         "<>\n",
         "m4:a.m4:1: Warning: non-numeric argument to builtin `substr'\n",
+        DONE,
     ),
     (
         "numbers with blanks, signs and zeros in front, and their ends",
@@ -89,24 +94,28 @@ static TEXTS: [Row; 14] = [
         "m4:a.m4:1: Warning: non-numeric argument to builtin `incr'\n\
          m4:a.m4:1: Warning: non-numeric argument to builtin `decr'\n\
          m4:a.m4:1: Warning: non-numeric argument to builtin `incr'\n",
+        DONE,
     ),
     (
         "an empty text is 0",
         "incr(`')\n",
         "1\n",
         "m4:a.m4:1: Warning: empty string treated as 0 in builtin `incr'\n",
+        DONE,
     ),
     (
         "a builtin beside text is dropped",
         "define(`x',a`'defn(`len'))x\n",
         "a\n",
         "m4:a.m4:1: Warning: builtin dropped from text\n",
+        DONE,
     ),
     (
         "and so is one before a comma",
         "define(`f',`<$1>')\nf(a`'defn(`len'),b)\n",
         "\n<a>\n",
         "m4:a.m4:2: Warning: builtin dropped from text\n",
+        DONE,
     ),
 ];
 
@@ -116,24 +125,28 @@ static EXPRESSIONS: [Row; 4] = [
         "eval(`-666',`6',`10') eval(`2+3*4') eval(`1||1/0')\n",
         "-0000003030 14 1\n",
         "",
+        DONE,
     ),
     (
         "quotients, shifts, literals and a zero divisor",
         "eval(`7/-2') eval(`-2147483648/-1') eval(`1<<33') eval(`0x1F') eval(`255',16,4) eval(`1/0')x\n",
         "-3 -2147483648 2 31 00ff x\n",
         "m4:a.m4:1: Warning: divide by zero in eval\n",
+        DONE,
     ),
     (
         "a radix of 36, signs, and an empty expression",
         "eval(`0r36:z') eval(`!0+~0') eval(`2==2&1') eval(`')\n",
         "35 0 1 0\n",
         "m4:a.m4:1: Warning: empty string treated as 0 in builtin `eval'\n",
+        DONE,
     ),
     (
         "a radix out of range",
         "eval(`1',`1')x\n",
         "x\n",
         "m4:a.m4:1: Warning: radix or width out of range in eval\n",
+        DONE,
     ),
 ];
 
@@ -143,47 +156,46 @@ static PLACES: [Row; 5] = [
         "errprint(`a',`b')\n__line__ __file__\n",
         "\n2 a.m4\n",
         "a b",
+        DONE,
     ),
     (
         "what goes to the messages is not read again, and ends no line",
         "define(`f',`x')errprint(`f',,`f')errprint(`\n')errprint()errprint(`g')\n",
         "\n",
         "f  f\ng",
+        DONE,
     ),
     (
         "the line is that of the name",
         "define(`f',`$1')f(\n__line__) __line__\n__line__()\n",
         "2 2\n3\n",
         "m4:a.m4:3: Warning: excess arguments to builtin `__line__' ignored\n",
+        DONE,
     ),
     (
         "the name of the input is quoted",
         "define(`a',`z')__file__ len(__file__)\n",
         "a.m4 4\n",
         "",
+        DONE,
     ),
     (
         "the line within a definition is that of its call",
         "define(`where',\n`__line__\n__line__')where\n\nwhere\n",
         "3\n3\n\n5\n5\n",
         "",
+        DONE,
     ),
 ];
 
-// Compares the report on each row, at each size of a block.
-fn compare(rt: &(impl Abort + Alloc<A = Global>), rows: &[Row]) {
-    for &(name, file, output, messages) in rows {
-        for block in BLOCKS {
-            let end = ended(0, Cause::Done);
-            let want = printed_run(rt.alloc(), output.as_bytes(), messages.as_bytes(), end);
-            agrees(rt, name, want, seen_of_file(rt, file, block, USUAL));
-        }
-    }
+#[test]
+fn builtins_on_texts(rt: HostRuntime) {
+    compare(&rt, &TEXTS);
 }
 
 #[test]
-fn builtins_on_texts_and_numbers(rt: HostRuntime) {
-    compare(&rt, &TEXTS);
+fn builtins_on_parts_and_numbers(rt: HostRuntime) {
+    compare(&rt, &PARTS_AND_NUMBERS);
 }
 
 #[test]

@@ -1,10 +1,9 @@
 //! Runs that save text for the end of the input, and runs that a macro ends. Manual: "Saving text until
 //! end of input", "Exiting from m4".
 
-use super::given::{
-    AT_MOST, BLOCKS, ROOM, Seen, USUAL, files, freezing, options, printed_seen, run_over,
-};
-use super::report::{Report, printed_run};
+use super::given::{AT_MOST, BLOCKS, ROOM, Seen, USUAL, files, freezing, options, run_over};
+use super::report::Report;
+use super::rows::{DONE, End, Row, compare, ending};
 use super::shows::agrees;
 use m4_engine::ending::{Cause, Ending};
 use m4_engine::options::Options;
@@ -12,20 +11,11 @@ use m4_state::memory::MemSource;
 use std::alloc::{AllocError, Global};
 use std::process::Abort;
 
-// The status of a run, its cause, and whether text was saved.
-type End = (u8, Cause, bool);
-
-// A row's name, a file, output and messages, and the end.
-type Row = (&'static str, &'static str, &'static str, &'static str, End);
-
 // A run that read everything and saved text.
 const SAVED: End = (0, Cause::Done, true);
 
-// A run that read everything and saved none.
-const NOTHING_SAVED: End = (0, Cause::Done, false);
-
 // Where saved text is read, and in which order.
-static SAVES: [Row; 18] = [
+static SAVES: [Row; 10] = [
     (
         "the text that was saved last is read first",
         "m4wrap(`a ')m4wrap(`b ')x\n",
@@ -88,8 +78,12 @@ static SAVES: [Row; 18] = [
         "m4wrap x\n",
         "m4wrap x\n",
         "",
-        NOTHING_SAVED,
+        DONE,
     ),
+];
+
+// What saved text does: its place, lines that are discarded, diversions, and messages.
+static SAVED_TEXTS: [Row; 8] = [
     (
         "saved text has line 0 and no file",
         "\nm4wrap(`[__line__] [__file__]\n[__line__]')x\n",
@@ -189,7 +183,7 @@ static BROKEN_OFF: [Row; 5] = [
 ];
 
 // Runs that a macro ends: saved and diverted text is discarded.
-static EXITS: [Row; 15] = [
+static EXITS: [Row; 10] = [
     (
         "a code",
         "x m4exit(`3')y\n",
@@ -261,6 +255,10 @@ static EXITS: [Row; 15] = [
          m4:a.m4:1: Warning: exit status out of range\n",
         (1, Cause::Exited(1), false),
     ),
+];
+
+// The same within a list, while text is diverted, and within saved text.
+static EXITS_WITHIN: [Row; 5] = [
     (
         "within a list that has no end",
         "define(`f',`$1')f(a m4exit(`2') b",
@@ -298,15 +296,6 @@ static EXITS: [Row; 15] = [
     ),
 ];
 
-// Makes the end of a run.
-fn ending((status, cause, wrapped): End) -> Ending {
-    Ending {
-        status,
-        cause,
-        wrapped,
-    }
-}
-
 // Runs over one file, a.m4.
 fn run_of(
     rt: &(impl Abort + Alloc<A = Global>),
@@ -318,25 +307,14 @@ fn run_of(
     run_over(rt, options, &mut None, &mut sources, ROOM, AT_MOST)
 }
 
-// Compares the report on each row, at each size of a block.
-fn compare(rt: &(impl Abort + Alloc<A = Global>), rows: &[Row]) {
-    for &(name, file, output, messages, end) in rows {
-        for block in BLOCKS {
-            let want = printed_run(
-                rt.alloc(),
-                output.as_bytes(),
-                messages.as_bytes(),
-                ending(end),
-            );
-            let seen = run_of(rt, options(USUAL), file, block);
-            agrees(rt, name, want, printed_seen(rt.alloc(), &seen));
-        }
-    }
-}
-
 #[test]
 fn saved_text_is_read_at_the_end(rt: HostRuntime) {
     compare(&rt, &SAVES);
+}
+
+#[test]
+fn saved_text_is_expanded(rt: HostRuntime) {
+    compare(&rt, &SAVED_TEXTS);
 }
 
 #[test]
@@ -349,12 +327,17 @@ fn a_macro_ends_the_run(rt: HostRuntime) {
     compare(&rt, &EXITS);
 }
 
+#[test]
+fn a_macro_ends_the_run_within_a_text(rt: HostRuntime) {
+    compare(&rt, &EXITS_WITHIN);
+}
+
 // A row's name, a file, output, the end, and whether a run that freezes writes the frozen text of a run
 // over nothing; otherwise it writes none.
 type Frozen = (&'static str, &'static str, &'static str, End, bool);
 
 static FREEZES: [Frozen; 7] = [
-    ("no text is saved", "x\n", "x\n", NOTHING_SAVED, true),
+    ("no text is saved", "x\n", "x\n", DONE, true),
     (
         "text is saved, and read before the state is frozen",
         "m4wrap(`bye')x\n",
@@ -436,14 +419,19 @@ fn seen_frozen(
     )
 }
 
-#[test]
-fn saved_text_is_never_frozen(rt: HostRuntime) {
-    for &(name, file, output, end, freezes) in &FREEZES {
+// Compares the report on each run that freezes, at each size of a block.
+fn compare_frozen(rt: &(impl Abort + Alloc<A = Global>), rows: &[Frozen]) {
+    for &(name, file, output, end, freezes) in rows {
         for block in BLOCKS {
-            let want = expected_frozen(&rt, (output, end, freezes), block);
-            agrees(&rt, name, want, seen_frozen(&rt, file, block));
+            let want = expected_frozen(rt, (output, end, freezes), block);
+            agrees(rt, name, want, seen_frozen(rt, file, block));
         }
     }
+}
+
+#[test]
+fn saved_text_is_never_frozen(rt: HostRuntime) {
+    compare_frozen(&rt, &FREEZES);
 }
 
 // A row's name, two files, the outputs of a run that freezes after the first and of one that continues
