@@ -27,7 +27,9 @@ use std::alloc::{AllocError, Global};
 #[derive(Clone, Copy)]
 pub enum Argument {
     /// A text.
-    Text(&'static [u8]),
+    Text(&'static str),
+    /// Bytes that are no text.
+    Bytes(&'static [u8]),
     /// A definition.
     Definition(Given),
 }
@@ -37,13 +39,14 @@ fn made_argument(alloc: Global, given: Argument) -> Result<Arg, AllocError>
     ensures { IfOk result IsArg }
 {
     match given {
-        Argument::Text(text) => Ok(Arg::Text(Bytes::from_slice(alloc, text)?)),
+        Argument::Text(text) => Ok(Arg::Text(Bytes::from_slice(alloc, text.as_bytes())?)),
+        Argument::Bytes(bytes) => Ok(Arg::Text(Bytes::from_slice(alloc, bytes)?)),
         Argument::Definition(given) => Ok(Arg::Definition(made(alloc, given)?)),
     }
 }
 
 // Makes a call of a name with these arguments.
-fn call_of(alloc: Global, name: &[u8], given: &[Argument]) -> Result<Args, AllocError>
+fn call_of(alloc: Global, name: &str, given: &[Argument]) -> Result<Args, AllocError>
     ensures { IfOk result (λ a. AllByRecursion IsArg a.list) }
 {
     let mut items = Vec::new(alloc);
@@ -51,21 +54,21 @@ fn call_of(alloc: Global, name: &[u8], given: &[Argument]) -> Result<Args, Alloc
         items.push(made_argument(alloc, *one)?)?;
     }
     Ok(Args {
-        name: Bytes::from_slice(alloc, name)?,
+        name: Bytes::from_slice(alloc, name.as_bytes())?,
         list: ArgList::from(items),
     })
 }
 
 // Makes a call of a name with these texts.
-fn text_call_of(alloc: Global, name: &[u8], texts: &[&[u8]]) -> Result<Args, AllocError>
+fn text_call_of(alloc: Global, name: &str, texts: &[&str]) -> Result<Args, AllocError>
     ensures { IfOk result (λ a. AllByRecursion IsArg a.list) }
 {
     let mut items = Vec::new(alloc);
     for text in texts {
-        items.push(Arg::Text(Bytes::from_slice(alloc, text)?))?;
+        items.push(Arg::Text(Bytes::from_slice(alloc, text.as_bytes())?))?;
     }
     Ok(Args {
-        name: Bytes::from_slice(alloc, name)?,
+        name: Bytes::from_slice(alloc, name.as_bytes())?,
         list: ArgList::from(items),
     })
 }
@@ -82,7 +85,7 @@ fn describe_arguments(args: &Args, report: &mut Report) {
 
 // Returns the arguments of a call, read back.
 fn arguments(alloc: Global) -> Result<Vec<u8>, AllocError> {
-    let args = text_call_of(alloc, b"f", &[b"one", b"two"])?;
+    let args = text_call_of(alloc, "f", &["one", "two"])?;
     let mut report = Report::new(alloc);
     describe_arguments(&args, &mut report);
     report.text()

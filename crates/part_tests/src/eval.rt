@@ -13,69 +13,69 @@ use std::alloc::{AllocError, Global};
 const DEPTH: usize = 1_000_000;
 
 // A row's name, an expression, and its value.
-type Row = (&'static str, &'static [u8], &'static [u8]);
+type Row = (&'static str, &'static str, &'static str);
 
 static VALUES: [Row; 8] = [
-    ("a product before a sum", b"2+3*4", b"14"),
-    ("to the left", b" ( 10 - 3 ) - 2 - 1 ", b"4"),
-    ("decided by the left", b"1||1/0", b"1"),
-    ("a quotient that wraps", b"-2147483648/-1", b"-2147483648"),
-    ("a radix that is stated", b"0r36:z", b"35"),
-    ("a zero divisor", b"1/0", b"divide by zero"),
-    ("no operator of the language", b"2**3", b"bad expression"),
-    ("white space alone", b" ", b"bad expression"),
+    ("a product before a sum", "2+3*4", "14"),
+    ("to the left", " ( 10 - 3 ) - 2 - 1 ", "4"),
+    ("decided by the left", "1||1/0", "1"),
+    ("a quotient that wraps", "-2147483648/-1", "-2147483648"),
+    ("a radix that is stated", "0r36:z", "35"),
+    ("a zero divisor", "1/0", "divide by zero"),
+    ("no operator of the language", "2**3", "bad expression"),
+    ("white space alone", " ", "bad expression"),
 ];
 
 // A row's name, a byte that comes first and a text after it, a byte that comes last, and the value.
 type Nested = (
     &'static str,
     (u8, usize),
-    &'static [u8],
+    &'static str,
     (u8, usize),
-    &'static [u8],
+    &'static str,
 );
 
 static NESTED: [Nested; 3] = [
     (
         "parentheses that never close",
         (b'(', DEPTH),
-        b"1",
+        "1",
         (b')', 0),
-        b"bad expression",
+        "bad expression",
     ),
     (
         "parentheses that close",
         (b'(', DEPTH),
-        b"7",
+        "7",
         (b')', DEPTH),
-        b"7",
+        "7",
     ),
-    ("signs", (b'-', DEPTH), b"7", (b' ', 0), b"7"),
+    ("signs", (b'-', DEPTH), "7", (b' ', 0), "7"),
 ];
 
 // A row's name, a value, a radix, a width, and the radix with the digits.
-type Written = (&'static str, i32, i32, usize, &'static [u8]);
+type Written = (&'static str, i32, i32, usize, &'static str);
 
 static WRITTEN: [Written; 7] = [
-    ("zero", 0, 10, 0, b"10: 0"),
-    ("a sign is not counted", -666, 6, 10, b"6: -0000003030"),
+    ("zero", 0, 10, 0, "10: 0"),
+    ("a sign is not counted", -666, 6, 10, "6: -0000003030"),
     (
         "the least in radix 2",
         -2147483648,
         2,
         1,
-        b"2: -10000000000000000000000000000000",
+        "2: -10000000000000000000000000000000",
     ),
-    ("letters", 1295, 36, 0, b"36: zz"),
-    ("radix 1", 5, 1, 0, b"no radix"),
-    ("radix 37", 5, 37, 0, b"no radix"),
-    ("a negative radix", 5, -2, 0, b"no radix"),
+    ("letters", 1295, 36, 0, "36: zz"),
+    ("radix 1", 5, 1, 0, "no radix"),
+    ("radix 37", 5, 37, 0, "no radix"),
+    ("a negative radix", 5, -2, 0, "no radix"),
 ];
 
 static SPACES: [Row; 3] = [
-    ("nothing", b"", b"0, blank"),
-    ("each kind", b" \t\n\x0b\x0c\r", b"6, blank"),
-    ("a letter", b"\t x ", b"2, not blank"),
+    ("nothing", "", "0, blank"),
+    ("each kind", " \t\n\x0b\x0c\r", "6, blank"),
+    ("a letter", "\t x ", "2, not blank"),
 ];
 
 // Returns the value of a text, or why it has none.
@@ -93,7 +93,10 @@ fn value_seen(alloc: Global, text: &[u8]) -> Result<Vec<u8>, AllocError> {
 fn nested_seen(alloc: Global, row: &Nested) -> Result<Vec<u8>, AllocError> {
     let first = repeated(alloc, row.1.0, row.1.1)?;
     let last = repeated(alloc, row.3.0, row.3.1)?;
-    let text = joined(alloc, &[first.as_slice(), row.2, last.as_slice()])?;
+    let text = joined(
+        alloc,
+        &[first.as_slice(), row.2.as_bytes(), last.as_slice()],
+    )?;
     value_seen(alloc, text.as_slice())
 }
 
@@ -126,28 +129,30 @@ fn spaces_seen(alloc: Global, text: &[u8]) -> Result<Vec<u8>, AllocError> {
 #[test]
 fn texts_and_their_values(rt: HostRuntime) {
     for row in &VALUES {
-        shows(&rt, row.0, row.2, value_seen(rt.alloc(), row.1));
+        let got = value_seen(rt.alloc(), row.1.as_bytes());
+        shows(&rt, row.0, row.2.as_bytes(), got);
     }
 }
 
 #[test]
 fn texts_that_are_deeply_nested(rt: HostRuntime) {
     for row in &NESTED {
-        shows(&rt, row.0, row.4, nested_seen(rt.alloc(), row));
+        shows(&rt, row.0, row.4.as_bytes(), nested_seen(rt.alloc(), row));
     }
 }
 
 #[test]
 fn values_in_a_radix(rt: HostRuntime) {
     for row in &WRITTEN {
-        shows(&rt, row.0, row.4, written_seen(rt.alloc(), row));
+        shows(&rt, row.0, row.4.as_bytes(), written_seen(rt.alloc(), row));
     }
 }
 
 #[test]
 fn white_space(rt: HostRuntime) {
     for row in &SPACES {
-        shows(&rt, row.0, row.2, spaces_seen(rt.alloc(), row.1));
+        let got = spaces_seen(rt.alloc(), row.1.as_bytes());
+        shows(&rt, row.0, row.2.as_bytes(), got);
     }
     assert!(rt; is_space(b'\r'));
     assert!(rt; !is_space(b'x'));

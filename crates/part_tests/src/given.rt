@@ -15,9 +15,9 @@ use std::alloc::{AllocError, Global};
 #[derive(Clone, Copy)]
 pub enum Given {
     /// A text.
-    Text(&'static [u8]),
+    Text(&'static str),
     /// The builtin of this name, or a placeholder if this program has none.
-    Named(&'static [u8]),
+    Named(&'static str),
 }
 
 /// Makes the definition of a row.
@@ -25,10 +25,10 @@ pub fn made(alloc: Global, given: Given) -> Result<Def, AllocError>
     ensures { IfOk result IsDefinition }
 {
     match given {
-        Given::Text(text) => Ok(Def::Text(Bytes::from_slice(alloc, text)?)),
-        Given::Named(name) => match Builtin::by_name(name) {
+        Given::Text(text) => Ok(Def::Text(Bytes::from_slice(alloc, text.as_bytes())?)),
+        Given::Named(name) => match Builtin::by_name(name.as_bytes()) {
             Some(builtin) => Ok(Def::Builtin(builtin)),
-            None => Ok(Def::Placeholder(Bytes::from_slice(alloc, name)?)),
+            None => Ok(Def::Placeholder(Bytes::from_slice(alloc, name.as_bytes())?)),
         },
     }
 }
@@ -47,5 +47,14 @@ pub fn empty_state(alloc: Global) -> Result<State, AllocError> {
     match State::empty(alloc) {
         Ok(state) => Ok(state),
         Err(StateFault::OutOfMemory) => Err(AllocError),
+    }
+}
+
+/// Returns a state to start with: a fresh one with its builtins, or one without names.
+pub fn start(alloc: Global, fresh: bool) -> Result<State, StateFault> {
+    if fresh {
+        State::fresh(alloc, false)
+    } else {
+        State::empty(alloc)
     }
 }

@@ -33,12 +33,6 @@ const USUAL: Delims<'static> = Delims {
     comments: (b"#", b"\n"),
 };
 
-// No delimiters.
-const NONE: Delims<'static> = Delims {
-    quotes: (b"", b""),
-    comments: (b"", b""),
-};
-
 // Adds a token: its kind and its text.
 fn describe(token: &Token, report: &mut Report) {
     match token {

@@ -12,83 +12,78 @@ static CALLS: [Row; 9] = [
     (
         "define with a name and a text",
         false,
-        &[Step::Call(b"define", &[b"f", b"x"])],
-        b"",
+        &[Step::Call("define", &["f", "x"])],
+        "",
     ),
     (
         "define with a name alone",
         false,
-        &[Step::Call(b"define", &[b"f"])],
-        b"",
+        &[Step::Call("define", &["f"])],
+        "",
     ),
     (
         "define with three arguments",
         false,
-        &[Step::Call(b"define", &[b"f", b"x", b"y"])],
-        b"m4:a.m4:1: Warning: excess arguments to builtin `define' ignored\n",
+        &[Step::Call("define", &["f", "x", "y"])],
+        "m4:a.m4:1: Warning: excess arguments to builtin `define' ignored\n",
     ),
     (
         "define with none",
         false,
-        &[Step::Call(b"define", &[])],
-        b"m4:a.m4:1: Warning: too few arguments to builtin `define'\n",
+        &[Step::Call("define", &[])],
+        "m4:a.m4:1: Warning: too few arguments to builtin `define'\n",
     ),
     (
         "undefine with three names",
         false,
-        &[Step::Call(b"undefine", &[b"f", b"g", b"h"])],
-        b"",
+        &[Step::Call("undefine", &["f", "g", "h"])],
+        "",
     ),
     (
         "undefine with none",
         false,
-        &[Step::Call(b"undefine", &[])],
-        b"m4:a.m4:1: Warning: too few arguments to builtin `undefine'\n",
+        &[Step::Call("undefine", &[])],
+        "m4:a.m4:1: Warning: too few arguments to builtin `undefine'\n",
     ),
-    ("dnl", false, &[Step::Call(b"dnl", &[])], b"skip\n"),
+    ("dnl", false, &[Step::Call("dnl", &[])], "skip\n"),
     (
         "dnl with an argument",
         false,
-        &[Step::Call(b"dnl", &[b""])],
-        b"skip\nm4:a.m4:1: Warning: excess arguments to builtin `dnl' ignored\n",
+        &[Step::Call("dnl", &[""])],
+        "skip\nm4:a.m4:1: Warning: excess arguments to builtin `dnl' ignored\n",
     ),
     (
         "changecom with three arguments",
         false,
-        &[Step::Call(b"changecom", &[b"a", b"b", b"c"])],
-        b"m4:a.m4:1: Warning: excess arguments to builtin `changecom' ignored\n",
+        &[Step::Call("changecom", &["a", "b", "c"])],
+        "m4:a.m4:1: Warning: excess arguments to builtin `changecom' ignored\n",
     ),
 ];
-
-#[test]
-fn calls_of_builtins(rt: HostRuntime) {
-    tried(&rt, rt.alloc(), &CALLS);
-}
 
 static DEFINITIONS: [Row; 2] = [
     (
         "define replaces the definition",
         false,
         &[
-            Step::Call(b"define", &[b"f", b"old"]),
-            Step::Look(b"f"),
-            Step::Call(b"define", &[b"f"]),
-            Step::Look(b"f"),
-            Step::Call(b"define", &[b"f", b"new", b"more"]),
-            Step::Look(b"f"),
+            Step::Call("define", &["f", "old"]),
+            Step::Look("f"),
+            Step::Call("define", &["f"]),
+            Step::Look("f"),
+            Step::Call("define", &["f", "new", "more"]),
+            Step::Look("f"),
         ],
-        b"f: 1, text old\nf: 1, text \nm4:a.m4:1: Warning: excess arguments to builtin `define' ignored\nf: 1, text new\n",
+        "f: 1, text old\nf: 1, text \nm4:a.m4:1: Warning: excess arguments to builtin `define' ignored\nf: 1, text new\n",
     ),
     (
         "undefine takes each name away",
         true,
         &[
-            Step::Call(b"undefine", &[b"dnl", b"missing", b"changecom"]),
-            Step::Look(b"dnl"),
-            Step::Look(b"changecom"),
+            Step::Call("undefine", &["dnl", "missing", "changecom"]),
+            Step::Look("dnl"),
+            Step::Look("changecom"),
             Step::Count,
         ],
-        b"dnl: 0\nchangecom: 0\n29 names\n",
+        "dnl: 0\nchangecom: 0\n29 names\n",
     ),
 ];
 
@@ -97,43 +92,33 @@ static DELIMITERS: [Row; 2] = [
         "changequote",
         false,
         &[
-            Step::Call(b"changequote", &[b"[", b"]"]),
+            Step::Call("changequote", &["[", "]"]),
             Step::Quotes,
-            Step::Call(b"changequote", &[b"<"]),
+            Step::Call("changequote", &["<"]),
             Step::Quotes,
-            Step::Call(b"changequote", &[b""]),
+            Step::Call("changequote", &[""]),
             Step::Quotes,
-            Step::Call(b"changequote", &[b"", b"x"]),
+            Step::Call("changequote", &["", "x"]),
             Step::Quotes,
-            Step::Call(b"changequote", &[]),
+            Step::Call("changequote", &[]),
             Step::Quotes,
         ],
-        b"[ and ]\n< and '\n and \n and \n` and '\n",
+        "[ and ]\n< and '\n and \n and \n` and '\n",
     ),
     (
         "changecom",
         false,
         &[
-            Step::Call(b"changecom", &[b"/*", b"*/"]),
+            Step::Call("changecom", &["/*", "*/"]),
             Step::Comments,
-            Step::Call(b"changecom", &[b"//"]),
+            Step::Call("changecom", &["//"]),
             Step::Comments,
-            Step::Call(b"changecom", &[]),
+            Step::Call("changecom", &[]),
             Step::Comments,
         ],
-        b"/* and */\n// and \n\n and \n",
+        "/* and */\n// and \n\n and \n",
     ),
 ];
-
-#[test]
-fn names_are_defined_and_undefined(rt: HostRuntime) {
-    tried(&rt, rt.alloc(), &DEFINITIONS);
-}
-
-#[test]
-fn delimiters_are_chosen(rt: HostRuntime) {
-    tried(&rt, rt.alloc(), &DELIMITERS);
-}
 
 // Calls of any definition in an empty state, and the number of names after them.
 static OTHERS: [Row; 3] = [
@@ -142,18 +127,18 @@ static OTHERS: [Row; 3] = [
         false,
         &[
             Step::Other(
-                Given::Named(b"define"),
-                b"define",
+                Given::Named("define"),
+                "define",
                 &[
-                    Argument::Definition(Given::Named(b"dnl")),
-                    Argument::Text(b"x"),
-                    Argument::Text(b"y"),
+                    Argument::Definition(Given::Named("dnl")),
+                    Argument::Text("x"),
+                    Argument::Text("y"),
                 ],
-                (b"", 0),
+                ("", 0),
             ),
             Step::Count,
         ],
-        b"m4: Warning: excess arguments to builtin `define' ignored\n\
+        "m4: Warning: excess arguments to builtin `define' ignored\n\
           m4: Warning: invalid macro name ignored in builtin `define'\n\
           0 names\n",
     ),
@@ -162,32 +147,35 @@ static OTHERS: [Row; 3] = [
         false,
         &[
             Step::Other(
-                Given::Text(b"$0:$2$1$@"),
-                b"f",
-                &[Argument::Text(b"a"), Argument::Text(b"b")],
-                (b"a.m4", 1),
+                Given::Text("$0:$2$1$@"),
+                "f",
+                &[Argument::Text("a"), Argument::Text("b")],
+                ("a.m4", 1),
             ),
             Step::Count,
         ],
-        b"push f:ba`a',`b'\n0 names\n",
+        "push f:ba`a',`b'\n0 names\n",
     ),
     (
         "a placeholder under another name",
         false,
         &[
             Step::Other(
-                Given::Named(b"regexp"),
-                b"match",
-                &[Argument::Text(b"a")],
-                (b"b.m4", 1),
+                Given::Named("regexp"),
+                "match",
+                &[Argument::Text("a")],
+                ("b.m4", 1),
             ),
             Step::Count,
         ],
-        b"m4:b.m4:1: Warning: builtin `regexp' requested by frozen file is not supported\n0 names\n",
+        "m4:b.m4:1: Warning: builtin `regexp' requested by frozen file is not supported\n0 names\n",
     ),
 ];
 
 #[test]
-fn texts_placeholders_and_definitions(rt: HostRuntime) {
+fn calls_and_the_state_after_them(rt: HostRuntime) {
+    tried(&rt, rt.alloc(), &CALLS);
+    tried(&rt, rt.alloc(), &DEFINITIONS);
+    tried(&rt, rt.alloc(), &DELIMITERS);
     tried(&rt, rt.alloc(), &OTHERS);
 }

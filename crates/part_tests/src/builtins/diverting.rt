@@ -10,49 +10,49 @@ static DIVERT: [Row; 5] = [
         "divert chooses a number, and 0 without one",
         false,
         &[
-            Step::Call(b"divert", &[b"2"]),
-            Step::Call(b"divnum", &[]),
-            Step::Call(b"divert", &[b"-1"]),
-            Step::Call(b"divnum", &[]),
-            Step::Call(b"divert", &[]),
-            Step::Call(b"divnum", &[]),
+            Step::Call("divert", &["2"]),
+            Step::Call("divnum", &[]),
+            Step::Call("divert", &["-1"]),
+            Step::Call("divnum", &[]),
+            Step::Call("divert", &[]),
+            Step::Call("divnum", &[]),
         ],
-        b"push 2\npush -1\npush 0\n",
+        "push 2\npush -1\npush 0\n",
     ),
     (
         "what is no number changes nothing",
         false,
         &[
-            Step::Call(b"divert", &[b"2"]),
-            Step::Call(b"divert", &[b"x"]),
-            Step::Call(b"divnum", &[]),
+            Step::Call("divert", &["2"]),
+            Step::Call("divert", &["x"]),
+            Step::Call("divnum", &[]),
         ],
-        b"m4:a.m4:1: Warning: non-numeric argument to builtin `divert'\npush 2\n",
+        "m4:a.m4:1: Warning: non-numeric argument to builtin `divert'\npush 2\n",
     ),
     (
         "an empty argument is 0",
         false,
         &[
-            Step::Call(b"divert", &[b"2"]),
-            Step::Call(b"divert", &[b""]),
-            Step::Call(b"divnum", &[]),
+            Step::Call("divert", &["2"]),
+            Step::Call("divert", &[""]),
+            Step::Call("divnum", &[]),
         ],
-        b"m4:a.m4:1: Warning: empty string treated as 0 in builtin `divert'\npush 0\n",
+        "m4:a.m4:1: Warning: empty string treated as 0 in builtin `divert'\npush 0\n",
     ),
     (
         "a definition is an empty argument",
         false,
-        &[Step::With(1, b"divert", &[Argument::Definition(Given::Named(b"dnl"))])],
-        b"m4:a.m4:1: Warning: empty string treated as 0 in builtin `divert'\n",
+        &[Step::With(1, "divert", &[Argument::Definition(Given::Named("dnl"))])],
+        "m4:a.m4:1: Warning: empty string treated as 0 in builtin `divert'\n",
     ),
     (
         "arguments above the most",
         false,
         &[
-            Step::Call(b"divert", &[b"x", b"1"]),
-            Step::Call(b"divnum", &[b""]),
+            Step::Call("divert", &["x", "1"]),
+            Step::Call("divnum", &[""]),
         ],
-        b"m4:a.m4:1: Warning: excess arguments to builtin `divert' ignored\n\
+        "m4:a.m4:1: Warning: excess arguments to builtin `divert' ignored\n\
           m4:a.m4:1: Warning: non-numeric argument to builtin `divert'\n\
           push 0\n\
           m4:a.m4:1: Warning: excess arguments to builtin `divnum' ignored\n",
@@ -64,70 +64,66 @@ static UNDIVERT: [Row; 4] = [
         "all diversions by rising number",
         false,
         &[
-            Step::Call(b"divert", &[b"7"]),
-            Step::Add(b"seven"),
-            Step::Call(b"divert", &[b"5"]),
-            Step::Add(b"five"),
-            Step::Call(b"divert", &[]),
-            Step::Call(b"undivert", &[]),
-            Step::Call(b"undivert", &[]),
+            Step::Call("divert", &["7"]),
+            Step::Add("seven"),
+            Step::Call("divert", &["5"]),
+            Step::Add("five"),
+            Step::Call("divert", &[]),
+            Step::Call("undivert", &[]),
+            Step::Call("undivert", &[]),
         ],
-        b"output fiveseven\n",
+        "output fiveseven\n",
     ),
     (
         "all but the current one, which they are added to",
         false,
         &[
-            Step::Call(b"divert", &[b"7"]),
-            Step::Add(b"seven"),
-            Step::Call(b"divert", &[b"5"]),
-            Step::Add(b"five"),
-            Step::Call(b"divert", &[b"6"]),
-            Step::Add(b"six"),
-            Step::Call(b"undivert", &[]),
-            Step::Call(b"divert", &[]),
-            Step::Call(b"undivert", &[b"6"]),
+            Step::Call("divert", &["7"]),
+            Step::Add("seven"),
+            Step::Call("divert", &["5"]),
+            Step::Add("five"),
+            Step::Call("divert", &["6"]),
+            Step::Add("six"),
+            Step::Call("undivert", &[]),
+            Step::Call("divert", &[]),
+            Step::Call("undivert", &["6"]),
         ],
-        b"output sixfiveseven\n",
+        "output sixfiveseven\n",
     ),
     (
         "one diversion to another, and it to the output",
         false,
         &[
-            Step::Call(b"divert", &[b"1"]),
-            Step::Add(b"a\n"),
-            Step::Call(b"divert", &[b"2"]),
-            Step::Add(b"b\n"),
-            Step::Call(b"undivert", &[b"1"]),
-            Step::Call(b"divert", &[b"0"]),
-            Step::Call(b"undivert", &[b"2"]),
-            Step::Call(b"divnum", &[]),
+            Step::Call("divert", &["1"]),
+            Step::Add("a\n"),
+            Step::Call("divert", &["2"]),
+            Step::Add("b\n"),
+            Step::Call("undivert", &["1"]),
+            Step::Call("divert", &["0"]),
+            Step::Call("undivert", &["2"]),
+            Step::Call("divnum", &[]),
         ],
-        b"output b\na\n\npush 0\n",
+        "output b\na\n\npush 0\n",
     ),
     (
         "a bad number is passed over",
         false,
         &[
-            Step::Call(b"divert", &[b"1"]),
-            Step::Add(b"one"),
-            Step::Call(b"divert", &[b"2"]),
-            Step::Add(b"two"),
-            Step::Call(b"divert", &[]),
-            Step::Call(b"undivert", &[b"2", b"x", b"", b" 1"]),
+            Step::Call("divert", &["1"]),
+            Step::Add("one"),
+            Step::Call("divert", &["2"]),
+            Step::Add("two"),
+            Step::Call("divert", &[]),
+            Step::Call("undivert", &["2", "x", "", " 1"]),
         ],
-        b"output twoone\n\
+        "output twoone\n\
           m4:a.m4:1: Warning: non-numeric argument to builtin `undivert'\n\
           m4:a.m4:1: Warning: empty string treated as 0 in builtin `undivert'\n",
     ),
 ];
 
 #[test]
-fn text_is_diverted(rt: HostRuntime) {
+fn text_is_diverted_and_brought_back(rt: HostRuntime) {
     tried(&rt, rt.alloc(), &DIVERT);
-}
-
-#[test]
-fn diversions_are_brought_back(rt: HostRuntime) {
     tried(&rt, rt.alloc(), &UNDIVERT);
 }

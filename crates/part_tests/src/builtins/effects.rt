@@ -12,50 +12,50 @@ static COUNTED: [Row; 8] = [
     (
         "incr",
         false,
-        &[Step::With(7, b"incr", &[Argument::Text(b"4")])],
-        b"push 5\n",
+        &[Step::With(7, "incr", &[Argument::Text("4")])],
+        "push 5\n",
     ),
     (
         "decr",
         false,
-        &[Step::With(7, b"decr", &[Argument::Text(b"-7")])],
-        b"push -8\n",
+        &[Step::With(7, "decr", &[Argument::Text("-7")])],
+        "push -8\n",
     ),
     (
         "after the greatest number comes the least",
         false,
-        &[Step::With(7, b"incr", &[Argument::Text(b"2147483647")])],
-        b"push -2147483648\n",
+        &[Step::With(7, "incr", &[Argument::Text("2147483647")])],
+        "push -2147483648\n",
     ),
     (
         "before the least number comes the greatest",
         false,
-        &[Step::With(7, b"decr", &[Argument::Text(b"-2147483648")])],
-        b"push 2147483647\n",
+        &[Step::With(7, "decr", &[Argument::Text("-2147483648")])],
+        "push 2147483647\n",
     ),
     (
         "an empty argument is 0",
         false,
-        &[Step::With(7, b"decr", &[Argument::Text(b"")])],
-        b"push -1\nm4:a.m4:7: Warning: empty string treated as 0 in builtin `decr'\n",
+        &[Step::With(7, "decr", &[Argument::Text("")])],
+        "push -1\nm4:a.m4:7: Warning: empty string treated as 0 in builtin `decr'\n",
     ),
     (
         "a definition is an empty argument",
         false,
-        &[Step::With(7, b"incr", &[Argument::Definition(Given::Named(b"dnl"))])],
-        b"push 1\nm4:a.m4:7: Warning: empty string treated as 0 in builtin `incr'\n",
+        &[Step::With(7, "incr", &[Argument::Definition(Given::Named("dnl"))])],
+        "push 1\nm4:a.m4:7: Warning: empty string treated as 0 in builtin `incr'\n",
     ),
     (
         "what is no number gives nothing",
         false,
-        &[Step::With(7, b"incr", &[Argument::Text(b"x")])],
-        b"m4:a.m4:7: Warning: non-numeric argument to builtin `incr'\n",
+        &[Step::With(7, "incr", &[Argument::Text("x")])],
+        "m4:a.m4:7: Warning: non-numeric argument to builtin `incr'\n",
     ),
     (
         "no argument",
         false,
-        &[Step::With(7, b"decr", &[])],
-        b"m4:a.m4:7: Warning: too few arguments to builtin `decr'\n",
+        &[Step::With(7, "decr", &[])],
+        "m4:a.m4:7: Warning: too few arguments to builtin `decr'\n",
     ),
 ];
 
@@ -65,38 +65,38 @@ static PLACES: [Row; 5] = [
         false,
         &[Step::With(
             7,
-            b"errprint",
+            "errprint",
             &[
-                Argument::Text(b"a"),
-                Argument::Text(b""),
-                Argument::Text(b"b\n"),
+                Argument::Text("a"),
+                Argument::Text(""),
+                Argument::Text("b\n"),
             ],
         )],
-        b"a  b\n",
+        "a  b\n",
     ),
     (
         "errprint without arguments",
         false,
-        &[Step::With(7, b"errprint", &[])],
-        b"",
+        &[Step::With(7, "errprint", &[])],
+        "",
     ),
     (
         "the file, between quotes",
         false,
-        &[Step::With(7, b"__file__", &[])],
-        b"push `a.m4'\n",
+        &[Step::With(7, "__file__", &[])],
+        "push `a.m4'\n",
     ),
     (
         "the line",
         false,
-        &[Step::With(7, b"__line__", &[])],
-        b"push 7\n",
+        &[Step::With(7, "__line__", &[])],
+        "push 7\n",
     ),
     (
         "the line takes no argument",
         false,
-        &[Step::With(7, b"__line__", &[Argument::Text(b"x")])],
-        b"push 7\nm4:a.m4:7: Warning: excess arguments to builtin `__line__' ignored\n",
+        &[Step::With(7, "__line__", &[Argument::Text("x")])],
+        "push 7\nm4:a.m4:7: Warning: excess arguments to builtin `__line__' ignored\n",
     ),
 ];
 
@@ -104,50 +104,50 @@ static ENDINGS: [Row; 8] = [
     (
         "m4wrap joins its arguments by spaces",
         false,
-        &[Step::With(7, b"m4wrap", &[Argument::Text(b"a"), Argument::Text(b"b")])],
-        b"wrap a b\n",
+        &[Step::With(7, "m4wrap", &[Argument::Text("a"), Argument::Text("b")])],
+        "wrap a b\n",
     ),
     (
         "m4wrap saves an empty text too",
         false,
-        &[Step::With(7, b"m4wrap", &[])],
-        b"wrap \n",
+        &[Step::With(7, "m4wrap", &[])],
+        "wrap \n",
     ),
     (
         "m4exit without a code",
         false,
-        &[Step::With(7, b"m4exit", &[])],
-        b"exit 0\n",
+        &[Step::With(7, "m4exit", &[])],
+        "exit 0\n",
     ),
     (
         "the greatest code",
         false,
-        &[Step::With(7, b"m4exit", &[Argument::Text(b"255")])],
-        b"exit 255\n",
+        &[Step::With(7, "m4exit", &[Argument::Text("255")])],
+        "exit 255\n",
     ),
     (
         "one above the greatest code",
         false,
-        &[Step::With(7, b"m4exit", &[Argument::Text(b"256")])],
-        b"m4:a.m4:7: Warning: exit status out of range\nexit 1\n",
+        &[Step::With(7, "m4exit", &[Argument::Text("256")])],
+        "m4:a.m4:7: Warning: exit status out of range\nexit 1\n",
     ),
     (
         "a code below 0",
         false,
-        &[Step::With(7, b"m4exit", &[Argument::Text(b"-1")])],
-        b"m4:a.m4:7: Warning: exit status out of range\nexit 1\n",
+        &[Step::With(7, "m4exit", &[Argument::Text("-1")])],
+        "m4:a.m4:7: Warning: exit status out of range\nexit 1\n",
     ),
     (
         "an empty code",
         false,
-        &[Step::With(7, b"m4exit", &[Argument::Text(b"")])],
-        b"m4:a.m4:7: Warning: empty string treated as 0 in builtin `m4exit'\nexit 0\n",
+        &[Step::With(7, "m4exit", &[Argument::Text("")])],
+        "m4:a.m4:7: Warning: empty string treated as 0 in builtin `m4exit'\nexit 0\n",
     ),
     (
         "a code that is no number",
         false,
-        &[Step::With(7, b"m4exit", &[Argument::Text(b"x")])],
-        b"m4:a.m4:7: Warning: non-numeric argument to builtin `m4exit'\nexit 1\n",
+        &[Step::With(7, "m4exit", &[Argument::Text("x")])],
+        "m4:a.m4:7: Warning: non-numeric argument to builtin `m4exit'\nexit 1\n",
     ),
 ];
 
@@ -155,32 +155,32 @@ static FEW: [Row; 5] = [
     (
         "index of one argument",
         false,
-        &[Step::With(7, b"index", &[Argument::Text(b"abc")])],
-        b"push 0\nm4:a.m4:7: Warning: too few arguments to builtin `index'\n",
+        &[Step::With(7, "index", &[Argument::Text("abc")])],
+        "push 0\nm4:a.m4:7: Warning: too few arguments to builtin `index'\n",
     ),
     (
         "substr of one argument",
         false,
-        &[Step::With(7, b"substr", &[Argument::Text(b"abc")])],
-        b"push abc\nm4:a.m4:7: Warning: too few arguments to builtin `substr'\n",
+        &[Step::With(7, "substr", &[Argument::Text("abc")])],
+        "push abc\nm4:a.m4:7: Warning: too few arguments to builtin `substr'\n",
     ),
     (
         "translit of one argument",
         false,
-        &[Step::With(7, b"translit", &[Argument::Text(b"abc")])],
-        b"push abc\nm4:a.m4:7: Warning: too few arguments to builtin `translit'\n",
+        &[Step::With(7, "translit", &[Argument::Text("abc")])],
+        "push abc\nm4:a.m4:7: Warning: too few arguments to builtin `translit'\n",
     ),
     (
         "substr of one definition",
         false,
-        &[Step::With(7, b"substr", &[Argument::Definition(Given::Named(b"dnl"))])],
-        b"push \nm4:a.m4:7: Warning: too few arguments to builtin `substr'\n",
+        &[Step::With(7, "substr", &[Argument::Definition(Given::Named("dnl"))])],
+        "push \nm4:a.m4:7: Warning: too few arguments to builtin `substr'\n",
     ),
     (
         "translit without arguments",
         false,
-        &[Step::With(7, b"translit", &[])],
-        b"m4:a.m4:7: Warning: too few arguments to builtin `translit'\n",
+        &[Step::With(7, "translit", &[])],
+        "m4:a.m4:7: Warning: too few arguments to builtin `translit'\n",
     ),
 ];
 
@@ -189,38 +189,22 @@ static WRAPPED: [Row; 2] = [
     (
         "the file in wrapped text",
         false,
-        &[Step::Other(Given::Named(b"__file__"), b"__file__", &[], (b"", 0))],
-        b"push `'\n",
+        &[Step::Other(Given::Named("__file__"), "__file__", &[], ("", 0))],
+        "push `'\n",
     ),
     (
         "the line in wrapped text",
         false,
-        &[Step::Other(Given::Named(b"__line__"), b"__line__", &[], (b"", 0))],
-        b"push 0\n",
+        &[Step::Other(Given::Named("__line__"), "__line__", &[], ("", 0))],
+        "push 0\n",
     ),
 ];
 
 #[test]
-fn numbers_are_counted_up_and_down(rt: HostRuntime) {
+fn effects_of_calls(rt: HostRuntime) {
     tried(&rt, rt.alloc(), &COUNTED);
-}
-
-#[test]
-fn messages_and_places_are_given(rt: HostRuntime) {
     tried(&rt, rt.alloc(), &PLACES);
-}
-
-#[test]
-fn wrapped_text_has_no_place(rt: HostRuntime) {
     tried(&rt, rt.alloc(), &WRAPPED);
-}
-
-#[test]
-fn text_is_saved_and_the_run_ends(rt: HostRuntime) {
     tried(&rt, rt.alloc(), &ENDINGS);
-}
-
-#[test]
-fn one_argument_where_two_are_needed(rt: HostRuntime) {
     tried(&rt, rt.alloc(), &FEW);
 }

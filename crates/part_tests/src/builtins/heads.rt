@@ -12,61 +12,61 @@ use std::alloc::{AllocError, Global};
 // one, and its definition.
 type Row = (
     &'static str,
-    &'static [u8],
+    &'static str,
     Given,
-    (&'static [u8], u64),
-    &'static [u8],
+    (&'static str, u64),
+    &'static str,
 );
 
 static ROWS: [Row; 7] = [
     (
         "a text",
-        b"wrap",
-        Given::Text(b"<$1>\x00"),
-        (b"a.m4", 12),
-        b"wrap a.m4:12 a.m4:12, text <$1>\x00, text <$1>\x00",
+        "wrap",
+        Given::Text("<$1>\x00"),
+        ("a.m4", 12),
+        "wrap a.m4:12 a.m4:12, text <$1>\x00, text <$1>\x00",
     ),
     (
         "a builtin that needs a list, at the greatest line",
-        b"let",
-        Given::Named(b"define"),
-        (b"dir/b.m4", 18446744073709551615),
-        b"let dir/b.m4:18446744073709551615 dir/b.m4:18446744073709551615, needs a list, builtin define",
+        "let",
+        Given::Named("define"),
+        ("dir/b.m4", 18446744073709551615),
+        "let dir/b.m4:18446744073709551615 dir/b.m4:18446744073709551615, needs a list, builtin define",
     ),
     (
         "a builtin that needs none",
-        b"dnl",
-        Given::Named(b"dnl"),
-        (b"dir/b.m4", 1),
-        b"dnl dir/b.m4:1 dir/b.m4:1, builtin dnl",
+        "dnl",
+        Given::Named("dnl"),
+        ("dir/b.m4", 1),
+        "dnl dir/b.m4:1 dir/b.m4:1, builtin dnl",
     ),
     (
         "a placeholder",
-        b"printf",
-        Given::Named(b"format"),
-        (b"c.m4", 3),
-        b"printf c.m4:3 c.m4:3, placeholder format",
+        "printf",
+        Given::Named("format"),
+        ("c.m4", 3),
+        "printf c.m4:3 c.m4:3, placeholder format",
     ),
     (
         "nothing at all",
-        b"",
-        Given::Text(b""),
-        (b"", 0),
-        b" :0 :0, text , text ",
+        "",
+        Given::Text(""),
+        ("", 0),
+        " :0 :0, text , text ",
     ),
     (
         "a name alone",
-        b"x",
-        Given::Text(b""),
-        (b"", 0),
-        b"x :0 :0, text , text ",
+        "x",
+        Given::Text(""),
+        ("", 0),
+        "x :0 :0, text , text ",
     ),
     (
         "a file alone",
-        b"",
-        Given::Text(b""),
-        (b"a.m4", 0),
-        b" a.m4:0 a.m4:0, text , text ",
+        "",
+        Given::Text(""),
+        ("a.m4", 0),
+        " a.m4:0 a.m4:0, text , text ",
     ),
 ];
 
@@ -102,12 +102,18 @@ fn used(alloc: Global) -> Result<Vec<u8>, AllocError> {
 // Makes a head.
 fn head_of(
     alloc: Global,
-    name: &[u8],
+    name: &str,
     given: Given,
-    place: (&[u8], u64),
+    place: (&str, u64),
 ) -> Result<Head, AllocError> {
     let definition = made(alloc, given)?;
-    Head::new(used(alloc)?, name, &definition, place.0, place.1)
+    Head::new(
+        used(alloc)?,
+        name.as_bytes(),
+        &definition,
+        place.0.as_bytes(),
+        place.1,
+    )
 }
 
 // Reports the data of a head.
@@ -121,9 +127,9 @@ fn parts(alloc: Global, head: &Head) -> Result<Vec<u8>, AllocError> {
 // Makes a head, and reports its data.
 fn kept(
     alloc: Global,
-    name: &[u8],
+    name: &str,
     given: Given,
-    place: (&[u8], u64),
+    place: (&str, u64),
 ) -> Result<Vec<u8>, AllocError> {
     parts(alloc, &head_of(alloc, name, given, place)?)
 }
@@ -131,6 +137,7 @@ fn kept(
 #[test]
 fn heads_keep_what_they_were_made_of(rt: HostRuntime) {
     for &(row, name, given, place, want) in &ROWS {
-        shows(&rt, row, want, kept(rt.alloc(), name, given, place));
+        let got = kept(rt.alloc(), name, given, place);
+        shows(&rt, row, want.as_bytes(), got);
     }
 }

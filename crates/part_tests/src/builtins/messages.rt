@@ -9,19 +9,19 @@ use m4_state::bytes::Bytes;
 use std::alloc::{AllocError, Global};
 
 // A row's name, a file, a line, and the messages for an error there and for a dropped definition.
-static ROWS: [(&str, &[u8], u64, &[u8]); 2] = [
+static ROWS: [(&str, &str, u64, &str); 2] = [
     (
         "a line of a file",
-        b"dir/a.m4",
+        "dir/a.m4",
         18446744073709551615,
-        b"m4:dir/a.m4:18446744073709551615: ERROR: end of file in string\n\
+        "m4:dir/a.m4:18446744073709551615: ERROR: end of file in string\n\
           m4:dir/a.m4:18446744073709551615: Warning: builtin dropped from text\n",
     ),
     (
         "wrapped text",
-        b"",
+        "",
         0,
-        b"m4: ERROR: end of file in string\n\
+        "m4: ERROR: end of file in string\n\
           m4: Warning: builtin dropped from text\n",
     ),
 ];
@@ -49,7 +49,8 @@ fn messages_at(alloc: Global, file: &[u8], line: u64) -> Result<Vec<u8>, AllocEr
 #[test]
 fn messages_name_their_place(rt: HostRuntime) {
     for &(name, file, line, want) in &ROWS {
-        shows(&rt, name, want, messages_at(rt.alloc(), file, line));
+        let got = messages_at(rt.alloc(), file.as_bytes(), line);
+        shows(&rt, name, want.as_bytes(), got);
     }
 }
 

@@ -4,7 +4,7 @@ ghost use Rattle.std.specs.List.{AllByRecursion};
 ghost use Rattle.m4_builtins.specs.Args.{IsArg};
 
 use super::{Argument, call_of, text_call_of};
-use crate::given::{Given, describe_definition, made};
+use crate::given::{Given, describe_definition, made, start};
 use crate::report::Report;
 use crate::shows::shows;
 use m4_builtins::act::act;
@@ -21,15 +21,15 @@ use std::process::Abort;
 #[derive(Clone, Copy)]
 pub enum Step {
     /// Calls a builtin with texts in line 1 of `a.m4`, and reports the effect.
-    Call(&'static [u8], &'static [&'static [u8]]),
+    Call(&'static str, &'static [&'static str]),
     /// Does the same with any arguments, in this line.
-    With(u64, &'static [u8], &'static [Argument]),
+    With(u64, &'static str, &'static [Argument]),
     /// Calls a definition by a name with any arguments, at a place.
-    Other(Given, &'static [u8], &'static [Argument], (&'static [u8], u64)),
+    Other(Given, &'static str, &'static [Argument], (&'static str, u64)),
     /// Adds a text to the current diversion.
-    Add(&'static [u8]),
+    Add(&'static str),
     /// Reports how many definitions a name has, and the newest.
-    Look(&'static [u8]),
+    Look(&'static str),
     /// Reports how many names there are.
     Count,
     /// Reports the quotes.
@@ -39,10 +39,10 @@ pub enum Step {
 }
 
 /// A row's name, whether the state is fresh or empty, the steps, and the reports.
-pub type Row = (&'static str, bool, &'static [Step], &'static [u8]);
+pub type Row = (&'static str, bool, &'static [Step], &'static str);
 
 // What is called: a definition, its name, and the place of the call.
-type Called = (Given, &'static [u8], (&'static [u8], u64));
+type Called = (Given, &'static str, (&'static str, u64));
 
 // Adds a line for a text.
 fn describe_text(label: &[u8], text: &[u8], report: &mut Report) {
@@ -93,7 +93,7 @@ fn acted(
     requires { AllByRecursion IsArg args.now.list }
 {
     let definition = made(alloc, called.0)?;
-    let place = Place::new(called.2.0, called.2.1);
+    let place = Place::new(called.2.0.as_bytes(), called.2.1);
     act(alloc, &definition, args, &place, state)
 }
 
@@ -120,7 +120,7 @@ fn text_call(
     alloc: Global,
     state: &mut State,
     called: Called,
-    texts: &[&[u8]],
+    texts: &[&str],
     report: &mut Report,
 ) {
     match text_call_of(alloc, called.1, texts) {
@@ -166,50 +166,41 @@ fn count(state: &State, report: &mut Report) {
 fn do_step(alloc: Global, state: &mut State, step: Step, report: &mut Report) {
     match step {
         Step::Call(name, texts) => {
-            let called = (Given::Named(name), name, (b"a.m4".as_slice(), 1));
+            let called = (Given::Named(name), name, ("a.m4", 1));
             text_call(alloc, state, called, texts, report);
         }
         Step::With(line, name, list) => {
-            let called = (Given::Named(name), name, (b"a.m4".as_slice(), line));
+            let called = (Given::Named(name), name, ("a.m4", line));
             call(alloc, state, called, list, report);
         }
         Step::Other(given, name, list, place) => {
             call(alloc, state, (given, name, place), list, report);
         }
-        Step::Add(text) => append(state, text, report),
-        Step::Look(name) => look(state, name, report),
+        Step::Add(text) => append(state, text.as_bytes(), report),
+        Step::Look(name) => look(state, name.as_bytes(), report),
         Step::Count => count(state, report),
         Step::Quotes => describe_pair(state.quotes(), report),
         Step::Comments => describe_pair(state.comments(), report),
     }
 }
 
-// Returns a state to start with.
-fn start(alloc: Global, fresh: bool) -> Result<State, StateFault> {
-    if fresh {
-        State::fresh(alloc, false)
-    } else {
-        State::empty(alloc)
-    }
-}
-
-// Adds the reports of a row's steps.
-fn see(alloc: Global, fresh: bool, steps: &[Step], report: &mut Report) {
+/// Reports a row's steps.
+pub fn report_of(alloc: Global, fresh: bool, steps: &[Step]) -> Result<Vec<u8>, AllocError> {
+    let mut report = Report::new(alloc);
     match start(alloc, fresh) {
         Ok(mut state) => {
             for step in steps {
-                do_step(alloc, &mut state, *step, report);
+                do_step(alloc, &mut state, *step, &mut report);
             }
         }
         Err(StateFault::OutOfMemory) => report.refuse(),
     }
+    report.text()
 }
 
 /// Compares the reports of each row's steps with the expected ones.
 pub fn tried(rt: &impl Abort, alloc: Global, rows: &[Row]) {
     for &(name, fresh, steps, want) in rows {
-        let mut report = Report::new(alloc);
-        see(alloc, fresh, steps, &mut report);
-        shows(rt, name, want, report.text());
+        shows(rt, name, want.as_bytes(), report_of(alloc, fresh, steps));
     }
 }

@@ -8,57 +8,77 @@ use m4_builtins::args::Args;
 use m4_builtins::substitute::substitute;
 use std::alloc::{AllocError, Global};
 
-// A row's name, a text, the arguments, and the expansion of the text under the name `f`.
-static ROWS: [(&str, &[u8], &[&[u8]], &[u8]); 14] = [
-    ("an empty text", b"", &[b"a"], b""),
+// Quotes, the first and the last.
+type Quotes = (&'static str, &'static str);
+
+const USUAL: Quotes = ("`", "'");
+
+// A row's name, a text, the arguments, the quotes, and the expansion of the text under the name `f`.
+type Row = (
+    &'static str,
+    &'static str,
+    &'static [&'static str],
+    Quotes,
+    &'static str,
+);
+
+static ROWS: [Row; 16] = [
+    ("an empty text", "", &["a"], USUAL, ""),
     (
         "text with no dollar",
-        b"plain # text\x00\n",
-        &[b"a"],
-        b"plain # text\x00\n",
+        "plain # text\x00\n",
+        &["a"],
+        USUAL,
+        "plain # text\x00\n",
     ),
-    ("an argument twice", b"$1$1", &[b"a"], b"aa"),
-    ("an argument that is missing", b"<$2>", &[b"a"], b"<>"),
+    ("an argument twice", "$1$1", &["a"], USUAL, "aa"),
+    ("an argument that is missing", "<$2>", &["a"], USUAL, "<>"),
     (
         "how many, all of them, and a letter after a dollar",
-        b"$#|$*|$2$11|$x",
-        &[b"a", b"b", b""],
-        b"3|a,b,|b|$x",
+        "$#|$*|$2$11|$x",
+        &["a", "b", ""],
+        USUAL,
+        "3|a,b,|b|$x",
     ),
-    ("the name", b"$0($1)", &[b"a"], b"f(a)"),
+    ("the name", "$0($1)", &["a"], USUAL, "f(a)"),
     (
         "all of them in quotes",
-        b"$@",
-        &[b"a", b"", b"$1"],
-        b"`a',`',`$1'",
+        "$@",
+        &["a", "", "$1"],
+        USUAL,
+        "`a',`',`$1'",
     ),
-    ("no arguments", b"$#$*$@", &[], b"0"),
-    ("a dollar after a dollar", b"$$1$", &[b"a"], b"$a$"),
-    ("a dollar at the end", b"end$", &[b"a"], b"end$"),
-    ("a number with a zero in front", b"$01", &[b"a"], b"a"),
+    ("no arguments", "$#$*$@", &[], USUAL, "0"),
+    ("a dollar after a dollar", "$$1$", &["a"], USUAL, "$a$"),
+    ("a dollar at the end", "end$", &["a"], USUAL, "end$"),
+    ("a number with a zero in front", "$01", &["a"], USUAL, "a"),
     (
         "the tenth argument",
-        b"$10",
-        &[b"1", b"2", b"3", b"4", b"5", b"6", b"7", b"8", b"9", b"x"],
-        b"x",
+        "$10",
+        &["1", "2", "3", "4", "5", "6", "7", "8", "9", "x"],
+        USUAL,
+        "x",
     ),
-    ("2^64", b"$18446744073709551616!", &[b"a"], b"!"),
-    ("2^64 + 1", b"$18446744073709551617!", &[b"a"], b"!"),
+    ("2^64", "$18446744073709551616!", &["a"], USUAL, "!"),
+    ("2^64 + 1", "$18446744073709551617!", &["a"], USUAL, "!"),
+    (
+        "quotes of two bytes",
+        "$@",
+        &["a", "b"],
+        ("[[", "]]"),
+        "[[a]],[[b]]",
+    ),
+    ("no quotes", "$@", &["a", "b"], ("", ""), "a,b"),
 ];
 
 // Returns the expansion of a text.
-fn given(
-    alloc: Global,
-    text: &[u8],
-    args: &Args,
-    quotes: (&[u8], &[u8]),
-) -> Result<Vec<u8>, AllocError> {
+fn given(alloc: Global, text: &str, args: &Args, quotes: Quotes) -> Result<Vec<u8>, AllocError> {
     match substitute(
         alloc,
-        text,
+        text.as_bytes(),
         args.name.as_slice(),
         args.list.as_slice(),
-        quotes,
+        (quotes.0.as_bytes(), quotes.1.as_bytes()),
     ) {
         Ok(got) => joined(alloc, &[got.as_slice()]),
         Err(_refused) => Err(AllocError),
@@ -68,40 +88,26 @@ fn given(
 // Returns the expansion of a text with texts as arguments.
 fn given_texts(
     alloc: Global,
-    text: &[u8],
-    texts: &[&[u8]],
-    quotes: (&[u8], &[u8]),
+    text: &str,
+    texts: &[&str],
+    quotes: Quotes,
 ) -> Result<Vec<u8>, AllocError> {
-    given(alloc, text, &text_call_of(alloc, b"f", texts)?, quotes)
+    given(alloc, text, &text_call_of(alloc, "f", texts)?, quotes)
 }
 
 #[test]
 fn dollars_are_replaced(rt: HostRuntime) {
-    for &(name, text, texts, want) in &ROWS {
-        let got = given_texts(rt.alloc(), text, texts, (b"`", b"'"));
-        shows(&rt, name, want, got);
-    }
-}
-
-// The quotes, and the expansion of `$@` with two arguments.
-static QUOTES: [(&str, (&[u8], &[u8]), &[u8]); 2] = [
-    ("quotes of two bytes", (b"[[", b"]]"), b"[[a]],[[b]]"),
-    ("no quotes", (b"", b""), b"a,b"),
-];
-
-#[test]
-fn quotes_by_the_current_quotes(rt: HostRuntime) {
-    for &(name, quotes, want) in &QUOTES {
-        let got = given_texts(rt.alloc(), b"$@", &[b"a", b"b"], quotes);
-        shows(&rt, name, want, got);
+    for &(name, text, texts, quotes, want) in &ROWS {
+        let got = given_texts(rt.alloc(), text, texts, quotes);
+        shows(&rt, name, want.as_bytes(), got);
     }
 }
 
 // Returns the expansion of a text with a definition as an argument.
 fn given_a_definition(alloc: Global) -> Result<Vec<u8>, AllocError> {
-    let list = [Argument::Definition(Given::Named(b"dnl"))];
-    let args = call_of(alloc, b"f", &list)?;
-    given(alloc, b"<$1>$#", &args, (b"`", b"'"))
+    let list = [Argument::Definition(Given::Named("dnl"))];
+    let args = call_of(alloc, "f", &list)?;
+    given(alloc, "<$1>$#", &args, USUAL)
 }
 
 #[test]

@@ -8,59 +8,60 @@ use m4_state::memory::MemSource;
 use std::alloc::{AllocError, Global};
 
 // A row's name, a file that states a length of 2^64 - 1, and its fault: the file ends too early.
-static LENGTHS: [(&str, &[u8], &[u8]); 9] = [
+static LENGTHS: [(&str, &str, &str); 9] = [
     (
         "a text's name",
-        b"V1\nT18446744073709551615,1\nab",
-        b"F9 PrematureEnd at 29",
+        "V1\nT18446744073709551615,1\nab",
+        "F9 PrematureEnd at 29",
     ),
     (
         "a builtin's name",
-        b"V1\nF18446744073709551615,1\nab",
-        b"F9 PrematureEnd at 29",
+        "V1\nF18446744073709551615,1\nab",
+        "F9 PrematureEnd at 29",
     ),
     (
         "the first of the quotes",
-        b"V1\nQ18446744073709551615,1\n[]",
-        b"F9 PrematureEnd at 29",
+        "V1\nQ18446744073709551615,1\n[]",
+        "F9 PrematureEnd at 29",
     ),
     (
         "the second of the quotes",
-        b"V1\nQ1,18446744073709551615\n[]",
-        b"F9 PrematureEnd at 29",
+        "V1\nQ1,18446744073709551615\n[]",
+        "F9 PrematureEnd at 29",
     ),
     (
         "both quotes",
-        b"V1\nQ18446744073709551615,18446744073709551615\n[]",
-        b"F9 PrematureEnd at 48",
+        "V1\nQ18446744073709551615,18446744073709551615\n[]",
+        "F9 PrematureEnd at 48",
     ),
     (
         "the first of the comment delimiters",
-        b"V1\nC18446744073709551615,1\n#\n",
-        b"F9 PrematureEnd at 29",
+        "V1\nC18446744073709551615,1\n#\n",
+        "F9 PrematureEnd at 29",
     ),
     (
         "the second of the comment delimiters",
-        b"V1\nC1,18446744073709551615\n#\n",
-        b"F9 PrematureEnd at 29",
+        "V1\nC1,18446744073709551615\n#\n",
+        "F9 PrematureEnd at 29",
     ),
     (
         "both comment delimiters",
-        b"V1\nC18446744073709551615,18446744073709551615\n#\n",
-        b"F9 PrematureEnd at 48",
+        "V1\nC18446744073709551615,18446744073709551615\n#\n",
+        "F9 PrematureEnd at 48",
     ),
     (
         "a diversion's text",
-        b"V1\nD1,18446744073709551615\nab",
-        b"F9 PrematureEnd at 29",
+        "V1\nD1,18446744073709551615\nab",
+        "F9 PrematureEnd at 29",
     ),
 ];
 
 #[test]
 fn lengths_that_no_memory_has(rt: HostRuntime) {
-    for &(name, bytes, want) in &LENGTHS {
+    for &(name, text, want) in &LENGTHS {
         for &block in &BLOCKS {
-            shows(&rt, name, want, refused(rt.alloc(), bytes, block, false));
+            let got = refused(rt.alloc(), text.as_bytes(), block, false);
+            shows(&rt, name, want.as_bytes(), got);
         }
     }
 }

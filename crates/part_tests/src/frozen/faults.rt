@@ -9,173 +9,182 @@ use m4_state::memory::MemSource;
 use std::alloc::{AllocError, Global};
 use std::process::Abort;
 
-// A row's name, the bytes read, whether the reader failed after them, and the fault with its offset.
-type Row = (&'static str, &'static [u8], bool, FrozenKind, usize);
+// A row's name, the text read, whether the reader failed after them, and the fault with its offset.
+type Row = (&'static str, &'static str, bool, FrozenKind, usize);
 
-static ROWS: [Row; 29] = [
-    ("an empty file", b"", false, FrozenKind::NoVersion, 0),
-    ("no version", b"T0,0\n\n", false, FrozenKind::NoVersion, 0),
+// Versions, and their lack.
+static VERSIONS: [Row; 6] = [
+    ("an empty file", "", false, FrozenKind::NoVersion, 0),
+    ("no version", "T0,0\n\n", false, FrozenKind::NoVersion, 0),
     (
         "a newer version after a comment and an empty line",
-        b"# c\n\nV2\n",
+        "# c\n\nV2\n",
         false,
         FrozenKind::Newer,
         6,
     ),
     (
         "a newer version before a wrong byte",
-        b"V2x",
+        "V2x",
         false,
         FrozenKind::Newer,
         1,
     ),
     (
         "version 0 with no newline",
-        b"V0",
+        "V0",
         false,
         FrozenKind::VersionZero,
         1,
     ),
     (
         "a second version",
-        b"V1\nV1\n",
+        "V1\nV1\n",
         false,
         FrozenKind::SecondVersion,
         3,
     ),
+];
+
+// What is wrong in a directive or after it.
+static DIRECTIVES: [Row; 13] = [
     (
         "a letter that begins no directive",
-        b"V1\nX",
+        "V1\nX",
         false,
         FrozenKind::UnknownDirective,
         3,
     ),
     (
         "a line that is a blank",
-        b"V1\n \n",
+        "V1\n \n",
         false,
         FrozenKind::UnknownDirective,
         3,
     ),
     (
         "a letter after a diversion's text",
-        b"V1\nD0,3\nhi\n\nX\n",
+        "V1\nD0,3\nhi\n\nX\n",
         false,
         FrozenKind::UnknownDirective,
         12,
     ),
     (
         "a negative length",
-        b"V1\nT-1,0\n\n",
+        "V1\nT-1,0\n\n",
         false,
         FrozenKind::DigitExpected,
         4,
     ),
     (
         "a diversion's number above 2^31 - 1",
-        b"V1\nD2147483648,0\n\n",
+        "V1\nD2147483648,0\n\n",
         false,
         FrozenKind::NumberTooLarge,
         4,
     ),
     (
         "a diversion's number below -2^31",
-        b"V1\nD-2147483649,0\n\n",
+        "V1\nD-2147483649,0\n\n",
         false,
         FrozenKind::NumberTooLarge,
         4,
     ),
     (
         "a length above 2^64 - 1",
-        b"V1\nT1,18446744073709551616\na",
+        "V1\nT1,18446744073709551616\na",
         false,
         FrozenKind::NumberTooLarge,
         6,
     ),
     (
         "the greatest length, for a text after a name",
-        b"V1\nT1,18446744073709551615\na",
+        "V1\nT1,18446744073709551615\na",
         false,
         FrozenKind::PrematureEnd,
         28,
     ),
     (
         "the greatest length, for a text that begins",
-        b"V1\nT1,18446744073709551615\nabc",
+        "V1\nT1,18446744073709551615\nabc",
         false,
         FrozenKind::PrematureEnd,
         30,
     ),
     (
         "a blank after the version",
-        b"V1 \n",
+        "V1 \n",
         false,
         FrozenKind::SeparatorExpected,
         2,
     ),
     (
         "a letter after the version",
-        b"V1x",
+        "V1x",
         false,
         FrozenKind::SeparatorExpected,
         2,
     ),
     (
         "a text longer than its length",
-        b"V1\nT1,1\nabc\n",
+        "V1\nT1,1\nabc\n",
         false,
         FrozenKind::SeparatorExpected,
         10,
     ),
     (
         "the version alone",
-        b"V1",
+        "V1",
         false,
         FrozenKind::PrematureEnd,
         2,
     ),
+];
+
+// A reader that failed.
+static FAILED: [Row; 10] = [
     (
         "failed after a directive",
-        b"V1\nT1,1\nab\n",
+        "V1\nT1,1\nab\n",
         true,
         FrozenKind::Read,
         11,
     ),
-    ("failed in a length", b"V1\nT1", true, FrozenKind::Read, 5),
-    ("failed after the version", b"V1", true, FrozenKind::Read, 2),
-    ("failed after version 0", b"V0", true, FrozenKind::Read, 2),
-    ("failed at once", b"", true, FrozenKind::Read, 0),
+    ("failed in a length", "V1\nT1", true, FrozenKind::Read, 5),
+    ("failed after the version", "V1", true, FrozenKind::Read, 2),
+    ("failed after version 0", "V0", true, FrozenKind::Read, 2),
+    ("failed at once", "", true, FrozenKind::Read, 0),
     (
         "version 0 before the failure",
-        b"V0\n",
+        "V0\n",
         true,
         FrozenKind::VersionZero,
         1,
     ),
     (
         "a wrong letter before the failure",
-        b"V1\nX",
+        "V1\nX",
         true,
         FrozenKind::UnknownDirective,
         3,
     ),
     (
         "a newer version before the failure",
-        b"V2",
+        "V2",
         true,
         FrozenKind::Newer,
         1,
     ),
     (
         "a length above 2^64 - 1 before the failure",
-        b"V1\nT18446744073709551616",
+        "V1\nT18446744073709551616",
         true,
         FrozenKind::NumberTooLarge,
         4,
     ),
     (
         "a text longer than its length before the failure",
-        b"V1\nT1,1\nabc",
+        "V1\nT1,1\nabc",
         true,
         FrozenKind::SeparatorExpected,
         10,
@@ -190,13 +199,18 @@ fn fault_text(alloc: Global, kind: FrozenKind, offset: usize) -> Result<Vec<u8>,
     report.text()
 }
 
-#[test]
-fn faults_are_placed(rt: HostRuntime) {
-    for &(name, bytes, fails, kind, offset) in &ROWS {
-        for &block in &BLOCKS {
-            let want = fault_text(rt.alloc(), kind, offset);
-            agrees(&rt, name, want, refused(rt.alloc(), bytes, block, fails));
-        }
+// Compares how reading ends with blocks of each size.
+fn compare(
+    alloc: Global,
+    rt: &impl Abort,
+    name: &str,
+    bytes: &[u8],
+    fails: bool,
+    fault: (FrozenKind, usize),
+) {
+    for &block in &BLOCKS {
+        let want = fault_text(alloc, fault.0, fault.1);
+        agrees(rt, name, want, refused(alloc, bytes, block, fails));
     }
 }
 
@@ -227,11 +241,20 @@ fn compare_later(
     }
 }
 
-#[test]
-fn faults_are_placed_in_later_blocks(rt: HostRuntime) {
-    for &(name, bytes, fails, kind, offset) in &ROWS {
-        compare_later(rt.alloc(), &rt, name, bytes, fails, (kind, offset));
+// Compares how reading each row ends, from the first block on and in later ones.
+fn placed(rt: &impl Abort, alloc: Global, rows: &[Row]) {
+    for &(name, text, fails, kind, offset) in rows {
+        let (bytes, fault) = (text.as_bytes(), (kind, offset));
+        compare(alloc, rt, name, bytes, fails, fault);
+        compare_later(alloc, rt, name, bytes, fails, fault);
     }
+}
+
+#[test]
+fn faults_are_placed_in_the_first_block_and_in_later_ones(rt: HostRuntime) {
+    placed(&rt, rt.alloc(), &VERSIONS);
+    placed(&rt, rt.alloc(), &DIRECTIVES);
+    placed(&rt, rt.alloc(), &FAILED);
 }
 
 // The line of the version, two directives and a comment: 3, 8, 9 and 4 bytes.

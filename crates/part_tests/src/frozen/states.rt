@@ -17,35 +17,35 @@ use std::alloc::{AllocError, Global};
 #[derive(Clone, Copy)]
 enum Step {
     // Defines a name as a text.
-    Define(&'static [u8], &'static [u8]),
+    Define(&'static str, &'static str),
     // Removes a name's definitions.
-    Undefine(&'static [u8]),
+    Undefine(&'static str),
     // Diverts to a number, and adds a text there.
-    Divert(i32, &'static [u8]),
+    Divert(i32, &'static str),
 }
 
 // A row's name, the steps from an empty state, and the canonical text without its first two lines and
 // its last one.
-static ROWS: [(&str, &[Step], &[u8]); 2] = [
+static ROWS: [(&str, &[Step], &str); 2] = [
     (
         "a text and a diversion that is not the current one",
         &[
-            Step::Define(b"a", b"b"),
-            Step::Divert(3, b"later"),
-            Step::Divert(0, b""),
+            Step::Define("a", "b"),
+            Step::Divert(3, "later"),
+            Step::Divert(0, ""),
         ],
-        b"T1,1\nab\nD3,5\nlater\nD0,0\n\n",
+        "T1,1\nab\nD3,5\nlater\nD0,0\n\n",
     ),
     (
         "a name that was undefined and defined again",
         &[
-            Step::Define(b"b", b"B"),
-            Step::Define(b"a", b"A"),
-            Step::Define(b"c", b"C"),
-            Step::Undefine(b"b"),
-            Step::Define(b"b", b"B"),
+            Step::Define("b", "B"),
+            Step::Define("a", "A"),
+            Step::Define("c", "C"),
+            Step::Undefine("b"),
+            Step::Define("b", "B"),
         ],
-        b"T1,1\naA\nT1,1\nbB\nT1,1\ncC\n",
+        "T1,1\naA\nT1,1\nbB\nT1,1\ncC\n",
     ),
 ];
 
@@ -53,16 +53,16 @@ static ROWS: [(&str, &[Step], &[u8]); 2] = [
 fn do_step(alloc: Global, state: &mut State, step: Step) -> Result<(), StateFault> {
     match step {
         Step::Define(name, text) => {
-            let text = Bytes::from_slice(alloc, text)?;
-            state.define(name, Def::Text(text))
+            let text = Bytes::from_slice(alloc, text.as_bytes())?;
+            state.define(name.as_bytes(), Def::Text(text))
         }
         Step::Undefine(name) => {
-            state.undefine(name);
+            state.undefine(name.as_bytes());
             Ok(())
         }
         Step::Divert(number, text) => {
             state.divert(number);
-            state.append(text)
+            state.append(text.as_bytes())
         }
     }
 }
@@ -85,7 +85,10 @@ fn frozen(alloc: Global, steps: &[Step]) -> Result<Vec<u8>, AllocError> {
 #[test]
 fn states_are_frozen(rt: HostRuntime) {
     for &(name, steps, between) in &ROWS {
-        let want = joined(rt.alloc(), &[HEAD, between, LAST, b"; written\n"]);
+        let want = joined(
+            rt.alloc(),
+            &[HEAD, between.as_bytes(), LAST, b"; written\n"],
+        );
         agrees(&rt, name, want, frozen(rt.alloc(), steps));
     }
 }

@@ -5,7 +5,7 @@ ghost use Rattle.std.specs.Prelude.{◌≡◌, None};
 
 use super::push;
 use super::steps::{
-    ANGLES, BLOCKED, PLAIN, Row, STARRED, Step, ask, describe_hand, describe_line, tried,
+    ANGLES, BLOCKED, PLAIN, Row, STARS, Step, ask, describe_hand, describe_line, tried,
 };
 use crate::report::Report;
 use crate::shows::shows;
@@ -17,7 +17,7 @@ use std::alloc::{AllocError, Global};
 static IN_HAND: [Row; 7] = [
     Row {
         name: "a block is in hand, and then the end",
-        file: b"abc",
+        file: "abc",
         blocks: &[2],
         steps: &[
             Step::Hand,
@@ -29,82 +29,77 @@ static IN_HAND: [Row; 7] = [
             Step::Hand,
             Step::Taken,
         ],
-        want: b"[]\nmore\n[ab]\nmore\n[abc]\nend\n[abc]\ntaken 3\n",
+        want: "[]\nmore\n[ab]\nmore\n[abc]\nend\n[abc]\ntaken 3\n",
         ..PLAIN
     },
     Row {
         name: "an empty file",
         steps: &[Step::Look, Step::More, Step::Look],
-        want: b"needs more\nend\n0: end\n",
+        want: "needs more\nend\n0: end\n",
         ..PLAIN
     },
     Row {
         name: "a word may go on at the end of the bytes in hand",
-        file: b"abc d",
+        file: "abc d",
         blocks: &[3],
         steps: &[Step::More, Step::Look, Step::More, Step::Look, Step::Hand],
-        want: b"more\nneeds more\nmore\n3: name abc\n[abc d]\n",
+        want: "more\nneeds more\nmore\n3: name abc\n[abc d]\n",
         ..PLAIN
     },
     Row {
         name: "a word ends with the file",
-        file: b"abc",
+        file: "abc",
         steps: &[Step::More, Step::Look, Step::More, Step::Look],
-        want: b"more\nneeds more\nend\n3: name abc\n",
+        want: "more\nneeds more\nend\n3: name abc\n",
         ..PLAIN
     },
     Row {
         name: "a byte is decided at once",
-        file: b"+a",
+        file: "+a",
         blocks: &[1],
         steps: &[Step::More, Step::Look, Step::Taken],
-        want: b"more\n1: byte +\ntaken 1\n",
+        want: "more\n1: byte +\ntaken 1\n",
         ..PLAIN
     },
     Row {
         name: "pushed text joins the bytes of a later block",
-        file: b"b c",
+        file: "b c",
         blocks: &[1],
         steps: &[
-            Step::Push(b"a"),
+            Step::Push("a"),
             Step::Look,
             Step::More,
             Step::Look,
             Step::Decide,
             Step::Taken,
         ],
-        want: b"needs more\nmore\nneeds more\n2: name ab\ntaken 2\n",
+        want: "needs more\nmore\nneeds more\n2: name ab\ntaken 2\n",
         ..PLAIN
     },
     Row {
         name: "a name is read up to the byte after it",
-        file: b"foo bar",
+        file: "foo bar",
         blocks: &[1],
         steps: &[Step::Next, Step::Taken, Step::Next, Step::Taken],
-        want: b"name foo\ntaken 4\nbyte  \ntaken 4\n",
+        want: "name foo\ntaken 4\nbyte  \ntaken 4\n",
         ..PLAIN
     },
 ];
 
-#[test]
-fn blocks_and_what_they_decide(rt: HostRuntime) {
-    tried(&rt, rt.alloc(), &IN_HAND);
-}
-
 static CUT: [Row; 5] = [
     Row {
         name: "a begin-quote that is cut",
-        delims: &ANGLES,
-        file: b"<x",
+        quotes: ANGLES,
+        file: "<x",
         blocks: &[1],
         steps: &[Step::More, Step::Look, Step::More, Step::Look],
-        want: b"more\nneeds more\nmore\n1: byte <\n",
+        want: "more\nneeds more\nmore\n1: byte <\n",
         ..PLAIN
     },
     Row {
         name: "a begin of comments that is cut",
-        delims: &STARRED,
-        file: b"(*a*)",
+        comments: STARS,
+        file: "(*a*)",
         blocks: &[1],
         steps: &[
             Step::More,
@@ -114,101 +109,91 @@ static CUT: [Row; 5] = [
             Step::Decide,
             Step::Taken,
         ],
-        want: b"more\nneeds more\nmore\nneeds more\n5: comment (*a*)\ntaken 5\n",
+        want: "more\nneeds more\nmore\nneeds more\n5: comment (*a*)\ntaken 5\n",
         ..PLAIN
     },
     Row {
         name: "an end-quote that is cut",
-        delims: &ANGLES,
-        file: b"<<a>>b",
+        quotes: ANGLES,
+        file: "<<a>>b",
         blocks: &[4],
         steps: &[Step::More, Step::Look, Step::More, Step::Look],
-        want: b"more\nneeds more\nmore\n5: string a\n",
+        want: "more\nneeds more\nmore\n5: string a\n",
         ..PLAIN
     },
     Row {
         name: "a string without an end",
-        file: b"\n`a",
+        file: "\n`a",
         steps: &[Step::More, Step::Skip, Step::Look, Step::More, Step::Look],
-        want: b"more\nall of the line\nneeds more\nend\nno end\n",
+        want: "more\nall of the line\nneeds more\nend\nno end\n",
         ..PLAIN
     },
     Row {
         name: "a token over several blocks",
-        file: b"`a `b' c'd",
+        file: "`a `b' c'd",
         blocks: &[1],
         steps: &[Step::Decide, Step::Taken],
-        want: b"9: string a `b' c\ntaken 9\n",
+        want: "9: string a `b' c\ntaken 9\n",
         ..PLAIN
     },
 ];
-
-#[test]
-fn delimiters_that_are_cut(rt: HostRuntime) {
-    tried(&rt, rt.alloc(), &CUT);
-}
 
 static LISTS: [Row; 6] = [
     Row {
         name: "a list is decided by the byte after a name",
-        file: b"f(g h",
+        file: "f(g h",
         steps: &[Step::More, Step::List(1), Step::List(3), Step::List(5)],
-        want: b"more\nlist\nno list\nunknown\n",
+        want: "more\nlist\nno list\nunknown\n",
         ..PLAIN
     },
     Row {
         name: "no list follows at the end of the file",
-        file: b"f",
+        file: "f",
         steps: &[Step::More, Step::List(1), Step::More, Step::List(1)],
-        want: b"more\nunknown\nend\nno list\n",
+        want: "more\nunknown\nend\nno list\n",
         ..PLAIN
     },
     Row {
         name: "a parenthesis that may begin a comment",
-        delims: &STARRED,
-        file: b"f(x",
+        comments: STARS,
+        file: "f(x",
         blocks: &[2],
         steps: &[Step::More, Step::List(1), Step::More, Step::List(1)],
-        want: b"more\nunknown\nmore\nlist\n",
+        want: "more\nunknown\nmore\nlist\n",
         ..PLAIN
     },
     Row {
         name: "a parenthesis that begins a comment",
-        delims: &STARRED,
-        file: b"f(*",
+        comments: STARS,
+        file: "f(*",
         blocks: &[2],
         steps: &[Step::More, Step::List(1), Step::More, Step::List(1)],
-        want: b"more\nunknown\nmore\nno list\n",
+        want: "more\nunknown\nmore\nno list\n",
         ..PLAIN
     },
     Row {
         name: "a parenthesis in hand decides that a list follows",
-        file: b"f(x",
+        file: "f(x",
         blocks: &[1],
         steps: &[Step::Next, Step::SeesParen, Step::Taken],
-        want: b"name f\nlist\ntaken 2\n",
+        want: "name f\nlist\ntaken 2\n",
         ..PLAIN
     },
     Row {
         name: "a parenthesis that may begin a comment needs the byte after it",
-        delims: &STARRED,
-        file: b"f(x y",
+        comments: STARS,
+        file: "f(x y",
         blocks: &[1],
         steps: &[Step::Next, Step::SeesParen, Step::Taken],
-        want: b"name f\nlist\ntaken 3\n",
+        want: "name f\nlist\ntaken 3\n",
         ..PLAIN
     },
 ];
 
-#[test]
-fn lists_over_blocks(rt: HostRuntime) {
-    tried(&rt, rt.alloc(), &LISTS);
-}
-
 static LINES: [Row; 6] = [
     Row {
         name: "a line is skipped over blocks, and none of it is kept",
-        file: b"foo bar\nbaz",
+        file: "foo bar\nbaz",
         blocks: &[3],
         steps: &[
             Step::More,
@@ -222,12 +207,12 @@ static LINES: [Row; 6] = [
             Step::Hand,
             Step::Line,
         ],
-        want: b"more\npart of the line\n[]\nmore\npart of the line\n[]\nmore\nall of the line\n[b]\nline 2\n",
+        want: "more\npart of the line\n[]\nmore\npart of the line\n[]\nmore\nall of the line\n[b]\nline 2\n",
         ..PLAIN
     },
     Row {
         name: "a last line ends with the file",
-        file: b"ab",
+        file: "ab",
         steps: &[
             Step::More,
             Step::Skip,
@@ -236,12 +221,12 @@ static LINES: [Row; 6] = [
             Step::Line,
             Step::Look,
         ],
-        want: b"more\npart of the line\nend\nall of the line\nline 1\n0: end\n",
+        want: "more\npart of the line\nend\nall of the line\nline 1\n0: end\n",
         ..PLAIN
     },
     Row {
         name: "a line is read up to the block with its newline",
-        file: b"foo\nbar\nbaz",
+        file: "foo\nbar\nbaz",
         blocks: &[2],
         steps: &[
             Step::SkipLine,
@@ -251,21 +236,21 @@ static LINES: [Row; 6] = [
             Step::Next,
             Step::Taken,
         ],
-        want: b"skipped\ntaken 4\n[]\nline 2\nname bar\ntaken 8\n",
+        want: "skipped\ntaken 4\n[]\nline 2\nname bar\ntaken 8\n",
         ..PLAIN
     },
     Row {
         name: "a reader fails within a line, which was skipped",
-        file: b"ab",
+        file: "ab",
         blocks: &[1],
         fails: true,
         steps: &[Step::SkipLine, Step::Hand, Step::Next, Step::Line],
-        want: b"read fault\n[]\nread fault\nline 1\n",
+        want: "read fault\n[]\nread fault\nline 1\n",
         ..PLAIN
     },
     Row {
         name: "a reader that fails after two bytes",
-        file: b"ab",
+        file: "ab",
         blocks: &[1],
         fails: true,
         steps: &[
@@ -277,12 +262,12 @@ static LINES: [Row; 6] = [
             Step::Look,
             Step::Taken,
         ],
-        want: b"more\nmore\nread fault\n[ab]\nread fault\nread fault\ntaken 2\n",
+        want: "more\nmore\nread fault\n[ab]\nread fault\nread fault\ntaken 2\n",
         ..PLAIN
     },
     Row {
         name: "a reader fails within a token, which stays in hand",
-        file: b"ab",
+        file: "ab",
         blocks: &[1],
         fails: true,
         steps: &[
@@ -293,30 +278,25 @@ static LINES: [Row; 6] = [
             Step::SkipLine,
             Step::Taken,
         ],
-        want: b"read fault\n[ab]\nread fault\nread fault\nread fault\ntaken 2\n",
+        want: "read fault\n[ab]\nread fault\nread fault\nread fault\ntaken 2\n",
         ..PLAIN
     },
 ];
-
-#[test]
-fn lines_and_faults_over_blocks(rt: HostRuntime) {
-    tried(&rt, rt.alloc(), &LINES);
-}
 
 // Tokens whose blocks are asked for until they are decided.
 static TOKENS: [Row; 9] = [
     Row {
         name: "a string is asked for to its end",
-        file: b"`a `b' c'd",
+        file: "`a `b' c'd",
         blocks: &[1],
         steps: &[Step::More, Step::Token, Step::Taken, Step::Look],
-        want: b"more\nasked\ntaken 9\n9: string a `b' c\n",
+        want: "more\nasked\ntaken 9\n9: string a `b' c\n",
         ..PLAIN
     },
     Row {
         name: "a string with nested quotes of two bytes",
-        delims: &ANGLES,
-        file: b"<<a<<b>>>>c",
+        quotes: ANGLES,
+        file: "<<a<<b>>>>c",
         blocks: &[1],
         steps: &[
             Step::More,
@@ -325,108 +305,112 @@ static TOKENS: [Row; 9] = [
             Step::Taken,
             Step::Look,
         ],
-        want: b"more\nasked\nasked\ntaken 10\n10: string a<<b>>\n",
+        want: "more\nasked\nasked\ntaken 10\n10: string a<<b>>\n",
         ..PLAIN
     },
     Row {
         name: "a comment is asked for to its end",
-        file: b"#ab\nc",
+        file: "#ab\nc",
         blocks: &[1],
         steps: &[Step::More, Step::Token, Step::Taken, Step::Look],
-        want: b"more\nasked\ntaken 4\n4: comment #ab\n\n",
+        want: "more\nasked\ntaken 4\n4: comment #ab\n\n",
         ..PLAIN
     },
     Row {
         name: "a comment whose end is cut",
-        delims: &STARRED,
-        file: b"(**a*)b",
+        comments: STARS,
+        file: "(**a*)b",
         blocks: &[2],
         steps: &[Step::More, Step::Token, Step::Taken, Step::Look],
-        want: b"more\nasked\ntaken 6\n6: comment (**a*)\n",
+        want: "more\nasked\ntaken 6\n6: comment (**a*)\n",
         ..PLAIN
     },
     Row {
         name: "a name is asked for up to the byte after it",
-        file: b"abc d",
+        file: "abc d",
         blocks: &[1],
         steps: &[Step::More, Step::Token, Step::Taken, Step::Look],
-        want: b"more\nasked\ntaken 4\n3: name abc\n",
+        want: "more\nasked\ntaken 4\n3: name abc\n",
         ..PLAIN
     },
     Row {
         name: "no more than a block is asked for where the first token is decided, or nothing is in hand",
-        file: b"+abc",
+        file: "+abc",
         blocks: &[1],
         steps: &[Step::Token, Step::Taken, Step::Token, Step::Taken],
-        want: b"asked\ntaken 1\nasked\ntaken 2\n",
+        want: "asked\ntaken 1\nasked\ntaken 2\n",
         ..PLAIN
     },
     Row {
         name: "a string that the file does not end",
-        file: b"`ab",
+        file: "`ab",
         blocks: &[1],
         steps: &[Step::More, Step::Token, Step::Hand, Step::Look],
-        want: b"more\nasked\n[`ab]\nno end\n",
+        want: "more\nasked\n[`ab]\nno end\n",
         ..PLAIN
     },
     Row {
         name: "a reader fails within a string, which stays in hand",
-        file: b"`ab",
+        file: "`ab",
         blocks: &[1],
         fails: true,
         steps: &[Step::More, Step::Token, Step::Hand, Step::Token],
-        want: b"more\nread fault\n[`ab]\nread fault\n",
+        want: "more\nread fault\n[`ab]\nread fault\n",
         ..PLAIN
     },
     Row {
         name: "pushed text begins a name that goes on in the file",
-        file: b"cd e",
+        file: "cd e",
         blocks: &[1],
-        steps: &[Step::Push(b"ab"), Step::Token, Step::Taken, Step::Look],
-        want: b"asked\ntaken 3\n4: name abcd\n",
+        steps: &[Step::Push("ab"), Step::Token, Step::Taken, Step::Look],
+        want: "asked\ntaken 3\n4: name abcd\n",
         ..PLAIN
     },
 ];
-
-#[test]
-fn blocks_of_one_token(rt: HostRuntime) {
-    tried(&rt, rt.alloc(), &TOKENS);
-}
 
 // Texts whose first token takes all of them but the last byte.
 static LONG: [Row; 4] = [
     Row {
         name: "a string",
-        file: b"`a `b\nc' d'+",
+        file: "`a `b\nc' d'+",
         steps: &[Step::Decide],
-        want: b"11: string a `b\nc' d\n",
+        want: "11: string a `b\nc' d\n",
         ..BLOCKED
     },
     Row {
         name: "a comment",
-        file: b"# a `b c\n+",
+        file: "# a `b c\n+",
         steps: &[Step::Decide],
-        want: b"9: comment # a `b c\n\n",
+        want: "9: comment # a `b c\n\n",
         ..BLOCKED
     },
     Row {
         name: "a name",
-        file: b"abc_123+",
+        file: "abc_123+",
         steps: &[Step::Decide],
-        want: b"7: name abc_123\n",
+        want: "7: name abc_123\n",
         ..BLOCKED
     },
     Row {
         name: "a byte",
-        file: b"+",
+        file: "+",
         steps: &[Step::Decide],
-        want: b"1: byte +\n",
+        want: "1: byte +\n",
         ..BLOCKED
     },
 ];
 
 #[test]
-fn tokens_over_blocks(rt: HostRuntime) {
+fn blocks_and_what_they_decide(rt: HostRuntime) {
+    tried(&rt, rt.alloc(), &IN_HAND);
+    tried(&rt, rt.alloc(), &CUT);
+    tried(&rt, rt.alloc(), &LISTS);
+}
+
+#[test]
+fn lines_faults_and_tokens_over_blocks(rt: HostRuntime) {
+    tried(&rt, rt.alloc(), &LINES);
+    tried(&rt, rt.alloc(), &TOKENS);
     tried(&rt, rt.alloc(), &LONG);
 }
 

@@ -8,49 +8,59 @@ use m4_input::front::{Answer, Look, Unended};
 use m4_input::look::{first_token, list_follows, plain_token};
 use std::alloc::{AllocError, Global};
 
-// A row's name, a text, and its first token.
-type Row = (&'static str, &'static [u8], &'static [u8]);
+// A row's name, a text, whether more bytes may follow, and its first token.
+type Row = (&'static str, &'static str, bool, &'static str);
 
-static STRINGS: [Row; 5] = [
-    ("a string", b"`a b'c", b"string a b of 5"),
-    ("a string within a string", b"``a'' ", b"string `a' of 5"),
-    ("an empty string", b"`'", b"string  of 2"),
-    ("a string without an end", b"`a", b"string without an end"),
-    ("an end-quote", b"'a", b"plain byte '"),
-];
-
-static OTHERS: [Row; 14] = [
-    ("an empty text", b"", b"end"),
-    ("a name", b"ab(c", b"plain name ab"),
-    ("a name at the end", b"ab", b"plain name ab"),
-    ("a name with a digit", b"f1 f", b"plain name f1"),
-    ("an underscore", b"_f", b"plain name _f"),
-    ("a digit", b"1f", b"plain byte 1"),
-    ("a parenthesis that opens", b"(a", b"plain byte ("),
-    ("a comma", b",a", b"plain byte ,"),
-    ("a blank", b" a", b"plain byte  "),
-    ("a newline", b"\na", b"plain byte \n"),
-    ("the greatest byte", b"\xff", b"plain byte \xff"),
-    ("a comment", b"# b\nc", b"comment # b\n"),
-    ("a comment that begins a word", b"#b c\n", b"comment #b c\n"),
+static ROWS: [Row; 27] = [
+    ("a string", "`a b'c", false, "string a b of 5"),
+    (
+        "a string within a string",
+        "``a'' ",
+        false,
+        "string `a' of 5",
+    ),
+    ("an empty string", "`'", false, "string  of 2"),
+    (
+        "a string without an end",
+        "`a",
+        false,
+        "string without an end",
+    ),
+    ("an end-quote", "'a", false, "plain byte '"),
+    // other tokens
+    ("an empty text", "", false, "end"),
+    ("a name", "ab(c", false, "plain name ab"),
+    ("a name at the end", "ab", false, "plain name ab"),
+    ("a name with a digit", "f1 f", false, "plain name f1"),
+    ("an underscore", "_f", false, "plain name _f"),
+    ("a digit", "1f", false, "plain byte 1"),
+    ("a parenthesis that opens", "(a", false, "plain byte ("),
+    ("a comma", ",a", false, "plain byte ,"),
+    ("a blank", " a", false, "plain byte  "),
+    ("a newline", "\na", false, "plain byte \n"),
+    ("a comment", "# b\nc", false, "comment # b\n"),
+    (
+        "a comment that begins a word",
+        "#b c\n",
+        false,
+        "comment #b c\n",
+    ),
     (
         "a comment without an end",
-        b"# b",
-        b"comment without an end",
+        "# b",
+        false,
+        "comment without an end",
     ),
-];
-
-// The same with more bytes that may follow.
-static OPEN_ROWS: [Row; 9] = [
-    ("no bytes so far", b"", b"more"),
-    ("a name at the end", b"ab", b"plain more"),
-    ("a name before a comma", b"ab,", b"plain name ab"),
-    ("a byte at the end", b"+", b"plain byte +"),
-    ("a string that has ended", b"`a b'", b"string a b of 5"),
-    ("a string without an end so far", b"`a b", b"more"),
-    ("a comment that has ended", b"# b\n", b"comment # b\n"),
-    ("a comment without an end so far", b"# b", b"more"),
-    ("a blank", b" ", b"plain byte  "),
+    // the same with more bytes that may follow
+    ("no bytes so far", "", true, "more"),
+    ("a name at the end", "ab", true, "plain more"),
+    ("a name before a comma", "ab,", true, "plain name ab"),
+    ("a byte at the end", "+", true, "plain byte +"),
+    ("a string that has ended", "`a b'", true, "string a b of 5"),
+    ("a string without an end so far", "`a b", true, "more"),
+    ("a comment that has ended", "# b\n", true, "comment # b\n"),
+    ("a comment without an end so far", "# b", true, "more"),
+    ("a blank", " ", true, "plain byte  "),
 ];
 
 // Adds a part of the text: so many bytes from a place on.
@@ -96,24 +106,13 @@ fn look_of(alloc: Global, text: &[u8], may_follow: bool) -> Result<Vec<u8>, Allo
 }
 
 #[test]
-fn strings(rt: HostRuntime) {
-    for &(name, text, want) in &STRINGS {
-        shows(&rt, name, want, look_of(rt.alloc(), text, false));
+fn first_tokens(rt: HostRuntime) {
+    for &(name, text, may_follow, want) in &ROWS {
+        let got = look_of(rt.alloc(), text.as_bytes(), may_follow);
+        shows(&rt, name, want.as_bytes(), got);
     }
-}
-
-#[test]
-fn other_tokens(rt: HostRuntime) {
-    for &(name, text, want) in &OTHERS {
-        shows(&rt, name, want, look_of(rt.alloc(), text, false));
-    }
-}
-
-#[test]
-fn tokens_that_more_may_follow(rt: HostRuntime) {
-    for &(name, text, want) in &OPEN_ROWS {
-        shows(&rt, name, want, look_of(rt.alloc(), text, true));
-    }
+    let got = look_of(rt.alloc(), b"\xff", false);
+    shows(&rt, "the greatest byte", b"plain byte \xff", got);
 }
 
 // A row's name, a text, whether a list follows if it is complete, and if more bytes may follow.

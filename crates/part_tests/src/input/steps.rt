@@ -2,7 +2,7 @@
 
 ghost use Rattle.std.specs.Prelude.{◌≡◌, None};
 
-use super::{BLOCKS, USUAL, describe, describe_fault, push};
+use super::{BLOCKS, describe, describe_fault, push};
 use crate::given::{Given, describe_definition, made};
 use crate::report::{Report, repeated};
 use crate::shows::shows;
@@ -47,7 +47,7 @@ pub enum Step {
     /// Removes so many bytes in hand, or all if there are fewer.
     Take(usize),
     /// Pushes a text, so many letters, or a definition, where no definition is.
-    Push(&'static [u8]),
+    Push(&'static str),
     PushMany(usize),
     PushDefinition(Given),
     /// The bytes in hand, the line, the file's name, and how many bytes the reader returned.
@@ -57,27 +57,32 @@ pub enum Step {
     Taken,
 }
 
+/// Two delimiters, the first and the last.
+pub type Pair = (&'static str, &'static str);
+
 /// A file a.m4, the numbers of bytes that its reader returns at a time, and whether it fails at the end; steps
 /// and their results.
 pub struct Row {
     pub name: &'static str,
-    pub delims: &'static Delims<'static>,
-    pub file: &'static [u8],
+    pub quotes: Pair,
+    pub comments: Pair,
+    pub file: &'static str,
     pub blocks: &'static [usize],
     pub fails: bool,
     pub steps: &'static [Step],
-    pub want: &'static [u8],
+    pub want: &'static str,
 }
 
 /// A row with the usual delimiters, whose file is read in one block.
 pub const PLAIN: Row = Row {
     name: "",
-    delims: &USUAL,
-    file: b"",
+    quotes: ("`", "'"),
+    comments: ("#", "\n"),
+    file: "",
     blocks: &[4096],
     fails: false,
     steps: &[],
-    want: b"",
+    want: "",
 };
 
 /// The same, but the file is read in blocks of each size.
@@ -87,16 +92,13 @@ pub const BLOCKED: Row = Row {
 };
 
 /// Quotes of two bytes each.
-pub const ANGLES: Delims<'static> = Delims {
-    quotes: (b"<<", b">>"),
-    comments: (b"#", b"\n"),
-};
+pub const ANGLES: Pair = ("<<", ">>");
 
 /// Comments whose begin begins with a parenthesis.
-pub const STARRED: Delims<'static> = Delims {
-    quotes: (b"`", b"'"),
-    comments: (b"(*", b"*)"),
-};
+pub const STARS: Pair = ("(*", "*)");
+
+/// Quotes or comments that are disabled.
+pub const NONE: Pair = ("", "");
 
 // More tokens than any row has.
 const MOST: usize = 20;
@@ -352,7 +354,7 @@ fn answer(
         Step::SkipLine => add_skipped(input.skip_line(reader), report),
         Step::TakeDefinition => take_definition(input, report),
         Step::Take(n) => take_front(input, n),
-        Step::Push(text) => put(alloc, input, text, report),
+        Step::Push(text) => put(alloc, input, text.as_bytes(), report),
         Step::PushMany(count) => put_many(alloc, input, count, report),
         Step::PushDefinition(given) => put_definition(alloc, input, given, report),
         Step::Hand => describe_hand(input, report),
@@ -377,10 +379,14 @@ fn put_definition(alloc: Global, input: &mut Input, given: Given, report: &mut R
 
 // Adds the results of a row's steps.
 fn see(alloc: Global, row: &Row, block: usize, name: Bytes, report: &mut Report) {
-    let mut reader = MemSource::new(row.file, block.max(1), row.fails);
+    let mut reader = MemSource::new(row.file.as_bytes(), block.max(1), row.fails);
     let mut input = Input::file(alloc, name);
+    let delims = Delims {
+        quotes: (row.quotes.0.as_bytes(), row.quotes.1.as_bytes()),
+        comments: (row.comments.0.as_bytes(), row.comments.1.as_bytes()),
+    };
     for step in row.steps {
-        answer(alloc, &mut input, &mut reader, row.delims, *step, report);
+        answer(alloc, &mut input, &mut reader, &delims, *step, report);
     }
 }
 
@@ -391,7 +397,7 @@ fn tried_in(rt: &impl Abort, alloc: Global, row: &Row, block: usize) {
         Ok(name) => see(alloc, row, block, name, &mut report),
         Err(AllocError) => report.refuse(),
     }
-    shows(rt, row.name, row.want, report.text());
+    shows(rt, row.name, row.want.as_bytes(), report.text());
 }
 
 /// Tries each row with each number of bytes that its reader returns at a time.

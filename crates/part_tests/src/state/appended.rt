@@ -8,31 +8,31 @@ use m4_state::bytes::Bytes;
 use std::alloc::{AllocError, Global};
 
 // A row's name, a text, how many of its bytes are appended, and what is then after `<`.
-type Row = (&'static str, &'static [u8], usize, &'static [u8]);
+type Row = (&'static str, &'static str, usize, &'static str);
 
 static ROWS: [Row; 8] = [
-    ("nothing of nothing", b"", 0, b"<"),
-    ("one byte", b"a", 1, b"<a"),
-    ("two bytes of three", b"abc", 2, b"<ab"),
-    ("no byte of sixteen", b"abcdefghijklmnop", 0, b"<"),
-    ("some of sixteen", b"abcdefghijklmnop", 3, b"<abc"),
+    ("nothing of nothing", "", 0, "<"),
+    ("one byte", "a", 1, "<a"),
+    ("two bytes of three", "abc", 2, "<ab"),
+    ("no byte of sixteen", "abcdefghijklmnop", 0, "<"),
+    ("some of sixteen", "abcdefghijklmnop", 3, "<abc"),
     (
         "all of sixteen",
-        b"abcdefghijklmnop",
+        "abcdefghijklmnop",
         16,
-        b"<abcdefghijklmnop",
+        "<abcdefghijklmnop",
     ),
     (
         "seventeen of twenty",
-        b"abcdefghijklmnopqrst",
+        "abcdefghijklmnopqrst",
         17,
-        b"<abcdefghijklmnopq",
+        "<abcdefghijklmnopq",
     ),
     (
         "fifteen of fifteen",
-        b"abcdefghijklmno",
+        "abcdefghijklmno",
         15,
-        b"<abcdefghijklmno",
+        "<abcdefghijklmno",
     ),
 ];
 
@@ -61,6 +61,7 @@ fn exchanged(alloc: Global) -> Result<Vec<u8>, AllocError> {
 #[test]
 fn first_bytes_are_appended(rt: HostRuntime) {
     for &(name, text, len, want) in &ROWS {
+        let (text, want) = (text.as_bytes(), want.as_bytes());
         shows(&rt, name, want, with_front(rt.alloc(), text, len));
         shows(&rt, name, want, with_text(rt.alloc(), text, len));
     }

@@ -13,49 +13,45 @@ use std::alloc::{AllocError, Global};
 // A row's name, the pairs of strings that set both pairs, in order, and both pairs.
 type Row = (
     &'static str,
-    &'static [(&'static [u8], &'static [u8])],
-    &'static [u8],
+    &'static [(&'static str, &'static str)],
+    &'static str,
 );
 
 static ROWS: [Row; 6] = [
-    ("an empty state", &[], b"quotes ` '\ncomments # \n"),
+    ("an empty state", &[], "quotes ` '\ncomments # \n"),
     (
         "both strings",
-        &[(b"[[", b"]]")],
-        b"quotes [[ ]]\ncomments [[ ]]",
+        &[("[[", "]]")],
+        "quotes [[ ]]\ncomments [[ ]]",
     ),
     (
         "no end for the quotes",
-        &[(b"[[", b"]]"), (b"<", b"")],
-        b"quotes < '\ncomments < \n",
+        &[("[[", "]]"), ("<", "")],
+        "quotes < '\ncomments < \n",
     ),
     (
         "no end for the comments",
-        &[(b"//", b"")],
-        b"quotes // '\ncomments // \n",
+        &[("//", "")],
+        "quotes // '\ncomments // \n",
     ),
-    (
-        "no begin",
-        &[(b"<", b""), (b"", b"x")],
-        b"quotes  \ncomments  ",
-    ),
+    ("no begin", &[("<", ""), ("", "x")], "quotes  \ncomments  "),
     (
         "a begin again",
-        &[(b"", b""), (b"[", b"]")],
-        b"quotes [ ]\ncomments [ ]",
+        &[("", ""), ("[", "]")],
+        "quotes [ ]\ncomments [ ]",
     ),
 ];
 
 // Returns a pair of strings.
-fn pair(alloc: Global, begin: &[u8], end: &[u8]) -> Result<(Bytes, Bytes), AllocError> {
+fn pair(alloc: Global, begin: &str, end: &str) -> Result<(Bytes, Bytes), AllocError> {
     Ok((
-        Bytes::from_slice(alloc, begin)?,
-        Bytes::from_slice(alloc, end)?,
+        Bytes::from_slice(alloc, begin.as_bytes())?,
+        Bytes::from_slice(alloc, end.as_bytes())?,
     ))
 }
 
 // Sets the quotes and the comments to the same strings.
-fn set(alloc: Global, state: &mut State, begin: &[u8], end: &[u8]) -> Result<(), StateFault> {
+fn set(alloc: Global, state: &mut State, begin: &str, end: &str) -> Result<(), StateFault> {
     let (quote, unquote) = pair(alloc, begin, end)?;
     state.set_quotes(quote, unquote)?;
     let (comment, newline) = pair(alloc, begin, end)?;
@@ -72,7 +68,7 @@ fn describe(name: &[u8], pair: (&[u8], &[u8]), report: &mut Report) {
 }
 
 // Reports a row.
-fn report_of(alloc: Global, pairs: &[(&[u8], &[u8])]) -> Result<Vec<u8>, AllocError> {
+fn report_of(alloc: Global, pairs: &[(&str, &str)]) -> Result<Vec<u8>, AllocError> {
     let mut report = Report::new(alloc);
     let mut state = empty_state(alloc)?;
     for (begin, end) in pairs {
@@ -88,6 +84,6 @@ fn report_of(alloc: Global, pairs: &[(&[u8], &[u8])]) -> Result<Vec<u8>, AllocEr
 #[test]
 fn delimiters_are_chosen(rt: HostRuntime) {
     for &(name, pairs, want) in &ROWS {
-        shows(&rt, name, want, report_of(rt.alloc(), pairs));
+        shows(&rt, name, want.as_bytes(), report_of(rt.alloc(), pairs));
     }
 }

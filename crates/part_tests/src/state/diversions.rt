@@ -11,7 +11,7 @@ use std::alloc::{AllocError, Global};
 #[derive(Clone, Copy)]
 enum Step {
     // Diverts to a number, and adds a text there.
-    Divert(i32, &'static [u8]),
+    Divert(i32, &'static str),
     // Reports the number of the current diversion.
     Current,
     // Reports the text of a number.
@@ -25,35 +25,35 @@ enum Step {
 }
 
 // A row's name, the steps from an empty state, and the results, a line for each.
-static ROWS: [(&str, &[Step], &[u8]); 4] = [
+static ROWS: [(&str, &[Step], &str); 10] = [
     (
         "an empty state",
         &[Step::Current, Step::Above(0), Step::TakeLeast],
-        b"0\nnone\nnone\n",
+        "0\nnone\nnone\n",
     ),
     (
         "the number that was diverted to last is the current one",
         &[
-            Step::Divert(7, b"b"),
+            Step::Divert(7, "b"),
             Step::Current,
-            Step::Divert(-1, b"x"),
+            Step::Divert(-1, "x"),
             Step::Current,
-            Step::Divert(0, b"y"),
+            Step::Divert(0, "y"),
             Step::Current,
-            Step::Divert(5, b"a"),
+            Step::Divert(5, "a"),
             Step::Current,
         ],
-        b"7\n-1\n0\n5\n",
+        "7\n-1\n0\n5\n",
     ),
     (
         "texts by their numbers",
         &[
-            Step::Divert(7, b"b"),
-            Step::Divert(-1, b"x"),
-            Step::Divert(0, b"y"),
-            Step::Divert(5, b"a"),
-            Step::Divert(7, b"c"),
-            Step::Divert(3, b""),
+            Step::Divert(7, "b"),
+            Step::Divert(-1, "x"),
+            Step::Divert(0, "y"),
+            Step::Divert(5, "a"),
+            Step::Divert(7, "c"),
+            Step::Divert(3, ""),
             Step::Text(7),
             Step::Text(5),
             Step::Text(3),
@@ -64,86 +64,84 @@ static ROWS: [(&str, &[Step], &[u8]); 4] = [
             Step::Above(5),
             Step::Above(7),
         ],
-        b"bc\na\n\n\n\n5\n5\n7\nnone\n",
+        "bc\na\n\n\n\n5\n5\n7\nnone\n",
     ),
     (
         "diversions are taken by rising number",
         &[
-            Step::Divert(7, b"b"),
-            Step::Divert(5, b"a"),
-            Step::Divert(7, b"c"),
+            Step::Divert(7, "b"),
+            Step::Divert(5, "a"),
+            Step::Divert(7, "c"),
             Step::TakeLeast,
             Step::Above(0),
             Step::TakeLeast,
             Step::TakeLeast,
         ],
-        b"5 a\n7\n7 bc\nnone\n",
+        "5 a\n7\n7 bc\nnone\n",
     ),
-];
-
-static BROUGHT_BACK: [(&str, &[Step], &[u8]); 6] = [
+    // texts that are brought back
     (
         "to the output",
         &[
-            Step::Divert(7, b"b"),
-            Step::Divert(0, b""),
+            Step::Divert(7, "b"),
+            Step::Divert(0, ""),
             Step::Undivert(7),
             Step::Text(7),
             Step::Above(0),
             Step::Undivert(7),
         ],
-        b"b\n\nnone\nnone\n",
+        "b\n\nnone\nnone\n",
     ),
     (
         "to another diversion",
         &[
-            Step::Divert(7, b"b"),
-            Step::Divert(5, b"a"),
+            Step::Divert(7, "b"),
+            Step::Divert(5, "a"),
             Step::Undivert(7),
             Step::Text(5),
             Step::Text(7),
             Step::Above(5),
         ],
-        b"none\nab\n\nnone\n",
+        "none\nab\n\nnone\n",
     ),
     (
         "to another diversion that holds nothing yet",
         &[
-            Step::Divert(7, b"b"),
-            Step::Divert(9, b""),
+            Step::Divert(7, "b"),
+            Step::Divert(9, ""),
             Step::Undivert(7),
             Step::Text(9),
             Step::Above(0),
         ],
-        b"none\nb\n9\n",
+        "none\nb\n9\n",
     ),
     (
         "to nowhere",
         &[
-            Step::Divert(7, b"b"),
-            Step::Divert(-1, b""),
+            Step::Divert(7, "b"),
+            Step::Divert(-1, ""),
             Step::Undivert(7),
             Step::Text(7),
             Step::Above(0),
         ],
-        b"none\n\nnone\n",
+        "none\n\nnone\n",
     ),
     (
         "not the current one",
-        &[Step::Divert(7, b"b"), Step::Undivert(7), Step::Text(7)],
-        b"none\nb\n",
+        &[Step::Divert(7, "b"), Step::Undivert(7), Step::Text(7)],
+        "none\nb\n",
     ),
     (
         "none that holds no text",
         &[
-            Step::Divert(7, b"b"),
-            Step::Divert(0, b""),
+            Step::Divert(7, "b"),
+            Step::Divert(0, ""),
             Step::Undivert(0),
             Step::Undivert(-7),
             Step::Undivert(6),
             Step::Text(7),
         ],
-        b"none\nnone\nnone\nb\n",
+        "none\nnone\nnone\nb\n",
     ),
 ];
 
@@ -187,7 +185,7 @@ fn divert(state: &mut State, number: i32, text: &[u8], report: &mut Report) {
 // Performs a step.
 fn do_step(state: &mut State, step: Step, report: &mut Report) {
     match step {
-        Step::Divert(number, text) => return divert(state, number, text, report),
+        Step::Divert(number, text) => return divert(state, number, text.as_bytes(), report),
         Step::Current => describe(Some(state.current()), report),
         Step::Text(number) => report.add(state.diversion(number)),
         Step::Above(number) => describe(state.next_diversion(number), report),
@@ -208,15 +206,8 @@ fn report_of(alloc: Global, steps: &[Step]) -> Result<Vec<u8>, AllocError> {
 }
 
 #[test]
-fn texts_are_diverted(rt: HostRuntime) {
+fn texts_are_diverted_and_brought_back(rt: HostRuntime) {
     for &(name, steps, want) in &ROWS {
-        shows(&rt, name, want, report_of(rt.alloc(), steps));
-    }
-}
-
-#[test]
-fn texts_are_brought_back(rt: HostRuntime) {
-    for row in &BROUGHT_BACK {
-        shows(&rt, row.0, row.2, report_of(rt.alloc(), row.1));
+        shows(&rt, name, want.as_bytes(), report_of(rt.alloc(), steps));
     }
 }

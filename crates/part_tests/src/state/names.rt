@@ -1,7 +1,7 @@
 //! Names and their definitions: changes of a state, and what it then has under each name.
 //! Manual: "Defining a macro", "Deleting a macro", "Temporarily redefining macros".
 
-use crate::given::{Given, describe_definition, made};
+use crate::given::{Given, describe_definition, made, start};
 use crate::report::Report;
 use crate::shows::shows;
 use m4_state::definition::Def;
@@ -12,112 +12,52 @@ use std::alloc::{AllocError, Global};
 // A change of a state.
 #[derive(Clone, Copy)]
 enum Step {
-    Push(&'static [u8], Given),
+    Push(&'static str, Given),
+    // Pushes a name of this byte.
+    PushByte(u8, Given),
     // Pushes a text that comes directly after its name: both as one slice, and the name's length.
-    PushText(&'static [u8], usize),
-    Define(&'static [u8], Given),
-    Pop(&'static [u8]),
-    Undefine(&'static [u8]),
+    PushText(&'static str, usize),
+    Define(&'static str, Given),
+    Pop(&'static str),
+    Undefine(&'static str),
     // Reports the definitions of a name.
-    Look(&'static [u8]),
+    Look(&'static str),
     // Reports each name with its definitions, as one call returns them.
     LookAtAll,
 }
 
-// A row's name, whether the state is a fresh one or empty, the steps, and a report: for each name its
+// A row's name, the steps from an empty state, and a report: for each name its
 // definitions, the oldest first, and the length of the newest.
-type Row = (&'static str, bool, &'static [Step], &'static [u8]);
+type Row = (&'static str, &'static [Step], &'static str);
 
-static ROWS: [Row; 9] = [
-    ("an empty state", false, &[Step::Look(b"a")], b"a\n"),
-    (
-        "a fresh state has its builtins, and two names without text",
-        true,
-        &[],
-        b"__file__, builtin __file__; 8\n\
-          __gnu__, text ; 0\n\
-          __line__, builtin __line__; 8\n\
-          __unix__, text ; 0\n\
-          builtin, builtin builtin; 7\n\
-          changecom, builtin changecom; 9\n\
-          changequote, builtin changequote; 11\n\
-          decr, builtin decr; 4\n\
-          define, builtin define; 6\n\
-          defn, builtin defn; 4\n\
-          divert, builtin divert; 6\n\
-          divnum, builtin divnum; 6\n\
-          dnl, builtin dnl; 3\n\
-          dumpdef, builtin dumpdef; 7\n\
-          errprint, builtin errprint; 8\n\
-          eval, builtin eval; 4\n\
-          ifdef, builtin ifdef; 5\n\
-          ifelse, builtin ifelse; 6\n\
-          incr, builtin incr; 4\n\
-          index, builtin index; 5\n\
-          indir, builtin indir; 5\n\
-          len, builtin len; 3\n\
-          m4exit, builtin m4exit; 6\n\
-          m4wrap, builtin m4wrap; 6\n\
-          popdef, builtin popdef; 6\n\
-          pushdef, builtin pushdef; 7\n\
-          shift, builtin shift; 5\n\
-          substr, builtin substr; 6\n\
-          translit, builtin translit; 8\n\
-          undefine, builtin undefine; 8\n\
-          undivert, builtin undivert; 8\n",
-    ),
-    (
-        "names are in byte order, with both definitions",
-        false,
-        &[
-            Step::Push(b"b", Given::Text(b"1")),
-            Step::Push(b"b", Given::Text(b"2")),
-            Step::Push(b"\xff", Given::Text(b"1")),
-            Step::Push(b"\xff", Given::Text(b"2")),
-            Step::Push(b"", Given::Text(b"1")),
-            Step::Push(b"", Given::Text(b"2")),
-            Step::Push(b"ab", Given::Text(b"1")),
-            Step::Push(b"ab", Given::Text(b"2")),
-            Step::Push(b"a", Given::Text(b"1")),
-            Step::Push(b"a", Given::Text(b"2")),
-            Step::Push(b"\x00", Given::Text(b"1")),
-            Step::Push(b"\x00", Given::Text(b"2")),
-        ],
-        b", text 1, text 2; 1\n\
-          \x00, text 1, text 2; 1\n\
-          a, text 1, text 2; 1\n\
-          ab, text 1, text 2; 1\n\
-          b, text 1, text 2; 1\n\
-          \xff, text 1, text 2; 1\n",
-    ),
+static ROWS: [Row; 7] = [
+    ("an empty state", &[Step::Look("a")], "a\n"),
     (
         "a name that is defined again has its place in the order again",
-        false,
         &[
-            Step::Define(b"b", Given::Text(b"1")),
-            Step::Define(b"a", Given::Text(b"2")),
-            Step::Define(b"c", Given::Text(b"3")),
-            Step::Undefine(b"b"),
-            Step::Define(b"b", Given::Text(b"4")),
+            Step::Define("b", Given::Text("1")),
+            Step::Define("a", Given::Text("2")),
+            Step::Define("c", Given::Text("3")),
+            Step::Undefine("b"),
+            Step::Define("b", Given::Text("4")),
         ],
-        b"a, text 2; 1\nb, text 4; 1\nc, text 3; 1\n",
+        "a, text 2; 1\nb, text 4; 1\nc, text 3; 1\n",
     ),
     (
         "one call returns all names with their definitions, in byte order",
-        false,
         &[
             Step::LookAtAll,
-            Step::Push(b"b", Given::Text(b"old")),
-            Step::Push(b"", Given::Named(b"dnl")),
-            Step::Push(b"ba", Given::Text(b"")),
-            Step::Push(b"b", Given::Named(b"format")),
+            Step::Push("b", Given::Text("old")),
+            Step::Push("", Given::Named("dnl")),
+            Step::Push("ba", Given::Text("")),
+            Step::Push("b", Given::Named("format")),
             Step::LookAtAll,
-            Step::Pop(b"ba"),
-            Step::Undefine(b""),
-            Step::Pop(b"b"),
+            Step::Pop("ba"),
+            Step::Undefine(""),
+            Step::Pop("b"),
             Step::LookAtAll,
         ],
-        b", builtin dnl\n\
+        ", builtin dnl\n\
           b, text old, placeholder format\n\
           ba, text \n\
           b, text old\n\
@@ -125,16 +65,15 @@ static ROWS: [Row; 9] = [
     ),
     (
         "a text is pushed with its name before it, short or long",
-        false,
         &[
-            Step::PushText(b"xa text of thirty bytes or more", 1),
-            Step::PushText(b"xnew", 1),
-            Step::PushText(b"", 0),
-            Step::PushText(b"a name of twenty-three.text", 23),
-            Step::PushText(b"a name of twenty-two...", 22),
-            Step::PushText(b"no text", 7),
+            Step::PushText("xa text of thirty bytes or more", 1),
+            Step::PushText("xnew", 1),
+            Step::PushText("", 0),
+            Step::PushText("a name of twenty-three.text", 23),
+            Step::PushText("a name of twenty-two...", 22),
+            Step::PushText("no text", 7),
         ],
-        b", text ; 0\n\
+        ", text ; 0\n\
           a name of twenty-three., text text; 4\n\
           a name of twenty-two.., text .; 1\n\
           no text, text ; 0\n\
@@ -142,43 +81,40 @@ static ROWS: [Row; 9] = [
     ),
     (
         "the newest definition is on top",
-        false,
         &[
-            Step::Push(b"x", Given::Text(b"old")),
-            Step::Push(b"x", Given::Named(b"format")),
+            Step::Push("x", Given::Text("old")),
+            Step::Push("x", Given::Named("format")),
         ],
-        b"x, text old, placeholder format; 6\n",
+        "x, text old, placeholder format; 6\n",
     ),
     (
         "the newest definition is taken away, and the name with the last one",
-        false,
         &[
-            Step::Push(b"x", Given::Text(b"old")),
-            Step::Push(b"x", Given::Text(b"new")),
-            Step::Push(b"y", Given::Text(b"1")),
-            Step::Pop(b"x"),
-            Step::Look(b"x"),
-            Step::Pop(b"x"),
-            Step::Pop(b"x"),
-            Step::Pop(b"missing"),
-            Step::Look(b"x"),
+            Step::Push("x", Given::Text("old")),
+            Step::Push("x", Given::Text("new")),
+            Step::Push("y", Given::Text("1")),
+            Step::Pop("x"),
+            Step::Look("x"),
+            Step::Pop("x"),
+            Step::Pop("x"),
+            Step::Pop("missing"),
+            Step::Look("x"),
         ],
-        b"x, text old; 3\nx\ny, text 1; 1\n",
+        "x, text old; 3\nx\ny, text 1; 1\n",
     ),
     (
         "a definition replaces the newest one, an undefinition takes all away",
-        false,
         &[
-            Step::Push(b"x", Given::Text(b"old")),
-            Step::Push(b"x", Given::Text(b"new")),
-            Step::Define(b"x", Given::Text(b"newest")),
-            Step::Define(b"a", Given::Named(b"dnl")),
-            Step::Look(b"x"),
-            Step::Undefine(b"x"),
-            Step::Undefine(b"y"),
-            Step::Look(b"x"),
+            Step::Push("x", Given::Text("old")),
+            Step::Push("x", Given::Text("new")),
+            Step::Define("x", Given::Text("newest")),
+            Step::Define("a", Given::Named("dnl")),
+            Step::Look("x"),
+            Step::Undefine("x"),
+            Step::Undefine("y"),
+            Step::Look("x"),
         ],
-        b"x, text old, text newest; 6\nx\na, builtin dnl; 3\n",
+        "x, text old, text newest; 6\nx\na, builtin dnl; 3\n",
     ),
 ];
 
@@ -240,19 +176,20 @@ fn define(
 // Performs a step.
 fn do_step(alloc: Global, state: &mut State, step: Step, report: &mut Report) {
     let done = match step {
-        Step::Push(name, given) => define(alloc, state, true, name, given),
-        Step::PushText(both, middle) => state.push_text(both, middle.min(both.len())),
-        Step::Define(name, given) => define(alloc, state, false, name, given),
+        Step::Push(name, given) => define(alloc, state, true, name.as_bytes(), given),
+        Step::PushByte(byte, given) => define(alloc, state, true, &[byte], given),
+        Step::PushText(both, middle) => state.push_text(both.as_bytes(), middle.min(both.len())),
+        Step::Define(name, given) => define(alloc, state, false, name.as_bytes(), given),
         Step::Pop(name) => {
-            state.pop(name);
+            state.pop(name.as_bytes());
             Ok(())
         }
         Step::Undefine(name) => {
-            state.undefine(name);
+            state.undefine(name.as_bytes());
             Ok(())
         }
         Step::Look(name) => {
-            look(state, name, report);
+            look(state, name.as_bytes(), report);
             Ok(())
         }
         Step::LookAtAll => {
@@ -277,15 +214,6 @@ fn look_at_all(state: &State, report: &mut Report) {
     }
 }
 
-// Returns a state to start with.
-fn start(alloc: Global, fresh: bool) -> Result<State, StateFault> {
-    if fresh {
-        State::fresh(alloc, false)
-    } else {
-        State::empty(alloc)
-    }
-}
-
 // Reports a row.
 fn report_of(alloc: Global, fresh: bool, steps: &[Step]) -> Result<Vec<u8>, AllocError> {
     let mut report = Report::new(alloc);
@@ -303,7 +231,82 @@ fn report_of(alloc: Global, fresh: bool, steps: &[Step]) -> Result<Vec<u8>, Allo
 
 #[test]
 fn names_and_their_definitions(rt: HostRuntime) {
-    for &(name, fresh, steps, want) in &ROWS {
-        shows(&rt, name, want, report_of(rt.alloc(), fresh, steps));
+    for &(name, steps, want) in &ROWS {
+        let got = report_of(rt.alloc(), false, steps);
+        shows(&rt, name, want.as_bytes(), got);
     }
+}
+
+// What a fresh state has.
+const FRESH: &[u8] = b"__file__, builtin __file__; 8\n\
+      __gnu__, text ; 0\n\
+      __line__, builtin __line__; 8\n\
+      __unix__, text ; 0\n\
+      builtin, builtin builtin; 7\n\
+      changecom, builtin changecom; 9\n\
+      changequote, builtin changequote; 11\n\
+      decr, builtin decr; 4\n\
+      define, builtin define; 6\n\
+      defn, builtin defn; 4\n\
+      divert, builtin divert; 6\n\
+      divnum, builtin divnum; 6\n\
+      dnl, builtin dnl; 3\n\
+      dumpdef, builtin dumpdef; 7\n\
+      errprint, builtin errprint; 8\n\
+      eval, builtin eval; 4\n\
+      ifdef, builtin ifdef; 5\n\
+      ifelse, builtin ifelse; 6\n\
+      incr, builtin incr; 4\n\
+      index, builtin index; 5\n\
+      indir, builtin indir; 5\n\
+      len, builtin len; 3\n\
+      m4exit, builtin m4exit; 6\n\
+      m4wrap, builtin m4wrap; 6\n\
+      popdef, builtin popdef; 6\n\
+      pushdef, builtin pushdef; 7\n\
+      shift, builtin shift; 5\n\
+      substr, builtin substr; 6\n\
+      translit, builtin translit; 8\n\
+      undefine, builtin undefine; 8\n\
+      undivert, builtin undivert; 8\n";
+
+#[test]
+fn a_fresh_state_has_its_builtins(rt: HostRuntime) {
+    shows(
+        &rt,
+        "a fresh state has its builtins, and two names without text",
+        FRESH,
+        report_of(rt.alloc(), true, &[]),
+    );
+}
+
+// Names of the least and the greatest byte among others, each with both definitions.
+static ORDERED: [Step; 12] = [
+    Step::Push("b", Given::Text("1")),
+    Step::Push("b", Given::Text("2")),
+    Step::PushByte(255, Given::Text("1")),
+    Step::PushByte(255, Given::Text("2")),
+    Step::Push("", Given::Text("1")),
+    Step::Push("", Given::Text("2")),
+    Step::Push("ab", Given::Text("1")),
+    Step::Push("ab", Given::Text("2")),
+    Step::Push("a", Given::Text("1")),
+    Step::Push("a", Given::Text("2")),
+    Step::Push("\x00", Given::Text("1")),
+    Step::Push("\x00", Given::Text("2")),
+];
+
+#[test]
+fn names_are_in_byte_order(rt: HostRuntime) {
+    shows(
+        &rt,
+        "names are in byte order, with both definitions",
+        b", text 1, text 2; 1\n\
+          \x00, text 1, text 2; 1\n\
+          a, text 1, text 2; 1\n\
+          ab, text 1, text 2; 1\n\
+          b, text 1, text 2; 1\n\
+          \xff, text 1, text 2; 1\n",
+        report_of(rt.alloc(), false, &ORDERED),
+    );
 }
