@@ -1,7 +1,7 @@
 //! Expressions: their values, also of texts that are deeply nested, numbers in a radix, and white space.
 //! Manual: "Evaluating integer expressions".
 
-use crate::report::{Report, joined, repeated};
+use crate::report::{Report, repeated};
 use crate::shows::shows;
 use m4_eval::blank::{is_blank, is_space, spaces_len};
 use m4_eval::digits::in_radix;
@@ -91,13 +91,10 @@ fn value_seen(alloc: Global, text: &[u8]) -> Result<Vec<u8>, AllocError> {
 
 // Returns the value of a text between many bytes.
 fn nested_seen(alloc: Global, row: &Nested) -> Result<Vec<u8>, AllocError> {
-    let first = repeated(alloc, row.1.0, row.1.1)?;
-    let last = repeated(alloc, row.3.0, row.3.1)?;
-    let text = joined(
-        alloc,
-        &[first.as_slice(), row.2.as_bytes(), last.as_slice()],
-    )?;
-    value_seen(alloc, text.as_slice())
+    let mut text = repeated(alloc, row.1.0, row.1.1)?;
+    text.extend_from_slice(row.2.as_bytes())?;
+    text.resize(text.len().saturating_add(row.3.1), row.3.0)?;
+    value_seen(alloc, &text)
 }
 
 // Reports a radix, if it is one, and a value written in it.
@@ -154,6 +151,10 @@ fn white_space(rt: HostRuntime) {
         let got = spaces_seen(rt.alloc(), row.1.as_bytes());
         shows(&rt, row.0, row.2.as_bytes(), got);
     }
+}
+
+#[test]
+fn one_byte_of_white_space_and_the_usual_radix(rt: HostRuntime) {
     assert!(rt; is_space(b'\r'));
     assert!(rt; !is_space(b'x'));
     assert!(rt; Radix::decimal().value() == 10);

@@ -13,7 +13,9 @@ use crate::report::{Report, joined, printed, repeated};
 use m4_frozen::fault::{FrozenFault, WriteFault};
 use m4_frozen::loading::Loaded;
 use m4_frozen::reading::read_frozen;
+use m4_frozen::writer::write_frozen;
 use m4_state::memory::{MemSink, MemSource};
+use m4_state::state::State;
 use std::alloc::{AllocError, Global};
 
 // How many bytes a device reads or writes at a time.
@@ -70,4 +72,10 @@ fn describe_written(answer: Result<(), WriteFault>, writer: &MemSink, report: &m
         Err(WriteFault::Write) => b"; write fault\n",
         Err(WriteFault::OutOfMemory) => b"; out of memory\n",
     });
+}
+
+// Adds the bytes of the canonical text that a writer receives.
+fn write_canonical(state: &State, writer: &mut MemSink, report: &mut Report) {
+    let answer = write_frozen(state, writer);
+    describe_written(answer, writer, report);
 }

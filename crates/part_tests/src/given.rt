@@ -58,3 +58,11 @@ pub fn start(alloc: Global, fresh: bool) -> Result<State, StateFault> {
         State::empty(alloc)
     }
 }
+
+/// Returns a pair of strings.
+pub fn pair(alloc: Global, begin: &str, end: &str) -> Result<(Bytes, Bytes), AllocError> {
+    Ok((
+        Bytes::from_slice(alloc, begin.as_bytes())?,
+        Bytes::from_slice(alloc, end.as_bytes())?,
+    ))
+}

@@ -94,12 +94,7 @@ fn describe_parts(head: &Head, definition: &Def, report: &mut Report) {
     describe_definition(definition, report);
 }
 
-// Returns a buffer with contents that are to be discarded.
-fn used(alloc: Global) -> Result<Vec<u8>, AllocError> {
-    Vec::from_slice(alloc, b"what was there before")
-}
-
-// Makes a head.
+// Makes a head, over a buffer whose contents are to be discarded.
 fn head_of(
     alloc: Global,
     name: &str,
@@ -108,20 +103,12 @@ fn head_of(
 ) -> Result<Head, AllocError> {
     let definition = made(alloc, given)?;
     Head::new(
-        used(alloc)?,
+        Vec::from_slice(alloc, b"what was there before")?,
         name.as_bytes(),
         &definition,
         place.0.as_bytes(),
         place.1,
     )
-}
-
-// Reports the data of a head.
-fn parts(alloc: Global, head: &Head) -> Result<Vec<u8>, AllocError> {
-    let definition = head.definition()?;
-    let mut report = Report::new(alloc);
-    describe_parts(head, &definition, &mut report);
-    report.text()
 }
 
 // Makes a head, and reports its data.
@@ -131,7 +118,11 @@ fn kept(
     given: Given,
     place: (&str, u64),
 ) -> Result<Vec<u8>, AllocError> {
-    parts(alloc, &head_of(alloc, name, given, place)?)
+    let head = head_of(alloc, name, given, place)?;
+    let definition = head.definition()?;
+    let mut report = Report::new(alloc);
+    describe_parts(&head, &definition, &mut report);
+    report.text()
 }
 
 #[test]

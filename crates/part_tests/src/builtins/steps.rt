@@ -1,5 +1,6 @@
 //! Rows of steps on a state: calls of builtins and of other definitions, and questions about the state.
 
+ghost use Rattle.std.specs.Prelude.{IfOk};
 ghost use Rattle.std.specs.List.{AllByRecursion};
 ghost use Rattle.m4_builtins.specs.Args.{IsArg};
 
@@ -97,34 +98,21 @@ fn acted(
     act(alloc, &definition, args, &place, state)
 }
 
-// Makes a call, and adds its effect.
-fn act_on(alloc: Global, state: &mut State, called: Called, args: &Args, report: &mut Report)
-    requires { AllByRecursion IsArg args.now.list }
-{
-    match acted(alloc, state, called, args) {
-        Ok(mut effect) => describe(&mut effect, report),
-        Err(BuiltinFault::OutOfMemory) => report.refuse(),
-    }
-}
-
-// Makes a call with any arguments, and adds its effect.
-fn call(alloc: Global, state: &mut State, called: Called, list: &[Argument], report: &mut Report) {
-    match call_of(alloc, called.1, list) {
-        Ok(args) => act_on(alloc, state, called, &args, report),
-        Err(AllocError) => report.refuse(),
-    }
-}
-
-// Makes a call with texts, and adds its effect.
-fn text_call(
+// Makes a call with arguments that were made for it, and adds its effect.
+fn call(
     alloc: Global,
     state: &mut State,
     called: Called,
-    texts: &[&str],
+    args: Result<Args, AllocError>,
     report: &mut Report,
-) {
-    match text_call_of(alloc, called.1, texts) {
-        Ok(args) => act_on(alloc, state, called, &args, report),
+)
+    requires { IfOk args (λ a. AllByRecursion IsArg a.list) }
+{
+    match args {
+        Ok(args) => match acted(alloc, state, called, &args) {
+            Ok(mut effect) => describe(&mut effect, report),
+            Err(BuiltinFault::OutOfMemory) => report.refuse(),
+        },
         Err(AllocError) => report.refuse(),
     }
 }
@@ -167,14 +155,17 @@ fn do_step(alloc: Global, state: &mut State, step: Step, report: &mut Report) {
     match step {
         Step::Call(name, texts) => {
             let called = (Given::Named(name), name, ("a.m4", 1));
-            text_call(alloc, state, called, texts, report);
+            let args = text_call_of(alloc, name, texts);
+            call(alloc, state, called, args, report);
         }
         Step::With(line, name, list) => {
             let called = (Given::Named(name), name, ("a.m4", line));
-            call(alloc, state, called, list, report);
+            let args = call_of(alloc, name, list);
+            call(alloc, state, called, args, report);
         }
         Step::Other(given, name, list, place) => {
-            call(alloc, state, (given, name, place), list, report);
+            let args = call_of(alloc, name, list);
+            call(alloc, state, (given, name, place), args, report);
         }
         Step::Add(text) => append(state, text.as_bytes(), report),
         Step::Look(name) => look(state, name.as_bytes(), report),

@@ -30,10 +30,10 @@ static READERS: [(&str, bool, &[u8]); 2] = [
 
 // Reads all of a reader over the bytes, and reports how it ends.
 fn taken_of(alloc: Global, at_most: usize, fails: bool) -> Result<Vec<u8>, AllocError> {
-    let mut report = Report::new(alloc);
     let mut reader = MemSource::new(BYTES, at_most.max(1), fails);
     let mut bytes = Vec::new(alloc);
     let failed = take_all(&mut reader, &mut bytes)?;
+    let mut report = Report::new(alloc);
     report.add(&bytes);
     report.add(if failed {
         b"; failed after "
@@ -155,8 +155,8 @@ const PUTS: [&[u8]; 2] = [b"abc", b"c"];
 
 // Reports the results of a writer with room for two bytes, and its contents.
 fn puts_of(alloc: Global) -> Result<Vec<u8>, AllocError> {
-    let mut report = Report::new(alloc);
     let mut writer = MemSink::new(alloc, 2, 4)?;
+    let mut report = Report::new(alloc);
     for bytes in &PUTS {
         match writer.put(bytes) {
             Ok(n) => report.number(n),

@@ -111,13 +111,13 @@ static READERS: [(&str, &[Answer], &[u8]); 4] = [
 
 // Reads all of a reader, and reports how it ends.
 fn taken_of(alloc: Global, script: &'static [Answer]) -> Result<Vec<u8>, AllocError> {
-    let mut report = Report::new(alloc);
     let mut reader = StdSource::new(Scripted {
         script,
         taken: Vec::new(alloc),
     });
     let mut bytes = Vec::new(alloc);
     let failed = take_all(&mut reader, &mut bytes)?;
+    let mut report = Report::new(alloc);
     report.add(&bytes);
     report.add(if failed { b"; failed" } else { b"; ended" });
     report.text()
@@ -160,16 +160,12 @@ static WRITERS: [(&str, &[Answer], &[u8]); 5] = [
     ),
 ];
 
-// Reports writing bytes to a writer.
-fn put_into(alloc: Global, script: &'static [Answer]) -> Result<Vec<u8>, AllocError> {
-    let mut report = Report::new(alloc);
-    let mut writer = StdSink::new(Scripted {
-        script,
-        taken: Vec::new(alloc),
-    });
-    let first = write_all(&mut writer, b"abcdefgh");
-    let second = writer.put(b"ij");
-    report.add(&writer.into_inner().taken);
+// Adds the results of writing all of some bytes, and of writing once.
+fn describe_puts(
+    first: Result<(), DeviceFault>,
+    second: Result<usize, DeviceFault>,
+    report: &mut Report,
+) {
     match first {
         Ok(()) => report.add(b"; put"),
         Err(DeviceFault) => report.add(b"; fault"),
@@ -178,6 +174,19 @@ fn put_into(alloc: Global, script: &'static [Answer]) -> Result<Vec<u8>, AllocEr
         Ok(n) => report.counted(b"; ", n),
         Err(DeviceFault) => report.add(b"; fault"),
     }
+}
+
+// Reports writing bytes to a writer.
+fn put_into(alloc: Global, script: &'static [Answer]) -> Result<Vec<u8>, AllocError> {
+    let mut writer = StdSink::new(Scripted {
+        script,
+        taken: Vec::new(alloc),
+    });
+    let first = write_all(&mut writer, b"abcdefgh");
+    let second = writer.put(b"ij");
+    let mut report = Report::new(alloc);
+    report.add(&writer.into_inner().taken);
+    describe_puts(first, second, &mut report);
     report.text()
 }
 

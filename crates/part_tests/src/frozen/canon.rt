@@ -1,12 +1,10 @@
 //! Files that are read and written again, as their canonical text.
 
-use super::{BLOCK, BLOCKS, HEAD, LAST, ROOM, after_a_comment, describe, describe_written, read};
+use super::{BLOCK, BLOCKS, HEAD, LAST, ROOM, after_a_comment, describe, read, write_canonical};
 use crate::report::{Report, joined, repeated};
 use crate::shows::agrees;
 use m4_frozen::loading::Loaded;
-use m4_frozen::writer::write_frozen;
 use m4_state::memory::MemSink;
-use m4_state::state::State;
 use std::alloc::{AllocError, Global};
 use std::test::Fail;
 
@@ -96,22 +94,16 @@ fn canonical(alloc: Global, between: &[u8], issued: &[u8]) -> Result<Vec<u8>, Al
     joined(alloc, &[HEAD, between, LAST, b"; written\n", issued])
 }
 
-// Adds the bytes of the canonical text that a writer receives.
-fn write(state: &State, writer: &mut MemSink, report: &mut Report) {
-    let answer = write_frozen(state, writer);
-    describe_written(answer, writer, report);
-}
-
 // Adds the content of a file: its canonical text, and the text that is issued.
 fn write_loaded(loaded: &Loaded, writer: &mut MemSink, report: &mut Report) {
-    write(&loaded.state, writer, report);
+    write_canonical(&loaded.state, writer, report);
     report.add(loaded.issued.as_slice());
 }
 
 // Writes a file's bytes again, this many bytes at a time, to a writer with this much room.
 fn again(alloc: Global, bytes: &[u8], block: usize, room: usize) -> Result<Vec<u8>, AllocError> {
-    let mut report = Report::new(alloc);
     let mut writer = MemSink::new(alloc, room, block.max(1))?;
+    let mut report = Report::new(alloc);
     match read(alloc, bytes, block, false) {
         Ok(loaded) => write_loaded(&loaded, &mut writer, &mut report),
         Err(fault) => describe(alloc, fault, &mut report),
@@ -157,12 +149,12 @@ const FAILING_CANONICAL: &[u8] =
 
 // Reports writing a file's state twice to a writer that fails after this many bytes.
 fn cut_short(alloc: Global, room: usize, block: usize) -> Result<Vec<u8>, AllocError> {
-    let mut report = Report::new(alloc);
     let mut writer = MemSink::new(alloc, room, block.max(1))?;
+    let mut report = Report::new(alloc);
     match read(alloc, FAILING, 4096, false) {
         Ok(loaded) => {
-            write(&loaded.state, &mut writer, &mut report);
-            write(&loaded.state, &mut writer, &mut report);
+            write_canonical(&loaded.state, &mut writer, &mut report);
+            write_canonical(&loaded.state, &mut writer, &mut report);
         }
         Err(fault) => describe(alloc, fault, &mut report),
     }

@@ -90,8 +90,8 @@ fn three_blocks(alloc: Global, before: usize) -> Result<Vec<u8>, AllocError> {
 
 // Reports how reading such a file ends, and whether more than the first block was read.
 fn refused_early(alloc: Global, before: usize) -> Result<Vec<u8>, AllocError> {
-    let mut report = Report::new(alloc);
     let file = three_blocks(alloc, before)?;
+    let mut report = Report::new(alloc);
     let mut reader = MemSource::new(&file, 4096, false);
     match read_frozen(alloc, &mut reader) {
         Ok(_loaded) => report.add(b"loaded"),

@@ -40,8 +40,8 @@ fn write(loaded: &Loaded, writer: &mut MemSink, report: &mut Report) {
 
 // Returns the lines of a file, written this many bytes at a time to a writer with this much room.
 fn listed(alloc: Global, bytes: &[u8], room: usize, block: usize) -> Result<Vec<u8>, AllocError> {
-    let mut report = Report::new(alloc);
     let mut writer = MemSink::new(alloc, room, block.max(1))?;
+    let mut report = Report::new(alloc);
     match read(alloc, bytes, block, false) {
         Ok(loaded) => write(&loaded, &mut writer, &mut report),
         Err(fault) => describe(alloc, fault, &mut report),

@@ -1,11 +1,10 @@
 //! States and their canonical text, and the state of a loaded file.
 
-use super::{HEAD, LAST, ROOM, describe, describe_written, read};
+use super::{HEAD, LAST, ROOM, describe, read, write_canonical};
 use crate::given::empty_state;
 use crate::report::{Report, joined};
 use crate::shows::{agrees, shows};
 use m4_frozen::loading::Loaded;
-use m4_frozen::writer::write_frozen;
 use m4_state::bytes::Bytes;
 use m4_state::definition::Def;
 use m4_state::fault::StateFault;
@@ -67,18 +66,24 @@ fn do_step(alloc: Global, state: &mut State, step: Step) -> Result<(), StateFaul
     }
 }
 
+// Adds the canonical text of a state.
+fn add_canonical(alloc: Global, state: &State, report: &mut Report) {
+    match MemSink::new(alloc, ROOM, 4096) {
+        Ok(mut writer) => write_canonical(state, &mut writer, report),
+        Err(AllocError) => report.refuse(),
+    }
+}
+
 // Returns the canonical text of a row's state.
 fn frozen(alloc: Global, steps: &[Step]) -> Result<Vec<u8>, AllocError> {
-    let mut report = Report::new(alloc);
     let mut state = empty_state(alloc)?;
+    let mut report = Report::new(alloc);
     for step in steps {
         if do_step(alloc, &mut state, *step).is_err() {
             report.refuse();
         }
     }
-    let mut writer = MemSink::new(alloc, ROOM, 4096)?;
-    let answer = write_frozen(&state, &mut writer);
-    describe_written(answer, &writer, &mut report);
+    add_canonical(alloc, &state, &mut report);
     report.text()
 }
 

@@ -1,18 +1,17 @@
 //! The delimiters of a state that has set its own.
 
+use crate::given::pair;
 use crate::report::joined;
 use crate::shows::shows;
 use m4_input::delims::Delims;
-use m4_state::bytes::Bytes;
 use m4_state::fault::StateFault;
 use m4_state::state::State;
 use std::alloc::{AllocError, Global};
 
 // Returns a state with square brackets as quotes.
 fn bracketed(alloc: Global) -> Result<State, StateFault> {
+    let (begin, end) = pair(alloc, "[", "]")?;
     let mut state = State::empty(alloc)?;
-    let begin = Bytes::from_slice(alloc, b"[")?;
-    let end = Bytes::from_slice(alloc, b"]")?;
     state.set_quotes(begin, end)?;
     Ok(state)
 }

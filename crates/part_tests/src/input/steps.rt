@@ -331,6 +331,35 @@ fn put_many(alloc: Global, input: &mut Input, count: usize, report: &mut Report)
     }
 }
 
+// Pushes a definition.
+fn put_definition(alloc: Global, input: &mut Input, given: Given, report: &mut Report) {
+    take_none(input, report);
+    match made(alloc, given) {
+        Ok(definition) => {
+            if input.push_front(Pushed::Definition(definition)).is_err() {
+                report.refuse();
+            }
+        }
+        Err(AllocError) => report.refuse(),
+    }
+}
+
+// Makes a step for which the bytes in hand are enough, and adds its result.
+fn answer_in_hand(alloc: Global, input: &mut Input, step: Step, report: &mut Report) {
+    match step {
+        Step::Skip => describe_skip(input.skip_in_hand(), report),
+        Step::TakeDefinition => take_definition(input, report),
+        Step::Take(n) => take_front(input, n),
+        Step::Push(text) => put(alloc, input, text.as_bytes(), report),
+        Step::PushMany(count) => put_many(alloc, input, count, report),
+        Step::PushDefinition(given) => put_definition(alloc, input, given, report),
+        Step::Hand => describe_hand(input, report),
+        Step::Line => describe_line(input, report),
+        Step::Name => describe_name(input, report),
+        _ => report.add(b"a step that asks the reader\n"),
+    }
+}
+
 // Makes a step, and adds its result.
 fn answer(
     alloc: Global,
@@ -346,34 +375,13 @@ fn answer(
         Step::Look => add_found(look(input, delims), report),
         Step::Decide => add_found(decide(input, reader, delims), report),
         Step::List(n) => report.add(list_after(input, n, delims)),
-        Step::Skip => describe_skip(input.skip_in_hand(), report),
         Step::Next => add_token(input.next(reader, delims), report),
         Step::NextLen => add_len(&input.next(reader, delims), report),
         Step::Rest => add_rest(input, reader, delims, report),
         Step::SeesParen => add_paren(input.sees_paren(reader, delims), report),
         Step::SkipLine => add_skipped(input.skip_line(reader), report),
-        Step::TakeDefinition => take_definition(input, report),
-        Step::Take(n) => take_front(input, n),
-        Step::Push(text) => put(alloc, input, text.as_bytes(), report),
-        Step::PushMany(count) => put_many(alloc, input, count, report),
-        Step::PushDefinition(given) => put_definition(alloc, input, given, report),
-        Step::Hand => describe_hand(input, report),
-        Step::Line => describe_line(input, report),
-        Step::Name => describe_name(input, report),
         Step::Taken => describe_taken(reader, report),
-    }
-}
-
-// Pushes a definition.
-fn put_definition(alloc: Global, input: &mut Input, given: Given, report: &mut Report) {
-    take_none(input, report);
-    match made(alloc, given) {
-        Ok(definition) => {
-            if input.push_front(Pushed::Definition(definition)).is_err() {
-                report.refuse();
-            }
-        }
-        Err(AllocError) => report.refuse(),
+        _ => answer_in_hand(alloc, input, step, report),
     }
 }
 

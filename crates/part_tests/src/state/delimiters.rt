@@ -2,10 +2,9 @@
 //! empty, it is the usual one. Manual: "Changing the quote characters", "Changing the comment
 //! delimiters".
 
-use crate::given::empty_state;
+use crate::given::{empty_state, pair};
 use crate::report::Report;
 use crate::shows::shows;
-use m4_state::bytes::Bytes;
 use m4_state::fault::StateFault;
 use m4_state::state::State;
 use std::alloc::{AllocError, Global};
@@ -42,14 +41,6 @@ static ROWS: [Row; 6] = [
     ),
 ];
 
-// Returns a pair of strings.
-fn pair(alloc: Global, begin: &str, end: &str) -> Result<(Bytes, Bytes), AllocError> {
-    Ok((
-        Bytes::from_slice(alloc, begin.as_bytes())?,
-        Bytes::from_slice(alloc, end.as_bytes())?,
-    ))
-}
-
 // Sets the quotes and the comments to the same strings.
 fn set(alloc: Global, state: &mut State, begin: &str, end: &str) -> Result<(), StateFault> {
     let (quote, unquote) = pair(alloc, begin, end)?;
@@ -69,8 +60,8 @@ fn describe(name: &[u8], pair: (&[u8], &[u8]), report: &mut Report) {
 
 // Reports a row.
 fn report_of(alloc: Global, pairs: &[(&str, &str)]) -> Result<Vec<u8>, AllocError> {
-    let mut report = Report::new(alloc);
     let mut state = empty_state(alloc)?;
+    let mut report = Report::new(alloc);
     for (begin, end) in pairs {
         if set(alloc, &mut state, begin, end).is_err() {
             report.refuse();

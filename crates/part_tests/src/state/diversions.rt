@@ -6,6 +6,7 @@ use crate::report::Report;
 use crate::shows::shows;
 use m4_state::state::State;
 use std::alloc::{AllocError, Global};
+use std::process::Abort;
 
 // A change of a state, or a question about it.
 #[derive(Clone, Copy)]
@@ -25,7 +26,9 @@ enum Step {
 }
 
 // A row's name, the steps from an empty state, and the results, a line for each.
-static ROWS: [(&str, &[Step], &str); 10] = [
+type Row = (&'static str, &'static [Step], &'static str);
+
+static DIVERTED: [Row; 4] = [
     (
         "an empty state",
         &[Step::Current, Step::Above(0), Step::TakeLeast],
@@ -79,7 +82,9 @@ static ROWS: [(&str, &[Step], &str); 10] = [
         ],
         "5 a\n7\n7 bc\nnone\n",
     ),
-    // texts that are brought back
+];
+
+static BROUGHT_BACK: [Row; 6] = [
     (
         "to the output",
         &[
@@ -197,17 +202,23 @@ fn do_step(state: &mut State, step: Step, report: &mut Report) {
 
 // Reports a row.
 fn report_of(alloc: Global, steps: &[Step]) -> Result<Vec<u8>, AllocError> {
-    let mut report = Report::new(alloc);
     let mut state = empty_state(alloc)?;
+    let mut report = Report::new(alloc);
     for step in steps {
         do_step(&mut state, *step, &mut report);
     }
     report.text()
 }
 
+// Compares the report on each row.
+fn compare(rt: &impl Abort, alloc: Global, rows: &[Row]) {
+    for &(name, steps, want) in rows {
+        shows(rt, name, want.as_bytes(), report_of(alloc, steps));
+    }
+}
+
 #[test]
 fn texts_are_diverted_and_brought_back(rt: HostRuntime) {
-    for &(name, steps, want) in &ROWS {
-        shows(&rt, name, want.as_bytes(), report_of(rt.alloc(), steps));
-    }
+    compare(&rt, rt.alloc(), &DIVERTED);
+    compare(&rt, rt.alloc(), &BROUGHT_BACK);
 }

@@ -8,6 +8,7 @@ use m4_state::definition::Def;
 use m4_state::fault::StateFault;
 use m4_state::state::State;
 use std::alloc::{AllocError, Global};
+use std::process::Abort;
 
 // A change of a state.
 #[derive(Clone, Copy)]
@@ -30,7 +31,8 @@ enum Step {
 // definitions, the oldest first, and the length of the newest.
 type Row = (&'static str, &'static [Step], &'static str);
 
-static ROWS: [Row; 7] = [
+// The order of names.
+static ORDERS: [Row; 3] = [
     ("an empty state", &[Step::Look("a")], "a\n"),
     (
         "a name that is defined again has its place in the order again",
@@ -63,6 +65,10 @@ static ROWS: [Row; 7] = [
           b, text old\n\
           b, text old; 3\n",
     ),
+];
+
+// Definitions that are pushed.
+static PUSHED: [Row; 2] = [
     (
         "a text is pushed with its name before it, short or long",
         &[
@@ -87,6 +93,10 @@ static ROWS: [Row; 7] = [
         ],
         "x, text old, placeholder format; 6\n",
     ),
+];
+
+// Definitions that are taken away or replaced.
+static STACKS: [Row; 2] = [
     (
         "the newest definition is taken away, and the name with the last one",
         &[
@@ -229,12 +239,18 @@ fn report_of(alloc: Global, fresh: bool, steps: &[Step]) -> Result<Vec<u8>, Allo
     report.text()
 }
 
+// Compares the report on each row.
+fn compare(rt: &impl Abort, alloc: Global, rows: &[Row]) {
+    for &(name, steps, want) in rows {
+        shows(rt, name, want.as_bytes(), report_of(alloc, false, steps));
+    }
+}
+
 #[test]
 fn names_and_their_definitions(rt: HostRuntime) {
-    for &(name, steps, want) in &ROWS {
-        let got = report_of(rt.alloc(), false, steps);
-        shows(&rt, name, want.as_bytes(), got);
-    }
+    compare(&rt, rt.alloc(), &ORDERS);
+    compare(&rt, rt.alloc(), &PUSHED);
+    compare(&rt, rt.alloc(), &STACKS);
 }
 
 // What a fresh state has.
