@@ -111,23 +111,6 @@ fn add_line(line: Result<&'static [u8], InputFault>, report: &mut Report) {
     }
 }
 
-// Adds a token.
-fn add_token(token: Result<Token, InputFault>, report: &mut Report) {
-    match token {
-        Ok(token) => describe(&token, report),
-        Err(fault) => describe_fault(fault, report),
-    }
-}
-
-// Adds the length of a token, if it is a name.
-fn add_len(token: &Result<Token, InputFault>, report: &mut Report) {
-    match token {
-        Ok(Token::Name(name)) => report.counted(b"a name of ", name.as_slice().len()),
-        _ => report.add(b"no name"),
-    }
-    report.add(b"\n");
-}
-
 // Adds what the bytes in hand decide of the first token: its length, and the token.
 fn describe_found(found: &Scan, report: &mut Report) {
     match found {
@@ -138,31 +121,6 @@ fn describe_found(found: &Scan, report: &mut Report) {
         }
         Scan::Broken(_what) => report.add(b"no end\n"),
         Scan::NeedsMore => report.add(b"needs more\n"),
-    }
-}
-
-// Adds the same, or a fault.
-fn add_found(found: Result<Scan, InputFault>, report: &mut Report) {
-    match found {
-        Ok(found) => describe_found(&found, report),
-        Err(fault) => describe_fault(fault, report),
-    }
-}
-
-// Adds whether a list follows.
-fn add_paren(sees: Result<bool, InputFault>, report: &mut Report) {
-    match sees {
-        Ok(true) => report.add(b"list\n"),
-        Ok(false) => report.add(b"no list\n"),
-        Err(fault) => describe_fault(fault, report),
-    }
-}
-
-// Adds that a line was skipped.
-fn add_skipped(skipped: Result<(), InputFault>, report: &mut Report) {
-    match skipped {
-        Ok(()) => report.add(b"skipped\n"),
-        Err(fault) => describe_fault(fault, report),
     }
 }
 
@@ -222,6 +180,78 @@ fn decide(
     Ok(Scan::NeedsMore)
 }
 
+// Adds the first token, or a fault; asks for blocks until it is decided, or not.
+fn add_found(
+    input: &mut Input,
+    reader: &mut MemSource<'_>,
+    delims: &Delims<'_>,
+    asks: bool,
+    report: &mut Report,
+) {
+    let found = if asks {
+        decide(input, reader, delims)
+    } else {
+        look(input, delims)
+    };
+    match found {
+        Ok(found) => describe_found(&found, report),
+        Err(fault) => describe_fault(fault, report),
+    }
+}
+
+// Adds the next token, and returns whether it is the end.
+fn add_next(
+    input: &mut Input,
+    reader: &mut MemSource<'_>,
+    delims: &Delims<'_>,
+    report: &mut Report,
+) -> bool {
+    let token = input.next(reader, delims);
+    let ends = matches!(&token, Ok(Token::End));
+    match token {
+        Ok(token) => describe(&token, report),
+        Err(fault) => describe_fault(fault, report),
+    }
+    ends
+}
+
+// Adds the length of the next token, if it is a name.
+fn add_len(
+    input: &mut Input,
+    reader: &mut MemSource<'_>,
+    delims: &Delims<'_>,
+    report: &mut Report,
+) {
+    let token = input.next(reader, delims);
+    match &token {
+        Ok(Token::Name(name)) => report.counted(b"a name of ", name.as_slice().len()),
+        _ => report.add(b"no name"),
+    }
+    report.add(b"\n");
+}
+
+// Adds whether a list follows.
+fn add_paren(
+    input: &mut Input,
+    reader: &mut MemSource<'_>,
+    delims: &Delims<'_>,
+    report: &mut Report,
+) {
+    match input.sees_paren(reader, delims) {
+        Ok(true) => report.add(b"list\n"),
+        Ok(false) => report.add(b"no list\n"),
+        Err(fault) => describe_fault(fault, report),
+    }
+}
+
+// Skips the rest of a line, and adds that it was skipped.
+fn skip_line(input: &mut Input, reader: &mut MemSource<'_>, report: &mut Report) {
+    match input.skip_line(reader) {
+        Ok(()) => report.add(b"skipped\n"),
+        Err(fault) => describe_fault(fault, report),
+    }
+}
+
 // Adds the tokens up to the end.
 fn add_rest(
     input: &mut Input,
@@ -230,10 +260,7 @@ fn add_rest(
     report: &mut Report,
 ) {
     for _ in 0..MOST {
-        let token = input.next(reader, delims);
-        let ends = matches!(&token, Ok(Token::End));
-        add_token(token, report);
-        if ends {
+        if add_next(input, reader, delims, report) {
             break;
         }
     }
@@ -372,14 +399,16 @@ fn answer(
     match step {
         Step::More => add_line(ask(input, reader), report),
         Step::Token => add_line(ask_token(input, reader, delims), report),
-        Step::Look => add_found(look(input, delims), report),
-        Step::Decide => add_found(decide(input, reader, delims), report),
+        Step::Look => add_found(input, reader, delims, false, report),
+        Step::Decide => add_found(input, reader, delims, true, report),
         Step::List(n) => report.add(list_after(input, n, delims)),
-        Step::Next => add_token(input.next(reader, delims), report),
-        Step::NextLen => add_len(&input.next(reader, delims), report),
+        Step::Next => {
+            let _ends = add_next(input, reader, delims, report);
+        }
+        Step::NextLen => add_len(input, reader, delims, report),
         Step::Rest => add_rest(input, reader, delims, report),
-        Step::SeesParen => add_paren(input.sees_paren(reader, delims), report),
-        Step::SkipLine => add_skipped(input.skip_line(reader), report),
+        Step::SeesParen => add_paren(input, reader, delims, report),
+        Step::SkipLine => skip_line(input, reader, report),
         Step::Taken => describe_taken(reader, report),
         _ => answer_in_hand(alloc, input, step, report),
     }
