@@ -53,14 +53,14 @@ static ROWS: [Row; 27] = [
     ),
     // the same with more bytes that may follow
     ("no bytes so far", "", true, "more"),
-    ("a name at the end so far", "ab", true, "plain more"),
+    ("a name at the end", "ab", true, "plain more"),
     ("a name before a comma", "ab,", true, "plain name ab"),
     ("a byte at the end", "+", true, "plain byte +"),
     ("a string that has ended", "`a b'", true, "string a b of 5"),
     ("a string without an end so far", "`a b", true, "more"),
     ("a comment that has ended", "# b\n", true, "comment # b\n"),
     ("a comment without an end so far", "# b", true, "more"),
-    ("a blank that more may follow", " ", true, "plain byte  "),
+    ("a blank", " ", true, "plain byte  "),
 ];
 
 // Adds a part of the text: so many bytes from a place on.
