@@ -9,7 +9,7 @@ use m4_engine::ending::Cause;
 use m4_state::device::{ByteSink, DeviceFault};
 
 /// Writes the line for this frozen file, if the run ended because the file was refused.
-pub fn put_refused<M: ByteSink>(
+pub(crate) fn put_refused<M: ByteSink>(
     cause: Cause,
     file: &[u8],
     messages: &mut M,
@@ -25,7 +25,7 @@ pub fn put_refused<M: ByteSink>(
 
 /// Returns what is still to be reported for a run with this cause. `flushed`: whether its output and
 /// frozen text were flushed. The run, or [`put_refused`], has reported all other causes.
-pub fn last_fault(cause: Cause, flushed: bool) -> Option<&'static str>
+pub(crate) fn last_fault(cause: Cause, flushed: bool) -> Option<&'static str>
     ensures { option_map (λ text. text.now) result ≡ last_fault cause flushed }
 {
     match cause {

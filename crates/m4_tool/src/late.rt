@@ -12,7 +12,7 @@ use m4_state::device::{ByteSink, DeviceFault};
 use std::marker::{Brand, PhantomData};
 
 /// What contracts know of a late file: the files before it, and its name.
-pub trait Place {
+pub(crate) trait Place {
     /// The files before it; none if they are not known.
     ghost before: { Option Files };
 
@@ -29,7 +29,7 @@ impl Place for Brand {
 /// A sink over a file that is created when its first byte is written. Until then a file of that name
 /// stays as it is: a run that writes nothing leaves an old file unchanged, and the run may read it.
 #[derive(Drop)]
-pub struct LateFile<W: World, K: Place> {
+pub(crate) struct LateFile<W: World, K: Place> {
     world: W,
     name: Bytes,
     created: bool,
@@ -42,7 +42,7 @@ pub struct LateFile<W: World, K: Place> {
 
 impl<W: World, K: Place> LateFile<W, K> {
     /// Returns a sink over the file of this name, which is not created yet.
-    pub fn new(world: W, name: Bytes) -> LateFile<W, K>
+    pub(crate) fn new(world: W, name: Bytes) -> LateFile<W, K>
         requires before { W.files world ≡ K.before }
         requires name { name ≡ K.name }
         ensures created { result.created ≡ false }
@@ -59,7 +59,7 @@ impl<W: World, K: Place> LateFile<W, K> {
     }
 
     /// Returns the world, with the file if one was created.
-    pub fn into_world(self) -> W
+    pub(crate) fn into_world(self) -> W
         ensures world { result ≡ self.world }
         ensures files { W.files result ≡ after_writing self.created K.name (written self.created K.name (W.files self.world)) K.before }
         ensures tried { is_tried self.created self.failures (written self.created K.name (W.files self.world)) ≡ true }

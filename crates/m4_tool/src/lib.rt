@@ -5,12 +5,12 @@
 //! [`modes`] are the two modes for a frozen file. Manual: "Invoking m4".
 #![tactic(auto)]
 
-pub mod endings;
+mod endings;
 pub mod fault;
 pub mod follow;
 pub mod followed;
 pub mod given;
-pub mod late;
+mod late;
 pub mod laws;
 pub mod line;
 pub mod mem_world;

@@ -26,10 +26,10 @@ impl<F: Read, I: Read> Read for FileOrInput<F, I> {
 }
 
 /// The word that means standard input on a line.
-pub const INPUT: &str = "-";
+pub(crate) const INPUT: &str = "-";
 
 /// Returns the name of a file of the line, as messages print it.
-pub fn source_name(alloc: Global, file: &str) -> Result<Bytes, AllocError>
+pub(crate) fn source_name(alloc: Global, file: &str) -> Result<Bytes, AllocError>
     ensures { IfOk result (λ name. name ≡ source_name file.now) }
 {
     if file == INPUT {

@@ -1,12 +1,10 @@
 //! The command line and the modes, of `m4_tool`: tables of rows, with one helper for each table.
 
-mod ends;
 mod failing;
 mod faults;
 mod following;
 mod lines;
 mod modes;
-mod names;
 mod shows;
 mod texts;
 mod worlds;

@@ -69,12 +69,20 @@ pub static FILES: [Given<'static>; 11] = [
 ];
 
 // The words of a line, standard input, and the status, the output and the messages.
-static LINES: [(&[&str], &[u8], u8, &str, &str); 9] = [
+static LINES: [(&[&str], &[u8], u8, &str, &str); 11] = [
     (&["m4r", "a", "c"], b"", 0, "hi\nx\n", ""),
     (&["m4r", "b", "c"], b"", 0, "y\ny\n", ""),
     (&["m4r"], b"in\n", 0, "in\n", ""),
     (&["m4r", "a", "-", "c"], b"in\n", 0, "hi\nin\nx\n", ""),
     (&["m4r", "-", "-"], b"in\n", 0, "in\n", ""),
+    (&["m4r", "-"], b"__file__:__line__\n", 0, "stdin:1\n", ""),
+    (
+        &["m4r", "-L", "2"],
+        b"len(len(len(`a')))\n",
+        1,
+        "",
+        "m4:stdin:1: ERROR: more than 2 nested calls\n",
+    ),
     (
         &["m4r", "a", "none", "c"],
         b"",

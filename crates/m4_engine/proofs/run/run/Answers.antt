@@ -37,6 +37,12 @@ returns-clause-frozen_read g c = starts.begun_frozen g.R.ByteSource.failures c.a
 pub returns-in-Err-clause-write : goal.returns-in-Err-clause-write
 returns-in-Err-clause-write g c = starts.never_wrote c.args.options c.begin.result c.in-Err.stop c.status.result c.ending.result _ _ _ _ (three g.Z.ByteSink.contents (both g.O.ByteSink.contents g.M.ByteSink.contents c.args.out.now c.begin.new.out c.args.messages.now c.args.messages.now) c.args.freeze_to.now c.args.freeze_to.now) (search rules) c.status.ensures c.ending.ensures c.begin.ensures.begun refl c.begin.ensures.write
 
+pub returns-clause-write : goal.returns-clause-write
+returns-clause-write g c = search rules
+
+pub returns-clause-spared : goal.returns-clause-spared
+returns-clause-spared g c = search rules
+
 pub returns-in-Err-clause-refused : goal.returns-in-Err-clause-refused
 returns-in-Err-clause-refused g c = λ fault e. starts.never_done c.args.sources.now c.args.options c.begin.result c.in-Err.stop c.status.result c.ending.result fault _ _ _ _ (search rules) c.status.ensures c.ending.ensures c.begin.ensures.begun e (c.begin.ensures.refused fault)
 

@@ -22,3 +22,6 @@ returns-clause-gives g c =
     let l : IsOpen mid = gone_on _ c.args.self.now mid _ c.in_ok-read_saved.ensures.goes.0 in
     freeze_then c.args.self.now mid c.finish_here.new.self _ _ _ _ _ _ _ _ c.in_ok-read_saved.ensures.goes.0 c.in_ok-read_saved.ensures.none_saved c.read_saved.ensures.any_missing (Ok tt)
     (froze mid c.finish_here.new.self c.state.result.now _ _ _ _ l c.in_ok-read_saved.ensures.none_saved (search rules) (search rules) (search rules) (search rules))
+
+pub returns-clause-write : goal.returns-clause-write
+returns-clause-write g c = search rules
