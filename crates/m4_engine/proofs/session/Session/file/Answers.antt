@@ -7,3 +7,6 @@ returns-clause-gives g c = file_gives c.args.self.now c.settle.new.self c.self.i
 
 pub returns-clause-read : goal.returns-clause-read
 returns-clause-read g c = file_reads c.expand-cause.result c.settle.result _ _ _ c.settle.ensures.answer refl c.expand-cause.ensures.read
+
+pub returns-clause-write : goal.returns-clause-write
+returns-clause-write g c = search rules
