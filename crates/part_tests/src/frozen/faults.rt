@@ -242,7 +242,7 @@ fn compare_later(
 }
 
 // Compares how reading each row ends, from the first block on and in later ones.
-fn placed(rt: &impl Abort, alloc: Global, rows: &[Row]) {
+fn placed(alloc: Global, rt: &impl Abort, rows: &[Row]) {
     for &(name, text, fails, kind, offset) in rows {
         let (bytes, fault) = (text.as_bytes(), (kind, offset));
         compare(alloc, rt, name, bytes, fails, fault);
@@ -252,9 +252,9 @@ fn placed(rt: &impl Abort, alloc: Global, rows: &[Row]) {
 
 #[test]
 fn faults_are_placed_in_the_first_block_and_in_later_ones(rt: HostRuntime) {
-    placed(&rt, rt.alloc(), &VERSIONS);
-    placed(&rt, rt.alloc(), &DIRECTIVES);
-    placed(&rt, rt.alloc(), &FAILED);
+    placed(rt.alloc(), &rt, &VERSIONS);
+    placed(rt.alloc(), &rt, &DIRECTIVES);
+    placed(rt.alloc(), &rt, &FAILED);
 }
 
 // The line of the version, two directives and a comment: 3, 8, 9 and 4 bytes.

@@ -1,6 +1,6 @@
 //! Rows of one file: the comparison of its run with the expected output, messages and end.
 
-use super::given::{BLOCKS, USUAL, seen_of_file};
+use super::given::{BLOCKS, USUAL, ended, seen_of_file};
 use super::report::printed_run;
 use super::shows::agrees;
 use m4_engine::ending::{Cause, Ending};
@@ -19,9 +19,8 @@ pub type Row = (&'static str, &'static str, &'static str, &'static str, End);
 /// Makes the end of a run.
 pub fn ending((status, cause, wrapped): End) -> Ending {
     Ending {
-        status,
-        cause,
         wrapped,
+        ..ended(status, cause)
     }
 }
 
