@@ -15,6 +15,7 @@ use Rattle.m4_frozen.specs.Directive.{Directive}
 use Rattle.m4_frozen.specs.Freeze.{freeze}
 use Rattle.m4_frozen.specs.Spells.{Spells}
 use Rattle.m4_frozen.specs.FaultAt.{ExactFault, FaultAt, IsFaultOfFailed}
+use Rattle.m4_frozen.specs.Torn.{IsTorn}
 use Rattle.m4_frozen.specs.ReaderSteps.{file_at, fault_of, failed_answer}
 
 -- the same bytes spell only one list of directives
@@ -95,3 +96,8 @@ as_older lacking s =
 abbrev pub RefreezeOlder : Type 0
 RefreezeOlder =
     (lacking : Builtin) (s t : State) → as_older lacking s ≡ as_older lacking t → freeze s ≡ freeze t
+
+-- a beginning of a canonical text that ends inside its first two lines or inside a directive has
+-- exactly one fault, and no directives spell it
+abbrev pub TornRefused : Type 0
+TornRefused = (s : State) (bytes : List ℕ) → IsState s → IsSized s → IsTorn s bytes → IsOnlyRefused bytes

@@ -153,6 +153,8 @@ impl<W: Write> StdShown<W> {
 impl<W: Write> ByteSink for StdShown<W> {
     ghost contents = { λ _. None };
 
+    ghost takes_whole = { false };
+
     ghost failures = { λ s. s.failures };
 
     fn put(&mut self, bytes: &[u8]) -> Result<usize, DeviceFault> {

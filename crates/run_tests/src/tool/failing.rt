@@ -89,6 +89,8 @@ struct Unflushed {
 impl ByteSink for Unflushed {
     ghost contents = { λ s. ⟦<MemSink as ByteSink>⟧.contents s.sink };
 
+    ghost takes_whole = { false };
+
     ghost failures = { λ s. ⟦<MemSink as ByteSink>⟧.failures s.sink };
 
     fn put(&mut self, bytes: &[u8]) -> Result<usize, DeviceFault> {
