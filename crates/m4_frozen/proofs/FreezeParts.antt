@@ -1,26 +1,19 @@
 -- What the parts of the writer put, joined, is the canonical text.
-use Rattle.std.proofs.Common.{◌≡◌, ℕ, ℤ, pos, Bool, true, false, cond, List, [], ◌∷◌, ◌++◌, map, Some, None, refl, sym, ap, subst, ◌∙◌, append_assoc, Ordering, Less, Equal, Greater}
+use Rattle.std.proofs.Common.{◌≡◌, ℕ, ℤ, pos, Bool, true, false, cond, List, [], ◌∷◌, ◌++◌, Some, None, refl, sym, ap, subst, ◌∙◌, append_assoc, Ordering, Less, Equal, Greater}
 use Rattle.std.specs.Prelude.{IsTrue, int_lt, FitsSigned}
 use Rattle.std.specs.Int.{w32}
 use Rattle.std.specs.List.{flat_map, AllByRecursion}
-use Rattle.std.specs.Ordering.{int_cmp, int_eq, is_lt, is_eq}
+use Rattle.std.specs.Ordering.{int_cmp, is_lt, is_eq}
 use Rattle.std.specs.FinMap.{is_sorted, int_cmp-IsAntisymmetric}
 use Rattle.std.specs.Cmp.{int_cmp_total, tied_itself}
-use Rattle.std.proofs.lemmas.List.{append-nil}
-use Rattle.std.proofs.lemmas.Grind.{flat_map-append}
 use Rattle.std.proofs.lemmas.Option.{same_Some}
 use Rattle.std.specs.FinMap.Entries.{below_all}
 use Rattle.m4_state.specs.State.{State, IsDiversion, text_at, next_after, Diversion as NumberedText}
-use Rattle.m4_state.specs.declared.definition.Def.{Def}
-use Rattle.m4_state.specs.declared.delimiters.Delimiters.{Delimiters}
-use Rattle.m4_state.specs.Delimiters.{default_quotes, default_comments}
-use Rattle.m4_state.specs.Table.{Pairs}
 use Rattle.m4_state.proofs.Pairs.{both}
-use Rattle.m4_frozen.specs.Ascii.{newline, letter_C, letter_F, letter_Q, letter_T}
-use Rattle.m4_frozen.specs.Directive.{Directive, Quotes, Comments, Text, Builtin, Diversion}
+use Rattle.m4_frozen.specs.Directive.{Directive}
 use Rattle.m4_frozen.specs.WriterSteps.{above, late, header_start, late_end_line, all_directives, frozen_text}
 use Rattle.m4_frozen.proofs.Lates.{lates-spellings}
-use Rattle.m4_frozen.specs.Freeze.{last_number, same_delimiters, unless_default, definition, definitions, diversion, current_unless_last, canonical, two_strings, spelling, header, end_line, freeze}
+use Rattle.m4_frozen.specs.Freeze.{last_number, canonical, spelling, header, end_line, freeze}
 
 -- whether int_cmp says Less is int_lt
 int_lt-less : (x y : ℤ) → IsTrue (is_lt (int_cmp x y)) → int_lt x y ≡ true

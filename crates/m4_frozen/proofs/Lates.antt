@@ -1,18 +1,18 @@
 -- Directives are put with the byte before them and without their last: each put ends inside one.
 use Rattle.std.proofs.Common.{◌≡◌, ◌≢◌, ℕ, ◌+◌, ◌<◌, Bool, true, false, cond, List, [], ◌∷◌, ◌++◌, map, length, get_or, drop, drop-cons, add-one, Option, Result, Ok, Err, refl, sym, ap, subst, ◌∙◌, append_assoc, inl, inr, ◌⊎◌}
-use Rattle.std.specs.Prelude.{codes, decimal, IsErr, OnErr}
+use Rattle.std.specs.Prelude.{decimal, IsErr, OnErr}
 use Rattle.std.specs.Fmt.{signed_decimal}
 use Rattle.std.specs.List.{flat_map}
 use Rattle.std.proofs.lemmas.Grind.{flat_map-append}
 use Rattle.std.proofs.lemmas.List.{append-nil}
-use Rattle.m4_state.specs.Device.{with_bytes, HasPut, HasBegun, Puts, joined, HasPutPieces}
+use Rattle.m4_state.specs.Device.{with_bytes, HasBegun, Puts, joined, HasPutPieces}
 use Rattle.std.specs.Borrow.{Bor}
 use Rattle.m4_state.proofs.CallerLaws.{with_bytes-append, with_bytes-nil, HasPut-cut}
 use Rattle.m4_frozen.specs.Ascii.{newline, comma, letter_C, letter_D, letter_F, letter_Q, letter_T}
 use Rattle.m4_frozen.specs.Directive.{Directive, Quotes, Comments, Text, Builtin, Diversion}
 use Rattle.m4_frozen.specs.Freeze.{two_strings, spelling, header, same_delimiters, unless_default}
 use Rattle.m4_state.specs.declared.delimiters.Delimiters.{Delimiters}
-use Rattle.m4_frozen.specs.Torn.{IsProperPart, IsTornHeader, IsTornDirective}
+use Rattle.m4_frozen.specs.Torn.{IsTornHeader, IsTornDirective}
 use Rattle.m4_frozen.specs.WriterSteps.{late, late_pair, delimiters_text, header_start, IsStopInOne, StopsInOne, IsInside, IsStop, Stops, PutsAll, HasPutAll, StopsTorn}
 
 -- ---- a directive with the byte before it, and without its last byte

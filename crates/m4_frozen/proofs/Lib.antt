@@ -27,4 +27,5 @@ pub mod CanonicalDenoted
 pub mod LastPlace
 pub mod RoundTrip
 pub mod Torn
+pub mod TornFault
 pub mod Refrozen

@@ -1,5 +1,5 @@
 -- No directives spell a beginning of a canonical text that ends inside a directive.
-use Rattle.std.proofs.Common.{◌≡◌, ◌≢◌, ℕ, ◌<◌, ◌^◌, Bool, true, false, List, [], ◌∷◌, ◌++◌, Option, Some, None, Result, Ok, Err, refl, sym, ap, subst, ◌∙◌, append_assoc, length, inl, inr, ◌⊎◌}
+use Rattle.std.proofs.Common.{◌≡◌, ◌≢◌, ℕ, true, false, List, [], ◌∷◌, ◌++◌, Option, Some, Result, Ok, refl, sym, ap, subst, ◌∙◌, append_assoc, length, inl, inr, ◌⊎◌}
 use Rattle.std.specs.Prelude.{codes, decimal}
 use Rattle.std.specs.Fmt.{signed_decimal}
 use Rattle.std.specs.List.{flat_map, AllByRecursion}
@@ -11,10 +11,10 @@ use Rattle.m4_frozen.specs.Directive.{Directive, Quotes, Comments, Text, Builtin
 use Rattle.m4_frozen.specs.Freeze.{two_strings, spelling, canonical, header}
 use Rattle.m4_frozen.specs.Spells.{IsNumber, SpellsOne, AreSkippedLines, AreLines, SpellsAll, Spells}
 use Rattle.m4_frozen.specs.ReaderSteps.{skip_lines, next_at, after_version}
-use Rattle.m4_frozen.specs.Torn.{IsProperPart, IsTornHeader, IsTornDirective, IsTorn}
+use Rattle.m4_frozen.specs.Torn.{IsTornHeader, IsTornDirective, IsTorn}
 use Rattle.m4_frozen.specs.Laws.{IsOnlyRead, IsOnlyRefused, TornRefused}
 use Rattle.m4_frozen.proofs.SkippedLines.{skip_lines-append, skip_lines-last}
-use Rattle.m4_frozen.proofs.ReadBack.{IsRead, one_is_read, next_at-spelled, version_at-number}
+use Rattle.m4_frozen.proofs.ReadBack.{one_is_read, next_at-spelled, version_at-number}
 use Rattle.m4_frozen.proofs.Answered.{one_answer}
 use Rattle.m4_frozen.proofs.CanonicalSpelled.{Fits, one_spelled, canonical_fits, no_lines, header_lines, header_number}
 

@@ -1,11 +1,13 @@
 -- Torn: the beginnings of a canonical text that end inside a directive or inside the first two lines.
--- Believed. Its law: `TornRefused` (no such beginning is a frozen file).
--- Words: IsProperPart, IsTornHeader, IsTornDirective, IsTorn, LeavesTorn.
-use Rattle.std.specs.Prelude.{◌≡◌, ◌≢◌, ℕ, List, [], ◌∷◌, ◌++◌, ◌⊎◌, Option}
+-- Believed. Its laws: `TornRefused` (no such beginning is a frozen file), `TornFaults` (its fault lies at its end).
+-- Manual: "Frozen file format". Words: IsProperPart, IsTornHeader, IsTornDirective, IsTorn, LeavesTorn, IsTornFault.
+use Rattle.std.specs.Prelude.{◌≡◌, ◌≢◌, ℕ, List, [], ◌∷◌, ◌++◌, length, ◌⊎◌, Option}
 use Rattle.std.specs.List.{flat_map}
 use Rattle.m4_state.specs.Device.{with_bytes}
 use Rattle.m4_state.specs.State.{State}
+use Rattle.m4_frozen.specs.declared.fault.FrozenKind.TheVariants as kinds
 use Rattle.m4_frozen.specs.Directive.{Directive}
+use Rattle.m4_frozen.specs.FaultAt.{ExactFault}
 use Rattle.m4_frozen.specs.Freeze.{canonical, spelling, header}
 
 -- the first bytes of some bytes, one at least, and one is missing at least
@@ -34,3 +36,9 @@ IsTorn s bytes = IsTornHeader bytes ⊎ IsTornDirective (canonical s) bytes
 abbrev pub LeavesTorn : Option (List ℕ) → Option (List ℕ) → State → Type 0
 LeavesTorn old new s =
     (new ≡ old) ⊎ ((bytes : List ℕ) × (new ≡ with_bytes old bytes) × IsTorn s bytes)
+
+-- a fault at the end of the bytes: F9, or F1 inside the first two lines
+pub record IsTornFault (bytes : List ℕ) (fault : ExactFault) : Type 0 where
+  pub at_end : fault.offset ≡ length bytes
+  pub kind : (fault.kind ≡ kinds.PrematureEnd)
+      ⊎ ((fault.kind ≡ kinds.NoVersion) × IsTornHeader bytes)

@@ -44,7 +44,7 @@ pub fn write_frozen<W: ByteSink>(state: &State, writer: &mut W) -> Result<(), Wr
     // exact writer: a write fault leaves a prefix of it
     ensures begun { result ≡ Err WriteFault.Write
         → HasBegun (W.contents writer.old) (W.contents writer.new) (texts.freeze state.now) }
-    // exact writer: if each put is taken whole, a write fault leaves nothing, or a prefix that is refused
+    // torn files: if each put is taken whole, a write fault leaves nothing, or a prefix that is refused
     ensures torn { W.takes_whole ≡ true → result ≡ Err WriteFault.Write
         → LeavesTorn (W.contents writer.old) (W.contents writer.new) state.now }
     // exact writer: memory can run out only before the first byte

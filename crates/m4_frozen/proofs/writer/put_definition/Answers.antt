@@ -1,4 +1,3 @@
-use Rattle.m4_frozen.specs.Freeze.{definition}
 use Rattle.m4_frozen.proofs.Lates.{PutsAll-one}
 use Rattle.m4_frozen.proofs.writer.put_definition.Goals as goal
 

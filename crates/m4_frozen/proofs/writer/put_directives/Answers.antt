@@ -1,4 +1,4 @@
-use Rattle.m4_frozen.proofs.Lates.{HasPutAll-start, HasPutAll-put, HasPutAll-cut, HasPutAll-last, HasPutAll-all, PutsAll-refused, flat_map-left, map-left}
+use Rattle.m4_frozen.proofs.Lates.{HasPutAll-start, HasPutAll-put, HasPutAll-cut, HasPutAll-last, PutsAll-refused}
 use Rattle.m4_frozen.specs.WriterSteps.{all_directives}
 use Rattle.m4_frozen.proofs.writer.put_directives.Goals as goal
 

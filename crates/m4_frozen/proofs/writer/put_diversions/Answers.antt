@@ -3,7 +3,7 @@ use Rattle.std.specs.Prelude.{FitsSigned}
 use Rattle.std.specs.Int.{w32}
 use Rattle.std.proofs.Math.Facts.{sfits_lit}
 use Rattle.std.proofs.lemmas.Int.{to_z-of_z}
-use Rattle.m4_frozen.proofs.Lates.{HasPutAll-start, HasPutAll-put, HasPutAll-cut, HasPutAll-last, HasPutAll-all, PutsAll-refused, flat_map-left, map-left}
+use Rattle.m4_frozen.proofs.Lates.{HasPutAll-start, HasPutAll-put, HasPutAll-cut, HasPutAll-last, PutsAll-refused}
 use Rattle.m4_frozen.proofs.FreezeParts.{last_fits}
 use Rattle.m4_frozen.proofs.writer.put_diversions.Goals as goal
 

@@ -1,5 +1,4 @@
 use Rattle.std.proofs.Common.{refl, rules, append_assoc}
-use Rattle.m4_state.proofs.CallerLaws.{OnErr-is}
 use Rattle.m4_frozen.proofs.Lates.{pieces_stop, OnErr-so}
 use Rattle.m4_frozen.proofs.writer.put_long.Goals as goal
 

@@ -1,5 +1,5 @@
 use Rattle.std.proofs.Common.{◌∙◌}
-use Rattle.m4_frozen.proofs.Lates.{HasPutAll-start, HasPutAll-put, HasPutAll-cut, HasPutAll-last, HasPutAll-all, PutsAll-refused, flat_map-left, map-left}
+use Rattle.m4_frozen.proofs.Lates.{HasPutAll-put, HasPutAll-cut, PutsAll-refused, flat_map-left}
 use Rattle.m4_state.specs.Table.{Pair}
 use Rattle.m4_frozen.specs.WriterSteps.{stack_directives}
 use Rattle.m4_frozen.proofs.writer.put_names.Goals as goal

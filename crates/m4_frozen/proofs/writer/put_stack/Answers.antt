@@ -1,5 +1,5 @@
 use Rattle.std.proofs.Common.{◌∙◌}
-use Rattle.m4_frozen.proofs.Lates.{HasPutAll-start, HasPutAll-one, HasPutAll-cut, HasPutAll-last, HasPutAll-all, PutsAll-refused, flat_map-left, map-left}
+use Rattle.m4_frozen.proofs.Lates.{HasPutAll-one, HasPutAll-cut, PutsAll-refused, map-left}
 use Rattle.m4_frozen.specs.Freeze.{definition}
 use Rattle.m4_frozen.proofs.writer.put_stack.Goals as goal
 

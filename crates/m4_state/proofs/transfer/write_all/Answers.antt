@@ -1,4 +1,4 @@
-use Rattle.std.proofs.Common.{◌≡◌, ◌<◌, ◌-◌, ◌∙◌, ℕ, List, true, length, drop, arith}
+use Rattle.std.proofs.Common.{◌≡◌, ◌<◌, ◌∙◌, ℕ, List, length, drop, arith}
 use Rattle.std.proofs.lemmas.List.{length-drop}
 use Rattle.m4_state.proofs.CallerLaws.{HasPut-more, OnErr-is}
 use Rattle.m4_state.proofs.transfer.write_all.Goals as goal
