@@ -82,6 +82,8 @@ impl<'a, R: Files, I: Read + Copy, W: Write, E: Write> World for StdWorld<'a, R,
 
     ghost kept = { λ _. None };
 
+    ghost appends_whole = { false };
+
     fn open(
         &self,
         name: &[u8],
