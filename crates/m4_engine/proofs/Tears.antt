@@ -1,5 +1,5 @@
 -- Tears: a write fault in the frozen text of a run, if each put is taken whole.
-use Rattle.std.proofs.Common.{◌≡◌, ◌⊎◌, inl, inr, ℕ, Bool, List, [], Option, refl, sym, ap, ◌∙◌, subst}
+use Rattle.std.proofs.Common.{◌≡◌, inr, ℕ, Bool, List, [], Option, sym, ap, ◌∙◌, subst}
 use Rattle.std.specs.Prelude.{Result, Ok, Err}
 use Rattle.m4_state.specs.State.{State, IsSized}
 use Rattle.m4_frozen.specs.Torn.{LeavesTorn}
