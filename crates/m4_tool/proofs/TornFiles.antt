@@ -1,8 +1,6 @@
 -- The files after a run whose frozen text went to a late file, and a write of it failed.
-use Rattle.std.proofs.Common.{◌≡◌, ◌⊎◌, inl, inr, ℕ, Bool, true, false, List, [], ◌∷◌, ◌++◌, Option, Some, None, refl, sym, ap, ◌∙◌, subst, arith}
-use Rattle.std.specs.Prelude.{◌≢◌, ◌<◌, ◌^◌, length, codes, option_map, unwrap_or}
-use Rattle.m4_state.specs.Device.{with_bytes}
-use Rattle.m4_state.specs.Delimiters.{default_quotes, default_comments}
+use Rattle.std.proofs.Common.{◌≡◌, inl, inr, ℕ, Bool, true, false, List, [], Option, Some, None, refl, sym, ap, ◌∙◌, subst, arith}
+use Rattle.std.specs.Prelude.{unwrap_or}
 use Rattle.m4_state.specs.State.{State, IsState, IsSized, empty}
 use Rattle.m4_state.proofs.StaysInOrder.{IsState-empty}
 use Rattle.m4_frozen.specs.Freeze.{header}
@@ -13,11 +11,10 @@ use Rattle.m4_frozen.proofs.TornFault.{torn_faults}
 use Rattle.m4_engine.specs.declared.ending.Cause.{Cause}
 use Rattle.m4_engine.specs.declared.ending.Cause.TheVariants as causes
 use Rattle.m4_engine.specs.Session.{FreezeLeaves}
-use Rattle.m4_tool.specs.World.{Files, with_file, made_file}
+use Rattle.m4_tool.specs.World.{Files, with_file}
 use Rattle.m4_tool.specs.Late.{written, after_writing}
 use Rattle.m4_tool.specs.LineRun.{RanFiles}
-use Rattle.m4_tool.specs.Line.{LineResult}
-use Rattle.m4_tool.specs.TornFile.{IsTornFile, HasTornFile, TearsFile, FreezesOrTears}
+use Rattle.m4_tool.specs.TornFile.{IsTornFile, TearsFile, FreezesOrTears}
 
 -- a torn beginning is such a file
 torn_file : (s : State) (bytes : List ℕ) → IsState s → IsSized s → IsTorn s bytes → IsTornFile bytes
