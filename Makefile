@@ -5,7 +5,7 @@ DESTDIR =
 
 SOURCES := crates.txt $(shell find crates -name out -prune -o -type f -print)
 
-.PHONY: check demo program cases programs differences expressions chance install uninstall bench real-files mutants refused-memory wrong-bodies
+.PHONY: check demo program cases programs differences expressions chance install uninstall bench real-files mutants refused-memory torn wrong-bodies
 
 # The program: proved, then built. A crate that is not proved is not built.
 m4r: $(SOURCES)
@@ -60,6 +60,10 @@ mutants: m4r
 # Each request for memory of a run refused in turn.
 refused-memory: m4r
 	tests/refused_memory
+
+# Frozen files as they are after each write of a run, reloaded.
+torn: m4r
+	tests/torn
 
 # The wrong bodies that the gate leaves out. Give CRATES='m4_tool ..' to try those of some crates.
 wrong-bodies:

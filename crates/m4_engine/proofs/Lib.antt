@@ -52,6 +52,7 @@ pub mod Reached
 pub mod Readers
 pub mod Whole
 pub mod Starts
+pub mod Tears
 pub mod RunReached
 pub mod TwoRuns
 pub mod Chains

@@ -26,7 +26,7 @@ start_frozen prefix s valid sized =
     ∙ ap (λ (l : Loaded). From l.state l.issued) loads.denoted
 
 -- the state that a run freezes is in order
-frozen_in_order : (o : Options) (frozen : Option Script) (as' : List Source) → IsState (frozen_state o (start_of o.prefix frozen) as')
+pub frozen_in_order : (o : Options) (frozen : Option Script) (as' : List Source) → IsState (frozen_state o (start_of o.prefix frozen) as')
 frozen_in_order o frozen as' =
     let limits : Limits = limits_of o in
     let start : Start = start_of o.prefix frozen in

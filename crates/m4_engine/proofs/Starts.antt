@@ -2,7 +2,7 @@
 use Rattle.std.proofs.Common.{◌≡◌, ◌⊎◌, inl, inr, ℕ, Bool, false, List, [], ◌∷◌, ◌++◌, Option, Some, None, refl, sym, ap, ◌∙◌, subst, append-nil}
 use Rattle.std.specs.Prelude.{◌≢◌, IfSome, IfOk, IfErr, OnOk, Result, Ok, Err}
 use Rattle.m4_state.proofs.CallerLaws.{with_bytes-append, with_bytes-nil}
-use Rattle.m4_state.specs.State.{State, IsSized}
+use Rattle.m4_state.specs.State.{State}
 use Rattle.m4_state.specs.Device.{Script, with_bytes, HasBegun, one_more}
 use Rattle.m4_state.specs.Fresh.{fresh}
 use Rattle.m4_frozen.specs.Outcome.{Loads}
@@ -164,18 +164,18 @@ begun_gives o start ss s st d x out0 out1 out2 reported reported' frozen frozen'
     (issued_gives k.1 r out0 out1 out2 reported reported' frozen frozen' k.4 x g))
 
 -- the state that such a run freezes
-pub begun_sized : (o : Options) (start : Start) (ss : List Source) (s : SessionState) (st : Result SessionState Stop) (out0 out1 : Option (List ℕ)) → st ≡ Ok s → BeginGives start o out0 out1 st → IsSized ((after_wraps s.limits (after_sources s.limits ss (progress_of s))).so_far).state → IsSized (frozen_state o start ss)
-begun_sized o start ss s st out0 out1 i b h =
+pub begun_state : (P : State → Type 0) (o : Options) (start : Start) (ss : List Source) (s : SessionState) (st : Result SessionState Stop) (out0 out1 : Option (List ℕ)) → st ≡ Ok s → BeginGives start o out0 out1 st → P ((after_wraps s.limits (after_sources s.limits ss (progress_of s))).so_far).state → P (frozen_state o start ss)
+begun_state P o start ss s st out0 out1 i b h =
     let k = subst (BeginGives start o out0 out1) i b in
     let limits : Limits = limits_of o in
     let p : Progress = after_sources limits ss (progress_of (session_from o k.0)) in
-    let g : IsSized ((after_wraps limits p).so_far).state = subst (λ (y : SessionState). IsSized ((after_wraps y.limits (after_sources y.limits ss (progress_of y))).so_far).state) k.3 h in
+    let g : P ((after_wraps limits p).so_far).state = subst (λ (y : SessionState). P ((after_wraps y.limits (after_sources y.limits ss (progress_of y))).so_far).state) k.3 h in
     let e : after_wraps limits (after_sources limits ss (begun start)) ≡ after k.1 [] (after_wraps limits p) =
     ap (λ (y : Start). after_wraps limits (after_sources limits ss (begun y))) k.2
     ∙ ap (λ (y : Progress). after_wraps limits (after_sources limits ss y)) (begun_is o k.0 k.1)
     ∙ ap (after_wraps limits) (sources_after k.1 [] limits ss (progress_of (session_from o k.0)))
     ∙ wraps_after k.1 [] limits p in
-    subst (λ (y : Progress). IsSized (y.so_far).state) (sym e) g
+    subst (λ (y : Progress). P (y.so_far).state) (sym e) g
 
 -- a run whose frozen file was refused
 faulty_is : (o : Options) (fault : FrozenFault) (ss : List Source) → run_from o (Faulty fault) ss ≡ result_of o.freeze [] (begun (Faulty fault))

@@ -13,7 +13,7 @@ ghost use Rattle.m4_engine.specs.Run.{run as defined, status_of};
 ghost use Rattle.m4_engine.specs.Expansion.{Ends};
 ghost use Rattle.m4_engine.specs.Writers.{both, three, ByCause, NoneOfThree, OneOfThree, Spares};
 ghost use Rattle.m4_engine.specs.RunSources.{DescribeSources, DescribesSource, ReadersFailBy, DescribesFrozen, FrozenFailsBy, any_unopened, is_unopened, AllConsumeOnly, ConsumesOnly};
-ghost use Rattle.m4_engine.specs.Session.{IsOpen, IsLeft, GoesTo, BeginGives, BeginFails, IsBegun, CloseGives, ByAnswer, WriteFails, MessageWriteFails, SourceFails, SourcesFail, SparesBy, progress_of, status_at};
+ghost use Rattle.m4_engine.specs.Session.{FreezeLeaves, IsOpen, IsLeft, GoesTo, BeginGives, BeginFails, IsBegun, CloseGives, ByAnswer, WriteFails, MessageWriteFails, SourceFails, SourcesFail, SparesBy, last_state, progress_of, status_at};
 ghost use Rattle.m4_engine.specs.OnePass.{OnePass};
 ghost use Rattle.m4_engine.specs.SourcesRead.{SourceGives, SourcesGive, RunReached};
 ghost use Rattle.m4_engine.specs.WholeRun.{RunGives, NothingIsDone, result_after, ending_by};
@@ -64,6 +64,10 @@ pub fn run<R: ByteSource, O: ByteSink, M: ByteSink, Z: ByteSink>(
     ensures sized { (file : Option Script) → DescribesFrozen R.script frozen.old file
         → (ss : List Said) → DescribeSources R.script sources.old sources.new ss →
         result.ending.cause ≡ Cause.Done → options.freeze ≡ true → IsSized (frozen_state options (start_of options.prefix file) ss) }
+    // torn files: if each put of the frozen text is taken whole, a write fault leaves nothing of it, or a torn beginning
+    ensures torn { Z.takes_whole ≡ true → (file : Option Script) → DescribesFrozen R.script frozen.old file
+        → (ss : List Said) → DescribeSources R.script sources.old sources.new ss → result.ending.cause ≡ Cause.Write
+        → FreezeLeaves (frozen_state options (start_of options.prefix file) ss) (Z.contents freeze_to.old) (Z.contents freeze_to.new) }
     // safe and total: a read fault is reported if a reader failed in this call, and only then
     ensures read { ReadersFailBy R.failures result.ending.cause sources.old sources.new }
     // safe and total: a read fault of a frozen file is reported only if its reader failed in this call
@@ -169,6 +173,10 @@ fn read_to_end<R: ByteSource, O: ByteSink, M: ByteSink, Z: ByteSink>(
     ensures any_missing { OnOk result (session.new.any_missing ≡ (any_unopened sources.old || session.old.any_missing)) }
     ensures sized { (ss : List Said) → DescribeSources R.script sources.old sources.new ss → OnOk result (freezes ≡ true
         → IsSized ((after_wraps session.old.limits (after_sources session.old.limits ss (progress_of session.old))).so_far).state) }
+    ensures torn { Z.takes_whole ≡ true → (ss : List Said) → DescribeSources R.script sources.old sources.new ss
+        → result ≡ Err (Stop.Ended Cause.Write)
+        → FreezeLeaves ((after_wraps session.old.limits (after_sources session.old.limits ss (progress_of session.old))).so_far).state
+        (Z.contents freeze_to.old) (Z.contents freeze_to.new) }
     ensures read { SourcesFail R.failures result sources.old sources.new }
     ensures taken { AllConsumeOnly R.script sources.old sources.new }
     ensures write { ByAnswer result
@@ -199,6 +207,8 @@ fn close<O: ByteSink, M: ByteSink, Z: ByteSink>(
         (NoneOfThree (three Z.failures (both O.failures M.failures out.old out.new messages.old messages.new) freeze_to.old freeze_to.new))
         (OneOfThree (three Z.failures (both O.failures M.failures out.old out.new messages.old messages.new) freeze_to.old freeze_to.new)
         (three Z.contents (both O.contents M.contents out.old out.new messages.old messages.new) freeze_to.old freeze_to.new)) }
+    ensures torn { Z.takes_whole ≡ true → result ≡ Err (Stop.Ended Cause.Write)
+        → FreezeLeaves (last_state session.old) (Z.contents freeze_to.old) (Z.contents freeze_to.new) }
     ensures spared { freezes ≡ false → freeze_to.new ≡ freeze_to.old }
 {
     if freezes {

@@ -1,9 +1,9 @@
 //! A run, call by call: its sources in order, and then its end.
 //! Manual: "Command line files", "Invoking m4".
 
-ghost use Rattle.std.specs.Prelude.{◌≡◌, true, false, Some, [], IfOk, IfErr, OnOk};
+ghost use Rattle.std.specs.Prelude.{◌≡◌, true, false, Some, [], IfOk, IfErr, OnOk, Err};
 ghost use Rattle.m4_engine.specs.Writers.{both, three, NoneOfThree, OneOfThree};
-ghost use Rattle.m4_engine.specs.Session.{SessionState, IsOpen, answer_by, over_after, session_from, fresh_session, ReloadGives, FileGives, MissingGives, FinishGives, FreezeGives, ReadFails, ReloadFails, ByAnswer, WriteFails, MessageWriteFails, WrapsGive, session_after_wraps, round_of, is_saved, status_at};
+ghost use Rattle.m4_engine.specs.Session.{SessionState, IsOpen, answer_by, over_after, session_from, fresh_session, ReloadGives, FileGives, MissingGives, FinishGives, FreezeGives, FreezeLeaves, last_state, ReadFails, ReloadFails, ByAnswer, WriteFails, MessageWriteFails, WrapsGive, session_after_wraps, round_of, is_saved, status_at};
 
 use crate::ending::Cause;
 use crate::machine::Machine;
@@ -281,6 +281,9 @@ impl Session {
         ensures gives { FreezeGives self.old self.new
             (three Z.contents (both O.contents M.contents out.old out.new messages.old messages.new) freeze_to.old freeze_to.new)
             result }
+        // torn files: if each put is taken whole, a write fault leaves nothing of the frozen text, or a torn beginning
+        ensures torn { Z.takes_whole ≡ true → result ≡ Err (Stop.Ended Cause.Write)
+            → FreezeLeaves (last_state self.old) (Z.contents freeze_to.old) (Z.contents freeze_to.new) }
         // safe and total: a write fault is returned only if a writer failed in this call
         ensures write { ByAnswer result
             (NoneOfThree (three Z.failures (both O.failures M.failures out.old out.new messages.old messages.new) freeze_to.old freeze_to.new))

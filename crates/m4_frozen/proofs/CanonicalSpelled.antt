@@ -72,7 +72,7 @@ signed_spelled (negsuc n) fits =
 -- ---- one directive
 
 -- its lengths are numbers of 64 bits, and the number of a diversion is one of 32
-abbrev Fits : Directive → Type 0
+abbrev pub Fits : Directive → Type 0
 Fits (Quotes begin end) = (length begin < 2 ^ 64) × (length end < 2 ^ 64)
 Fits (Comments begin end) = (length begin < 2 ^ 64) × (length end < 2 ^ 64)
 Fits (Text name text) = (length name < 2 ^ 64) × (length text < 2 ^ 64)
@@ -105,7 +105,7 @@ diversion_spelled number text fits_number fits_text = record {
   spelled = simp append_assoc;
 }
 
-one_spelled : (d : Directive) → Fits d → SpellsOne d (spelling d)
+pub one_spelled : (d : Directive) → Fits d → SpellsOne d (spelling d)
 one_spelled (Quotes begin end) fits = pair_spelled letter_Q begin end fits.0 fits.1
 one_spelled (Comments begin end) fits = pair_spelled letter_C begin end fits.0 fits.1
 one_spelled (Text name text) fits = pair_spelled letter_T name text fits.0 fits.1
@@ -114,7 +114,7 @@ one_spelled (Diversion number text) fits = diversion_spelled number text fits.0 
 
 -- ---- all directives of a text
 
-no_lines : AreSkippedLines []
+pub no_lines : AreSkippedLines []
 no_lines = ([], All-nil IsSkippedLine, refl)
 
 -- a comment line
@@ -148,6 +148,21 @@ all_spelled (d ∷ ds) fits = (
   append_assoc (spelling d) (flat_map spelling ds) end_line,
 )
 
+-- the first line
+pub header_lines : AreSkippedLines (codes "# m4 frozen state\n")
+header_lines = comment_line (codes "# m4 frozen state") (inr (codes " m4 frozen state", refl, refl))
+
+-- the number of the second
+pub header_number : IsNumber 1 (codes "1")
+header_number = record {
+  blanks = [];
+  digits = codes "1";
+  are_blanks = refl;
+  are_digits = ((λ (none : codes "1" ≡ []). absurd cc), refl);
+  spelled = refl;
+  value = refl;
+}
+
 -- directives that fit, between the header and the end line
 text_spelled : (ds : List Directive) → AllByRecursion Fits ds
     → Spells ds (header ++ flat_map spelling ds ++ end_line)
@@ -155,15 +170,8 @@ text_spelled ds fits = record {
   lines = codes "# m4 frozen state\n";
   number = codes "1";
   rest = flat_map spelling ds ++ end_line;
-  are_lines = comment_line (codes "# m4 frozen state") (inr (codes " m4 frozen state", refl, refl));
-  version = record {
-    blanks = [];
-    digits = codes "1";
-    are_blanks = refl;
-    are_digits = ((λ (none : codes "1" ≡ []). absurd cc), refl);
-    spelled = refl;
-    value = refl;
-  };
+  are_lines = header_lines;
+  version = header_number;
   others = all_spelled ds fits;
   spelled = append_assoc header (flat_map spelling ds) end_line;
 }
@@ -217,7 +225,7 @@ current_fits s fits = by (int_eq s.current (last_number (pos 0) s.diversions))
     by true = tt
     by false = ((fits, omega arith), tt)
 
-canonical_fits : (s : State) → IsState s → IsSized s → AllByRecursion Fits (canonical s)
+pub canonical_fits : (s : State) → IsState s → IsSized s → AllByRecursion Fits (canonical s)
 canonical_fits s valid sized =
     AllByRecursion-append Fits _ (current_unless_last s)
     (AllByRecursion-append Fits _ (map diversion s.diversions)

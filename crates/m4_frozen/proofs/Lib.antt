@@ -18,6 +18,7 @@ pub mod TextRead
 pub mod Remaining
 pub mod WindowRead
 pub mod Examples
+pub mod Lates
 pub mod FreezeParts
 pub mod ListingParts
 pub mod Plain
@@ -25,4 +26,6 @@ pub mod CanonicalSpelled
 pub mod CanonicalDenoted
 pub mod LastPlace
 pub mod RoundTrip
+pub mod Torn
+pub mod TornFault
 pub mod Refrozen

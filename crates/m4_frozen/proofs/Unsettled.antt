@@ -129,7 +129,7 @@ zero_unsettled bytes fault h is all settled =
     (zero_value (h.here ++ 49 ∷ []) (all_digits-append h.here (49 ∷ []) all refl) digits)
 
 -- what can be wrong at the end
-abbrev EndsSo : FrozenKind → Bool → List ℕ → Type 0
+abbrev pub EndsSo : FrozenKind → Bool → List ℕ → Type 0
 EndsSo kind versioned before = (kind ≡ kinds.PrematureEnd)
     ⊎ ((kind ≡ kinds.NoVersion) × (versioned ≡ false) × IsSkippedLine before)
 
@@ -140,7 +140,7 @@ within_end kind true before h = inl (wrong_at_end kind h.3.0 h.1 h.3.2)
 within_end kind false before h = inl (wrong_at_end kind version_layout h.1 h.3.1)
 
 -- so it is of any row
-row_end : (kind : FrozenKind) (versioned : Bool) (before : List ℕ)
+pub row_end : (kind : FrozenKind) (versioned : Bool) (before : List ℕ)
     → RowFits kind versioned before [] → EndsSo kind versioned before
 row_end kinds.NoVersion versioned before (e, inl h) = absurd (let k = h.1 in cc)
 row_end kinds.NoVersion versioned before (e, inr h) = inr (refl, e, h.0)

@@ -2,7 +2,7 @@
 //!
 //! Each function's contract is a law of `specs/Laws.antt`. Manual: "Frozen file format".
 
-ghost use Rattle.m4_frozen.specs.Laws.{OneReading, OneAnswer, OneAnswerOfFailed, TiesReaderSteps, FreezeLoads, CanonAgain, RefreezeOlder};
+ghost use Rattle.m4_frozen.specs.Laws.{OneReading, OneAnswer, OneAnswerOfFailed, TiesReaderSteps, FreezeLoads, CanonAgain, TornRefused, TornFaults, RefreezeOlder};
 
 /// The same bytes spell only one list of directives.
 pub fn one_reading()
@@ -35,6 +35,15 @@ pub fn freeze_loads()
 pub fn canon_again()
     // canonical round trip: freezing what was loaded gives the same bytes
     ensures { CanonAgain }
+{}
+
+/// A canonical text that is cut off inside its first two lines or inside a directive is refused at its end.
+/// Manual: "Frozen file format".
+pub fn torn_refused()
+    // torn files: no directives spell a torn beginning, and it has one fault
+    ensures refused { TornRefused }
+    // torn files: the fault is that of a file that ends too early
+    ensures faults { TornFaults }
 {}
 
 /// Two states have the same canonical text if they differ only in this: one has a builtin where the

@@ -2,7 +2,7 @@
 -- writer, and taken block by block from a reader.
 use Rattle.std.proofs.Common.{◌≡◌, ℕ, ◌+◌, ◌<◌, List, [], ◌++◌, length, get_or, take, drop, drop-cons, add-one, Option, Some, None, Result, Ok, Err, refl, sym, ap, ◌∙◌, append_assoc}
 use Rattle.std.specs.List.{flat_map}
-use Rattle.std.specs.Prelude.{IsErr}
+use Rattle.std.specs.Prelude.{IsErr, OnErr}
 use Rattle.std.proofs.lemmas.List.{take-append-drop, append-nil}
 use Rattle.m4_state.specs.declared.builtin.Builtin.{Builtin}
 use Rattle.m4_state.specs.declared.builtin.Builtin.TheVariants.{Define, Undefine, Pushdef, Popdef, Defn, Indir, IndirBuiltin, Ifdef, Ifelse, Shift, Dumpdef, Dnl, Changequote, Changecom, Divert, Undivert, Divnum, Len, Index, Substr, Translit, Incr, Decr, Eval, Errprint, M4wrap, M4exit, File, Line}
@@ -102,3 +102,8 @@ flat_map-drop f xs i d lt = ap (flat_map f) (drop-cons xs i d lt) ∙ ap (λ (j 
 pub Puts-refused : {A E : Type 0} (r : Result A E) (old new : Option (List ℕ)) (text : List ℕ) → IsErr r → HasBegun old new text → Puts r old new text
 Puts-refused (Ok x) old new text is p = absurd cc
 Puts-refused (Err x) old new text is p = p
+
+-- what holds in any case holds of a failure
+pub OnErr-is : {A E : Type 0} {P : Type 0} (r : Result A E) → P → OnErr r P
+OnErr-is (Ok x) p = tt
+OnErr-is (Err x) p = p

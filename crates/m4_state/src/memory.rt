@@ -1,7 +1,7 @@
 //! Devices over memory, whose bytes contracts know: a reader that returns a slice piece by piece, and
 //! a writer with a fixed room. `take` and `put` allocate nothing.
 
-ghost use Rattle.std.specs.Prelude.{◌≡◌, ◌<◌, ◌≤◌, ◌+◌, ◌-◌, [], length, take, drop, Ok, Some, IfOk, OnErr};
+ghost use Rattle.std.specs.Prelude.{◌≡◌, ◌<◌, ◌≤◌, ◌+◌, ◌-◌, [], length, take, drop, false, Ok, Some, IfOk, OnErr};
 ghost use Rattle.m4_state.specs.Device.{after_bytes, count_after, IsAtEnd, IsAtFault};
 
 use crate::device::{ByteSink, ByteSource, DeviceFault};
@@ -150,6 +150,8 @@ impl MemSink {
 
 impl ByteSink for MemSink {
     ghost contents = { λ s. Some s.held };
+
+    ghost takes_whole = { false };
 
     ghost failures = { λ s. s.failures };
 

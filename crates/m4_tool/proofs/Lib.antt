@@ -12,3 +12,4 @@ mod Places
 mod RanFiles
 mod RefusalLemmas
 mod RowLemmas
+mod TornFiles

@@ -9,4 +9,5 @@ pub mod Memory
 pub mod ModeFault
 pub mod Modes
 pub mod RunEnd
+pub mod TornFile
 pub mod World

@@ -1,7 +1,7 @@
 //! A line that is followed in a world: a mode, or a run over the files of the line, which starts from a
 //! frozen file and freezes to one. Manual: "Invoking m4".
 
-ghost use Rattle.std.specs.Prelude.{◌≡◌, map, [], List, ℕ, Option, Some, None, IfSome, false, unwrap_or, option_map, string_bytes};
+ghost use Rattle.std.specs.Prelude.{◌≡◌, map, [], List, ℕ, Option, Some, None, IfSome, true, false, unwrap_or, option_map, string_bytes};
 ghost use Rattle.m4_state.specs.Device.{Script};
 ghost use Rattle.m4_engine.specs.RunSources.{DescribesFrozen};
 ghost use Rattle.m4_engine.specs.File.{Source as Said};
@@ -11,6 +11,7 @@ ghost use Rattle.m4_tool.specs.Line.{EndsBy, ExtendFiles, Follows, LineResult, M
 ghost use Rattle.m4_tool.specs.LineMode.{ModeFollows, ends_of};
 ghost use Rattle.m4_tool.specs.LineRun.{seen};
 ghost use Rattle.m4_tool.specs.Modes.{ModeRuns, reads, writes};
+ghost use Rattle.m4_tool.specs.TornFile.{FreezesOrTears};
 
 mod closing;
 mod running;
@@ -48,6 +49,12 @@ pub fn follow<W: World, O: Shows, M: Shows>(
         → MayGive (request_of line.now) files input r
         → Follows (request_of line.now) r result.status result.failure
         (seen O.contents M.contents M.failures out.old out.new messages.old messages.new (W.files world) (W.files result.world)) }
+    // torn files: if each append takes all of its bytes or none, the frozen file has all of its text, or is as it
+    // was, or is refused by a run that reloads it
+    ensures torn { (files : Files) (input : Script) (r : LineResult) → line.now.canon ≡ None → line.now.inspect ≡ None
+        → W.appends_whole ≡ true → W.making world ≡ false → W.files world ≡ Some files → W.input world ≡ Some input
+        → MayGive (request_of line.now) files input r
+        → FreezesOrTears (unwrap_or (request_of line.now).freeze []) r.frozen (W.files world) (W.files result.world) }
     // line in a world: a mode on the file of its name
     ensures canon { IfSome line.now.canon (λ file. (files : Files) → W.making world ≡ false → W.files world ≡ Some files
         → ModeFollows Mode.Canon (string_bytes file) (files (string_bytes file)) result.status
@@ -156,6 +163,10 @@ fn follow_run<W: World, O: Shows, M: Shows>(
         → MayGive (request_of line.now) files input r
         → Follows (request_of line.now) r result.status result.failure
         (seen O.contents M.contents M.failures out.old out.new messages.old messages.new (W.files world) (W.files result.world)) }
+    ensures torn { (files : Files) (input : Script) (r : LineResult)
+        → W.appends_whole ≡ true → W.making world ≡ false → W.files world ≡ Some files → W.input world ≡ Some input
+        → MayGive (request_of line.now) files input r
+        → FreezesOrTears (unwrap_or (request_of line.now).freeze []) r.frozen (W.files world) (W.files result.world) }
     ensures output_shown { result.failure ≡ None → O.shown out.new ≡ O.contents out.new }
     ensures messages_shown { result.failure ≡ None → M.shown messages.new ≡ M.contents messages.new }
     ensures kept { result.failure ≡ None → W.kept result.world ≡ W.files result.world }
@@ -197,6 +208,12 @@ fn follow_from<W: World, O: Shows, M: Shows>(
         → EndsBy result.failure (unwrap_or (request_of line.now).freeze []) file.now
         (result_of_run file.now (defined line.now.options script ss)) result.status
         (seen O.contents M.contents M.failures out.old out.new messages.old messages.new (W.files world) (W.files result.world)) }
+    ensures torn { (files : Files) (input : Script) (script : Option Script) (ss : List Said)
+        → W.appends_whole ≡ true → W.making world ≡ false → W.files world ≡ Some files → W.input world ≡ Some input
+        → DescribesFrozen W.Reader.script frozen.old script
+        → ExtendFiles files input (words_of (request_of line.now).names) ss
+        → FreezesOrTears (unwrap_or (request_of line.now).freeze []) (result_of_run file.now (defined line.now.options script ss)).frozen
+        (W.files world) (W.files result.world) }
     ensures output_shown { result.failure ≡ None → O.shown out.new ≡ O.contents out.new }
     ensures messages_shown { result.failure ≡ None → M.shown messages.new ≡ M.contents messages.new }
     ensures kept { result.failure ≡ None → W.kept result.world ≡ W.files result.world }

@@ -78,6 +78,8 @@ impl<W: World, K: Place> LateFile<W, K> {
 impl<W: World, K: Place> ByteSink for LateFile<W, K> {
     ghost contents = { λ s. written s.created K.name (W.files s.world) };
 
+    ghost takes_whole = { W.appends_whole };
+
     ghost failures = { λ s. s.failures };
 
     fn put(&mut self, bytes: &[u8]) -> Result<usize, DeviceFault> {

@@ -84,6 +84,8 @@ impl<'a> World for MemWorld<'a> {
 
     ghost kept = { λ w. Some (memory_files w.name.items (option_map (λ v. v.items) w.made) w.given.now) };
 
+    ghost appends_whole = { true };
+
     fn open(&self, name: &[u8]) -> Option<MemSource<'a>> {
         found(self.given, name)
     }

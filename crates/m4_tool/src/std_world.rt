@@ -82,6 +82,8 @@ impl<'a, R: Files, I: Read + Copy, W: Write, E: Write> World for StdWorld<'a, R,
 
     ghost kept = { λ _. None };
 
+    ghost appends_whole = { false };
+
     fn open(
         &self,
         name: &[u8],
@@ -152,6 +154,8 @@ impl<W: Write> StdShown<W> {
 
 impl<W: Write> ByteSink for StdShown<W> {
     ghost contents = { λ _. None };
+
+    ghost takes_whole = { false };
 
     ghost failures = { λ s. s.failures };
 

@@ -4,7 +4,7 @@
 //! [`StdWorld`](crate::std_world::StdWorld) is the world of a process, of which contracts know no byte.
 //! [`MemWorld`](crate::mem_world::MemWorld) is a world in memory, of which they know all.
 
-ghost use Rattle.std.specs.Prelude.{◌≡◌, ◌<◌, ◌≤◌, length, take, List, ℕ, Option, Some, [], OnOk, OnErr, IfOk, IfSome, option_map, false, Bool};
+ghost use Rattle.std.specs.Prelude.{◌≡◌, ◌<◌, ◌≤◌, length, take, List, ℕ, Option, Some, [], OnOk, OnErr, IfOk, IfSome, option_map, true, false, Bool};
 ghost use Rattle.m4_state.specs.Device.{Script};
 ghost use Rattle.m4_tool.specs.World.{Files, with_file, with_more};
 
@@ -26,6 +26,9 @@ pub trait World: Drop {
 
     /// The files with the bytes that were flushed; none if they are not known.
     ghost kept: { Self → Option Files };
+
+    /// Whether each append takes all of the bytes or none.
+    ghost appends_whole: { Bool };
 
     /// Opens a file for reading, unless that fails.
     fn open(&self, name: &[u8]) -> Option<Self::Reader>
@@ -49,6 +52,7 @@ pub trait World: Drop {
         requires { 0 < length bytes.now }
         ensures within { IfOk result (λ n. n ≤ length bytes.now) }
         ensures some { IfOk result (λ n. 0 < n) }
+        ensures whole { appends_whole ≡ true → IfOk result (λ n. n ≡ length bytes.now) }
         ensures appended { IfOk result (λ n. files self.new ≡ option_map (with_more name.now (take n bytes.now)) (files self.old)) }
         ensures unchanged { OnErr result (files self.new ≡ files self.old) };
 

@@ -141,6 +141,7 @@ pub fn close_unopened<W: World, O: Shows, M: Shows>(
 ) -> Followed<W>
     ensures ends { (name : List ℕ) → EndsBy result.failure name file.now (unreloaded file.now) result.status
         (seen O.contents M.contents M.failures out.old out.new messages.old messages.new (W.files world) (W.files result.world)) }
+    ensures files { W.files result.world ≡ W.files world }
     ensures output_shown { result.failure ≡ None → O.shown out.new ≡ O.contents out.new }
     ensures messages_shown { result.failure ≡ None → M.shown messages.new ≡ M.contents messages.new }
     ensures kept { result.failure ≡ None → W.kept result.world ≡ W.files result.world }

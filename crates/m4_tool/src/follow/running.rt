@@ -1,6 +1,6 @@
 //! The run of a line: over its sources, from its start, to the file to which it freezes.
 
-ghost use Rattle.std.specs.Prelude.{◌≡◌, ◌⊎◌, [], List, ℕ, Option, Some, None, IfOk, false, map, unwrap_or, option_map, string_bytes};
+ghost use Rattle.std.specs.Prelude.{◌≡◌, ◌⊎◌, [], List, ℕ, Option, Some, None, IfOk, true, false, map, unwrap_or, option_map, string_bytes};
 ghost use Rattle.m4_state.specs.Device.{Script};
 ghost use Rattle.m4_engine.specs.File.{Source as Said};
 ghost use Rattle.m4_engine.specs.RunSources.{DescribesFrozen};
@@ -8,6 +8,7 @@ ghost use Rattle.m4_engine.specs.Run.{run as defined};
 ghost use Rattle.m4_tool.specs.World.{Files};
 ghost use Rattle.m4_tool.specs.Line.{ExtendFiles, request_of, words_of};
 ghost use Rattle.m4_tool.specs.LineRun.{Ran as RanBy, named_in, named_of, seen};
+ghost use Rattle.m4_tool.specs.TornFile.{TearsFile};
 
 use super::sources::sources_of;
 use crate::late::{LateFile, Place};
@@ -40,12 +41,18 @@ pub fn run_line<W: World, O: Shows, M: Shows>(
     out: &mut O,
     messages: &mut M,
 ) -> Ran<W>
-    ensures { (files : Files) (input : Script) (script : Option Script) (ss : List Said)
+    ensures ran { (files : Files) (input : Script) (script : Option Script) (ss : List Said)
         → W.making world ≡ false → W.files world ≡ Some files → W.input world ≡ Some input
         → DescribesFrozen W.Reader.script frozen.old script
         → ExtendFiles files input (words_of (request_of line.now).names) ss
         → RanBy (unwrap_or (request_of line.now).freeze []) (defined line.now.options script ss) result.ending
         (seen O.contents M.contents M.failures out.old out.new messages.old messages.new (W.files world) (W.files result.world)) }
+    ensures torn { W.appends_whole ≡ true → (files : Files) (input : Script) (script : Option Script) (ss : List Said)
+        → W.making world ≡ false → W.files world ≡ Some files → W.input world ≡ Some input
+        → DescribesFrozen W.Reader.script frozen.old script
+        → ExtendFiles files input (words_of (request_of line.now).names) ss
+        → result.ending.cause ≡ Cause.Write
+        → TearsFile (unwrap_or (request_of line.now).freeze []) (W.files world) (W.files result.world) }
 {
     let mut world = world;
     let Ok(mut sources) = sources_of(alloc, &mut world, line.files.as_slice()) else {
@@ -105,11 +112,15 @@ fn run_late<W: World, K: Place, O: Shows, M: Shows>(
 ) -> Ran<W>
     requires before { W.files world ≡ K.before }
     requires name { name ≡ K.name }
-    ensures { (files : Files) (input : Script) (names : List (List ℕ)) (script : Option Script) (ss : List Said)
+    ensures ran { (files : Files) (input : Script) (names : List (List ℕ)) (script : Option Script) (ss : List Said)
         → map (named_of W.Reader.script) sources.old ≡ named_in files input names
         → DescribesFrozen W.Reader.script frozen.old script → ExtendFiles files input names ss
         → RanBy K.name (defined options script ss) result.ending
         (seen O.contents M.contents M.failures out.old out.new messages.old messages.new K.before (W.files result.world)) }
+    ensures torn { W.appends_whole ≡ true → (files : Files) (input : Script) (names : List (List ℕ)) (script : Option Script) (ss : List Said)
+        → map (named_of W.Reader.script) sources.old ≡ named_in files input names
+        → DescribesFrozen W.Reader.script frozen.old script → ExtendFiles files input names ss
+        → result.ending.cause ≡ Cause.Write → TearsFile K.name K.before (W.files result.world) }
 {
     let mut late: LateFile<W, K> = LateFile::new(world, name);
     let ran = run(alloc, options, frozen, sources, out, messages, &mut late);

@@ -2,7 +2,7 @@
 //! worked out by hand: if a reader fails, the output is at least what is written before the source is read, and
 //! at most what every run writes whose source begins with the bytes of that reader.
 
-ghost use Rattle.std.specs.Prelude.{None};
+ghost use Rattle.std.specs.Prelude.{None, false};
 
 use super::following::{AT_MOST, Around, USUAL, add_made, end_of, expected, last_of, seen_of};
 use crate::runs::given::sink;
@@ -88,6 +88,8 @@ struct Unflushed {
 
 impl ByteSink for Unflushed {
     ghost contents = { λ s. ⟦<MemSink as ByteSink>⟧.contents s.sink };
+
+    ghost takes_whole = { false };
 
     ghost failures = { λ s. ⟦<MemSink as ByteSink>⟧.failures s.sink };
 

@@ -1,10 +1,11 @@
-use Rattle.std.proofs.Common.{rules, refl}
+use Rattle.std.proofs.Common.{rules, refl, inl}
 use Rattle.m4_engine.specs.File.{after_sources}
 use Rattle.m4_engine.specs.Session.{progress_of}
 use Rattle.m4_engine.proofs.Readers.{same_fails, close_sound}
 use Rattle.m4_engine.proofs.Whole.{early_so, late_so, well_so, sized_so}
 use Rattle.m4_engine.proofs.Starts.{close_left}
 use Rattle.m4_engine.proofs.RunReached.{early_reached, late_reached, closed_reached}
+use Rattle.m4_engine.proofs.Tears.{torn_so}
 use Rattle.m4_engine.proofs.run.read_to_end.Goals as goal
 
 pub returns-in_err-read_sources-clause-gives : goal.returns-in_err-read_sources-clause-gives
@@ -40,3 +41,10 @@ returns-in_err-close-clause-reached g c = λ n. late_reached g.R.ByteSource.scri
 
 pub returns-clause-reached : goal.returns-clause-reached
 returns-clause-reached g c = λ n. closed_reached g.R.ByteSource.script c.args.sources.now c.read_sources.new.sources c.args.freezes c.args.session.now c.read_sources.new.session c.close.new.session _ _ _ _ _ _ n c.in_ok-read_sources.ensures.unfinished c.in_ok-read_sources.ensures.reached c.wrapped-wrapped.result _ _ refl refl c.in_ok-close.ensures.gives
+
+pub returns-in_err-read_sources-clause-torn : goal.returns-in_err-read_sources-clause-torn
+returns-in_err-read_sources-clause-torn g c = λ whole ss s e. inl refl
+
+pub returns-in_err-close-clause-torn : goal.returns-in_err-close-clause-torn
+returns-in_err-close-clause-torn g c = λ whole ss s e.
+    torn_so c.args.session.now.limits (after_sources c.args.session.now.limits ss (progress_of c.args.session.now)) c.args.session.now c.read_sources.new.session _ _ _ refl (c.in_ok-read_sources.ensures.goes ss s) c.in_err-close.field-0.0 c.close.result c.from_residual-in_err-close.result (search rules) (search rules) e (c.close.ensures.torn whole)

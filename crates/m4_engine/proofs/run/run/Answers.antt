@@ -1,10 +1,13 @@
-use Rattle.std.proofs.Common.{rules, refl}
+use Rattle.std.proofs.Common.{rules, refl, inl}
+use Rattle.m4_state.specs.State.{State, IsSized}
 use Rattle.m4_engine.specs.Start.{start_of}
 use Rattle.m4_engine.specs.Writers.{both, three}
 use Rattle.m4_engine.proofs.Whole.{left_status}
 use Rattle.m4_engine.proofs.Starts as starts
 use Rattle.m4_engine.proofs.Readers.{none_taken_yet, all_sound, run_fails}
 use Rattle.m4_engine.proofs.RunReached.{never_passed, passed}
+use Rattle.m4_engine.specs.Session.{FreezeLeaves}
+use Rattle.m4_engine.proofs.Tears.{ended_write}
 use Rattle.m4_engine.proofs.run.run.Goals as goal
 
 pub returns-in-Err-clause-gives : goal.returns-in-Err-clause-gives
@@ -60,7 +63,7 @@ returns-clause-spared_by g c = starts.ended_spared _ c.read_to_end-answer.result
 
 pub returns-clause-sized : goal.returns-clause-sized
 returns-clause-sized g c = λ file t ss s e f.
-    starts.begun_sized c.args.options (start_of c.args.options.prefix file) ss c.in-Ok.session c.begin.result _ _ (search rules) (c.begin.ensures.begins file t)
+    starts.begun_state IsSized c.args.options (start_of c.args.options.prefix file) ss c.in-Ok.session c.begin.result _ _ (search rules) (c.begin.ensures.begins file t)
     (starts.ended_done _ c.read_to_end-answer.new.session _ c.read_to_end-answer.result c.ending-2.result c.ending-2.ensures c.read_to_end-answer.ensures.left e (c.read_to_end-answer.ensures.sized ss s) f)
 
 pub returns-in-Err-clause-one_pass : goal.returns-in-Err-clause-one_pass
@@ -68,3 +71,12 @@ returns-in-Err-clause-one_pass g c = λ file t. never_passed g.R.ByteSource.scri
 
 pub returns-clause-one_pass : goal.returns-clause-one_pass
 returns-clause-one_pass g c = λ file t. passed g.R.ByteSource.script c.args.sources.now c.read_to_end-answer.new.sources c.args.options (start_of c.args.options.prefix file) c.in-Ok.session c.begin.result _ c.read_to_end-answer.result c.ending-2.result _ _ _ _ _ (search rules) c.ending-2.ensures (c.begin.ensures.begins file t) c.read_to_end-answer.ensures.reached
+
+pub returns-in-Err-clause-torn : goal.returns-in-Err-clause-torn
+returns-in-Err-clause-torn g c = λ whole file t ss s e. inl refl
+
+pub returns-clause-torn : goal.returns-clause-torn
+returns-clause-torn g c = λ whole file t ss s e.
+    let left : State → Type 0 = λ x. FreezeLeaves x (g.Z.ByteSink.contents c.args.freeze_to.now) (g.Z.ByteSink.contents c.read_to_end-answer.new.freeze_to) in
+    starts.begun_state left c.args.options (start_of c.args.options.prefix file) ss c.in-Ok.session c.begin.result _ _ (search rules) (c.begin.ensures.begins file t)
+    (ended_write _ _ c.read_to_end-answer.result c.ending-2.result c.ending-2.ensures e (c.read_to_end-answer.ensures.torn whole ss s))

@@ -9,3 +9,6 @@ returns-clause-runs g c = λ files input r a b m f i e.
 
 pub returns-clause-extends : goal.returns-clause-extends
 returns-clause-extends g c = λ files input r a b m f i e. c.follow_run.ensures.follows files input r m f i e
+
+pub returns-clause-torn : goal.returns-clause-torn
+returns-clause-torn g c = λ files input r a b whole m f i e. c.follow_run.ensures.torn files input r whole m f i e

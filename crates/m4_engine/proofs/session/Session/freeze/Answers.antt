@@ -1,8 +1,9 @@
-use Rattle.std.proofs.Common.{rules}
+use Rattle.std.proofs.Common.{rules, inl, refl}
 use Rattle.std.specs.Prelude.{Ok, Err}
 use Rattle.m4_engine.specs.Session.{IsOpen}
 use Rattle.m4_engine.proofs.Sessions.{froze, freeze_broke}
 use Rattle.m4_engine.proofs.Wrapping.{freeze_then, freeze_stops, gone_on}
+use Rattle.m4_engine.proofs.Tears.{freeze_torn}
 use Rattle.m4_engine.proofs.session.Session.freeze.Goals as goal
 
 -- the run ended in its saved texts
@@ -25,3 +26,10 @@ returns-clause-gives g c =
 
 pub returns-clause-write : goal.returns-clause-write
 returns-clause-write g c = search rules
+
+pub returns-in_err-read_saved-clause-torn : goal.returns-in_err-read_saved-clause-torn
+returns-in_err-read_saved-clause-torn g c = λ whole e. inl refl
+
+pub returns-in-Err-Write-clause-torn : goal.returns-in-Err-Write-clause-torn
+returns-in-Err-Write-clause-torn g c = λ whole e.
+    freeze_torn c.args.self.now c.read_saved.new.self c.state.result.now _ _ _ c.in_ok-read_saved.ensures.goes.0 (search rules) (search rules) (c.write_frozen.ensures.torn whole (search rules))

@@ -16,3 +16,6 @@ returns-clause-ends g c = λ name.
     (g.M.ByteSink.failures c.args.messages.now) (g.M.ByteSink.failures c.put_unopened.new.messages) (g.M.ByteSink.failures c.close.new.messages)
     (g.W.World.files c.args.world) (g.W.World.files c.close.result.world)
     same c.put_unopened.ensures.puts c.put_unopened.ensures.counted c.close.ensures.closes
+
+pub returns-clause-files : goal.returns-clause-files
+returns-clause-files g c = c.close.ensures.closes.files
