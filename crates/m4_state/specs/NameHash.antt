@@ -2,7 +2,7 @@
 -- Not believed: equal names are fed alike, and how well unequal ones are told apart is measured.
 use Rattle.std.specs.Prelude.{ℕ, nat_lt, if◌then◌else◌, List, [], ◌∷◌, length, take}
 
--- pieces of eight bytes, each four bytes after the one before it, and the rest: a byte is in two pieces, beside others in each
+-- pieces of eight bytes, each four bytes after the one before it, and the rest: a byte in the middle is in two
 abbrev pub pieces : List ℕ → List (List ℕ)
 pieces [] = [] ∷ []
 pieces (a ∷ []) = (a ∷ []) ∷ []

@@ -1,5 +1,5 @@
-//! The inputs of a run: files, and standard input. All are opened before the run, and a file is closed once it was read to
-//! its end.
+//! The inputs of a run: files, and standard input. All are opened before the run, and a file is closed once it was
+//! read to its end.
 
 ghost use Rattle.std.specs.Prelude.{◌≡◌, IfOk};
 ghost use Rattle.m4_tool.specs.RunEnd.{source_name};
@@ -15,7 +15,8 @@ use std::rt::Files;
 pub enum FileOrInput<'a, R: Files, I> {
     /// An open file.
     File(<R as Files>::File),
-    /// A file that can be opened, for which there was no descriptor before the run: it is opened when it is first read.
+    /// A file that can be opened, for which there was no descriptor before the run: it is opened when it is first
+    /// read.
     Later(&'a R, String),
     /// A file that was read to its end.
     Closed,

@@ -1,7 +1,7 @@
 //! The world of a process: its files and its standard input. Contracts know no byte of it.
 //!
-//! All files are opened before the run. A process may have so many open files and no more: from the first one on for which
-//! there is no descriptor, a file is tried, closed, and opened again when it is read.
+//! All files are opened before the run. A process may have so many open files and no more: from the first one
+//! on for which there is no descriptor, a file is tried, closed, and opened again when it is read.
 
 ghost use Rattle.std.specs.Prelude.{◌≡◌, IfErr, None, false};
 ghost use Rattle.std.specs.IoError.{error_kind};
@@ -17,11 +17,12 @@ use std::fs::{self, OpenFile};
 use std::io::{self, BufWriter, ErrorKind, Read, Write};
 use std::rt::Files;
 
-/// The system's numbers of the two errors that say that there are too many open files: in the system, and in the process.
+/// The system's numbers of the two errors that say that there are too many open files, in the system and in the
+/// process.
 const TOO_MANY: [i32; 2] = [23, 24];
 
-/// How many bytes of a made file are buffered, at most. A text that is as long is written with no copy, and a small file
-/// touches little memory.
+/// How many bytes of a made file are buffered, at most. A text that is as long is written with no copy, and a small
+/// file touches little memory.
 const BLOCK: usize = 32768;
 
 /// The file that was made, if one was.
@@ -59,8 +60,8 @@ pub struct StdWorld<'a, R: Files, I, W, E> {
 }
 
 impl<'a, R: Files + Alloc<A = Global>, I, W, E> StdWorld<'a, R, I, W, E> {
-    /// Returns the world of this runtime, with this standard input, whose process writes to these outputs. The spare file
-    /// is closed when there are too many open files, so that one more can be opened. Allocates a block.
+    /// Returns the world of this runtime, with this standard input, whose process writes to these outputs. The
+    /// spare file is closed when there are too many open files, so that one more can be opened. Allocates a block.
     pub fn new(
         rt: &'a R,
         input: I,
@@ -115,8 +116,8 @@ fn open_file<R: Files>(rt: &R, path: &str) -> io::Result<<R as Files>::File> {
     Ok(file)
 }
 
-// Returns whether a file can be opened later. Only a regular file is opened for that: if another one, as a pipe, is closed
-// again, its writer may fail.
+// Returns whether a file can be opened later. Only a regular file is opened for that: if another one, as a pipe, is
+// closed again, its writer may fail.
 fn may_open<R: Files>(rt: &R, path: &str) -> bool {
     match fs::metadata(rt, path) {
         Ok(data) if data.is_file() => match open_file(rt, path) {

@@ -1,5 +1,5 @@
-//! The three streams that a process is started with. One that was closed is occupied before any file is opened, so that
-//! no file gets its number: what is written to a closed standard output must not go into the frozen file.
+//! The three streams that a process is started with. One that was closed is occupied before any file is opened, so
+//! that no file gets its number: what is written to a closed standard output must not go into the frozen file.
 
 use std::fs::{Files, OpenOptions};
 use std::os::fd::{AsRawFd, IntoRawFd, RawFd};
@@ -10,8 +10,8 @@ const FULL: &str = "/dev/full";
 /// The least number that is not one of the three streams.
 const FIRST_FREE: RawFd = 3;
 
-/// Occupies each of the three streams that is closed by a device that refuses each read and each write. Returns one more
-/// file, which is none of the three; none if the device can't be opened, and then a closed stream may stay so.
+/// Occupies each of the three streams that is closed by a device that refuses each read and each write. Returns one
+/// more file, which is none of the three; none if the device can't be opened, and then a closed stream may stay so.
 pub fn occupy_closed<R: Files>(rt: &R) -> Option<<R as Files>::File>
 where
     <R as Files>::File: AsRawFd + IntoRawFd,
