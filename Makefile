@@ -5,7 +5,7 @@ DESTDIR =
 
 SOURCES := crates.txt $(shell find crates -name out -prune -o -type f -print)
 
-.PHONY: check demo program cases programs differences expressions chance install uninstall bench real-files mutants refused-memory torn wrong-bodies
+.PHONY: check demo program cases programs differences expressions chance install uninstall bench real-files mutants hostile refused-memory torn wrong-bodies
 
 # The program: proved, then built. A crate that is not proved is not built.
 m4r: $(SOURCES)
@@ -56,6 +56,10 @@ real-files: m4r
 # Damaged frozen files, made by chance, against the second reader.
 mutants: m4r
 	tests/mutants
+
+# Closed streams, many files, colliding names, and work that grows as its input does.
+hostile: m4r
+	tests/hostile
 
 # Each request for memory of a run refused in turn.
 refused-memory: m4r

@@ -7,6 +7,7 @@ pub mod DiversionEntries
 pub mod Entries
 pub mod Fresh
 pub mod State
+pub mod NameHash
 pub mod NameView
 pub mod StackView
 pub mod StateView

@@ -1,7 +1,7 @@
 //! Texts by their numbers, as diversions store them.
 
-ghost use Rattle.std.specs.Prelude.{◌≡◌, ◌<◌, ◌++◌, ◌^◌, length, IsTrue, IfOk, OnOk, OnErr, option_map};
-ghost use Rattle.std.specs.Ordering.{int_cmp};
+ghost use Rattle.std.specs.Prelude.{◌≡◌, ◌≢◌, ◌<◌, ◌++◌, ◌^◌, [], length, false, IsTrue, IfOk, OnOk, OnErr, option_map};
+ghost use Rattle.std.specs.Ordering.{int_cmp, int_eq};
 ghost use Rattle.std.specs.FinMap.{find, put, is_sorted};
 ghost use Rattle.m4_state.specs.State.{text_at, without_text};
 ghost use Rattle.m4_state.specs.DiversionEntries.{texts_of};
@@ -67,4 +67,32 @@ pub fn take_in(texts: &mut BTreeMap<i32, Vec<u8>>, number: i32) -> Option<Vec<u8
     ensures rest { texts_of texts.new.entries ≡ without_text (texts_of texts.old.entries) number }
 {
     texts.remove(&number)
+}
+
+/// Moves the text of one number to another that has none, with no copy. Its place is allocated first, so if that fails
+/// nothing changes.
+pub fn move_in(
+    alloc: Global,
+    texts: &mut BTreeMap<i32, Vec<u8>>,
+    from: i32,
+    to: i32,
+) -> Result<(), AllocError>
+    requires sorted { IsTrue (is_sorted int_cmp (texts_of texts.old.entries)) }
+    requires apart { int_eq from to ≡ false }
+    requires some { text_at (texts_of texts.old.entries) from ≢ [] }
+    ensures ok { OnOk result (texts_of texts.new.entries
+        ≡ put int_cmp to (text_at (texts_of texts.old.entries) from) (without_text (texts_of texts.old.entries) from)) }
+    ensures err { OnErr result (texts_of texts.new.entries ≡ texts_of texts.old.entries) }
+    ensures sized { OnOk result (length (text_at (texts_of texts.old.entries) from) < 2 ^ 64) }
+{
+    let place = Vec::new(alloc);
+    texts.insert(to, place)?;
+    match take_in(texts, from) {
+        Some(text) => {
+            let _len = text.len();
+            texts.insert(to, text)?;
+        }
+        None => {}
+    }
+    Ok(())
 }

@@ -1,12 +1,14 @@
 //! Names as the keys of a table.
 //!
 //! Most names are short. They are held in place, so they need no memory of their own. A name is hashed
-//! as one piece, and not byte by byte.
+//! by pieces of eight bytes that overlap, and not byte by byte.
 
-ghost use Rattle.std.specs.Prelude.{◌≡◌, ◌≤◌, ◌∷◌, [], List, ℕ, IfOk, IfSome, length, take, nat_eq};
+ghost use Rattle.std.specs.Prelude.{◌≡◌, ◌≤◌, IfOk, IfSome, length, take, nat_eq};
+ghost use Rattle.std.specs.List.{fold};
 ghost use Rattle.std.specs.Cmp.{on_equiv, on_per, partial_equiv_from_equiv};
 ghost use Rattle.std.specs.Cmp.Lexicographic.{pointwise, nat_list_eq_equiv, bytes_decides};
 ghost use Rattle.std.proofs.Common.{ap};
+ghost use Rattle.m4_state.specs.NameHash.{pieces};
 
 use indexmap::Equivalent;
 use std::alloc::{AllocError, Global};
@@ -15,6 +17,12 @@ use std::marker::Model;
 
 /// How many bytes of a name are held in place, at most.
 const SHORT: usize = 22;
+
+/// How many bytes of a name are hashed at once. The hasher takes as many by one product.
+const PIECE: usize = 8;
+
+/// How far apart two pieces begin.
+const STEP: usize = 4;
 
 /// A name that is a key. Contracts see it as a list of bytes.
 #[derive(Drop)]
@@ -145,13 +153,30 @@ impl Eq for Name {
     ghost laws = { nat_list_eq_equiv };
 }
 
-impl Hash for Name {
-    ghost hash_input = { λ name. name ∷ [] };
+/// Feeds the bytes of a name to a hasher, by pieces.
+///
+/// Of 16 bytes that are written at once the hasher multiplies the two halves. If a half meets the hasher's state, the
+/// product is 0 whatever the other is, and names that differ there collide. So no more than 8 bytes are written at
+/// once, and each byte after the first four is in two pieces: a piece that makes up for one difference makes another.
+#[inline(always)]
+fn feed<H: Hasher>(name: &[u8], state: &mut H)
+    ensures { state.new ≡ fold H.write state.old (pieces name.now) }
+{
+    let mut rest = name;
+    while rest.len() > PIECE {
+        state.write(&rest[..PIECE]);
+        rest = &rest[STEP..];
+    }
+    state.write(rest);
+}
 
-    ghost respects_eq = { λ x y same. ap (λ (bytes : List ℕ). bytes ∷ []) ((bytes_decides x y).0 same) };
+impl Hash for Name {
+    ghost hash_input = { λ name. pieces name };
+
+    ghost respects_eq = { λ x y same. ap pieces ((bytes_decides x y).0 same) };
 
     fn hash<H: Hasher>(&self, state: &mut H) {
-        state.write(self.as_slice());
+        feed(self.as_slice(), state);
     }
 }
 
@@ -174,19 +199,19 @@ impl Eq for Sought<'_> {
 }
 
 impl Hash for Sought<'_> {
-    ghost hash_input = { λ sought. sought.0.now ∷ [] };
+    ghost hash_input = { λ sought. pieces sought.0.now };
 
-    ghost respects_eq = { λ x y same. ap (λ (bytes : List ℕ). bytes ∷ []) ((bytes_decides x.0.now y.0.now).0 same) };
+    ghost respects_eq = { λ x y same. ap pieces ((bytes_decides x.0.now y.0.now).0 same) };
 
     fn hash<H: Hasher>(&self, state: &mut H) {
-        state.write(self.0);
+        feed(self.0, state);
     }
 }
 
 impl Equivalent<Name> for Sought<'_> {
     ghost equivalent = { λ sought name. pointwise nat_eq sought.0.now name };
 
-    ghost respects_hash = { λ sought name same. ap (λ (bytes : List ℕ). bytes ∷ []) ((bytes_decides sought.0.now name).0 same) };
+    ghost respects_hash = { λ sought name same. ap pieces ((bytes_decides sought.0.now name).0 same) };
 
     ghost respects_eq = { λ sought x y. nat_list_eq_equiv.congr sought.0.now x y };
 

@@ -20,4 +20,5 @@ mod reports;
 mod shared;
 pub mod sources;
 pub mod std_world;
+mod streams;
 pub mod world;

@@ -11,20 +11,23 @@ use crate::line::{Line, LineFault, read_line};
 use crate::reports::{FAILED, report};
 use crate::shared::{BLOCK, MESSAGES, SharedOutputs};
 use crate::std_world::{StdShown, StdWorld};
+use crate::streams::occupy_closed;
 use std::alloc::{AllocError, Global};
 use std::env::Env;
 use std::io::{self, BufWriter, ErrorKind, Read, Write};
+use std::os::fd::{AsRawFd, IntoRawFd};
 use std::rt::Files;
 
 /// Follows the command line of the process, and returns the exit status. `input` is standard input, which is read block
-/// by block, and `errors` is standard error.
-pub fn exit_status<I: Read + Copy, E: Write + Drop>(
-    rt: &(impl Env + Files + Alloc<A = Global> + Print + Eprint),
-    input: I,
-    errors: E,
-) -> u8 {
+/// by block, and `errors` is standard error. A stream with which the process was not started refuses each use.
+pub fn exit_status<R, I: Read + Copy, E: Write + Drop>(rt: &R, input: I, errors: E) -> u8
+where
+    R: Env + Files + Alloc<A = Global> + Print + Eprint,
+    <R as Files>::File: AsRawFd + IntoRawFd,
+{
+    let spare = occupy_closed(rt);
     match words_of_process(rt) {
-        Ok(words) => status_of_words(rt, input, errors, words.as_slice()),
+        Ok(words) => status_of_words(rt, input, errors, words.as_slice(), spare),
         Err(fault) => report_unread_words(rt, &fault),
     }
 }
@@ -36,14 +39,15 @@ fn words_of_process(rt: &(impl Env + Alloc<A = Global>)) -> io::Result<Vec<Strin
 }
 
 // Follows the line of these words, or reports why it is refused.
-fn status_of_words<I: Read + Copy, E: Write + Drop>(
-    rt: &(impl Files + Alloc<A = Global> + Print + Eprint),
+fn status_of_words<R: Files + Alloc<A = Global> + Print + Eprint, I: Read + Copy, E: Write + Drop>(
+    rt: &R,
     input: I,
     errors: E,
     words: &[String],
+    spare: Option<<R as Files>::File>,
 ) -> u8 {
     match line_of(rt.alloc(), words) {
-        Ok(line) => run_line(rt, input, errors, &line),
+        Ok(line) => run_line(rt, input, errors, &line, spare),
         Err(fault) => report_line_fault(rt, &fault),
     }
 }
@@ -75,27 +79,32 @@ fn borrowed<'a>(alloc: Global, words: &'a [String]) -> Result<Vec<&'a str>, Allo
 }
 
 // Follows the line. Its output and its messages are written in blocks.
-fn run_line<I: Read + Copy, E: Write + Drop>(
-    rt: &(impl Files + Alloc<A = Global> + Print + Eprint),
+fn run_line<R: Files + Alloc<A = Global> + Print + Eprint, I: Read + Copy, E: Write + Drop>(
+    rt: &R,
     input: I,
     errors: E,
     line: &Line,
+    spare: Option<<R as Files>::File>,
 ) -> u8 {
-    follow_line(rt, input, errors, line).unwrap_or_else(|_refused| report(rt, "out of memory"))
+    follow_line(rt, input, errors, line, spare).unwrap_or_else(|_refused| report(
+        rt,
+        "out of memory",
+    ))
 }
 
 // Follows the line in the world of this runtime; an error is a block that could not be allocated.
 #[inline(never)]
-fn follow_line<I: Read + Copy, E: Write + Drop>(
-    rt: &(impl Files + Alloc<A = Global> + Print + Eprint),
+fn follow_line<R: Files + Alloc<A = Global> + Print + Eprint, I: Read + Copy, E: Write + Drop>(
+    rt: &R,
     input: I,
     errors: E,
     line: &Line,
+    spare: Option<<R as Files>::File>,
 ) -> io::Result<u8> {
     let output = BufWriter::with_capacity(rt.alloc(), BLOCK, io::writer(rt))?;
     let messages = BufWriter::with_capacity(rt.alloc(), MESSAGES, errors)?;
     let shared = SharedOutputs::new(output, messages);
-    let world = StdWorld::new(rt, input, &shared)?;
+    let world = StdWorld::new(rt, input, &shared, spare)?;
     let mut out = StdShown::new(shared.output());
     let mut messages = StdShown::new(shared.messages());
     let followed = follow(rt.alloc(), line, world, &mut out, &mut messages);

@@ -1,27 +1,44 @@
-//! The inputs of a run: files, and standard input. All are opened before the run.
+//! The inputs of a run: files, and standard input. All are opened before the run, and a file is closed once it was
+//! read to its end.
 
 ghost use Rattle.std.specs.Prelude.{◌≡◌, IfOk};
 ghost use Rattle.m4_tool.specs.RunEnd.{source_name};
 
 use m4_state::bytes::Bytes;
 use std::alloc::{AllocError, Global};
+use std::fs;
 use std::io::{self, Read};
+use std::rt::Files;
 
 /// A file, or standard input.
 #[derive(Drop)]
-pub enum FileOrInput<F, I> {
-    /// A file.
-    File(F),
+pub enum FileOrInput<'a, R: Files, I> {
+    /// An open file.
+    File(<R as Files>::File),
+    /// A file that can be opened, for which there was no descriptor before the run: it is opened when it is first
+    /// read.
+    Later(&'a R, String),
+    /// A file that was read to its end.
+    Closed,
     /// Standard input.
     Input(I),
 }
 
-impl<F: Read, I: Read> Read for FileOrInput<F, I> {
+impl<R: Files, I: Read + Drop> Read for FileOrInput<'_, R, I> {
     fn read(&mut self, buf: &mut [u8]) -> io::Result<usize> {
-        match self {
-            FileOrInput::File(file) => file.read(buf),
-            FileOrInput::Input(input) => input.read(buf),
+        if let FileOrInput::Later(rt, path) = self {
+            let file = fs::open(*rt, path.as_str())?;
+            *self = FileOrInput::File(file);
         }
+        let len = match self {
+            FileOrInput::File(file) => file.read(buf)?,
+            FileOrInput::Input(input) => return input.read(buf),
+            _ => 0,
+        };
+        if len == 0 && !buf.is_empty() {
+            *self = FileOrInput::Closed;
+        }
+        Ok(len)
     }
 }
 

@@ -1,4 +1,7 @@
 //! The world of a process: its files and its standard input. Contracts know no byte of it.
+//!
+//! All files are opened before the run. A process may have so many open files and no more: from the first one
+//! on for which there is no descriptor, a file is tried, closed, and opened again when it is read.
 
 ghost use Rattle.std.specs.Prelude.{◌≡◌, IfErr, None, false};
 ghost use Rattle.std.specs.IoError.{error_kind};
@@ -9,12 +12,17 @@ use crate::world::{Shows, World};
 use m4_state::device::{ByteSink, DeviceFault};
 use m4_state::standard::StdSource;
 use std::alloc::Global;
-use std::fs;
+use std::cell::Cell;
+use std::fs::{self, OpenFile};
 use std::io::{self, BufWriter, ErrorKind, Read, Write};
 use std::rt::Files;
 
-/// How many bytes of a made file are buffered, at most. A text that is as long is written with no copy, and a small file
-/// touches little memory.
+/// The system's numbers of the two errors that say that there are too many open files, in the system and in the
+/// process.
+const TOO_MANY: [i32; 2] = [23, 24];
+
+/// How many bytes of a made file are buffered, at most. A text that is as long is written with no copy, and a small
+/// file touches little memory.
 const BLOCK: usize = 32768;
 
 /// The file that was made, if one was.
@@ -47,15 +55,18 @@ pub struct StdWorld<'a, R: Files, I, W, E> {
     input: I,
     outputs: &'a SharedOutputs<W, E>,
     made: BufWriter<Made<<R as Files>::File>>,
+    spare: Cell<Option<<R as Files>::File>>,
+    is_full: Cell<bool>,
 }
 
 impl<'a, R: Files + Alloc<A = Global>, I, W, E> StdWorld<'a, R, I, W, E> {
-    /// Returns the world of this runtime, with this standard input, whose process writes to these outputs. Allocates a
-    /// block.
+    /// Returns the world of this runtime, with this standard input, whose process writes to these outputs. The
+    /// spare file is closed when there are too many open files, so that one more can be opened. Allocates a block.
     pub fn new(
         rt: &'a R,
         input: I,
         outputs: &'a SharedOutputs<W, E>,
+        spare: Option<<R as Files>::File>,
     ) -> io::Result<StdWorld<'a, R, I, W, E>>
     where
         I: Drop,
@@ -67,12 +78,68 @@ impl<'a, R: Files + Alloc<A = Global>, I, W, E> StdWorld<'a, R, I, W, E> {
             input,
             outputs,
             made,
+            spare: Cell::new(spare),
+            is_full: Cell::new(false),
         })
     }
 }
 
-impl<'a, R: Files, I: Read + Copy, W: Write, E: Write> World for StdWorld<'a, R, I, W, E> {
-    type Reader = StdSource<FileOrInput<<R as Files>::File, FlushBeforeRead<'a, I, W, E>>>;
+impl<'a, R: Files + Alloc<A = Global>, I, W, E> StdWorld<'a, R, I, W, E> {
+    // Opens a file to be read, unless that is refused. Once there were too many open files it stays closed until it is
+    // read, so that one descriptor is free for the file that is read and for the one that is made.
+    fn open_input<J>(&self, path: &str) -> Option<FileOrInput<'a, R, J>> {
+        if !self.is_full.get() {
+            match open_file(self.rt, path) {
+                Ok(file) => return Some(FileOrInput::File(file)),
+                Err(fault) if !is_too_many(&fault) => return None,
+                Err(_fault) => self.is_full.set(true),
+            }
+            let _closed = self.spare.replace(None);
+        }
+        if !may_open(self.rt, path) {
+            return None;
+        }
+        let alloc = self.rt.alloc();
+        match String::from_str(alloc, path) {
+            Ok(path) => Some(FileOrInput::Later(self.rt, path)),
+            Err(_refused) => None,
+        }
+    }
+}
+
+// Opens a file that is no directory.
+fn open_file<R: Files>(rt: &R, path: &str) -> io::Result<<R as Files>::File> {
+    let file = fs::open(rt, path)?;
+    if file.metadata()?.is_dir() {
+        return Err(io::Error::from(ErrorKind::IsADirectory));
+    }
+    Ok(file)
+}
+
+// Returns whether a file can be opened later. Only a regular file is opened for that: if another one, as a pipe, is
+// closed again, its writer may fail.
+fn may_open<R: Files>(rt: &R, path: &str) -> bool {
+    match fs::metadata(rt, path) {
+        Ok(data) if data.is_file() => match open_file(rt, path) {
+            Ok(_file) => true,
+            Err(fault) => is_too_many(&fault),
+        },
+        Ok(data) => !data.is_dir(),
+        Err(_fault) => false,
+    }
+}
+
+// Returns whether the error says that there are too many open files.
+fn is_too_many(fault: &io::Error) -> bool {
+    match fault.raw_os_error() {
+        Some(number) => TOO_MANY.contains(&number),
+        None => false,
+    }
+}
+
+impl<'a, R: Files + Alloc<A = Global>, I: Read + Copy, W: Write, E: Write> World
+    for StdWorld<'a, R, I, W, E> {
+    type Reader = StdSource<FileOrInput<'a, R, FlushBeforeRead<'a, I, W, E>>>;
 
     ghost files = { λ _. None };
 
@@ -87,24 +154,26 @@ impl<'a, R: Files, I: Read + Copy, W: Write, E: Write> World for StdWorld<'a, R,
     fn open(
         &self,
         name: &[u8],
-    ) -> Option<StdSource<FileOrInput<<R as Files>::File, FlushBeforeRead<'a, I, W, E>>>> {
+    ) -> Option<StdSource<FileOrInput<'a, R, FlushBeforeRead<'a, I, W, E>>>> {
         let Ok(path) = std::str::from_utf8(name) else {
             return None;
         };
-        match fs::open(self.rt, path) {
-            Ok(file) => Some(StdSource::new(FileOrInput::File(file))),
-            Err(_fault) => None,
+        match self.open_input(path) {
+            Some(file) => Some(StdSource::new(file)),
+            None => None,
         }
     }
 
-    fn stdin(
-        &mut self,
-    ) -> StdSource<FileOrInput<<R as Files>::File, FlushBeforeRead<'a, I, W, E>>> {
+    fn stdin(&mut self) -> StdSource<FileOrInput<'a, R, FlushBeforeRead<'a, I, W, E>>> {
         let input = FlushBeforeRead::new(self.input, self.outputs);
         StdSource::new(FileOrInput::Input(input))
     }
 
     fn create(&mut self, name: &[u8]) -> Result<(), DeviceFault> {
+        // An old file is emptied only if nothing that the run wrote before is lost.
+        if !self.outputs.flush() {
+            return Err(DeviceFault);
+        }
         let Ok(path) = std::str::from_utf8(name) else {
             return Err(DeviceFault);
         };
