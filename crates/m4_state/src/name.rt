@@ -157,17 +157,23 @@ impl Eq for Name {
 ///
 /// Of 16 bytes that are written at once the hasher multiplies the two halves. If a half meets the hasher's state, the
 /// product is 0 whatever the other is, and names that differ there collide. So no more than 8 bytes are written at
-/// once, and each byte after the first four is in two pieces: a piece that makes up for one difference makes another.
+/// once, and a byte in the middle is in two pieces: a piece that makes up for one difference makes another.
 #[inline(always)]
 fn feed<H: Hasher>(name: &[u8], state: &mut H)
     ensures { state.new ≡ fold H.write state.old (pieces name.now) }
 {
     let mut rest = name;
-    while rest.len() > PIECE {
+    while rest.len() > PIECE + STEP {
         state.write(&rest[..PIECE]);
         rest = &rest[STEP..];
     }
-    state.write(rest);
+    if rest.len() > PIECE {
+        // The last piece has a fixed length too, so that it is one load.
+        state.write(&rest[..PIECE]);
+        state.write(&rest[rest.len() - PIECE..]);
+    } else {
+        state.write(rest);
+    }
 }
 
 impl Hash for Name {
