@@ -20,7 +20,7 @@ use Rattle.m4_builtins.specs.declared.args.Arg.{Arg}
 use Rattle.m4_builtins.specs.declared.args.Arg.TheVariants as args
 use Rattle.m4_builtins.specs.declared.number.Reading.{Reading}
 use Rattle.m4_builtins.specs.declared.number.Reading.TheVariants.{Number, Empty, NotNumeric}
-use Rattle.m4_builtins.specs.Place.{Place}
+use Rattle.m4_builtins.specs.declared.place.Place.{Place}
 use Rattle.m4_builtins.specs.Args.{IsArg, text_of_arg, texts_of, definition_of_arg, text_at}
 use Rattle.m4_builtins.specs.Acted.{Acted, IsPushed, expands, warning_first}
 use Rattle.m4_builtins.specs.Numeric.{reading_of, number_of_reading, with_number}

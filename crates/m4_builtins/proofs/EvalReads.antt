@@ -7,7 +7,7 @@ use Rattle.m4_state.specs.declared.builtin.Builtin.TheVariants.{Eval}
 use Rattle.m4_state.specs.State.{State}
 use Rattle.m4_eval.specs.InRadix.{radix_at, in_radix}
 use Rattle.m4_builtins.specs.declared.args.Arg.{Arg}
-use Rattle.m4_builtins.specs.Place.{Place}
+use Rattle.m4_builtins.specs.declared.place.Place.{Place}
 use Rattle.m4_builtins.specs.Acted.{Acted}
 use Rattle.m4_builtins.specs.Args.{text_of_arg, texts_of, text_at}
 use Rattle.m4_builtins.specs.Eval.{if_radix, with_radix, with_width, with_value, with_digits}

@@ -1,11 +1,13 @@
 -- Joins: a list that is joined, and a text whose arguments are put in, from the front.
 use Rattle.std.proofs.Common.{◌≡◌, ℕ, zero, suc, ◌+◌, ◌-◌, ◌*◌, ◌^◌, ◌<◌, ◌≤◌, Bool, true, false, not, List, [], ◌∷◌, ◌++◌, length, take, drop, map, refl, sym, ap, ◌∙◌, arith, append_assoc, append-nil, get_or, drop-cons, add-one, Some, None, Option}
+use Rattle.std.proofs.Math.ListN.{drop_of_length-le}
 use Rattle.std.specs.Prelude.{slice_get, fold, ◌==◌}
+use Rattle.m4_input.proofs.Parts.{take_long}
 use Rattle.m4_state.specs.declared.delimiters.Delimiters.{Delimiters}
 use Rattle.m4_input.specs.Ascii.{dollar, digit_zero}
 use Rattle.m4_input.specs.Token.{run_length}
 use Rattle.m4_builtins.specs.declared.args.Arg.{Arg}
-use Rattle.m4_builtins.specs.Args.{joined, quoted, text_of_arg, or_empty}
+use Rattle.m4_builtins.specs.Args.{joined, quoted, text_of_arg, text_of_any, or_empty}
 use Rattle.m4_builtins.specs.Subst.{subst_from, after_dollar, nth_text}
 use Rattle.m4_builtins.specs.Numbers.{IsNumber}
 
@@ -150,3 +152,18 @@ front_dollar name xs q out mid out' x y z rest n b used e f g here h i j =
 pub too_great : (r : Option ℕ) (n : ℕ) (digits : List ℕ) (m : ℕ) → r ≡ None → number_from n digits ≡ m → 2 ^ 64 ≤ n → IsNumber r m
 too_great (Some k) n digits m is e h = absurd cc
 too_great None n digits m is e h = let more : n ≤ number_from n digits = number_grows n digits in omega arith
+
+-- a text without a dollar is its own expansion
+pub all_plain : (name : List ℕ) (texts : List (List ℕ)) (q : Delimiters) (x : List ℕ) → run_length (λ b. not (b == dollar)) x ≡ length x → subst_from name texts q 0 x ≡ x
+all_plain name texts q x h =
+    subst_plain name texts q x
+    ∙ ap (λ m. take m x ++ subst_from name texts q 0 (drop m x)) h
+    ∙ ap (λ (y : List ℕ). take (length x) x ++ subst_from name texts q 0 y) (drop_of_length-le x (omega arith))
+    ∙ append-nil (take (length x) x)
+    ∙ take_long (length x) x (omega arith)
+
+-- an argument that may be missing
+pub any_at : (list : List Arg) (n : ℕ) → text_of_any (slice_get list n) ≡ or_empty (slice_get (map text_of_arg list) n)
+any_at [] n = refl
+any_at (a ∷ list) zero = refl
+any_at (a ∷ list) (suc n) = any_at list n

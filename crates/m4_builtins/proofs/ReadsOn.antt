@@ -4,7 +4,7 @@ use Rattle.std.specs.Prelude.{ℤ}
 use Rattle.m4_state.specs.declared.builtin.Builtin.{Builtin}
 use Rattle.m4_state.specs.State.{State}
 use Rattle.m4_builtins.specs.declared.number.Reading.{Reading}
-use Rattle.m4_builtins.specs.Place.{Place}
+use Rattle.m4_builtins.specs.declared.place.Place.{Place}
 use Rattle.m4_builtins.specs.Acted.{Acted, only_warning, warning_first}
 use Rattle.m4_builtins.specs.Numeric.{number_of_reading, reading_warning, with_number}
 use Rattle.m4_builtins.specs.ReadsAs.{after, ReadsAs}

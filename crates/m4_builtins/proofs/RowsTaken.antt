@@ -13,7 +13,7 @@ use Rattle.m4_eval.specs.InRadix.{in_radix}
 use Rattle.m4_builtins.specs.declared.args.Arg.{Arg}
 use Rattle.m4_builtins.specs.Acted.{Effect}
 use Rattle.m4_builtins.specs.declared.number.Reading.{Reading}
-use Rattle.m4_builtins.specs.Place.{Place}
+use Rattle.m4_builtins.specs.declared.place.Place.{Place}
 use Rattle.m4_builtins.specs.Args.{text_of_arg, texts_of, only_text, text_at, or_empty, with_spaces}
 use Rattle.m4_builtins.specs.Acted.{Acted, nothing, changes, only_warning, expands, warning_first}
 use Rattle.m4_builtins.specs.Messages.{excess}

@@ -7,7 +7,7 @@ use Rattle.m4_state.specs.State.{State}
 use Rattle.m4_input.specs.declared.pushed.Pushed.TheVariants as pushes
 use Rattle.m4_builtins.specs.declared.number.Reading.{Reading}
 use Rattle.m4_builtins.specs.declared.number.Reading.TheVariants.{Number, Empty, NotNumeric}
-use Rattle.m4_builtins.specs.Place.{Place}
+use Rattle.m4_builtins.specs.declared.place.Place.{Place}
 use Rattle.m4_builtins.specs.Acted.{Acted, nothing, only_warning, expands, warning_first}
 use Rattle.m4_builtins.specs.Numeric.{number_of_reading, reading_warning, with_number}
 

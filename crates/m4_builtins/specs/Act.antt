@@ -16,7 +16,7 @@ use Rattle.m4_state.specs.State.{State}
 use Rattle.m4_input.specs.declared.pushed.Pushed.{Pushed}
 use Rattle.m4_input.specs.declared.pushed.Pushed.TheVariants as pushes
 use Rattle.m4_builtins.specs.declared.args.Arg.{Arg}
-use Rattle.m4_builtins.specs.Place.{Place}
+use Rattle.m4_builtins.specs.declared.place.Place.{Place}
 pub use Rattle.m4_builtins.specs.Acted.{Acted, IsPushed, nothing, changes, only_warning, gives, expands, warning_first}
 use Rattle.m4_builtins.specs.Args.{text_of_arg, only_text}
 use Rattle.m4_builtins.specs.Arithmetic.{incr, decr}

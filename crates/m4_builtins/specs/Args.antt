@@ -1,5 +1,5 @@
 -- Args: the texts and definitions of a call's arguments, by their numbers.
--- Believed. Manual: "Macro arguments". Words: IsArg, text_of_arg, text_at,
+-- Believed. Manual: "Macro arguments". Words: IsArg, text_of_arg, text_of_any, text_at,
 -- texts_of, after_first, definition_of_arg, joined, with_spaces, quoted.
 use Rattle.std.specs.Prelude.{ℕ, List, [], ◌∷◌, ◌++◌, Option, Some, None, slice_get, map}
 use Rattle.m4_state.specs.declared.definition.Def.{Def}
@@ -19,6 +19,11 @@ IsArg (args.Definition d) = IsDefinition d
 abbrev pub text_of_arg : Arg → List ℕ
 text_of_arg (args.Text x) = x
 text_of_arg (args.Definition d) = []
+
+-- an argument that may be missing, as text
+abbrev pub text_of_any : Option Arg → List ℕ
+text_of_any None = []
+text_of_any (Some a) = text_of_arg a
 
 -- arguments as texts
 abbrev pub texts_of : List Arg → List (List ℕ)

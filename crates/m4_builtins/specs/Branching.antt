@@ -8,7 +8,7 @@ use Rattle.m4_state.specs.declared.builtin.Builtin.TheVariants.{Ifelse}
 use Rattle.m4_state.specs.declared.definition.Def.{Def}
 use Rattle.m4_state.specs.State.{State, top_of}
 use Rattle.m4_builtins.specs.declared.args.Arg.{Arg}
-use Rattle.m4_builtins.specs.Place.{Place}
+use Rattle.m4_builtins.specs.declared.place.Place.{Place}
 use Rattle.m4_builtins.specs.Args.{texts_of, after_first, text_at}
 use Rattle.m4_builtins.specs.Acted.{Acted, changes, only_warning, expands, warning_first}
 use Rattle.m4_builtins.specs.Messages.{too_few, excess}

@@ -8,7 +8,7 @@ use Rattle.m4_state.specs.declared.builtin.Builtin.TheVariants.{Divert, Undivert
 use Rattle.m4_state.specs.State.{State, diverted, undiverted, issued_from}
 use Rattle.m4_builtins.specs.declared.args.Arg.{Arg}
 use Rattle.m4_builtins.specs.declared.number.Reading.{Reading}
-use Rattle.m4_builtins.specs.Place.{Place}
+use Rattle.m4_builtins.specs.declared.place.Place.{Place}
 use Rattle.m4_builtins.specs.Args.{text_of_arg}
 use Rattle.m4_builtins.specs.Acted.{Acted, nothing, changes, expands}
 use Rattle.m4_builtins.specs.Numeric.{reading_of, number_of_reading, reading_warning}

@@ -8,7 +8,7 @@ use Rattle.m4_state.specs.State.{State}
 use Rattle.m4_builtins.specs.declared.args.Arg.{Arg}
 use Rattle.m4_builtins.specs.declared.number.Reading.{Reading}
 use Rattle.m4_builtins.specs.declared.number.Reading.TheVariants.{Number, Empty, NotNumeric}
-use Rattle.m4_builtins.specs.Place.{Place}
+use Rattle.m4_builtins.specs.declared.place.Place.{Place}
 use Rattle.m4_builtins.specs.Args.{text_of_arg, texts_of, with_spaces}
 use Rattle.m4_builtins.specs.Acted.{Acted, nothing, warning_first}
 use Rattle.m4_builtins.specs.Messages.{empty_number, not_numeric, bad_status}

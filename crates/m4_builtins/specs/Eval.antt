@@ -13,7 +13,7 @@ use Rattle.m4_eval.specs.declared.evaluate.Evaluated.TheVariants.{Value, DivideB
 use Rattle.m4_eval.specs.Evaluated.{evaluated}
 use Rattle.m4_eval.specs.InRadix.{radix_at, in_radix}
 use Rattle.m4_builtins.specs.declared.args.Arg.{Arg}
-use Rattle.m4_builtins.specs.Place.{Place}
+use Rattle.m4_builtins.specs.declared.place.Place.{Place}
 use Rattle.m4_builtins.specs.Args.{texts_of, text_at}
 use Rattle.m4_builtins.specs.Acted.{Acted, only_warning, expands, warning_first}
 use Rattle.m4_builtins.specs.Messages.{empty_number, divide_by_zero, bad_expression, out_of_range}

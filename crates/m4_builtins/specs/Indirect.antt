@@ -10,7 +10,7 @@ use Rattle.m4_state.specs.Builtin.{builtin_named}
 use Rattle.m4_state.specs.State.{State, top_of}
 use Rattle.m4_builtins.specs.declared.args.Arg.{Arg}
 use Rattle.m4_builtins.specs.declared.args.Arg.TheVariants as args
-use Rattle.m4_builtins.specs.Place.{Place}
+use Rattle.m4_builtins.specs.declared.place.Place.{Place}
 use Rattle.m4_builtins.specs.Acted.{Acted, changes, only_warning}
 use Rattle.m4_builtins.specs.Messages.{unknown_macro, unknown_builtin, bad_name}
 

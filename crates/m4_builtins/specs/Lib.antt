@@ -1,7 +1,6 @@
 pub mod Args
 pub mod Subst
 pub mod Messages
-pub mod Place
 pub mod Acted
 pub mod Numeric
 pub mod Naming
@@ -20,6 +19,4 @@ pub mod Indirect
 pub mod Act
 pub mod Steps
 pub mod Numbers
-pub mod CallHead
-pub mod HeadView
 pub mod EffectView

@@ -12,7 +12,7 @@ use Rattle.m4_input.specs.declared.pushed.Pushed.{Pushed}
 use Rattle.m4_input.specs.declared.pushed.Pushed.TheVariants as pushes
 use Rattle.m4_builtins.specs.declared.args.Arg.{Arg}
 use Rattle.m4_builtins.specs.declared.args.Arg.TheVariants as args
-use Rattle.m4_builtins.specs.Place.{Place}
+use Rattle.m4_builtins.specs.declared.place.Place.{Place}
 use Rattle.m4_builtins.specs.Args.{text_of_arg, texts_of, definition_of_arg, quoted}
 use Rattle.m4_builtins.specs.Acted.{Acted, changes, only_warning, gives, expands, warning_first}
 use Rattle.m4_builtins.specs.Messages.{dropped, bad_name}

@@ -10,7 +10,7 @@ use Rattle.m4_input.specs.Ascii.{is_space, is_digit}
 use Rattle.m4_input.specs.Token.{run_length}
 use Rattle.m4_builtins.specs.declared.number.Reading.{Reading}
 use Rattle.m4_builtins.specs.declared.number.Reading.TheVariants.{Number, Empty, NotNumeric}
-use Rattle.m4_builtins.specs.Place.{Place}
+use Rattle.m4_builtins.specs.declared.place.Place.{Place}
 use Rattle.m4_builtins.specs.Acted.{Acted, only_warning, warning_first}
 use Rattle.m4_builtins.specs.Messages.{empty_number, not_numeric}
 use Rattle.m4_builtins.specs.Subst.{number_of}

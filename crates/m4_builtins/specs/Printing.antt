@@ -12,7 +12,7 @@ use Rattle.m4_state.specs.Builtin.{name_of}
 use Rattle.m4_state.specs.Table.{byte_order}
 use Rattle.m4_state.specs.State.{State, top_of, names_of}
 use Rattle.m4_builtins.specs.declared.args.Arg.{Arg}
-use Rattle.m4_builtins.specs.Place.{Place}
+use Rattle.m4_builtins.specs.declared.place.Place.{Place}
 use Rattle.m4_builtins.specs.Args.{texts_of, with_spaces, quoted}
 use Rattle.m4_builtins.specs.Acted.{Acted, only_warning, expands}
 use Rattle.m4_builtins.specs.Messages.{unknown_macro}

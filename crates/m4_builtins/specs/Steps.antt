@@ -6,7 +6,7 @@ use Rattle.m4_state.specs.declared.definition.Def.TheVariants as defs
 use Rattle.m4_state.specs.State.{State}
 use Rattle.m4_builtins.specs.declared.indirect.Step.{Step}
 use Rattle.m4_builtins.specs.declared.indirect.Step.TheVariants as steps
-use Rattle.m4_builtins.specs.Place.{Place}
+use Rattle.m4_builtins.specs.declared.place.Place.{Place}
 use Rattle.m4_builtins.specs.Args.{IsArg}
 use Rattle.m4_builtins.specs.Acted.{Effect, Acted, nothing}
 use Rattle.m4_builtins.specs.Act.{act}

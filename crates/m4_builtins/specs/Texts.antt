@@ -7,7 +7,7 @@ use Rattle.m4_state.specs.declared.builtin.Builtin.TheVariants.{Substr}
 use Rattle.m4_state.specs.State.{State}
 use Rattle.m4_input.specs.Token.{before}
 use Rattle.m4_builtins.specs.declared.args.Arg.{Arg}
-use Rattle.m4_builtins.specs.Place.{Place}
+use Rattle.m4_builtins.specs.declared.place.Place.{Place}
 use Rattle.m4_builtins.specs.Args.{text_of_arg, text_at}
 use Rattle.m4_builtins.specs.Acted.{Acted, changes, expands}
 use Rattle.m4_builtins.specs.Numeric.{reading_of, with_number}

@@ -11,7 +11,7 @@ ghost use Rattle.m4_builtins.specs.Args.{IsArg};
 ghost use Rattle.m4_builtins.specs.Act as spec;
 ghost use Rattle.m4_builtins.specs.Steps.{LeadsTo, IsShorter, IsUnbounded};
 
-use crate::args::{Arg, Args, text_of};
+use crate::args::{Arg, Args};
 use crate::arithmetic::{decr, incr};
 use crate::branching::{ifdef, ifelse, shift};
 use crate::delimiting::{changecom, changequote};
@@ -39,7 +39,7 @@ pub fn act(
     alloc: Global,
     def: &Def,
     args: &Args,
-    place: &Place<'_>,
+    place: &Place,
     state: &mut State,
 ) -> Result<Effect, BuiltinFault>
     requires definition { IsDefinition def.now }
@@ -66,7 +66,7 @@ pub fn act_on(
     def: &Def,
     name: &[u8],
     list: &[Arg],
-    place: &Place<'_>,
+    place: &Place,
     state: &mut State,
 ) -> Result<(), BuiltinFault>
     requires fresh { effect.old ≡ nothing }
@@ -90,7 +90,7 @@ fn act_builtin<'a>(
     effect: &mut Effect,
     builtin: Builtin,
     list: &'a [Arg],
-    place: &Place<'_>,
+    place: &Place,
     state: &mut State,
 ) -> Result<Step<'a>, BuiltinFault>
     requires fresh { effect.old ≡ nothing }
@@ -124,7 +124,7 @@ fn row<'a>(
     effect: &mut Effect,
     name: Builtin,
     list: &'a [Arg],
-    place: &Place<'_>,
+    place: &Place,
     state: &mut State,
 ) -> Result<Step<'a>, BuiltinFault>
     requires fresh { effect.old ≡ nothing }
@@ -178,8 +178,18 @@ fn give_though_few(effect: &mut Effect, builtin: Builtin, list: &[Arg]) -> Resul
     };
     match builtin {
         Builtin::Index => effect.give_copy(b"0"),
-        Builtin::Substr | Builtin::Translit => effect.give_copy(text_of(arg)),
+        Builtin::Substr | Builtin::Translit => effect.give_argument(Some(arg)),
         _ => Ok(()),
+    }
+}
+
+/// Returns whether a definition is recognised only with parameters.
+pub fn needs_list(def: &Def) -> bool
+    ensures { result ≡ spec.needs_list def.now }
+{
+    match def {
+        Def::Builtin(builtin) => builtin.row().needs_args,
+        Def::Text(_) | Def::Placeholder(_) => false,
     }
 }
 

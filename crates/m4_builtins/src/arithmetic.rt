@@ -21,7 +21,7 @@ use std::alloc::AllocError;
 pub(crate) fn incr(
     effect: &mut Effect,
     list: &[Arg],
-    place: &Place<'_>,
+    place: &Place,
     state: &State,
 ) -> Result<(), AllocError>
     requires { effect.old ≡ nothing }
@@ -45,7 +45,7 @@ pub(crate) fn incr(
 pub(crate) fn decr(
     effect: &mut Effect,
     list: &[Arg],
-    place: &Place<'_>,
+    place: &Place,
     state: &State,
 ) -> Result<(), AllocError>
     requires { effect.old ≡ nothing }

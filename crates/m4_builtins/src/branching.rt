@@ -1,12 +1,12 @@
 //! The builtins that choose among their arguments. Manual: "Testing if a macro is defined", "If-else
 //! construct, or multibranch", "Recursion in m4".
 
-ghost use Rattle.std.specs.Prelude.{◌≡◌, OnOk};
+ghost use Rattle.std.specs.Prelude.{◌≡◌, OnOk, option_copied};
 ghost use Rattle.m4_builtins.specs.Acted.{nothing};
-ghost use Rattle.m4_builtins.specs.Args.{texts_of};
+ghost use Rattle.m4_builtins.specs.Args.{texts_of, text_of_any};
 ghost use Rattle.m4_builtins.specs.Branching as spec;
 
-use crate::args::{Arg, text_at, text_of};
+use crate::args::{Arg, argument_at, text_at, text_of};
 use crate::effect::Effect;
 use crate::messages::{excess_message, too_few_message};
 use crate::place::Place;
@@ -21,11 +21,11 @@ pub(crate) fn ifdef(effect: &mut Effect, list: &[Arg], state: &State) -> Result<
     requires { effect.old ≡ nothing }
     ensures { OnOk result (spec.ifdef list.now state.now ≡ record { state = state.now; effect = effect.new }) }
 {
-    let text = match state.top(text_at(list, 0)) {
-        Some(_) => text_at(list, 1),
-        None => text_at(list, 2),
+    let chosen = match state.top(text_at(list, 0)) {
+        Some(_) => argument_at(list, 1),
+        None => argument_at(list, 2),
     };
-    effect.give_copy(text)
+    effect.give_argument(chosen)
 }
 
 /// Compares two arguments. Expands to the third if they are equal; otherwise continues after it. Manual:
@@ -33,7 +33,7 @@ pub(crate) fn ifdef(effect: &mut Effect, list: &[Arg], state: &State) -> Result<
 pub(crate) fn ifelse(
     effect: &mut Effect,
     list: &[Arg],
-    place: &Place<'_>,
+    place: &Place,
     state: &State,
 ) -> Result<(), AllocError>
     requires { effect.old ≡ nothing }
@@ -44,7 +44,7 @@ pub(crate) fn ifelse(
         [] | [_] => {}
         [_, _] => effect.warn(too_few_message(effect.alloc(), place, Builtin::Ifelse)?),
         [..] => {
-            effect.give_copy(chosen(list))?;
+            effect.give_argument(chosen(list))?;
             if has_extra(list.len()) {
                 effect.warn(excess_message(effect.alloc(), place, Builtin::Ifelse)?);
             }
@@ -53,21 +53,21 @@ pub(crate) fn ifelse(
     Ok(())
 }
 
-/// Returns the text that is chosen, of three or more arguments.
-fn chosen(list: &[Arg]) -> &[u8]
-    ensures { result.now ≡ spec.chosen (texts_of list.now) }
+/// Returns the argument that is chosen, of three or more; none if the call expands to nothing.
+fn chosen(list: &[Arg]) -> Option<&Arg>
+    ensures { text_of_any (option_copied result) ≡ spec.chosen (texts_of list.now) }
 {
     let mut rest = list;
     while let [x, y, same, others @ ..] = rest {
         if text_of(x) == text_of(y) {
-            return text_of(same);
+            return Some(same);
         }
         match others {
-            [other] | [other, _] => return text_of(other),
+            [other] | [other, _] => return Some(other),
             [..] => rest = others,
         }
     }
-    &[]
+    None
 }
 
 /// Returns whether an argument is left over after the last two texts and their results.

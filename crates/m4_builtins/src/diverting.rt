@@ -23,7 +23,7 @@ use std::alloc::{AllocError, Global};
 pub(crate) fn divert(
     effect: &mut Effect,
     list: &[Arg],
-    place: &Place<'_>,
+    place: &Place,
     state: &mut State,
 ) -> Result<(), BuiltinFault>
     requires { effect.old ≡ nothing }
@@ -47,7 +47,7 @@ pub(crate) fn divert(
 pub(crate) fn undivert(
     effect: &mut Effect,
     list: &[Arg],
-    place: &Place<'_>,
+    place: &Place,
     state: &mut State,
 ) -> Result<(), BuiltinFault>
     requires { effect.old ≡ nothing }
@@ -62,7 +62,7 @@ pub(crate) fn undivert(
     let mut output = Vec::new(alloc);
     bring_back(numbers.as_slice(), state, &mut output)?;
     effect.warn(Bytes::from(messages));
-    effect.issue(output);
+    effect.issue(Bytes::from(output));
     Ok(())
 }
 
@@ -92,7 +92,7 @@ fn held_numbers(alloc: Global, state: &State) -> Result<Vec<i32>, AllocError>
 fn numbers_in(
     alloc: Global,
     list: &[Arg],
-    place: &Place<'_>,
+    place: &Place,
     messages: &mut Vec<u8>,
 ) -> Result<Vec<i32>, AllocError>
     ensures numbers { IfOk result (λ v. v.items ≡ filter_map number_of_reading (spec.readings_of list.now)) }

@@ -1,42 +1,29 @@
 //! The effects of a call that the run still has to apply, apart from the state's change.
 
-ghost use Rattle.std.specs.Prelude.{◌≡◌, ◌++◌, [], OnOk, Some, None, true, false};
+ghost use Rattle.std.specs.Prelude.{◌≡◌, ◌++◌, [], OnOk, IfOk, Some, None, true, false, option_copied};
+ghost use Rattle.m4_input.specs.DelimsView.{pair_of};
 
+use crate::args::Arg;
+use crate::fault::BuiltinFault;
+use crate::substitute::substitute_with;
+use m4_input::pushed::Pushed;
 use m4_state::bytes::Bytes;
 use m4_state::definition::Def;
 use std::alloc::{AllocError, Global};
 use std::marker::Model;
 
-/// The kind of a value that is inserted before the input. The bytes of a text are stored separately.
-#[derive(Drop)]
-enum Kind {
-    Nothing,
-    Text,
-    Definition(Def),
-}
-
-/// The effect of a call. Calls fill one effect in turn, so that most of them ask for no memory. Most leave nothing to
-/// do but to insert a value, which `has_more` says in one test. A definition that is inserted is valid.
+/// The effect of a call. Calls fill one effect in turn, so that most of them ask for no memory: a text that is made has
+/// the memory of `buffer`, which the run gives back when that text was read. Most calls leave nothing to do but to
+/// insert a value, which `has_more` says in one test. A definition that is inserted is valid.
 pub struct Effect {
-    kind: Kind,
-    text: Vec<u8>,
+    push: Option<Pushed>,
+    buffer: Vec<u8>,
     has_more: bool,
-    messages: Vec<u8>,
-    output: Vec<u8>,
+    messages: Bytes,
+    output: Bytes,
     wrap: Option<Bytes>,
     skip: bool,
     exit: Option<u8>,
-}
-
-/// A value that is inserted before the input, to be read again.
-#[derive(Clone, Copy)]
-pub enum Push<'a> {
-    /// There is none.
-    Nothing,
-    /// A text.
-    Text(&'a [u8]),
-    /// A builtin or a placeholder.
-    Definition(&'a Def),
 }
 
 impl Model for Effect {
@@ -54,8 +41,8 @@ impl Model for Effect {
 impl Drop for Effect {
     fn drop(self) {
         let Effect {
-            kind: _kind,
-            text: _text,
+            push: _push,
+            buffer: _buffer,
             has_more: _has_more,
             messages: _messages,
             output: _output,
@@ -70,18 +57,19 @@ impl Effect {
     ghost use Rattle.m4_input.specs.declared.pushed.Pushed.TheVariants as pushes;
     ghost use Rattle.m4_state.specs.Definition.{IsDefinition};
     ghost use Rattle.m4_builtins.specs.Acted.{IsPushed, nothing};
-    ghost use Rattle.m4_builtins.specs.EffectView.{pushed_by};
+    ghost use Rattle.m4_builtins.specs.Args.{text_of_any};
+    ghost use Rattle.m4_builtins.specs.Subst.{subst};
 
     /// Creates an effect that leaves nothing to do.
     pub fn new(alloc: Global) -> Effect
         ensures { result ≡ nothing }
     {
         Effect {
-            kind: Kind::Nothing,
-            text: Vec::new(alloc),
+            push: None,
+            buffer: Vec::new(alloc),
             has_more: false,
-            messages: Vec::new(alloc),
-            output: Vec::new(alloc),
+            messages: Bytes::empty(),
+            output: Bytes::empty(),
             wrap: None,
             skip: false,
             exit: None,
@@ -92,7 +80,7 @@ impl Effect {
     pub fn clear(&mut self)
         ensures { self.new ≡ nothing }
     {
-        self.kind = Kind::Nothing;
+        self.push = None;
         if self.has_more {
             self.clear_more();
         }
@@ -103,14 +91,13 @@ impl Effect {
     fn clear_more(&mut self)
         ensures { self.new ≡ record nothing { push = self.old.push } }
     {
-        let alloc = *self.text.allocator();
         self.has_more = false;
         self.wrap = None;
         self.skip = false;
         self.exit = None;
         // Hardly any call makes them, so their memory is not kept.
-        self.messages = Vec::new(alloc);
-        self.output = Vec::new(alloc);
+        self.messages = Bytes::empty();
+        self.output = Bytes::empty();
     }
 
     /// Returns whether there is more to do than to insert a value.
@@ -120,21 +107,40 @@ impl Effect {
         self.has_more
     }
 
-    /// Returns how many bytes the memory of its value has room for.
-    pub fn room(&self) -> usize {
-        self.text.capacity()
+    /// Returns whether its buffer has memory for a text.
+    pub fn has_memory(&self) -> bool {
+        self.buffer.capacity() > 0
     }
 
-    /// Returns the value that is inserted before the input. A definition among these is valid.
-    pub fn push(&self) -> Push<'_>
-        ensures value { pushed_by result ≡ self.now.push }
-        ensures valid { IsPushed (pushed_by result) }
+    /// Gives it memory for the next text that is made: that of a buffer whose contents are discarded.
+    pub fn lend(&mut self, buffer: Vec<u8>)
+        ensures { self.new ≡ self.old }
     {
-        match &self.kind {
-            Kind::Nothing => Push::Nothing,
-            Kind::Text => Push::Text(self.text.as_slice()),
-            Kind::Definition(definition) => Push::Definition(definition),
-        }
+        self.buffer = buffer;
+    }
+
+    /// Removes the value that is inserted before the input, and returns it. A definition is valid.
+    pub fn take_push(&mut self) -> Option<Pushed>
+        ensures value { result ≡ self.old.push }
+        ensures valid { IsPushed result }
+        ensures rest { self.new ≡ record self.old { push = None } }
+    {
+        self.push.take()
+    }
+
+    /// Returns a text with a call's name and arguments substituted, by these quotes, in the memory of the effect.
+    pub fn expand(
+        &mut self,
+        text: &Bytes,
+        name: &[u8],
+        list: &[Arg],
+        quotes: (&[u8], &[u8]),
+    ) -> Result<Bytes, BuiltinFault>
+        // exact steps: the text with the arguments substituted
+        ensures text { IfOk result (λ b. b ≡ subst text.now name.now list.now (pair_of quotes.entry)) }
+        ensures stays { self.new ≡ self.old }
+    {
+        substitute_with(&mut self.buffer, text, name, list, quotes)
     }
 
     /// Returns the messages to be written.
@@ -175,7 +181,7 @@ impl Effect {
 
     /// Returns the allocator of the effect's texts.
     pub(crate) fn alloc(&self) -> Global {
-        *self.text.allocator()
+        *self.buffer.allocator()
     }
 
     /// Returns an empty buffer for a text that is then inserted by `give`.
@@ -185,7 +191,7 @@ impl Effect {
         ensures stays { self.new ≡ nothing }
     {
         let alloc = self.alloc();
-        let mut buffer = std::mem::replace(&mut self.text, Vec::new(alloc));
+        let mut buffer = std::mem::replace(&mut self.buffer, Vec::new(alloc));
         buffer.clear();
         buffer
     }
@@ -194,18 +200,41 @@ impl Effect {
     pub(crate) fn give(&mut self, text: Vec<u8>)
         ensures { self.new ≡ record self.old { push = Some (pushes.Text text.items) } }
     {
-        self.text = text;
-        self.kind = Kind::Text;
+        self.buffer = text;
+        self.push = Some(Pushed::Text(Bytes::take_from(&mut self.buffer)));
+    }
+
+    /// Inserts this text before the input.
+    pub(crate) fn give_text(&mut self, text: Bytes)
+        ensures { self.new ≡ record self.old { push = Some (pushes.Text text) } }
+    {
+        self.push = Some(Pushed::Text(text));
     }
 
     /// Inserts a copy of a text before the input.
     pub(crate) fn give_copy(&mut self, text: &[u8]) -> Result<(), AllocError>
         ensures { OnOk result (self.new ≡ record self.old { push = Some (pushes.Text text.now) }) }
     {
-        self.text.clear();
-        self.text.extend_from_slice(text)?;
-        self.kind = Kind::Text;
+        self.push = Some(Pushed::Text(Bytes::copy_with(&mut self.buffer, text)?));
         Ok(())
+    }
+
+    /// Inserts a text before the input, shared if it is long.
+    pub(crate) fn give_shared(&mut self, text: &Bytes) -> Result<(), AllocError>
+        ensures { OnOk result (self.new ≡ record self.old { push = Some (pushes.Text text.now) }) }
+    {
+        self.push = Some(Pushed::Text(text.share_with(&mut self.buffer)?));
+        Ok(())
+    }
+
+    /// Inserts the text of an argument before the input: a definition, or none, counts as empty.
+    pub(crate) fn give_argument(&mut self, arg: Option<&Arg>) -> Result<(), AllocError>
+        ensures { OnOk result (self.new ≡ record self.old { push = Some (pushes.Text (text_of_any (option_copied arg.entry))) }) }
+    {
+        match arg {
+            Some(Arg::Text(text)) => self.give_shared(text),
+            Some(Arg::Definition(_)) | None => self.give_copy(&[]),
+        }
     }
 
     /// Inserts a definition before the input.
@@ -213,7 +242,7 @@ impl Effect {
         requires { IsDefinition definition }
         ensures { self.new ≡ record self.old { push = Some (pushes.Definition definition) } }
     {
-        self.kind = Kind::Definition(definition);
+        self.push = Some(Pushed::Definition(definition));
     }
 
     /// Sets the messages.
@@ -222,23 +251,24 @@ impl Effect {
     {
         // Builtins that read numbers always set them, and mostly there are none.
         self.has_more |= !messages.as_slice().is_empty();
-        self.messages = messages.into_vec();
+        self.messages = messages;
     }
 
     /// Inserts a message before the others.
     pub(crate) fn warn_first(&mut self, message: Bytes) -> Result<(), AllocError>
         ensures { OnOk result (self.new ≡ record self.old { messages = message ++ self.old.messages }) }
     {
-        let mut messages = message.into_vec();
-        messages.extend_from_slice(&self.messages)?;
+        let mut messages = Vec::new(self.alloc());
+        messages.extend_from_slice(message.as_slice())?;
+        messages.extend_from_slice(self.messages.as_slice())?;
         self.has_more = true;
-        self.messages = messages;
+        self.messages = Bytes::from(messages);
         Ok(())
     }
 
     /// Sets the output that is written at once.
-    pub(crate) fn issue(&mut self, output: Vec<u8>)
-        ensures { self.new ≡ record self.old { output = output.items } }
+    pub(crate) fn issue(&mut self, output: Bytes)
+        ensures { self.new ≡ record self.old { output = output } }
     {
         self.has_more = true;
         self.output = output;

@@ -35,7 +35,7 @@ pub(crate) fn m4wrap(effect: &mut Effect, list: &[Arg], state: &State) -> Result
 pub(crate) fn m4exit(
     effect: &mut Effect,
     list: &[Arg],
-    place: &Place<'_>,
+    place: &Place,
     state: &State,
 ) -> Result<(), AllocError>
     requires { effect.old ≡ nothing }
@@ -52,7 +52,7 @@ pub(crate) fn m4exit(
 fn end_by(
     effect: &mut Effect,
     reading: Reading,
-    place: &Place<'_>,
+    place: &Place,
     state: &State,
 ) -> Result<(), AllocError>
     requires { effect.old ≡ nothing }

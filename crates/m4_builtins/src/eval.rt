@@ -29,7 +29,7 @@ use std::alloc::{AllocError, Global};
 pub(crate) fn eval(
     effect: &mut Effect,
     list: &[Arg],
-    place: &Place<'_>,
+    place: &Place,
     state: &State,
 ) -> Result<(), AllocError>
     requires { effect.old ≡ nothing }
@@ -52,7 +52,7 @@ fn digits_in(
     alloc: Global,
     buffer: Vec<u8>,
     list: &[Arg],
-    place: &Place<'_>,
+    place: &Place,
     messages: &mut Vec<u8>,
 ) -> Result<Option<Vec<u8>>, AllocError>
     ensures { IfOk result (λ digits. ReadsAs (spec.with_digits list.now place.now) (option_map (λ v. v.items) digits) messages.old.items messages.new.items) }
@@ -73,7 +73,7 @@ fn digits_in(
 fn radix_in(
     alloc: Global,
     text: &[u8],
-    place: &Place<'_>,
+    place: &Place,
     messages: &mut Vec<u8>,
 ) -> Result<Option<Radix>, AllocError>
     ensures { IfOk result (λ radix. ReadsAs (λ s. spec.with_radix place.now s text.now) radix messages.old.items messages.new.items) }
@@ -95,7 +95,7 @@ fn radix_in(
 fn width_in(
     alloc: Global,
     arg: Option<&Arg>,
-    place: &Place<'_>,
+    place: &Place,
     messages: &mut Vec<u8>,
 ) -> Result<Option<usize>, AllocError>
     ensures { IfOk result (λ width. ReadsAs (λ s. spec.with_width place.now s (option_map text_of_arg (option_copied arg.entry))) width messages.old.items messages.new.items) }
@@ -120,7 +120,7 @@ fn width_in(
 fn value_in(
     alloc: Global,
     text: &[u8],
-    place: &Place<'_>,
+    place: &Place,
     messages: &mut Vec<u8>,
 ) -> Result<Option<i32>, AllocError>
     ensures { IfOk result (λ value. ReadsAs (λ s. spec.with_value place.now s text.now) value messages.old.items messages.new.items) }

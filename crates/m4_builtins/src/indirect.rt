@@ -19,7 +19,6 @@ use crate::messages::{
     bad_name_message, unknown_builtin_message, unknown_macro_message, unsupported_message,
 };
 use crate::place::Place;
-use crate::substitute::substitute_onto;
 use m4_state::builtin::Builtin;
 use m4_state::definition::Def;
 use m4_state::state::State;
@@ -41,7 +40,7 @@ pub(crate) fn begin<'a>(
     def: &Def,
     name: &[u8],
     list: &'a [Arg],
-    place: &Place<'_>,
+    place: &Place,
     state: &State,
 ) -> Result<Step<'a>, BuiltinFault>
     requires fresh { effect.old ≡ nothing }
@@ -51,9 +50,8 @@ pub(crate) fn begin<'a>(
 {
     match def {
         Def::Text(text) => {
-            let mut expansion = effect.buffer();
-            substitute_onto(&mut expansion, text.as_slice(), name, list, state.quotes())?;
-            effect.give(expansion);
+            let expansion = effect.expand(text, name, list, state.quotes())?;
+            effect.give_text(expansion);
             Ok(Step::Done)
         }
         Def::Builtin(builtin) => Ok(Step::On(*builtin, list)),
@@ -68,7 +66,7 @@ pub(crate) fn begin<'a>(
 pub(crate) fn indir<'a>(
     effect: &mut Effect,
     list: &'a [Arg],
-    place: &Place<'_>,
+    place: &Place,
     state: &State,
 ) -> Result<Step<'a>, BuiltinFault>
     requires fresh { effect.old ≡ nothing }
@@ -96,7 +94,7 @@ pub(crate) fn indir<'a>(
 pub(crate) fn builtin<'a>(
     effect: &mut Effect,
     list: &'a [Arg],
-    place: &Place<'_>,
+    place: &Place,
     state: &State,
 ) -> Result<Step<'a>, BuiltinFault>
     requires fresh { effect.old ≡ nothing }

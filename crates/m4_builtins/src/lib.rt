@@ -17,9 +17,6 @@ pub mod effect;
 mod ending;
 mod eval;
 pub mod fault;
-// Public only for the engine, which keeps the head of a call while its list is read.
-#[doc(hidden)]
-pub mod head;
 mod indirect;
 pub mod messages;
 mod naming;

@@ -12,7 +12,7 @@ use std::alloc::{AllocError, Global};
 
 /// Returns the line that says why the run ends. Returns `OutOfMemory` if an allocation fails. Manual:
 /// "Location within input".
-pub fn error_message(alloc: Global, place: &Place<'_>, text: &[u8]) -> Result<Bytes, BuiltinFault>
+pub fn error_message(alloc: Global, place: &Place, text: &[u8]) -> Result<Bytes, BuiltinFault>
     // exact steps: the complete line
     ensures { IfOk result (λ b. b ≡ error place.now text.now) }
 {
@@ -24,7 +24,7 @@ pub fn error_message(alloc: Global, place: &Place<'_>, text: &[u8]) -> Result<By
 
 /// Returns the warning that a definition in a text was dropped. Returns `OutOfMemory` if an allocation
 /// fails. Manual: "Location within input".
-pub fn dropped_message(alloc: Global, place: &Place<'_>) -> Result<Bytes, BuiltinFault>
+pub fn dropped_message(alloc: Global, place: &Place) -> Result<Bytes, BuiltinFault>
     // exact steps: the complete line
     ensures { IfOk result (λ b. b ≡ dropped place.now) }
 {
@@ -37,7 +37,7 @@ pub fn dropped_message(alloc: Global, place: &Place<'_>) -> Result<Bytes, Builti
 /// Returns the warning that a builtin was called with too few arguments.
 pub(crate) fn too_few_message(
     alloc: Global,
-    place: &Place<'_>,
+    place: &Place,
     builtin: Builtin,
 ) -> Result<Bytes, AllocError>
     // exact steps: the complete line
@@ -55,7 +55,7 @@ pub(crate) fn too_few_message(
 /// Returns the warning that a builtin was called with more arguments than it reads.
 pub(crate) fn excess_message(
     alloc: Global,
-    place: &Place<'_>,
+    place: &Place,
     builtin: Builtin,
 ) -> Result<Bytes, AllocError>
     // exact steps: the complete line
@@ -73,7 +73,7 @@ pub(crate) fn excess_message(
 /// Returns the warning that an empty argument counts as 0.
 pub(crate) fn empty_number_message(
     alloc: Global,
-    place: &Place<'_>,
+    place: &Place,
     builtin: Builtin,
 ) -> Result<Bytes, AllocError>
     // exact steps: the complete line
@@ -91,7 +91,7 @@ pub(crate) fn empty_number_message(
 /// Returns the warning that an argument is no number.
 pub(crate) fn not_numeric_message(
     alloc: Global,
-    place: &Place<'_>,
+    place: &Place,
     builtin: Builtin,
 ) -> Result<Bytes, AllocError>
     // exact steps: the complete line
@@ -109,7 +109,7 @@ pub(crate) fn not_numeric_message(
 /// Returns the warning that there is no macro of this name.
 pub(crate) fn unknown_macro_message(
     alloc: Global,
-    place: &Place<'_>,
+    place: &Place,
     name: &[u8],
 ) -> Result<Bytes, AllocError>
     // exact steps: the complete line
@@ -121,7 +121,7 @@ pub(crate) fn unknown_macro_message(
 /// Returns the warning that there is no builtin of this name.
 pub(crate) fn unknown_builtin_message(
     alloc: Global,
-    place: &Place<'_>,
+    place: &Place,
     name: &[u8],
 ) -> Result<Bytes, AllocError>
     // exact steps: the complete line
@@ -133,7 +133,7 @@ pub(crate) fn unknown_builtin_message(
 /// Returns the warning that a frozen file asked for a builtin that this processor lacks.
 pub(crate) fn unsupported_message(
     alloc: Global,
-    place: &Place<'_>,
+    place: &Place,
     name: &[u8],
 ) -> Result<Bytes, AllocError>
     // exact steps: the complete line
@@ -151,7 +151,7 @@ pub(crate) fn unsupported_message(
 /// Returns the warning that a builtin reads a name and its argument was a definition.
 pub(crate) fn bad_name_message(
     alloc: Global,
-    place: &Place<'_>,
+    place: &Place,
     builtin: Builtin,
 ) -> Result<Bytes, AllocError>
     // exact steps: the complete line
@@ -167,7 +167,7 @@ pub(crate) fn bad_name_message(
 }
 
 /// Returns the warning that an expression divides by zero.
-pub(crate) fn divide_by_zero_message(alloc: Global, place: &Place<'_>) -> Result<Bytes, AllocError>
+pub(crate) fn divide_by_zero_message(alloc: Global, place: &Place) -> Result<Bytes, AllocError>
     // exact steps: the complete line
     ensures { IfOk result (λ b. b ≡ divide_by_zero place.now) }
 {
@@ -175,7 +175,7 @@ pub(crate) fn divide_by_zero_message(alloc: Global, place: &Place<'_>) -> Result
 }
 
 /// Returns the warning that a text is no expression.
-pub(crate) fn bad_expression_message(alloc: Global, place: &Place<'_>) -> Result<Bytes, AllocError>
+pub(crate) fn bad_expression_message(alloc: Global, place: &Place) -> Result<Bytes, AllocError>
     // exact steps: the complete line
     ensures { IfOk result (λ b. b ≡ bad_expression place.now) }
 {
@@ -183,7 +183,7 @@ pub(crate) fn bad_expression_message(alloc: Global, place: &Place<'_>) -> Result
 }
 
 /// Returns the warning that a radix or a width is out of range.
-pub(crate) fn out_of_range_message(alloc: Global, place: &Place<'_>) -> Result<Bytes, AllocError>
+pub(crate) fn out_of_range_message(alloc: Global, place: &Place) -> Result<Bytes, AllocError>
     // exact steps: the complete line
     ensures { IfOk result (λ b. b ≡ out_of_range place.now) }
 {
@@ -197,7 +197,7 @@ pub(crate) fn out_of_range_message(alloc: Global, place: &Place<'_>) -> Result<B
 }
 
 /// Returns the warning that an exit status is out of range.
-pub(crate) fn bad_status_message(alloc: Global, place: &Place<'_>) -> Result<Bytes, AllocError>
+pub(crate) fn bad_status_message(alloc: Global, place: &Place) -> Result<Bytes, AllocError>
     // exact steps: the complete line
     ensures { IfOk result (λ b. b ≡ bad_status place.now) }
 {
@@ -207,7 +207,7 @@ pub(crate) fn bad_status_message(alloc: Global, place: &Place<'_>) -> Result<Byt
 /// Returns a warning that contains a name, with a text before and after it.
 fn warning_on(
     alloc: Global,
-    place: &Place<'_>,
+    place: &Place,
     before: &[u8],
     name: &[u8],
     after: &[u8],
@@ -223,7 +223,7 @@ fn warning_on(
 }
 
 /// Returns the start of each message: the program, the place, and the kind of message.
-fn head(alloc: Global, place: &Place<'_>, kind: &[u8]) -> Result<Vec<u8>, AllocError>
+fn head(alloc: Global, place: &Place, kind: &[u8]) -> Result<Vec<u8>, AllocError>
     ensures { IfOk result (λ v. v.items ≡ codes "m4" ++ place_text place.now ++ kind.now) }
 {
     let mut line = Vec::from_slice(alloc, b"m4")?;
@@ -233,15 +233,15 @@ fn head(alloc: Global, place: &Place<'_>, kind: &[u8]) -> Result<Vec<u8>, AllocE
 }
 
 /// Appends the file and the line, or nothing in wrapped text, whose line is 0.
-fn push_place(line: &mut Vec<u8>, place: &Place<'_>) -> Result<(), AllocError>
+fn push_place(line: &mut Vec<u8>, place: &Place) -> Result<(), AllocError>
     ensures { OnOk result (line.new.items ≡ line.old.items ++ place_text place.now) }
 {
-    if place.line() == 0 {
+    if place.line == 0 {
         return Ok(());
     }
     let mut buffer = Buffer::new();
     line.push(b':')?;
-    line.extend_from_slice(place.file())?;
+    line.extend_from_slice(place.file.as_slice())?;
     line.push(b':')?;
-    line.extend_from_slice(buffer.format(place.line()).as_bytes())
+    line.extend_from_slice(buffer.format(place.line).as_bytes())
 }

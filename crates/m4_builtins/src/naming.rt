@@ -26,7 +26,7 @@ use std::alloc::{AllocError, Global};
 pub(crate) fn define(
     effect: &mut Effect,
     list: &[Arg],
-    place: &Place<'_>,
+    place: &Place,
     state: &mut State,
 ) -> Result<(), BuiltinFault>
     requires fresh { effect.old ≡ nothing }
@@ -36,14 +36,13 @@ pub(crate) fn define(
     let Some((first, rest)) = list.split_first() else {
         return Ok(());
     };
-    let alloc = effect.alloc();
     match first {
         Arg::Text(name) => {
-            let def = definition_in(alloc, rest)?;
+            let def = definition_in(rest)?;
             state.define(name.as_slice(), def)?;
         }
         Arg::Definition(_) => {
-            effect.warn(bad_name_message(alloc, place, Builtin::Define)?);
+            effect.warn(bad_name_message(effect.alloc(), place, Builtin::Define)?);
         }
     }
     Ok(())
@@ -54,7 +53,7 @@ pub(crate) fn define(
 pub(crate) fn pushdef(
     effect: &mut Effect,
     list: &[Arg],
-    place: &Place<'_>,
+    place: &Place,
     state: &mut State,
 ) -> Result<(), BuiltinFault>
     requires fresh { effect.old ≡ nothing }
@@ -64,27 +63,26 @@ pub(crate) fn pushdef(
     let Some((first, rest)) = list.split_first() else {
         return Ok(());
     };
-    let alloc = effect.alloc();
     match first {
         Arg::Text(name) => {
-            let def = definition_in(alloc, rest)?;
+            let def = definition_in(rest)?;
             state.push(name.as_slice(), def)?;
         }
         Arg::Definition(_) => {
-            effect.warn(bad_name_message(alloc, place, Builtin::Pushdef)?);
+            effect.warn(bad_name_message(effect.alloc(), place, Builtin::Pushdef)?);
         }
     }
     Ok(())
 }
 
 /// Returns the first of these arguments as a definition, or the empty text if there is none.
-fn definition_in(alloc: Global, list: &[Arg]) -> Result<Def, AllocError>
+fn definition_in(list: &[Arg]) -> Result<Def, AllocError>
     ensures { IfOk result (λ d. d ≡ spec.definition_in list.now) }
 {
     match list.first() {
         Some(Arg::Text(text)) => Ok(Def::Text(text.share()?)),
         Some(Arg::Definition(def)) => def.share(),
-        None => Ok(Def::Text(Bytes::from(Vec::new(alloc)))),
+        None => Ok(Def::Text(Bytes::empty())),
     }
 }
 
@@ -110,7 +108,7 @@ pub(crate) fn popdef(list: &[Arg], state: &mut State)
 pub(crate) fn defn(
     effect: &mut Effect,
     list: &[Arg],
-    place: &Place<'_>,
+    place: &Place,
     state: &State,
 ) -> Result<(), BuiltinFault>
     requires { effect.old ≡ nothing }
@@ -164,7 +162,7 @@ fn give_definition(
 fn push_texts(
     alloc: Global,
     list: &[Arg],
-    place: &Place<'_>,
+    place: &Place,
     state: &State,
     texts: &mut Vec<u8>,
     warnings: &mut Vec<u8>,
@@ -191,7 +189,7 @@ fn push_texts(
 fn push_text(
     alloc: Global,
     def: Option<&Def>,
-    place: &Place<'_>,
+    place: &Place,
     quotes: (&[u8], &[u8]),
     texts: &mut Vec<u8>,
     warnings: &mut Vec<u8>,

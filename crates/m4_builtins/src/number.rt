@@ -41,7 +41,7 @@ pub fn reading_of(text: &[u8]) -> Reading
 pub(crate) fn number_in(
     alloc: Global,
     text: &[u8],
-    place: &Place<'_>,
+    place: &Place,
     builtin: Builtin,
     messages: &mut Vec<u8>,
 ) -> Result<Option<i32>, AllocError>

@@ -25,7 +25,7 @@ use std::alloc::{AllocError, Global};
 pub(crate) fn dumpdef(
     effect: &mut Effect,
     list: &[Arg],
-    place: &Place<'_>,
+    place: &Place,
     state: &State,
 ) -> Result<(), BuiltinFault>
     requires { effect.old ≡ nothing }
@@ -67,7 +67,7 @@ fn copied_texts(alloc: Global, list: &[Arg]) -> Result<Vec<Bytes>, AllocError>
 fn push_warnings(
     alloc: Global,
     names: &[Bytes],
-    place: &Place<'_>,
+    place: &Place,
     state: &State,
     messages: &mut Vec<u8>,
 ) -> Result<(), AllocError>
@@ -85,7 +85,7 @@ fn push_warning(
     alloc: Global,
     name: &[u8],
     def: Option<&Def>,
-    place: &Place<'_>,
+    place: &Place,
     messages: &mut Vec<u8>,
 ) -> Result<(), AllocError>
     ensures { OnOk result (messages.new.items
@@ -165,11 +165,15 @@ pub(crate) fn errprint(effect: &mut Effect, list: &[Arg], state: &State) -> Resu
 
 /// Expands to the name of the input between quotes; to an empty one in wrapped text, whose line is 0.
 /// Manual: "Printing current location".
-pub(crate) fn file(effect: &mut Effect, place: &Place<'_>, state: &State) -> Result<(), AllocError>
+pub(crate) fn file(effect: &mut Effect, place: &Place, state: &State) -> Result<(), AllocError>
     requires { effect.old ≡ nothing }
     ensures { OnOk result (spec.file place.now state.now ≡ record { state = state.now; effect = effect.new }) }
 {
-    let name = if place.line() == 0 { &[] } else { place.file() };
+    let name = if place.line == 0 {
+        &[]
+    } else {
+        place.file.as_slice()
+    };
     let mut text = effect.buffer();
     push_one_quoted(&mut text, name, state.quotes())?;
     effect.give(text);
@@ -177,11 +181,11 @@ pub(crate) fn file(effect: &mut Effect, place: &Place<'_>, state: &State) -> Res
 }
 
 /// Expands to the line of the call; to 0 in wrapped text. Manual: "Printing current location".
-pub(crate) fn line(effect: &mut Effect, place: &Place<'_>, state: &State) -> Result<(), AllocError>
+pub(crate) fn line(effect: &mut Effect, place: &Place, state: &State) -> Result<(), AllocError>
     requires { effect.old ≡ nothing }
     ensures { OnOk result (spec.line place.now state.now ≡ record { state = state.now; effect = effect.new }) }
 {
     let _ = state;
     let mut buffer = Buffer::new();
-    effect.give_copy(buffer.format(place.line()).as_bytes())
+    effect.give_copy(buffer.format(place.line).as_bytes())
 }

@@ -35,9 +35,31 @@ pub fn substitute(
     Ok(Bytes::from(out))
 }
 
+/// Returns the same, for a text of a definition: the text itself, shared, if it has no dollar, or else one with the
+/// memory of a buffer whose contents are discarded.
+#[inline(always)]
+pub(crate) fn substitute_with(
+    buffer: &mut Vec<u8>,
+    text: &Bytes,
+    name: &[u8],
+    list: &[Arg],
+    quotes: (&[u8], &[u8]),
+) -> Result<Bytes, BuiltinFault>
+    // exact steps: the text with the arguments substituted
+    ensures { IfOk result (λ b. b ≡ subst text.now name.now list.now (pair_of quotes.entry)) }
+{
+    let bytes = text.as_slice();
+    let plain = plain_len(bytes);
+    if plain == bytes.len() {
+        return Ok(text.share_with(buffer)?);
+    }
+    buffer.clear();
+    substitute_onto(buffer, bytes, name, list, quotes)?;
+    Ok(Bytes::take_from(buffer))
+}
+
 /// Appends a text with the name and the arguments of a call substituted, as [`substitute`] does.
-#[doc(hidden)]
-pub fn substitute_onto(
+pub(crate) fn substitute_onto(
     out: &mut Vec<u8>,
     text: &[u8],
     name: &[u8],

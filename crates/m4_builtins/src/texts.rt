@@ -45,7 +45,7 @@ pub(crate) fn index(effect: &mut Effect, list: &[Arg], state: &State) -> Result<
 pub(crate) fn substr(
     effect: &mut Effect,
     list: &[Arg],
-    place: &Place<'_>,
+    place: &Place,
     state: &State,
 ) -> Result<(), AllocError>
     requires { effect.old ≡ nothing }

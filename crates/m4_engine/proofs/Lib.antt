@@ -56,3 +56,4 @@ pub mod Tears
 pub mod RunReached
 pub mod TwoRuns
 pub mod Chains
+pub mod FrontRuns

@@ -6,7 +6,7 @@ use Rattle.m4_state.specs.State.{top_of}
 use Rattle.m4_input.specs.Pending.{Pending, name_of, line_of}
 use Rattle.m4_input.specs.Paren.{paren_at}
 use Rattle.m4_input.specs.Input.{answer_of}
-use Rattle.m4_builtins.specs.Place.{Place}
+use Rattle.m4_builtins.specs.declared.place.Place.{Place}
 use Rattle.m4_builtins.specs.Args.{or_empty}
 use Rattle.m4_builtins.specs.Act.{needs_list}
 use Rattle.m4_engine.specs.Expansion.{Expansion, Kept, place_at}

@@ -1,11 +1,16 @@
 -- Passing: tokens that are text are put where they go at once as turns would put them there.
-use Rattle.std.specs.Prelude.{Result, Ok, Err, OnOk}
-use Rattle.std.proofs.Common.{◌≡◌, inl, inr, Bool, ℕ, ℤ, pos, ◌+◌, ◌-◌, ◌<◌, ◌≤◌, List, [], ◌∷◌, ◌++◌, Option, None, take, drop, length, refl, sym, ap, ◌∙◌, subst, arith, append-nil, append_assoc}
+use Rattle.std.specs.Prelude.{Result, Ok, Err, OnOk, if◌then◌else◌}
+use Rattle.std.specs.Cmp.{int_cmp_total, tied_itself}
+use Rattle.std.specs.Ordering.{int_cmp}
+use Rattle.std.specs.FinMap.{put}
+use Rattle.std.specs.FinMap.Entries.{by_order, find-put}
+use Rattle.m4_state.specs.State.{State, Diversion, appended, with_text, text_at, holds_text}
+use Rattle.std.proofs.Common.{◌≡◌, inl, inr, Bool, true, false, cond, ℕ, zero, suc, ℤ, pos, negsuc, Ordering, Less, Equal, Greater, unwrap_or, ◌+◌, ◌-◌, ◌<◌, ◌≤◌, List, [], ◌∷◌, ◌++◌, Option, None, take, drop, length, refl, sym, ap, ◌∙◌, subst, arith, append-nil, append_assoc}
 use Rattle.std.proofs.Math.Seq.{take-add}
 use Rattle.m4_state.specs.declared.definition.Def.{Def}
-use Rattle.m4_input.specs.declared.token.Token.TheVariants.{Name, Str, Byte}
+use Rattle.m4_input.specs.declared.token.Token.TheVariants.{Name, Str, Comment, Byte}
 use Rattle.m4_input.specs.Pending.{Pending, text_of, counted, consumed, newlines_in}
-use Rattle.m4_engine.specs.Plain.{IsPlain, total, ArePlain}
+use Rattle.m4_engine.specs.Plain.{IsPlain, total, ArePlain, IsPlainRun}
 use Rattle.m4_engine.specs.Collected.{IsText, IsListToken, AreListTokens, bytes_in, IsListRun}
 use Rattle.m4_input.specs.Input.{Held, longer}
 use Rattle.m4_input.proofs.Consumed.{consumed_twice}
@@ -15,34 +20,41 @@ use Rattle.m4_engine.specs.declared.turned.TurnFault.{TurnFault}
 use Rattle.m4_engine.specs.declared.turned.Turned.TheVariants as turns
 use Rattle.m4_engine.specs.Nesting.{Turn, GoOn}
 use Rattle.m4_engine.specs.OpenCalls.{take_turn, Goes}
-use Rattle.m4_engine.specs.Expansion.{Call, Expansion, Kept, Ended, reading, put_text}
+use Rattle.m4_engine.specs.Expansion.{Call, Expansion, Kept, Ended, reading, put_text, issued}
 use Rattle.m4_engine.specs.Expand.{turn, join, take_front, take_name}
-use Rattle.m4_engine.specs.Engine.{Engine, here_of, outer_of, configuration, moved, MayFollow, IsReady, Moves, PassesPlain, PassesInner, Passes}
+use Rattle.m4_engine.specs.Engine.{Engine, put_in, here_of, outer_of, configuration, moved, MayFollow, IsReady, Moves, PassesPlain, PassesInner, PassesOnce, ArePasses, Passes, PassesText, PassesBy, PassesFront, IsLookahead, allows_call}
+use Rattle.m4_input.specs.Blocks.{IsInFront}
+use Rattle.m4_builtins.specs.declared.place.Place.{Place}
+use Rattle.m4_engine.specs.declared.lookahead.Lookahead.TheVariants as aheads
+use Rattle.m4_engine.specs.Lookahead.{IsLookaheadOf, placed_ahead, place_in}
+use Rattle.m4_engine.proofs.FrontRuns.{plain_front, list_front, take_in_front, ahead_front, front_falls}
 use Rattle.m4_engine.proofs.Longer.{found_longer}
 use Rattle.m4_engine.proofs.LoopKeeps.{turns_of, turn_falls, meaning_of, moved_on}
 
--- an engine outside of calls and of diversions
+-- an engine outside of calls
 abbrev at_top : Engine → Engine
-at_top e = record e { state = record e.state { current = pos 0 }; open_calls = [] }
+at_top e = record e { open_calls = [] }
 
 abbrev with_output : List ℕ → Engine → Engine
-with_output x e = record e { output = e.output ++ x }
+with_output x e = put_in [] x e
 
--- a turn writes such a token
+-- a turn puts such a token where text goes
 plain_turn : (e : Engine) (p : Pending) (n : ℕ) → p.definition ≡ None → IsPlain e.state p.may_follow n (text_of p) → (z : List ℕ) (more : Bool) → MayFollow p.may_follow z more → (o m : List ℕ) → turn (here_of o m (at_top e) (longer z more p)) ≡ GoOn (put_text (take n (text_of p)) (reading (longer z more (consumed n p)) (here_of o m (at_top e) (longer z more p))))
 plain_turn e p n d (inl h) z more c o m =
     ap (λ v. take_front v (here_of o m (at_top e) (longer z more p))) (found_longer (e.state).quotes (e.state).comments p (Name (take n (text_of p))) n z more d h.0 c)
     ∙ ap (λ v. take_name v (take n (text_of p)) (longer z more (consumed n p)) (here_of o m (at_top e) (longer z more p))) h.1
-plain_turn e p n d (inr h) z more c o m =
+plain_turn e p n d (inr (inl h)) z more c o m =
     ap (λ v. take_front v (here_of o m (at_top e) (longer z more p))) (found_longer (e.state).quotes (e.state).comments p (Byte h.0) n z more d h.1 c)
     ∙ ap (λ (x : List ℕ). let t : Turn Expansion Kept Ended = GoOn (put_text x (reading (longer z more (consumed n p)) (here_of o m (at_top e) (longer z more p)))) in t) (sym h.2)
+plain_turn e p n d (inr (inr h)) z more c o m =
+    ap (λ v. take_front v (here_of o m (at_top e) (longer z more p))) (found_longer (e.state).quotes (e.state).comments p (Comment (take n (text_of p))) n z more d h c)
 
 plain_moves : (e : Engine) (p : Pending) (n : ℕ) → p.definition ≡ None → IsPlain e.state p.may_follow n (text_of p) → Moves p.may_follow (with_output (take n (text_of p)) (at_top e)) (consumed n p) turns.GoesOn (λ z more o m. moved (configuration o m (at_top e) (longer z more p)))
 plain_moves e p n d h = λ z more c o m.
     ap (take_turn Expansion Kept Ended turn join []) (plain_turn e p n d h z more c o m)
-    ∙ (rw (append_assoc o e.output (take n (text_of p))) refl)
+    ∙ (rw (append_assoc o e.output (issued (e.state).current (take n (text_of p)))) refl)
 
-consumed_none : (p : Pending) → p.definition ≡ None → consumed 0 p ≡ p
+pub consumed_none : (p : Pending) → p.definition ≡ None → consumed 0 p ≡ p
 consumed_none p d =
     let none : 0 - length p.pushed ≡ 0 = omega arith in
     ap (λ m. let q : Pending = record p { definition = None; unread = drop m p.unread; newlines = counted p.newlines (newlines_in (take m p.unread)) } in q) none
@@ -54,45 +66,157 @@ pub record Reaches (e : Engine) (p : Pending) (e1 : Engine) (p1 : Pending) : Typ
   pub means : (z : List ℕ) (more : Bool) → MayFollow p.may_follow z more → (o m : List ℕ) → meaning_of o m e1 (longer z more p1) ≡ meaning_of o m e (longer z more p)
   pub turns : turns_of e1 p1 ≤ turns_of e p
 
-nothing_reaches : (e : Engine) (p : Pending) → Reaches e p e p
+pub nothing_reaches : (e : Engine) (p : Pending) → Reaches e p e p
 nothing_reaches e p = record { means = λ z more c o m. refl; turns = omega arith }
 
-move_reaches : (e e1 e2 : Engine) (p p1 p2 : Pending) → p1.may_follow ≡ p.may_follow → Moves p.may_follow e1 p1 turns.GoesOn (λ z more o m. moved (configuration o m e (longer z more p))) → Reaches e1 p1 e2 p2 → Reaches e p e2 p2
+pub move_reaches : (e e1 e2 : Engine) (p p1 p2 : Pending) → p1.may_follow ≡ p.may_follow → Moves p.may_follow e1 p1 turns.GoesOn (λ z more o m. moved (configuration o m e (longer z more p))) → Reaches e1 p1 e2 p2 → Reaches e p e2 p2
 move_reaches e e1 e2 p p1 p2 k h r =
     let f : turns_of e1 p1 < turns_of e p = turn_falls e e1 p p1 k h in
     let g : turns_of e2 p2 ≤ turns_of e1 p1 = r.turns in
     record { means = λ z more c o m. r.means z more (subst (λ v. MayFollow v z more) (sym k) c) o m ∙ moved_on e e1 p p1 z more o m c h; turns = omega arith }
 
--- the output of a token and of those after it
+-- ---- two texts that are put one after the other are put as one
+
+put-put : (n : ℤ) (v w : List ℕ) (ds : List Diversion) → put int_cmp n w (put int_cmp n v ds) ≡ put int_cmp n w ds
+put-put n v w [] = rw (tied_itself int_cmp_total n) refl
+put-put n v w (d ∷ ds) = by (int_cmp n d.0) refl (put-put n v w ds)
+  where
+    by : (r : Ordering) → int_cmp n d.0 ≡ r → put int_cmp n w (put int_cmp n v ds) ≡ put int_cmp n w ds
+        → put int_cmp n w (by_order r ((n, v) ∷ d ∷ ds) ((d.0, v) ∷ ds) (d ∷ put int_cmp n v ds))
+        ≡ by_order r ((n, w) ∷ d ∷ ds) ((d.0, w) ∷ ds) (d ∷ put int_cmp n w ds)
+    by Less e rest = rw (tied_itself int_cmp_total n) refl
+    by Equal e rest = rw e refl
+    by Greater e rest = rw e (ap (λ (xs : List Diversion). d ∷ xs) rest)
+
+text_at-put : (n : ℤ) (v : List ℕ) (ds : List Diversion) → text_at (put int_cmp n v ds) n ≡ v
+text_at-put n v ds =
+    ap (λ (o : Option (List ℕ)). unwrap_or o []) (find-put int_cmp int_cmp_total n n v ds)
+    ∙ rw (tied_itself int_cmp_total n) refl
+
+with_text-twice : (n : ℤ) (a b : List ℕ) (ds : List Diversion) → with_text (with_text ds n a) n b ≡ with_text ds n (a ++ b)
+with_text-twice n [] b ds = refl
+with_text-twice n (x ∷ a) [] ds = ap (with_text ds n) (sym (append-nil (x ∷ a)))
+with_text-twice n (x ∷ a) (y ∷ b) ds =
+    rw (text_at-put n (text_at ds n ++ x ∷ a) ds, put-put n (text_at ds n ++ x ∷ a) ((text_at ds n ++ x ∷ a) ++ y ∷ b) ds)
+    (ap (λ (text : List ℕ). put int_cmp n text ds) (append_assoc (text_at ds n) (x ∷ a) (y ∷ b)))
+
+appended-twice : (s : State) (a b : List ℕ) → appended (appended s a) b ≡ appended s (a ++ b)
+appended-twice s a b = by (holds_text s.current)
+  where
+    by : (h : Bool) → record s { diversions = cond h (with_text (cond h (with_text s.diversions s.current a) s.diversions) s.current b) (cond h (with_text s.diversions s.current a) s.diversions) }
+        ≡ record s { diversions = cond h (with_text s.diversions s.current (a ++ b)) s.diversions }
+    by true = ap (λ (ds : List Diversion). record s { diversions = ds }) (with_text-twice s.current a b s.diversions)
+    by false = refl
+
+appended-none : (s : State) → appended s [] ≡ s
+appended-none s = by (holds_text s.current)
+  where
+    by : (h : Bool) → record s { diversions = cond h s.diversions s.diversions } ≡ s
+    by true = refl
+    by false = refl
+
+issued-twice : (n : ℤ) (x y : List ℕ) → issued n x ++ issued n y ≡ issued n (x ++ y)
+issued-twice (pos zero) x y = refl
+issued-twice (pos (suc n)) x y = refl
+issued-twice (negsuc n) x y = refl
+
+issued-none : (n : ℤ) → issued n [] ≡ []
+issued-none (pos zero) = refl
+issued-none (pos (suc n)) = refl
+issued-none (negsuc n) = refl
+
+pub put_twice : (x y : List ℕ) (e : Engine) → with_output y (with_output x e) ≡ with_output (x ++ y) e
+put_twice x y e =
+    let n = (e.state).current in
+    ap (λ (s : State). let d : Engine = record e { state = s; output = (e.output ++ issued n x) ++ issued n y } in d) (appended-twice e.state x y)
+    ∙ ap (λ (o : List ℕ). let d : Engine = record e { state = appended e.state (x ++ y); output = o } in d) (append_assoc e.output (issued n x) (issued n y) ∙ ap (λ (v : List ℕ). e.output ++ v) (issued-twice n x y))
+
+none_put : (e : Engine) → with_output [] e ≡ e
+none_put e =
+    ap (λ (s : State). let d : Engine = record e { state = s; output = e.output ++ issued (e.state).current [] } in d) (appended-none e.state)
+    ∙ ap (λ (o : List ℕ). let d : Engine = record e { output = o } in d) (ap (λ (v : List ℕ). e.output ++ v) (issued-none (e.state).current) ∙ append-nil e.output)
+
+-- outside of diversions it is output alone
+output_put : (e : Engine) (x : List ℕ) → (e.state).current ≡ pos 0 → with_output x e ≡ record e { output = e.output ++ x }
+output_put e x h =
+    ap (λ (n : ℤ). let d : Engine = record e { state = record e.state { diversions = if holds_text n then with_text (e.state).diversions n x else (e.state).diversions }; output = e.output ++ issued n x } in d) h
+
+-- the text of a token and of those after it
 both_put : (n k : ℕ) (e : Engine) (p : Pending) → with_output (take k (text_of (consumed n p))) (with_output (take n (text_of p)) e) ≡ with_output (take (n + k) (text_of p)) e
 both_put n k e p =
     ap (λ (x : List ℕ). with_output (take k x) (with_output (take n (text_of p)) e)) (sym (drop_parts n p.pushed p.unread))
-    ∙ ap (λ (x : List ℕ). let d : Engine = record e { output = x } in d)
-    (append_assoc e.output (take n (text_of p)) (take k (drop n (text_of p))) ∙ ap (λ (x : List ℕ). e.output ++ x) (sym (take-add n k (text_of p))))
+    ∙ put_twice (take n (text_of p)) (take k (drop n (text_of p))) e
+    ∙ ap (λ (x : List ℕ). with_output x e) (sym (take-add n k (text_of p)))
+
+-- text that is put changes no name and no delimiter
+plain_kept : (s : State) (t : List ℕ) (m : Bool) (lens x : List ℕ) → ArePlain s m lens x → ArePlain (appended s t) m lens x
+plain_kept s t m [] x h = tt
+plain_kept s t m (n ∷ lens) x h = (h.0, plain_kept s t m lens (drop n x) h.1)
 
 run_reaches : (lens : List ℕ) (e : Engine) (p : Pending) → p.definition ≡ None → ArePlain e.state p.may_follow lens (text_of p) → Reaches (at_top e) p (with_output (take (total lens) (text_of p)) (at_top e)) (consumed (total lens) p)
 run_reaches [] e p d h =
     subst (λ (q : Pending). Reaches (at_top e) p (with_output [] (at_top e)) q) (sym (consumed_none p d))
-    (subst (λ (x : List ℕ). Reaches (at_top e) p (record (at_top e) { output = x }) p) (sym (append-nil e.output)) (nothing_reaches (at_top e) p))
+    (subst (λ (x : Engine). Reaches (at_top e) p x p) (sym (none_put (at_top e))) (nothing_reaches (at_top e) p))
 run_reaches (n ∷ lens) e p d h =
-    let e1 : Engine = with_output (take n (text_of p)) (at_top e) in
-    let r = run_reaches lens e1 (consumed n p) refl (subst (ArePlain e.state p.may_follow lens) (drop_parts n p.pushed p.unread) h.1) in
-    move_reaches (at_top e) e1 _ p (consumed n p) _ refl (plain_moves e p n d h.0)
-    (subst (λ (x : Engine). Reaches e1 (consumed n p) x (consumed (n + total lens) p)) (both_put n (total lens) (at_top e) p)
-    (subst (λ (q : Pending). Reaches e1 (consumed n p) (with_output (take (total lens) (text_of (consumed n p))) e1) q) (consumed_twice n (total lens) p) r))
+    let e1 : Engine = with_output (take n (text_of p)) e in
+    let r = run_reaches lens e1 (consumed n p) refl (plain_kept e.state (take n (text_of p)) p.may_follow lens (text_of (consumed n p)) (subst (ArePlain e.state p.may_follow lens) (drop_parts n p.pushed p.unread) h.1)) in
+    move_reaches (at_top e) (at_top e1) _ p (consumed n p) _ refl (plain_moves e p n d h.0)
+    (subst (λ (x : Engine). Reaches (at_top e1) (consumed n p) x (consumed (n + total lens) p)) (both_put n (total lens) (at_top e) p)
+    (subst (λ (q : Pending). Reaches (at_top e1) (consumed n p) (with_output (take (total lens) (text_of (consumed n p))) (at_top e1)) q) (consumed_twice n (total lens) p) r))
 
 -- the engine is at its top where it says so
-top_is : (e : Engine) → e.open_calls ≡ [] → (e.state).current ≡ pos 0 → at_top e ≡ e
-top_is e h k =
-    ap (λ (x : List Call). let d : Engine = record e { state = record e.state { current = pos 0 }; open_calls = x } in d) (sym h)
-    ∙ ap (λ (n : ℤ). let d : Engine = record e { state = record e.state { current = n } } in d) (sym k)
+top_is : (e : Engine) → e.open_calls ≡ [] → at_top e ≡ e
+top_is e h = ap (λ (x : List Call). let d : Engine = record e { open_calls = x } in d) (sym h)
 
 plain_reaches : (e e1 : Engine) (i i1 : Held) → PassesPlain e e1 i i1 → Reaches e i.pending e1 i1.pending
 plain_reaches e e1 i i1 h =
     let t = run_reaches h.lens e i.pending h.first h.plain in
-    let x = subst (λ (d : Engine). Reaches d i.pending (with_output (take (total h.lens) (text_of i.pending)) d) (consumed (total h.lens) i.pending)) (top_is e h.outside h.undiverted) t in
+    let x = subst (λ (d : Engine). Reaches d i.pending (with_output (take (total h.lens) (text_of i.pending)) d) (consumed (total h.lens) i.pending)) (top_is e h.outside) t in
     subst (λ (d : Engine). Reaches e i.pending d i1.pending) (sym h.engine)
     (subst (λ (j : Held). Reaches e i.pending (with_output (take (total h.lens) (text_of i.pending)) e) j.pending) (sym h.input) x)
+
+-- the first bytes of a text that is in front of an input were passed
+pub passes_text : (old new : Engine) (i j : Held) (m : Bool) (n : ℕ) (x : List ℕ) → IsInFront i.pending x m → (i.pending).definition ≡ None → n ≤ length x → PassesText m n x old new → j ≡ record i { pending = consumed n i.pending } → PassesOnce old new i j
+passes_text old new i j m n x h f k (inl r) g =
+    let run = plain_front old.state i.pending m n x h r.0 in
+    inr (inl (record {
+      lens = run.0;
+      plain = run.1;
+      outside = r.1;
+      first = f;
+      engine = r.2 ∙ ap (λ (y : List ℕ). put_in [] y old) (sym (take_in_front i.pending m n x h k)) ∙ ap (λ k. put_in [] (take k (text_of i.pending)) old) (sym run.2);
+      input = g ∙ ap (λ k. let v : Held = record i { pending = consumed k i.pending } in v) (sym run.2);
+    }))
+passes_text old new i j m n x h f k (inr r) g =
+    inr (inr (record {
+      innermost = r.0;
+      after = r.1;
+      around = r.2;
+      len = n;
+      collected = list_front old.state i.pending m n r.0 r.1 x h r.3;
+      inside = r.4;
+      first = f;
+      engine = r.5;
+      input = g;
+    }))
+
+-- outside of diversions they were added to the output
+pub text_output : (old new : Engine) (m : Bool) (n : ℕ) (x : List ℕ) → IsPlainRun old.state m n x → old.open_calls ≡ [] → (old.state).current ≡ pos 0 → new ≡ record old { output = old.output ++ take n x } → PassesText m n x old new
+text_output old new m n x r o u e = inl (r, o, e ∙ sym (output_put old (take n x) u))
+
+-- where text is diverted, they were added to the diversion, or dropped
+not_issued : (n : ℤ) (x : List ℕ) → (n ≡ pos 0 → ⊥) → issued n x ≡ []
+not_issued (pos zero) x h = absurd (h refl)
+not_issued (pos (suc n)) x h = refl
+not_issued (negsuc n) x h = refl
+
+diverted_put : (e : Engine) (x : List ℕ) → ((e.state).current ≡ pos 0 → ⊥) → with_output x e ≡ record e { state = appended e.state x }
+diverted_put e x h =
+    ap (λ (o : List ℕ). let d : Engine = record e { state = appended e.state x; output = e.output ++ o } in d) (not_issued (e.state).current x h)
+    ∙ ap (λ (o : List ℕ). let d : Engine = record e { state = appended e.state x; output = o } in d) (append-nil e.output)
+
+pub text_diverted : (old new : Engine) (m : Bool) (n : ℕ) (x : List ℕ) → IsPlainRun old.state m n x → old.open_calls ≡ [] → ((old.state).current ≡ pos 0 → ⊥) → new ≡ record old { state = appended old.state (take n x) } → PassesText m n x old new
+text_diverted old new m n x r o u e = inl (r, o, e ∙ sym (diverted_put old (take n x) u))
 
 -- an engine within a list
 abbrev at_call : Call → List Call → Engine → Engine
@@ -136,42 +260,110 @@ inner_reaches e e1 i i1 h =
     (subst (λ (k : Engine). Reaches k i.pending (at_call h.after h.around e) (consumed (bytes_in ts) i.pending)) same r)))
 
 -- where a list is open, its tokens were collected
-pub passes_inner : (old new : Engine) (c d : Call) (cs : List Call) (i j : Held) (n : ℕ) → old.open_calls ≡ c ∷ cs → IsListRun old.state (i.pending).may_follow n c d (text_of i.pending) → (i.pending).definition ≡ None → new ≡ record old { open_calls = d ∷ cs } → j ≡ record i { pending = consumed n i.pending } → Passes old new i j
-passes_inner old new c d cs i j n e h f g k =
-    inr (inr (record {
-      innermost = c;
-      after = d;
-      around = cs;
-      len = n;
-      collected = h;
-      inside = e;
-      first = f;
-      engine = g;
-      input = k;
-    }))
+once_reaches : (e e1 : Engine) (i i1 : Held) → PassesOnce e e1 i i1 → Reaches e i.pending e1 i1.pending
+once_reaches e e1 i i1 (inl h) =
+    subst (λ (d : Engine). Reaches e i.pending d i1.pending) (sym h.0) (subst (λ (j : Held). Reaches e i.pending e j.pending) (sym h.1) (nothing_reaches e i.pending))
+once_reaches e e1 i i1 (inr (inl h)) = plain_reaches e e1 i i1 h
+once_reaches e e1 i i1 (inr (inr h)) = inner_reaches e e1 i i1 h
 
--- said of a call that may fail
-pub passes_if_ok : (r : Result Lookahead TurnFault) (old new : Engine) (i j : Held) → Passes old new i j → OnOk r (Passes old new i j)
-passes_if_ok (Ok a) old new i j h = h
-passes_if_ok (Err x) old new i j h = tt
+once_ready : (e e1 : Engine) (i i1 : Held) → IsReady i → PassesOnce e e1 i i1 → IsReady i1
+once_ready e e1 i i1 r (inl h) = subst IsReady (sym h.1) r
+once_ready e e1 i i1 r (inr (inl h)) = subst IsReady (sym h.input) (record { sound = r.sound; front = tt })
+once_ready e e1 i i1 r (inr (inr h)) = subst IsReady (sym h.input) (record { sound = r.sound; front = tt })
+
+once_follows : (e e1 : Engine) (i i1 : Held) → PassesOnce e e1 i i1 → (i1.pending).may_follow ≡ (i.pending).may_follow
+once_follows e e1 i i1 (inl h) = ap (λ (j : Held). (j.pending).may_follow) h.1
+once_follows e e1 i i1 (inr (inl h)) = ap (λ (j : Held). (j.pending).may_follow) h.input
+once_follows e e1 i i1 (inr (inr h)) = ap (λ (j : Held). (j.pending).may_follow) h.input
+
+once_limits : (e e1 : Engine) (i i1 : Held) → PassesOnce e e1 i i1 → e1.limits ≡ e.limits
+once_limits e e1 i i1 (inl h) = ap (λ (d : Engine). d.limits) h.0
+once_limits e e1 i i1 (inr (inl h)) = ap (λ (d : Engine). d.limits) h.engine
+once_limits e e1 i i1 (inr (inr h)) = ap (λ (d : Engine). d.limits) h.engine
+
+-- and so of several passes
+both_reach : (e e1 e2 : Engine) (p p1 p2 : Pending) → p1.may_follow ≡ p.may_follow → Reaches e p e1 p1 → Reaches e1 p1 e2 p2 → Reaches e p e2 p2
+both_reach e e1 e2 p p1 p2 f a b =
+    let x : turns_of e1 p1 ≤ turns_of e p = a.turns in
+    let y : turns_of e2 p2 ≤ turns_of e1 p1 = b.turns in
+    record {
+      means = λ z more c o m. b.means z more (subst (λ (v : Bool). MayFollow v z more) (sym f) c) o m ∙ a.means z more c o m;
+      turns = omega arith;
+    }
+
+reach : (ss : List (Engine × Held)) (e e1 : Engine) (i i1 : Held) → ArePasses ss e e1 i i1 → Reaches e i.pending e1 i1.pending
+reach [] e e1 i i1 h =
+    subst (λ (d : Engine). Reaches e i.pending d i1.pending) (sym h.0) (subst (λ (j : Held). Reaches e i.pending e j.pending) (sym h.1) (nothing_reaches e i.pending))
+reach (s ∷ ss) e e1 i i1 h =
+    both_reach e s.0 e1 i.pending (s.1).pending i1.pending (once_follows e s.0 i s.1 h.0) (once_reaches e s.0 i s.1 h.0) (reach ss s.0 e1 s.1 i1 h.1)
+
+ready : (ss : List (Engine × Held)) (e e1 : Engine) (i i1 : Held) → IsReady i → ArePasses ss e e1 i i1 → IsReady i1
+ready [] e e1 i i1 r h = subst IsReady (sym h.1) r
+ready (s ∷ ss) e e1 i i1 r h = ready ss s.0 e1 s.1 i1 (once_ready e s.0 i s.1 r h.0) h.1
+
+follows : (ss : List (Engine × Held)) (e e1 : Engine) (i i1 : Held) → ArePasses ss e e1 i i1 → (i1.pending).may_follow ≡ (i.pending).may_follow
+follows [] e e1 i i1 h = ap (λ (j : Held). (j.pending).may_follow) h.1
+follows (s ∷ ss) e e1 i i1 h = follows ss s.0 e1 s.1 i1 h.1 ∙ once_follows e s.0 i s.1 h.0
+
+limits : (ss : List (Engine × Held)) (e e1 : Engine) (i i1 : Held) → ArePasses ss e e1 i i1 → e1.limits ≡ e.limits
+limits [] e e1 i i1 h = ap (λ (d : Engine). d.limits) h.0
+limits (s ∷ ss) e e1 i i1 h = limits ss s.0 e1 s.1 i1 h.1 ∙ once_limits e s.0 i s.1 h.0
 
 pub passes_reaches : (e e1 : Engine) (i i1 : Held) → Passes e e1 i i1 → Reaches e i.pending e1 i1.pending
-passes_reaches e e1 i i1 (inl h) =
-    subst (λ (d : Engine). Reaches e i.pending d i1.pending) (sym h.0) (subst (λ (j : Held). Reaches e i.pending e j.pending) (sym h.1) (nothing_reaches e i.pending))
-passes_reaches e e1 i i1 (inr (inl h)) = plain_reaches e e1 i i1 h
-passes_reaches e e1 i i1 (inr (inr h)) = inner_reaches e e1 i i1 h
+passes_reaches e e1 i i1 h = reach h.0 e e1 i i1 h.1
 
 pub passes_ready : (e e1 : Engine) (i i1 : Held) → IsReady i → Passes e e1 i i1 → IsReady i1
-passes_ready e e1 i i1 r (inl h) = subst IsReady (sym h.1) r
-passes_ready e e1 i i1 r (inr (inl h)) = subst IsReady (sym h.input) (record { sound = r.sound; front = tt })
-passes_ready e e1 i i1 r (inr (inr h)) = subst IsReady (sym h.input) (record { sound = r.sound; front = tt })
+passes_ready e e1 i i1 r h = ready h.0 e e1 i i1 r h.1
 
 pub passes_follows : (e e1 : Engine) (i i1 : Held) → Passes e e1 i i1 → (i1.pending).may_follow ≡ (i.pending).may_follow
-passes_follows e e1 i i1 (inl h) = ap (λ (j : Held). (j.pending).may_follow) h.1
-passes_follows e e1 i i1 (inr (inl h)) = ap (λ (j : Held). (j.pending).may_follow) h.input
-passes_follows e e1 i i1 (inr (inr h)) = ap (λ (j : Held). (j.pending).may_follow) h.input
+passes_follows e e1 i i1 h = follows h.0 e e1 i i1 h.1
 
 pub passes_limits : (e e1 : Engine) (i i1 : Held) → Passes e e1 i i1 → e1.limits ≡ e.limits
-passes_limits e e1 i i1 (inl h) = ap (λ (d : Engine). d.limits) h.0
-passes_limits e e1 i i1 (inr (inl h)) = ap (λ (d : Engine). d.limits) h.engine
-passes_limits e e1 i i1 (inr (inr h)) = ap (λ (d : Engine). d.limits) h.engine
+passes_limits e e1 i i1 h = limits h.0 e e1 i i1 h.1
+
+-- a further pass
+further : (ss : List (Engine × Held)) (e e1 e2 : Engine) (i i1 i2 : Held) → ArePasses ss e e1 i i1 → PassesOnce e1 e2 i1 i2 → Passes e e2 i i2
+further [] e e1 e2 i i1 i2 h g =
+    let k = subst (λ (d : Engine). PassesOnce d e2 i i2) h.0 (subst (λ (j : Held). PassesOnce e1 e2 j i2) h.1 g) in
+    ((e2, i2) ∷ [], (k, (refl, refl)))
+further (s ∷ ss) e e1 e2 i i1 i2 h g =
+    let r = further ss s.0 e1 e2 s.1 i1 i2 h.1 g in
+    (s ∷ r.0, (h.0, r.1))
+
+pub passes_on : (e e1 e2 : Engine) (i i1 i2 : Held) → Passes e e1 i i1 → PassesOnce e1 e2 i1 i2 → Passes e e2 i i2
+passes_on e e1 e2 i i1 i2 h g = further h.0 e e1 e2 i i1 i2 h.1 g
+
+pub passes_nothing : (e : Engine) (i : Held) → Passes e e i i
+passes_nothing e i = ([], (refl, refl))
+
+placed_passed : (at : Place) (a : Lookahead) → placed_ahead at a ≡ aheads.Passed → a ≡ aheads.Passed
+placed_passed at aheads.Unknown h = absurd cc
+placed_passed at aheads.Passed h = refl
+placed_passed at aheads.Open h = absurd cc
+placed_passed at (aheads.Byte b) h = absurd cc
+placed_passed at (aheads.Named n) h = absurd cc
+
+-- a pass over a text in front of an input
+pub front_passed : (a b : Lookahead) (old new : Engine) (i j : Held) (n : ℕ) (x : List ℕ) (others more : Bool) → IsInFront i.pending x more → (others ≡ true → 0 < length x) → (i.pending).definition ≡ None
+    → PassesBy n a x others more old new → j ≡ record i { pending = consumed n i.pending } → b ≡ placed_ahead (place_in j.pending) a → PassesFront b old new i j
+front_passed a b old new i j n x others more h some f r g e =
+    let next : Pending = consumed n i.pending in
+    let same : b ≡ placed_ahead (place_in next) a = e ∙ ap (λ (k : Held). placed_ahead (place_in k.pending) a) g in
+    let there : IsLookaheadOf (placed_ahead (place_in next) a) new.state (allows_call new) next = ahead_front (placed_ahead (place_in next) a) new.state (allows_call new) i.pending more n x h r.within (r.ahead (place_in next)) in
+    record {
+      passes = passes_text old new i j more n x h f r.within r.passes g;
+      ahead = subst (λ (c : Lookahead). IsLookahead c new j.pending) (sym same) (subst (λ (k : Held). IsLookahead (placed_ahead (place_in next) a) new k.pending) (sym g) there);
+      some = λ k.
+          let q = r.passed (placed_passed (place_in next) a (sym same ∙ k)) in
+          subst (λ (v : Held). length (text_of v.pending) < length (text_of i.pending)) (sym g) (front_falls i.pending more n x h (some q.0) r.within q.1);
+      first = λ k. ap (λ (v : Held). (v.pending).definition) g;
+    }
+
+-- a further pass over a front
+pub passed_front : (a : Lookahead) (e e1 e2 s : Engine) (i i1 i2 t : Held) → Passes e e1 i i1 → IsReady i1 → PassesFront a e1 e2 i1 i2 → s ≡ e2 → t ≡ i2 → Passes e s i t × IsReady t
+passed_front a e e1 e2 s i i1 i2 t h r f g k =
+    (subst (λ (d : Engine). Passes e d i t) (sym g) (subst (λ (j : Held). Passes e e2 i j) (sym k) (passes_on e e1 e2 i i1 i2 h f.passes)), subst IsReady (sym k) (once_ready e1 e2 i1 i2 r f.passes))
+
+pub ahead_is : (a b : Lookahead) (e s : Engine) (i t : Held) → b ≡ a → s ≡ e → t ≡ i → IsLookahead a e i.pending → IsLookahead b s t.pending
+ahead_is a b e s i t f g k h =
+    subst (λ (c : Lookahead). IsLookahead c s t.pending) (sym f) (subst (λ (d : Engine). IsLookahead a d t.pending) (sym g) (subst (λ (j : Held). IsLookahead a e j.pending) (sym k) h))

@@ -1,7 +1,10 @@
 -- PlainRuns: plain tokens in order.
-use Rattle.std.proofs.Common.{◌≡◌, inl, inr, Bool, ℕ, ◌+◌, List, [], ◌∷◌, ◌++◌, drop, sym, ap, ◌∙◌, subst, arith}
+use Rattle.std.proofs.Common.{◌≡◌, inl, inr, Bool, ℕ, ◌+◌, List, [], ◌∷◌, ◌++◌, take, drop, sym, ap, ◌∙◌, subst, arith}
 use Rattle.std.proofs.lemmas.List.{drop-drop}
 use Rattle.m4_state.specs.State.{State}
+use Rattle.m4_input.specs.declared.token.Token.TheVariants.{Comment}
+use Rattle.m4_input.specs.declared.front.Scan.TheVariants.{Found}
+use Rattle.m4_input.specs.Token.{scan}
 use Rattle.m4_engine.specs.declared.front.First.TheVariants as firsts
 use Rattle.m4_engine.specs.Plain.{IsPlain, total, ArePlain, IsPlainRun, IsFirst}
 
@@ -24,4 +27,8 @@ plain_word s o k n x y r e h = plain_more s o k n x r (subst (IsPlain s o n) e (
 
 -- a byte more
 pub plain_byte : (s : State) (o : Bool) (k b : ℕ) (x y : List ℕ) → IsPlainRun s o k x → y ≡ drop k x → IsFirst s o y (firsts.Byte b) → IsPlainRun s o (k + 1) x
-plain_byte s o k b x y r e h = plain_more s o k 1 x r (subst (IsPlain s o 1) e (inr (b, h.0, h.1)))
+plain_byte s o k b x y r e h = plain_more s o k 1 x r (subst (IsPlain s o 1) e (inr (inl (b, h.0, h.1))))
+
+-- a comment more
+pub plain_comment : (s : State) (o : Bool) (k n : ℕ) (x y : List ℕ) → IsPlainRun s o k x → y ≡ drop k x → scan s.quotes s.comments o y ≡ Found (Comment (take n y)) n → IsPlainRun s o (k + n) x
+plain_comment s o k n x y r e h = plain_more s o k n x r (subst (IsPlain s o n) e (inr (inr h)))

@@ -12,7 +12,7 @@ use Rattle.m4_input.specs.Token.{Taken, token_at}
 use Rattle.m4_input.specs.declared.token.Token.TheVariants.{Name, Byte}
 use Rattle.m4_input.proofs.Names.{name_has_none}
 use Rattle.m4_input.proofs.Parts.{drop_parts}
-use Rattle.m4_builtins.specs.Place.{Place}
+use Rattle.m4_builtins.specs.declared.place.Place.{Place}
 use Rattle.m4_builtins.specs.Act.{needs_list}
 use Rattle.m4_engine.specs.declared.lookahead.Meaning.{Meaning}
 use Rattle.m4_engine.specs.declared.lookahead.Named.{Named}
@@ -22,7 +22,7 @@ use Rattle.m4_engine.specs.declared.turned.Turned.{Turned}
 use Rattle.m4_engine.specs.declared.turned.TurnFault.{TurnFault}
 use Rattle.m4_engine.specs.Expansion.{Call, Limits, place_at, issued, reading, put_text}
 use Rattle.m4_engine.specs.Expand.{call, call_of, take_call, call_without_list, take_name}
-use Rattle.m4_engine.specs.Lookahead.{IsMeaning, IsLookaheadOf}
+use Rattle.m4_engine.specs.Lookahead.{IsMeaning, IsAhead, IsLookaheadOf, placed_ahead}
 use Rattle.m4_engine.specs.Engine.{Engine, outer_of, here_of, allows_call, is_bare, configuration, put_in, with_text, with_one_call, with_made, is_deep_in, step, MayFollow, Extended, IsAt, Moves, IsLookahead}
 use Rattle.m4_state.specs.State.{top_of}
 use Rattle.m4_builtins.specs.Subst.{subst as substituted}
@@ -55,6 +55,13 @@ seen_same a e e1 room p r s h i j k =
     subst (λ (t : State). IsLookaheadOf a t (allows_call e1) p) (sym s)
     (subst (λ (v : Bool). IsLookaheadOf a e.state v p) (r ∙ leaves_same e e1 h i j) k)
 
+-- what was seen after some bytes of a text, if the limits allow as many calls as before
+pub ahead_by : (a : Lookahead) (e e1 : Engine) (room m : Bool) (x y : List ℕ) (f : First) → room ≡ allows_call e → e1.calls ≡ e.calls → e1.limits ≡ e.limits → length e1.open_calls ≡ length e.open_calls → y ≡ x → IsFirst e1.state m x f → ((m : Bool) (at : Place) → IsFirst e1.state m y f → IsAhead (placed_ahead at a) e1.state room m y at)
+    → (at : Place) → IsAhead (placed_ahead at a) e1.state (allows_call e1) m x at
+ahead_by a e e1 room m x y f r h i j t g k = λ at.
+    subst (λ (v : Bool). IsAhead (placed_ahead at a) e1.state v m x at) (r ∙ leaves_same e e1 h i j)
+    (subst (λ (z : List ℕ). IsAhead (placed_ahead at a) e1.state room m z at) t (k m at (subst (λ (z : List ℕ). IsFirst e1.state m z f) (sym t) g)))
+
 -- the token after k bytes is the first once these were consumed
 pub first_after : (s : State) (m : Bool) (f : First) (p q : Pending) (k : ℕ) (x : List ℕ) → m ≡ p.may_follow → x ≡ text_of p → q ≡ consumed k p → IsFirst s m (drop k x) f → IsFirst s q.may_follow (text_of q) f
 first_after s m f p q k x o t g v =
@@ -71,14 +78,14 @@ lies_after f p q k x t g v =
 pub byte_front : (a : Lookahead) (e : Engine) (p q : Pending) (b : ℕ) → a ≡ aheads.Byte b → q ≡ consumed 1 p → IsLookahead a e p → (z : List ℕ) (more : Bool) → MayFollow p.may_follow z more → token_at (e.state).quotes (e.state).comments (longer z more p) ≡ Taken (Byte b) (longer z more q)
 byte_front a e p q b h g k z more m =
     let r = subst (λ (v : Lookahead). IsLookahead v e p) h k in
-    found_longer (e.state).quotes (e.state).comments p (Byte b) 1 z more r.0 r.1 m
+    found_longer (e.state).quotes (e.state).comments p (Byte b) 1 z more r.0 r.1.0 m
     ∙ ap (λ (x : Pending). Taken (Byte b) (longer z more x)) (sym g)
 
 -- and so is a name
 pub name_front : (a : Lookahead) (e : Engine) (p q : Pending) (n : Named) → a ≡ aheads.Named n → q ≡ consumed n.len p → IsLookahead a e p → (z : List ℕ) (more : Bool) → MayFollow p.may_follow z more → token_at (e.state).quotes (e.state).comments (longer z more p) ≡ Taken (Name (take n.len (text_of p))) (longer z more q)
 name_front a e p q n h g k z more m =
     let r = subst (λ (v : Lookahead). IsLookahead v e p) h k in
-    found_longer (e.state).quotes (e.state).comments p (Name (take n.len (text_of p))) n.len z more r.first r.scanned m
+    found_longer (e.state).quotes (e.state).comments p (Name (take n.len (text_of p))) n.len z more r.0 r.1.scanned m
     ∙ ap (λ (x : Pending). Taken (Name (take n.len (text_of p))) (longer z more x)) (sym g)
 
 -- whether a list follows so many bytes, once these were consumed
@@ -92,19 +99,19 @@ list_there q c p r n v g k =
 pub name_list : (a : Lookahead) (e : Engine) (p q : Pending) (n : Named) → a ≡ aheads.Named n → q ≡ consumed n.len p → IsLookahead a e p → paren_at (e.state).quotes (e.state).comments q ≡ answer_of n.listed
 name_list a e p q n h g k =
     let r = subst (λ (v : Lookahead). IsLookahead v e p) h k in
-    list_there (e.state).quotes (e.state).comments p q n.len (answer_of n.listed) g r.list
+    list_there (e.state).quotes (e.state).comments p q n.len (answer_of n.listed) g r.1.list
 
 -- the meaning of a name that was recognised
 pub name_means : (a : Lookahead) (e : Engine) (p : Pending) (n : Named) → a ≡ aheads.Named n → IsLookahead a e p → IsMeaning n.meaning (is_bare n.listed e) e.state (take n.len (text_of p)) (place_at p)
 name_means a e p n h k =
     let r = subst (λ (v : Lookahead). IsLookahead v e p) h k in
-    subst (λ (x : Place). IsMeaning n.meaning (is_bare n.listed e) e.state (take n.len (text_of p)) x) (place_of p) r.meaning
+    subst (λ (x : Place). IsMeaning n.meaning (is_bare n.listed e) e.state (take n.len (text_of p)) x) (place_of p) r.1.meaning
 
 -- a name that was recognised has no newline
 pub name_is_inline : (a : Lookahead) (e : Engine) (p : Pending) (n : Named) → a ≡ aheads.Named n → IsLookahead a e p → newlines_in (take n.len (text_of p)) ≡ 0
 name_is_inline a e p n h k =
     let r = subst (λ (v : Lookahead). IsLookahead v e p) h k in
-    name_has_none (e.state).quotes (e.state).comments p.may_follow (text_of p) _ n.len r.scanned
+    name_has_none (e.state).quotes (e.state).comments p.may_follow (text_of p) _ n.len r.1.scanned
 
 -- a name that has a meaning, as a turn takes it
 module _ (may : Bool) (e e1 : Engine) (p p' : Pending) (r : Result Turned TurnFault) where

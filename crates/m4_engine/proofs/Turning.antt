@@ -15,7 +15,7 @@ use Rattle.m4_input.specs.Paren.{paren_in}
 use Rattle.m4_input.specs.Input.{Held, longer}
 use Rattle.m4_input.proofs.Consumed.{scan_plain, NoDefinition}
 use Rattle.m4_input.proofs.Decided.{scan_open, paren_open}
-use Rattle.m4_builtins.specs.Place.{Place}
+use Rattle.m4_builtins.specs.declared.place.Place.{Place}
 use Rattle.m4_builtins.specs.Args.{or_empty}
 use Rattle.m4_builtins.specs.Messages.{error}
 use Rattle.m4_engine.specs.declared.turned.Turned.{Turned}

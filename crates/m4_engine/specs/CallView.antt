@@ -11,9 +11,9 @@ use Rattle.m4_engine.specs.Expansion.{Call}
 -- a call whose arguments are being collected: those after the first `count` ones are of earlier calls
 abbrev pub call_view : Inside → Call
 call_view c = record {
-  definition = c.parts.value.head.definition;
-  name = c.parts.value.head.name;
-  place = c.parts.value.head.place;
+  definition = c.parts.value.definition;
+  name = c.parts.value.name;
+  place = c.parts.value.place;
   done = take c.parts.value.count c.parts.value.args.items;
   parentheses = c.parts.value.parentheses;
   begun = c.parts.value.begun;
@@ -23,6 +23,7 @@ call_view c = record {
 
 -- the arguments are there, and the definitions among them are valid
 pub record IsOpenCall (c : Inside) : Type 0 where
+  pub valid : IsDefinition c.parts.value.definition
   pub counted : c.parts.value.count ≤ length c.parts.value.args.items
   pub nested : c.parts.value.parentheses ≤ length c.parts.value.bytes.items
   pub done : AllByRecursion IsArg (call_view c).done

@@ -1,13 +1,13 @@
 -- Engine: a run between two turns, as the machine represents it, and the steps of a turn.
 -- Not believed: it connects the code with `Expand`; the turns' lemmas prove that they agree.
 use Rattle.std.specs.Fmt.{decimal}
-use Rattle.std.specs.Prelude.{◌≡◌, codes, nat_lt, not, ◌&&◌, suc, Option, Some, None, ℕ, pos, Bool, true, false, List, [], ◌∷◌, ◌++◌, length, take, ◌⊎◌, Result, IfOk, OnOk}
+use Rattle.std.specs.Prelude.{◌≡◌, codes, nat_lt, not, ◌&&◌, suc, Option, Some, None, ℕ, Bool, true, false, List, [], ◌∷◌, ◌++◌, length, take, drop, ◌<◌, ◌≤◌, ◌⊎◌, Result, IfOk, OnOk}
 use Rattle.m4_state.specs.declared.definition.Def.{Def}
 use Rattle.m4_state.specs.State.{State, appended}
 use Rattle.m4_input.specs.Pending.{Pending, text_of, consumed, line_length}
-use Rattle.m4_engine.specs.Plain.{total, ArePlain}
+use Rattle.m4_engine.specs.Plain.{total, ArePlain, IsPlainRun}
 use Rattle.m4_engine.specs.Collected.{IsListRun}
-use Rattle.m4_builtins.specs.Place.{Place}
+use Rattle.m4_builtins.specs.declared.place.Place.{Place}
 use Rattle.m4_builtins.specs.Messages.{dropped}
 use Rattle.m4_engine.specs.Expansion.{Call, Limits, RunSoFar, Mode, Outside, Collecting, Kept, Expansion, Ended, Ends, NeedsInput, issued, place_at}
 use Rattle.m4_state.specs.Definition.{IsDefinition}
@@ -18,7 +18,8 @@ use Rattle.m4_input.specs.Input.{Held, longer}
 use Rattle.m4_engine.specs.declared.ending.Cause.{Cause}
 use Rattle.m4_engine.specs.declared.ending.Cause.TheVariants as causes
 use Rattle.m4_engine.specs.declared.lookahead.Lookahead.{Lookahead}
-use Rattle.m4_engine.specs.Lookahead.{IsLookaheadOf}
+use Rattle.m4_engine.specs.declared.lookahead.Lookahead.TheVariants as aheads
+use Rattle.m4_engine.specs.Lookahead.{IsLookaheadOf, IsAhead, placed_ahead}
 use Rattle.m4_engine.specs.declared.turned.Turned.{Turned}
 use Rattle.m4_engine.specs.declared.turned.TurnFault.{TurnFault}
 use Rattle.m4_engine.specs.declared.turned.TurnEnd.{TurnEnd}
@@ -308,15 +309,14 @@ engine_at s calls nesting = record {
   messages = [];
 }
 
--- outside of calls and of diversions, with no definition before the text: its first tokens, which are plain
--- text, were added to the output
+-- outside of calls, with no definition before the text: its first tokens, which are plain text, were added where text
+-- goes: to the output, to a diversion, or nowhere
 pub record PassesPlain (old new : Engine) (i j : Held) : Type 0 where
   pub lens : List ℕ
   pub plain : ArePlain old.state (i.pending).may_follow lens (text_of i.pending)
   pub outside : old.open_calls ≡ []
-  pub undiverted : (old.state).current ≡ pos 0
   pub first : (i.pending).definition ≡ None
-  pub engine : new ≡ record old { output = old.output ++ take (total lens) (text_of i.pending) }
+  pub engine : new ≡ put_in [] (take (total lens) (text_of i.pending)) old
   pub input : j ≡ record i { pending = consumed (total lens) i.pending }
 
 -- in a list, with no definition before the text: its first tokens change the innermost call alone, and were
@@ -333,8 +333,16 @@ pub record PassesInner (old new : Engine) (i j : Held) : Type 0 where
   pub input : j ≡ record i { pending = consumed len i.pending }
 
 -- such tokens were added where they go, or nothing was done
+abbrev pub PassesOnce : Engine → Engine → Held → Held → Type 0
+PassesOnce old new i j = ((new ≡ old) × (j ≡ i)) ⊎ (PassesPlain old new i j ⊎ PassesInner old new i j)
+
+-- and so on: after each pass the engine and the input
+abbrev pub ArePasses : List (Engine × Held) → Engine → Engine → Held → Held → Type 0
+ArePasses [] old new i j = (new ≡ old) × (j ≡ i)
+ArePasses (s ∷ ss) old new i j = PassesOnce old s.0 i s.1 × ArePasses ss s.0 new s.1 j
+
 abbrev pub Passes : Engine → Engine → Held → Held → Type 0
-Passes old new i j = ((new ≡ old) × (j ≡ i)) ⊎ (PassesPlain old new i j ⊎ PassesInner old new i j)
+Passes old new i j = (ss : List (Engine × Held)) × ArePasses ss old new i j
 
 -- whether the limits allow a call
 abbrev pub allows_call : Engine → Bool
@@ -347,3 +355,24 @@ is_bare listed e = not listed && allows_call e
 -- the lookahead is right for the next token
 abbrev pub IsLookahead : Lookahead → Engine → Pending → Type 0
 IsLookahead a e p = IsLookaheadOf a e.state (allows_call e) p
+
+-- the first n bytes of a text are such tokens, and were added where they go
+abbrev pub PassesText : Bool → ℕ → List ℕ → Engine → Engine → Type 0
+PassesText m n x old new =
+    (IsPlainRun old.state m n x × (old.open_calls ≡ []) × (new ≡ put_in [] (take n x) old))
+    ⊎ ((c : Call) × (d : Call) × (cs : List Call) × IsListRun old.state m n c d x × (old.open_calls ≡ c ∷ cs)
+    × (new ≡ record old { open_calls = d ∷ cs }))
+
+-- a pass over a text, which others in hand may follow, and more bytes may; the lookahead is right, once its place is set
+pub record PassesBy (n : ℕ) (a : Lookahead) (x : List ℕ) (others more : Bool) (old new : Engine) : Type 0 where
+  pub passes : PassesText more n x old new
+  pub within : n ≤ length x
+  pub ahead : (at : Place) → IsAhead (placed_ahead at a) new.state (allows_call new) more (drop n x) at
+  pub passed : a ≡ aheads.Passed → (others ≡ true) × (drop n x ≡ [])
+
+-- a pass over the front of an input; if all of it was passed, that was some
+pub record PassesFront (a : Lookahead) (old new : Engine) (i j : Held) : Type 0 where
+  pub passes : PassesOnce old new i j
+  pub ahead : IsLookahead a new j.pending
+  pub some : a ≡ aheads.Passed → length (text_of j.pending) < length (text_of i.pending)
+  pub first : a ≡ aheads.Open → (j.pending).definition ≡ None

@@ -19,7 +19,7 @@ use Rattle.m4_input.specs.Pending.{Pending, text_of, consumed, line_length}
 use Rattle.m4_input.specs.Token.{Front, Taken, Refused, More, token_at}
 use Rattle.m4_input.specs.Paren.{paren_at}
 use Rattle.m4_input.specs.Input.{with_pushed}
-use Rattle.m4_builtins.specs.Place.{Place}
+use Rattle.m4_builtins.specs.declared.place.Place.{Place}
 use Rattle.m4_builtins.specs.Args.{or_empty}
 use Rattle.m4_builtins.specs.Act.{Acted, act, needs_list}
 use Rattle.m4_engine.specs.declared.ending.Cause.{Cause}

@@ -5,7 +5,7 @@
 use Rattle.std.specs.Prelude.{◌≡◌, ◌<◌, ◌≤◌, ℕ, ◌+◌, Bool, List, [], ◌∷◌, Some, None, take, drop, ◌⊎◌}
 use Rattle.m4_state.specs.Definition.{IsDefinition}
 use Rattle.m4_state.specs.State.{State, top_of}
-use Rattle.m4_input.specs.declared.token.Token.TheVariants.{Name, Str, Byte}
+use Rattle.m4_input.specs.declared.token.Token.TheVariants.{Name, Str, Comment, Byte}
 use Rattle.m4_input.specs.declared.front.Scan.TheVariants.{Found}
 use Rattle.m4_input.specs.Token.{scan}
 use Rattle.m4_input.specs.Paren.{paren_in}
@@ -13,11 +13,12 @@ use Rattle.m4_input.specs.Input.{answer_of}
 use Rattle.m4_engine.specs.declared.front.First.{First}
 use Rattle.m4_engine.specs.declared.front.First.TheVariants as firsts
 
--- the first token, of n bytes, is a name without a definition, or a byte that is no other token
+-- the first token, of n bytes, is a name without a definition, a byte that is no other token, or a comment
 abbrev pub IsPlain : State → Bool → ℕ → List ℕ → Type 0
 IsPlain s m n x =
     ((scan s.quotes s.comments m x ≡ Found (Name (take n x)) n) × (top_of s (take n x) ≡ None))
-    ⊎ ((b : ℕ) × (scan s.quotes s.comments m x ≡ Found (Byte b) n) × (take n x ≡ b ∷ []))
+    ⊎ (((b : ℕ) × (scan s.quotes s.comments m x ≡ Found (Byte b) n) × (take n x ≡ b ∷ []))
+    ⊎ (scan s.quotes s.comments m x ≡ Found (Comment (take n x)) n))
 
 -- the number of bytes of tokens with these lengths
 abbrev pub total : List ℕ → ℕ

@@ -16,7 +16,6 @@ ghost use Rattle.m4_engine.specs.Expand.{call_of};
 
 use crate::role::Role;
 use m4_builtins::args::Arg;
-use m4_builtins::head::Head;
 use m4_builtins::place::Place;
 use m4_state::append::{append, append_front};
 use m4_state::bytes::Bytes;
@@ -30,11 +29,14 @@ pub struct OpenCall {
     parts: Box<Parts>,
 }
 
-/// The parts of an open call. The first `count` arguments are complete; those after them are of earlier calls,
-/// and are kept for their memory.
+/// The parts of an open call: its definition, name and place as they were when its name was read, so that no open call
+/// changes if a definition does. The first `count` arguments are complete; those after them are of earlier calls, and
+/// are kept for their memory.
 #[derive(Drop)]
 struct Parts {
-    head: Head,
+    definition: Def,
+    name: Bytes,
+    place: Place,
     args: Vec<Arg>,
     count: usize,
     parentheses: usize,
@@ -63,29 +65,27 @@ impl Drop for OpenCall {
     }
 }
 
-/// A longer text is dropped when its call was made, and its memory with it.
+/// A longer text has memory that it shares. It is dropped when its call was made. A shorter one has a buffer of its
+/// own, which the next argument takes: to copy so few bytes takes less than the memory that sharing them needs.
 const LARGEST: usize = 256;
-
-/// A head with room for more bytes is dropped too.
-const LARGEST_HEAD: usize = 8192;
 
 /// Returns an argument that needs no memory.
 #[inline(always)]
-fn blank(alloc: Global) -> Arg
+fn blank() -> Arg
     ensures { IsArg result }
 {
-    Arg::Text(Bytes::from(Vec::new(alloc)))
+    Arg::Text(Bytes::empty())
 }
 
 /// Drops the arguments that are large, and the definitions.
-fn drop_large(alloc: Global, args: &mut [Arg]) {
+fn drop_large(args: &mut [Arg]) {
     for arg in args.iter_mut() {
         let is_large = match arg {
             Arg::Text(text) => text.as_slice().len() > LARGEST,
             Arg::Definition(_) => true,
         };
         if is_large {
-            *arg = blank(alloc);
+            *arg = blank();
         }
     }
 }
@@ -104,8 +104,7 @@ fn put_text_at(args: &mut Vec<Arg>, count: usize, bytes: &mut Vec<u8>) -> bool
     }
     match &mut args[count] {
         Arg::Text(kept) => {
-            kept.swap(bytes);
-            bytes.clear();
+            kept.put(bytes);
             true
         }
         Arg::Definition(_) => false,
@@ -130,25 +129,35 @@ fn put_at(args: &mut Vec<Arg>, count: usize, arg: Arg) -> Result<(), AllocError>
 
 /// Makes an argument of what was collected.
 #[inline(always)]
-fn argument(bytes: Vec<u8>, tokens: Vec<Def>) -> Arg
+fn argument(bytes: Vec<u8>, tokens: Vec<Def>) -> Result<Arg, AllocError>
     requires { AllByRecursion IsDefinition tokens.items }
-    ensures value { result ≡ argument_of bytes.items tokens.items }
-    ensures valid { IsArg result }
+    ensures value { IfOk result (λ a. a ≡ argument_of bytes.items tokens.items) }
+    ensures valid { IfOk result IsArg }
 {
     let mut left = tokens;
     if bytes.is_empty() && left.len() == 1 {
         if let Some(definition) = left.pop() {
-            return Arg::Definition(definition);
+            return Ok(Arg::Definition(definition));
         }
     }
-    Arg::Text(Bytes::from(bytes))
+    let text = if bytes.len() > LARGEST {
+        Bytes::from_vec(bytes)?
+    } else {
+        Bytes::from(bytes)
+    };
+    Ok(Arg::Text(text))
 }
 
 impl OpenCall {
-    /// Creates a call whose head has no name yet.
+    /// Creates a call that has no name yet.
     pub fn empty(alloc: Global) -> Result<OpenCall, AllocError> {
         let parts = Parts {
-            head: Head::empty(alloc),
+            definition: Def::Text(Bytes::empty()),
+            name: Bytes::empty(),
+            place: Place {
+                file: Bytes::empty(),
+                line: 0,
+            },
             args: Vec::new(alloc),
             count: 0,
             parentheses: 0,
@@ -162,21 +171,23 @@ impl OpenCall {
         })
     }
 
-    /// Makes this a call with no argument read yet, and keeps its memory. The name is the first `len` bytes of a text.
-    pub fn renew(
-        &mut self,
-        text: &[u8],
-        len: usize,
-        definition: &Def,
-        file: &[u8],
-        line: u64,
-    ) -> Result<(), AllocError>
-        requires within { len ≤ length text.now }
-        requires definition { IsDefinition definition.now }
-        ensures { OnOk result (self.new ≡ call_of definition.now (take len text.now) (record { file = file.now; line = line })) }
+    /// Makes this a call with no argument read yet, and keeps its memory and its place.
+    pub fn renew(&mut self, name: &[u8], definition: &Def) -> Result<(), AllocError>
+        requires { IsDefinition definition.now }
+        ensures { OnOk result (self.new ≡ call_of definition.now name.now self.old.place) }
     {
         self.clear();
-        self.parts.head.renew(text, len, definition, file, line)
+        let alloc = *self.parts.bytes.allocator();
+        self.parts.name = Bytes::from_slice(alloc, name)?;
+        self.parts.definition = definition.share()?;
+        Ok(())
+    }
+
+    /// Sets the place of the call's name.
+    pub fn set_place(&mut self, file: Bytes, line: u64)
+        ensures { self.new ≡ record self.old { place = record { file = file; line = line } } }
+    {
+        self.parts.place = Place { file, line };
     }
 
     /// Drops the arguments, but keeps their memory.
@@ -196,7 +207,7 @@ impl OpenCall {
     #[inline(always)]
     pub fn shed(&mut self, most: usize) {
         let is_long = self.parts.args.len() > most;
-        if is_long || self.parts.is_large || self.parts.head.room() > LARGEST_HEAD {
+        if is_long || self.parts.is_large || self.parts.definition.len() > LARGEST {
             self.shed_memory(most);
         }
     }
@@ -207,19 +218,25 @@ impl OpenCall {
         let alloc = *self.parts.bytes.allocator();
         self.clear();
         self.parts.args.truncate(most);
-        drop_large(alloc, &mut self.parts.args);
+        drop_large(&mut self.parts.args);
         self.parts.bytes = Vec::new(alloc);
-        if self.parts.head.room() > LARGEST_HEAD {
-            self.parts.head = Head::empty(alloc);
-        }
+        self.parts.definition = Def::Text(Bytes::empty());
         self.parts.is_large = false;
     }
 
-    /// Returns the parts of the call before its arguments.
-    pub fn head(&self) -> &Head
-        ensures { result.now ≡ record { definition = self.now.definition; name = self.now.name; place = self.now.place } }
+    /// Returns the definition.
+    pub fn definition(&self) -> &Def
+        ensures value { result.now ≡ self.now.definition }
+        ensures valid { IsDefinition result.now }
     {
-        &self.parts.head
+        &self.parts.definition
+    }
+
+    /// Returns the name by which the macro was called.
+    pub fn name(&self) -> &[u8]
+        ensures { result.now ≡ self.now.name }
+    {
+        self.parts.name.as_slice()
     }
 
     /// Returns the arguments that are complete.
@@ -231,10 +248,10 @@ impl OpenCall {
     }
 
     /// Returns the place of the call's name.
-    pub fn place(&self) -> Place<'_>
-        ensures { result ≡ self.now.place }
+    pub fn place(&self) -> &Place
+        ensures { result.now ≡ self.now.place }
     {
-        self.parts.head.place()
+        &self.parts.place
     }
 
     /// Returns whether a parenthesis is open in the current argument.
@@ -349,9 +366,13 @@ impl OpenCall {
             × (dropped_if_any self.old.place self.old.bytes self.old.tokens ≡ warning_if_dropped drops self.old.place)) }
     {
         let parts = &mut *self.parts;
-        parts.is_large |= parts.bytes.len() > LARGEST;
-        // Most arguments are texts, and most find the memory of an earlier one.
-        if parts.tokens.is_empty() && put_text_at(&mut parts.args, parts.count, &mut parts.bytes) {
+        let is_large = parts.bytes.len() > LARGEST;
+        parts.is_large |= is_large;
+        // Most arguments are short texts, and most find the memory of an earlier one.
+        if !is_large
+            && parts.tokens.is_empty()
+            && put_text_at(&mut parts.args, parts.count, &mut parts.bytes)
+        {
             parts.count += 1;
             parts.begun = false;
             return Ok(false);
@@ -372,7 +393,8 @@ impl OpenCall {
         let count = self.parts.count;
         let bytes = std::mem::replace(&mut self.parts.bytes, Vec::new(alloc));
         let tokens = std::mem::replace(&mut self.parts.tokens, Vec::new(alloc));
-        put_at(&mut self.parts.args, count, argument(bytes, tokens))?;
+        let arg = argument(bytes, tokens)?;
+        put_at(&mut self.parts.args, count, arg)?;
         self.parts.count = count + 1;
         self.parts.begun = false;
         Ok(drops)

@@ -21,7 +21,8 @@ use m4_state::state::State;
 use std::alloc::AllocError;
 
 /// Collects the tokens at the start of a text that change the call alone. Returns how many bytes they have, and
-/// the token after them.
+/// the token after them. Inlined, as the only loop over the tokens of a list.
+#[inline(always)]
 pub fn collect<'a>(
     call: &mut OpenCall,
     text: &[u8],

@@ -2,15 +2,17 @@
 //! them, so it can consume many at once. The look at the front of the text is that of `m4_input`, with the flag
 //! whether more bytes may follow; names are looked up here.
 
-ghost use Rattle.std.specs.Prelude.{◌≡◌, ◌≤◌, length, drop};
+ghost use Rattle.std.specs.Prelude.{◌≡◌, ◌<◌, ◌≤◌, length, take, drop};
 ghost use Rattle.m4_input.specs.DelimsView.{pair_of};
 ghost use Rattle.m4_input.specs.Look.{scan_of, LookLies};
 ghost use Rattle.m4_input.specs.Token.{scan};
+ghost use Rattle.m4_input.specs.declared.front.Scan.TheVariants.{Found};
+ghost use Rattle.m4_input.specs.declared.token.Token.TheVariants.{Comment};
 ghost use Rattle.m4_engine.specs.Plain.{IsPlainRun, IsFirst, FirstLies};
 
 use m4_input::delims::Delims;
 use m4_input::front::{Answer, Look};
-use m4_input::look::{first_token, list_follows, plain_token};
+use m4_input::look::{first_token, list_follows, may_begin, plain_token};
 use m4_state::definition::Def;
 use m4_state::state::State;
 
@@ -31,6 +33,7 @@ pub enum First<'a> {
 
 /// Counts the bytes of the plain tokens at the start, and returns the token after them. It does not look
 /// at the token after the one that reaches `most`.
+#[inline(always)]
 pub fn plain_run<'a>(
     text: &[u8],
     state: &'a State,
@@ -49,6 +52,13 @@ pub fn plain_run<'a>(
         match first_plain(text.split_at(len).1, state, &delims, may_follow) {
             First::Word(n) => len += n,
             First::Byte(_) => len += 1,
+            First::Other => {
+                let comment = comment_len(text.split_at(len).1, state, &delims, may_follow);
+                if comment == 0 {
+                    return (len, First::Other);
+                }
+                len += comment;
+            }
             first => return (len, first),
         }
     }
@@ -57,7 +67,7 @@ pub fn plain_run<'a>(
 
 /// Returns the first token; `Other` if it may be a string or a comment, or if further bytes can change it.
 #[inline(always)]
-fn first_plain<'a>(
+pub fn first_plain<'a>(
     text: &[u8],
     state: &'a State,
     delims: &Delims<'_>,
@@ -71,6 +81,26 @@ fn first_plain<'a>(
     match plain_token(text, delims, may_follow) {
         Some(look) => first_of(look, text, state, delims, may_follow),
         None => First::Other,
+    }
+}
+
+/// Counts the bytes of the comment at the start; 0 if there is none.
+#[inline(never)]
+fn comment_len(text: &[u8], state: &State, delims: &Delims<'_>, may_follow: bool) -> usize
+    requires quotes { pair_of delims.now.quotes ≡ state.now.quotes }
+    requires comments { pair_of delims.now.comments ≡ state.now.comments }
+    ensures comment { 0 < result → scan state.now.quotes state.now.comments may_follow text.now ≡ Found (Comment (take result text.now)) result }
+    ensures within { result ≤ length text.now }
+{
+    let Some(first) = text.first() else {
+        return 0;
+    };
+    if !may_begin(*first, &delims.comments) {
+        return 0;
+    }
+    match first_token(text, delims, may_follow) {
+        Look::Comment(len) => len,
+        _ => 0,
     }
 }
 

@@ -1,22 +1,25 @@
 //! The next token, as far as it was recognised when the tokens before it were passed.
 
-ghost use Rattle.std.specs.Prelude.{◌≡◌, ◌≤◌, ◌&&◌, not, None, Some, IfOk, length, take};
+ghost use Rattle.std.specs.Prelude.{◌≡◌, ◌&&◌, not, Some, Bool, [], true, IfOk, OnOk, length};
 ghost use Rattle.m4_state.specs.Definition.{IsDefinition};
 ghost use Rattle.m4_state.specs.State.{top_of};
-ghost use Rattle.m4_input.specs.Pending.{text_of};
+ghost use Rattle.m4_input.specs.Pending.{name_of, line_of};
+ghost use Rattle.m4_builtins.specs.declared.place.Place.{Place};
 ghost use Rattle.m4_engine.specs.Plain.{IsFirst, FirstLies};
-ghost use Rattle.m4_engine.specs.Lookahead.{IsMeaning, IsLookaheadOf};
+ghost use Rattle.m4_engine.specs.Lookahead.{IsMeaning, IsAhead, placed, placed_ahead, place_in};
+ghost use Rattle.m4_engine.specs.declared.lookahead.Lookahead.TheVariants.{Passed};
 
 use crate::call::OpenCall;
 use crate::front::First;
 use crate::spare::Spare;
 use crate::turned::TurnFault;
-use m4_builtins::substitute::substitute_onto;
+use m4_builtins::effect::Effect;
 use m4_input::input::Input;
 use m4_state::builtin::Builtin;
 use m4_state::bytes::Bytes;
 use m4_state::definition::Def;
 use m4_state::state::State;
+use std::alloc::AllocError;
 
 /// The meaning of a name that has a definition.
 #[derive(Drop)]
@@ -45,6 +48,10 @@ pub struct Named {
 pub enum Lookahead {
     /// Nothing is known about it.
     Unknown,
+    /// All bytes of the text were passed, and others in hand come after them.
+    Passed,
+    /// The text does not decide it, and others in hand come after it.
+    Open,
     /// A byte that belongs to no other token.
     Byte(u8),
     /// A name that has a definition.
@@ -52,72 +59,93 @@ pub enum Lookahead {
 }
 
 impl Meaning {
-    /// Returns the meaning of a name, the first `len` bytes of a text, with this definition, read at this file and
-    /// line. If it is called without a list (`bare`), the meaning of a text macro is its expansion, made without a
-    /// copy of the text, and `dnl`, which many lines end with, is known at once.
+    /// Returns the meaning of a name with this definition. If it is called without a list (`bare`), the meaning of a text
+    /// macro is its expansion, and `dnl`, which many lines end with, is known at once. A call's place is to be set.
     #[inline(always)]
     pub fn of(
         spare: &mut Spare,
+        effect: &mut Effect,
         state: &State,
         bare: bool,
-        text: &[u8],
-        len: usize,
+        name: &[u8],
         definition: &Def,
-        place: (&[u8], u64),
     ) -> Result<Meaning, TurnFault>
-        requires within { len ≤ length text.now }
-        requires top { top_of state.now (take len text.now) ≡ Some definition.now }
+        requires top { top_of state.now name.now ≡ Some definition.now }
         requires valid { IsDefinition definition.now }
-        ensures { IfOk result (λ m. IsMeaning m bare state.now (take len text.now) (record { file = place.entry.0.now; line = place.entry.1 })) }
+        ensures meaning { IfOk result (λ m. (at : Place) → IsMeaning (placed at m) bare state.now name.now at) }
+        ensures same { effect.new ≡ effect.old }
     {
         match definition {
-            Def::Text(defined) if bare => {
-                let name = text.split_at(len).0;
-                let mut expansion = spare.buffer();
-                substitute_onto(
-                    &mut expansion,
-                    defined.as_slice(),
-                    name,
-                    &[],
-                    state.quotes(),
-                )?;
-                Ok(Meaning::Expansion(Bytes::from(expansion)))
+            Def::Text(text) if bare => {
+                let expansion = effect.expand(text, name, &[], state.quotes())?;
+                Ok(Meaning::Expansion(expansion))
             }
             Def::Builtin(Builtin::Dnl) if bare => Ok(Meaning::LineSkip),
             _ => {
-                let call = spare.call(text, len, definition, place.0, place.1)?;
+                let call = spare.call(name, definition)?;
                 Ok(Meaning::Call(call))
             }
         }
     }
+
+    /// Sets the place of a call: the first place that was not read yet.
+    #[inline(always)]
+    pub fn set_place(&mut self, input: &Input) -> Result<(), AllocError>
+        ensures { OnOk result (self.new ≡ placed (place_in input.now.pending) self.old) }
+    {
+        if let Meaning::Call(call) = self {
+            call.set_place(input.share_name()?, input.line());
+        }
+        Ok(())
+    }
 }
 
-/// Returns the lookahead for this first token; `room` says whether the limits allow a call.
-#[inline(always)]
-pub fn lookahead_of(
-    spare: &mut Spare,
-    state: &State,
-    room: bool,
-    first: First<'_>,
-    input: &Input,
-) -> Result<Lookahead, TurnFault>
-    requires first { IsFirst state.now input.now.pending.may_follow (text_of input.now.pending) first }
-    requires lies { FirstLies (length (text_of input.now.pending)) first }
-    requires front { input.now.pending.definition ≡ None }
-    ensures { IfOk result (λ a. IsLookaheadOf a state.now room input.now.pending) }
-{
-    match (first, input.piece()) {
-        (First::Byte(byte), _) => Ok(Lookahead::Byte(byte)),
-        (First::Called(len, listed, definition), Some(text)) => {
-            let place = (input.name(), input.line());
-            let bare = !listed && room;
-            let meaning = Meaning::of(spare, state, bare, text, len, definition, place)?;
-            Ok(Lookahead::Named(Named {
-                len,
-                listed,
-                meaning,
-            }))
+impl Lookahead {
+    /// Returns the lookahead for this first token of a text, which others in hand may follow; `room` says whether the
+    /// limits allow a call. A call's place is to be set.
+    #[inline(always)]
+    pub fn of(
+        spare: &mut Spare,
+        effect: &mut Effect,
+        state: &State,
+        room: bool,
+        first: First<'_>,
+        text: &[u8],
+        others: bool,
+    ) -> Result<Lookahead, TurnFault>
+        requires first { (m : Bool) × IsFirst state.now m text.now first }
+        requires lies { FirstLies (length text.now) first }
+        ensures ahead { IfOk result (λ a. (m : Bool) (at : Place) → IsFirst state.now m text.now first.entry
+            → IsAhead (placed_ahead at a) state.now room m text.now at) }
+        ensures passed { IfOk result (λ a. a ≡ Passed → (others ≡ true) × (text.now ≡ [])) }
+        ensures same { effect.new ≡ effect.old }
+    {
+        match first {
+            First::Byte(byte) => Ok(Lookahead::Byte(byte)),
+            First::Called(len, listed, definition) => {
+                let name = text.split_at(len).0;
+                let bare = !listed && room;
+                let meaning = Meaning::of(spare, effect, state, bare, name, definition)?;
+                Ok(Lookahead::Named(Named {
+                    len,
+                    listed,
+                    meaning,
+                }))
+            }
+            _ if !others => Ok(Lookahead::Unknown),
+            _ if text.is_empty() => Ok(Lookahead::Passed),
+            _ => Ok(Lookahead::Open),
         }
-        _ => Ok(Lookahead::Unknown),
+    }
+
+    /// Sets the place of a call that is the next token: the first place that was not read yet.
+    #[inline(always)]
+    pub fn set_place(&mut self, input: &Input) -> Result<(), AllocError>
+        ensures { OnOk result (self.new ≡ placed_ahead (place_in input.now.pending) self.old) }
+    {
+        if let Lookahead::Named(named) = self {
+            named.meaning.set_place(input)?;
+        }
+        Ok(())
     }
 }

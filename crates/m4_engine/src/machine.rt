@@ -42,6 +42,8 @@ pub struct Machine {
     spare: Spare,
     // The effect of the call that is made, or of the last one, whose memory the next one takes.
     effect: Effect,
+    // The memory of bytes that were joined to look at them.
+    joined: Vec<u8>,
 }
 
 impl Model for Machine {
@@ -72,6 +74,7 @@ impl Drop for Machine {
             saved: _saved,
             spare: _spare,
             effect: _effect,
+            joined: _joined,
         } = self;
     }
 }
@@ -85,7 +88,7 @@ fn join_back(alloc: Global, texts: Vec<Bytes>) -> Result<Bytes, AllocError>
     while let Some(text) = left.pop() {
         joined.extend_from_slice(text.as_slice())?;
     }
-    Ok(Bytes::from(joined))
+    Bytes::from_vec(joined)
 }
 
 impl Machine {
@@ -106,6 +109,7 @@ impl Machine {
             saved: Vec::new(alloc),
             spare: Spare::new(alloc),
             effect: Effect::new(alloc),
+            joined: Vec::new(alloc),
         }
     }
 
@@ -148,7 +152,7 @@ impl Machine {
     }
 
     /// Appends an error message.
-    pub fn add_error(&mut self, place: &Place<'_>, text: &[u8]) -> Result<(), TurnFault>
+    pub fn add_error(&mut self, place: &Place, text: &[u8]) -> Result<(), TurnFault>
         ensures { OnOk result (self.new ≡ with_engine_message (error place.now text.now) self.old) }
     {
         let message = error_message(self.alloc, place, text)?;

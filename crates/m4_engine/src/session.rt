@@ -214,7 +214,9 @@ impl Session {
         let Ok(text) = self.machine.take_saved() else {
             return Err(self.end(Cause::OutOfMemory));
         };
-        let mut input = Input::wrapped(self.machine.alloc(), text);
+        let Ok(mut input) = Input::wrapped(self.machine.alloc(), text) else {
+            return Err(self.end(Cause::OutOfMemory));
+        };
         let mut none = MemSource::new(&[], 1, false);
         let ended = self.machine.expand(&mut input, &mut none, out, messages);
         self.machine.rest();

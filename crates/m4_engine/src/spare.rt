@@ -1,6 +1,6 @@
 //! Calls that were made, kept for the memory that later calls need. Manual: "Macro arguments".
 
-ghost use Rattle.std.specs.Prelude.{◌≡◌, ◌≤◌, [], IfOk, length, take};
+ghost use Rattle.std.specs.Prelude.{◌≡◌, IfOk};
 ghost use Rattle.m4_state.specs.Definition.{IsDefinition};
 ghost use Rattle.m4_engine.specs.Expand.{call_of};
 
@@ -22,14 +22,10 @@ const LONGEST: usize = 4096;
 /// How many arguments any other call keeps at most.
 const USUAL: usize = 8;
 
-/// How many bytes a buffer or an effect that is kept has room for at most.
-pub const LARGEST: usize = 65536;
-
-/// Calls and a buffer without contents. They keep their memory.
+/// Calls without contents. They keep their memory.
 pub struct Spare {
     alloc: Global,
     calls: Vec<OpenCall>,
-    buffer: Vec<u8>,
 }
 
 impl Model for Spare {
@@ -44,7 +40,6 @@ impl Drop for Spare {
         let Spare {
             alloc: _alloc,
             calls: _calls,
-            buffer: _buffer,
         } = self;
     }
 }
@@ -55,29 +50,20 @@ impl Spare {
         Spare {
             alloc,
             calls: Vec::new(alloc),
-            buffer: Vec::new(alloc),
         }
     }
 
-    /// Returns a call with no argument read yet. The name is the first `len` bytes of a text.
+    /// Returns a call with no argument read yet. Its place is to be set.
     #[inline(always)]
-    pub fn call(
-        &mut self,
-        text: &[u8],
-        len: usize,
-        definition: &Def,
-        file: &[u8],
-        line: u64,
-    ) -> Result<OpenCall, AllocError>
-        requires within { len ≤ length text.now }
-        requires definition { IsDefinition definition.now }
-        ensures { IfOk result (λ c. c ≡ call_of definition.now (take len text.now) (record { file = file.now; line = line })) }
+    pub fn call(&mut self, name: &[u8], definition: &Def) -> Result<OpenCall, AllocError>
+        requires { IsDefinition definition.now }
+        ensures { IfOk result (λ c. c ≡ call_of definition.now name.now c.place) }
     {
         let mut call = match self.calls.pop() {
             Some(kept) => kept,
             None => OpenCall::empty(self.alloc)?,
         };
-        call.renew(text, len, definition, file, line)?;
+        call.renew(name, definition)?;
         Ok(call)
     }
 
@@ -90,25 +76,6 @@ impl Spare {
             kept.shed(if others < LONG { LONGEST } else { USUAL });
             // If there is no memory to keep it in, it is dropped.
             let _kept = self.calls.push(kept);
-        }
-    }
-
-    /// Returns an empty buffer, with memory if one is kept.
-    #[inline(always)]
-    pub fn buffer(&mut self) -> Vec<u8>
-        ensures { result.items ≡ [] }
-    {
-        let alloc = self.alloc;
-        let mut buffer = std::mem::replace(&mut self.buffer, Vec::new(alloc));
-        buffer.clear();
-        buffer
-    }
-
-    /// Keeps a buffer for later, unless it is large.
-    #[inline(always)]
-    pub fn keep_buffer(&mut self, buffer: Vec<u8>) {
-        if buffer.capacity() <= LARGEST {
-            self.buffer = buffer;
         }
     }
 }

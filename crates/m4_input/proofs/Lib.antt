@@ -15,5 +15,6 @@ pub mod TokenBlocks
 pub mod OpenTokens
 pub mod ByteSearch
 pub mod QuoteSearch
-pub mod Pieces
+pub mod Joins
 pub mod ShortQuotes
+pub mod Fronts

@@ -1,7 +1,7 @@
 -- Parts: a text of two parts, of which the first is kept with its last byte first.
-use Rattle.std.proofs.Common.{◌≡◌, ℕ, zero, suc, ◌+◌, ◌-◌, ◌<◌, ◌≤◌, List, [], ◌∷◌, ◌++◌, length, take, drop, refl, sym, ap, ◌∙◌, arith, length-drop, min}
+use Rattle.std.proofs.Common.{◌≡◌, ℕ, zero, suc, ◌+◌, ◌-◌, ◌<◌, ◌≤◌, List, [], ◌∷◌, ◌++◌, length, take, drop, refl, sym, ap, ◌∙◌, arith, length-drop, length-append, min}
 use Rattle.std.proofs.Math.ListN.{drop_of_length-le}
-use Rattle.std.proofs.Math.Seq.{drop-append_seam, take-append_seam, take-add}
+use Rattle.std.proofs.Math.Seq.{drop-append_seam, take-append_seam, take-add, drop-nil}
 use Rattle.m4_input.specs.Pending.{counted, newlines_in}
 use Rattle.std.proofs.lemmas.List.{take-append-drop, reverse-append, length-reverse, append-nil}
 use Rattle.std.proofs.lemmas.List.Sums.{sum_by-append}
@@ -24,56 +24,6 @@ take_long zero [] h = refl
 take_long zero (b ∷ x) h = absurd (omega arith)
 take_long (suc n) [] h = refl
 take_long (suc n) (b ∷ x) h = ap (λ (z : List ℕ). b ∷ z) (take_long n x (omega arith))
-
--- the two halves, turned round
-turned : (m : ℕ) (p : List ℕ) → reverse p ≡ reverse (drop m p) ++ reverse (take m p)
-turned m p = ap reverse (sym (take-append-drop m p)) ∙ reverse-append (take m p) (drop m p)
-
-tail_length : (n : ℕ) (p : List ℕ) → n ≤ length p → n ≡ length (reverse (drop (length p - n) p))
-tail_length n p h =
-    let a : length (reverse (drop (length p - n) p)) ≡ length (drop (length p - n) p) = length-reverse (drop (length p - n) p) in
-    let b : length (drop (length p - n) p) ≡ length p - (length p - n) = length-drop (length p - n) p in
-    omega arith
-
-pub drop_reverse : (n : ℕ) (p : List ℕ) → n ≤ length p → drop n (reverse p) ≡ reverse (take (length p - n) p)
-drop_reverse n p h =
-    ap (drop n) (turned (length p - n) p)
-    ∙ ap (λ m. drop m (reverse (drop (length p - n) p) ++ reverse (take (length p - n) p))) (tail_length n p h)
-    ∙ drop-append_seam (reverse (drop (length p - n) p)) (reverse (take (length p - n) p))
-
-pub take_reverse : (n : ℕ) (p : List ℕ) → n ≤ length p → take n (reverse p) ≡ reverse (drop (length p - n) p)
-take_reverse n p h =
-    ap (take n) (turned (length p - n) p)
-    ∙ ap (λ m. take m (reverse (drop (length p - n) p) ++ reverse (take (length p - n) p))) (tail_length n p h)
-    ∙ take-append_seam (reverse (drop (length p - n) p)) (reverse (take (length p - n) p))
-
-take_min : (n m : ℕ) (x : List ℕ) → m ≡ min n (length x) → take m x ≡ take n x
-take_min zero m [] e = ap (λ k. take k []) e
-take_min zero m (b ∷ x) e = let f : m ≡ 0 = omega arith in ap (λ k. take k (b ∷ x)) f
-take_min (suc n) m [] e = let f : m ≡ 0 = omega arith in ap (λ k. take k []) f
-take_min (suc n) zero (b ∷ x) e = absurd (omega arith)
-take_min (suc n) (suc m) (b ∷ x) e = ap (λ (z : List ℕ). b ∷ z) (take_min n m x (omega arith))
-
--- a copy from the second part alone
-pub copied_file : (p f : List ℕ) (at len : ℕ) → length p ≤ at → take len (drop (at - length p) f) ≡ take len (drop at (reverse p ++ f))
-copied_file p f at len h =
-    let l : length (reverse p) ≡ length p = length-reverse p in
-    let none : drop at (reverse p) ≡ [] = drop_of_length-le (reverse p) (omega arith) in
-    ap (take len) (sym (drop_parts at (reverse p) f ∙ ap (λ (z : List ℕ). z ++ drop (at - length (reverse p)) f) none ∙ ap (λ n. drop (at - n) f) l))
-
--- a copy from the first part, and perhaps the second
-pub copied_both : (p f front tail : List ℕ) (at len k : ℕ) → at < length p → front ≡ take (length p - at) p → k ≡ min len (length front) → tail ≡ drop (length front - k) front → reverse tail ++ take (len - k) f ≡ take len (drop at (reverse p ++ f))
-copied_both p f front tail at len k h e g t =
-    let r : drop at (reverse p) ≡ reverse front = drop_reverse at p (omega arith) ∙ ap reverse (sym e) in
-    let l : length (reverse front) ≡ length front = length-reverse front in
-    let whole : drop at (reverse p ++ f) ≡ reverse front ++ f =
-    drop_parts at (reverse p) f ∙ ap (λ (z : List ℕ). z ++ drop (at - length (reverse p)) f) r
-    ∙ ap (λ n. reverse front ++ drop n f) (let m : length (reverse p) ≡ length p = length-reverse p in let z : at - length (reverse p) ≡ 0 = omega arith in z) in
-    let a : reverse tail ≡ take k (reverse front) = ap reverse t ∙ sym (take_reverse k front (omega arith)) in
-    let b : take k (reverse front) ≡ take len (reverse front) = take_min len k (reverse front) (g ∙ ap (min len) (sym l)) in
-    let c : len - k ≡ len - length (reverse front) = omega arith in
-    ap (λ (z : List ℕ). z ++ take (len - k) f) (a ∙ b) ∙ ap (λ n. take len (reverse front) ++ take n f) c
-    ∙ sym (ap (take len) whole ∙ take_parts len (reverse front) f)
 
 newlines_append : (x y : List ℕ) → newlines_in (x ++ y) ≡ newlines_in x + newlines_in y
 newlines_append x y = sum_by-append (λ b. cond (b == newline) 1 0) x y
@@ -105,3 +55,26 @@ pub refilled : (n : ℕ) (x y : List ℕ) → length x ≡ n → take n (x ++ y)
 refilled n x y h =
     let none : n - length x ≡ 0 = omega arith in
     take_parts n x y ∙ ap (λ m. take n x ++ take m y) none ∙ append-nil (take n x) ∙ take_long n x (omega arith)
+
+-- text that is stored separately at the start is consumed, and then some of the rest
+pub apart_taken : (x : List ℕ) (t : HeldText) (n : ℕ) → length x ≤ n → text_after (n - length x) t ≡ text_after n (record t { pushed = x ++ t.pushed })
+apart_taken x t n h =
+    let l : length (x ++ t.pushed) ≡ length x + length t.pushed = length-append x t.pushed in
+    let m : (n - length x) - length t.pushed ≡ n - length (x ++ t.pushed) = omega arith in
+    let p : drop (n - length x) t.pushed ≡ drop n (x ++ t.pushed) =
+    sym (drop_parts n x t.pushed ∙ ap (λ (z : List ℕ). z ++ drop (n - length x) t.pushed) (drop_of_length-le x (omega arith))) in
+    ap (λ i. let u : HeldText = record { pushed = drop (n - length x) t.pushed; unread = drop i t.unread; newlines = counted t.newlines (newlines_in (take i t.unread)) } in u) m
+    ∙ ap (λ (z : List ℕ). let u : HeldText = record { pushed = z; unread = drop (n - length (x ++ t.pushed)) t.unread; newlines = counted t.newlines (newlines_in (take (n - length (x ++ t.pushed)) t.unread)) } in u) p
+
+pub apart_left : (x y : List ℕ) (n : ℕ) → n ≤ length x → drop n x ++ y ≡ drop n (x ++ y)
+apart_left x y n h =
+    let e : 0 ≡ n - length x = omega arith in
+    ap (λ m. drop n x ++ drop m y) e ∙ sym (drop_parts n x y)
+
+-- only bytes of the file are consumed
+pub file_after : (m : ℕ) (f : HeldText) (u : List ℕ) (k : ℕ) → u ≡ drop m f.unread → k ≡ counted f.newlines (newlines_in (take m f.unread)) → record { pushed = []; unread = u; newlines = k } ≡ text_after m (record { pushed = []; unread = f.unread; newlines = f.newlines })
+file_after m f u k e h =
+    let none : m ≡ m - 0 = omega arith in
+    ap (λ (x : List ℕ). let t : HeldText = record { pushed = []; unread = x; newlines = k } in t) (e ∙ ap (λ i. drop i f.unread) none)
+    ∙ ap (λ i. let t : HeldText = record { pushed = []; unread = drop (m - 0) f.unread; newlines = i } in t) (h ∙ ap (λ i. counted f.newlines (newlines_in (take i f.unread))) none)
+    ∙ ap (λ (x : List ℕ). let t : HeldText = record { pushed = x; unread = drop (m - 0) f.unread; newlines = counted f.newlines (newlines_in (take (m - 0) f.unread)) } in t) (sym (drop-nil m))

@@ -1,6 +1,7 @@
 -- Scans: scanning a text from its front, byte by byte.
-use Rattle.std.proofs.Common.{◌≡◌, ℕ, zero, suc, ◌+◌, ◌-◌, ◌<◌, ◌≤◌, Bool, true, false, ◌&&◌, List, [], ◌∷◌, length, drop, Option, Some, None, refl, sym, ap, ◌∙◌, subst, arith, add-one, drop-cons, length-drop, eqb, eq-eqb}
+use Rattle.std.proofs.Common.{◌≡◌, ℕ, zero, suc, ◌+◌, ◌-◌, ◌<◌, ◌≤◌, Bool, true, false, ◌&&◌, List, [], ◌∷◌, ◌++◌, length, take, drop, Option, Some, None, refl, sym, ap, ◌∙◌, subst, arith, add-one, drop-cons, length-drop, eqb, eq-eqb}
 use Rattle.std.proofs.Math.ListN.{drop_of_length-le}
+use Rattle.std.proofs.Math.Seq.{take-add}
 use Rattle.std.proofs.lemmas.List.{drop-drop}
 use Rattle.std.proofs.lemmas.Bool.Decides.{nat_tests}
 use Rattle.m4_state.specs.declared.delimiters.Delimiters.{Delimiters}
@@ -163,3 +164,7 @@ pub cut_here : (q : Delimiters) (p : Bool) (x : List ℕ) (r : Option ℕ) (n k 
 cut_here q p x r n k b s e h =
     let here : level q p n 0 (drop k x) ≡ None = ap (level q p n 0) e ∙ level_at q p n b (drop (k + 1) x) CutQuote (sym h) in
     ap (further (k - 0)) (sym here) ∙ s.same
+
+-- one byte more of a copy
+pub copied_step : (x : List ℕ) (at k b : ℕ) → drop (at + k) x ≡ b ∷ drop (at + k + 1) x → take k (drop at x) ++ b ∷ [] ≡ take (k + 1) (drop at x)
+copied_step x at k b h = sym (take-add k 1 (drop at x) ∙ ap (λ (y : List ℕ). take k (drop at x) ++ take 1 y) (drop-drop k at x ∙ h))

@@ -1,7 +1,7 @@
 -- Blocks: what an input has in hand of its file, and what it asks its reader for.
 -- Believed. Manual: "How m4 copies input to output". Words: BlockGives, IsOpenAfter, TokenBlocks, TokenGives, LooksAt,
--- ListGives, LineGives.
-use Rattle.std.specs.Prelude.{◌≡◌, ◌⊎◌, ◌≤◌, nat_lt, ℕ, Bool, true, false, List, [], ◌++◌, Option, Some, None, Result, Ok, Err, length, drop}
+-- ListGives, LineGives, IsInFront.
+use Rattle.std.specs.Prelude.{◌≡◌, ◌⊎◌, ◌≤◌, nat_lt, ℕ, Bool, true, false, List, [], ◌++◌, Option, Some, None, Result, Ok, Err, length, take, drop}
 use Rattle.m4_state.specs.Device.{Script, after_bytes, IsAtEnd, IsAtFault}
 use Rattle.m4_state.specs.declared.delimiters.Delimiters.{Delimiters}
 use Rattle.m4_input.specs.declared.fault.InputFault.{InputFault}
@@ -70,3 +70,8 @@ abbrev pub LineGives : Held → Held → Bool → Type 0
 LineGives old new true = (after_line old.pending ≡ Some new.pending) × (new.fault ≡ old.fault)
 LineGives old new false =
     (after_line old.pending ≡ None) × (new ≡ record old { pending = all_read old.pending })
+
+-- bytes at the start of those in hand; `more` says whether others may come after them
+abbrev pub IsInFront : Pending → List ℕ → Bool → Type 0
+IsInFront p x true = x ≡ take (length x) (text_of p)
+IsInFront p x false = (text_of p ≡ x) × (p.may_follow ≡ false)

@@ -8,6 +8,6 @@ pub mod Input
 pub mod Blocks
 pub mod Text
 pub mod OpenToken
-pub mod PieceView
+pub mod FileView
 pub mod TextView
 pub mod InputView

@@ -1,7 +1,7 @@
 -- Text: the bytes of an input, as its code represents them.
 -- Not believed: it only connects the code with specs/Pending.antt and specs/Blocks.antt. Words: HeldText,
--- text_in, text_after, TakesBlock, failures_by, LiesIn.
-use Rattle.std.specs.Prelude.{◌≡◌, ℕ, ◌-◌, ◌≤◌, nat_lt, Bool, List, [], ◌++◌, length, take, drop, Option, Result, Ok, Err}
+-- text_in, text_after, joined, TakesBlock, failures_by, LiesIn.
+use Rattle.std.specs.Prelude.{◌≡◌, ℕ, ◌-◌, ◌≤◌, nat_lt, Bool, List, [], ◌∷◌, ◌++◌, length, take, drop, Option, Result, Ok, Err}
 use Rattle.m4_state.specs.Device.{Script, after_bytes, one_more, IsAtEnd, IsAtFault}
 use Rattle.m4_input.specs.declared.fault.InputFault.{InputFault}
 use Rattle.m4_input.specs.declared.fault.InputFault.TheVariants as faults
@@ -27,6 +27,11 @@ text_after n t = record {
   unread = drop (n - length t.pushed) t.unread;
   newlines = counted t.newlines (newlines_in (take (n - length t.pushed) t.unread));
 }
+
+-- the rests of segments in reading order; they are kept with the one that is read last at the start
+abbrev pub joined : List (List ℕ) → List ℕ
+joined [] = []
+joined (s ∷ above) = joined above ++ s
 
 -- one question to a reader: a block of its bytes is appended, or it is at its end; otherwise nothing changes
 abbrev pub TakesBlock : Option Script → Option Script → HeldText → HeldText → Result Bool InputFault → Type 0

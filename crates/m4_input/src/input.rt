@@ -7,16 +7,21 @@
 //!
 //! Contracts see `Held` (`specs/Input.antt`). Manual: "How m4 copies input to output".
 
-ghost use Rattle.std.specs.Prelude.{◌≡◌, ◌<◌, ◌≤◌, Some, None, OnOk, OnErr, IfOk, IfErr, IfSome, Ok, Err, true, false, length, take};
+ghost use Rattle.std.specs.Prelude.{◌≡◌, ◌<◌, ◌≤◌, List, ℕ, Some, None, OnOk, OnErr, IfOk, IfErr, IfSome, Ok, Err, true, false, [], ◌||◌, length, take};
 ghost use Rattle.m4_state.specs.Device.{Script};
 ghost use Rattle.m4_input.specs.DelimsView.{pair_of};
 ghost use Rattle.m4_input.specs.Pending.{consumed, line_of, name_of, newlines_in, text_of};
+ghost use Rattle.m4_input.specs.Look.{scan_of};
+ghost use Rattle.m4_input.specs.Token.{scan};
+ghost use Rattle.m4_input.specs.declared.front.Scan.TheVariants.{NeedsMore};
 
 use crate::delims::Delims;
 use crate::fault::InputFault;
-use crate::front::{Answer, Scan, Unended};
+use crate::front::{Answer, Look, Scan, Unended};
+use crate::look::first_token;
 use crate::open_token::OpenToken;
 use crate::pushed::Pushed;
+use crate::scan::copied;
 use crate::text::Text;
 use crate::token::Token;
 use m4_state::bytes::Bytes;
@@ -24,6 +29,16 @@ use m4_state::definition::Def;
 use m4_state::device::ByteSource;
 use std::alloc::{AllocError, Global};
 use std::marker::Model;
+
+/// Returns whether a look decided no token.
+fn is_open(look: Look) -> bool
+    ensures { result ≡ false → (x : List ℕ) → scan_of look x ≡ NeedsMore → ⊥ }
+{
+    match look {
+        Look::NeedsMore => true,
+        _ => false,
+    }
+}
 
 /// A file or wrapped text that is being read, with the values that calls pushed before it.
 pub struct Input {
@@ -62,11 +77,10 @@ impl Drop for Input {
 
 impl Input {
     ghost use Rattle.m4_input.specs.Input.{Held, IsLasting, unread_file, wrapped_text, with_pushed, all_read, NextGives, ParenGives, SkipGives, failures_after};
-    ghost use Rattle.m4_input.specs.Blocks.{BlockGives, TokenGives, LooksAt, ListGives, LineGives};
+    ghost use Rattle.m4_input.specs.Blocks.{BlockGives, TokenGives, LooksAt, ListGives, LineGives, IsInFront};
     ghost use Rattle.m4_input.specs.Text.{LiesIn};
     ghost use Rattle.m4_input.specs.OpenToken.{IsOpenAt};
     ghost use Rattle.m4_input.specs.InputView.{fault_of};
-    ghost use Rattle.m4_input.specs.declared.pushed.Pushed.TheVariants as pushes;
 
     /// Creates the input of a file that is read from its start.
     pub fn file(alloc: Global, name: Bytes) -> Input
@@ -84,18 +98,20 @@ impl Input {
 
     /// Creates the input of text that was saved for the end of a run. It belongs to no file, and it is
     /// complete: no reader is used. Manual: "Saving text until end of input".
-    pub fn wrapped(alloc: Global, text: Bytes) -> Input
+    pub fn wrapped(alloc: Global, text: Bytes) -> Result<Input, AllocError>
         // exact steps: the text pending, without a file
-        ensures { result ≡ wrapped_text text }
+        ensures { IfOk result (λ i. i ≡ wrapped_text text) }
     {
-        Input {
+        let mut pushed = Text::new(alloc);
+        pushed.push(text)?;
+        Ok(Input {
             alloc,
             definition: None,
-            text: Text::of_file(alloc, text.into_vec()),
+            text: pushed,
             name: None,
             may_follow: false,
             fault: None,
-        }
+        })
     }
 
     /// Returns the current line, counted from 1; 0 in wrapped text. It counts the newlines of the file that
@@ -133,17 +149,48 @@ impl Input {
         self.fault
     }
 
-    /// Returns the pending bytes if they are contiguous. Returns `None` if a definition comes before them,
-    /// and perhaps if a call has pushed text.
+    /// Returns the file's name, shared; empty in wrapped text.
+    pub fn share_name(&self) -> Result<Bytes, AllocError>
+        ensures { IfOk result (λ b. b ≡ name_of self.now.pending) }
+    {
+        match &self.name {
+            Some(name) => name.share(),
+            None => Ok(Bytes::empty()),
+        }
+    }
+
+    /// Returns the bytes at the start that are contiguous, and whether others in hand come after them. Returns `None`
+    /// if a definition comes before them.
     #[doc(hidden)]
-    pub fn piece(&self) -> Option<&[u8]>
-        ensures text { IfSome result (λ x. x.now ≡ text_of self.now.pending) }
-        ensures first { IfSome result (λ x. self.now.pending.definition ≡ None) }
+    #[inline(always)]
+    pub fn front(&self) -> Option<(&[u8], bool)>
+        ensures text { IfSome result (λ r. IsInFront self.now.pending r.0.now (r.1 || self.now.pending.may_follow)) }
+        ensures some { IfSome result (λ r. r.1 ≡ true → 0 < length r.0.now) }
+        ensures first { IfSome result (λ r. self.now.pending.definition ≡ None) }
     {
         if self.definition.is_some() {
             return None;
         }
-        self.text.piece()
+        Some(self.text.front())
+    }
+
+    /// Copies the first bytes, at most so many, also where they are not contiguous. Returns whether others in hand come
+    /// after them.
+    #[doc(hidden)]
+    pub fn copy_front(&self, most: usize, copy: &mut Vec<u8>) -> Result<bool, AllocError>
+        ensures text { IfOk result (λ others. IsInFront self.now.pending copy.new.items (others || self.now.pending.may_follow)) }
+        ensures some { 0 < most → IfOk result (λ others. others ≡ true → 0 < length copy.new.items) }
+    {
+        self.text.copy_front(most, copy)
+    }
+
+    /// Returns a buffer without contents, which may have memory: that of a text that was read to its end.
+    #[doc(hidden)]
+    pub fn take_buffer(&mut self) -> Vec<u8>
+        ensures empty { result.items ≡ [] }
+        ensures stays { self.new ≡ self.old }
+    {
+        self.text.take_buffer()
     }
 
     /// Discards a definition and the first n bytes.
@@ -185,8 +232,8 @@ impl Input {
     }
 
     /// Inserts a value at the start, to be read before everything else. Returns `OutOfMemory` if an
-    /// allocation fails, or the fault of an earlier call; the input then stays as it was. Takes time in
-    /// proportion to the value.
+    /// allocation fails, or the fault of an earlier call; the input then stays as it was. No text is copied.
+    #[inline(always)]
     pub fn push_front(&mut self, value: Pushed) -> Result<(), InputFault>
         requires { self.old.pending.definition ≡ None }
         // exact steps: the value at the start; if the call fails, the input is as it was
@@ -198,38 +245,18 @@ impl Input {
         ensures again { IfSome self.old.fault (λ f. result ≡ Err f) }
         ensures fault { self.old.fault ≡ None → IfErr result (λ f. f ≡ InputFault.OutOfMemory) }
     {
-        match value {
-            Pushed::Text(text) => self.push_text(text.as_slice()),
-            Pushed::Definition(def) => {
-                if let Some(fault) = self.fault {
-                    return Err(fault);
-                }
-                self.definition = Some(def);
-                Ok(())
-            }
-        }
-    }
-
-    /// Inserts a text at the start, as `push_front` does.
-    #[doc(hidden)]
-    pub fn push_text(&mut self, text: &[u8]) -> Result<(), InputFault>
-        requires { self.old.pending.definition ≡ None }
-        // exact steps: the text at the start; if the call fails, the input is as it was
-        ensures ok { OnOk result (
-            (self.new ≡ record self.old { pending = with_pushed (pushes.Text text.now) self.old.pending })
-            × (self.old.fault ≡ None)) }
-        ensures err { OnErr result (self.new ≡ self.old) }
-        // an earlier fault again, otherwise OutOfMemory
-        ensures again { IfSome self.old.fault (λ f. result ≡ Err f) }
-        ensures fault { self.old.fault ≡ None → IfErr result (λ f. f ≡ InputFault.OutOfMemory) }
-    {
         if let Some(fault) = self.fault {
             return Err(fault);
         }
-        match self.text.push(text) {
-            Ok(()) => Ok(()),
-            Err(AllocError) => Err(InputFault::OutOfMemory),
+        match value {
+            Pushed::Text(text) => {
+                if let Err(AllocError) = self.text.push(text) {
+                    return Err(InputFault::OutOfMemory);
+                }
+            }
+            Pushed::Definition(def) => self.definition = Some(def),
         }
+        Ok(())
     }
 
     /// Returns the first token and consumes it. Returns `EndInString` or `EndInComment` if the input ends
@@ -406,10 +433,50 @@ impl Input {
             self.old self.new result }
         ensures within { IfOk result (λ found. LiesIn (length (text_of self.old.pending)) found) }
     {
-        match self.text.window().scan(self.alloc, delims, self.may_follow) {
+        match self.look_in_front(delims) {
             Ok(found) => Ok(found),
             Err(AllocError) => Err(self.stop(InputFault::OutOfMemory)),
         }
+    }
+
+    /// Returns the first token of the bytes in hand: by the bytes that are contiguous, if these decide it.
+    fn look_in_front(&self, delims: &Delims<'_>) -> Result<Scan, AllocError>
+        ensures value { IfOk result (λ s. s ≡ scan (pair_of delims.now.quotes) (pair_of delims.now.comments)
+            self.now.pending.may_follow (text_of self.now.pending)) }
+        ensures within { IfOk result (λ s. LiesIn (length (text_of self.now.pending)) s) }
+    {
+        let (text, more) = self.text.front();
+        if !more {
+            let look = first_token(text, delims, self.may_follow);
+            return copied(self.alloc, look, text);
+        }
+        let look = first_token(text, delims, true);
+        if is_open(look) {
+            return self.look_across(text.len(), delims);
+        }
+        copied(self.alloc, look, text)
+    }
+
+    /// Returns the first token, which more than so many bytes decide: those at the start are joined, twice as many at
+    /// each look, so that each byte of a token is copied and looked at but a few times.
+    fn look_across(&self, fewer: usize, delims: &Delims<'_>) -> Result<Scan, AllocError>
+        ensures value { IfOk result (λ s. s ≡ scan (pair_of delims.now.quotes) (pair_of delims.now.comments)
+            self.now.pending.may_follow (text_of self.now.pending)) }
+        ensures within { IfOk result (λ s. LiesIn (length (text_of self.now.pending)) s) }
+    {
+        let all = self.text.window().len();
+        let mut len = all.min(fewer.max(64));
+        'joins: while len < all {
+            let front = self.text.window().copy(self.alloc, 0, len)?;
+            let look = first_token(front.as_slice(), delims, true);
+            if !is_open(look) {
+                return copied(self.alloc, look, front.as_slice());
+            }
+            len = all.min(len.saturating_add(len.max(64)));
+        }
+        let front = self.text.window().copy(self.alloc, 0, all)?;
+        let look = first_token(front.as_slice(), delims, self.may_follow);
+        copied(self.alloc, look, front.as_slice())
     }
 
     /// Returns whether an argument list follows the first n bytes in hand; `Unknown` if bytes that may follow

@@ -8,16 +8,17 @@
 
 pub mod delims;
 pub mod fault;
+mod file;
 mod follows;
 pub mod front;
 pub mod input;
 pub mod lanes;
 pub mod look;
 mod open_token;
-mod piece;
 pub mod pushed;
 mod quoted;
 mod scan;
+mod segment;
 mod text;
 pub mod token;
 mod window;

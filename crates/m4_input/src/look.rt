@@ -93,7 +93,7 @@ fn token_by_kind(text: &[u8], delims: &Delims<'_>, may_follow: bool) -> Look
         ≡ scan_of result text.now }
     ensures lies { LookLies text.now result }
 {
-    Window::new(&[], text).look_by_kind(delims, may_follow)
+    Window::of(text).look_by_kind(delims, may_follow)
 }
 
 /// Returns whether the first token of a text is an opening parenthesis; `Unknown` if more bytes may follow
@@ -122,7 +122,7 @@ pub fn list_follows(text: &[u8], delims: &Delims<'_>, may_follow: bool) -> Answe
 fn list_by_delimiters(text: &[u8], delims: &Delims<'_>, may_follow: bool) -> Answer
     ensures { paren_in (pair_of delims.now.quotes) (pair_of delims.now.comments) may_follow text.now ≡ result }
 {
-    Window::new(&[], text).list_at(0, delims, may_follow)
+    Window::of(text).list_at(0, delims, may_follow)
 }
 
 /// Returns whether the first of two delimiters begins with this byte.

@@ -3,9 +3,10 @@
 //! Nested strings are counted, so that a string takes one pass. If more bytes may follow (`may_follow`),
 //! nothing is decided that they could change. Manual: "Quoted strings", "Comments", "Names".
 
-ghost use Rattle.std.specs.Prelude.{◌≡◌, ◌+◌, ◌<◌, ◌≤◌, ◌∷◌, IfSome, IfOk, IsTrue, length, drop};
+ghost use Rattle.std.specs.Prelude.{◌≡◌, ◌+◌, ◌<◌, ◌≤◌, ◌∷◌, IfSome, IfOk, IsTrue, length, take, drop};
 ghost use Rattle.m4_input.specs.DelimsView.{pair_of};
-ghost use Rattle.m4_input.specs.Token.{level, mark_at, starts_with, may_start, kind_of, scan};
+ghost use Rattle.m4_input.specs.Token.{level, mark_at, starts_with, may_start, kind_of};
+ghost use Rattle.m4_input.specs.Look.{scan_of, LookLies};
 ghost use Rattle.m4_input.specs.Text.{LiesIn};
 
 use crate::delims::Delims;
@@ -13,6 +14,7 @@ use crate::front::{Kind, Look, Mark, Scan};
 use crate::quoted::{quoted_len, single};
 use crate::token::Token;
 use crate::window::{Window, is_letter_byte};
+use m4_state::bytes::Bytes;
 use std::alloc::{AllocError, Global};
 
 /// A begin and an end delimiter.
@@ -125,29 +127,32 @@ impl<'a> Window<'a> {
             Kind::ByteHere
         }
     }
+}
 
-    /// Returns the first token, with a copy of its text, and its length.
-    pub fn scan(
-        &self,
-        alloc: Global,
-        delims: &Delims<'_>,
-        may_follow: bool,
-    ) -> Result<Scan, AllocError>
-        ensures value { IfOk result (λ s. s ≡ scan (pair_of delims.now.quotes)
-            (pair_of delims.now.comments) may_follow self.now) }
-        ensures within { IfOk result (λ s. LiesIn (length self.now) s) }
-    {
-        let found = match self.look(delims, may_follow) {
-            Look::Name(len) => Scan::Found(Token::Name(self.copy(alloc, 0, len)?), len),
-            Look::Byte(byte) => Scan::Found(Token::Byte(byte), 1),
-            Look::Quoted(begin, len, all) => {
-                Scan::Found(Token::Str(self.copy(alloc, begin, len)?), all)
-            }
-            Look::Comment(len) => Scan::Found(Token::Comment(self.copy(alloc, 0, len)?), len),
-            Look::End => Scan::Found(Token::End, 0),
-            Look::Unended(what) => Scan::Broken(what),
-            Look::NeedsMore => Scan::NeedsMore,
-        };
-        Ok(found)
-    }
+/// Returns the token that a look at a text found, with a copy of its text, and its length.
+pub fn copied(alloc: Global, look: Look, text: &[u8]) -> Result<Scan, AllocError>
+    requires { LookLies text.now look }
+    ensures value { IfOk result (λ s. s ≡ scan_of look text.now) }
+    ensures within { IfOk result (λ s. LiesIn (length text.now) s) }
+{
+    let found = match look {
+        Look::Name(len) => Scan::Found(Token::Name(front_of(alloc, text, 0, len)?), len),
+        Look::Byte(byte) => Scan::Found(Token::Byte(byte), 1),
+        Look::Quoted(begin, len, all) => {
+            Scan::Found(Token::Str(front_of(alloc, text, begin, len)?), all)
+        }
+        Look::Comment(len) => Scan::Found(Token::Comment(front_of(alloc, text, 0, len)?), len),
+        Look::End => Scan::Found(Token::End, 0),
+        Look::Unended(what) => Scan::Broken(what),
+        Look::NeedsMore => Scan::NeedsMore,
+    };
+    Ok(found)
+}
+
+/// Copies so many bytes of a text from a place on.
+fn front_of(alloc: Global, text: &[u8], at: usize, len: usize) -> Result<Bytes, AllocError>
+    requires { at + len ≤ length text.now }
+    ensures { IfOk result (λ b. b ≡ take len (drop at text.now)) }
+{
+    Bytes::from_slice(alloc, text.split_at(at).1.split_at(len).0)
 }

@@ -1,33 +1,65 @@
-//! The bytes of an input: text that calls pushed, and then the bytes of one file.
+//! The bytes of an input: a stack of segments that calls pushed, and then the bytes of one file.
 //!
-//! Pushed text is contiguous with the file's bytes if these leave room for it. Otherwise it is stored
-//! separately, last byte first, and so is all text that is pushed before it. Pushing and consuming text
-//! thus take time in proportion to its length.
+//! The segment that is read first is apart from those below it. It leaves when it is read to its end: the next one
+//! takes its place, and so does a text that is pushed. To push a text takes no copy, and to consume bytes takes
+//! time in proportion to the segments that they end.
 
-ghost use Rattle.std.specs.Prelude.{◌≡◌, ◌<◌, ◌≤◌, ◌++◌, [], IfSome, OnOk, OnErr, Ok, true, length, take};
+ghost use Rattle.std.specs.Prelude.{◌≡◌, ◌≢◌, ◌<◌, ◌≤◌, ◌^◌, ◌++◌, ◌+◌, [], IfOk, OnOk, OnErr, Ok, true, false, length, take, nat_lt};
 ghost use Rattle.m4_input.specs.Pending.{newlines_in};
 
 use crate::fault::InputFault;
-use crate::piece::Piece;
+use crate::file::File;
+use crate::segment::Segment;
 use crate::window::Window;
+use m4_state::bytes::Bytes;
 use m4_state::device::ByteSource;
-use std::alloc::{AllocError, Global};
+use std::alloc::{AllocError, AllocFailed, Global};
 use std::marker::Model;
+
+/// How long the text of a segment may be, and those of the segments below it together.
+const MOST: usize = 1 << 62;
+
+/// How many bytes a buffer that is kept has room for at most.
+const LARGEST: usize = 65536;
 
 /// Pending bytes, and how many newlines of the file were read.
 #[derive(Drop)]
 pub struct Text {
-    pushed: Vec<u8>,
-    piece: Piece,
+    top: Segment,
+    below: Vec<Segment>,
+    held: usize,
+    file: File,
+    buffer: Vec<u8>,
 }
 
 impl Model for Text {
     ghost use Rattle.m4_input.specs.Text.{HeldText};
-    ghost use Rattle.m4_input.specs.TextView.{view_of};
+    ghost use Rattle.m4_input.specs.TextView.{view_of, IsHeld};
 
     ghost Value = { HeldText };
 
     ghost view = { view_of };
+
+    ghost invariant = { IsHeld };
+}
+
+/// Keeps the buffer of a segment that is read to its end, if it has one of its own and is not large.
+#[inline(always)]
+fn keep(buffer: &mut Vec<u8>, spent: Segment) {
+    if let Some(kept) = spent.buffer() {
+        if kept.capacity() <= LARGEST {
+            *buffer = kept;
+        }
+    }
+}
+
+/// Appends bytes up to a length of all of them together.
+fn append_most(copy: &mut Vec<u8>, bytes: &[u8], most: usize) -> Result<(), AllocError>
+    requires { length copy.old.items ≤ most }
+    ensures { OnOk result (copy.new.items ≡ take most (copy.old.items ++ bytes.now)) }
+{
+    let len = bytes.len().min(most - copy.len());
+    copy.extend_from_slice(bytes.split_at(len).0)
 }
 
 impl Text {
@@ -37,10 +69,7 @@ impl Text {
     pub fn new(alloc: Global) -> Text
         ensures { result ≡ record { pushed = []; unread = []; newlines = 0 } }
     {
-        Text {
-            pushed: Vec::new(alloc),
-            piece: Piece::new(alloc),
-        }
+        Text::of_file(alloc, Vec::new(alloc))
     }
 
     /// Creates a text with the bytes of a file, none of which was read.
@@ -48,8 +77,11 @@ impl Text {
         ensures { result ≡ record { pushed = []; unread = bytes.items; newlines = 0 } }
     {
         Text {
-            pushed: Vec::new(alloc),
-            piece: Piece::of_file(bytes),
+            top: Segment::spent(),
+            below: Vec::new(alloc),
+            held: 0,
+            file: File::of(bytes),
+            buffer: Vec::new(alloc),
         }
     }
 
@@ -60,57 +92,121 @@ impl Text {
         ensures falls { result ≡ Ok true → R.takes_left reader.new < R.takes_left reader.old }
         ensures counted { R.failures reader.new ≡ failures_by result (R.failures reader.old) }
     {
-        self.piece.take_block(reader)
+        self.file.take_block(reader)
     }
 
     /// Returns how many newlines of the file were read.
     pub fn newlines(&self) -> usize
         ensures { result ≡ self.now.newlines }
     {
-        self.piece.newlines()
+        self.file.newlines()
     }
 
     /// Returns the bytes in reading order.
     pub fn window(&self) -> Window<'_>
         ensures { result ≡ text_in self.now }
     {
-        Window::new(&self.pushed, self.piece.rest())
+        Window::new(self.top.rest(), &self.below, self.held, self.file.rest())
     }
 
-    /// Returns the bytes if they are contiguous: no text is stored separately.
-    pub fn piece(&self) -> Option<&[u8]>
-        ensures { IfSome result (λ x. x.now ≡ text_in self.now) }
+    /// Returns the bytes at the start that are contiguous, and whether others in hand come after them.
+    #[inline(always)]
+    pub fn front(&self) -> (&[u8], bool)
+        ensures begins { result.0.now ≡ take (length result.0.now) (text_in self.now) }
+        ensures all { result.1 ≡ false → result.0.now ≡ text_in self.now }
+        ensures some { result.1 ≡ true → 0 < length result.0.now }
     {
-        if !self.pushed.is_empty() {
-            return None;
+        if self.top.len() > 0 {
+            (self.top.rest(), self.held > 0 || !self.file.is_empty())
+        } else {
+            (self.file.rest(), false)
         }
-        Some(self.piece.rest())
     }
 
-    /// Inserts text at the start. If an allocation fails, nothing changes.
-    pub fn push(&mut self, text: &[u8]) -> Result<(), AllocError>
-        ensures ok { OnOk result
-            (self.new ≡ record self.old { pushed = text.now ++ self.old.pushed }) }
+    /// Copies the first bytes, at most so many. Returns whether others come after them.
+    pub fn copy_front(&self, most: usize, copy: &mut Vec<u8>) -> Result<bool, AllocError>
+        ensures bytes { OnOk result (copy.new.items ≡ take most (text_in self.now)) }
+        ensures others { IfOk result (λ b. b ≡ nat_lt most (length (text_in self.now))) }
+    {
+        copy.clear();
+        append_most(copy, self.top.rest(), most)?;
+        let mut rest = self.below.as_slice();
+        'segments: while let Some((next, others)) = rest.split_last() {
+            append_most(copy, next.rest(), most)?;
+            rest = others;
+        }
+        append_most(copy, self.file.rest(), most)?;
+        Ok(most < self.window().len())
+    }
+
+    /// Inserts a text at the start, without a copy. If an allocation fails, nothing changes.
+    #[inline(always)]
+    pub fn push(&mut self, text: Bytes) -> Result<(), AllocError>
+        ensures ok { OnOk result (self.new ≡ record self.old { pushed = text ++ self.old.pushed }) }
         ensures err { OnErr result (self.new ≡ self.old) }
     {
-        if self.pushed.is_empty() && self.piece.push(text) {
+        let segment = Segment::of(text);
+        if segment.len() == 0 {
             return Ok(());
         }
-        let len = self.pushed.len();
-        self.pushed.extend_from_slice(text)?;
-        self.pushed.split_at_mut(len).1.reverse();
-        Ok(())
+        if segment.len() > MOST {
+            return Err(AllocError);
+        }
+        if self.top.len() == 0 {
+            self.top = segment;
+            return Ok(());
+        }
+        self.push_above(segment)
     }
 
-    /// Discards the first n bytes. Mostly no text is stored separately.
+    /// Puts a segment above the first one.
+    #[inline(never)]
+    fn push_above(&mut self, segment: Segment) -> Result<(), AllocError>
+        requires short { length segment ≤ 2 ^ 62 }
+        requires some { segment ≢ [] }
+        ensures ok { OnOk result (self.new ≡ record self.old { pushed = segment ++ self.old.pushed }) }
+        ensures err { OnErr result (self.new ≡ self.old) }
+    {
+        let held = self.held + self.top.len();
+        if held > MOST {
+            return Err(AllocError);
+        }
+        let top = std::mem::replace(&mut self.top, segment);
+        match self.below.push(top) {
+            Ok(()) => {
+                self.held = held;
+                Ok(())
+            }
+            Err(AllocFailed { value }) => {
+                self.top = value;
+                Err(AllocError)
+            }
+        }
+    }
+
+    /// Returns a buffer without contents: that of the last text that was read to its end, if it had one.
+    pub fn take_buffer(&mut self) -> Vec<u8>
+        ensures empty { result.items ≡ [] }
+        ensures stays { self.new ≡ self.old }
+    {
+        let alloc = *self.buffer.allocator();
+        let mut buffer = std::mem::replace(&mut self.buffer, Vec::new(alloc));
+        buffer.clear();
+        buffer
+    }
+
+    /// Discards the first n bytes.
     #[inline(always)]
     pub fn consume(&mut self, n: usize)
         requires { n ≤ length (text_in self.old) }
         ensures { self.new ≡ text_after n self.old }
     {
-        match self.pushed.len() {
-            0 => self.piece.consume(n),
-            _ => self.consume_apart(n),
+        if self.top.len() == 0 {
+            self.file.consume(n);
+        } else if n < self.top.len() {
+            self.top.pass(n);
+        } else {
+            self.consume_across(n);
         }
     }
 
@@ -121,24 +217,43 @@ impl Text {
         requires inline { newlines_in (take n (text_in self.old)) ≡ 0 }
         ensures { self.new ≡ text_after n self.old }
     {
-        match self.pushed.len() {
-            0 => self.piece.pass(n),
-            _ => self.consume_apart(n),
+        if self.top.len() == 0 {
+            self.file.pass(n);
+        } else if n < self.top.len() {
+            self.top.pass(n);
+        } else {
+            self.consume_across(n);
         }
     }
 
-    /// The same, first of the text that is stored separately.
+    /// Discards the first n bytes, of several segments or of segments and the file. A segment that is read to its end
+    /// leaves.
     #[inline(never)]
-    fn consume_apart(&mut self, n: usize)
+    fn consume_across(&mut self, n: usize)
         requires { n ≤ length (text_in self.old) }
         ensures { self.new ≡ text_after n self.old }
     {
-        let len = self.pushed.len();
-        if n <= len {
-            self.pushed.truncate(len - n);
-        } else {
-            self.pushed.clear();
-            self.piece.consume(n - len);
+        let mut left = n;
+        'segments: loop {
+            let len = self.top.len();
+            if left < len {
+                self.top.pass(left);
+                return;
+            }
+            left -= len;
+            match self.below.pop() {
+                Some(next) => {
+                    self.held -= next.len();
+                    let spent = std::mem::replace(&mut self.top, next);
+                    keep(&mut self.buffer, spent);
+                }
+                None => {
+                    let spent = std::mem::replace(&mut self.top, Segment::spent());
+                    keep(&mut self.buffer, spent);
+                    self.file.consume(left);
+                    return;
+                }
+            }
         }
     }
 }

@@ -1,15 +1,16 @@
-//! The pending bytes in reading order: pushed text, which is stored with its last byte first, and then
-//! the unread bytes of the file.
+//! The pending bytes in reading order: those of the segments, and then the unread bytes of the file.
 //!
 //! Contracts see a window as one list of bytes, so the tests and searches on it speak only of lists. Only
-//! `len`, `byte`, `tail` and `copy` use the two parts.
+//! `len`, `byte`, `tail` and `copy` use the parts.
 
-ghost use Rattle.std.specs.Prelude.{◌≡◌, ◌+◌, ◌^◌, ◌<◌, ◌≤◌, ◌∷◌, ◌++◌, [], IfSome, IfNone, IfOk, IsTrue, length, drop, take, reverse, slice_get};
+ghost use Rattle.std.specs.Prelude.{◌≡◌, ◌+◌, ◌^◌, ◌<◌, ◌≤◌, ◌∷◌, ◌++◌, [], IfSome, IfNone, IfOk, IsTrue, length, drop, take, slice_get};
 ghost use Rattle.m4_input.specs.Ascii.{is_letter, is_name_byte};
+ghost use Rattle.m4_input.specs.Text.{joined};
 ghost use Rattle.m4_input.specs.Token.{begins, is_cut, run_length, before};
 
 use crate::lanes::{LANES, short_word_len};
 use crate::quoted::{len_before, single};
+use crate::segment::Segment;
 use m4_state::bytes::Bytes;
 use std::alloc::{AllocError, Global};
 use std::marker::Model;
@@ -26,21 +27,49 @@ static NAME_BYTES: [u8; 256] = *b"\
     ,,,,,,,,,,,,,,,,,,,,,,,,,,,,,,,,\
     ,,,,,,,,,,,,,,,,,,,,,,,,,,,,,,,,";
 
-/// Two slices, read as one text.
+/// The first segment, those below it, and the file, read as one text.
 #[derive(Drop)]
 pub struct Window<'a> {
-    pushed: &'a [u8],
+    top: &'a [u8],
+    below: &'a [Segment],
+    held: usize,
     file: &'a [u8],
 }
 
 impl<'a> Model for Window<'a> {
-    ghost use Rattle.std.specs.Prelude.{List, ℕ, ◌++◌, ◌+◌, ◌<◌, ◌^◌, reverse, length};
+    ghost use Rattle.std.specs.Prelude.{◌≡◌, List, ℕ, ◌++◌, ◌+◌, ◌<◌, ◌^◌, length};
+    ghost use Rattle.m4_input.specs.Text.{joined};
 
     ghost Value = { List ℕ };
 
-    ghost view = { λ w. reverse w.pushed.now ++ w.file.now };
+    ghost view = { λ w. (w.top.now ++ joined w.below.now) ++ w.file.now };
 
-    ghost invariant = { λ w. length w.pushed.now + length w.file.now < 2 ^ 64 };
+    ghost invariant = { λ w. (w.held ≡ length (joined w.below.now)) × (length w.top.now + w.held + length w.file.now < 2 ^ 64) };
+}
+
+/// Returns the byte at a place, if there is one.
+#[inline(always)]
+fn byte_of(bytes: &[u8], at: usize) -> Option<u8>
+    ensures { result ≡ slice_get bytes.now at }
+{
+    bytes.get(at).copied()
+}
+
+/// Returns the byte at a place of some segments, the last of which is read first, and of the file after them.
+fn byte_below(below: &[Segment], file: &[u8], at: usize) -> Option<u8>
+    ensures { result ≡ slice_get (joined below.now ++ file.now) at }
+{
+    let mut rest = below;
+    let mut left = at;
+    while let Some((next, others)) = rest.split_last() {
+        let bytes = next.rest();
+        if left < bytes.len() {
+            return byte_of(bytes, left);
+        }
+        left -= bytes.len();
+        rest = others;
+    }
+    byte_of(file, left)
 }
 
 /// Returns whether a byte is an ASCII letter or an underscore; a name begins with one.
@@ -76,12 +105,30 @@ pub fn word_len(bytes: &[u8]) -> usize
 }
 
 impl<'a> Window<'a> {
-    /// Creates the text of these two parts.
-    pub fn new(pushed: &'a [u8], file: &'a [u8]) -> Window<'a>
-        requires { length pushed.now + length file.now < 2 ^ 64 }
-        ensures { result ≡ reverse pushed.now ++ file.now }
+    /// Creates the text of these parts.
+    pub fn new(top: &'a [u8], below: &'a [Segment], held: usize, file: &'a [u8]) -> Window<'a>
+        requires counted { held ≡ length (joined below.now) }
+        requires small { length top.now + held + length file.now < 2 ^ 64 }
+        ensures { result ≡ (top.now ++ joined below.now) ++ file.now }
     {
-        Window { pushed, file }
+        Window {
+            top,
+            below,
+            held,
+            file,
+        }
+    }
+
+    /// Creates the text of one slice.
+    pub fn of(text: &'a [u8]) -> Window<'a>
+        ensures { result ≡ text.now }
+    {
+        Window {
+            top: &[],
+            below: &[],
+            held: 0,
+            file: text,
+        }
     }
 
     /// Returns the number of bytes.
@@ -89,7 +136,7 @@ impl<'a> Window<'a> {
         ensures len { result ≡ length self.now }
         ensures small { result < 2 ^ 64 }
     {
-        self.pushed.len() + self.file.len()
+        self.top.len() + self.held + self.file.len()
     }
 
     /// Returns the byte at a place, if there is one.
@@ -102,10 +149,19 @@ impl<'a> Window<'a> {
         ensures past { IfNone result (length self.now ≤ at) }
         ensures small { length self.now < 2 ^ 64 }
     {
-        if at < self.pushed.len() {
-            Some(self.pushed[self.pushed.len() - 1 - at])
+        let _small = self.len();
+        self.byte_at(at)
+    }
+
+    /// The same.
+    #[inline(always)]
+    fn byte_at(&self, at: usize) -> Option<u8>
+        ensures { result ≡ slice_get self.now at }
+    {
+        if at < self.top.len() {
+            byte_of(self.top, at)
         } else {
-            self.file.get(at - self.pushed.len()).copied()
+            byte_below(self.below, self.file, at - self.top.len())
         }
     }
 
@@ -114,10 +170,11 @@ impl<'a> Window<'a> {
         requires { at ≤ length self.now }
         ensures { IfSome result (λ x. x.now ≡ drop at self.now) }
     {
-        if at < self.pushed.len() {
+        let pushed = self.top.len() + self.held;
+        if at < pushed {
             return None;
         }
-        Some(self.file.split_at(at - self.pushed.len()).1)
+        Some(self.file.split_at(at - pushed).1)
     }
 
     /// Returns whether a delimiter begins at a place.
@@ -215,17 +272,29 @@ impl<'a> Window<'a> {
         requires { at + len ≤ length self.now }
         ensures { IfOk result (λ b. b ≡ take len (drop at self.now)) }
     {
-        if at >= self.pushed.len() {
-            let rest = self.file.split_at(at - self.pushed.len()).1;
-            return Bytes::from_slice(alloc, rest.split_at(len).0);
+        match self.tail(at) {
+            Some(tail) => Bytes::from_slice(alloc, tail.split_at(len).0),
+            None => self.copy_by_steps(alloc, at, len),
         }
-        let front = self.pushed.split_at(self.pushed.len() - at).0;
-        let from_pushed = len.min(front.len());
-        let tail = front.split_at(front.len() - from_pushed).1;
+    }
+
+    /// The same, byte by byte.
+    #[tactic(auto, using(crate::proofs::Scans::copied_step))]
+    fn copy_by_steps(&self, alloc: Global, at: usize, len: usize) -> Result<Bytes, AllocError>
+        requires { at + len ≤ length self.now }
+        ensures { IfOk result (λ b. b ≡ take len (drop at self.now)) }
+    {
+        let _small = self.len();
         let mut bytes = Vec::with_capacity(alloc, len)?;
-        bytes.extend_from_slice(tail)?;
-        bytes.reverse();
-        bytes.extend_from_slice(self.file.split_at(len - from_pushed).0)?;
-        Ok(Bytes::from(bytes))
+        let mut k = 0;
+        while k < len {
+            match self.byte(at + k) {
+                Some(byte) => bytes.push(byte)?,
+                // The bytes are within the text.
+                None => unreachable!(),
+            }
+            k += 1;
+        }
+        Bytes::from_vec(bytes)
     }
 }

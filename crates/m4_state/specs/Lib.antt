@@ -14,3 +14,4 @@ pub mod StateView
 pub mod Table
 pub mod Memory
 pub mod Standard
+pub mod BytesView

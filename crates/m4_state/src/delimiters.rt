@@ -70,7 +70,7 @@ impl Delimiters {
         ensures valid { IfOk result (λ d. IsPaired d × IsSizedPair d) }
     {
         let end = if begin.as_slice().is_empty() {
-            Bytes::from(Vec::new(alloc))
+            Bytes::empty()
         } else if end.as_slice().is_empty() {
             Bytes::from_slice(alloc, default_end)?
         } else {

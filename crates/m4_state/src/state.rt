@@ -37,7 +37,7 @@ fn fresh_name(alloc: Global, prefix: bool, builtin: Builtin) -> Result<Bytes, Al
         name.extend_from_slice(b"m4_")?;
     }
     name.extend_from_slice(builtin.name())?;
-    Ok(Bytes::from(name))
+    Bytes::from_vec(name)
 }
 
 impl Model for State {
@@ -95,9 +95,9 @@ impl State {
         ensures { IfOk result (λ s. s ≡ fresh prefix) }
     {
         let mut state = State::empty(alloc)?;
-        let empty = Bytes::from(Vec::new(alloc));
+        let empty = Bytes::empty();
         state.push(b"__gnu__", Def::Text(empty))?;
-        let empty = Bytes::from(Vec::new(alloc));
+        let empty = Bytes::empty();
         state.push(b"__unix__", Def::Text(empty))?;
         for builtin in Builtin::TABLE {
             state.push_builtin(alloc, prefix, builtin)?;

@@ -9,7 +9,7 @@ ghost use Rattle.m4_builtins.specs.Args.{IsArg};
 mod calls;
 mod diverting;
 mod effects;
-mod heads;
+mod lists;
 mod messages;
 mod numbers;
 mod steps;

@@ -1,21 +1,37 @@
 //! A fast path for tokens that call nothing: many at once, outside of calls and in an argument list, without
 //! an intermediate copy. Manual: "How m4 copies input to output", "Macro arguments".
+//!
+//! A pass takes the tokens of one text: the bytes at the start of the input that are contiguous or, where these leave a
+//! token open and others in hand come after them, a copy of some of both.
 
-ghost use Rattle.std.specs.Prelude.{◌≡◌, IfOk, OnOk};
-ghost use Rattle.m4_engine.specs.Engine.{IsReady, IsLookahead, Passes, allows_call};
+ghost use Rattle.std.specs.Prelude.{◌≡◌, ◌≢◌, ◌<◌, ◌||◌, [], Bool, pos, Some, None, IfOk, OnOk, length};
+ghost use Rattle.m4_input.specs.Pending.{text_of};
+ghost use Rattle.m4_engine.specs.Engine.{IsReady, IsLookahead, PassesBy, PassesFront, Passes, allows_call};
 
 use super::driver::BLOCK;
 use crate::collect::collect;
-use crate::front::plain_run;
-use crate::lookahead::{Lookahead, lookahead_of};
+use crate::front::{first_plain, plain_run};
+use crate::lookahead::Lookahead;
 use crate::machine::Machine;
 use crate::turned::TurnFault;
+use m4_input::delims::Delims;
 use m4_input::input::Input;
 use m4_state::append::append;
 
+/// How many bytes are copied where contiguous ones leave a token open.
+const JOINED: usize = 64;
+
+/// Returns whether bytes may come after those at the start: others in hand, or further ones.
+#[inline(always)]
+fn may_follow(input: &Input, others: bool) -> bool
+    ensures { result ≡ (others || input.now.pending.may_follow) }
+{
+    others || input.may_follow()
+}
+
 impl Machine {
-    /// Consumes tokens at the start of the input that call nothing: up to a block of them if text goes to the
-    /// output, and those that change the innermost call alone in a list. The effect is that of as many turns.
+    /// Consumes tokens at the start of the input that call nothing: up to a block of them outside of calls, wherever
+    /// text goes, and those that change the innermost call alone in a list. The effect is that of as many turns.
     /// Returns the lookahead for the next token.
     #[inline(always)]
     pub fn pass_plain(&mut self, input: &mut Input) -> Result<Lookahead, TurnFault>
@@ -23,39 +39,155 @@ impl Machine {
         ensures passes { OnOk result (Passes self.old self.new input.old input.new) }
         ensures lookahead { IfOk result (λ a. IsLookahead a self.new input.new.pending) }
     {
-        if self.innermost.is_some() {
-            return self.pass_inner(input);
+        'fronts: loop {
+            let mut lookahead = self.pass_front(input)?;
+            if let Lookahead::Open = lookahead {
+                lookahead = self.pass_joined(input)?;
+            }
+            match lookahead {
+                Lookahead::Passed => {}
+                lookahead => return Ok(lookahead),
+            }
         }
-        if self.state.current() != 0 {
-            return Ok(Lookahead::Unknown);
-        }
-        let room = self.allows_call();
-        let Some(text) = input.piece() else {
+    }
+
+    /// Passes the bytes at the start that are contiguous.
+    #[inline(always)]
+    fn pass_front(&mut self, input: &mut Input) -> Result<Lookahead, TurnFault>
+        requires { IsReady input.old }
+        ensures { IfOk result (λ a. PassesFront a self.old self.new input.old input.new) }
+    {
+        let Some((text, others)) = input.front() else {
             return Ok(Lookahead::Unknown);
         };
-        let (len, first) = plain_run(text, &self.state, input.may_follow(), BLOCK);
-        append(&mut self.output, text.split_at(len).0)?;
+        let more = may_follow(input, others);
+        let (len, mut lookahead) = self.pass_text(text, others, more)?;
         input.consume(len);
-        let lookahead = lookahead_of(&mut self.spare, &self.state, room, first, input)?;
+        lookahead.set_place(input)?;
         Ok(lookahead)
     }
 
-    /// Collects tokens at the start of the input into the innermost call, if they change that call alone.
+    /// Passes a copy of the first bytes, which are not contiguous.
+    #[inline(never)]
+    fn pass_joined(&mut self, input: &mut Input) -> Result<Lookahead, TurnFault>
+        requires ready { IsReady input.old }
+        requires first { input.old.pending.definition ≡ None }
+        ensures { IfOk result (λ a. PassesFront a self.old self.new input.old input.new) }
+    {
+        let mut text = std::mem::replace(&mut self.joined, Vec::new(self.alloc));
+        let others = input.copy_front(JOINED, &mut text)?;
+        let more = may_follow(input, others);
+        let (len, mut lookahead) = self.pass_text(&text, others, more)?;
+        self.joined = text;
+        input.consume(len);
+        lookahead.set_place(input)?;
+        Ok(lookahead)
+    }
+
+    /// Passes the tokens at the start of a text, which others in hand may follow; `more` says whether any bytes may.
+    /// Returns how many bytes were passed, and the lookahead for the token after them.
     #[inline(always)]
-    fn pass_inner(&mut self, input: &mut Input) -> Result<Lookahead, TurnFault>
-        requires { IsReady input.old }
-        ensures passes { OnOk result (Passes self.old self.new input.old input.new) }
-        ensures lookahead { IfOk result (λ a. IsLookahead a self.new input.new.pending) }
+    fn pass_text(
+        &mut self,
+        text: &[u8],
+        others: bool,
+        more: bool,
+    ) -> Result<(usize, Lookahead), TurnFault>
+        ensures { IfOk result (λ r. PassesBy r.0 r.1 text.now others more self.old self.new) }
+    {
+        if self.innermost.is_some() {
+            self.pass_inner(text, others, more)
+        } else if self.state.current() == 0 {
+            self.pass_output(text, others, more)
+        } else {
+            self.pass_diverted(text, others, more)
+        }
+    }
+
+    /// The same outside of calls, where text goes to the output.
+    #[inline(always)]
+    fn pass_output(
+        &mut self,
+        text: &[u8],
+        others: bool,
+        more: bool,
+    ) -> Result<(usize, Lookahead), TurnFault>
+        requires outside { self.old.open_calls ≡ [] }
+        requires undiverted { self.old.state.current ≡ pos 0 }
+        ensures { IfOk result (λ r. PassesBy r.0 r.1 text.now others more self.old self.new) }
     {
         let room = self.allows_call();
-        let Some(text) = input.piece() else {
-            return Ok(Lookahead::Unknown);
-        };
+        let (len, first) = plain_run(text, &self.state, more, BLOCK);
+        let (passed, rest) = text.split_at(len);
+        append(&mut self.output, passed)?;
+        let lookahead = Lookahead::of(
+            &mut self.spare,
+            &mut self.effect,
+            &self.state,
+            room,
+            first,
+            rest,
+            others,
+        )?;
+        Ok((len, lookahead))
+    }
+
+    /// The same where text goes to a diversion or is dropped. The token after the passed ones is looked at again, since to
+    /// divert text ends what was borrowed of the state.
+    #[inline(never)]
+    fn pass_diverted(
+        &mut self,
+        text: &[u8],
+        others: bool,
+        more: bool,
+    ) -> Result<(usize, Lookahead), TurnFault>
+        requires outside { self.old.open_calls ≡ [] }
+        requires diverted { self.old.state.current ≢ pos 0 }
+        ensures { IfOk result (λ r. PassesBy r.0 r.1 text.now others more self.old self.new) }
+    {
+        let (len, _) = plain_run(text, &self.state, more, BLOCK);
+        let (passed, rest) = text.split_at(len);
+        self.state.append(passed)?;
+        let room = self.allows_call();
+        let first = first_plain(rest, &self.state, &Delims::of(&self.state), more);
+        let lookahead = Lookahead::of(
+            &mut self.spare,
+            &mut self.effect,
+            &self.state,
+            room,
+            first,
+            rest,
+            others,
+        )?;
+        Ok((len, lookahead))
+    }
+
+    /// The same in a list: the tokens are collected into the innermost call.
+    #[inline(always)]
+    fn pass_inner(
+        &mut self,
+        text: &[u8],
+        others: bool,
+        more: bool,
+    ) -> Result<(usize, Lookahead), TurnFault>
+        requires { self.old.open_calls ≢ [] }
+        ensures { IfOk result (λ r. PassesBy r.0 r.1 text.now others more self.old self.new) }
+    {
+        let room = self.allows_call();
         let Some(call) = &mut self.innermost else {
-            return Ok(Lookahead::Unknown);
+            return Ok((0, Lookahead::Unknown));
         };
-        let (len, first) = collect(call, text, &self.state, input.may_follow())?;
-        input.consume(len);
-        lookahead_of(&mut self.spare, &self.state, room, first, input)
+        let (len, first) = collect(call, text, &self.state, more)?;
+        let rest = text.split_at(len).1;
+        let lookahead = Lookahead::of(
+            &mut self.spare,
+            &mut self.effect,
+            &self.state,
+            room,
+            first,
+            rest,
+            others,
+        )?;
+        Ok((len, lookahead))
     }
 }

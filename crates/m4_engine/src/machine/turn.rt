@@ -16,7 +16,6 @@ ghost use Rattle.m4_engine.specs.Engine.{Moves, IsTaken, IsToken, IsReady, Makes
 ghost use Rattle.m4_engine.specs.Lookahead.{IsMeaning, Fits};
 ghost use Rattle.m4_builtins.specs.Act.{IsPushed, act};
 ghost use Rattle.m4_builtins.specs.Acted.{nothing};
-ghost use Rattle.m4_builtins.specs.EffectView.{pushed_by};
 ghost use Rattle.m4_state.specs.Definition.{IsDefinition};
 ghost use Rattle.m4_builtins.specs.Subst.{subst};
 ghost use Rattle.m4_state.specs.declared.definition.Def.TheVariants.{Text};
@@ -27,14 +26,12 @@ use crate::call::OpenCall;
 use crate::lookahead::{Lookahead, Meaning, Named};
 use crate::machine::Machine;
 use crate::role::Role;
-use crate::spare::LARGEST;
 use crate::turned::{TurnEnd, TurnFault, Turned};
 use itoa::Buffer;
-use m4_builtins::act::act_on;
-use m4_builtins::effect::{Effect, Push};
+use m4_builtins::act::{act_on, needs_list};
+use m4_builtins::effect::Effect;
 use m4_builtins::messages::{dropped_message, error_message};
 use m4_builtins::place::Place;
-use m4_builtins::substitute::substitute_onto;
 use m4_input::delims::Delims;
 use m4_input::front::{Answer, Scan, Unended};
 use m4_input::input::Input;
@@ -51,14 +48,12 @@ fn act_on_call(effect: &mut Effect, call: &OpenCall, state: &mut State) -> Resul
     ensures { OnOk result (act call.now.definition call.now.name call.now.done call.now.place state.old
         ≡ record { state = state.new; effect = effect.new }) }
 {
-    let head = call.head();
-    let definition = head.definition()?;
     act_on(
         effect,
-        &definition,
-        head.name(),
+        call.definition(),
+        call.name(),
         call.arguments(),
-        &head.place(),
+        call.place(),
         state,
     )?;
     Ok(())
@@ -66,16 +61,18 @@ fn act_on_call(effect: &mut Effect, call: &OpenCall, state: &mut State) -> Resul
 
 /// Pushes the value of a call, if it has one.
 #[tactic(auto, using(crate::proofs::Inputs::pushed, crate::proofs::Inputs::nothing_pushed))]
-fn push_value(input: &mut Input, push: Push<'_>) -> Result<(), TurnFault>
+fn push_value(input: &mut Input, value: Option<Pushed>) -> Result<(), TurnFault>
     requires input { IsTaken input.old }
-    requires valid { IsPushed (pushed_by push) }
-    ensures pushes { OnOk result (Pushes input.old.pending input.new.pending (pushed_by push.entry)) }
+    requires valid { IsPushed value }
+    ensures pushes { OnOk result (Pushes input.old.pending input.new.pending value) }
     ensures stays { OnOk result (Stays input.old input.new) }
 {
-    match push {
-        Push::Nothing => Ok(()),
-        Push::Text(text) => push_text(input, text),
-        Push::Definition(definition) => push_definition(input, definition.share()?),
+    let Some(value) = value else {
+        return Ok(());
+    };
+    match input.push_front(value) {
+        Ok(()) => Ok(()),
+        Err(fault) => Err(TurnFault::of(fault)),
     }
 }
 
@@ -109,29 +106,15 @@ fn push_saved(saved: &mut Vec<Bytes>, text: Bytes) -> Result<(), AllocError>
     Ok(())
 }
 
-/// Pushes a definition.
-#[tactic(auto, using(crate::proofs::Inputs::pushed))]
-fn push_definition(input: &mut Input, definition: Def) -> Result<(), TurnFault>
-    requires input { IsTaken input.old }
-    requires valid { IsDefinition definition }
-    ensures pushes { OnOk result (Pushes input.old.pending input.new.pending (Some (pushes.Definition definition))) }
-    ensures stays { OnOk result (Stays input.old input.new) }
-{
-    match input.push_front(Pushed::Definition(definition)) {
-        Ok(()) => Ok(()),
-        Err(fault) => Err(TurnFault::of(fault)),
-    }
-}
-
 /// Pushes a text.
 #[inline(always)]
 #[tactic(auto, using(crate::proofs::Inputs::pushed))]
-fn push_text(input: &mut Input, text: &[u8]) -> Result<(), TurnFault>
+fn push_text(input: &mut Input, text: Bytes) -> Result<(), TurnFault>
     requires { IsTaken input.old }
-    ensures pushes { OnOk result (Pushes input.old.pending input.new.pending (Some (pushes.Text text.now))) }
+    ensures pushes { OnOk result (Pushes input.old.pending input.new.pending (Some (pushes.Text text))) }
     ensures stays { OnOk result (Stays input.old input.new) }
 {
-    match input.push_text(text) {
+    match input.push_front(Pushed::Text(text)) {
         Ok(()) => Ok(()),
         Err(fault) => Err(TurnFault::of(fault)),
     }
@@ -148,7 +131,7 @@ impl Machine {
             return Ok(Turned::Ends(TurnEnd::Done));
         };
         let place = call.place();
-        let message = error_message(self.alloc, &place, b"end of input in argument list")?;
+        let message = error_message(self.alloc, place, b"end of input in argument list")?;
         self.add_message(message.as_slice())?;
         Ok(Turned::Ends(TurnEnd::EndInArguments))
     }
@@ -170,16 +153,37 @@ impl Machine {
         ensures { Steps result self.old self.new input.old input.new (λ t. Moves input.old.pending.may_follow self.new input.new.pending t
             (λ z more o m. called_within self.old.open_calls call (here_of o m self.old (longer z more input.old.pending)))) }
     {
-        let head = call.head();
-        // The text is read in place, without a copy.
-        if let Some(text) = head.text() {
+        self.lend(input);
+        self.call_any(call, input)
+    }
+
+    /// The same. A text's expansion has the memory of the effect.
+    #[inline(always)]
+    fn call_any(&mut self, call: OpenCall, input: &mut Input) -> Result<Turned, TurnFault>
+        requires { IsTaken input.old }
+        ensures { Steps result self.old self.new input.old input.new (λ t. Moves input.old.pending.may_follow self.new input.new.pending t
+            (λ z more o m. called_within self.old.open_calls call (here_of o m self.old (longer z more input.old.pending)))) }
+    {
+        if let Def::Text(text) = call.definition() {
             let quotes = self.state.quotes();
-            let mut expansion = self.spare.buffer();
-            substitute_onto(&mut expansion, text, head.name(), call.arguments(), quotes)?;
+            let expansion = self
+                .effect
+                .expand(text, call.name(), call.arguments(), quotes)?;
             self.spare.keep(call);
-            return self.take_text(Bytes::from(expansion), input);
+            return self.take_text(expansion, input);
         }
         self.call_builtin(call, input)
+    }
+
+    /// Gives the effect the memory of a text that was read to its end, if it has none.
+    #[inline(always)]
+    fn lend(&mut self, input: &mut Input)
+        ensures same { self.new ≡ self.old }
+        ensures input { input.new ≡ input.old }
+    {
+        if !self.effect.has_memory() {
+            self.effect.lend(input.take_buffer());
+        }
     }
 
     /// Makes the call of a builtin or of a placeholder whose arguments are complete.
@@ -207,24 +211,13 @@ impl Machine {
                 self.begin_argument();
                 return Ok(Turned::SkipsLine);
             }
-            push_value(input, self.effect.push())?;
+            push_value(input, self.effect.take_push())?;
             self.begin_argument();
             return Ok(Turned::GoesOn);
         }
-        push_value(input, self.effect.push())?;
-        if self.effect.room() > LARGEST {
-            self.drop_effect();
-        }
+        push_value(input, self.effect.take_push())?;
         self.begin_argument();
         Ok(Turned::GoesOn)
-    }
-
-    /// Drops the memory of an effect that was applied.
-    #[inline(never)]
-    fn drop_effect(&mut self)
-        ensures { self.new ≡ self.old }
-    {
-        self.effect = Effect::new(self.alloc);
     }
 
     /// Ends the current argument of the innermost call.
@@ -238,7 +231,7 @@ impl Machine {
         };
         if call.end_argument()? {
             let place = call.place();
-            let message = dropped_message(self.alloc, &place)?;
+            let message = dropped_message(self.alloc, place)?;
             self.add_message(message.as_slice())?;
         }
         Ok(())
@@ -285,7 +278,7 @@ impl Machine {
     }
 
     /// Adds the error that a call exceeds a limit.
-    fn report_limit(&mut self, place: &Place<'_>, limit: u64, what: &[u8]) -> Result<(), TurnFault>
+    fn report_limit(&mut self, place: &Place, limit: u64, what: &[u8]) -> Result<(), TurnFault>
         ensures { OnOk result (self.new
             ≡ with_engine_message (error place.now (codes "more than " ++ decimal limit ++ what.now)) self.old) }
     {
@@ -301,16 +294,14 @@ impl Machine {
     fn report_call_limit(&mut self, call: &OpenCall) -> Result<(), TurnFault>
         ensures { OnOk result (self.new ≡ with_engine_message (error call.now.place (calls_text self.old.limits.calls)) self.old) }
     {
-        let place = call.place();
-        self.report_limit(&place, self.most_calls, b" calls")
+        self.report_limit(call.place(), self.most_calls, b" calls")
     }
 
     /// Adds the error that too many calls are nested.
     fn report_nesting_limit(&mut self, call: &OpenCall) -> Result<(), TurnFault>
         ensures { OnOk result (self.new ≡ with_engine_message (error call.now.place (nested_text self.old.limits.nesting)) self.old) }
     {
-        let place = call.place();
-        self.report_limit(&place, self.most_nested, b" nested calls")
+        self.report_limit(call.place(), self.most_nested, b" nested calls")
     }
 
     /// Returns whether the limit of calls allows one more.
@@ -410,16 +401,15 @@ impl Machine {
             Answer::Unknown => return Ok(Turned::NeedsMore),
         };
         let bare = !listed && room;
-        let place = (input.name(), line);
-        let meaning = Meaning::of(
+        let mut meaning = Meaning::of(
             &mut self.spare,
+            &mut self.effect,
             &self.state,
             bare,
             name.as_slice(),
-            name.as_slice().len(),
             definition,
-            place,
         )?;
+        meaning.set_place(input)?;
         input.consume(len);
         self.take_named(
             Named {
@@ -455,8 +445,8 @@ impl Machine {
             }
             Meaning::Call(call) => call,
         };
-        if !listed && call.head().needs_list() {
-            self.put_text(call.head().name())?;
+        if !listed && needs_list(call.definition()) {
+            self.put_text(call.name())?;
             return Ok(Turned::GoesOn);
         }
         self.take_call(call, listed, input)
@@ -502,8 +492,7 @@ impl Machine {
             → Moves input.old.pending.may_follow self.new input.new.pending t
             (λ z more o m. called_within self.old.open_calls c (here_of o m self.old (longer z more input.old.pending)))) }
     {
-        push_text(input, text.as_slice())?;
-        self.spare.keep_buffer(text.into_vec());
+        push_text(input, text)?;
         self.begin_argument();
         Ok(Turned::GoesOn)
     }
@@ -547,7 +536,10 @@ impl Machine {
             → Moves may self.new p t (λ z more o m. step (outer_of self.old.open_calls)
             (take_front (Refused what line) (here_of o m self.old (before z more))))) }
     {
-        let place = Place::new(input.name(), line);
+        let place = Place {
+            file: input.share_name()?,
+            line,
+        };
         match what {
             Unended::InString => {
                 self.add_error(&place, b"end of input in string")?;
@@ -569,7 +561,7 @@ impl Machine {
         ensures { Turns result self.old self.new input.old input.new }
     {
         match lookahead {
-            Lookahead::Unknown => self.take_next(input),
+            Lookahead::Unknown | Lookahead::Passed | Lookahead::Open => self.take_next(input),
             Lookahead::Byte(byte) => {
                 input.consume(1);
                 self.take_byte(byte, input)

@@ -36,7 +36,10 @@ fn describe(message: Result<Bytes, BuiltinFault>, report: &mut Report) {
 
 // Returns an error and a warning at a place.
 fn messages_at(alloc: Global, file: &[u8], line: u64) -> Result<Vec<u8>, AllocError> {
-    let place = Place::new(file, line);
+    let place = Place {
+        file: Bytes::from_slice(alloc, file)?,
+        line,
+    };
     let mut report = Report::new(alloc);
     describe(
         error_message(alloc, &place, b"end of file in string"),

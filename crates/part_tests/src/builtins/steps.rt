@@ -10,9 +10,11 @@ use crate::report::Report;
 use crate::shows::shows;
 use m4_builtins::act::act;
 use m4_builtins::args::Args;
-use m4_builtins::effect::{Effect, Push};
+use m4_builtins::effect::Effect;
 use m4_builtins::fault::BuiltinFault;
 use m4_builtins::place::Place;
+use m4_input::pushed::Pushed;
+use m4_state::bytes::Bytes;
 use m4_state::fault::StateFault;
 use m4_state::state::State;
 use std::alloc::{AllocError, Global};
@@ -52,11 +54,11 @@ fn describe_text(label: &[u8], text: &[u8], report: &mut Report) {
 }
 
 // Adds what is pushed, if there is something.
-fn describe_push(push: Push<'_>, report: &mut Report) {
+fn describe_push(push: Option<Pushed>, report: &mut Report) {
     match push {
-        Push::Nothing => {}
-        Push::Text(text) => describe_text(b"push ", text, report),
-        Push::Definition(_) => report.add(b"push a definition\n"),
+        None => {}
+        Some(Pushed::Text(text)) => describe_text(b"push ", text.as_slice(), report),
+        Some(Pushed::Definition(_)) => report.add(b"push a definition\n"),
     }
 }
 
@@ -73,7 +75,7 @@ fn describe_end(effect: &mut Effect, report: &mut Report) {
 
 // Adds the effect of a call.
 fn describe(effect: &mut Effect, report: &mut Report) {
-    describe_push(effect.push(), report);
+    describe_push(effect.take_push(), report);
     if effect.skips() {
         report.add(b"skip\n");
     }
@@ -94,7 +96,10 @@ fn acted(
     requires { AllByRecursion IsArg args.now.list }
 {
     let definition = made(alloc, called.0)?;
-    let place = Place::new(called.2.0.as_bytes(), called.2.1);
+    let place = Place {
+        file: Bytes::from_slice(alloc, called.2.0.as_bytes())?,
+        line: called.2.1,
+    };
     act(alloc, &definition, args, &place, state)
 }
 

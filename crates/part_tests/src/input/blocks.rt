@@ -1,11 +1,11 @@
 //! Input in blocks: what is in hand after each question to the reader, and what the bytes in hand decide.
 //! Manual: "How m4 copies input to output".
 
-ghost use Rattle.std.specs.Prelude.{◌≡◌, None};
+ghost use Rattle.std.specs.Prelude.{◌≡◌, None, OnOk};
 
 use super::push;
 use super::steps::{
-    ANGLES, BLOCKED, PLAIN, Row, STARS, Step, ask, describe_hand, describe_line, tried,
+    ANGLES, BLOCKED, PLAIN, Row, STARS, Step, ask, describe_hand, describe_line, in_hand, tried,
 };
 use crate::report::Report;
 use crate::shows::shows;
@@ -424,42 +424,24 @@ fn long_text(alloc: Global) -> Result<Vec<u8>, AllocError> {
 }
 
 // Takes all bytes in hand but seven.
-fn take_but_seven(input: &mut Input)
-    ensures { input.new.pending.definition ≡ None }
+fn take_but_seven(alloc: Global, input: &mut Input) -> Result<(), AllocError>
+    ensures { OnOk result (input.new.pending.definition ≡ None) }
 {
-    let len = match input.piece() {
-        Some(text) => text.len().saturating_sub(7),
-        None => 0,
-    };
+    let len = in_hand(alloc, input)?.len().saturating_sub(7);
     input.consume(len);
-}
-
-// Takes pushed text away again, if it was put directly before the bytes in hand; returns whether it was.
-fn take_pushed(alloc: Global, input: &mut Input) -> bool
-    requires { input.old.pending.definition ≡ None }
-{
-    if push(alloc, input, b"xyz").is_err() {
-        return false;
-    }
-    match input.piece() {
-        Some(text) if text.len() > 3 => {
-            input.consume(3);
-            true
-        }
-        _ => false,
-    }
+    Ok(())
 }
 
 // Returns whether these bytes are in hand.
-fn is_hand(input: &Input, bytes: Option<&[u8]>) -> bool {
-    match (input.piece(), bytes) {
-        (Some(hand), Some(bytes)) => hand == bytes,
+fn is_hand(alloc: Global, input: &Input, bytes: Option<&[u8]>) -> bool {
+    match (in_hand(alloc, input), bytes) {
+        (Ok(hand), Some(bytes)) => hand.as_slice() == bytes,
         _ => false,
     }
 }
 
-// Reads a block, and takes all but seven bytes. Returns whether it came, just the bytes of the text from
-// this place on were in hand, and pushed text then comes directly before the seven.
+// Reads a block, and takes all but seven bytes. Returns whether it came, and just the bytes of the text from this
+// place on were in hand.
 fn is_right(
     alloc: Global,
     text: &[u8],
@@ -468,14 +450,13 @@ fn is_right(
     at: usize,
 ) -> bool {
     let came = ask(input, reader).is_ok();
-    let held = is_hand(input, text.get(at..reader.taken()));
-    take_but_seven(input);
-    let joined = take_pushed(alloc, input);
-    came & held & joined
+    let held = is_hand(alloc, input, text.get(at..reader.taken()));
+    let left = take_but_seven(alloc, input).is_ok();
+    came & held & left
 }
 
 // Reads a text in blocks, and keeps seven bytes at each. Counts the blocks after which other bytes are in
-// hand than these seven and the block, or pushed text is apart from them.
+// hand than these seven and the block.
 fn count_wrong(alloc: Global, text: &[u8], input: &mut Input) -> usize {
     let mut reader = MemSource::new(text, 10_000, false);
     let mut wrong = 0usize;
@@ -495,7 +476,7 @@ fn walk(alloc: Global, text: &[u8], name: Bytes, report: &mut Report) {
     report.counted(b"wrong ", count_wrong(alloc, text, &mut input));
     report.add(b"\n");
     describe_line(&input, report);
-    describe_hand(&input, report);
+    describe_hand(alloc, &input, report);
 }
 
 // Reports a long text.

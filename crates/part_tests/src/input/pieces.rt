@@ -1,24 +1,56 @@
-//! The pending input as one slice: a block of a file, without the bytes that were removed, and with text that is
-//! pushed back.
+//! The bytes in hand: a block of a file, without the bytes that were removed, and the texts that are pushed before it.
 
 use super::steps::{PLAIN, Row, Step, tried};
 
-static ROWS: [Row; 3] = [
+static ROWS: [Row; 5] = [
     Row {
-        name: "text longer than the room before a file is apart, and joins the file's first name",
+        name: "a name whose first byte is the last of a text, and whose next is the file's",
+        file: "b c",
+        steps: &[
+            Step::More,
+            Step::Push("x a"),
+            Step::Next,
+            Step::Next,
+            Step::Next,
+            Step::Next,
+        ],
+        want: "more\nname x\nbyte  \nname ab\nbyte  \n",
+        ..PLAIN
+    },
+    Row {
+        name: "a name, a string and a list across many texts",
+        file: "d')(e",
+        steps: &[
+            Step::More,
+            Step::Push("c"),
+            Step::Push("`"),
+            Step::Push("a"),
+            Step::Push("n"),
+            Step::Hand,
+            Step::Next,
+            Step::Next,
+            Step::Next,
+            Step::SeesParen,
+            Step::Hand,
+        ],
+        want: "more\n[na`cd')(e]\nname na\nstring cd\nbyte )\nlist\n[(e]\n",
+        ..PLAIN
+    },
+    Row {
+        name: "a long text joins the file's first name",
         file: "ab c",
         steps: &[
             Step::More,
             Step::PushMany(40_000),
-            Step::Hand,
             Step::Line,
             Step::NextLen,
+            Step::Hand,
         ],
-        want: "more\napart\nline 1\na name of 40002\n",
+        want: "more\nline 1\na name of 40002\n[ c]\n",
         ..PLAIN
     },
     Row {
-        name: "text longer than the first room gets more, and is contiguous with the file",
+        name: "bytes are removed from two texts and the file",
         file: "ab\nc",
         steps: &[
             Step::More,
@@ -38,7 +70,7 @@ static ROWS: [Row; 3] = [
         ..PLAIN
     },
     Row {
-        name: "pushed text is contiguous with the file if there is room",
+        name: "pushed texts come before the file",
         file: "ab\nc",
         steps: &[
             Step::More,
@@ -59,6 +91,6 @@ static ROWS: [Row; 3] = [
 ];
 
 #[test]
-fn bytes_in_one_piece_or_apart(rt: HostRuntime) {
+fn bytes_in_hand(rt: HostRuntime) {
     tried(&rt, rt.alloc(), &ROWS);
 }

@@ -1,6 +1,7 @@
 //! Rows of steps on an input: its calls, and questions about the bytes in hand.
 
-ghost use Rattle.std.specs.Prelude.{◌≡◌, None};
+ghost use Rattle.std.specs.Prelude.{◌≡◌, ◌≤◌, None, IfOk, length};
+ghost use Rattle.m4_input.specs.Pending.{text_of};
 
 use super::{BLOCKS, describe, describe_fault, push};
 use crate::given::{Given, describe_definition, made};
@@ -267,25 +268,40 @@ fn add_rest(
 }
 
 // Returns whether a list follows so many bytes.
-fn list_after(input: &Input, n: usize, delims: &Delims<'_>) -> &'static [u8] {
-    match input.piece() {
-        Some(text) if n <= text.len() => match input.list_after(n, delims) {
-            Answer::Yes => b"list\n",
-            Answer::No => b"no list\n",
-            Answer::Unknown => b"unknown\n",
-        },
-        _ => b"too few bytes\n",
+fn list_after(
+    alloc: Global,
+    input: &Input,
+    n: usize,
+    delims: &Delims<'_>,
+) -> Result<&'static [u8], AllocError> {
+    let hand = in_hand(alloc, input)?;
+    if n > hand.len() {
+        return Ok(b"too few bytes\n");
+    }
+    match input.list_after(n, delims) {
+        Answer::Yes => Ok(b"list\n"),
+        Answer::No => Ok(b"no list\n"),
+        Answer::Unknown => Ok(b"unknown\n"),
     }
 }
 
+/// Returns the bytes in hand.
+pub fn in_hand(alloc: Global, input: &Input) -> Result<Vec<u8>, AllocError>
+    ensures { IfOk result (λ hand. length hand.items ≤ length (text_of input.now.pending)) }
+{
+    let mut hand = Vec::new(alloc);
+    let _others = input.copy_front(usize::MAX, &mut hand)?;
+    Ok(hand)
+}
+
 /// Adds the bytes in hand.
-pub fn describe_hand(input: &Input, report: &mut Report) {
-    match input.piece() {
-        Some(text) => {
-            report.pair(b"[", text);
+pub fn describe_hand(alloc: Global, input: &Input, report: &mut Report) {
+    match in_hand(alloc, input) {
+        Ok(hand) => {
+            report.pair(b"[", &hand);
             report.add(b"]\n");
         }
-        None => report.add(b"apart\n"),
+        Err(AllocError) => report.refuse(),
     }
 }
 
@@ -325,12 +341,10 @@ fn take_definition(input: &mut Input, report: &mut Report) {
 }
 
 // Removes so many bytes, or all if there are fewer.
-fn take_front(input: &mut Input, n: usize) {
-    let len = match input.piece() {
-        Some(text) => text.len().min(n),
-        None => 0,
-    };
+fn take_front(alloc: Global, input: &mut Input, n: usize) -> Result<(), AllocError> {
+    let len = in_hand(alloc, input)?.len().min(n);
     input.consume(len);
+    Ok(())
 }
 
 // Removes a definition, where there should be none.
@@ -376,11 +390,15 @@ fn answer_in_hand(alloc: Global, input: &mut Input, step: Step, report: &mut Rep
     match step {
         Step::Skip => describe_skip(input.skip_in_hand(), report),
         Step::TakeDefinition => take_definition(input, report),
-        Step::Take(n) => take_front(input, n),
+        Step::Take(n) => {
+            if take_front(alloc, input, n).is_err() {
+                report.refuse();
+            }
+        }
         Step::Push(text) => put(alloc, input, text.as_bytes(), report),
         Step::PushMany(count) => put_many(alloc, input, count, report),
         Step::PushDefinition(given) => put_definition(alloc, input, given, report),
-        Step::Hand => describe_hand(input, report),
+        Step::Hand => describe_hand(alloc, input, report),
         Step::Line => describe_line(input, report),
         Step::Name => describe_name(input, report),
         _ => report.add(b"a step that asks the reader\n"),
@@ -401,7 +419,10 @@ fn answer(
         Step::Token => add_line(ask_token(input, reader, delims), report),
         Step::Look => add_found(input, reader, delims, false, report),
         Step::Decide => add_found(input, reader, delims, true, report),
-        Step::List(n) => report.add(list_after(input, n, delims)),
+        Step::List(n) => match list_after(alloc, input, n, delims) {
+            Ok(answer) => report.add(answer),
+            Err(AllocError) => report.refuse(),
+        },
         Step::Next => {
             let _ends = add_next(input, reader, delims, report);
         }

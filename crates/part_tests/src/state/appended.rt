@@ -1,5 +1,4 @@
-//! Bytes that are appended to a vector, all of a text or its first ones, and bytes that are exchanged with those of a
-//! vector.
+//! Bytes that are appended to a vector, all of a text or its first ones; texts, however they are held.
 
 use crate::report::joined;
 use crate::shows::shows;
@@ -50,12 +49,80 @@ fn with_text(alloc: Global, text: &[u8], len: usize) -> Result<Vec<u8>, AllocErr
     Ok(out)
 }
 
-// Exchanges the bytes of a text with those of a vector, and reports both.
-fn exchanged(alloc: Global) -> Result<Vec<u8>, AllocError> {
-    let mut text = Bytes::from_slice(alloc, b"text")?;
-    let mut vector = Vec::from_slice(alloc, b"vector")?;
-    text.swap(&mut vector);
-    joined(alloc, &[text.as_slice(), b" ", vector.as_slice()])
+// The ways in which a text comes to be held.
+#[derive(Clone, Copy)]
+enum Way {
+    Copied,
+    Moved,
+    MovedToShare,
+    Taken,
+    CopiedWith,
+    Shared,
+    SharedFromItsOwn,
+    Put,
+    PutOverItsOwn,
+    Part,
+}
+
+static WAYS: [Way; 10] = [
+    Way::Copied,
+    Way::Moved,
+    Way::MovedToShare,
+    Way::Taken,
+    Way::CopiedWith,
+    Way::Shared,
+    Way::SharedFromItsOwn,
+    Way::Put,
+    Way::PutOverItsOwn,
+    Way::Part,
+];
+
+// Texts of no byte, of one, of as many as are held in place, of one more, and of many.
+static TEXTS: [&str; 5] = [
+    "",
+    "x",
+    "abcdefghijklmnopqrstuvwxyz0123",
+    "abcdefghijklmnopqrstuvwxyz01234",
+    "the quick brown fox jumps over the lazy dog, and so on and on\x00",
+];
+
+// Returns the middle of a text, all but its first and last byte.
+fn middle(alloc: Global, text: &[u8]) -> Result<Bytes, AllocError> {
+    let whole = Bytes::from_vec(joined(alloc, &[b"<", text, b">"])?)?;
+    let len = whole.as_slice().len();
+    if len < 2 {
+        return Ok(Bytes::empty());
+    }
+    whole.part(1, len - 2)
+}
+
+// Puts a text over another one.
+fn put_over(alloc: Global, mut text: Bytes, bytes: &[u8]) -> Result<Bytes, AllocError> {
+    let mut vector = Vec::from_slice(alloc, bytes)?;
+    text.put(&mut vector);
+    Ok(text)
+}
+
+// Returns a text that is held in a way.
+fn held(alloc: Global, text: &[u8], way: Way) -> Result<Bytes, AllocError> {
+    let mut buffer = Vec::from_slice(alloc, text)?;
+    match way {
+        Way::Copied => Bytes::from_slice(alloc, text),
+        Way::Moved => Ok(Bytes::from(buffer)),
+        Way::MovedToShare => Bytes::from_vec(buffer),
+        Way::Taken => Ok(Bytes::take_from(&mut buffer)),
+        Way::CopiedWith => Bytes::copy_with(&mut buffer, text),
+        Way::Shared => Bytes::from_vec(buffer)?.share(),
+        Way::SharedFromItsOwn => Bytes::from(buffer).share_with(&mut Vec::new(alloc)),
+        Way::Put => put_over(alloc, Bytes::empty(), text),
+        Way::PutOverItsOwn => put_over(alloc, Bytes::from(buffer), text),
+        Way::Part => middle(alloc, text),
+    }
+}
+
+// Returns the bytes of a text that is held in a way.
+fn bytes_held(alloc: Global, text: &[u8], way: Way) -> Result<Vec<u8>, AllocError> {
+    Vec::from_slice(alloc, held(alloc, text, way)?.as_slice())
 }
 
 #[test]
@@ -68,6 +135,15 @@ fn first_bytes_are_appended(rt: HostRuntime) {
 }
 
 #[test]
-fn bytes_are_exchanged(rt: HostRuntime) {
-    shows(&rt, "swap", b"vector text", exchanged(rt.alloc()));
+fn texts_are_the_same_however_they_are_held(rt: HostRuntime) {
+    for &text in &TEXTS {
+        for &way in &WAYS {
+            shows(
+                &rt,
+                text,
+                text.as_bytes(),
+                bytes_held(rt.alloc(), text.as_bytes(), way),
+            );
+        }
+    }
 }

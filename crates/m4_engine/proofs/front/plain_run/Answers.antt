@@ -1,5 +1,5 @@
-use Rattle.std.proofs.Common.{rules}
-use Rattle.m4_engine.proofs.PlainRuns.{plain_word, plain_byte}
+use Rattle.std.proofs.Common.{rules, arith}
+use Rattle.m4_engine.proofs.PlainRuns.{plain_word, plain_byte, plain_comment}
 use Rattle.m4_engine.proofs.front.plain_run.Goals as goal
 
 pub loop-len-preserved-in-Word : goal.loop-len-preserved-in-Word
@@ -8,8 +8,14 @@ loop-len-preserved-in-Word c = record {
   plain = plain_word c.args.state.now c.args.may_follow c.loop-len.len c.in-Word.n c.args.text.now c.split_at.result.1.now c.loop-len.invariant.plain (search rules) (search rules);
 }
 
+pub loop-len-preserved-in-Byte : goal.loop-len-preserved-in-Byte
+loop-len-preserved-in-Byte c = record {
+  within = search rules;
+  plain = plain_byte c.args.state.now c.args.may_follow c.loop-len.len c.in-Byte.field-0 c.args.text.now c.split_at.result.1.now c.loop-len.invariant.plain (search rules) (search rules);
+}
+
 pub loop-len-preserved : goal.loop-len-preserved
 loop-len-preserved c = record {
   within = search rules;
-  plain = plain_byte c.args.state.now c.args.may_follow c.loop-len.len c.in-Byte.field-0 c.args.text.now c.split_at.result.1.now c.loop-len.invariant.plain (search rules) (search rules);
+  plain = plain_comment c.args.state.now c.args.may_follow c.loop-len.len c.comment_len-comment.result c.args.text.now c.split_at-in-Other.result.1.now c.loop-len.invariant.plain (search rules) (search rules);
 }

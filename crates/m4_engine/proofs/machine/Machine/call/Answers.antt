@@ -1,28 +1,11 @@
-use Rattle.std.proofs.Common.{◌≡◌, ◌++◌, [], List, ℕ, ap, ◌∙◌, subst, rules}
-use Rattle.std.specs.Prelude.{IfOk}
-use Rattle.m4_state.specs.declared.definition.Def.TheVariants.{Text}
-use Rattle.m4_input.specs.DelimsView.{pair_of}
-use Rattle.m4_input.specs.Input.{longer}
-use Rattle.m4_builtins.specs.Subst.{subst as substituted}
-use Rattle.m4_engine.specs.Expansion.{Call}
-use Rattle.m4_engine.specs.Engine.{Engine, Moves, called_within, here_of}
-use Rattle.m4_engine.proofs.Bare.{substituted_by, called_as}
+use Rattle.std.proofs.Common.{◌≡◌, subst, rules}
+use Rattle.m4_input.specs.Input.{Held, longer}
+use Rattle.m4_engine.specs.Engine.{Engine, Steps, Moves, called_within, here_of}
 use Rattle.m4_engine.proofs.machine.Machine.call.Goals as goal
 
--- what was appended to nothing is all
-onto : {b x made y : List ℕ} → b ≡ [] → x ≡ b ++ y → made ≡ x → made ≡ y
-onto {b} {x} {made} {y} e f g = g ∙ f ∙ ap (λ (z : List ℕ). z ++ y) e
-
-pub returns-in-Some : goal.returns-in-Some
-returns-in-Some c = record {
-  moves =
-      let text = c.in-Some.text.now in
-      let made = c.from.result in
-      let p = c.args.input.now.pending in
-      let moves = subst (λ (x : Engine). IfOk c.take_text.result (λ t. (k : Call) (y : List ℕ) → k.definition ≡ Text y → made ≡ substituted y k.name k.done x.state.quotes → Moves p.may_follow c.take_text.new.self c.take_text.new.input.pending t (λ z more o m. called_within x.open_calls k (here_of o m x (longer z more p))))) c.self.view_is c.take_text.ensures.moves in
-      called_as p.may_follow c.args.self.now c.take_text.new.self made text c.args.call (λ z more. longer z more p) c.take_text.new.input.pending c.take_text.result moves (search rules)
-      (substituted_by text made _ c.args.call.name _ c.args.call.done (pair_of c.quotes-quotes.result) _ (onto c.buffer-expansion.ensures c.in_ok-substitute_onto.ensures c.from.ensures) (search rules) (search rules) (search rules) (search rules));
-  ready = search rules;
-  limits = search rules;
-  made = search rules;
-}
+pub returns : goal.returns
+returns c =
+    let new = c.call_any.new.self in
+    let j = c.call_any.new.input in
+    subst (λ (i : Held). Steps c.call_any.result c.args.self.now new i j (λ t. Moves (i.pending).may_follow new j.pending t (λ z more o m. called_within c.args.self.now.open_calls c.args.call (here_of o m c.args.self.now (longer z more i.pending))))) c.lend.ensures.input
+    (subst (λ (e : Engine). Steps c.call_any.result e new c.lend.new.input j (λ t. Moves c.lend.new.input.pending.may_follow new j.pending t (λ z more o m. called_within e.open_calls c.args.call (here_of o m e (longer z more c.lend.new.input.pending))))) c.lend.ensures.same c.call_any.ensures)

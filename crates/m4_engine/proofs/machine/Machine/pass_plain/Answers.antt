@@ -1,20 +1,45 @@
-use Rattle.std.proofs.Common.{rules, refl}
-use Rattle.m4_engine.specs.Engine.{Engine}
-use Rattle.m4_engine.specs.MachineView.{engine_view}
-use Rattle.m4_engine.proofs.Seen.{first_after, lies_after, seen_same}
+use Rattle.std.proofs.Common.{refl, ◌∙◌, sym, rules}
+use Rattle.m4_engine.proofs.Passing.{passed_front, ahead_is}
+use Rattle.m4_engine.proofs.machine.Machine.pass_plain.Goals.{in-Open+in_ok-lookahead-2, in_default}
 use Rattle.m4_engine.proofs.machine.Machine.pass_plain.Goals as goal
 
-pub lookahead_of-requires-clause-first : goal.lookahead_of-requires-clause-first
-lookahead_of-requires-clause-first c = first_after c.self.inside.state _ c.plain_run-len.result.1 c.args.input.now.pending c.consume.new.self.pending c.plain_run-len.result.0 c.in-Some.text.now (search rules) c.in-Some.ensures.text (search rules) c.plain_run-len.ensures.after
+pub pass_joined-requires-clause-first : goal.pass_joined-requires-clause-first
+pass_joined-requires-clause-first c = c.in_ok-lookahead.ensures.first c.in-Open.is
 
-pub lookahead_of-requires-clause-lies : goal.lookahead_of-requires-clause-lies
-lookahead_of-requires-clause-lies c = lies_after c.plain_run-len.result.1 c.args.input.now.pending c.consume.new.self.pending c.plain_run-len.result.0 c.in-Some.text.now c.in-Some.ensures.text (search rules) c.plain_run-len.ensures.lies
+pub fronts-preserved : goal.fronts-preserved
+fronts-preserved c =
+    let e = c.args.self.now in
+    let i = c.args.input.now in
+    let h = c.fronts.invariant in
+    let s = c.match-lookahead.self in
+    let t = c.match-lookahead.input in
+    elim c.match-lookahead.branch [
+      | in-Open+in_ok-lookahead-2 w ↦ (
+          let k = passed_front c.in_ok-lookahead.lookahead e c.fronts.self c.pass_front.new.self c.pass_front.new.self i c.fronts.input c.pass_front.new.input c.pass_front.new.input h.passes h.ready c.in_ok-lookahead.ensures refl refl in
+          let r = passed_front w.in_ok-lookahead-2.lookahead e c.pass_front.new.self w.pass_joined.new.self s i c.pass_front.new.input w.pass_joined.new.input t k.0 k.1 w.in_ok-lookahead-2.ensures w.self-is w.input-is in
+          record { passes = r.0; ready = r.1 }
+          )
+      | in_default w ↦ (
+          let r = passed_front c.in_ok-lookahead.lookahead e c.fronts.self c.pass_front.new.self s i c.fronts.input c.pass_front.new.input t h.passes h.ready c.in_ok-lookahead.ensures w.self-is w.input-is in
+          record { passes = r.0; ready = r.1 }
+          )
+    ]
 
-pub returns-clause-lookahead : goal.returns-clause-lookahead
-returns-clause-lookahead c =
-    let old : Engine = engine_view c.self.inside in
-    let new : Engine = record old { output = c.append.new.out.items } in
-    seen_same c.in_ok-lookahead.lookahead old new c.allows_call-room.result c.consume.new.self.pending (search rules) refl refl refl refl c.in_ok-lookahead.ensures
-
-pub returns-clause-passes : goal.returns-clause-passes
-returns-clause-passes c = search rules
+pub returns-in_default-lookahead : goal.returns-in_default-lookahead
+returns-in_default-lookahead c =
+    let e = c.args.self.now in
+    let i = c.args.input.now in
+    let h = c.fronts.invariant in
+    let s = c.match-lookahead.self in
+    let t = c.match-lookahead.input in
+    elim c.match-lookahead.branch [
+      | in-Open+in_ok-lookahead-2 w ↦ (
+          let k = passed_front c.in_ok-lookahead.lookahead e c.fronts.self c.pass_front.new.self c.pass_front.new.self i c.fronts.input c.pass_front.new.input c.pass_front.new.input h.passes h.ready c.in_ok-lookahead.ensures refl refl in
+          let r = passed_front w.in_ok-lookahead-2.lookahead e c.pass_front.new.self w.pass_joined.new.self s i c.pass_front.new.input w.pass_joined.new.input t k.0 k.1 w.in_ok-lookahead-2.ensures w.self-is w.input-is in
+          record { passes = r.0; lookahead = ahead_is w.in_ok-lookahead-2.lookahead c.match-lookahead.lookahead w.pass_joined.new.self s w.pass_joined.new.input t w.lookahead-is w.self-is w.input-is w.in_ok-lookahead-2.ensures.ahead }
+          )
+      | in_default w ↦ (
+          let r = passed_front c.in_ok-lookahead.lookahead e c.fronts.self c.pass_front.new.self s i c.fronts.input c.pass_front.new.input t h.passes h.ready c.in_ok-lookahead.ensures w.self-is w.input-is in
+          record { passes = r.0; lookahead = ahead_is c.in_ok-lookahead.lookahead c.match-lookahead.lookahead c.pass_front.new.self s c.pass_front.new.input t w.lookahead-is w.self-is w.input-is c.in_ok-lookahead.ensures.ahead }
+          )
+    ]

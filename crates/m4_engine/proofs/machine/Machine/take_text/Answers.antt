@@ -7,7 +7,7 @@ use Rattle.m4_engine.proofs.machine.Machine.take_text.Goals as goal
 pub returns : goal.returns
 returns c = record {
   moves = λ k x d h. text_goes c.args.input.now.pending.may_follow c.args.self.now c.begin_argument.new.self k x c.args.text c.args.input.now.pending c.push_text.new.input.pending d h (search rules)
-      (subst (λ (y : List ℕ). Pushes c.args.input.now.pending c.push_text.new.input.pending (Some (pushes.Text y))) c.as_slice.ensures.value c.in_ok-push_text.ensures.pushes);
+      (c.in_ok-push_text.ensures.pushes);
   ready = search rules;
   limits = search rules;
   made = search rules;

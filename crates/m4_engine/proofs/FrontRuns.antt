@@ -1,0 +1,170 @@
+-- FrontRuns: tokens that are found in the bytes at the front are found in all bytes in hand.
+use Rattle.std.proofs.Common.{◌≡◌, ⊎_elim, inl, inr, ℕ, ◌+◌, ◌-◌, ◌≤◌, Bool, true, false, List, [], ◌∷◌, ◌++◌, None, append-nil, refl, sym, ap, ◌∙◌, subst, take, drop, length, length-append, arith}
+use Rattle.std.proofs.lemmas.List.{take-append-le, drop-append-le, length-drop}
+use Rattle.m4_state.specs.State.{State, top_of}
+use Rattle.m4_state.specs.declared.delimiters.Delimiters.{Delimiters}
+use Rattle.m4_input.specs.declared.token.Token.{Token}
+use Rattle.m4_input.specs.declared.token.Token.TheVariants.{Name, Str, Comment, Byte}
+use Rattle.m4_input.specs.declared.front.Scan.{Scan}
+use Rattle.m4_input.specs.declared.front.Scan.TheVariants.{Found, NeedsMore}
+use Rattle.m4_input.specs.declared.front.Answer.TheVariants.{Unknown}
+use Rattle.m4_input.specs.Token.{scan}
+use Rattle.m4_input.specs.Paren.{paren_in}
+use Rattle.m4_input.specs.Input.{answer_of}
+use Rattle.m4_input.proofs.OpenEnd.{scan_stays, scan_fits, paren_in_stays}
+use Rattle.m4_engine.specs.Expansion.{Call}
+use Rattle.m4_engine.specs.Plain.{IsPlain, ArePlain, total, IsPlainRun}
+use Rattle.m4_engine.specs.Lookahead.{IsMeaning, IsNamed, IsAhead, IsLookaheadOf, place_in}
+use Rattle.m4_engine.specs.declared.lookahead.Lookahead.{Lookahead}
+use Rattle.m4_engine.specs.declared.lookahead.Lookahead.TheVariants as aheads
+use Rattle.m4_builtins.specs.declared.place.Place.{Place}
+use Rattle.m4_input.proofs.Parts.{drop_parts}
+use Rattle.std.specs.Prelude.{◌&&◌, not, ◌<◌}
+use Rattle.m4_engine.specs.Collected.{IsText, IsListToken, AreListTokens, IsListRun}
+use Rattle.std.proofs.lemmas.List.{take-append-drop}
+use Rattle.m4_input.specs.Pending.{Pending, text_of, consumed}
+use Rattle.m4_input.specs.Blocks.{IsInFront}
+use Rattle.m4_engine.specs.Engine.{MayFollow}
+
+-- a token that is decided, with more bytes after it
+found_on : (q c : Delimiters) (more : Bool) (x z : List ℕ) (t : Token) (n : ℕ) → scan q c true x ≡ Found t n → scan q c more (x ++ z) ≡ Found t n
+found_on q c more x z t n e =
+    ⊎_elim (λ (h : scan q c true x ≡ NeedsMore). absurd (no (sym e ∙ h))) (λ h. h ∙ e) (scan_stays q c more x z)
+  where
+    no : Found t n ≡ NeedsMore → ⊥
+    no h = cc
+
+paren_on : (q c : Delimiters) (more : Bool) (x z : List ℕ) (l : Bool) → paren_in q c true x ≡ answer_of l → paren_in q c more (x ++ z) ≡ answer_of l
+paren_on q c more x z l e =
+    ⊎_elim (λ (h : paren_in q c true x ≡ Unknown). known l (sym e ∙ h)) (λ h. h ∙ e) (paren_in_stays q c more x z)
+  where
+    known : (l : Bool) → answer_of l ≡ Unknown → paren_in q c more (x ++ z) ≡ answer_of l
+    known true h = cc
+    known false h = cc
+
+-- nothing is after it
+closed_on : (P : Bool → List ℕ → Type 0) (x z : List ℕ) (more : Bool) → MayFollow false z more → P false x → P more (x ++ z)
+closed_on P x z more f h =
+    subst (λ b. P b (x ++ z)) (sym f.1) (subst (λ (y : List ℕ). P false (x ++ y)) (sym f.0) (subst (P false) (sym (append-nil x)) h))
+
+plain_fits : (s : State) (n : ℕ) (x : List ℕ) → IsPlain s true n x → n ≤ length x
+plain_fits s n x (inl g) = scan_fits s.quotes s.comments x (Name (take n x)) n g.0
+plain_fits s n x (inr (inl g)) = scan_fits s.quotes s.comments x (Byte g.0) n g.1
+plain_fits s n x (inr (inr g)) = scan_fits s.quotes s.comments x (Comment (take n x)) n g
+
+one_plain_on : (s : State) (more : Bool) (n : ℕ) (x z : List ℕ) → IsPlain s true n x → IsPlain s more n (x ++ z)
+one_plain_on s more n x z (inl g) =
+    let same : take n (x ++ z) ≡ take n x = take-append-le n x z (scan_fits s.quotes s.comments x (Name (take n x)) n g.0) in
+    inl (found_on s.quotes s.comments more x z (Name (take n x)) n g.0 ∙ ap (λ (y : List ℕ). Found (Name y) n) (sym same), ap (top_of s) same ∙ g.1)
+one_plain_on s more n x z (inr (inl g)) =
+    inr (inl (g.0, found_on s.quotes s.comments more x z (Byte g.0) n g.1, take-append-le n x z (scan_fits s.quotes s.comments x (Byte g.0) n g.1) ∙ g.2))
+one_plain_on s more n x z (inr (inr g)) =
+    let same : take n (x ++ z) ≡ take n x = take-append-le n x z (scan_fits s.quotes s.comments x (Comment (take n x)) n g) in
+    inr (inr (found_on s.quotes s.comments more x z (Comment (take n x)) n g ∙ ap (λ (y : List ℕ). Found (Comment y) n) (sym same)))
+
+are_plain_on : (s : State) (more : Bool) (lens : List ℕ) (x z : List ℕ) → ArePlain s true lens x → ArePlain s more lens (x ++ z)
+are_plain_on s more [] x z h = tt
+are_plain_on s more (n ∷ lens) x z h =
+    (one_plain_on s more n x z h.0, subst (ArePlain s more lens) (sym (drop-append-le n x z (plain_fits s n x h.0))) (are_plain_on s more lens (drop n x) z h.1))
+
+pub plain_run_on : (s : State) (m more : Bool) (n : ℕ) (x z : List ℕ) → MayFollow m z more → IsPlainRun s m n x → IsPlainRun s more n (x ++ z)
+plain_run_on s true more n x z f h = (h.0, are_plain_on s more h.0 x z h.1, h.2)
+plain_run_on s false more n x z f h = closed_on (λ b (y : List ℕ). IsPlainRun s b n y) x z more f h
+
+text_fits : (s : State) (n : ℕ) (t x : List ℕ) → IsText s true n t x → n ≤ length x
+text_fits s n t x (inl g) = scan_fits s.quotes s.comments x (Str t) n g
+text_fits s n t x (inr g) = scan_fits s.quotes s.comments x (Name t) n g.0
+
+text_on : (s : State) (more : Bool) (n : ℕ) (t x z : List ℕ) → IsText s true n t x → IsText s more n t (x ++ z)
+text_on s more n t x z (inl g) = inl (found_on s.quotes s.comments more x z (Str t) n g)
+text_on s more n t x z (inr g) = inr (found_on s.quotes s.comments more x z (Name t) n g.0, g.1)
+
+token_fits : (s : State) (n : ℕ) (c d : Call) (x : List ℕ) → IsListToken s true n c d x → n ≤ length x
+token_fits s n c d x (inl g) = text_fits s n g.0 x g.1
+token_fits s n c d x (inr g) = scan_fits s.quotes s.comments x (Byte g.0) n g.1
+
+token_on : (s : State) (more : Bool) (n : ℕ) (c d : Call) (x z : List ℕ) → IsListToken s true n c d x → IsListToken s more n c d (x ++ z)
+token_on s more n c d x z (inl g) = inl (g.0, text_on s more n g.0 x z g.1, g.2)
+token_on s more n c d x z (inr g) = inr (g.0, found_on s.quotes s.comments more x z (Byte g.0) n g.1, g.2)
+
+tokens_on : (s : State) (more : Bool) (ts : List (ℕ × Call)) (c d : Call) (x z : List ℕ) → AreListTokens s true ts c d x → AreListTokens s more ts c d (x ++ z)
+tokens_on s more [] c d x z h = h
+tokens_on s more (t ∷ ts) c d x z h =
+    (token_on s more t.0 c t.1 x z h.0, subst (AreListTokens s more ts t.1 d) (sym (drop-append-le t.0 x z (token_fits s t.0 c t.1 x h.0))) (tokens_on s more ts t.1 d (drop t.0 x) z h.1))
+
+pub list_run_on : (s : State) (m more : Bool) (n : ℕ) (c d : Call) (x z : List ℕ) → MayFollow m z more → IsListRun s m n c d x → IsListRun s more n c d (x ++ z)
+list_run_on s true more n c d x z f h = (h.0, tokens_on s more h.0 c d x z h.1, h.2)
+list_run_on s false more n c d x z f h = closed_on (λ b (y : List ℕ). IsListRun s b n c d y) x z more f h
+
+ahead_decided_on : (s : State) (room more : Bool) (a : Lookahead) (x z : List ℕ) (at : Place) → IsAhead a s room true x at → IsAhead a s room more (x ++ z) at
+ahead_decided_on s room more aheads.Unknown x z at h = tt
+ahead_decided_on s room more aheads.Passed x z at h = tt
+ahead_decided_on s room more aheads.Open x z at h = tt
+ahead_decided_on s room more (aheads.Byte b) x z at h =
+    (found_on s.quotes s.comments more x z (Byte b) 1 h.0, let all : length (x ++ z) ≡ length x + length z = length-append x z in omega (arith, all, h.1))
+ahead_decided_on s room more (aheads.Named n) x z at h =
+    let same : take n.len (x ++ z) ≡ take n.len x = take-append-le n.len x z h.within in
+    let all : length (x ++ z) ≡ length x + length z = length-append x z in
+    record {
+      scanned = found_on s.quotes s.comments more x z (Name (take n.len x)) n.len h.scanned ∙ ap (λ (y : List ℕ). Found (Name y) n.len) (sym same);
+      within = omega (arith, all, h.within);
+      list = ap (paren_in s.quotes s.comments more) (drop-append-le n.len x z h.within) ∙ paren_on s.quotes s.comments more (drop n.len x) z n.listed h.list;
+      meaning = subst (λ (y : List ℕ). IsMeaning n.meaning (not n.listed && room) s y at) (sym same) h.meaning;
+    }
+
+ahead_on : (s : State) (room m more : Bool) (a : Lookahead) (x z : List ℕ) (at : Place) → MayFollow m z more → IsAhead a s room m x at → IsAhead a s room more (x ++ z) at
+ahead_on s room true more a x z at f h = ahead_decided_on s room more a x z at h
+ahead_on s room false more a x z at f h = closed_on (λ b (y : List ℕ). IsAhead a s room b y at) x z more f h
+
+-- the bytes after those at the front
+pub record After (p : Pending) (x : List ℕ) (m : Bool) : Type 0 where
+  pub rest : List ℕ
+  pub all : text_of p ≡ x ++ rest
+  pub follows : MayFollow m rest p.may_follow
+
+pub after : (p : Pending) (x : List ℕ) (m : Bool) → IsInFront p x m → After p x m
+after p x true h = record {
+  rest = drop (length x) (text_of p);
+  all = sym (take-append-drop (length x) (text_of p)) ∙ ap (λ (y : List ℕ). y ++ drop (length x) (text_of p)) (sym h);
+  follows = tt;
+}
+after p x false h = record { rest = []; all = h.0 ∙ sym (append-nil x); follows = (refl, h.1) }
+
+pub plain_front : (s : State) (p : Pending) (m : Bool) (n : ℕ) (x : List ℕ) → IsInFront p x m → IsPlainRun s m n x → IsPlainRun s p.may_follow n (text_of p)
+plain_front s p m n x h r =
+    let a = after p x m h in
+    subst (λ (y : List ℕ). IsPlainRun s p.may_follow n y) (sym a.all) (plain_run_on s m p.may_follow n x a.rest a.follows r)
+
+pub list_front : (s : State) (p : Pending) (m : Bool) (n : ℕ) (c d : Call) (x : List ℕ) → IsInFront p x m → IsListRun s m n c d x → IsListRun s p.may_follow n c d (text_of p)
+list_front s p m n c d x h r =
+    let a = after p x m h in
+    subst (λ (y : List ℕ). IsListRun s p.may_follow n c d y) (sym a.all) (list_run_on s m p.may_follow n c d x a.rest a.follows r)
+
+-- what was seen after n bytes is seen at the front once these were consumed
+ahead_there : (a : Lookahead) (s : State) (room : Bool) (p : Pending) (at : Place) → p.definition ≡ None → at ≡ place_in p → IsAhead a s room p.may_follow (text_of p) at → IsLookaheadOf a s room p
+ahead_there aheads.Unknown s room p at f e h = tt
+ahead_there aheads.Passed s room p at f e h = tt
+ahead_there aheads.Open s room p at f e h = tt
+ahead_there (aheads.Byte b) s room p at f e h = (f, h)
+ahead_there (aheads.Named n) s room p at f e h = (f, subst (λ (v : Place). IsAhead (aheads.Named n) s room p.may_follow (text_of p) v) e h)
+
+pub ahead_front : (a : Lookahead) (s : State) (room : Bool) (p : Pending) (m : Bool) (n : ℕ) (x : List ℕ) → IsInFront p x m → n ≤ length x → IsAhead a s room m (drop n x) (place_in (consumed n p)) → IsLookaheadOf a s room (consumed n p)
+ahead_front a s room p m n x h k g =
+    let r = after p x m h in
+    let rest : text_of (consumed n p) ≡ drop n x ++ r.rest = sym (drop_parts n p.pushed p.unread) ∙ ap (drop n) r.all ∙ drop-append-le n x r.rest k in
+    ahead_there a s room (consumed n p) (place_in (consumed n p)) refl refl
+    (subst (λ (y : List ℕ). IsAhead a s room p.may_follow y (place_in (consumed n p))) (sym rest) (ahead_on s room m p.may_follow a (drop n x) r.rest (place_in (consumed n p)) r.follows g))
+
+-- what is left is less, if some bytes were passed
+pub front_falls : (p : Pending) (m : Bool) (n : ℕ) (x : List ℕ) → IsInFront p x m → 0 < length x → n ≤ length x → drop n x ≡ [] → length (text_of (consumed n p)) < length (text_of p)
+front_falls p m n x h some k e =
+    let r = after p x m h in
+    let rest : length (text_of (consumed n p)) ≡ length (text_of p) - n = ap length (sym (drop_parts n p.pushed p.unread)) ∙ length-drop n (text_of p) in
+    let all : length (text_of p) ≡ length x + length r.rest = ap length r.all ∙ length-append x r.rest in
+    let none : length x - n ≡ 0 = sym (length-drop n x) ∙ ap length e in
+    omega (arith, rest, all, none)
+
+pub take_in_front : (p : Pending) (m : Bool) (n : ℕ) (x : List ℕ) → IsInFront p x m → n ≤ length x → take n (text_of p) ≡ take n x
+take_in_front p m n x h k =
+    let a = after p x m h in
+    ap (take n) a.all ∙ take-append-le n x a.rest k

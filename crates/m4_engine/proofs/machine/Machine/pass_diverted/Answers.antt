@@ -1,0 +1,29 @@
+use Rattle.std.proofs.Common.{◌≡◌, Bool, List, ℕ, ◌∷◌, inr, Option, take, drop, length, refl, sym, ap, ◌∙◌, subst, rules}
+use Rattle.std.specs.Prelude.{reverse}
+use Rattle.m4_state.specs.State.{State, appended}
+use Rattle.m4_engine.specs.Expansion.{Call}
+use Rattle.m4_engine.specs.Engine.{Engine, PassesBy}
+use Rattle.m4_engine.specs.Plain.{IsFirst}
+use Rattle.m4_engine.specs.MachineView.{innermost_first, engine_view}
+use Rattle.m4_engine.proofs.Seen.{ahead_by}
+use Rattle.m4_engine.proofs.Passing.{text_output, text_diverted}
+use Rattle.m4_engine.proofs.machine.Machine.pass_diverted.Goals as goal
+
+pub returns : goal.returns
+returns c =
+    let old : Engine = engine_view c.self.inside in
+    let new : Engine = record old { state = c.append.new.self } in
+    let n = c.plain_run-len.result.0 in
+    let x = c.args.text.now in
+    let a = c.in_ok-lookahead.lookahead in
+    let put : c.append.new.self ≡ appended old.state (take n x) = c.in_ok-append.ensures.ok ∙ ap (λ (y : List ℕ). appended old.state y) c.split_at.ensures.front in
+    subst (λ (e : Engine). PassesBy n a x c.args.others c.args.more e new) c.self.view_is (record {
+      passes = text_diverted old new c.args.more n x c.plain_run-len.ensures.plain (search rules) (search rules) (ap (λ (s : State). let e : Engine = record old { state = s } in e) put);
+      within = c.plain_run-len.ensures.within;
+      ahead = ahead_by a new new c.allows_call-room.result c.args.more (drop n x) c.split_at.result.1.now c.first_plain-first.result (search rules) refl refl refl c.split_at.ensures.back
+          (subst (λ (y : List ℕ). IsFirst new.state c.args.more y c.first_plain-first.result) c.split_at.ensures.back c.first_plain-first.ensures.first) c.in_ok-lookahead.ensures.ahead;
+      passed = λ h. let g = c.in_ok-lookahead.ensures.passed h in (g.0, sym c.split_at.ensures.back ∙ g.1);
+    })
+
+pub of-requires-2-clause-first : goal.of-requires-2-clause-first
+of-requires-2-clause-first c = (c.args.more, c.first_plain-first.ensures.first)

@@ -1,0 +1,203 @@
+//! The bytes of one file that are in hand, of which a beginning was read.
+//!
+//! A block of the file is appended. If the buffer is full, and more bytes were read than are left, the bytes that are left
+//! are moved to its front. So reading a file and moving its bytes takes time in proportion to the file.
+
+ghost use Rattle.std.specs.Prelude.{◌≡◌, ◌+◌, ◌<◌, ◌≤◌, ◌++◌, [], OnOk, OnErr, IfOk, Ok, true, false, length, take, drop, vec_len, vec_capacity, ◌-◌};
+ghost use Rattle.m4_input.specs.Input.{block};
+ghost use Rattle.m4_input.specs.Pending.{counted, newlines_in};
+
+use crate::fault::InputFault;
+use m4_state::device::{ByteSource, DeviceFault};
+use std::alloc::AllocError;
+use std::marker::Model;
+
+/// How many bytes a reader is asked for at a time.
+const BLOCK: usize = 4096;
+
+/// Bytes of a file, how many of them were read, and how many newlines of the file were.
+#[derive(Drop)]
+pub struct File {
+    bytes: Vec<u8>,
+    at: usize,
+    newlines: usize,
+}
+
+impl Model for File {
+    ghost use Rattle.std.specs.Prelude.{◌≤◌, length};
+    ghost use Rattle.m4_input.specs.Text.{HeldText};
+    ghost use Rattle.m4_input.specs.FileView.{file_view};
+
+    ghost Value = { HeldText };
+
+    ghost view = { file_view };
+
+    ghost invariant = { λ f. f.at ≤ length f.bytes.items };
+}
+
+/// Counts the newlines. Most tokens of a file are one byte.
+#[inline(always)]
+fn count_newlines(bytes: &[u8]) -> usize
+    ensures { result ≡ newlines_in bytes.now }
+{
+    match bytes {
+        [byte] => usize::from(*byte == b'\n'),
+        _ => count_each_newline(bytes),
+    }
+}
+
+/// How many bytes are counted at a time. Their count fits into a byte, so one instruction counts many of them.
+const FEW: usize = 255;
+
+/// The same for any number of bytes. Not inlined, so that the loop has the registers for itself.
+#[inline(never)]
+fn count_each_newline(bytes: &[u8]) -> usize
+    ensures { result ≡ newlines_in bytes.now }
+{
+    let mut count = 0usize;
+    let mut rest = bytes;
+    while rest.len() > FEW {
+        let (few, others) = rest.split_at(FEW);
+        count += usize::from(count_few(few));
+        rest = others;
+    }
+    count + usize::from(count_few(rest))
+}
+
+/// The same for so few bytes that a byte can count them.
+#[inline(always)]
+fn count_few(bytes: &[u8]) -> u8
+    requires { length bytes.now ≤ 255 }
+    ensures { result ≡ newlines_in bytes.now }
+{
+    let mut count = 0u8;
+    for byte in bytes {
+        count += u8::from(*byte == b'\n');
+    }
+    count
+}
+
+/// Moves the bytes from a position on to the front.
+fn move_to_front(bytes: &mut Vec<u8>, at: usize)
+    requires within { at ≤ vec_len bytes.old }
+    requires fits { vec_len bytes.old - at ≤ at }
+    ensures same { bytes.new.items ≡ drop at bytes.old.items }
+    ensures len { vec_len bytes.new ≡ vec_len bytes.old - at }
+    ensures capacity { vec_capacity bytes.new ≡ vec_capacity bytes.old }
+{
+    let (front, rest) = bytes.split_at_mut(at);
+    let len = rest.len();
+    front[..len].copy_from_slice(rest);
+    bytes.truncate(len);
+}
+
+/// Appends bytes for which there is room.
+fn append(bytes: &mut Vec<u8>, more: &[u8])
+    requires { vec_len bytes.old + length more.now ≤ vec_capacity bytes.old }
+    ensures { bytes.new.items ≡ bytes.old.items ++ more.now }
+{
+    match bytes.extend_from_slice(more) {
+        Ok(()) => {}
+        Err(AllocError) => unreachable!(),
+    }
+}
+
+/// Makes room for a block at the end. Returns where the bytes from a position on are then.
+fn make_room(bytes: &mut Vec<u8>, at: usize) -> Result<usize, AllocError>
+    requires { at ≤ vec_len bytes.old }
+    ensures within { IfOk result (λ n. n ≤ vec_len bytes.new) }
+    ensures same { IfOk result (λ n. drop n bytes.new.items ≡ drop at bytes.old.items) }
+    ensures room { OnOk result (vec_len bytes.new + block ≤ vec_capacity bytes.new) }
+    ensures err { OnErr result (bytes.new.items ≡ bytes.old.items) }
+{
+    let len = bytes.len();
+    let is_full = bytes.capacity() < len.saturating_add(BLOCK);
+    if is_full && at >= (len - at).saturating_add(BLOCK) {
+        move_to_front(bytes, at);
+        return Ok(0);
+    }
+    bytes.reserve(BLOCK)?;
+    Ok(at)
+}
+
+impl File {
+    ghost use Rattle.m4_input.specs.Text.{TakesBlock, failures_by};
+
+    /// Creates a file with bytes in hand, none of which was read.
+    pub fn of(bytes: Vec<u8>) -> File
+        ensures { result ≡ record { pushed = []; unread = bytes.items; newlines = 0 } }
+    {
+        File {
+            bytes,
+            at: 0,
+            newlines: 0,
+        }
+    }
+
+    /// Asks a reader once: a block of its bytes is appended to the unread ones, or it is at its end. Returns
+    /// whether bytes came. If the reader or an allocation fails, nothing changes.
+    pub fn take_block<R: ByteSource>(&mut self, reader: &mut R) -> Result<bool, InputFault>
+        ensures gives { TakesBlock (R.script reader.old) (R.script reader.new) self.old self.new result }
+        ensures falls { result ≡ Ok true → R.takes_left reader.new < R.takes_left reader.old }
+        ensures counted { R.failures reader.new ≡ failures_by result (R.failures reader.old) }
+    {
+        match make_room(&mut self.bytes, self.at) {
+            Ok(at) => self.at = at,
+            Err(AllocError) => return Err(InputFault::OutOfMemory),
+        }
+        let mut block = [0u8; BLOCK];
+        match reader.take(&mut block) {
+            Ok(n) => {
+                append(&mut self.bytes, &block[..n]);
+                Ok(n > 0)
+            }
+            Err(DeviceFault) => Err(InputFault::Read),
+        }
+    }
+
+    /// Returns how many newlines were read.
+    pub fn newlines(&self) -> usize
+        ensures { result ≡ self.now.newlines }
+    {
+        self.newlines
+    }
+
+    /// Returns whether no byte is unread.
+    #[inline(always)]
+    pub fn is_empty(&self) -> bool
+        ensures some { result ≡ false → 0 < length self.now.unread }
+        ensures none { result ≡ true → self.now.unread ≡ [] }
+    {
+        self.at == self.bytes.len()
+    }
+
+    /// Returns the unread bytes.
+    #[inline(always)]
+    pub fn rest(&self) -> &[u8]
+        ensures { result.now ≡ self.now.unread }
+    {
+        self.bytes.split_at(self.at).1
+    }
+
+    /// Discards the first n bytes.
+    #[inline(always)]
+    pub fn consume(&mut self, n: usize)
+        requires { n ≤ length self.old.unread }
+        ensures unread { self.new.unread ≡ drop n self.old.unread }
+        ensures newlines { self.new.newlines ≡ counted self.old.newlines (newlines_in (take n self.old.unread)) }
+    {
+        let passed = self.rest().split_at(n).0;
+        self.newlines = self.newlines.saturating_add(count_newlines(passed));
+        self.at += n;
+    }
+
+    /// Discards the first n bytes, none of which is a newline, so that none of them is looked at.
+    #[inline(always)]
+    pub fn pass(&mut self, n: usize)
+        requires { n ≤ length self.old.unread }
+        ensures unread { self.new.unread ≡ drop n self.old.unread }
+        ensures newlines { self.new.newlines ≡ self.old.newlines }
+    {
+        self.at += n;
+    }
+}
