@@ -3,9 +3,21 @@
 PREFIX = /usr/local
 DESTDIR =
 
-SOURCES := crates.txt $(shell find crates -name out -prune -o -type f -print)
+# What is compiled and proved, and what the program's stored run reads. A page that changes proves nothing again.
+SOURCES := crates.txt $(shell find crates -name out -prune -o -type f ! -name '*.md' ! -path '*/must-fail/*' -print)
 
-.PHONY: check demo program cases programs differences expressions chance install uninstall bench real-files mutants hostile refused-memory torn wrong-bodies
+.PHONY: help clean check demo test-program cases programs differences expressions chance install uninstall bench real-files mutants hostile refused-memory torn wrong-bodies
+
+# The program is the first target, so that `make` alone builds it.
+.DEFAULT_GOAL := m4r
+
+# What can be made, from the comments above the targets.
+help:
+	@awk '/^# /{said = said substr($$0, 2); next} /^[a-z][a-z0-9-]*:/{sub(":.*", ""); printf "%-16s%s\n", $$0, said} {said = ""}' Makefile
+
+# Removes what was built here: the program, and what the toolchain keeps of each crate.
+clean:
+	rm -rf m4r crates/*/out
 
 # The program: proved, then built. A crate that is not proved is not built.
 m4r: $(SOURCES)
@@ -22,8 +34,8 @@ demo: m4r
 	tests/demo
 
 # Runs over files, standard input and full devices, beside GNU m4 where it is installed.
-program: m4r
-	tests/program
+test-program: m4r
+	tests/command_line
 
 # Small macro programs with what is expected of each, beside GNU m4 where it is installed.
 cases: m4r
