@@ -1,7 +1,6 @@
 -- The bytes of a byte string, wherever they are.
 -- Not believed: it only views the code's storage as one list.
-use Rattle.std.specs.Prelude.{ℕ, ◌-◌, List, take, drop}
-use Rattle.std.specs.Rc.{rc_slice_items}
+use Rattle.std.specs.Prelude.{ℕ, List}
 use Rattle.m4_state.specs.declared.bytes.Kept.{Kept}
 use Rattle.m4_state.specs.declared.bytes.Kept.TheVariants.{Short, Own, Shared}
 

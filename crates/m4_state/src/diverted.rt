@@ -1,6 +1,6 @@
 //! Texts by their numbers, as diversions store them.
 
-ghost use Rattle.std.specs.Prelude.{◌≡◌, ◌≢◌, ◌<◌, ◌++◌, ◌^◌, [], length, false, IsTrue, IfOk, OnOk, OnErr, option_map};
+ghost use Rattle.std.specs.Prelude.{◌≡◌, ◌≢◌, ◌<◌, ◌++◌, ◌^◌, [], length, false, None, IsTrue, IfOk, OnOk, OnErr, option_map};
 ghost use Rattle.std.specs.Ordering.{int_cmp, int_eq};
 ghost use Rattle.std.specs.FinMap.{find, put, is_sorted};
 ghost use Rattle.m4_state.specs.State.{text_at, without_text};
@@ -69,9 +69,76 @@ pub fn take_in(texts: &mut BTreeMap<i32, Vec<u8>>, number: i32) -> Option<Vec<u8
     texts.remove(&number)
 }
 
+/// Moves the text of one number to the end of another's. If an allocation fails nothing changes.
+pub fn move_in(
+    alloc: Global,
+    texts: &mut BTreeMap<i32, Vec<u8>>,
+    from: i32,
+    to: i32,
+) -> Result<(), AllocError>
+    requires sorted { IsTrue (is_sorted int_cmp (texts_of texts.old.entries)) }
+    requires apart { int_eq from to ≡ false }
+    requires some { text_at (texts_of texts.old.entries) from ≢ [] }
+    ensures ok { OnOk result (texts_of texts.new.entries
+        ≡ put int_cmp to (text_at (texts_of texts.old.entries) to ++ text_at (texts_of texts.old.entries) from)
+        (without_text (texts_of texts.old.entries) from)) }
+    ensures err { OnErr result (texts_of texts.new.entries ≡ texts_of texts.old.entries) }
+    ensures sized { OnOk result (length (text_at (texts_of texts.old.entries) to
+        ++ text_at (texts_of texts.old.entries) from) < 2 ^ 64) }
+{
+    if texts.contains_key(&to) {
+        join_in(alloc, texts, from, to)
+    } else {
+        place_in(alloc, texts, from, to)
+    }
+}
+
+/// Appends the text of one number to that of another. Room for it is allocated first, so if that fails nothing changes.
+fn join_in(
+    alloc: Global,
+    texts: &mut BTreeMap<i32, Vec<u8>>,
+    from: i32,
+    to: i32,
+) -> Result<(), AllocError>
+    requires sorted { IsTrue (is_sorted int_cmp (texts_of texts.old.entries)) }
+    requires apart { int_eq from to ≡ false }
+    requires some { text_at (texts_of texts.old.entries) from ≢ [] }
+    ensures ok { OnOk result (texts_of texts.new.entries
+        ≡ put int_cmp to (text_at (texts_of texts.old.entries) to ++ text_at (texts_of texts.old.entries) from)
+        (without_text (texts_of texts.old.entries) from)) }
+    ensures err { OnErr result (texts_of texts.new.entries ≡ texts_of texts.old.entries) }
+    ensures sized { OnOk result (length (text_at (texts_of texts.old.entries) to
+        ++ text_at (texts_of texts.old.entries) from) < 2 ^ 64) }
+{
+    let mut text = Vec::new(alloc);
+    swap_in(texts, from, &mut text);
+    match append_in(alloc, texts, to, &text) {
+        Ok(()) => {
+            let _empty = take_in(texts, from);
+            Ok(())
+        }
+        Err(AllocError) => {
+            swap_in(texts, from, &mut text);
+            Err(AllocError)
+        }
+    }
+}
+
+/// Swaps the text of a number that has an entry with another one.
+fn swap_in(texts: &mut BTreeMap<i32, Vec<u8>>, number: i32, text: &mut Vec<u8>)
+    requires sorted { IsTrue (is_sorted int_cmp (texts_of texts.old.entries)) }
+    requires there { find int_cmp number (texts_of texts.old.entries) ≢ None }
+    ensures text { text.new.items ≡ text_at (texts_of texts.old.entries) number }
+    ensures texts { texts_of texts.new.entries ≡ put int_cmp number text.old.items (texts_of texts.old.entries) }
+{
+    if let Some(held) = texts.get_mut(&number) {
+        std::mem::swap(held, text);
+    }
+}
+
 /// Moves the text of one number to another that has none, with no copy. Its place is allocated first, so if that fails
 /// nothing changes.
-pub fn move_in(
+fn place_in(
     alloc: Global,
     texts: &mut BTreeMap<i32, Vec<u8>>,
     from: i32,

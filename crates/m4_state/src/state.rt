@@ -292,14 +292,7 @@ impl State {
             return Ok(None);
         }
         if self.current > 0 {
-            if self.would_be_alone(number) {
-                self.diversions.move_text(number, self.current)?;
-                return Ok(None);
-            }
-            // Allocations come first.
-            let text = Vec::from_slice(self.alloc, self.diversion(number))?;
-            self.diversions.append(self.current, text.as_slice())?;
-            let _taken = self.diversions.take(number);
+            self.diversions.move_text(number, self.current)?;
             return Ok(None);
         }
         let taken = self.diversions.take(number);
@@ -307,14 +300,6 @@ impl State {
             return Ok(None);
         }
         Ok(taken)
-    }
-
-    /// Returns whether there is text of that number, and none of the current one: then it can be moved as it is.
-    fn would_be_alone(&self, number: i32) -> bool
-        ensures some { result ≡ true → diversion_of self.now number ≢ [] }
-        ensures alone { result ≡ true → diversion_of self.now self.now.current ≡ [] }
-    {
-        !self.diversion(number).is_empty() && self.diversion(self.current).is_empty()
     }
 
     /// Returns the text of a diversion; empty if it has none.

@@ -1,12 +1,11 @@
-use Rattle.std.proofs.Common.{◌≡◌, ◌≢◌, ℕ, List, [], None, true, false, sym, ap, subst, ◌∙◌, to_z, of_z, rules}
+use Rattle.std.proofs.Common.{◌≡◌, List, None, true, false, sym, ap, subst, ◌∙◌, to_z, of_z}
 use Rattle.std.specs.Prelude.{pos, int_lt}
 use Rattle.std.specs.Int.{w32}
 use Rattle.std.specs.Ordering.{int_eq}
 use Rattle.std.proofs.lemmas.Int.{to_z-of_z}
-use Rattle.m4_state.specs.State.{State, Diversion, with_text, without_text, unless_empty, diversion_of, issued_from, undiverted}
+use Rattle.m4_state.specs.State.{State, Diversion, unless_empty, issued_from, undiverted}
 use Rattle.m4_state.specs.StateView.{view_of}
 use Rattle.m4_state.proofs.Undiverted.{issued_from-current, issued_from-zero, is_zero, undiverted-positive, differs}
-use Rattle.m4_state.proofs.MovedText.{undiverted-alone}
 use Rattle.m4_state.proofs.state.State.undivert.Goals as goal
 
 -- the current diversion issues nothing
@@ -17,39 +16,16 @@ returns-then-number-self-clause-issued c =
     let same : n ≡ current = sym (to_z-of_z w32 n c.ranges.number) ∙ ap (to_z w32) c.if-number-self.true ∙ to_z-of_z w32 current c.self.invariant.0.current in
     subst (λ (s : State). None ≡ unless_empty (issued_from s n)) c.self.view_is (issued_from-current (view_of c.self.inside) n c.self.invariant.0 same)
 
--- what was appended leaves its diversion
+-- where it is positive, the text is moved
 pub returns-then-self-gt0-clause-ok : goal.returns-then-self-gt0-clause-ok
 returns-then-self-gt0-clause-ok c =
     let n = c.args.number in
     let s : State = view_of c.self.inside in
     let positive : int_lt (pos 0) s.current ≡ true = rw (to_z-of_z w32 s.current c.self.invariant.0.current) at c.if-self-gt0.true in
     let apart : int_eq n s.current ≡ false = differs n s.current (λ same. c.if-number-self.false (ap (of_z w32) same)) in
-    let appended_text : c.append.new.self ≡ with_text s.diversions s.current c.as_slice.result.now = search rules in
-    let same_text : c.as_slice.result.now ≡ c.diversion.result.now = search rules in
-    let rest = rw (to_z-of_z w32 n c.ranges.number) at c.take-taken.ensures.rest in
-    let found = rw (to_z-of_z w32 n c.ranges.number) at c.diversion.ensures in
-    let text : c.diversion.result.now ≡ diversion_of s n = found ∙ ap (λ (t : State). diversion_of t n) (sym c.self.view_is) in
-    let left : c.take-taken.new.self ≡ without_text (with_text s.diversions s.current c.diversion.result.now) n =
-    rest ∙ ap (λ (ds : List Diversion). without_text ds n) (appended_text ∙ ap (λ (x : List ℕ). with_text s.diversions s.current x) same_text) in
-    ap (λ (ds : List Diversion). let t : State = record s { diversions = ds } in t)
-    (left ∙ ap (λ (x : List ℕ). without_text (with_text s.diversions s.current x) n) text)
-    ∙ undiverted-positive s n c.self.invariant.0 apart positive
-    ∙ ap (λ (t : State). undiverted t n) c.self.view_is
-
--- a text that is alone is moved
-pub returns-then-would_be_alone-clause-ok : goal.returns-then-would_be_alone-clause-ok
-returns-then-would_be_alone-clause-ok c =
-    let n = c.args.number in
-    let s : State = view_of c.self.inside in
-    let positive : int_lt (pos 0) s.current ≡ true = rw (to_z-of_z w32 s.current c.self.invariant.0.current) at c.if-self-gt0.true in
-    let apart : int_eq n s.current ≡ false = differs n s.current (λ same. c.if-number-self.false (ap (of_z w32) same)) in
-    let there = rw (to_z-of_z w32 n c.ranges.number) at (c.would_be_alone.ensures.some c.if-would_be_alone.true) in
-    let some : diversion_of s n ≢ [] = λ none. there (ap (λ (t : State). diversion_of t n) (sym c.self.view_is) ∙ none) in
-    let alone : diversion_of s s.current ≡ [] =
-    ap (λ (t : State). diversion_of t t.current) c.self.view_is ∙ c.would_be_alone.ensures.alone c.if-would_be_alone.true in
     let moved = rw (to_z-of_z w32 n c.ranges.number) at (rw (to_z-of_z w32 s.current c.self.invariant.0.current) at c.in_ok-move_text.ensures.ok) in
     ap (λ (ds : List Diversion). let t : State = record s { diversions = ds } in t) moved
-    ∙ undiverted-alone s n apart positive some alone
+    ∙ undiverted-positive s n c.self.invariant.0 apart positive
     ∙ ap (λ (t : State). undiverted t n) c.self.view_is
 
 -- where the current number is 0, the text is handed out
@@ -59,6 +35,6 @@ returns-clause-issued c =
     let s : State = view_of c.self.inside in
     let below : int_lt s.current (pos 0) ≡ false = rw (to_z-of_z w32 s.current c.self.invariant.0.current) at c.if-self-lt0.false in
     let above : int_lt (pos 0) s.current ≡ false = rw (to_z-of_z w32 s.current c.self.invariant.0.current) at c.if-self-gt0.false in
-    let text = rw (to_z-of_z w32 n c.ranges.number) at c.take-taken-2.ensures.text in
+    let text = rw (to_z-of_z w32 n c.ranges.number) at c.take-taken.ensures.text in
     text ∙ issued_from-zero s n c.self.invariant.0 (is_zero s.current below above)
     ∙ ap (λ (t : State). unless_empty (issued_from t n)) c.self.view_is
