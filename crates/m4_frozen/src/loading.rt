@@ -308,8 +308,8 @@ impl Loading {
             return Ok(None);
         }
         let after = expect_byte(b'\n', after)?;
-        self.state
-            .push(name.as_slice(), Def::Text(Bytes::from(text)))?;
+        let text = Bytes::from_vec(text)?;
+        self.state.push(name.as_slice(), Def::Text(text))?;
         Ok(Some(after))
     }
 
