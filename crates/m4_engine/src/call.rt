@@ -224,6 +224,28 @@ impl OpenCall {
         self.parts.is_large = false;
     }
 
+    /// Returns whether the call has no memory for its arguments yet.
+    #[inline(always)]
+    pub fn needs_memory(&self) -> bool
+        ensures { result ≡ true → self.now.done ≡ [] }
+    {
+        self.parts.args.is_empty()
+    }
+
+    /// Takes the memory of the arguments of a call that was made.
+    #[inline(never)]
+    pub fn take_memory(&mut self, made: &mut OpenCall)
+        requires { self.old.done ≡ [] }
+        ensures { self.new ≡ self.old }
+    {
+        made.clear();
+        self.parts.count = 0;
+        std::mem::swap(&mut self.parts.args, &mut made.parts.args);
+        if self.parts.bytes.is_empty() {
+            std::mem::swap(&mut self.parts.bytes, &mut made.parts.bytes);
+        }
+    }
+
     /// Returns the definition.
     pub fn definition(&self) -> &Def
         ensures value { result.now ≡ self.now.definition }

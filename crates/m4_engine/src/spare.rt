@@ -1,6 +1,6 @@
 //! Calls that were made, kept for the memory that later calls need. Manual: "Macro arguments".
 
-ghost use Rattle.std.specs.Prelude.{◌≡◌, IfOk};
+ghost use Rattle.std.specs.Prelude.{◌≡◌, [], IfOk};
 ghost use Rattle.m4_state.specs.Definition.{IsDefinition};
 ghost use Rattle.m4_engine.specs.Expand.{call_of};
 
@@ -67,15 +67,39 @@ impl Spare {
         Ok(call)
     }
 
-    /// Keeps a call that was made, unless enough are kept.
+    /// Keeps a call that was made. If enough are kept, it takes the place of the last one.
     #[inline(always)]
     pub fn keep(&mut self, call: OpenCall) {
         let others = self.calls.len();
+        let mut kept = call;
+        kept.shed(if others < LONG { LONGEST } else { USUAL });
         if others < MOST {
-            let mut kept = call;
-            kept.shed(if others < LONG { LONGEST } else { USUAL });
             // If there is no memory to keep it in, it is dropped.
             let _kept = self.calls.push(kept);
+        } else {
+            self.calls[others - 1] = kept;
+        }
+    }
+
+    /// Gives an open call the memory of the call that was made last, if it has none for its arguments yet. Calls that nest
+    /// deep are made one after another, the innermost first, so that one memory serves all of them.
+    #[inline(always)]
+    pub fn lend(&mut self, call: &mut OpenCall)
+        ensures { call.new ≡ call.old }
+    {
+        if call.needs_memory() {
+            self.lend_last(call);
+        }
+    }
+
+    /// Gives it the memory of the call that was made last.
+    #[inline(never)]
+    fn lend_last(&mut self, call: &mut OpenCall)
+        requires { call.old.done ≡ [] }
+        ensures { call.new ≡ call.old }
+    {
+        if let Some(made) = self.calls.last_mut() {
+            call.take_memory(made);
         }
     }
 }

@@ -21,12 +21,28 @@ use m4_state::append::append;
 /// How many bytes are copied where contiguous ones leave a token open.
 const JOINED: usize = 64;
 
+/// A text with fewer bytes than this is short.
+const FEW: usize = 8;
+
 /// Returns whether bytes may come after those at the start: others in hand, or further ones.
 #[inline(always)]
 fn may_follow(input: &Input, others: bool) -> bool
     ensures { result ≡ (others || input.now.pending.may_follow) }
 {
     others || input.may_follow()
+}
+
+/// Returns whether a text has few bytes, and begins and ends with a letter, as many results of calls do. Then it is mostly
+/// a name, whose end the bytes after it decide, so that no look at the text alone is of use.
+#[inline(always)]
+fn is_short_name(text: &[u8]) -> bool {
+    match text {
+        [letter] => letter.is_ascii_alphabetic(),
+        [first, .., last] => {
+            text.len() < FEW && first.is_ascii_alphabetic() && last.is_ascii_alphabetic()
+        }
+        [] => false,
+    }
 }
 
 impl Machine {
@@ -60,6 +76,9 @@ impl Machine {
         let Some((text, others)) = input.front() else {
             return Ok(Lookahead::Unknown);
         };
+        if others && is_short_name(text) {
+            return Ok(Lookahead::Open);
+        }
         let more = may_follow(input, others);
         let (len, mut lookahead) = self.pass_text(text, others, more)?;
         input.consume(len);

@@ -136,13 +136,14 @@ impl Machine {
         Ok(Turned::Ends(TurnEnd::EndInArguments))
     }
 
-    /// Marks the argument that contains a call as begun.
+    /// Marks the argument that contains a call as begun, and gives the call around it memory for it.
     #[inline(always)]
     fn begin_argument(&mut self)
         ensures { self.new ≡ with_made [] [] None self.old }
     {
         if let Some(around) = &mut self.innermost {
             around.begin();
+            self.spare.lend(around);
         }
     }
 
