@@ -8,6 +8,7 @@
 #![tactic(auto)]
 
 mod begun;
+mod block;
 mod directive;
 pub mod fault;
 mod held;

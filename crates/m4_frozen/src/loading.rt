@@ -10,6 +10,7 @@ ghost use Rattle.m4_frozen.specs.DirectiveView.{directive_of, IsJoined};
 ghost use Rattle.m4_frozen.specs.Underway as underway;
 
 use crate::begun::{Begun, NamedText};
+use crate::block::Block;
 use crate::directive::Directive;
 use crate::fault::{FrozenKind, ReadStop, Refusal, refused_at};
 use crate::lines::skip_lines;
@@ -21,6 +22,9 @@ use m4_state::definition::Def;
 use m4_state::fault::StateFault;
 use m4_state::state::State;
 use std::alloc::{AllocError, Global};
+
+/// A text with more bytes is a part of the slice that all such texts of its block share.
+const LONG: usize = 64;
 
 /// The result of loading a frozen file: a state, and the text to print before any input is read.
 pub struct Loaded {
@@ -105,26 +109,33 @@ impl Loading {
     pub(crate) fn advance(&mut self, alloc: Global, bytes: &[u8]) -> Result<Pause, ReadStop>
         ensures { underway.ReadsOn (λ read. underway.IsRead read self.old) bytes.now self.new result }
     {
+        let mut block = Block::new(bytes);
         match self.begun.take() {
-            None => self.read_whole(alloc, bytes),
+            None => self.read_whole(alloc, &mut block, bytes),
             Some(Begun::Diversion(missing)) => {
                 let after = self.read_diverted(missing, bytes)?;
-                self.read_after(alloc, after)
+                self.read_after(alloc, &mut block, after)
             }
             Some(Begun::Name(text)) => {
                 let after = self.read_named(text, bytes)?;
-                self.read_after(alloc, after)
+                self.read_after(alloc, &mut block, after)
             }
         }
     }
 
     /// Reads the bytes after a text, or pauses if the text is not complete.
-    fn read_after(&mut self, alloc: Global, after: Option<&[u8]>) -> Result<Pause, ReadStop>
-        requires { IfSome after (λ _. self.old.begun ≡ None) }
+    fn read_after(
+        &mut self,
+        alloc: Global,
+        block: &mut Block<'_>,
+        after: Option<&[u8]>,
+    ) -> Result<Pause, ReadStop>
+        requires whole { IfSome after (λ _. self.old.begun ≡ None) }
+        requires ends { IfSome after (λ x. underway.EndsWith block.old x.now) }
         ensures { underway.ReadsRest after.entry self.old self.new result }
     {
         match after {
-            Some(after) => self.read_whole(alloc, after),
+            Some(after) => self.read_whole(alloc, block, after),
             None => Ok(Pause {
                 left: 0,
                 refusal: Some(refused_at(FrozenKind::PrematureEnd, &[])),
@@ -133,15 +144,21 @@ impl Loading {
     }
 
     /// Reads everything that is complete, if no text is open.
-    fn read_whole(&mut self, alloc: Global, bytes: &[u8]) -> Result<Pause, ReadStop>
-        requires { self.old.begun ≡ None }
+    fn read_whole(
+        &mut self,
+        alloc: Global,
+        block: &mut Block<'_>,
+        bytes: &[u8],
+    ) -> Result<Pause, ReadStop>
+        requires whole { self.old.begun ≡ None }
+        requires ends { underway.EndsWith block.old bytes.now }
         ensures { underway.Advances bytes.now self.old self.new result }
     {
         let mut rest = bytes;
         loop {
             let (inside, here) = skip_lines(self.inside, rest);
             self.inside = inside;
-            let one = match self.read_one(alloc, here) {
+            let one = match self.read_one(alloc, block, here) {
                 Ok(one) => one,
                 Err(stop) => return self.pause_at(alloc, stop, here),
             };
@@ -159,12 +176,19 @@ impl Loading {
 
     /// Reads the version or a directive; the bytes begin with no line to skip. Returns the bytes after it,
     /// or none if there are no bytes.
-    fn read_one<'a>(&mut self, alloc: Global, bytes: &'a [u8]) -> Result<Option<&'a [u8]>, ReadStop>
-        requires { underway.IsAtDirective self.old.inside bytes.now }
-        ensures { underway.ReadsOne bytes.now self.old self.new result }
+    fn read_one<'a>(
+        &mut self,
+        alloc: Global,
+        block: &mut Block<'_>,
+        bytes: &'a [u8],
+    ) -> Result<Option<&'a [u8]>, ReadStop>
+        requires at_directive { underway.IsAtDirective self.old.inside bytes.now }
+        requires ends { underway.EndsWith block.old bytes.now }
+        ensures reads { underway.ReadsOne bytes.now self.old self.new result }
+        ensures stays { block.new ≡ block.old }
     {
         if self.versioned {
-            return self.read_directive(alloc, bytes);
+            return self.read_directive(alloc, block, bytes);
         }
         let after = after_version(bytes)?;
         self.versioned = true;
@@ -175,16 +199,19 @@ impl Loading {
     fn read_directive<'a>(
         &mut self,
         alloc: Global,
+        block: &mut Block<'_>,
         bytes: &'a [u8],
     ) -> Result<Option<&'a [u8]>, ReadStop>
         requires at_directive { underway.IsAtDirective self.old.inside bytes.now }
         requires versioned { self.old.versioned ≡ true }
-        ensures { underway.ReadsOne bytes.now self.old self.new result }
+        requires ends { underway.EndsWith block.old bytes.now }
+        ensures reads { underway.ReadsOne bytes.now self.old self.new result }
+        ensures stays { block.new ≡ block.old }
     {
         match next_directive(bytes)? {
             None => Ok(None),
             Some((directive, after)) => {
-                self.apply(alloc, &directive)?;
+                self.apply(alloc, block, &directive, after.len())?;
                 Ok(Some(after))
             }
         }
@@ -331,14 +358,22 @@ impl Loading {
 
     /// Applies a directive to the state, or to the issued text. On an error a part of it may be applied;
     /// the state is then dropped.
-    fn apply(&mut self, alloc: Global, directive: &Directive<'_>) -> Result<(), StateFault>
-        requires { IsJoined directive.now }
+    fn apply(
+        &mut self,
+        alloc: Global,
+        block: &mut Block<'_>,
+        directive: &Directive<'_>,
+        after: usize,
+    ) -> Result<(), StateFault>
+        requires joined { IsJoined directive.now }
+        requires placed { underway.IsPlaced directive.now after block.old }
         ensures applied { OnOk result (self.new ≡ record self.old {
           state = with_directive self.old.state (directive_of directive.now);
           issued = self.new.issued;
         }) }
         ensures issued { OnOk result (self.new.issued.items
             ≡ self.old.issued.items ++ issued_by (directive_of directive.now)) }
+        ensures stays { block.new ≡ block.old }
     {
         match directive {
             Directive::Quotes(begin, end) => self.state.set_quotes(
@@ -349,6 +384,12 @@ impl Loading {
                 Bytes::from_slice(alloc, begin)?,
                 Bytes::from_slice(alloc, end)?,
             ),
+            Directive::Text(both, middle) if both.len() - *middle > LONG => {
+                let len = both.len() - *middle;
+                let from = block.len() - (after + 1 + len);
+                let text = block.part(alloc, from, len)?;
+                self.state.push(both.split_at(*middle).0, Def::Text(text))
+            }
             Directive::Text(both, middle) => self.state.push_text(both, *middle),
             Directive::Builtin(name, builtin) => {
                 let builtin = builtin_or_placeholder(alloc, builtin)?;
