@@ -11,6 +11,7 @@ mod prefixed;
 pub mod report;
 mod rows;
 mod scale;
+mod seams;
 mod sessions;
 pub mod shows;
 mod sources;

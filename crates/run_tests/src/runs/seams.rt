@@ -1,0 +1,143 @@
+//! Tokens that lie across texts that calls pushed, and across these and the file: names, delimiters of several bytes,
+//! lists and comments, wherever text goes. Expected values are those of GNU m4. Manual: "How m4 copies input to
+//! output", "Lexical and syntactic conventions", "Diverting and undiverting output".
+
+use super::rows::{DONE, Row, compare};
+
+static TOKENS: [Row; 6] = [
+    (
+        "a name across a text and the file, and across three texts",
+        "define(`f',`a')define(`ab',`yes')define(`abc',`all')define(`g',`f()b')dnl\nf()b g()c f()x\n",
+        "yes all ax\n",
+        "",
+        DONE,
+    ),
+    (
+        "a begin-quote of three bytes across two texts and the file",
+        "changequote(`<<<',`>>>')define(<<<f>>>,<<<<>>>)define(<<<g>>>,<<<f()<>>>)dnl\nf<<x y>>> g<f()>>> f\
+         ()<f() f\n",
+        "x y f() <<< <\n",
+        "",
+        DONE,
+    ),
+    (
+        "an end-quote of three bytes, of which a text has a part",
+        "define(`f',`<<<b>')define(`g',`<<<f')define(`h',`<')changequote(`<<<',`>>>')dnl\nf>> f()> f>>> g>>\
+         > h<<f()> f>>> g> >>>\n",
+        "b b>> f f f()> f f> \n",
+        "",
+        DONE,
+    ),
+    (
+        "a begin-comment of two bytes across texts, and an end in the file",
+        "changecom(`//',`!!')define(`f',`/')define(`g',`f()')define(`x',`X')dnl\nf()/ x !! x g()/ x\nx !! \
+         x f()x\n",
+        "// x !! X // x\nx !! X /X\n",
+        "",
+        DONE,
+    ),
+    (
+        "a comment that begins in a text and ends in the file",
+        "define(`f',`# x')define(`x',`X')dnl\nf()x x\nx f\nx\n",
+        "# xx x\nX # x\nX\n",
+        "",
+        DONE,
+    ),
+    (
+        "a list across many texts",
+        "define(`o',`(')define(`s',`,')define(`e',`)')define(`f',`[$1|$2]')define(`g',`f')dnl\ng()(a,b) f(o\
+         ()a,b)e()) g()`'(a) f(s,b) f(`a'e, b) g()(o()a`)',e(),b)\n",
+        "[a|b] [(a,b)|]) [|](a) [|] [a|], b) [(a),)|b]\n",
+        "",
+        DONE,
+    ),
+];
+
+static ARGUMENTS: [Row; 5] = [
+    (
+        "an argument of several texts",
+        "define(`f',`a')define(`g',`f()f()')define(`h',`<$1>')define(`aa',`A')dnl\nh(g()f) h(f()a g`'a f()`\
+         f')\n",
+        "<af()a> <A af()a af>\n",
+        "",
+        DONE,
+    ),
+    (
+        "a delimiter that is changed in the middle of a text",
+        "define(`x',`X')define(`m',`changequote([,])[x y]x')dnl\nm x\ndefine([n],[changecom(;)x ; x])dnl\n\
+         n x\nx # x\n",
+        "x yX X\nX ; x x\nX # X\n",
+        "",
+        DONE,
+    ),
+    (
+        "white space before an argument, in texts",
+        "define(`b',` ')define(`n',`\n')define(`f',`[$1]')dnl\nf(b()a) f(b`'a) f(  b() a) f(n()a)\n",
+        "[ a] [ a] [  a] [\na]\n",
+        "",
+        DONE,
+    ),
+    (
+        "the rest of a line in a text and the file",
+        "define(`d',`a dnl b')define(`e',`a dnl\nb')dnl\nd c\nd\ne c\n",
+        "a a a b c\n",
+        "",
+        DONE,
+    ),
+    (
+        "a name without its list at the end of a text",
+        "define(`f',`len')define(`g',`f()')dnl\nf()(abc) g()(ab) f() f()`'(a)\n",
+        "3 2 len len(a)\n",
+        "",
+        DONE,
+    ),
+];
+
+static DIVERTED: [Row; 4] = [
+    (
+        "text in a diversion, across texts",
+        "define(`f',`a')define(`ab',`yes')define(`h',`# x')define(`x',`X')divert(1)f()b x h()x\nx `f()'b f(\
+         )\ndivert`'0 undivert(1)",
+        "0 yes X # xx\nX f()b a\n",
+        "",
+        DONE,
+    ),
+    (
+        "comments and strings in a diversion, with delimiters of several bytes",
+        "changecom(`//',`!!')define(`f',`/')define(`g',`<')changequote(`<<<',`>>>')divert(2)f()/ f !! g<<f(\
+         )>>> f\ndivert(0)undivert(2)",
+        "// f !! f() /\n",
+        "",
+        DONE,
+    ),
+    (
+        "text that is discarded, with calls in it",
+        "divert(-1)define(`f',`a')define(`ab',`define(`k',`kept')')f()b # define(`k',`lost')\n`define(`k',`\
+         lost')' f()\ndivert`'k f()b\n",
+        "kept \n",
+        "",
+        DONE,
+    ),
+    (
+        "a diversion that begins and ends in a text",
+        "define(`d',`divert(1)a')define(`e',`b\ndivert`'c')dnl\nd x e y undivert(1)\n",
+        "c y a x b\n\n",
+        "",
+        DONE,
+    ),
+];
+
+#[test]
+fn tokens_across_texts(rt: HostRuntime) {
+    compare(&rt, &TOKENS);
+}
+
+#[test]
+fn arguments_across_texts(rt: HostRuntime) {
+    compare(&rt, &ARGUMENTS);
+}
+
+#[test]
+fn diverted_text_across_texts(rt: HostRuntime) {
+    compare(&rt, &DIVERTED);
+}
