@@ -3,6 +3,10 @@
 PREFIX = /usr/local
 DESTDIR =
 
+# What `make install` puts under PREFIX beside the program.
+PAGES := share/man/man1/m4r.1 share/bash-completion/completions/m4r share/zsh/site-functions/_m4r \
+	share/fish/vendor_completions.d/m4r.fish
+
 # What is compiled and proved, and what the program's stored run reads. A page that changes proves nothing again.
 SOURCES := crates.txt $(shell find crates -name out -prune -o -type f ! -name '*.md' ! -path '*/must-fail/*' -print)
 
@@ -85,10 +89,15 @@ torn: m4r
 wrong-bodies:
 	tests/wrong_bodies/run $(CRATES)
 
+# The program, its man page and the completions of three shells, under PREFIX.
 install: m4r
-	install -d $(DESTDIR)$(PREFIX)/bin $(DESTDIR)$(PREFIX)/share/man/man1
+	install -d $(addprefix $(DESTDIR)$(PREFIX)/, bin $(dir $(PAGES)))
 	install -m 755 m4r $(DESTDIR)$(PREFIX)/bin/m4r
 	install -m 644 man/m4r.1 $(DESTDIR)$(PREFIX)/share/man/man1/m4r.1
+	install -m 644 completions/m4r.bash $(DESTDIR)$(PREFIX)/share/bash-completion/completions/m4r
+	install -m 644 completions/_m4r $(DESTDIR)$(PREFIX)/share/zsh/site-functions/_m4r
+	install -m 644 completions/m4r.fish $(DESTDIR)$(PREFIX)/share/fish/vendor_completions.d/m4r.fish
 
+# Removes what `make install` put there.
 uninstall:
-	rm -f $(DESTDIR)$(PREFIX)/bin/m4r $(DESTDIR)$(PREFIX)/share/man/man1/m4r.1
+	rm -f $(addprefix $(DESTDIR)$(PREFIX)/, bin/m4r $(PAGES))
