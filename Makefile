@@ -1,27 +1,19 @@
 # m4r: proved frozen states of GNU M4. Needs the Rattle toolchain (`rt` on the path), nothing else.
 
-PREFIX = /usr/local
-DESTDIR =
-
-# What `make install` puts under PREFIX beside the program.
-PAGES := share/man/man1/m4r.1 share/bash-completion/completions/m4r share/zsh/site-functions/_m4r \
-	share/fish/vendor_completions.d/m4r.fish
+include install.mk
 
 # What is compiled and proved, and what the program's stored run reads. A page that changes proves nothing again.
 SOURCES := crates.txt $(shell find crates -name out -prune -o -type f ! -name '*.md' ! -path '*/must-fail/*' -print)
 
-.PHONY: help clean check demo test-program cases programs differences expressions chance install uninstall bench real-files mutants hostile refused-memory torn wrong-bodies
-
-# The program is the first target, so that `make` alone builds it.
-.DEFAULT_GOAL := m4r
+.PHONY: help clean check demo test-program cases programs differences expressions chance dist bench real-files mutants hostile refused-memory torn wrong-bodies
 
 # What can be made, from the comments above the targets.
 help:
-	@awk '/^# /{said = said substr($$0, 2); next} /^[a-z][a-z0-9-]*:/{sub(":.*", ""); printf "%-16s%s\n", $$0, said} {said = ""}' Makefile
+	@awk '/^# /{said = said substr($$0, 2); next} /^[a-z][a-z0-9-]*:/{sub(":.*", ""); printf "%-16s%s\n", $$0, said} {said = ""}' $(MAKEFILE_LIST)
 
-# Removes what was built here: the program, and what the toolchain keeps of each crate.
+# Removes what was built here: the program, archives, and what the toolchain keeps of each crate.
 clean:
-	rm -rf m4r crates/*/out
+	rm -rf m4r dist crates/*/out
 
 # The program: proved, then built. A crate that is not proved is not built.
 m4r: $(SOURCES)
@@ -89,15 +81,6 @@ torn: m4r
 wrong-bodies:
 	tests/wrong_bodies/run $(CRATES)
 
-# The program, its man page and the completions of three shells, under PREFIX.
-install: m4r
-	install -d $(addprefix $(DESTDIR)$(PREFIX)/, bin $(dir $(PAGES)))
-	install -m 755 m4r $(DESTDIR)$(PREFIX)/bin/m4r
-	install -m 644 man/m4r.1 $(DESTDIR)$(PREFIX)/share/man/man1/m4r.1
-	install -m 644 completions/m4r.bash $(DESTDIR)$(PREFIX)/share/bash-completion/completions/m4r
-	install -m 644 completions/_m4r $(DESTDIR)$(PREFIX)/share/zsh/site-functions/_m4r
-	install -m 644 completions/m4r.fish $(DESTDIR)$(PREFIX)/share/fish/vendor_completions.d/m4r.fish
-
-# Removes what `make install` put there.
-uninstall:
-	rm -f $(addprefix $(DESTDIR)$(PREFIX)/, bin/m4r $(PAGES))
+# The archive of a release, in dist/: program, man page, pages, completions, examples and checksums.
+dist: m4r
+	tools/dist dist
