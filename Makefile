@@ -13,12 +13,12 @@ help:
 
 # Removes what was built here: the program, archives, and what the toolchain keeps of each crate.
 clean:
-	rm -rf m4r dist crates/*/out
+	rm -rf m4r build.log dist crates/*/out
 
-# The program: proved, then built. A crate that is not proved is not built.
+# The program: proved, then built. A crate that is not proved is not built. V=1 shows what the toolchain says.
 m4r: $(SOURCES)
-	cd crates/m4r && rt run -- --help > /dev/null
-	cp crates/m4r/out/m4r m4r
+	@V=$(V) tools/build
+	@cp crates/m4r/out/m4r m4r
 
 # Every proof from nothing, every must-fail edit, every test; then the scripts that ask the program.
 # The last line is the gate's own: N passed, M failed.
