@@ -5,11 +5,13 @@ include install.mk
 # What is compiled and proved, and what the program's stored run reads. A page that changes proves nothing again.
 SOURCES := crates.txt $(shell find crates -name out -prune -o -type f ! -name '*.md' ! -path '*/must-fail/*' -print)
 
-.PHONY: help clean check demo test-program cases programs differences expressions chance dist bench real-files mutants hostile refused-memory torn wrong-bodies
+.PHONY: help clean check demo test-program cases programs differences expressions chance dist bench real-files mutants \
+	hostile refused-memory torn wrong-bodies
 
 # What can be made, from the comments above the targets.
 help:
-	@awk '/^# /{said = said substr($$0, 2); next} /^[a-z][a-z0-9-]*:/{sub(":.*", ""); printf "%-16s%s\n", $$0, said} {said = ""}' $(MAKEFILE_LIST)
+	@awk '/^# /{said = said substr($$0, 2); next} \
+		/^[a-z][a-z0-9-]*:/{sub(":.*", ""); printf "%-16s%s\n", $$0, said} {said = ""}' $(MAKEFILE_LIST)
 
 # Removes what was built here: the program, archives, and what the toolchain keeps of each crate.
 clean:
