@@ -1,5 +1,11 @@
 # Completion of m4r's options and files in bash. `tests/completions` compares the options with `m4r --help`.
 
+# Offers the files that begin with a word.
+_m4r_files() {
+    compopt -o filenames 2> /dev/null
+    mapfile -t COMPREPLY < <(compgen -f -- "$1")
+}
+
 _m4r() {
     local word=${COMP_WORDS[COMP_CWORD]} before=${COMP_WORDS[COMP_CWORD - 1]} i
     # bash makes three words of --canon=FILE: the option, the sign and the file.
@@ -11,7 +17,7 @@ _m4r() {
     COMPREPLY=()
     for ((i = 1; i < COMP_CWORD; i++)); do
         if [ "${COMP_WORDS[i]}" = -- ]; then
-            mapfile -t COMPREPLY < <(compgen -f -- "$word")
+            _m4r_files "$word"
             return
         fi
     done
@@ -27,9 +33,9 @@ _m4r() {
             fi
             ;;
         *)
-            mapfile -t COMPREPLY < <(compgen -f -- "$word")
+            _m4r_files "$word"
             ;;
     esac
 }
 
-complete -o filenames -F _m4r m4r
+complete -F _m4r m4r
