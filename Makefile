@@ -1,28 +1,26 @@
 # m4r: proved frozen states of GNU M4. Needs the Rattle toolchain (`rt` on the path), nothing else.
 
-PREFIX = /usr/local
-DESTDIR =
+include install.mk
 
 # What is compiled and proved, and what the program's stored run reads. A page that changes proves nothing again.
 SOURCES := crates.txt $(shell find crates -name out -prune -o -type f ! -name '*.md' ! -path '*/must-fail/*' -print)
 
-.PHONY: help clean check demo test-program cases programs differences expressions chance install uninstall bench real-files mutants hostile refused-memory torn wrong-bodies
-
-# The program is the first target, so that `make` alone builds it.
-.DEFAULT_GOAL := m4r
+.PHONY: help clean check demo test-program cases programs differences expressions chance dist bench real-files mutants \
+	hostile refused-memory torn wrong-bodies
 
 # What can be made, from the comments above the targets.
 help:
-	@awk '/^# /{said = said substr($$0, 2); next} /^[a-z][a-z0-9-]*:/{sub(":.*", ""); printf "%-16s%s\n", $$0, said} {said = ""}' Makefile
+	@awk '/^# /{said = said substr($$0, 2); next} \
+		/^[a-z][a-z0-9-]*:/{sub(":.*", ""); printf "%-16s%s\n", $$0, said} {said = ""}' $(MAKEFILE_LIST)
 
-# Removes what was built here: the program, and what the toolchain keeps of each crate.
+# Removes what was built here: the program, archives, and what the toolchain keeps of each crate.
 clean:
-	rm -rf m4r crates/*/out
+	rm -rf m4r build.log dist crates/*/out
 
-# The program: proved, then built. A crate that is not proved is not built.
+# The program: proved, then built. A crate that is not proved is not built. V=1 shows what the toolchain says.
 m4r: $(SOURCES)
-	cd crates/m4r && rt run -- --help > /dev/null
-	cp crates/m4r/out/m4r m4r
+	@V=$(V) tools/build
+	@cp crates/m4r/out/m4r m4r
 
 # Every proof from nothing, every must-fail edit, every test; then the scripts that ask the program.
 # The last line is the gate's own: N passed, M failed.
@@ -85,10 +83,6 @@ torn: m4r
 wrong-bodies:
 	tests/wrong_bodies/run $(CRATES)
 
-install: m4r
-	install -d $(DESTDIR)$(PREFIX)/bin $(DESTDIR)$(PREFIX)/share/man/man1
-	install -m 755 m4r $(DESTDIR)$(PREFIX)/bin/m4r
-	install -m 644 man/m4r.1 $(DESTDIR)$(PREFIX)/share/man/man1/m4r.1
-
-uninstall:
-	rm -f $(DESTDIR)$(PREFIX)/bin/m4r $(DESTDIR)$(PREFIX)/share/man/man1/m4r.1
+# The archive of a release, in dist/: program, man page, pages, completions, examples and checksums.
+dist: m4r
+	tools/dist dist
