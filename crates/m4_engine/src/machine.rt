@@ -9,8 +9,12 @@ ghost use Rattle.m4_engine.specs.Engine.{with_text, with_token, with_engine_mess
 ghost use Rattle.m4_engine.specs.Session.{is_saved};
 ghost use Rattle.m4_engine.specs.Wraps.{joined_back};
 
+mod arguments;
+mod calls;
 mod driver;
+mod ends;
 mod issuing;
+mod limits;
 mod plain;
 mod turn;
 

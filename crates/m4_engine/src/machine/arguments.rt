@@ -1,0 +1,72 @@
+//! Bytes of an argument list that are no other token: they collect an argument, end it, or close the list.
+//! Manual: "Macro arguments".
+
+ghost use Rattle.std.specs.Prelude.{◌≡◌, ◌<◌, Some, Ok, OnOk};
+ghost use Rattle.m4_input.specs.Input.{longer};
+ghost use Rattle.m4_engine.specs.Engine.{Moves, IsTaken, Steps, ending_argument, IfHead, mode_of, close_in, step, here_of, outer_of};
+ghost use Rattle.m4_engine.specs.Expand.{take_other};
+
+use crate::machine::Machine;
+use crate::role::Role;
+use crate::turned::{TurnFault, Turned};
+use m4_builtins::messages::dropped_message;
+use m4_input::input::Input;
+
+impl Machine {
+    /// Acts on a byte that belongs to no other token.
+    #[inline(always)]
+    pub(super) fn take_byte(&mut self, byte: u8, input: &mut Input) -> Result<Turned, TurnFault>
+        requires { IsTaken input.old }
+        ensures { Steps result self.old self.new input.old input.new (λ t. Moves input.old.pending.may_follow self.new input.new.pending t
+            (λ z more o m. step (outer_of self.old.open_calls)
+            (take_other (mode_of self.old.open_calls) byte (here_of o m self.old (longer z more input.old.pending))))) }
+    {
+        let Some(call) = &mut self.innermost else {
+            self.put_text(&[byte])?;
+            return Ok(Turned::GoesOn);
+        };
+        match call.role(byte) {
+            Role::Blank => {}
+            Role::Opening => call.put_opening()?,
+            Role::Closing if call.is_nested() => call.put_closing()?,
+            Role::Closing => return self.take_closing(input),
+            Role::Separator => self.end_argument()?,
+            Role::Other => self.put_text(&[byte])?,
+        }
+        Ok(Turned::GoesOn)
+    }
+
+    /// Ends the current argument of the innermost call.
+    #[inline(always)]
+    fn end_argument(&mut self) -> Result<(), TurnFault>
+        requires { IfHead self.old.open_calls (λ c. c.parentheses ≡ 0) }
+        ensures { OnOk result (self.new ≡ ending_argument self.old) }
+    {
+        let Some(call) = &mut self.innermost else {
+            return Ok(());
+        };
+        if call.end_argument()? {
+            let place = call.place();
+            let message = dropped_message(self.alloc, place)?;
+            self.add_message(message.as_slice())?;
+        }
+        Ok(())
+    }
+
+    /// Acts on the parenthesis that closes the innermost list: makes its call.
+    #[tactic(auto, using(crate::proofs::Acts::closing_result))]
+    #[inline(always)]
+    fn take_closing(&mut self, input: &mut Input) -> Result<Turned, TurnFault>
+        requires list { IfHead self.old.open_calls (λ c. c.parentheses ≡ 0) }
+        requires input { IsTaken input.old }
+        ensures { Steps result self.old self.new input.old input.new (λ t. Moves input.old.pending.may_follow self.new input.new.pending t
+            (λ z more o m. step (outer_of self.old.open_calls)
+            (close_in self.old.open_calls (here_of o m self.old (longer z more input.old.pending))))) }
+    {
+        self.end_argument()?;
+        let Some(call) = self.close() else {
+            return Ok(Turned::GoesOn);
+        };
+        self.call(call, input)
+    }
+}

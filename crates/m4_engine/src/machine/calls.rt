@@ -1,0 +1,278 @@
+//! Calls: one begins at its name, is made when its arguments are complete, and what it gives is pushed.
+//! Manual: "Macro invocation", "Macro arguments".
+
+ghost use Rattle.std.specs.Prelude.{◌≡◌, ◌<◌, ◌≤◌, nat_lt, List, ℕ, [], ◌∷◌, ◌++◌, None, Some, Ok, OnOk, true, false, length};
+ghost use Rattle.m4_input.specs.Paren.{paren_at};
+ghost use Rattle.m4_input.specs.declared.front.Answer.TheVariants as answers;
+ghost use Rattle.m4_input.specs.Input.{longer};
+ghost use Rattle.m4_input.specs.Pending.{text_of, consumed};
+ghost use Rattle.m4_engine.specs.Engine.{Moves, IsTaken, IsReady, Makes, Steps, Pushes, Extended, Stays, with_made, with_one_call, is_deep_in, step, here_of, outer_of, called_within};
+ghost use Rattle.m4_builtins.specs.Act.{IsPushed, act};
+ghost use Rattle.m4_builtins.specs.Acted.{nothing};
+ghost use Rattle.m4_builtins.specs.Subst.{subst};
+ghost use Rattle.m4_state.specs.declared.definition.Def.TheVariants.{Text};
+ghost use Rattle.m4_engine.specs.Expansion.{Call};
+ghost use Rattle.m4_engine.specs.Expand.{with_saved, call as call_turn, call_of};
+ghost use Rattle.m4_input.specs.declared.pushed.Pushed.TheVariants as pushes;
+
+use crate::call::OpenCall;
+use crate::machine::Machine;
+use crate::turned::{TurnEnd, TurnFault, Turned};
+use m4_builtins::act::act_on;
+use m4_builtins::effect::Effect;
+use m4_input::input::Input;
+use m4_input::pushed::Pushed;
+use m4_state::bytes::Bytes;
+use m4_state::definition::Def;
+use m4_state::state::State;
+use std::alloc::AllocError;
+
+/// Acts on the complete arguments of a call: changes the state, and fills an effect that is clear.
+fn act_on_call(effect: &mut Effect, call: &OpenCall, state: &mut State) -> Result<(), TurnFault>
+    requires { effect.old ≡ nothing }
+    ensures { OnOk result (act call.now.definition call.now.name call.now.done call.now.place state.old
+        ≡ record { state = state.new; effect = effect.new }) }
+{
+    act_on(
+        effect,
+        call.definition(),
+        call.name(),
+        call.arguments(),
+        call.place(),
+        state,
+    )?;
+    Ok(())
+}
+
+/// Pushes the value of a call, if it has one.
+#[tactic(auto, using(crate::proofs::Inputs::pushed, crate::proofs::Inputs::nothing_pushed))]
+fn push_value(input: &mut Input, value: Option<Pushed>) -> Result<(), TurnFault>
+    requires input { IsTaken input.old }
+    requires valid { IsPushed value }
+    ensures pushes { OnOk result (Pushes input.old.pending input.new.pending value) }
+    ensures stays { OnOk result (Stays input.old input.new) }
+{
+    let Some(value) = value else {
+        return Ok(());
+    };
+    match input.push_front(value) {
+        Ok(()) => Ok(()),
+        Err(fault) => Err(TurnFault::of(fault)),
+    }
+}
+
+/// Pushes a text.
+#[inline(always)]
+#[tactic(auto, using(crate::proofs::Inputs::pushed))]
+fn push_text(input: &mut Input, text: Bytes) -> Result<(), TurnFault>
+    requires { IsTaken input.old }
+    ensures pushes { OnOk result (Pushes input.old.pending input.new.pending (Some (pushes.Text text))) }
+    ensures stays { OnOk result (Stays input.old input.new) }
+{
+    match input.push_front(Pushed::Text(text)) {
+        Ok(()) => Ok(()),
+        Err(fault) => Err(TurnFault::of(fault)),
+    }
+}
+
+/// Adds the messages, the output and the saved text that a call made to those before them. Its value is pushed later.
+/// Not inlined, since hardly any call makes them.
+#[inline(never)]
+fn put_more(
+    effect: &mut Effect,
+    messages: &mut Vec<u8>,
+    output: &mut Vec<u8>,
+    saved: &mut Vec<Bytes>,
+) -> Result<(), TurnFault>
+    ensures messages { OnOk result (messages.new.items ≡ messages.old.items ++ effect.old.messages) }
+    ensures output { OnOk result (output.new.items ≡ output.old.items ++ effect.old.output) }
+    ensures saved { OnOk result (saved.new.items ≡ with_saved effect.old.wrap saved.old.items) }
+    ensures left { OnOk result (effect.new ≡ record effect.old { wrap = None }) }
+{
+    messages.extend_from_slice(effect.messages())?;
+    output.extend_from_slice(effect.output())?;
+    if let Some(text) = effect.take_wrap() {
+        push_saved(saved, text)?;
+    }
+    Ok(())
+}
+
+/// Saves a text after the others.
+fn push_saved(saved: &mut Vec<Bytes>, text: Bytes) -> Result<(), AllocError>
+    ensures { OnOk result (saved.new.items ≡ saved.old.items ++ text ∷ []) }
+{
+    saved.push(text)?;
+    Ok(())
+}
+
+impl Machine {
+    /// Starts the call of a name; `listed` says whether its list follows.
+    #[inline(always)]
+    pub(super) fn take_call(
+        &mut self,
+        call: OpenCall,
+        listed: bool,
+        input: &mut Input,
+    ) -> Result<Turned, TurnFault>
+        requires input { IsTaken input.old }
+        requires list { listed ≡ true → paren_at self.old.state.quotes self.old.state.comments input.old.pending ≡ answers.Yes }
+        requires fresh { call ≡ call_of call.definition call.name call.place }
+        ensures { Steps result self.old self.new input.old input.new (λ t. (before : Extended) → Moves input.old.pending.may_follow self.new input.new.pending t
+            (λ z more o m. step (outer_of self.old.open_calls)
+            (call_turn listed call (longer z more input.old.pending) (here_of o m self.old (before z more))))) }
+    {
+        if !self.has_room() {
+            self.report_call_limit(&call)?;
+            return Ok(Turned::Ends(TurnEnd::ExpansionLimit));
+        }
+        self.count();
+        if self.is_deep() {
+            self.report_nesting_limit(&call)?;
+            return Ok(Turned::Ends(TurnEnd::NestingLimit));
+        }
+        if !listed {
+            return self.call(call, input);
+        }
+        self.take_parenthesis(input);
+        self.begin(call)?;
+        Ok(Turned::GoesOn)
+    }
+
+    /// Consumes the parenthesis that opens a list. It was recognised as a token, so it is one byte.
+    fn take_parenthesis(&self, input: &mut Input)
+        requires ready { IsReady input.old }
+        requires paren_follows { paren_at self.now.state.quotes self.now.state.comments input.old.pending ≡ answers.Yes }
+        ensures taken { input.new.pending ≡ consumed 1 input.old.pending }
+        ensures within { 1 ≤ length (text_of input.old.pending) }
+        ensures ready { Stays input.old input.new }
+    {
+        input.consume(1);
+    }
+
+    /// Counts a call of a text macro without a list, and pushes its expansion.
+    #[inline(always)]
+    pub(super) fn take_expansion(
+        &mut self,
+        text: Bytes,
+        input: &mut Input,
+    ) -> Result<Turned, TurnFault>
+        requires input { IsTaken input.old }
+        requires room { nat_lt self.old.calls self.old.limits.calls ≡ true }
+        requires shallow { is_deep_in self.old ≡ false }
+        ensures { Steps result self.old self.new input.old input.new (λ t. (c : Call) (x : List ℕ) → c.definition ≡ Text x → text ≡ subst x c.name c.done self.old.state.quotes
+            → (before : Extended) → Moves input.old.pending.may_follow self.new input.new.pending t
+            (λ z more o m. step (outer_of self.old.open_calls)
+            (call_turn false c (longer z more input.old.pending) (here_of o m self.old (before z more))))) }
+    {
+        self.count();
+        self.take_text(text, input)
+    }
+
+    /// Counts a call of the builtin that skips the rest of the line. The call is a token of the argument around it.
+    #[inline(always)]
+    pub(super) fn take_line_skip(&mut self)
+        requires { nat_lt self.old.calls self.old.limits.calls ≡ true }
+        ensures { self.new ≡ with_made [] [] None (with_one_call self.old) }
+    {
+        self.count();
+        self.begin_argument();
+    }
+
+    /// Makes a call whose arguments are complete.
+    #[inline(never)]
+    pub(super) fn call(&mut self, call: OpenCall, input: &mut Input) -> Result<Turned, TurnFault>
+        requires { IsTaken input.old }
+        ensures { Steps result self.old self.new input.old input.new (λ t. Moves input.old.pending.may_follow self.new input.new.pending t
+            (λ z more o m. called_within self.old.open_calls call (here_of o m self.old (longer z more input.old.pending)))) }
+    {
+        self.lend(input);
+        self.call_any(call, input)
+    }
+
+    /// The same. A text's expansion has the memory of the effect.
+    #[inline(always)]
+    fn call_any(&mut self, call: OpenCall, input: &mut Input) -> Result<Turned, TurnFault>
+        requires { IsTaken input.old }
+        ensures { Steps result self.old self.new input.old input.new (λ t. Moves input.old.pending.may_follow self.new input.new.pending t
+            (λ z more o m. called_within self.old.open_calls call (here_of o m self.old (longer z more input.old.pending)))) }
+    {
+        if let Def::Text(text) = call.definition() {
+            let quotes = self.state.quotes();
+            let expansion = self
+                .effect
+                .expand(text, call.name(), call.arguments(), quotes)?;
+            self.spare.keep(call);
+            return self.take_text(expansion, input);
+        }
+        self.call_builtin(call, input)
+    }
+
+    /// Makes the call of a builtin or of a placeholder whose arguments are complete.
+    #[inline(never)]
+    fn call_builtin(&mut self, call: OpenCall, input: &mut Input) -> Result<Turned, TurnFault>
+        requires { IsTaken input.old }
+        ensures { Steps result self.old self.new input.old input.new (λ t. Moves input.old.pending.may_follow self.new input.new.pending t
+            (λ z more o m. called_within self.old.open_calls call (here_of o m self.old (longer z more input.old.pending)))) }
+    {
+        self.effect.clear();
+        act_on_call(&mut self.effect, &call, &mut self.state)?;
+        self.spare.keep(call);
+        if self.effect.has_more() {
+            put_more(
+                &mut self.effect,
+                &mut self.messages,
+                &mut self.output,
+                &mut self.saved,
+            )?;
+            if let Some(code) = self.effect.exit() {
+                self.begin_argument();
+                return Ok(Turned::Ends(TurnEnd::Exited(code)));
+            }
+            if self.effect.skips() {
+                self.begin_argument();
+                return Ok(Turned::SkipsLine);
+            }
+            push_value(input, self.effect.take_push())?;
+            self.begin_argument();
+            return Ok(Turned::GoesOn);
+        }
+        push_value(input, self.effect.take_push())?;
+        self.begin_argument();
+        Ok(Turned::GoesOn)
+    }
+
+    /// Gives the effect the memory of a text that was read to its end, if it has none.
+    #[inline(always)]
+    fn lend(&mut self, input: &mut Input)
+        ensures same { self.new ≡ self.old }
+        ensures input { input.new ≡ input.old }
+    {
+        if !self.effect.has_memory() {
+            self.effect.lend(input.take_buffer());
+        }
+    }
+
+    /// Pushes a text with its arguments substituted: it is read before everything else.
+    #[inline(always)]
+    fn take_text(&mut self, text: Bytes, input: &mut Input) -> Result<Turned, TurnFault>
+        requires { IsTaken input.old }
+        ensures { Steps result self.old self.new input.old input.new (λ t. (c : Call) (x : List ℕ) → c.definition ≡ Text x → text ≡ subst x c.name c.done self.old.state.quotes
+            → Moves input.old.pending.may_follow self.new input.new.pending t
+            (λ z more o m. called_within self.old.open_calls c (here_of o m self.old (longer z more input.old.pending)))) }
+    {
+        push_text(input, text)?;
+        self.begin_argument();
+        Ok(Turned::GoesOn)
+    }
+
+    /// Marks the argument that contains a call as begun, and gives the call around it memory for it.
+    #[inline(always)]
+    fn begin_argument(&mut self)
+        ensures { self.new ≡ with_made [] [] None self.old }
+    {
+        if let Some(around) = &mut self.innermost {
+            around.begin();
+            self.spare.lend(around);
+        }
+    }
+}

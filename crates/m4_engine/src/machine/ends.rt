@@ -1,0 +1,59 @@
+//! The end of the input, also inside a string, a comment or a list. Manual: "Quoting input tokens", "Comments in m4 input",
+//! "Macro arguments".
+
+ghost use Rattle.std.specs.Prelude.{◌≡◌, ◌<◌, Bool, List, ℕ, Some, Ok};
+ghost use Rattle.m4_input.specs.Token.{Refused};
+ghost use Rattle.m4_input.specs.Pending.{Pending};
+ghost use Rattle.m4_engine.specs.Engine.{Moves, Makes, Extended, mode_of, step, here_of, outer_of};
+ghost use Rattle.m4_engine.specs.Expand.{take_front, take_end};
+
+use crate::machine::Machine;
+use crate::turned::{TurnEnd, TurnFault, Turned};
+use m4_builtins::messages::error_message;
+use m4_builtins::place::Place;
+use m4_input::front::Unended;
+use m4_input::input::Input;
+
+impl Machine {
+    /// Acts on the end of the input.
+    pub(super) fn take_end(&mut self) -> Result<Turned, TurnFault>
+        ensures { Makes result self.old self.new (λ t. (may : Bool) (p : Pending) (before : Extended) → Moves may self.new p t
+            (λ z more o m. step (outer_of self.old.open_calls)
+            (take_end (mode_of self.old.open_calls) (here_of o m self.old (before z more))))) }
+    {
+        let Some(call) = &self.innermost else {
+            return Ok(Turned::Ends(TurnEnd::Done));
+        };
+        let place = call.place();
+        let message = error_message(self.alloc, place, b"end of input in argument list")?;
+        self.add_message(message.as_slice())?;
+        Ok(Turned::Ends(TurnEnd::EndInArguments))
+    }
+
+    /// Reports a string or a comment that has no end.
+    pub(super) fn take_unended(
+        &mut self,
+        what: Unended,
+        line: u64,
+        input: &Input,
+    ) -> Result<Turned, TurnFault>
+        ensures { Makes result self.old self.new (λ t. (may : Bool) (p : Pending) (before : Extended) → ((z : List ℕ) (more : Bool) → (before z more).file ≡ input.now.pending.file)
+            → Moves may self.new p t (λ z more o m. step (outer_of self.old.open_calls)
+            (take_front (Refused what line) (here_of o m self.old (before z more))))) }
+    {
+        let place = Place {
+            file: input.share_name()?,
+            line,
+        };
+        match what {
+            Unended::InString => {
+                self.add_error(&place, b"end of input in string")?;
+                Ok(Turned::Ends(TurnEnd::EndInString))
+            }
+            Unended::InComment => {
+                self.add_error(&place, b"end of input in comment")?;
+                Ok(Turned::Ends(TurnEnd::EndInComment))
+            }
+        }
+    }
+}

@@ -1,0 +1,72 @@
+//! The limits of calls, and of calls that are open, and the errors that report them. Manual: "Limits control".
+
+ghost use Rattle.std.specs.Prelude.{◌≡◌, ◌<◌, ◌&&◌, nat_lt, ◌++◌, OnOk, true, codes};
+ghost use Rattle.std.specs.Fmt.{decimal};
+ghost use Rattle.m4_builtins.specs.Messages.{error};
+ghost use Rattle.m4_engine.specs.Engine.{with_engine_message, with_one_call, calls_text, nested_text, is_deep_in, allows_call};
+
+use crate::call::OpenCall;
+use crate::machine::Machine;
+use crate::turned::TurnFault;
+use itoa::Buffer;
+use m4_builtins::place::Place;
+
+impl Machine {
+    /// Returns whether the limits allow one more call.
+    pub fn allows_call(&self) -> bool
+        ensures { result ≡ allows_call self.now }
+    {
+        self.has_room() && !self.is_deep()
+    }
+
+    /// Returns whether the limit of calls allows one more.
+    pub(super) fn has_room(&self) -> bool
+        ensures { result ≡ nat_lt self.now.calls self.now.limits.calls }
+    {
+        self.calls < self.most_calls
+    }
+
+    /// Counts a call.
+    pub(super) fn count(&mut self)
+        requires { nat_lt self.old.calls self.old.limits.calls ≡ true }
+        ensures { self.new ≡ with_one_call self.old }
+    {
+        self.calls += 1;
+    }
+
+    /// Returns whether one more open call would exceed the limit.
+    pub(super) fn is_deep(&self) -> bool
+        ensures { result ≡ is_deep_in self.now }
+    {
+        let around = usize::from(self.innermost.is_some());
+        let open = self.outer.len() + around;
+        self.most_nested > 0 && open as u64 >= self.most_nested
+    }
+
+    /// Adds the error that there are too many calls.
+    pub(super) fn report_call_limit(&mut self, call: &OpenCall) -> Result<(), TurnFault>
+        ensures { OnOk result (self.new ≡ with_engine_message (error call.now.place (calls_text self.old.limits.calls)) self.old) }
+    {
+        self.report_limit(call.place(), self.most_calls, b" calls")
+    }
+
+    /// Adds the error that too many calls are nested.
+    pub(super) fn report_nesting_limit(&mut self, call: &OpenCall) -> Result<(), TurnFault>
+        ensures { OnOk result (self.new ≡ with_engine_message (error call.now.place (nested_text self.old.limits.nesting)) self.old) }
+    {
+        self.report_limit(call.place(), self.most_nested, b" nested calls")
+    }
+
+    /// Adds the error that a call exceeds a limit.
+    fn report_limit(&mut self, place: &Place, limit: u64, what: &[u8]) -> Result<(), TurnFault>
+        ensures { OnOk result (self.new
+            ≡ with_engine_message (error place.now (codes "more than " ++ decimal limit ++ what.now)) self.old) }
+    {
+        let mut buffer = Buffer::new();
+        let mut text = Vec::new(self.alloc);
+        text.extend_from_slice(b"more than ")?;
+        text.extend_from_slice(buffer.format(limit).as_bytes())?;
+        text.extend_from_slice(what)?;
+        self.add_error(place, &text)
+    }
+}
