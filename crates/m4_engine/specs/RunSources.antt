@@ -4,6 +4,7 @@
 use Rattle.std.specs.Prelude.{◌≡◌, ℕ, Bool, true, false, List, [], ◌∷◌, ◌++◌, map, Option, Some, None, ◌⊎◌, ◌||◌}
 use Rattle.m4_state.specs.Device.{Script, after_bytes, one_more}
 use Rattle.m4_frozen.specs.declared.fault.FrozenKind.TheVariants as kinds
+use Rattle.m4_frozen.specs.declared.fault.FrozenFault.{FrozenFault}
 use Rattle.m4_engine.specs.declared.ending.Cause.{Cause}
 use Rattle.m4_engine.specs.declared.ending.Cause.TheVariants as causes
 use Rattle.m4_engine.specs.declared.source.Source.{Source as RunSource}
@@ -119,13 +120,22 @@ abbrev pub DescribesFrozen : {R : Type 0} → (R → Option Script) → Option R
 DescribesFrozen script None file = file ≡ None
 DescribesFrozen script (Some reader) file = (s : Script) × (script reader ≡ Some s) × (file ≡ Some s)
 
--- if a run ends by a read fault of its frozen file, its reader failed, once; if the file was loaded, the
--- reader didn't fail
+-- a fault of a frozen file: if it is a read fault, the reader failed, once; want of memory has no place
+pub record IsFaultBy (fault : FrozenFault) (old new : ℕ) : Type 0 where
+  pub read : fault.kind ≡ kinds.Read → new ≡ one_more old
+  pub no_memory : fault.kind ≡ kinds.OutOfMemory → fault.offset ≡ 0
+
+-- the run does not end by a frozen file
+abbrev pub IsUnrefused : Cause → Type 0
+IsUnrefused (causes.Frozen fault) = ⊥
+IsUnrefused cause = Unit {0}
+
+-- a run that ends by the fault of its frozen file; if the file was loaded, its reader didn't fail
 abbrev pub frozen_fails : Cause → ℕ → ℕ → Type 0
-frozen_fails (causes.Frozen fault) old new = fault.kind ≡ kinds.Read → new ≡ one_more old
+frozen_fails (causes.Frozen fault) old new = IsFaultBy fault old new
 frozen_fails cause old new = new ≡ old
 
 abbrev pub FrozenFailsBy : {R : Type 0} → (R → ℕ) → Cause → Option R → Option R → Type 0
-FrozenFailsBy failures cause None None = Unit {0}
+FrozenFailsBy failures cause None None = IsUnrefused cause
 FrozenFailsBy failures cause (Some before) (Some after) = frozen_fails cause (failures before) (failures after)
 FrozenFailsBy failures cause before after = ⊥
