@@ -1,3 +1,5 @@
+mod ClosedCounts
+mod Counts
 mod EndLemmas
 mod Examples
 mod ExtendedFiles
