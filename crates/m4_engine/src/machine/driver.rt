@@ -3,7 +3,7 @@
 
 ghost use Rattle.std.specs.Prelude.{◌≡◌, ◌<◌, ◌≤◌, true, None, Ok, [], length, take, OnOk, OnErr};
 ghost use Rattle.m4_state.specs.Device.{with_bytes};
-ghost use Rattle.m4_input.specs.Input.{failures_after};
+ghost use Rattle.m4_input.specs.Input.{IsLasting, failures_after};
 ghost use Rattle.m4_engine.specs.Engine.{IsReady, after_flush};
 ghost use Rattle.m4_engine.specs.Writers.{both, FailsBy, FailsOnce};
 ghost use Rattle.m4_engine.specs.Continued.{HandGives, OrderBy, IsFlushed, cause_of, fault_cause};
@@ -26,11 +26,13 @@ pub(crate) const BLOCK: usize = 65536;
 
 /// Returns the cause that ends an expansion whose next block is missing.
 fn cause_of_fault(fault: InputFault) -> Cause
+    requires { IsLasting fault }
     ensures { result ≡ fault_cause fault }
 {
     match fault {
         InputFault::Read => Cause::Read,
-        _ => Cause::OutOfMemory,
+        InputFault::OutOfMemory => Cause::OutOfMemory,
+        InputFault::EndInString { .. } | InputFault::EndInComment { .. } => unreachable!(),
     }
 }
 
