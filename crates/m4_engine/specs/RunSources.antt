@@ -1,6 +1,6 @@
 -- RunSources: the definitions' sources for those of a run, by the bytes that their readers deliver.
 -- Believed. Manual: "Command line files". Words: source_of, ExtendsRead, ExtendsSource, DescribeSources, any_unopened,
--- AllPairs, AnyFailed, is_sound, ReadersFailBy, AllConsumeOnly, DescribesFrozen, FrozenFailsBy.
+-- MissedBefore, MissedBy, AllPairs, AnyFailed, is_sound, ReadersFailBy, AllConsumeOnly, DescribesFrozen, FrozenFailsBy.
 use Rattle.std.specs.Prelude.{◌≡◌, ℕ, Bool, true, false, List, [], ◌∷◌, ◌++◌, map, Option, Some, None, ◌⊎◌, ◌||◌}
 use Rattle.m4_state.specs.Device.{Script, after_bytes, one_more}
 use Rattle.m4_frozen.specs.declared.fault.FrozenKind.TheVariants as kinds
@@ -75,6 +75,22 @@ is_unopened (sources.Unopened name) = true
 abbrev pub any_unopened : {R : Type 0} → List (RunSource R) → Bool
 any_unopened [] = false
 any_unopened (x ∷ xs) = (is_unopened x || any_unopened xs)
+
+-- a run ended in one of its sources, and those after it are as they were: whether one before it wasn't opened
+pub record MissedBefore {R : Type 0} (before after : List (RunSource R)) (any_missing : Bool) : Type 0 where
+  pub first : List (RunSource R)
+  pub name : List ℕ
+  pub reader : R
+  pub rest : List (RunSource R)
+  pub parts : before ≡ first ++ sources.Opened name reader ∷ rest
+  pub read : List (RunSource R)
+  pub untouched : after ≡ read ++ rest
+  pub missed : any_missing ≡ any_unopened first
+
+-- or it ended after all of them
+abbrev pub MissedBy : {R : Type 0} → List (RunSource R) → List (RunSource R) → Bool → Type 0
+MissedBy before after any_missing =
+    MissedBefore before after any_missing ⊎ (any_missing ≡ any_unopened before)
 
 -- P relates the elements at each position of two lists, which are equally long
 abbrev pub AllPairs : {A : Type 0} → (A → A → Type 0) → List A → List A → Type 0
