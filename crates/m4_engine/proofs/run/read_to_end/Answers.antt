@@ -35,7 +35,7 @@ pub returns-in_err-close-clause-left : goal.returns-in_err-close-clause-left
 returns-in_err-close-clause-left g c = close_left c.args.freezes c.read_sources.new.session c.close.new.session _ c.in_err-close.field-0.0 c.close.result c.from_residual-in_err-close.result (search rules) (search rules) c.in_ok-read_sources.ensures.unfinished c.close.ensures.gives
 
 pub returns-in_err-read_sources-clause-reached : goal.returns-in_err-read_sources-clause-reached
-returns-in_err-read_sources-clause-reached g c = λ n. early_reached g.R.ByteSource.script c.args.sources.now c.read_sources.new.sources c.args.session.now c.read_sources.new.session _ c.in_err-read_sources.field-0.0 c.read_sources.result c.from_residual.result (search rules) (search rules) c.read_sources.ensures.reached
+returns-in_err-read_sources-clause-reached g c = λ n. early_reached g.R.ByteSource.script c.args.sources.now c.read_sources.new.sources c.args.session.now c.read_sources.new.session _ c.in_err-read_sources.field-0.0 c.read_sources.result c.from_residual.result (search rules) (search rules) c.read_sources.ensures.left c.read_sources.ensures.reached
 
 pub returns-in_err-close-clause-reached : goal.returns-in_err-close-clause-reached
 returns-in_err-close-clause-reached g c = λ n. late_reached g.R.ByteSource.script c.args.sources.now c.read_sources.new.sources c.args.freezes c.args.session.now c.read_sources.new.session c.close.new.session _ _ _ _ _ _ n c.in_ok-read_sources.ensures.unfinished c.in_ok-read_sources.ensures.reached _ c.in_err-close.field-0.0 c.close.result c.from_residual-in_err-close.result refl (search rules) (search rules) c.close.ensures.gives
