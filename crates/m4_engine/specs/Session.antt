@@ -272,6 +272,7 @@ session_after_wraps s = after_wraps s.limits (progress_of s)
 -- the run was finished: the saved texts were read, and the diversions undiverted, unless it freezes
 pub record Closed (freezes : Bool) (old new : SessionState) (w : Contents) : Type 0 where
   pub live : IsOpen old
+  pub limits : new.limits ≡ old.limits
   pub finished : new.finished ≡ true
   pub over : new.over ≡ None
   pub any_missing : new.any_missing ≡ old.any_missing
