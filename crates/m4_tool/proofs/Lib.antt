@@ -1,4 +1,3 @@
-mod ClosedCounts
 mod Counts
 mod EndLemmas
 mod Examples
