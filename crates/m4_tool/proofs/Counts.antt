@@ -4,11 +4,11 @@ use Rattle.std.specs.Prelude.{Result, Ok, Err}
 use Rattle.m4_state.specs.Device.{count_after, one_more}
 use Rattle.m4_engine.specs.declared.ending.Cause.{Cause}
 use Rattle.m4_engine.specs.declared.ending.Cause.TheVariants as causes
-use Rattle.m4_engine.specs.Writers.{Both, ByCause, NoneOfThree, OneOfThree, Three, NoneFailed, OneFailed, IsSpared}
+use Rattle.m4_engine.specs.Writers.{ByCause}
 use Rattle.m4_tool.specs.declared.followed.Failure.{Failure}
 use Rattle.m4_tool.specs.declared.followed.Failure.TheVariants as failures
-use Rattle.m4_tool.specs.Line.{AnyRose, Counts, FailedAs, Grew, GrewBy, NoneRose, Rose, counts, failure_of, failure_by, frozen_failure}
-use Rattle.m4_tool.specs.LineRun.{AllGrew, ClosedAs, CountedBy, FlushedAs, RanCounts, RefusedAs, failure_after}
+use Rattle.m4_tool.specs.Line.{AnyRose, Counts, FailedAs, Grew, GrewBy, NoneRose, Rose, counts}
+use Rattle.m4_tool.specs.LineRun.{AllGrew, ClosedAs, FlushedAs, RanCounts}
 
 pub grew_none : (f g : ℕ) → g ≡ f → Grew f g
 grew_none f g e = omega (arith, e)

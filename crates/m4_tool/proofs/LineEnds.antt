@@ -1,7 +1,7 @@
 -- The end of a line, by the end of its run and by what was flushed.
 use Rattle.std.proofs.Common.{◌≡◌, ◌≢◌, ℕ, Bool, true, false, List, [], ◌∷◌, ◌++◌, Option, Some, None, refl, sym, ap, ◌∙◌, subst, append-nil, ◌⊎◌, inl, inr}
 use Rattle.std.specs.Prelude.{option_map, unwrap_or, codes, Result, Ok, Err}
-use Rattle.m4_state.specs.Device.{Script, with_bytes, HasBegun, Puts, count_after, one_more}
+use Rattle.m4_state.specs.Device.{Script, with_bytes, HasBegun, Puts, count_after}
 use Rattle.m4_state.specs.declared.device.DeviceFault.{DeviceFault}
 use Rattle.m4_frozen.specs.declared.fault.FrozenFault.{FrozenFault}
 use Rattle.m4_state.proofs.CallerLaws.{with_bytes-nil}
