@@ -6,7 +6,7 @@ use Rattle.m4_state.specs.Device.{Script, after_bytes, with_bytes, HasBegun, IsA
 use Rattle.m4_input.specs.declared.fault.InputFault.{InputFault}
 use Rattle.m4_input.specs.declared.fault.InputFault.TheVariants as faults
 use Rattle.m4_input.specs.Pending.{Pending}
-use Rattle.m4_input.specs.Input.{Held, longer, Reads, block, failures_after}
+use Rattle.m4_input.specs.Input.{Held, IsLasting, longer, Reads, block, failures_after}
 use Rattle.m4_input.proofs.Calls.{reads_nothing}
 use Rattle.m4_engine.specs.declared.ending.Cause.{Cause}
 use Rattle.m4_engine.specs.declared.ending.Cause.TheVariants as causes
@@ -355,6 +355,13 @@ fault_counted v e a b j k (faults.EndInComment l) old mid new n g i c = absurd g
 
 pub fault_counted_so : (v : Wanted) (e : Engine) (a b : Option Script) (j k : Held) (f : InputFault) (cause : Cause) (old mid new : ℕ) → cause ≡ fault_cause f → j.fault ≡ None → ReadsOn v e a b j k (Err f) → mid ≡ old → new ≡ failures_after j.fault k.fault mid → ReadsBy cause old new
 fault_counted_so v e a b j k f cause old mid new h n g i c = subst (λ (x : Cause). ReadsBy x old new) (sym h) (fault_counted v e a b j k f old mid new n g i c)
+
+-- a reader or an allocation failed
+pub lasting_so : (v : Wanted) (e : Engine) (a b : Option Script) (j k : Held) (f : InputFault) → ReadsOn v e a b j k (Err f) → IsLasting f
+lasting_so v e a b j k faults.Read g = tt
+lasting_so v e a b j k faults.OutOfMemory g = tt
+lasting_so v e a b j k (faults.EndInString l) g = absurd g
+lasting_so v e a b j k (faults.EndInComment l) g = absurd g
 
 -- no writer failed
 pub none_failed : (cause : Cause) (f : InputFault) (w : Failures) → cause ≡ fault_cause f → NoneFailed w → FailsBy cause w

@@ -242,6 +242,24 @@ output_stays e e' i j (turns.Ends cause) h k =
     let may : Bool = (i.pending).may_follow in
     longer_by e e' (subst (λ v. Extends (so_far_of [] [] e) (made_by v)) (h [] may (nothing_follows may) [] []) (move_keeps (configuration [] [] e (longer [] may i.pending))))
 
+front_by : (e e' : Engine) → Extends (so_far_of [] [] e) (so_far_of [] [] e') → (x : List ℕ) × (e'.output ≡ e.output ++ x)
+front_by e e' x = (x.more, x.output)
+
+-- and begins with what was there
+pub output_front : (e e' : Engine) (i j : Held) (t : Turned) → Moves (i.pending).may_follow e' j.pending t (λ z more o m. moved (configuration o m e (longer z more i.pending))) → IsTurned e e' i j t → (x : List ℕ) × (e'.output ≡ e.output ++ x)
+output_front e e' i j turns.GoesOn h k =
+    let may : Bool = (i.pending).may_follow in
+    front_by e e' (subst (λ v. Extends (so_far_of [] [] e) (made_by v)) (h [] may (nothing_follows may) [] []) (move_keeps (configuration [] [] e (longer [] may i.pending))))
+output_front e e' i j turns.SkipsLine h k =
+    let may : Bool = (i.pending).may_follow in
+    front_by e e' (subst (λ r. Extends (so_far_of [] [] e) r)
+    (ap made_by (h [] may (nothing_follows may) [] []) ∙ skipping_makes (outer_of e'.open_calls) (line_length (text_of (longer [] may j.pending))) (here_of [] [] e' (longer [] may j.pending)))
+    (move_keeps (configuration [] [] e (longer [] may i.pending))))
+output_front e e' i j turns.NeedsMore h k = ([], ap (λ (d : Engine). d.output) k.engine ∙ sym (append-nil e.output))
+output_front e e' i j (turns.Ends cause) h k =
+    let may : Bool = (i.pending).may_follow in
+    front_by e e' (subst (λ v. Extends (so_far_of [] [] e) (made_by v)) (h [] may (nothing_follows may) [] []) (move_keeps (configuration [] [] e (longer [] may i.pending))))
+
 -- the expansion of an input
 pub input_keeps : (limits : Limits) (r : RunSoFar) (p : Pending) → Extends r (expand_input limits r p).so_far
 input_keeps limits r p = go (expand (expansion_of limits r p)) (whole_keeps (expansion_of limits r p))

@@ -281,6 +281,11 @@ once_limits e e1 i i1 (inl h) = ap (λ (d : Engine). d.limits) h.0
 once_limits e e1 i i1 (inr (inl h)) = ap (λ (d : Engine). d.limits) h.engine
 once_limits e e1 i i1 (inr (inr h)) = ap (λ (d : Engine). d.limits) h.engine
 
+once_messages : (e e1 : Engine) (i i1 : Held) → PassesOnce e e1 i i1 → e1.messages ≡ e.messages
+once_messages e e1 i i1 (inl h) = ap (λ (d : Engine). d.messages) h.0
+once_messages e e1 i i1 (inr (inl h)) = ap (λ (d : Engine). d.messages) h.engine
+once_messages e e1 i i1 (inr (inr h)) = ap (λ (d : Engine). d.messages) h.engine
+
 -- and so of several passes
 both_reach : (e e1 e2 : Engine) (p p1 p2 : Pending) → p1.may_follow ≡ p.may_follow → Reaches e p e1 p1 → Reaches e1 p1 e2 p2 → Reaches e p e2 p2
 both_reach e e1 e2 p p1 p2 f a b =
@@ -309,6 +314,10 @@ limits : (ss : List (Engine × Held)) (e e1 : Engine) (i i1 : Held) → ArePasse
 limits [] e e1 i i1 h = ap (λ (d : Engine). d.limits) h.0
 limits (s ∷ ss) e e1 i i1 h = limits ss s.0 e1 s.1 i1 h.1 ∙ once_limits e s.0 i s.1 h.0
 
+messages : (ss : List (Engine × Held)) (e e1 : Engine) (i i1 : Held) → ArePasses ss e e1 i i1 → e1.messages ≡ e.messages
+messages [] e e1 i i1 h = ap (λ (d : Engine). d.messages) h.0
+messages (s ∷ ss) e e1 i i1 h = messages ss s.0 e1 s.1 i1 h.1 ∙ once_messages e s.0 i s.1 h.0
+
 pub passes_reaches : (e e1 : Engine) (i i1 : Held) → Passes e e1 i i1 → Reaches e i.pending e1 i1.pending
 passes_reaches e e1 i i1 h = reach h.0 e e1 i i1 h.1
 
@@ -320,6 +329,9 @@ passes_follows e e1 i i1 h = follows h.0 e e1 i i1 h.1
 
 pub passes_limits : (e e1 : Engine) (i i1 : Held) → Passes e e1 i i1 → e1.limits ≡ e.limits
 passes_limits e e1 i i1 h = limits h.0 e e1 i i1 h.1
+
+pub passes_messages : (e e1 : Engine) (i i1 : Held) → Passes e e1 i i1 → e1.messages ≡ e.messages
+passes_messages e e1 i i1 h = messages h.0 e e1 i i1 h.1
 
 -- a further pass
 further : (ss : List (Engine × Held)) (e e1 e2 : Engine) (i i1 i2 : Held) → ArePasses ss e e1 i i1 → PassesOnce e1 e2 i1 i2 → Passes e e2 i i2

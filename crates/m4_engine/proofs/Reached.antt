@@ -62,12 +62,12 @@ module _ (o m : List ℕ) (limits : Limits) where
   in_front_is p name x = settled_front p.over p.so_far name x
 
 -- what was written after it
-further : (old mid new : Option (List ℕ)) (o x y : List ℕ) → mid ≡ with_bytes old o → new ≡ with_bytes mid (x ++ y) → new ≡ with_bytes old ((o ++ x) ++ y)
+pub further : (old mid new : Option (List ℕ)) (o x y : List ℕ) → mid ≡ with_bytes old o → new ≡ with_bytes mid (x ++ y) → new ≡ with_bytes old ((o ++ x) ++ y)
 further old mid new o x y e f =
     f ∙ ap (λ (v : Option (List ℕ)). with_bytes v (x ++ y)) e ∙ with_bytes-append old o (x ++ y) ∙ ap (with_bytes old) (sym (append_assoc o x y))
 
 module _ (o m : List ℕ) (out0 out out' reported0 reported reported' : Option (List ℕ)) (e : out ≡ with_bytes out0 o) (h : reported ≡ with_bytes reported0 m) where
-  exact_further : (cause : Cause) (s : SettledSoFar) → ExactAtFault cause s (writers out out' reported reported') → ExactAtFault cause (in_front o m s) (writers out0 out' reported0 reported')
+  pub exact_further : (cause : Cause) (s : SettledSoFar) → ExactAtFault cause s (writers out out' reported reported') → ExactAtFault cause (in_front o m s) (writers out0 out' reported0 reported')
   exact_further causes.Read s x = (
     x.0,
     record {
@@ -86,7 +86,7 @@ module _ (o m : List ℕ) (out0 out out' reported0 reported reported' : Option (
   exact_further causes.Write s x = tt
   exact_further causes.OutOfMemory s x = tt
 
-  pub asked_further : (f g : List ℕ → SettledSoFar) (cause : Cause) (taken : List ℕ) → ((x : List ℕ) → g x ≡ in_front o m (f x)) → AskedAt f cause taken (writers out out' reported reported') → AskedAt g cause taken (writers out0 out' reported0 reported')
+  abbrev pub asked_further : (f g : List ℕ → SettledSoFar) (cause : Cause) (taken : List ℕ) → ((x : List ℕ) → g x ≡ in_front o m (f x)) → AskedAt f cause taken (writers out out' reported reported') → AskedAt g cause taken (writers out0 out' reported0 reported')
   asked_further f g cause taken k a = record {
     asked = a.asked;
     last = a.last;

@@ -110,7 +110,7 @@ pub run_fails : {R : Type 0} (failures : R → ℕ) (status : ℕ) (xs ys : List
 run_fails failures status xs ys r e f h = subst (λ (z : Ending). ReadersFailBy failures z.cause xs ys) (sym f) (ended_fails failures status xs ys r h)
 
 -- whether a source wasn't opened, where so many were read
-or_turn : (a r m : Bool) → (r || (a || m)) ≡ ((a || r) || m)
+pub or_turn : (a r m : Bool) → (r || (a || m)) ≡ ((a || r) || m)
 or_turn true true m = refl
 or_turn true false m = refl
 or_turn false r m = refl

@@ -20,7 +20,7 @@ use Rattle.m4_engine.specs.Start.{Start, From, begun}
 use Rattle.m4_engine.specs.Run.{limits_of}
 use Rattle.m4_engine.specs.Settled.{SettledSoFar, settled_in}
 use Rattle.m4_engine.specs.Laws.{IsBeginning}
-use Rattle.m4_engine.specs.Session.{SessionState, progress_of, how_over, session_from, IsOpen, EndGives, CloseGives, BeginGives, IsBegun}
+use Rattle.m4_engine.specs.Session.{SessionState, progress_of, how_over, session_from, IsOpen, EndGives, CloseGives, BeginGives, IsBegun, IsLeft}
 use Rattle.m4_engine.specs.Writers.{Contents, Three, writers, HasWritten}
 use Rattle.m4_engine.specs.WholeRun.{ending_by}
 use Rattle.m4_engine.specs.OnePass.{IsRead, Reaches, AreRead, settled_after, ExactAtFault, Reached, OnePassBy, OnePass}
@@ -160,33 +160,43 @@ module _ {R : Type 0} (script : R → Option Script) (old new : List (RunSource 
   goes_on : (after_sources s.limits h.0 (progress_of s)).over ≡ None
   goes_on = sym (ap (λ (p : Progress). p.over) (h.2).progress) ∙ ap how_over l.over
 
-  reached_end : (cause : Cause) → ((x : SettledSoFar) (w : Contents) → ExactAtFault cause x w) → (r : Result Unit Stop) → EndGives freezes s1 s2 (writers out out' reported reported') r → Reached script old new s.limits (progress_of s) cause (writers out0 out' reported0 reported')
-  reached_end cause k r g =
+  abbrev AllAsked : Cause → Type 0
+  AllAsked cause = (r : Reached script old new s.limits (progress_of s) cause (writers out0 out' reported0 reported')) × ((r.at).asked ≡ r.taken)
+
+  past_end : (cause : Cause) → ((x : SettledSoFar) (w : Contents) → ExactAtFault cause x w) → (r : Result Unit Stop) → EndGives freezes s1 s2 (writers out out' reported reported') r → AllAsked cause
+  past_end cause k r g =
       let q = end_wrote freezes s1 s2 (writers out out' reported reported') r l g in
-      let p = last_is script old new h.0 s.limits (progress_of s) n h.1 goes_on in
-      record {
-        before = p.before;
-        name = p.name;
-        taken = p.taken;
-        place = p.place;
-        at = record {
-          asked = p.taken;
-          last = [];
-          parts = sym (append-nil p.taken);
-          within = omega arith;
-          undecided = (p.settled).undecided;
-          written = record {
-            more = ((p.settled).output).0 ++ q.0;
-            output = more_than out0 out out' _ _ q.0 (p.settled).output (h.2).output (q.2).output;
-            more_messages = ((p.settled).messages).0 ++ q.1;
-            messages = more_than reported0 reported reported' _ _ q.1 (p.settled).messages (h.2).messages (q.2).messages;
+      let p = last_is script old new h.0 s.limits (progress_of s) n h.1 goes_on in (
+        record {
+          before = p.before;
+          name = p.name;
+          taken = p.taken;
+          place = p.place;
+          at = record {
+            asked = p.taken;
+            last = [];
+            parts = sym (append-nil p.taken);
+            within = omega arith;
+            undecided = (p.settled).undecided;
+            written = record {
+              more = ((p.settled).output).0 ++ q.0;
+              output = more_than out0 out out' _ _ q.0 (p.settled).output (h.2).output (q.2).output;
+              more_messages = ((p.settled).messages).0 ++ q.1;
+              messages = more_than reported0 reported reported' _ _ q.1 (p.settled).messages (h.2).messages (q.2).messages;
+            };
+            exact = k _ _;
           };
-          exact = k _ _;
-        };
-      }
+        },
+        refl,
+      )
+
+  reached_end : (cause : Cause) → ((x : SettledSoFar) (w : Contents) → ExactAtFault cause x w) → (r : Result Unit Stop) → EndGives freezes s1 s2 (writers out out' reported reported') r → Reached script old new s.limits (progress_of s) cause (writers out0 out' reported0 reported')
+  reached_end cause k r g = (past_end cause k r g).0
 
   pub closed_reached : (wrapped : Bool) (w : Three (Option (List ℕ))) (r : Result Unit Stop) → w.two ≡ writers out out' reported reported' → r ≡ Ok tt → CloseGives freezes s1 s2 w r → RunReached script old new s (writers out0 out' reported0 reported') (Ok wrapped)
-  closed_reached wrapped w r e f g = reached_end causes.Done (λ x w. tt) r (subst (λ v. EndGives freezes s1 s2 v r) e (close_ends freezes s1 s2 w r g))
+  closed_reached wrapped w r e f g =
+      let q = past_end causes.Done (λ x w. tt) r (subst (λ v. EndGives freezes s1 s2 v r) e (close_ends freezes s1 s2 w r g)) in
+      record { sources = h.0; read = h.1; reached = q.0; all = q.1 }
 
   end_by : (e : Stop) → EndGives freezes s1 s2 (writers out out' reported reported') (Err e) → RunReached script old new s (writers out0 out' reported0 reported') (Err e)
   end_by stops.Finished g = absurd (g.closed l)
@@ -208,23 +218,23 @@ module _ {R : Type 0} (script : R → Option Script) (old new : List (RunSource 
       (end_by e (subst (EndGives freezes s1 s2 (writers out out' reported reported')) f (subst (λ v. EndGives freezes s1 s2 v q) i (close_ends freezes s1 s2 w q g))))
 
 -- the run ended within a source
-early_by : {R : Type 0} (script : R → Option Script) (old new : List (RunSource R)) (s s1 : SessionState) (w : Contents) (e : Stop) → SourcesGive script old new s s1 w (Err e) → RunReached script old new s w (Err e)
-early_by script old new s s1 w stops.Finished h = h
-early_by script old new s s1 w (stops.Ended causes.Done) h = h
-early_by script old new s s1 w (stops.Ended (causes.Exited n)) h = h
-early_by script old new s s1 w (stops.Ended causes.EndInString) h = h
-early_by script old new s s1 w (stops.Ended causes.EndInComment) h = h
-early_by script old new s s1 w (stops.Ended causes.EndInArguments) h = h
-early_by script old new s s1 w (stops.Ended causes.ExpansionLimit) h = h
-early_by script old new s s1 w (stops.Ended causes.NestingLimit) h = h
-early_by script old new s s1 w (stops.Ended (causes.Frozen f)) h = h
-early_by script old new s s1 w (stops.Ended causes.Read) h = h
-early_by script old new s s1 w (stops.Ended causes.Write) h = h
-early_by script old new s s1 w (stops.Ended causes.OutOfMemory) h = h
+early_by : {R : Type 0} (script : R → Option Script) (old new : List (RunSource R)) (s s1 : SessionState) (w : Contents) (e : Stop) → IsLeft {A = Unit} s1 (Err e) → SourcesGive script old new s s1 w (Err e) → RunReached script old new s w (Err e)
+early_by script old new s s1 w stops.Finished l h = h
+early_by script old new s s1 w (stops.Ended causes.Done) l h = absurd l
+early_by script old new s s1 w (stops.Ended (causes.Exited n)) l h = h
+early_by script old new s s1 w (stops.Ended causes.EndInString) l h = h
+early_by script old new s s1 w (stops.Ended causes.EndInComment) l h = h
+early_by script old new s s1 w (stops.Ended causes.EndInArguments) l h = h
+early_by script old new s s1 w (stops.Ended causes.ExpansionLimit) l h = h
+early_by script old new s s1 w (stops.Ended causes.NestingLimit) l h = h
+early_by script old new s s1 w (stops.Ended (causes.Frozen f)) l h = h
+early_by script old new s s1 w (stops.Ended causes.Read) l h = h
+early_by script old new s s1 w (stops.Ended causes.Write) l h = h
+early_by script old new s s1 w (stops.Ended causes.OutOfMemory) l h = h
 
-pub early_reached : {R : Type 0} (script : R → Option Script) (old new : List (RunSource R)) (s s1 : SessionState) (w : Contents) (e : Stop) (q : Result Unit Stop) (r : Result Bool Stop) → q ≡ Err e → r ≡ Err e → SourcesGive script old new s s1 w q → RunReached script old new s w r
-early_reached script old new s s1 w e q r f k h =
-    subst (RunReached script old new s w) (sym k) (early_by script old new s s1 w e (subst (SourcesGive script old new s s1 w) f h))
+pub early_reached : {R : Type 0} (script : R → Option Script) (old new : List (RunSource R)) (s s1 : SessionState) (w : Contents) (e : Stop) (q : Result Unit Stop) (r : Result Bool Stop) → q ≡ Err e → r ≡ Err e → IsLeft s1 q → SourcesGive script old new s s1 w q → RunReached script old new s w r
+early_reached script old new s s1 w e q r f k l h =
+    subst (RunReached script old new s w) (sym k) (early_by script old new s s1 w e (subst (IsLeft s1) f l) (subst (SourcesGive script old new s s1 w) f h))
 
 -- ---- the whole run
 
@@ -255,7 +265,7 @@ module _ {R : Type 0} (script : R → Option Script) (old new : List (RunSource 
       ∙ ap (λ (p : Progress). settled_in (limits_of o) p name x) (sources_after issued [] (limits_of o) before (progress_of (session_from o k)))
       ∙ in_front_is issued [] (limits_of o) (after_sources (limits_of o) before (progress_of (session_from o k))) name x
 
-  from_start : (cause : Cause) → Reached script old new (limits_of o) (progress_of (session_from o k)) cause (writers out out' reported reported') → Reached script old new (limits_of o) (begun (From k issued)) cause (writers out0 out' reported reported')
+  abbrev from_start : (cause : Cause) → Reached script old new (limits_of o) (progress_of (session_from o k)) cause (writers out out' reported reported') → Reached script old new (limits_of o) (begun (From k issued)) cause (writers out0 out' reported reported')
   from_start cause r = record {
     before = r.before;
     name = r.name;
@@ -265,9 +275,10 @@ module _ {R : Type 0} (script : R → Option Script) (old new : List (RunSource 
   }
 
   passed_by : (status : ℕ) (r : Result Bool Stop) → RunReached script old new (session_from o k) (writers out out' reported reported') r → OnePassBy script old new o (From k issued) (ending_by status r).cause (writers out0 out' reported reported')
-  passed_by status (Ok wrapped) h = from_start causes.Done h
+  passed_by status (Ok wrapped) h =
+      record { sources = h.sources; read = h.read; reached = from_start causes.Done h.reached; all = h.all }
   passed_by status (Err stops.Finished) h = absurd h
-  passed_by status (Err (stops.Ended causes.Done)) h = from_start causes.Done h
+  passed_by status (Err (stops.Ended causes.Done)) h = absurd h
   passed_by status (Err (stops.Ended (causes.Exited n))) h = from_start (causes.Exited n) h
   passed_by status (Err (stops.Ended causes.EndInString)) h = from_start causes.EndInString h
   passed_by status (Err (stops.Ended causes.EndInComment)) h = from_start causes.EndInComment h

@@ -1,7 +1,8 @@
 -- Running: the state of the loop over the turns of the bytes in hand, and what its ends say.
-use Rattle.std.proofs.Common.{◌≡◌, ◌<◌, ◌≤◌, ℕ, Bool, true, false, List, [], ◌∷◌, ◌++◌, Option, Some, None, refl, sym, ap, ◌∙◌, subst, append-nil, append_assoc, arith}
+use Rattle.std.proofs.Common.{◌≡◌, ◌<◌, ◌≤◌, ℕ, Bool, true, false, List, [], ◌∷◌, ◌++◌, Option, Some, None, refl, sym, ap, ◌∙◌, subst, append-nil, append_assoc, arith, length, take, inl, inr}
+use Rattle.std.proofs.lemmas.List.{take_at}
 use Rattle.m4_state.proofs.CallerLaws.{with_bytes-append, with_bytes-nil}
-use Rattle.m4_state.specs.Device.{with_bytes}
+use Rattle.m4_state.specs.Device.{with_bytes, HasBegun}
 use Rattle.m4_input.specs.Pending.{Pending, text_of, line_length}
 use Rattle.m4_input.specs.Input.{Held, longer, all_read, after_line}
 use Rattle.m4_input.specs.Blocks.{LineGives}
@@ -19,8 +20,8 @@ use Rattle.m4_engine.specs.OpenCalls.{pop, resume, moved_meaning}
 use Rattle.m4_engine.specs.Expansion.{RunSoFar, Expansion, Kept, Ended, Ends, NeedsInput}
 use Rattle.m4_engine.specs.Expand.{turn, join, expand, skip_line, skip_all, out_of_bound_at, size_of, calls_left}
 use Rattle.m4_engine.specs.Engine.{Engine, MayFollow, Moving, so_far_of, outer_of, here_of, configuration, after_flush, moved, IsReady, Moves, Needs, IsTurned, StaysBy, Passes, cause_of_end}
-use Rattle.m4_engine.specs.Expands.{FlushesPrefix, FlushesSome}
-use Rattle.m4_engine.specs.Continued.{skipped_first, comes_to, Leads, IsFlushed, HandNeeds, HandEnds, HandBreaks, HandGives, HasMade, so_far_in}
+use Rattle.m4_engine.specs.Expands.{IsInOrder, FlushesPrefix, FlushesSome}
+use Rattle.m4_engine.specs.Continued.{BreaksInOrder, OrderBy, skipped_first, comes_to, Leads, IsFlushed, HandNeeds, HandEnds, HandBreaks, HandGives, HasMade, so_far_in}
 use Rattle.m4_engine.specs.Writers.{Contents, writers, HasWritten}
 use Rattle.m4_engine.proofs.Begins.{some_all}
 use Rattle.m4_engine.proofs.CallsFall.{falls}
@@ -29,7 +30,7 @@ use Rattle.m4_engine.proofs.Inputs.{none_is_front}
 use Rattle.m4_engine.proofs.LoopKeeps.{turns_of, move_falls, meaning_of, moved_on, end_means}
 use Rattle.m4_engine.proofs.MachineIsNesting.{resume-halted, popped, move_keeps}
 use Rattle.m4_engine.proofs.Passing.{passes_reaches, passes_ready, passes_limits, passes_follows}
-use Rattle.m4_engine.proofs.OnlyGrows.{extends_same, extends_more, whole_keeps, then_keeps, list_keeps}
+use Rattle.m4_engine.proofs.OnlyGrows.{output_front, extends_same, extends_more, whole_keeps, then_keeps, list_keeps}
 use Rattle.m4_engine.proofs.SkippedLines.{all_gone, skip_cut, line_done, line_keeps, line_drops}
 
 -- ---- where one place leads
@@ -373,6 +374,57 @@ write_breaks w e0 e e' p0 i j t out0 reported0 out reported out' reported' r h k
       (made_is (meaning_of (x ++ r.o) (y ++ r.m) e (longer z more i.pending)) ∙ ap so_far_in ((r.leads).means z more c x y))
       (has_made x y r.o r.m ((b.0).1).front ((b.1).1).front e' _ (b.0).0 (b.1).0 ((b.0).1).parts ((b.1).1).parts (turn_made e e' i j z more (x ++ r.o) (y ++ r.m) t c' h k));
 }
+
+-- the front of a turn's output is what was buffered before it
+front_taken : (n : ℕ) (a b x : List ℕ) → n ≡ length a → b ≡ a ++ x → take n b ≡ a
+front_taken n a b x l e = ap (take n) e ∙ take_at a x n (sym l)
+
+begun_after : (old mid new : Option (List ℕ)) (m y : List ℕ) → mid ≡ with_bytes old m → HasBegun mid new y → HasBegun old new (m ++ y)
+begun_after old mid new m y e h = (
+  h.0,
+  record {
+    front = m ++ (h.1).front;
+    parts = ap (λ (v : List ℕ). m ++ v) (h.1).parts ∙ sym (append_assoc m (h.1).front h.0);
+    holds = (h.1).holds ∙ ap (λ (v : Option (List ℕ)). with_bytes v (h.1).front) e ∙ with_bytes-append old m (h.1).front;
+  },
+)
+
+taken_after : (old mid new : Option (List ℕ)) (o a f more : List ℕ) → f ≡ a → mid ≡ with_bytes old o → new ≡ with_bytes mid (f ++ more) → new ≡ with_bytes old ((o ++ a) ++ more)
+taken_after old mid new o a f more k e h =
+    h ∙ ap (λ (v : List ℕ). with_bytes mid (v ++ more)) k ∙ ap (λ (v : Option (List ℕ)). with_bytes v (a ++ more)) e ∙ with_bytes-append old o (a ++ more) ∙ ap (with_bytes old) (sym (append_assoc o a more))
+
+-- messages are written after the output before them
+pub breaks_in_order : (w : Wanted) (e0 e e' : Engine) (p0 : Pending) (i j : Held) (t : Turned) (earlier : ℕ) (out0 reported0 out reported out' reported' : Option (List ℕ)) → Running w e0 p0 out0 reported0 e i out reported → Moves (i.pending).may_follow e' j.pending t (λ z more o m. moved (configuration o m e (longer z more i.pending))) → IsTurned e e' i j t
+    → e.messages ≡ [] → earlier ≡ length e.output → IsInOrder (take earlier e'.output) e'.messages (writers out out' reported reported') → FlushesPrefix e'.output e'.messages (writers out out' reported reported') → BreaksInOrder w e0 p0 (writers out0 out' reported0 reported')
+breaks_in_order w e0 e e' p0 i j t earlier out0 reported0 out reported out' reported' r h k quiet is order b =
+    let f = output_front e e' i j t h k in
+    record {
+      at = e;
+      i = i;
+      next = e';
+      j = j;
+      t = t;
+      o = r.o;
+      m = r.m;
+      leads = r.leads;
+      quiet = quiet;
+      moves = h;
+      turned = k;
+      within = begun_after reported0 reported reported' r.m e'.messages (r.written).messages b.1;
+      order = elim order.output_first [
+        | inl q ↦ inl (q ∙ (r.written).messages)
+        | inr q ↦ inr (q.0, taken_after out0 out out' r.o e.output (take earlier e'.output) q.0 (front_taken earlier e.output e'.output f.0 is f.1) (r.written).output q.1)
+      ];
+    }
+
+pub in_order_end : (w : Wanted) (e : Engine) (p : Pending) (c : Contents) (end : TurnEnd) → OrderBy w e p c (hands.Ends (cause_of_end end))
+in_order_end w e p c turn_ends.Done = tt
+in_order_end w e p c (turn_ends.Exited code) = tt
+in_order_end w e p c turn_ends.EndInString = tt
+in_order_end w e p c turn_ends.EndInComment = tt
+in_order_end w e p c turn_ends.EndInArguments = tt
+in_order_end w e p c turn_ends.ExpansionLimit = tt
+in_order_end w e p c turn_ends.NestingLimit = tt
 
 -- ---- by the answers of calls
 

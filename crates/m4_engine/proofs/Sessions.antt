@@ -338,11 +338,12 @@ pub finish_broke : (old new : SessionState) (w : Contents) (s : Stop) → IsOpen
 finish_broke old new w s l e i o m h = subst (λ (x : Stop). FinishGives old new w (Err x)) (sym i) (broke_off false old new w causes.Write l e o m h)
 
 -- the diversions were issued
-pub issued_all : (old new : SessionState) (out out' reported : Option (List ℕ)) → IsOpen old → old.saved ≡ [] → new.finished ≡ true → new.over ≡ old.over → new.any_missing ≡ old.any_missing → new.saved ≡ old.saved → new.calls ≡ old.calls → out' ≡ with_bytes out (close old.state) → FinishGives old new (writers out out' reported reported) (Ok tt)
-issued_all old new out out' reported l e f v m s n o =
+pub issued_all : (old new : SessionState) (out out' reported : Option (List ℕ)) → IsOpen old → old.saved ≡ [] → new.limits ≡ old.limits → new.finished ≡ true → new.over ≡ old.over → new.any_missing ≡ old.any_missing → new.saved ≡ old.saved → new.calls ≡ old.calls → out' ≡ with_bytes out (close old.state) → FinishGives old new (writers out out' reported reported) (Ok tt)
+issued_all old new out out' reported l e d f v m s n o =
     let p : progress_of old ≡ session_after_wraps old = sym (after_is old l e) in
     record {
       live = l;
+      limits = d;
       finished = f;
       over = v ∙ l.over;
       any_missing = m;
@@ -360,6 +361,7 @@ froze old new s out reported frozen frozen' l e i n f z =
     let t : s ≡ last_state old = i ∙ ap (λ (x : Progress). (x.so_far).state) p in (
       record {
         live = l;
+        limits = ap (λ (x : SessionState). x.limits) n;
         finished = ap (λ (x : SessionState). x.finished) n;
         over = ap (λ (x : SessionState). x.over) n ∙ l.over;
         any_missing = ap (λ (x : SessionState). x.any_missing) n;

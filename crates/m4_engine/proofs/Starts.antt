@@ -24,7 +24,7 @@ use Rattle.m4_engine.specs.Start.{Start, From, Faulty, start_of, begun}
 use Rattle.m4_engine.specs.Wraps.{after_wraps}
 use Rattle.m4_engine.specs.Run.{RunResult, limits_of, result_by, result_of, saved_after, saved_unless_over, status_of, run_from}
 use Rattle.m4_engine.specs.Session.{SessionState, progress_of, session_from, fresh_session, AreReloaded, ReloadGives, BeginGives, IsBegun, IsOpen, IsLeft, EndGives, CloseGives, ReloadFails, BeginFails, ByAnswer, MessageWriteFails, SparesBy, status_after}
-use Rattle.m4_engine.specs.RunSources.{AllPairs, is_sound, ReadersFailBy, DescribesFrozen, frozen_fails, FrozenFailsBy}
+use Rattle.m4_engine.specs.RunSources.{AllPairs, is_sound, ReadersFailBy, DescribesFrozen, frozen_fails, FrozenFailsBy, IsUnrefused}
 use Rattle.m4_engine.specs.WholeRun.{WroteAll, WrotePrefix, GivesBy, RefusedBy, HasFrozen, FrozenBegan, FrozenBy, RunGives, NothingIsDone, result_after, ending_by}
 use Rattle.m4_engine.specs.Writers.{Contents, Three, writers, ByCause, NoneOfThree, OneOfThree, IsSpared, Spares}
 use Rattle.m4_engine.proofs.Begins.{nothing_begun, begun_after}
@@ -296,7 +296,7 @@ frozen_by (causes.Frozen fault) old new h = h
 frozen_by cause old new h = h
 
 never_frozen_by : {R : Type 0} (failures : R → ℕ) (xs ys : Option R) (cause : Cause) → BeginFails {A = SessionState} failures (Err (stops.Ended cause)) xs ys → FrozenFailsBy failures cause xs ys
-never_frozen_by failures None None cause h = tt
+never_frozen_by failures None None cause h = h
 never_frozen_by failures None (Some y) cause h = absurd h
 never_frozen_by failures (Some x) None cause h = absurd h
 never_frozen_by failures (Some x) (Some y) cause h = frozen_by cause (failures x) (failures y) h
@@ -363,8 +363,12 @@ frozen_same : (cause : Cause) (old new : ℕ) → ((fault : FrozenFault) → cau
 frozen_same (causes.Frozen fault) old new n h = absurd (n fault refl)
 frozen_same cause old new n h = h
 
+unrefused_so : (cause : Cause) → ((fault : FrozenFault) → cause ≡ causes.Frozen fault → ⊥) → IsUnrefused cause
+unrefused_so (causes.Frozen fault) n = n fault refl
+unrefused_so cause n = tt
+
 begun_frozen_by : {R : Type 0} (failures : R → ℕ) (xs ys : Option R) (s : SessionState) (cause : Cause) → ((fault : FrozenFault) → cause ≡ causes.Frozen fault → ⊥) → BeginFails failures (Ok s) xs ys → FrozenFailsBy failures cause xs ys
-begun_frozen_by failures None None s cause n h = tt
+begun_frozen_by failures None None s cause n h = unrefused_so cause n
 begun_frozen_by failures None (Some y) s cause n h = absurd h
 begun_frozen_by failures (Some x) None s cause n h = absurd h
 begun_frozen_by failures (Some x) (Some y) s cause n h = frozen_same cause (failures x) (failures y) n h

@@ -353,7 +353,7 @@ not_done new causes.Read l h = cc
 not_done new causes.Write l h = cc
 not_done new causes.OutOfMemory l h = cc
 
-left_over : (new : SessionState) (cause : Cause) → IsLeft {A = Bool} new (Err (stops.Ended cause)) → new.over ≡ Some cause
+pub left_over : (new : SessionState) (cause : Cause) → IsLeft {A = Bool} new (Err (stops.Ended cause)) → new.over ≡ Some cause
 left_over new causes.Done l = absurd l
 left_over new (causes.Exited n) l = l
 left_over new causes.EndInString l = l

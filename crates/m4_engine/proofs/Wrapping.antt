@@ -163,6 +163,7 @@ module _ (freezes : Bool) (old mid new : SessionState) (out0 out1 out2 reported0
   closed_then : Closed freezes mid new (writers out1 out2 reported1 reported2) → Closed freezes old new Whole
   closed_then k = record {
     live = f.live;
+    limits = k.limits ∙ f.limits;
     finished = k.finished;
     over = k.over;
     any_missing = k.any_missing ∙ any_missing;

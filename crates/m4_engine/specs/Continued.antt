@@ -1,7 +1,7 @@
 -- Continued: an expansion of which the bytes in hand were expanded, whatever follows them.
 -- Not believed: it connects the driver with `Expand`.
--- Words: comes_to, Leads, IsFlushed, HandNeeds, HandEnds, HasMade, HandBreaks, HandGives.
-use Rattle.std.specs.Prelude.{◌≡◌, ℕ, Bool, true, List, [], ◌++◌}
+-- Words: comes_to, Leads, IsFlushed, HandNeeds, HandEnds, HasMade, HandBreaks, BreaksInOrder, OrderBy, HandGives.
+use Rattle.std.specs.Prelude.{◌≡◌, ◌⊎◌, ℕ, Bool, true, List, [], ◌++◌}
 use Rattle.m4_input.specs.declared.fault.InputFault.{InputFault}
 use Rattle.m4_input.specs.declared.fault.InputFault.TheVariants as faults
 use Rattle.m4_input.specs.Pending.{Pending, text_of, line_length}
@@ -16,7 +16,10 @@ use Rattle.m4_engine.specs.Nesting.{Outcome, Halted, Closed, then_on}
 use Rattle.m4_engine.specs.OpenCalls.{Stacked, resume}
 use Rattle.m4_engine.specs.Expansion.{RunSoFar, Expansion, Kept, Ended, Ends, NeedsInput}
 use Rattle.m4_engine.specs.Expand.{turn, join, expand, skip_line}
-use Rattle.m4_engine.specs.Engine.{Engine, MayFollow, so_far_of, configuration, IsReady}
+use Rattle.m4_state.specs.Device.{with_bytes, HasBegun}
+use Rattle.m4_engine.specs.declared.turned.Turned.{Turned}
+use Rattle.m4_engine.specs.Expands.{HasTaken}
+use Rattle.m4_engine.specs.Engine.{Engine, MayFollow, Moves, IsTurned, moved, so_far_of, configuration, IsReady}
 use Rattle.m4_engine.specs.Writers.{Contents, HasWritten}
 
 -- the rest of a line is to be skipped first, or nothing
@@ -83,7 +86,29 @@ pub record HandBreaks (w : Wanted) (old : Engine) (p : Pending) (c : Contents) :
   pub made : (z : List ℕ) (more : Bool) → MayFollow p.may_follow z more → (a b : List ℕ)
       → HasMade (a ++ o) (b ++ m) (so_far_in (comes_to w (configuration a b old (longer z more p))))
 
+-- a writer failed in the flush after a turn, which began at `at`, where no message waited, and led to `next`: a message
+-- of that turn was written only if all output before it was
+pub record BreaksInOrder (w : Wanted) (old : Engine) (p : Pending) (c : Contents) : Type 0 where
+  pub at : Engine
+  pub i : Held
+  pub next : Engine
+  pub j : Held
+  pub t : Turned
+  pub o : List ℕ
+  pub m : List ℕ
+  pub leads : Leads w old p wanted.Token at i.pending o m
+  pub quiet : at.messages ≡ []
+  pub moves : Moves (i.pending).may_follow next j.pending t
+      (λ z more o m. moved (configuration o m at (longer z more i.pending)))
+  pub turned : IsTurned at next i j t
+  pub within : HasBegun c.messages_old c.messages_new (m ++ next.messages)
+  pub order : (c.messages_new ≡ with_bytes c.messages_old m) ⊎ HasTaken (o ++ at.output) c
+
 -- by the outcome
+abbrev pub OrderBy : Wanted → Engine → Pending → Contents → InHand → Type 0
+OrderBy w old p c (hands.Ends causes.Write) = BreaksInOrder w old p c
+OrderBy w old p c result = Unit {0}
+
 abbrev pub HandGives : Wanted → Engine → Engine → Held → Held → Contents → InHand → Type 0
 HandGives w old new i j c (hands.Needs v) = HandNeeds w old i v new j c
 HandGives w old new i j c (hands.Ends causes.Read) = ⊥

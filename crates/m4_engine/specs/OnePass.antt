@@ -1,7 +1,8 @@
 -- OnePass: how far a run has read its sources when it ends, and what it had written by then.
 -- Believed. Its law: `SettledBegins` (what a prefix settles is so whatever follows it).
 -- Manual: "Command line files", "How m4 copies input to output".
--- Words: IsRead, IsCurrent, Reaches, AreRead, settled_after, ExactAtFault, AskedAt, Reached, OnePassBy, OnePass.
+-- Words: IsRead, IsCurrent, Reaches, AreRead, settled_after, ExactAtFault, AskedAt, Reached, IsPast, OnePassBy,
+-- OnePass.
 -- A reader is asked only where the bytes in hand leave open how the run continues, and then for one block.
 use Rattle.std.specs.Prelude.{◌≡◌, ◌≢◌, ◌⊎◌, ◌≤◌, ℕ, List, [], ◌∷◌, ◌++◌, Option, length}
 use Rattle.m4_state.specs.Device.{Script, after_bytes, IsAtEnd}
@@ -77,14 +78,24 @@ pub record Reached {R : Type 0} (script : R → Option Script) (old new : List (
   pub place : Reaches script old new before name taken
   pub at : AskedAt (settled_after limits p before name) cause taken w
 
--- by the cause: after a frozen file that is refused nothing is read; and a writer or an allocation may have failed
--- before anything was read
+-- a run came past its sources: all were read to their ends, and the last of them was asked once more where all of its
+-- bytes leave open how the run continues
+pub record IsPast {R : Type 0} (script : R → Option Script) (old new : List (RunSource R)) (limits : Limits)
+    (p : Progress) (cause : Cause) (w : Contents) : Type 0 where
+  pub sources : List Source
+  pub read : AreRead script old new sources
+  pub reached : Reached script old new limits p cause w
+  pub all : (reached.at).asked ≡ reached.taken
+
+-- by the cause: a run that read everything came past its sources; after a frozen file that is refused nothing is read;
+-- and a writer or an allocation may have failed before anything was read
 abbrev pub OnePassBy : {R : Type 0} → (R → Option Script) → List (RunSource R) → List (RunSource R) → Options → Start → Cause → Contents → Type 0
 OnePassBy script old new o start (causes.Frozen fault) w = new ≡ old
 OnePassBy script old new o start causes.Write w =
     (new ≡ old) ⊎ Reached script old new (limits_of o) (begun start) causes.Write w
 OnePassBy script old new o start causes.OutOfMemory w =
     (new ≡ old) ⊎ Reached script old new (limits_of o) (begun start) causes.OutOfMemory w
+OnePassBy script old new o start causes.Done w = IsPast script old new (limits_of o) (begun start) causes.Done w
 OnePassBy script old new o start cause w = Reached script old new (limits_of o) (begun start) cause w
 
 -- a run passes over its sources once; of a run without sources nothing is said

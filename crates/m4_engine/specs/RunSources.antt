@@ -1,9 +1,10 @@
 -- RunSources: the definitions' sources for those of a run, by the bytes that their readers deliver.
 -- Believed. Manual: "Command line files". Words: source_of, ExtendsRead, ExtendsSource, DescribeSources, any_unopened,
--- AllPairs, AnyFailed, is_sound, ReadersFailBy, AllConsumeOnly, DescribesFrozen, FrozenFailsBy.
+-- MissedBefore, MissedBy, AllPairs, AnyFailed, is_sound, ReadersFailBy, AllConsumeOnly, DescribesFrozen, FrozenFailsBy.
 use Rattle.std.specs.Prelude.{◌≡◌, ℕ, Bool, true, false, List, [], ◌∷◌, ◌++◌, map, Option, Some, None, ◌⊎◌, ◌||◌}
 use Rattle.m4_state.specs.Device.{Script, after_bytes, one_more}
 use Rattle.m4_frozen.specs.declared.fault.FrozenKind.TheVariants as kinds
+use Rattle.m4_frozen.specs.declared.fault.FrozenFault.{FrozenFault}
 use Rattle.m4_engine.specs.declared.ending.Cause.{Cause}
 use Rattle.m4_engine.specs.declared.ending.Cause.TheVariants as causes
 use Rattle.m4_engine.specs.declared.source.Source.{Source as RunSource}
@@ -75,6 +76,22 @@ abbrev pub any_unopened : {R : Type 0} → List (RunSource R) → Bool
 any_unopened [] = false
 any_unopened (x ∷ xs) = (is_unopened x || any_unopened xs)
 
+-- a run ended in one of its sources, and those after it are as they were: whether one before it wasn't opened
+pub record MissedBefore {R : Type 0} (before after : List (RunSource R)) (any_missing : Bool) : Type 0 where
+  pub first : List (RunSource R)
+  pub name : List ℕ
+  pub reader : R
+  pub rest : List (RunSource R)
+  pub parts : before ≡ first ++ sources.Opened name reader ∷ rest
+  pub read : List (RunSource R)
+  pub untouched : after ≡ read ++ rest
+  pub missed : any_missing ≡ any_unopened first
+
+-- or it ended after all of them
+abbrev pub MissedBy : {R : Type 0} → List (RunSource R) → List (RunSource R) → Bool → Type 0
+MissedBy before after any_missing =
+    MissedBefore before after any_missing ⊎ (any_missing ≡ any_unopened before)
+
 -- P relates the elements at each position of two lists, which are equally long
 abbrev pub AllPairs : {A : Type 0} → (A → A → Type 0) → List A → List A → Type 0
 AllPairs P [] [] = Unit {0}
@@ -119,13 +136,22 @@ abbrev pub DescribesFrozen : {R : Type 0} → (R → Option Script) → Option R
 DescribesFrozen script None file = file ≡ None
 DescribesFrozen script (Some reader) file = (s : Script) × (script reader ≡ Some s) × (file ≡ Some s)
 
--- if a run ends by a read fault of its frozen file, its reader failed, once; if the file was loaded, the
--- reader didn't fail
+-- a fault of a frozen file: if it is a read fault, the reader failed, once; want of memory has no place
+pub record IsFaultBy (fault : FrozenFault) (old new : ℕ) : Type 0 where
+  pub read : fault.kind ≡ kinds.Read → new ≡ one_more old
+  pub no_memory : fault.kind ≡ kinds.OutOfMemory → fault.offset ≡ 0
+
+-- the run does not end by a frozen file
+abbrev pub IsUnrefused : Cause → Type 0
+IsUnrefused (causes.Frozen fault) = ⊥
+IsUnrefused cause = Unit {0}
+
+-- a run that ends by the fault of its frozen file; if the file was loaded, its reader didn't fail
 abbrev pub frozen_fails : Cause → ℕ → ℕ → Type 0
-frozen_fails (causes.Frozen fault) old new = fault.kind ≡ kinds.Read → new ≡ one_more old
+frozen_fails (causes.Frozen fault) old new = IsFaultBy fault old new
 frozen_fails cause old new = new ≡ old
 
 abbrev pub FrozenFailsBy : {R : Type 0} → (R → ℕ) → Cause → Option R → Option R → Type 0
-FrozenFailsBy failures cause None None = Unit {0}
+FrozenFailsBy failures cause None None = IsUnrefused cause
 FrozenFailsBy failures cause (Some before) (Some after) = frozen_fails cause (failures before) (failures after)
 FrozenFailsBy failures cause before after = ⊥

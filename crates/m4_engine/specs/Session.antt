@@ -20,7 +20,7 @@ use Rattle.m4_engine.specs.declared.stop.Stop.{Stop}
 use Rattle.m4_engine.specs.declared.stop.Stop.TheVariants as stops
 use Rattle.m4_engine.specs.Expansion.{Limits, EndReason, Ends, NeedsInput, Ended}
 use Rattle.m4_engine.specs.Expand.{expand_input}
-use Rattle.m4_engine.specs.RunSources.{AllPairs, HasFailed, is_sound, AnyFailed}
+use Rattle.m4_engine.specs.RunSources.{AllPairs, IsFaultBy, IsUnrefused, HasFailed, is_sound, AnyFailed}
 use Rattle.m4_engine.specs.Start.{Start, From, Faulty, IsStart}
 use Rattle.m4_engine.specs.Writers.{Contents, Failures, Three, NoneFailed, OneFailed, ByCause, Broken, WroteAtLeast, IsSpared, Spares}
 use Rattle.m4_engine.specs.File.{Opened, Unopened, Progress, file, file_pending, after_source, cannot_open}
@@ -199,12 +199,17 @@ MessageWriteFails answer old new = ByAnswer answer (new ≡ old) (new ≡ one_mo
 
 -- the reader of a frozen file failed if the run ends by that; it did not fail if the run begins
 abbrev pub ReloadFails : {A : Type 0} → Result A Stop → ℕ → ℕ → Type 0
-ReloadFails (Err (stops.Ended (causes.Frozen fault))) old new = fault.kind ≡ kinds.Read → new ≡ one_more old
+ReloadFails (Err (stops.Ended (causes.Frozen fault))) old new = IsFaultBy fault old new
 ReloadFails answer old new = new ≡ old
 
--- the same for a run's frozen file, if there is one
+-- an answer that is no fault of a frozen file
+abbrev pub NoneRefused : {A : Type 0} → Result A Stop → Type 0
+NoneRefused (Err (stops.Ended cause)) = IsUnrefused cause
+NoneRefused answer = Unit {0}
+
+-- the same for a run's frozen file; if there is none, it is not refused
 abbrev pub BeginFails : {A R : Type 0} → (R → ℕ) → Result A Stop → Option R → Option R → Type 0
-BeginFails failures answer None None = Unit {0}
+BeginFails failures answer None None = NoneRefused answer
 BeginFails failures answer (Some before) (Some after) = ReloadFails answer (failures before) (failures after)
 BeginFails failures answer before after = ⊥
 
@@ -267,6 +272,7 @@ session_after_wraps s = after_wraps s.limits (progress_of s)
 -- the run was finished: the saved texts were read, and the diversions undiverted, unless it freezes
 pub record Closed (freezes : Bool) (old new : SessionState) (w : Contents) : Type 0 where
   pub live : IsOpen old
+  pub limits : new.limits ≡ old.limits
   pub finished : new.finished ≡ true
   pub over : new.over ≡ None
   pub any_missing : new.any_missing ≡ old.any_missing

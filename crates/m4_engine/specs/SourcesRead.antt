@@ -12,7 +12,7 @@ use Rattle.m4_engine.specs.File.{Source, after_source, after_sources}
 use Rattle.m4_engine.specs.Settled.{settled_in}
 use Rattle.m4_engine.specs.Session.{SessionState, progress_of, Completed}
 use Rattle.m4_engine.specs.Writers.{Contents}
-use Rattle.m4_engine.specs.OnePass.{IsRead, IsCurrent, AreRead, AskedAt, Reached}
+use Rattle.m4_engine.specs.OnePass.{IsRead, IsCurrent, AreRead, AskedAt, Reached, IsPast}
 
 -- a source that ended the run: so far it was read
 abbrev pub EndsWithin : {R : Type 0} → (R → Option Script) → RunSource R → RunSource R → SessionState → Contents → Cause → Type 0
@@ -43,8 +43,9 @@ SourcesGive script before after old new w (Err (stops.Ended cause)) =
 -- the sources and the end of the run: after all of them the last one is the current one
 abbrev pub RunReached : {R : Type 0} → (R → Option Script) → List (RunSource R) → List (RunSource R) → SessionState → Contents → Result Bool Stop → Type 0
 RunReached script before after old w (Ok wrapped) =
-    Reached script before after old.limits (progress_of old) causes.Done w
+    IsPast script before after old.limits (progress_of old) causes.Done w
 RunReached script before after old w (Err stops.Finished) = ⊥
+RunReached script before after old w (Err (stops.Ended causes.Done)) = ⊥
 RunReached script before after old w (Err (stops.Ended (causes.Frozen fault))) = ⊥
 RunReached script before after old w (Err (stops.Ended cause)) =
     Reached script before after old.limits (progress_of old) cause w

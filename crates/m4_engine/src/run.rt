@@ -1,7 +1,7 @@
 //! A complete run: its start, its sources in order, and its end.
 //! Manual: "Invoking m4", "Command line files", "Fast loading of frozen state".
 
-ghost use Rattle.std.specs.Prelude.{◌≡◌, ◌≢◌, ◌||◌, Bool, true, false, [], List, Option, Err, OnOk};
+ghost use Rattle.std.specs.Prelude.{◌≡◌, ◌≢◌, ◌||◌, ℕ, Bool, true, false, [], List, Option, Err, OnOk};
 ghost use Rattle.m4_state.specs.Device.{Script};
 ghost use Rattle.m4_state.specs.State.{IsSized};
 ghost use Rattle.m4_frozen.specs.declared.fault.FrozenFault.{FrozenFault};
@@ -12,7 +12,9 @@ ghost use Rattle.m4_engine.specs.Wraps.{after_wraps};
 ghost use Rattle.m4_engine.specs.Run.{run as defined, status_of};
 ghost use Rattle.m4_engine.specs.Expansion.{Ends};
 ghost use Rattle.m4_engine.specs.Writers.{both, three, ByCause, NoneOfThree, OneOfThree, Spares};
-ghost use Rattle.m4_engine.specs.RunSources.{DescribeSources, DescribesSource, ReadersFailBy, DescribesFrozen, FrozenFailsBy, any_unopened, is_unopened, AllConsumeOnly, ConsumesOnly};
+ghost use Rattle.m4_engine.specs.RunSources.{DescribeSources, DescribesSource, ReadersFailBy, DescribesFrozen};
+ghost use Rattle.m4_engine.specs.RunSources.{FrozenFailsBy, MissedBy, any_unopened, is_unopened, AllConsumeOnly};
+ghost use Rattle.m4_engine.specs.RunSources.{ConsumesOnly};
 ghost use Rattle.m4_engine.specs.Session.{FreezeLeaves, IsOpen, IsLeft, GoesTo, BeginGives, BeginFails, IsBegun, CloseGives, ByAnswer, WriteFails, MessageWriteFails, SourceFails, SourcesFail, SparesBy, last_state, progress_of, status_at};
 ghost use Rattle.m4_engine.specs.OnePass.{OnePass};
 ghost use Rattle.m4_engine.specs.SourcesRead.{SourceGives, SourcesGive, RunReached};
@@ -60,6 +62,10 @@ pub fn run<R: ByteSource, O: ByteSink, M: ByteSink, Z: ByteSink>(
     // whole run: the status of its cause, which is 1 after a source that wasn't opened
     ensures status { (any_missing : Bool) × (result.ending.status ≡ status_of (Ends result.ending.cause) any_missing)
         × (result.ending.cause ≡ Cause.Done → any_missing ≡ any_unopened sources.old) }
+    // whole run: after `m4exit` it is that of its code, for 0 by the sources before the one that called it
+    ensures exited { (code : ℕ) → result.ending.cause ≡ Cause.Exited code → (any_missing : Bool)
+        × (result.ending.status ≡ status_of (Ends (Cause.Exited code)) any_missing)
+        × MissedBy sources.old sources.new any_missing }
     // whole run: a frozen state is sized
     ensures sized { (file : Option Script) → DescribesFrozen R.script frozen.old file
         → (ss : List Said) → DescribeSources R.script sources.old sources.new ss →
@@ -171,6 +177,8 @@ fn read_to_end<R: ByteSource, O: ByteSink, M: ByteSink, Z: ByteSink>(
     ensures reached { sources.old ≢ [] → RunReached R.script sources.old sources.new session.old
         (both O.contents M.contents out.old out.new messages.old messages.new) result }
     ensures any_missing { OnOk result (session.new.any_missing ≡ (any_unopened sources.old || session.old.any_missing)) }
+    ensures exited { (code : ℕ) → result ≡ Err (Stop.Ended (Cause.Exited code)) → session.old.any_missing ≡ false
+        → MissedBy sources.old sources.new session.new.any_missing }
     ensures sized { (ss : List Said) → DescribeSources R.script sources.old sources.new ss → OnOk result (freezes ≡ true
         → IsSized ((after_wraps session.old.limits (after_sources session.old.limits ss (progress_of session.old))).so_far).state) }
     ensures torn { Z.takes_whole ≡ true → (ss : List Said) → DescribeSources R.script sources.old sources.new ss
@@ -210,6 +218,7 @@ fn close<O: ByteSink, M: ByteSink, Z: ByteSink>(
     ensures torn { Z.takes_whole ≡ true → result ≡ Err (Stop.Ended Cause.Write)
         → FreezeLeaves (last_state session.old) (Z.contents freeze_to.old) (Z.contents freeze_to.new) }
     ensures spared { freezes ≡ false → freeze_to.new ≡ freeze_to.old }
+    ensures any_missing { session.new.any_missing ≡ session.old.any_missing }
 {
     if freezes {
         session.freeze(out, messages, freeze_to)
@@ -233,6 +242,8 @@ fn read<R: ByteSource, O: ByteSink, M: ByteSink>(
         (both O.contents M.contents out.old out.new messages.old messages.new)
         result }
     ensures any_missing { OnOk result (session.new.any_missing ≡ (is_unopened source.old || session.old.any_missing)) }
+    ensures exited { (code : ℕ) → result ≡ Err (Stop.Ended (Cause.Exited code))
+        → (is_unopened source.old ≡ false) × (session.new.any_missing ≡ session.old.any_missing) }
     ensures reached { SourceGives R.script source.old source.new session.old session.new
         (both O.contents M.contents out.old out.new messages.old messages.new) result }
     ensures read { SourceFails R.failures result source.old source.new }
@@ -267,6 +278,8 @@ fn read_sources<R: ByteSource, O: ByteSink, M: ByteSink>(
         result }
     ensures unfinished { OnOk result (IsOpen session.new) }
     ensures any_missing { OnOk result (session.new.any_missing ≡ (any_unopened sources.old || session.old.any_missing)) }
+    ensures exited { (code : ℕ) → result ≡ Err (Stop.Ended (Cause.Exited code)) → session.old.any_missing ≡ false
+        → MissedBy sources.old sources.new session.new.any_missing }
     ensures reached { SourcesGive R.script sources.old sources.new session.old session.new
         (both O.contents M.contents out.old out.new messages.old messages.new) result }
     ensures read { SourcesFail R.failures result sources.old sources.new }

@@ -257,6 +257,7 @@ impl Session {
             result }
         // safe and total: a write fault is returned only if a writer failed in this call
         ensures write { WriteFails result (both O.failures M.failures out.old out.new messages.old messages.new) }
+        ensures any_missing { self.new.any_missing ≡ self.old.any_missing }
     {
         if !self.is_open() {
             return Err(Stop::Finished);
@@ -291,6 +292,7 @@ impl Session {
             (NoneOfThree (three Z.failures (both O.failures M.failures out.old out.new messages.old messages.new) freeze_to.old freeze_to.new))
             (OneOfThree (three Z.failures (both O.failures M.failures out.old out.new messages.old messages.new) freeze_to.old freeze_to.new)
             (three Z.contents (both O.contents M.contents out.old out.new messages.old messages.new) freeze_to.old freeze_to.new)) }
+        ensures any_missing { self.new.any_missing ≡ self.old.any_missing }
     {
         if !self.is_open() {
             return Err(Stop::Finished);

@@ -1,7 +1,6 @@
 //! The outcome of one turn.
 
 ghost use Rattle.std.specs.Prelude.{◌≡◌};
-ghost use Rattle.m4_input.specs.Input.{IsLasting};
 ghost use Rattle.m4_engine.specs.Engine.{cause_of_end};
 
 use crate::ending::Cause;
@@ -85,14 +84,15 @@ impl From<BuiltinFault> for TurnFault {
 }
 
 impl TurnFault {
-    /// Returns the turn's fault for a lasting fault of the input. A turn uses no reader, so only an allocation
-    /// can fail in it.
+    /// Returns the turn's fault for a fault of the input. A turn uses no reader, so only an allocation can fail
+    /// in it.
     pub fn of(fault: InputFault) -> TurnFault
-        requires { IsLasting fault }
+        requires { fault ≡ InputFault.OutOfMemory }
     {
         match fault {
-            InputFault::Read | InputFault::OutOfMemory => TurnFault::OutOfMemory,
-            InputFault::EndInString { .. } | InputFault::EndInComment { .. } => unreachable!(),
+            InputFault::OutOfMemory => TurnFault::OutOfMemory,
+            InputFault::Read | InputFault::EndInString { .. } | InputFault::EndInComment { .. } =>
+                unreachable!(),
         }
     }
 }

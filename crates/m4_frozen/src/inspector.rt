@@ -35,6 +35,8 @@ pub fn list<W: ByteSink>(loaded: &Loaded, writer: &mut W) -> Result<(), WriteFau
     ensures write_fault { result ≡ Err WriteFault.Write
         → W.failures writer.new ≡ one_more (W.failures writer.old) }
     ensures unfailed { OnOk result (W.failures writer.new ≡ W.failures writer.old) }
+    ensures unasked { result ≡ Err WriteFault.OutOfMemory
+        → W.failures writer.new ≡ W.failures writer.old }
 {
     let pairs = loaded.state.definitions()?;
     put_listing(loaded, &pairs, writer)?;

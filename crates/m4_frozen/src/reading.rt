@@ -1,9 +1,10 @@
 //! Reads a frozen file from a device, block by block.
 
-ghost use Rattle.std.specs.Prelude.{◌≡◌, IfOk, IfErr, IfSome, OnOk, List, true, false};
+ghost use Rattle.std.specs.Prelude.{◌≡◌, ◌+◌, length, IfOk, IfErr, IfSome, OnOk, Err, List, true, false};
 ghost use Rattle.m4_state.specs.Device.{one_more};
 ghost use Rattle.m4_frozen.specs.Blocks as blocks;
 ghost use Rattle.m4_frozen.specs.Directive.{Directive as Said};
+ghost use Rattle.m4_frozen.specs.FaultAt.{as_offset};
 ghost use Rattle.m4_frozen.specs.Outcome.{IfFault, IsFaultOf, Loads};
 ghost use Rattle.m4_frozen.specs.Spells.{Spells};
 ghost use Rattle.m4_frozen.specs.declared.fault.FrozenKind.TheVariants as kinds;
@@ -48,7 +49,7 @@ pub fn read_frozen<R: ByteSource>(alloc: Global, reader: &mut R) -> Result<Loade
         match after {
             BlockRead::More => window.keep_last(pause.left),
             BlockRead::End => return end(loading, pause, &window),
-            BlockRead::Failure => return Err(window.failure()),
+            BlockRead::Failure => return failed(&window),
         }
     }
 }
@@ -62,6 +63,16 @@ fn read_window(alloc: Global, loading: &mut Loading, window: &Window) -> Result<
         Err(ReadStop::OutOfMemory) => Err(no_memory()),
         Err(ReadStop::Refused(refusal)) => Err(window.fault_of(refusal)),
     }
+}
+
+/// Returns the result after a failure of the reader.
+fn failed(window: &Window) -> Result<Loaded, FrozenFault>
+    ensures { result ≡ Err (record {
+      kind = kinds.Read;
+      offset = as_offset (window.now.dropped + length window.now.bytes);
+    }) }
+{
+    Err(window.failure())
 }
 
 /// Returns the result at the end of the file.

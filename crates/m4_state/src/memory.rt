@@ -1,8 +1,25 @@
 //! Devices over memory, whose bytes contracts know: a reader that returns a slice piece by piece, and
 //! a writer with a fixed room. `take` and `put` allocate nothing.
 
-ghost use Rattle.std.specs.Prelude.{◌≡◌, ◌<◌, ◌≤◌, ◌+◌, ◌-◌, [], length, take, drop, false, Ok, Some, IfOk, OnErr};
-ghost use Rattle.m4_state.specs.Device.{after_bytes, count_after, IsAtEnd, IsAtFault};
+ghost use Rattle.std.specs.Prelude.{
+  ◌≡◌,
+  ◌<◌,
+  ◌≤◌,
+  ◌+◌,
+  ◌-◌,
+  ◌++◌,
+  [],
+  length,
+  take,
+  drop,
+  true,
+  false,
+  Ok,
+  Some,
+  IfOk,
+  OnErr,
+};
+ghost use Rattle.m4_state.specs.Device.{after_bytes, with_bytes, count_after, IsAtEnd, IsAtFault};
 
 use crate::device::{ByteSink, ByteSource, DeviceFault};
 use std::alloc::{AllocError, Global};
@@ -84,6 +101,8 @@ impl ByteSource for MemSource<'_> {
         // it returns the bytes that it was made with, in order, and a fault returns none
         ensures moved { IfOk result (λ n. self.new ≡ record self.old { taken = self.old.taken + n }) }
         ensures stays { OnErr result (self.new ≡ record self.old { failures = self.new.failures }) }
+        // and no more of them than it may return at once
+        ensures at_most { IfOk result (λ n. n ≤ self.old.at_most) }
     {
         let left = self.bytes.len() - self.given;
         if left == 0 && self.fails {
@@ -155,7 +174,22 @@ impl ByteSink for MemSink {
 
     ghost failures = { λ s. s.failures };
 
-    fn put(&mut self, bytes: &[u8]) -> Result<usize, DeviceFault> {
+    fn put(&mut self, bytes: &[u8]) -> Result<usize, DeviceFault>
+        requires { 0 < length bytes.now }
+        ensures within { IfOk result (λ n. n ≤ length bytes.now) }
+        ensures some { IfOk result (λ n. 0 < n) }
+        ensures takes { IfOk result (λ n. Some self.new.held ≡ with_bytes (Some self.old.held) (take n bytes.now)) }
+        ensures whole { false ≡ true → IfOk result (λ n. n ≡ length bytes.now) }
+        ensures unchanged { OnErr result (Some self.new.held ≡ Some self.old.held) }
+        ensures counted { self.new.failures ≡ count_after result self.old.failures }
+        // it stores no more bytes than it may at once, nor than it has room for, and nothing else changes
+        ensures at_most { IfOk result (λ n. n ≤ self.old.at_most) }
+        ensures room { IfOk result (λ n. length self.old.held + n ≤ self.old.room) }
+        ensures stored { IfOk result (λ n. self.new ≡ record self.old { held = self.old.held ++ take n bytes.now }) }
+        // it fails only once its room is used up
+        ensures full { OnErr result (length self.old.held ≡ self.old.room) }
+        ensures stays { OnErr result (self.new ≡ record self.old { failures = self.new.failures }) }
+    {
         let left = self.room - self.held.len();
         if left == 0 {
             self.failures = self.failures.saturating_add(1);

@@ -1,8 +1,8 @@
 -- What the matches of a line hold is what its words say.
-use Rattle.std.proofs.Common.{◌≡◌, ◌∙◌, List, Result, Ok, Err, IfOk, ap, subst, sym, true}
+use Rattle.std.proofs.Common.{◌≡◌, ◌∙◌, List, Result, Ok, Err, IfOk, ap, subst, sym, true, false}
 use Rattle.clap.specs.Words.{Row, Text, found_of, rows_of}
 use Rattle.clap.specs.declared.parser.matches.ArgMatches.{ArgMatches}
-use Rattle.m4_tool.specs.CommandLine.{HoldsFound, IsModeNotAlone, Says, mode_has_others}
+use Rattle.m4_tool.specs.CommandLine.{HoldsFound, IsModeNotAlone, Says, mode_has_others, rows_by}
 use Rattle.m4_tool.specs.LineSteps.{HasRowsOf}
 use Rattle.m4_tool.specs.declared.line.Line.{Line}
 use Rattle.m4_tool.specs.declared.line.LineFault.{LineFault}
@@ -23,3 +23,10 @@ found_company words matches found company = record {
   is_taken = found.is_taken;
   company = ap mode_has_others (sym found.rows) ∙ company;
 }
+
+-- a line made of matches without a mode in company is made of words without one
+pub found_alone : (words : List Text) (matches : ArgMatches) (r : Result Line LineFault) → HasRowsOf words matches
+    → IfOk r (λ _. mode_has_others (rows_of (found_of matches)) ≡ false)
+    → IfOk r (λ _. mode_has_others (rows_by words) ≡ false)
+found_alone words matches (Ok line) found alone = ap mode_has_others (sym found.rows) ∙ alone
+found_alone words matches (Err fault) found alone = tt

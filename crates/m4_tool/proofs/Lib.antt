@@ -1,3 +1,4 @@
+mod Counts
 mod EndLemmas
 mod Examples
 mod ExtendedFiles

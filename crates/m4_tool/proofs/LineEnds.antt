@@ -1,7 +1,7 @@
 -- The end of a line, by the end of its run and by what was flushed.
 use Rattle.std.proofs.Common.{◌≡◌, ◌≢◌, ℕ, Bool, true, false, List, [], ◌∷◌, ◌++◌, Option, Some, None, refl, sym, ap, ◌∙◌, subst, append-nil, ◌⊎◌, inl, inr}
 use Rattle.std.specs.Prelude.{option_map, unwrap_or, codes, Result, Ok, Err}
-use Rattle.m4_state.specs.Device.{Script, with_bytes, HasBegun, Puts, count_after, one_more}
+use Rattle.m4_state.specs.Device.{Script, with_bytes, HasBegun, Puts, count_after}
 use Rattle.m4_state.specs.declared.device.DeviceFault.{DeviceFault}
 use Rattle.m4_frozen.specs.declared.fault.FrozenFault.{FrozenFault}
 use Rattle.m4_state.proofs.CallerLaws.{with_bytes-nil}
@@ -22,17 +22,28 @@ use Rattle.m4_tool.specs.declared.followed.Failure.{Failure}
 use Rattle.m4_tool.specs.declared.followed.Failure.TheVariants as failures
 use Rattle.m4_tool.specs.RunEnd.{last_status, refused_line}
 use Rattle.m4_tool.specs.World.{Files, made_file}
-use Rattle.m4_tool.specs.Line.{AsDefined, BrokeOff, EndsBy, FilesBy, HasPrefix, LineResult, Reports, Seen, added_lines, failure_by, failure_of, frozen_failure, last_lines, refusals, refusals_by, result_of_run, unreloaded}
+use Rattle.m4_tool.specs.Line.{AsDefined, BrokeOff, EndsBy, FilesBy, Grew, HasPrefix, LineResult, Reports, Seen, added_lines, failure_by, failure_of, frozen_failure, last_lines, refusals, refusals_by, result_of_run, unreloaded}
+use Rattle.m4_tool.proofs.Counts.{before_by, by_grew, grew_by, grew_none, grew_one, grew_then}
 use Rattle.m4_tool.specs.LineRun.{Closes, CountedBy, Ran, RanFiles, failure_after}
+
+-- lines that were added after some failures
+pub reports-before : (xs : List (List ℕ)) (a b : Option (List ℕ)) (f g h : ℕ) → Grew f g → Reports xs a b g h → Reports xs a b f h
+reports-before [] a b f g h k p = (p.0, grew_then f g h k p.1)
+reports-before (x ∷ xs) a b f g h k p = (p.0, p.1, record { put = p.2.put; puts = p.2.puts; counted = before_by p.2.put f g p.1 k p.2.counted }, p.3)
+
+-- the messages' count doesn't fall
+pub reports-grew : (xs : List (List ℕ)) (a b : Option (List ℕ)) (f h : ℕ) → Reports xs a b f h → Grew f h
+reports-grew [] a b f h p = p.1
+reports-grew (x ∷ xs) a b f h p = grew_then f p.1 h (by_grew p.2.put f p.1 p.2.counted) (reports-grew xs p.0 b p.1 h p.3)
 
 -- lines that were added one list after the other
 pub reports-append : (xs ys : List (List ℕ)) (a b c : Option (List ℕ)) (f g h : ℕ) → Reports xs a b f g → Reports ys b c g h → Reports (xs ++ ys) a c f h
 reports-append [] ys a b c f g h p q =
-    subst (λ (n : ℕ). Reports ys a c n h) p.1 (subst (λ (m : Option (List ℕ)). Reports ys m c g h) p.0 q)
+    reports-before ys a c f g h p.1 (subst (λ (m : Option (List ℕ)). Reports ys m c g h) p.0 q)
 reports-append (x ∷ xs) ys a b c f g h p q = (p.0, p.1, p.2, reports-append xs ys p.0 b c p.1 g h p.3 q)
 
 pub no_reports : (xs : List (List ℕ)) (a : Option (List ℕ)) (f : ℕ) → xs ≡ [] → Reports xs a a f f
-no_reports xs a f e = rw e (refl, refl)
+no_reports xs a f e = rw e (refl, grew_none f f refl)
 
 -- a run ended without a failure, and everything was flushed
 frozen_all : (k : FrozenKind) (r : RunResult) (e : Ending) (w : Contents) → frozen_failure k ≡ None → RefusedBy k r e w → WroteAll r e w
@@ -200,9 +211,10 @@ files_fail failures.Read c b name text old new e h = kept_files c b failures.Rea
 files_fail failures.Report c b name text old new e h = kept_files c b failures.Report name text old new e (λ k. cc) h
 files_fail failures.OutOfMemory c b name text old new e h = kept_files c b failures.OutOfMemory name text old new e (λ k. cc) h
 
-counted_some : (c : Cause) (f g : ℕ) → CountedBy c f g → (g ≡ f) ⊎ (g ≡ one_more f)
-counted_some causes.Write f g h = h
-counted_some c f g h = inl h
+counted_some : (c : Cause) (f g : ℕ) → CountedBy c f g → Grew f g
+counted_some causes.Write f g (inl h) = grew_none f g h
+counted_some causes.Write f g (inr h) = grew_one f g h
+counted_some c f g h = grew_none f g h
 
 frozen_fail : (k : FrozenKind) (f : Failure) → frozen_failure k ≡ Some f → frozen_status k ≡ 1
 frozen_fail kinds.OutOfMemory f e = refl
@@ -303,7 +315,7 @@ or_write : (o : Option Failure) → (o ≡ Some failures.Report → ⊥) → Som
 or_write None h e = absurd cc
 or_write (Some f) h e = h e
 
-no_report : (c : Cause) (b : Bool) → failure_of c b ≡ Some failures.Report → ⊥
+pub no_report : (c : Cause) (b : Bool) → failure_of c b ≡ Some failures.Report → ⊥
 no_report (causes.Frozen f) true e = no_report_frozen f.kind e
 no_report (causes.Frozen f) false e = absurd cc
 no_report c true e = no_report_by c e
@@ -343,10 +355,10 @@ ended failure name file r e o0 o1 o2 m0 m1 m2 f0 f1 f2 w0 w1 w2 status z a d =
 
 -- the line of a frozen file that was refused, and then a flush
 pub refusal_reported : (cause : Cause) (fault : FrozenFault) (file : List ℕ) (r : Result (Unit {0}) DeviceFault) (old mid new : Option (List ℕ)) (f g h : ℕ)
-    → cause ≡ causes.Frozen fault → Puts r old mid (refused_line file cause) → g ≡ count_after r f → new ≡ mid → h ≡ g → Reports (refusals file cause) old new f h
+    → cause ≡ causes.Frozen fault → Puts r old mid (refused_line file cause) → g ≡ count_after r f → new ≡ mid → Grew g h → Reports (refusals file cause) old new f h
 refusal_reported cause fault file r old mid new f g h is p n k l =
     subst (λ (c : Cause). Puts r old mid (refused_line file c) → Reports (refusals file c) old new f h) (sym is)
-    (λ q. (mid, g, record { put = r; puts = q; counted = n }, (k, l))) p
+    (λ q. (mid, g, record { put = r; puts = q; counted = grew_by r f g n }, (k, l))) p
 
 pub some_refused : (cause : Cause) (fault : FrozenFault) (file : List ℕ) → cause ≡ causes.Frozen fault → refusals file cause ≢ []
 some_refused cause fault file is = subst (λ (c : Cause). refusals file c ≢ []) (sym is) (λ q. cc)
@@ -357,7 +369,7 @@ pub last_reported : (fault : Option (List ℕ)) (text : List ℕ) (old new : Opt
 last_reported fault text old new f g e p = subst (λ (o : Option (List ℕ)). Reports (last_lines o) old new f g) e p
 
 pub none_reported : (fault : Option (List ℕ)) (old : Option (List ℕ)) (f : ℕ) → None ≡ fault → Reports (last_lines fault) old old f f
-none_reported fault old f e = subst (λ (o : Option (List ℕ)). Reports (last_lines o) old old f f) e (refl, refl)
+none_reported fault old f e = subst (λ (o : Option (List ℕ)). Reports (last_lines o) old old f f) e (refl, grew_none f f refl)
 
 -- the same end, by the names of its parts
 pub ends_as : (failure : Option Failure) (name file file' : List ℕ) (r r' : LineResult) (status : ℕ) (w : Seen) → file ≡ file' → r ≡ r' → EndsBy failure name file r status w → EndsBy failure name file' r' status w
@@ -365,9 +377,9 @@ ends_as failure name file file' r r' status w e k h =
     subst (λ (x : LineResult). EndsBy failure name file' x status w) k (subst (λ (x : List ℕ). EndsBy failure name x r status w) e h)
 
 -- lines after a flush
-pub reports_after : (xs ys : List (List ℕ)) (a a' b c : Option (List ℕ)) (f f' g h : ℕ) → a' ≡ a → f' ≡ f → Reports xs a' b f' g → Reports ys b c g h → Reports (xs ++ ys) a c f h
+pub reports_after : (xs ys : List (List ℕ)) (a a' b c : Option (List ℕ)) (f f' g h : ℕ) → a' ≡ a → Grew f f' → Reports xs a' b f' g → Reports ys b c g h → Reports (xs ++ ys) a c f h
 reports_after xs ys a a' b c f f' g h k l p q =
-    subst (λ (n : ℕ). Reports (xs ++ ys) a c n h) l (subst (λ (o : Option (List ℕ)). Reports (xs ++ ys) o c f' h) k (reports-append xs ys a' b c f' g h p q))
+    reports-before (xs ++ ys) a c f f' h l (subst (λ (o : Option (List ℕ)). Reports (xs ++ ys) o c f' h) k (reports-append xs ys a' b c f' g h p q))
 
 -- a line whose frozen file can't be opened, as a run
 abbrev missed_run : List ℕ → RunResult

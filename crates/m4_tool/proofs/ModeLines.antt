@@ -9,14 +9,15 @@ use Rattle.m4_tool.specs.declared.follow.Mode.{Mode}
 use Rattle.m4_tool.specs.World.{Files}
 use Rattle.m4_tool.specs.ModeFault.{status_of}
 use Rattle.m4_tool.specs.Modes.{ModeRuns, ReportsFault}
-use Rattle.m4_tool.specs.Line.{Reports}
+use Rattle.m4_tool.specs.Line.{Grew, Reports}
+use Rattle.m4_tool.proofs.Counts.{grew_by, grew_none}
 use Rattle.m4_tool.specs.LineMode.{ModeFollows, closed_lines, closed_status, ends_of, fault_lines}
 use Rattle.m4_tool.specs.LineRun.{ModeCloses}
-use Rattle.m4_tool.proofs.LineEnds.{reports-append, seen_from}
+use Rattle.m4_tool.proofs.LineEnds.{reports-append, reports-before, seen_from}
 
 fault_reported : (end : Result (Unit {0}) ModeFault) (file : List ℕ) (m m' : Option (List ℕ)) (f f' : ℕ) → ReportsFault end file m m' f f' → Reports (fault_lines file end) m m' f f'
-fault_reported (Ok done) file m m' f f' h = h
-fault_reported (Err fault) file m m' f f' h = (m', f', record { put = h.0; puts = h.1; counted = h.2 }, (refl, refl))
+fault_reported (Ok done) file m m' f f' h = (h.0, grew_none f f' h.1)
+fault_reported (Err fault) file m m' f f' h = (m', f', record { put = h.0; puts = h.1; counted = grew_by h.0 f f' h.2 }, (refl, grew_none f' f' refl))
 
 -- a mode on a file that was opened
 pub mode_ends : (mode : Mode) (file : List ℕ) (script : Option Script) (given : Option Script) (rf rf' : ℕ) (o o1 o2 m m1 m2 : Option (List ℕ)) (of of1 f f1 f2 : ℕ) (status answer : ℕ) (w w' : Option Files)
@@ -46,15 +47,15 @@ pub mode_missed : (mode : Mode) (file : List ℕ) (given : Option Script) (put :
 mode_missed mode file None put o o' m m1 m2 f f1 f2 answer w w' e p n k q = record {
   is_status = k.is_status;
   output = k.output;
-  messages = (m1, f1, record { put = put; puts = p; counted = n }, (k.reports.0, k.reports.1));
+  messages = (m1, f1, record { put = put; puts = p; counted = grew_by put f f1 n }, (k.reports.0, k.reports.1));
   files = q;
 }
 mode_missed mode file (Some x) put o o' m m1 m2 f f1 f2 answer w w' e p n k q = absurd cc
 
 -- a mode whose last flush failed
-pub mode_failed : (status : ℕ) (o o' m m1 m2 : Option (List ℕ)) (f f1 f2 : ℕ) → status ≡ 0 → o' ≡ o → m1 ≡ m → f1 ≡ f → Reports (codes "m4: write fault\n" ∷ []) m1 m2 f1 f2 → ModeCloses status 1 o o' m m2 f f2
+pub mode_failed : (status : ℕ) (o o' m m1 m2 : Option (List ℕ)) (f f1 f2 : ℕ) → status ≡ 0 → o' ≡ o → m1 ≡ m → Grew f f1 → Reports (codes "m4: write fault\n" ∷ []) m1 m2 f1 f2 → ModeCloses status 1 o o' m m2 f f2
 mode_failed status o o' m m1 m2 f f1 f2 z e k l p =
-    let q = subst (λ (x : ℕ). Reports (codes "m4: write fault\n" ∷ []) m m2 x f2) l (subst (λ (x : Option (List ℕ)). Reports (codes "m4: write fault\n" ∷ []) x m2 f1 f2) k p) in
+    let q = reports-before (codes "m4: write fault\n" ∷ []) m m2 f f1 f2 l (subst (λ (x : Option (List ℕ)). Reports (codes "m4: write fault\n" ∷ []) x m2 f1 f2) k p) in
     record {
       flushed = false;
       is_status = ap (λ (n : ℕ). closed_status n false) (sym z);

@@ -1,11 +1,13 @@
 -- Line: what a run over the files of a line gives in a world of files.
 -- Believed. Manual: "Invoking m4", "Command line files", "Fast loading of frozen state".
--- Words: Request, request_of, sources_in, LineResult, line, ExtendFiles, MayGive, Reports, failure_of, AsDefined, BrokeOff, Follows.
+-- Words: Request, request_of, sources_in, LineResult, line, ExtendFiles, MayGive, Grew, Rose, Counts, FailedAs,
+-- Reports, failure_of, AsDefined, BrokeOff, Follows.
 -- own: a frozen file that can't be opened is the only work of its line; standard input is read once.
-use Rattle.std.specs.Prelude.{◌≡◌, ◌≢◌, ◌⊎◌, ℕ, Bool, true, false, List, [], ◌∷◌, ◌++◌, map, Option, Some, None, Result}
+use Rattle.std.specs.Prelude.{◌≡◌, ◌≢◌, ◌⊎◌, ◌≤◌, ◌^◌, ◌-◌, min, ℕ, Bool, true, false, List, [], ◌∷◌, ◌++◌, map}
+use Rattle.std.specs.Prelude.{Option, Some, None, Result, Ok, Err}
 use Rattle.std.specs.Prelude.{option_map, unwrap_or, codes, string_bytes, if◌then◌else◌}
 use Rattle.std.specs.Str.{bytes_eq}
-use Rattle.m4_state.specs.Device.{Script, with_bytes, count_after, one_more, HasBegun, Puts}
+use Rattle.m4_state.specs.Device.{Script, with_bytes, one_more, HasBegun, Puts}
 use Rattle.m4_state.specs.declared.device.DeviceFault.{DeviceFault}
 use Rattle.m4_frozen.specs.declared.fault.FrozenKind.{FrozenKind}
 use Rattle.m4_frozen.specs.declared.fault.FrozenKind.TheVariants as kinds
@@ -151,7 +153,7 @@ MayGive q files input r =
     (ss : List Source) × ExtendFiles files input (words_of q.names) ss
     × (result_by (thaw_in files q.reload) q.options (unwrap_or q.reload []) (Some ss) ≡ Some r)
 
--- the writers and the files before and after; `failures` counts the failed writes of messages
+-- the writers and the files before and after; `failures` counts the failed writes and flushes of messages
 pub record Seen : Type 0 where
   pub out_old : Option (List ℕ)
   pub out_new : Option (List ℕ)
@@ -162,15 +164,56 @@ pub record Seen : Type 0 where
   pub files_old : Option Files
   pub files_new : Option Files
 
+-- a count of failures did not fall; its greatest value stands for all above it
+abbrev pub Grew : ℕ → ℕ → Type 0
+Grew old new = min old (2 ^ 64 - 1) ≤ min new (2 ^ 64 - 1)
+
+-- there were more failures
+abbrev pub Rose : ℕ → ℕ → Type 0
+Rose old new = one_more old ≤ min new (2 ^ 64 - 1)
+
+-- by a result: if it is an error, there was a failure more
+abbrev pub GrewBy : {A E : Type 0} → Result A E → ℕ → ℕ → Type 0
+GrewBy (Ok x) old new = Grew old new
+GrewBy (Err e) old new = Rose old new
+
+-- how often writes and flushes of the output, of the messages and of the world's file failed, before and after
+pub record Counts : Type 0 where
+  pub out_old : ℕ
+  pub out_new : ℕ
+  pub messages_old : ℕ
+  pub messages_new : ℕ
+  pub world_old : ℕ
+  pub world_new : ℕ
+
+abbrev pub counts : ℕ → ℕ → ℕ → ℕ → ℕ → ℕ → Counts
+counts o o' m m' w w' =
+    record { out_old = o; out_new = o'; messages_old = m; messages_new = m'; world_old = w; world_new = w' }
+
+-- nothing failed
+abbrev pub NoneRose : Counts → Type 0
+NoneRose c = (c.out_new ≡ c.out_old) × (c.messages_new ≡ c.messages_old) × (c.world_new ≡ c.world_old)
+
+-- something failed
+abbrev pub AnyRose : Counts → Type 0
+AnyRose c = Rose c.out_old c.out_new ⊎ (Rose c.messages_old c.messages_new ⊎ Rose c.world_old c.world_new)
+
+-- what is answered of writes and flushes is so by the counts
+abbrev pub FailedAs : Option Failure → Counts → Type 0
+FailedAs None c = NoneRose c
+FailedAs (Some failures.Write) c = AnyRose c
+FailedAs (Some failures.Report) c = Rose c.messages_old c.messages_new
+FailedAs (Some failure) c = Unit {0}
+
 -- a line was added to the messages, or a prefix of it if the messages failed
 pub record Reported (line : List ℕ) (old new : Option (List ℕ)) (failures failures' : ℕ) : Type 0 where
   pub put : Result (Unit {0}) DeviceFault
   pub puts : Puts put old new line
-  pub counted : failures' ≡ count_after put failures
+  pub counted : GrewBy put failures failures'
 
 -- these lines were added in order
 abbrev pub Reports : List (List ℕ) → Option (List ℕ) → Option (List ℕ) → ℕ → ℕ → Type 0
-Reports [] old new failures failures' = (new ≡ old) × (failures' ≡ failures)
+Reports [] old new failures failures' = (new ≡ old) × Grew failures failures'
 Reports (line ∷ lines) old new failures failures' =
     (mid : Option (List ℕ)) × (count : ℕ)
     × Reported line old mid failures count × Reports lines mid new count failures'
@@ -230,7 +273,7 @@ pub record BrokeOff (name file : List ℕ) (r : LineResult) (status : ℕ) (fail
   pub begun : Option (List ℕ)
   pub messages : HasBegun w.messages_old begun r.messages
   pub count : ℕ
-  pub counted : (count ≡ w.failures_old) ⊎ (count ≡ one_more w.failures_old)
+  pub counted : Grew w.failures_old count
   pub reports : Reports (added_lines file cause flushed) begun w.messages_new count w.failures_new
   pub files : FilesBy failure name r.frozen w.files_old w.files_new
 

@@ -1,7 +1,9 @@
 -- LineRun: what the steps of following a line pass to one another.
 -- Not believed: `follow` is stated with the words of Line only, and proved through these.
--- Words: seen, named_of, named_in, RanFiles, CountedBy, Ran, Closes, ModeCloses.
-use Rattle.std.specs.Prelude.{◌≡◌, ◌≢◌, ◌⊎◌, ℕ, Bool, false, List, [], ◌∷◌, Option, Some, None, unwrap_or, option_map}
+-- Words: seen, named_of, named_in, RanFiles, AllGrew, FlushedAs, RanCounts, RefusedAs, ClosedAs, CountedBy, Ran,
+-- Closes, ModeCloses.
+use Rattle.std.specs.Prelude.{◌≡◌, ◌≢◌, ◌⊎◌, ℕ, Bool, true, false, List, [], ◌∷◌}
+use Rattle.std.specs.Prelude.{Option, Some, None, unwrap_or, option_map}
 use Rattle.m4_state.specs.Device.{Script, one_more}
 use Rattle.m4_engine.specs.declared.ending.Cause.{Cause}
 use Rattle.m4_engine.specs.declared.ending.Cause.TheVariants as causes
@@ -10,14 +12,15 @@ use Rattle.m4_engine.specs.declared.source.Source.{Source as RunSource}
 use Rattle.m4_engine.specs.declared.source.Source.TheVariants as sources
 use Rattle.m4_engine.specs.Expansion.{Ends}
 use Rattle.m4_engine.specs.Run.{RunResult, status_of}
-use Rattle.m4_engine.specs.Writers.{writers}
+use Rattle.m4_engine.specs.Writers.{writers, ByCause}
 use Rattle.m4_engine.specs.WholeRun.{GivesBy}
 use Rattle.m4_tool.specs.declared.followed.Failure.{Failure}
 use Rattle.m4_tool.specs.declared.followed.Failure.TheVariants as failures
 use Rattle.m4_tool.specs.RunEnd.{last_status, source_name}
 use Rattle.m4_tool.specs.LineMode.{closed_lines, closed_status}
 use Rattle.m4_tool.specs.World.{Files, made_file}
-use Rattle.m4_tool.specs.Line.{Seen, HasPrefix, Reports, added_lines, failure_of, input_after, refusals, script_at}
+use Rattle.m4_tool.specs.Line.{AnyRose, Counts, Grew, NoneRose, Rose, Seen, HasPrefix, Reports}
+use Rattle.m4_tool.specs.Line.{added_lines, failure_of, input_after, refusals, script_at}
 
 -- the writers and the files, by the functions of their traits
 abbrev pub seen : {O M : Type 0} → (O → Option (List ℕ)) → (M → Option (List ℕ)) → (M → ℕ) → O → O → M → M → Option Files → Option Files → Seen
@@ -54,6 +57,32 @@ abbrev pub RanFiles : Cause → List ℕ → List ℕ → Option Files → Optio
 RanFiles causes.Done name text old new = new ≡ option_map (made_file name text) old
 RanFiles causes.Write name text old new = (new ≡ old) ⊎ HasPrefix name text old new
 RanFiles cause name text old new = new ≡ old
+
+-- no count is lower
+abbrev pub AllGrew : Counts → Type 0
+AllGrew c = Grew c.out_old c.out_new × Grew c.messages_old c.messages_new × Grew c.world_old c.world_new
+
+-- after the last flushes, by whether all were done
+abbrev pub FlushedAs : Bool → Counts → Type 0
+FlushedAs true c = NoneRose c
+FlushedAs false c = AllGrew c × AnyRose c
+
+-- after a run, by its cause
+pub record RanCounts (cause : Cause) (c : Counts) : Type 0 where
+  pub grew : AllGrew c
+  pub by : ByCause cause (NoneRose c) (AnyRose c)
+
+-- the messages after the line for a refused file, by whether it was written and flushed
+abbrev pub RefusedAs : Bool → ℕ → ℕ → Type 0
+RefusedAs true old new = new ≡ old
+RefusedAs false old new = Rose old new
+
+-- after the end of a line, by the cause of its run's end and what failed
+abbrev pub ClosedAs : Cause → Option Failure → Counts → Type 0
+ClosedAs cause None c = (cause ≢ causes.Write) × NoneRose c
+ClosedAs cause (Some failures.Write) c = AllGrew c × ((cause ≡ causes.Write) ⊎ AnyRose c)
+ClosedAs cause (Some failures.Report) c = Rose c.messages_old c.messages_new
+ClosedAs cause (Some failure) c = Unit {0}
 
 -- the failed writes of messages after a run, by its cause
 abbrev pub CountedBy : Cause → ℕ → ℕ → Type 0

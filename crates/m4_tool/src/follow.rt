@@ -7,7 +7,8 @@ ghost use Rattle.m4_engine.specs.RunSources.{DescribesFrozen};
 ghost use Rattle.m4_engine.specs.File.{Source as Said};
 ghost use Rattle.m4_engine.specs.Run.{run as defined};
 ghost use Rattle.m4_tool.specs.World.{Files};
-ghost use Rattle.m4_tool.specs.Line.{EndsBy, ExtendFiles, Follows, LineResult, MayGive, line as line_result, request_of, result_of_run, words_of};
+ghost use Rattle.m4_tool.specs.Line.{EndsBy, ExtendFiles, FailedAs, Follows, LineResult, MayGive, counts};
+ghost use Rattle.m4_tool.specs.Line.{line as line_result, request_of, result_of_run, words_of};
 ghost use Rattle.m4_tool.specs.LineMode.{ModeFollows, ends_of};
 ghost use Rattle.m4_tool.specs.LineRun.{seen};
 ghost use Rattle.m4_tool.specs.Modes.{ModeRuns, reads, writes};
@@ -63,6 +64,10 @@ pub fn follow<W: World, O: Shows, M: Shows>(
     ensures inspect { line.now.canon ≡ None → IfSome line.now.inspect (λ file. (files : Files) → W.making world ≡ false → W.files world ≡ Some files
         → ModeFollows Mode.Inspect (string_bytes file) (files (string_bytes file)) result.status
         (seen O.contents M.contents M.failures out.old out.new messages.old messages.new (W.files world) (W.files result.world))) }
+    // safe and total: a failed write or flush is reported only if one failed in this call
+    ensures counted { line.now.canon ≡ None → line.now.inspect ≡ None
+        → FailedAs result.failure (counts (O.failures out.old) (O.failures out.new)
+        (M.failures messages.old) (M.failures messages.new) (W.failures world) (W.failures result.world)) }
     // line in a world: if nothing failed, the output that was written is flushed
     ensures output_shown { result.failure ≡ None → O.shown out.new ≡ O.contents out.new }
     // line in a world: and so are the messages
@@ -167,6 +172,8 @@ fn follow_run<W: World, O: Shows, M: Shows>(
         → W.appends_whole ≡ true → W.making world ≡ false → W.files world ≡ Some files → W.input world ≡ Some input
         → MayGive (request_of line.now) files input r
         → FreezesOrTears (unwrap_or (request_of line.now).freeze []) r.frozen (W.files world) (W.files result.world) }
+    ensures counted { FailedAs result.failure (counts (O.failures out.old) (O.failures out.new)
+        (M.failures messages.old) (M.failures messages.new) (W.failures world) (W.failures result.world)) }
     ensures output_shown { result.failure ≡ None → O.shown out.new ≡ O.contents out.new }
     ensures messages_shown { result.failure ≡ None → M.shown messages.new ≡ M.contents messages.new }
     ensures kept { result.failure ≡ None → W.kept result.world ≡ W.files result.world }
@@ -214,6 +221,8 @@ fn follow_from<W: World, O: Shows, M: Shows>(
         → ExtendFiles files input (words_of (request_of line.now).names) ss
         → FreezesOrTears (unwrap_or (request_of line.now).freeze []) (result_of_run file.now (defined line.now.options script ss)).frozen
         (W.files world) (W.files result.world) }
+    ensures counted { FailedAs result.failure (counts (O.failures out.old) (O.failures out.new)
+        (M.failures messages.old) (M.failures messages.new) (W.failures world) (W.failures result.world)) }
     ensures output_shown { result.failure ≡ None → O.shown out.new ≡ O.contents out.new }
     ensures messages_shown { result.failure ≡ None → M.shown messages.new ≡ M.contents messages.new }
     ensures kept { result.failure ≡ None → W.kept result.world ≡ W.files result.world }

@@ -1,9 +1,11 @@
 //! The file to which a run freezes. It is created when its first byte is written.
 //! Manual: "Fast loading of frozen state".
 
-ghost use Rattle.std.specs.Prelude.{◌≡◌, ℕ, List, [], Option, Some, None, false, true, OnOk, OnErr};
+ghost use Rattle.std.specs.Prelude.{◌≡◌, ◌<◌, ℕ, List, [], Option, Some, None, false, true, OnOk, OnErr};
 ghost use Rattle.std.proofs.Props.{props};
+ghost use Rattle.m4_state.specs.Device.{count_after};
 ghost use Rattle.m4_tool.specs.World.{Files};
+ghost use Rattle.m4_tool.specs.Line.{Rose};
 ghost use Rattle.m4_tool.specs.Late.{after_writing, begun_in, is_tried, written};
 
 use crate::world::World;
@@ -18,12 +20,17 @@ pub(crate) trait Place {
 
     /// Its name.
     ghost name: { List ℕ };
+
+    /// The world's count of failures before it.
+    ghost failures: { ℕ };
 }
 
 impl Place for Brand {
     ghost before = { None };
 
     ghost name = { [] };
+
+    ghost failures = { 0 };
 }
 
 /// A sink over a file that is created when its first byte is written. Until then a file of that name
@@ -38,6 +45,8 @@ pub(crate) struct LateFile<W: World, K: Place> {
     ghost named: { name ≡ K.name },
     ghost agrees: { W.files world ≡ after_writing created K.name (written created K.name (W.files world)) K.before } by { Prim.hlevel props },
     ghost tried: { is_tried created failures (written created K.name (W.files world)) ≡ true },
+    ghost unfailed: { failures ≡ 0 → W.failures world ≡ K.failures },
+    ghost failed: { 0 < failures → Rose K.failures (W.failures world) },
 }
 
 impl<W: World, K: Place> LateFile<W, K> {
@@ -45,6 +54,7 @@ impl<W: World, K: Place> LateFile<W, K> {
     pub(crate) fn new(world: W, name: Bytes) -> LateFile<W, K>
         requires before { W.files world ≡ K.before }
         requires name { name ≡ K.name }
+        requires failures { W.failures world ≡ K.failures }
         ensures created { result.created ≡ false }
         ensures world { result.world ≡ world }
         ensures failures { result.failures ≡ 0 }
@@ -62,6 +72,8 @@ impl<W: World, K: Place> LateFile<W, K> {
     pub(crate) fn into_world(self) -> W
         ensures world { result ≡ self.world }
         ensures files { W.files result ≡ after_writing self.created K.name (written self.created K.name (W.files self.world)) K.before }
+        ensures unfailed { self.failures ≡ 0 → W.failures result ≡ K.failures }
+        ensures failed { 0 < self.failures → Rose K.failures (W.failures result) }
         ensures tried { is_tried self.created self.failures (written self.created K.name (W.files self.world)) ≡ true }
     {
         let LateFile {
@@ -102,6 +114,7 @@ impl<W: World, K: Place> ByteSink for LateFile<W, K> {
 fn begin<W: World>(world: &mut W, name: &[u8], created: bool) -> Result<(), DeviceFault>
     ensures begun { OnOk result (W.files world.new ≡ begun_in created name.now (W.files world.old)) }
     ensures unchanged { OnErr result (W.files world.new ≡ W.files world.old) }
+    ensures counted { W.failures world.new ≡ count_after result (W.failures world.old) }
 {
     if !created {
         world.create(name)?;

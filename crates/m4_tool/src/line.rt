@@ -8,7 +8,9 @@ ghost use Rattle.std.specs.Prelude.{◌≡◌, ◌≢◌, ◌≤◌, ◌<◌, �
 ghost use Rattle.clap.specs.Walk.{texts};
 ghost use Rattle.clap.specs.Words.{app_of, first_of, found_of, new_app, one_of, rows_of, rule_of};
 ghost use Rattle.m4_tool.specs.CommandLine.{AreInRange, HoldsFound, IsLimit, IsModeNotAlone, IsRefusal, Says, ModeIsAlone};
-ghost use Rattle.m4_tool.specs.CommandLine.{file_word, files_in, help_word, mode_has_others, known_words, limit_word, path_word, has_files, has_options, asks, is_given, with_frozen, with_limits, with_modes, with_prefix, without_short_help};
+ghost use Rattle.m4_tool.specs.CommandLine.{asks, file_word, files_in, has_files, has_options, help_word, is_given};
+ghost use Rattle.m4_tool.specs.CommandLine.{known_words, limit_word, mode_has_others, path_word, rows_by};
+ghost use Rattle.m4_tool.specs.CommandLine.{with_frozen, with_limits, with_modes, with_prefix, without_short_help};
 ghost use Rattle.m4_tool.specs.LineSteps.{HasRowsOf, IsNoRefusal, ClassifiesError};
 
 use clap::builder::ValueParser;
@@ -100,6 +102,8 @@ pub fn read_line(alloc: Global, words: &[&str]) -> Result<Line, LineFault>
     ensures says { IfOk result (Says (texts words.now)) }
     ensures in_range { IfOk result AreInRange }
     ensures alone { IfOk result ModeIsAlone }
+    // exact command line: nor with another mode, a limit or the option for prefixes among the words
+    ensures no_others { IfOk result (λ _. mode_has_others (rows_by (texts words.now)) ≡ false) }
 
     // exact command line: if clap accepts the words, only a mode that is not alone is refused; otherwise
     // clap refuses them.

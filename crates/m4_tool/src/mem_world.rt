@@ -25,6 +25,7 @@ pub struct MemWorld<'a> {
     makes: bool,
     name: Vec<u8>,
     made: Option<Vec<u8>>,
+    failures: u64,
 }
 
 impl<'a> MemWorld<'a> {
@@ -43,6 +44,7 @@ impl<'a> MemWorld<'a> {
             makes,
             name: Vec::new(alloc),
             made: None,
+            failures: 0,
         }
     }
 
@@ -86,6 +88,8 @@ impl<'a> World for MemWorld<'a> {
 
     ghost appends_whole = { true };
 
+    ghost failures = { λ w. w.failures };
+
     fn open(&self, name: &[u8]) -> Option<MemSource<'a>> {
         found(self.given, name)
     }
@@ -99,9 +103,11 @@ impl<'a> World for MemWorld<'a> {
 
     fn create(&mut self, name: &[u8]) -> Result<(), DeviceFault> {
         if !self.makes || self.made.is_some() {
+            self.failures = self.failures.saturating_add(1);
             return Err(DeviceFault);
         }
         let Ok(copy) = Vec::from_slice(self.alloc, name) else {
+            self.failures = self.failures.saturating_add(1);
             return Err(DeviceFault);
         };
         self.name = copy;
@@ -111,14 +117,21 @@ impl<'a> World for MemWorld<'a> {
 
     fn append(&mut self, name: &[u8], bytes: &[u8]) -> Result<usize, DeviceFault> {
         if self.name.as_slice() != name {
+            self.failures = self.failures.saturating_add(1);
             return Err(DeviceFault);
         }
         match &mut self.made {
             Some(made) => match made.extend_from_slice(bytes) {
                 Ok(()) => Ok(bytes.len()),
-                Err(_refused) => Err(DeviceFault),
+                Err(_refused) => {
+                    self.failures = self.failures.saturating_add(1);
+                    Err(DeviceFault)
+                }
             },
-            None => Err(DeviceFault),
+            None => {
+                self.failures = self.failures.saturating_add(1);
+                Err(DeviceFault)
+            }
         }
     }
 

@@ -57,6 +57,7 @@ pub struct StdWorld<'a, R: Files, I, W, E> {
     made: BufWriter<Made<<R as Files>::File>>,
     spare: Cell<Option<<R as Files>::File>>,
     is_full: Cell<bool>,
+    failures: u64,
 }
 
 impl<'a, R: Files + Alloc<A = Global>, I, W, E> StdWorld<'a, R, I, W, E> {
@@ -80,6 +81,7 @@ impl<'a, R: Files + Alloc<A = Global>, I, W, E> StdWorld<'a, R, I, W, E> {
             made,
             spare: Cell::new(spare),
             is_full: Cell::new(false),
+            failures: 0,
         })
     }
 }
@@ -151,6 +153,8 @@ impl<'a, R: Files + Alloc<A = Global>, I: Read + Copy, W: Write, E: Write> World
 
     ghost appends_whole = { false };
 
+    ghost failures = { λ w. w.failures };
+
     fn open(
         &self,
         name: &[u8],
@@ -172,9 +176,11 @@ impl<'a, R: Files + Alloc<A = Global>, I: Read + Copy, W: Write, E: Write> World
     fn create(&mut self, name: &[u8]) -> Result<(), DeviceFault> {
         // An old file is emptied only if nothing that the run wrote before is lost.
         if !self.outputs.flush() {
+            self.failures = self.failures.saturating_add(1);
             return Err(DeviceFault);
         }
         let Ok(path) = std::str::from_utf8(name) else {
+            self.failures = self.failures.saturating_add(1);
             return Err(DeviceFault);
         };
         match fs::create(self.rt, path) {
@@ -182,21 +188,30 @@ impl<'a, R: Files + Alloc<A = Global>, I: Read + Copy, W: Write, E: Write> World
                 self.made.get_mut().file = Some(file);
                 Ok(())
             }
-            Err(_fault) => Err(DeviceFault),
+            Err(_fault) => {
+                self.failures = self.failures.saturating_add(1);
+                Err(DeviceFault)
+            }
         }
     }
 
     fn append(&mut self, _name: &[u8], bytes: &[u8]) -> Result<usize, DeviceFault> {
         match self.made.write(bytes) {
             Ok(n) if n > 0 => Ok(n),
-            _ => Err(DeviceFault),
+            _ => {
+                self.failures = self.failures.saturating_add(1);
+                Err(DeviceFault)
+            }
         }
     }
 
     fn finish(&mut self) -> Result<(), DeviceFault> {
         match self.made.flush() {
             Ok(()) => Ok(()),
-            Err(_fault) => Err(DeviceFault),
+            Err(_fault) => {
+                self.failures = self.failures.saturating_add(1);
+                Err(DeviceFault)
+            }
         }
     }
 }
@@ -245,7 +260,10 @@ impl<W: Write> Shows for StdShown<W> {
     fn flush(&mut self) -> Result<(), DeviceFault> {
         match self.writer.flush() {
             Ok(()) => Ok(()),
-            Err(_fault) => Err(DeviceFault),
+            Err(_fault) => {
+                self.failures = self.failures.saturating_add(1);
+                Err(DeviceFault)
+            }
         }
     }
 }

@@ -4,8 +4,9 @@
 //! [`StdWorld`](crate::std_world::StdWorld) is the world of a process, of which contracts know no byte.
 //! [`MemWorld`](crate::mem_world::MemWorld) is a world in memory, of which they know all.
 
-ghost use Rattle.std.specs.Prelude.{◌≡◌, ◌<◌, ◌≤◌, length, take, List, ℕ, Option, Some, [], OnOk, OnErr, IfOk, IfSome, option_map, true, false, Bool};
-ghost use Rattle.m4_state.specs.Device.{Script};
+ghost use Rattle.std.specs.Prelude.{◌≡◌, ◌<◌, ◌≤◌, length, take, List, ℕ, Option, Some, [], OnOk, OnErr, IfOk};
+ghost use Rattle.std.specs.Prelude.{IfSome, option_map, true, false, Bool};
+ghost use Rattle.m4_state.specs.Device.{Script, count_after};
 ghost use Rattle.m4_tool.specs.World.{Files, with_file, with_more};
 
 use m4_state::device::{ByteSink, ByteSource, DeviceFault};
@@ -30,6 +31,9 @@ pub trait World: Drop {
     /// Whether each append takes all of the bytes or none.
     ghost appends_whole: { Bool };
 
+    /// How often making, writing or flushing the file has failed.
+    ghost failures: { Self → ℕ };
+
     /// Opens a file for reading, unless that fails.
     fn open(&self, name: &[u8]) -> Option<Self::Reader>
         ensures { making self.now ≡ false → IfSome (files self.now) (λ fs. option_map Self.Reader.script result ≡ option_map Some (fs name.now)) };
@@ -39,12 +43,14 @@ pub trait World: Drop {
         ensures script { IfSome (input self.old) (λ script. Self.Reader.script result ≡ Some script) }
         ensures ended { IfSome (input self.old) (λ script. input self.new ≡ Some (record { bytes = []; fails = false })) }
         ensures making { making self.new ≡ making self.old }
-        ensures files { files self.new ≡ files self.old };
+        ensures files { files self.new ≡ files self.old }
+        ensures failures { failures self.new ≡ failures self.old };
 
     /// Makes an empty file of this name, in place of an old one.
     fn create(&mut self, name: &[u8]) -> Result<(), DeviceFault>
         ensures emptied { OnOk result (files self.new ≡ option_map (with_file name.now []) (files self.old)) }
-        ensures unchanged { OnErr result (files self.new ≡ files self.old) };
+        ensures unchanged { OnErr result (files self.new ≡ files self.old) }
+        ensures counted { failures self.new ≡ count_after result (failures self.old) };
 
     /// Writes a prefix of the bytes that is not empty to the end of the file that was made last, which
     /// has this name, and returns its length.
@@ -54,12 +60,14 @@ pub trait World: Drop {
         ensures some { IfOk result (λ n. 0 < n) }
         ensures whole { appends_whole ≡ true → IfOk result (λ n. n ≡ length bytes.now) }
         ensures appended { IfOk result (λ n. files self.new ≡ option_map (with_more name.now (take n bytes.now)) (files self.old)) }
-        ensures unchanged { OnErr result (files self.new ≡ files self.old) };
+        ensures unchanged { OnErr result (files self.new ≡ files self.old) }
+        ensures counted { failures self.new ≡ count_after result (failures self.old) };
 
     /// Flushes the file that was made, if one was.
     fn finish(&mut self) -> Result<(), DeviceFault>
         ensures kept { OnOk result (kept self.new ≡ files self.new) }
-        ensures files { files self.new ≡ files self.old };
+        ensures files { files self.new ≡ files self.old }
+        ensures counted { failures self.new ≡ count_after result (failures self.old) };
 }
 
 /// A writer that shows its bytes once it is flushed.
@@ -67,9 +75,9 @@ pub trait Shows: ByteSink {
     /// The bytes that are shown; none if they are not known.
     ghost shown: { Self → Option (List ℕ) };
 
-    /// Shows the bytes that were written. A flush that fails is no failed put.
+    /// Shows the bytes that were written. A flush that fails counts as a failure.
     fn flush(&mut self) -> Result<(), DeviceFault>
         ensures shown { OnOk result (shown self.new ≡ Self.contents self.new) }
         ensures contents { Self.contents self.new ≡ Self.contents self.old }
-        ensures failures { Self.failures self.new ≡ Self.failures self.old };
+        ensures failures { Self.failures self.new ≡ count_after result (Self.failures self.old) };
 }

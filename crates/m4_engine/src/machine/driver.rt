@@ -3,10 +3,10 @@
 
 ghost use Rattle.std.specs.Prelude.{◌≡◌, ◌<◌, ◌≤◌, true, None, Ok, [], length, take, OnOk, OnErr};
 ghost use Rattle.m4_state.specs.Device.{with_bytes};
-ghost use Rattle.m4_input.specs.Input.{failures_after};
+ghost use Rattle.m4_input.specs.Input.{IsLasting, failures_after};
 ghost use Rattle.m4_engine.specs.Engine.{IsReady, after_flush};
 ghost use Rattle.m4_engine.specs.Writers.{both, FailsBy, FailsOnce};
-ghost use Rattle.m4_engine.specs.Continued.{HandGives, IsFlushed, cause_of, fault_cause};
+ghost use Rattle.m4_engine.specs.Continued.{HandGives, OrderBy, IsFlushed, cause_of, fault_cause};
 ghost use Rattle.m4_engine.specs.ReadsOn.{ReadsOn};
 ghost use Rattle.m4_engine.specs.Expands.{Expands, ReadsBy, FlushesPrefix, FlushesSome, IsInOrder, IsIdle, at_rest};
 
@@ -26,11 +26,13 @@ pub(crate) const BLOCK: usize = 65536;
 
 /// Returns the cause that ends an expansion whose next block is missing.
 fn cause_of_fault(fault: InputFault) -> Cause
+    requires { IsLasting fault }
     ensures { result ≡ fault_cause fault }
 {
     match fault {
         InputFault::Read => Cause::Read,
-        _ => Cause::OutOfMemory,
+        InputFault::OutOfMemory => Cause::OutOfMemory,
+        InputFault::EndInString { .. } | InputFault::EndInComment { .. } => unreachable!(),
     }
 }
 
@@ -106,6 +108,8 @@ impl Machine {
         requires ready { IsReady input.old }
         requires flushed { IsFlushed self.old }
         ensures gives { HandGives wanted self.old self.new input.old input.new
+            (both O.contents M.contents out.old out.new messages.old messages.new) result }
+        ensures order { OrderBy wanted self.old input.old.pending
             (both O.contents M.contents out.old out.new messages.old messages.new) result }
         ensures counted { FailsBy (cause_of result) (both O.failures M.failures out.old out.new messages.old messages.new) }
     {

@@ -4,8 +4,9 @@ ghost use Rattle.std.specs.Prelude.{◌≡◌, ◌≢◌, ◌∷◌, [], List, �
 ghost use Rattle.m4_state.specs.Device.{Puts, count_after, joined};
 ghost use Rattle.m4_engine.specs.File.{cannot_open};
 ghost use Rattle.m4_tool.specs.RunEnd.{last_fault, last_status};
-ghost use Rattle.m4_tool.specs.Line.{EndsBy, Reports, failure_of, last_lines, refusals, unreloaded};
-ghost use Rattle.m4_tool.specs.LineRun.{Closes, ModeCloses, failure_after, seen};
+ghost use Rattle.m4_tool.specs.Line.{EndsBy, FailedAs, Grew, Reports, counts, failure_of, last_lines, refusals};
+ghost use Rattle.m4_tool.specs.Line.{unreloaded};
+ghost use Rattle.m4_tool.specs.LineRun.{ClosedAs, Closes, FlushedAs, ModeCloses, RefusedAs, failure_after, seen};
 
 use crate::endings::{last_fault, put_refused};
 use crate::followed::{Failure, Followed};
@@ -29,6 +30,8 @@ pub fn close<W: World, O: Shows, M: Shows>(
 ) -> Followed<W>
     ensures closes { Closes file.now ending result.status result.failure
         (seen O.contents M.contents M.failures out.old out.new messages.old messages.new (W.files world) (W.files result.world)) }
+    ensures counted { ClosedAs ending.cause result.failure (counts (O.failures out.old) (O.failures out.new)
+        (M.failures messages.old) (M.failures messages.new) (W.failures world) (W.failures result.world)) }
     ensures output_shown { result.failure ≡ None → O.shown out.new ≡ O.contents out.new }
     ensures messages_shown { result.failure ≡ None → M.shown messages.new ≡ M.contents messages.new }
     ensures kept { result.failure ≡ None → W.kept result.world ≡ W.files result.world }
@@ -48,7 +51,8 @@ pub fn close<W: World, O: Shows, M: Shows>(
 fn flush_all<W: World, O: Shows, M: Shows>(world: &mut W, out: &mut O, messages: &mut M) -> bool
     ensures output { O.contents out.new ≡ O.contents out.old }
     ensures messages { M.contents messages.new ≡ M.contents messages.old }
-    ensures failures { M.failures messages.new ≡ M.failures messages.old }
+    ensures counted { FlushedAs result (counts (O.failures out.old) (O.failures out.new)
+        (M.failures messages.old) (M.failures messages.new) (W.failures world.old) (W.failures world.new)) }
     ensures files { W.files world.new ≡ W.files world.old }
     ensures output_shown { result ≡ true → O.shown out.new ≡ O.contents out.new }
     ensures messages_shown { result ≡ true → M.shown messages.new ≡ M.contents messages.new }
@@ -65,6 +69,7 @@ fn report_refusal<M: Shows>(cause: Cause, file: &[u8], messages: &mut M) -> bool
     ensures reports { Reports (refusals file.now cause) (M.contents messages.old) (M.contents messages.new)
         (M.failures messages.old) (M.failures messages.new) }
     ensures refused { result ≡ false → refusals file.now cause ≢ [] }
+    ensures counted { RefusedAs result (M.failures messages.old) (M.failures messages.new) }
     ensures shown { result ≡ true → M.shown messages.old ≡ M.contents messages.old → M.shown messages.new ≡ M.contents messages.new }
 {
     match cause {
@@ -141,6 +146,8 @@ pub fn close_unopened<W: World, O: Shows, M: Shows>(
 ) -> Followed<W>
     ensures ends { (name : List ℕ) → EndsBy result.failure name file.now (unreloaded file.now) result.status
         (seen O.contents M.contents M.failures out.old out.new messages.old messages.new (W.files world) (W.files result.world)) }
+    ensures counted { FailedAs result.failure (counts (O.failures out.old) (O.failures out.new)
+        (M.failures messages.old) (M.failures messages.new) (W.failures world) (W.failures result.world)) }
     ensures files { W.files result.world ≡ W.files world }
     ensures output_shown { result.failure ≡ None → O.shown out.new ≡ O.contents out.new }
     ensures messages_shown { result.failure ≡ None → M.shown messages.new ≡ M.contents messages.new }

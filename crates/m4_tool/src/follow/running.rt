@@ -6,8 +6,8 @@ ghost use Rattle.m4_engine.specs.File.{Source as Said};
 ghost use Rattle.m4_engine.specs.RunSources.{DescribesFrozen};
 ghost use Rattle.m4_engine.specs.Run.{run as defined};
 ghost use Rattle.m4_tool.specs.World.{Files};
-ghost use Rattle.m4_tool.specs.Line.{ExtendFiles, request_of, words_of};
-ghost use Rattle.m4_tool.specs.LineRun.{Ran as RanBy, named_in, named_of, seen};
+ghost use Rattle.m4_tool.specs.Line.{ExtendFiles, counts, request_of, words_of};
+ghost use Rattle.m4_tool.specs.LineRun.{Ran as RanBy, RanCounts, named_in, named_of, seen};
 ghost use Rattle.m4_tool.specs.TornFile.{TearsFile};
 
 use super::sources::sources_of;
@@ -53,6 +53,8 @@ pub fn run_line<W: World, O: Shows, M: Shows>(
         → ExtendFiles files input (words_of (request_of line.now).names) ss
         → result.ending.cause ≡ Cause.Write
         → TearsFile (unwrap_or (request_of line.now).freeze []) (W.files world) (W.files result.world) }
+    ensures counted { RanCounts result.ending.cause (counts (O.failures out.old) (O.failures out.new)
+        (M.failures messages.old) (M.failures messages.new) (W.failures world) (W.failures result.world)) }
 {
     let mut world = world;
     let Ok(mut sources) = sources_of(alloc, &mut world, line.files.as_slice()) else {
@@ -112,6 +114,7 @@ fn run_late<W: World, K: Place, O: Shows, M: Shows>(
 ) -> Ran<W>
     requires before { W.files world ≡ K.before }
     requires name { name ≡ K.name }
+    requires failures { W.failures world ≡ K.failures }
     ensures ran { (files : Files) (input : Script) (names : List (List ℕ)) (script : Option Script) (ss : List Said)
         → map (named_of W.Reader.script) sources.old ≡ named_in files input names
         → DescribesFrozen W.Reader.script frozen.old script → ExtendFiles files input names ss
@@ -121,6 +124,8 @@ fn run_late<W: World, K: Place, O: Shows, M: Shows>(
         → map (named_of W.Reader.script) sources.old ≡ named_in files input names
         → DescribesFrozen W.Reader.script frozen.old script → ExtendFiles files input names ss
         → result.ending.cause ≡ Cause.Write → TearsFile K.name K.before (W.files result.world) }
+    ensures counted { RanCounts result.ending.cause (counts (O.failures out.old) (O.failures out.new)
+        (M.failures messages.old) (M.failures messages.new) K.failures (W.failures result.world)) }
 {
     let mut late: LateFile<W, K> = LateFile::new(world, name);
     let ran = run(alloc, options, frozen, sources, out, messages, &mut late);

@@ -21,6 +21,7 @@ pub fn sources_of<W: World>(
         → W.files world.old ≡ Some fs → W.input world.old ≡ Some input
         → map (named_of W.Reader.script) all.items ≡ named_in fs input (words_of (map string_bytes files.now))) }
     ensures files { W.files world.new ≡ W.files world.old }
+    ensures failures { W.failures world.new ≡ W.failures world.old }
 {
     if files.is_empty() {
         return input_alone(alloc, world);
@@ -34,6 +35,7 @@ fn input_alone<W: World>(alloc: Global, world: &mut W) -> Result<Vec<Source<W::R
         → W.files world.old ≡ Some fs → W.input world.old ≡ Some input
         → map (named_of W.Reader.script) all.items ≡ named_in fs input (words_of [])) }
     ensures files { W.files world.new ≡ W.files world.old }
+    ensures failures { W.failures world.new ≡ W.failures world.old }
 {
     let mut sources = Vec::new(alloc);
     let source = opened(alloc, world, INPUT)?;
@@ -51,6 +53,7 @@ fn files_of<W: World>(
         → W.files world.old ≡ Some fs → W.input world.old ≡ Some input
         → map (named_of W.Reader.script) all.items ≡ named_in fs input (map string_bytes files.now)) }
     ensures files { W.files world.new ≡ W.files world.old }
+    ensures failures { W.failures world.new ≡ W.failures world.old }
 {
     let mut sources = Vec::new(alloc);
     for file in files {
@@ -73,6 +76,7 @@ fn opened<W: World>(
         → W.input world.new ≡ Some (input_after input file.now)) }
     ensures making { W.making world.new ≡ W.making world.old }
     ensures files { W.files world.new ≡ W.files world.old }
+    ensures failures { W.failures world.new ≡ W.failures world.old }
 {
     let name = source_name(alloc, file)?;
     if file == INPUT {

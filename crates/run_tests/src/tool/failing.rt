@@ -84,6 +84,7 @@ static READERS: [(&[&str], &[u8], u8, &str, &str, &str); 11] = [
 #[derive(Drop)]
 struct Unflushed {
     sink: MemSink,
+    failures: u64,
 }
 
 impl ByteSink for Unflushed {
@@ -91,10 +92,16 @@ impl ByteSink for Unflushed {
 
     ghost takes_whole = { false };
 
-    ghost failures = { λ s. ⟦<MemSink as ByteSink>⟧.failures s.sink };
+    ghost failures = { λ s. s.failures };
 
     fn put(&mut self, bytes: &[u8]) -> Result<usize, DeviceFault> {
-        self.sink.put(bytes)
+        match self.sink.put(bytes) {
+            Ok(n) => Ok(n),
+            Err(fault) => {
+                self.failures = self.failures.saturating_add(1);
+                Err(fault)
+            }
+        }
     }
 }
 
@@ -102,6 +109,7 @@ impl Shows for Unflushed {
     ghost shown = { λ _. None };
 
     fn flush(&mut self) -> Result<(), DeviceFault> {
+        self.failures = self.failures.saturating_add(1);
         Err(DeviceFault)
     }
 }
@@ -263,6 +271,7 @@ fn writers_fail(rt: HostRuntime) {
 fn never_flushed(rt: &(impl Abort + Alloc<A = Global>)) -> Unflushed {
     Unflushed {
         sink: sink(rt, 1000, AT_MOST),
+        failures: 0,
     }
 }
 

@@ -2,6 +2,7 @@ use Rattle.std.proofs.Common.{rules, refl}
 use Rattle.m4_engine.proofs.Readers.{source_fails}
 use Rattle.m4_engine.proofs.Sources.{opened_described, unopened_described, unread_goes}
 use Rattle.m4_engine.proofs.Reached.{file_so, missing_so, unread_so}
+use Rattle.m4_engine.proofs.Missed.{missing_exits, opened_exits}
 use Rattle.m4_engine.proofs.run.read.Goals as goal
 
 pub returns-in_default-clause-goes : goal.returns-in_default-clause-goes
@@ -24,3 +25,12 @@ returns-in-Ok-clause-reached g c = file_so g.R.ByteSource.script c.in-Ok.name c.
 
 pub returns-in-Unopened-clause-reached : goal.returns-in-Unopened-clause-reached
 returns-in-Unopened-clause-reached g c = missing_so g.R.ByteSource.script c.as_slice.result.now c.args.source.now _ c.args.session.now c.missing.new.self _ c.missing.result (search rules) (search rules) c.requires refl c.missing.ensures.gives
+
+pub returns-in_default-clause-exited : goal.returns-in_default-clause-exited
+returns-in_default-clause-exited g c = λ code e. absurd (cc c.end.ensures.answer)
+
+pub returns-in-Ok-clause-exited : goal.returns-in-Ok-clause-exited
+returns-in-Ok-clause-exited g c = λ code e. opened_exits c.args.source.now c.in-Opened.name c.in-Opened.reader _ _ (search rules) c.file.ensures.any_missing
+
+pub returns-in-Unopened-clause-exited : goal.returns-in-Unopened-clause-exited
+returns-in-Unopened-clause-exited g c = λ code e. missing_exits c.as_slice.result.now c.args.session.now c.missing.new.self _ _ c.missing.result code c.missing.ensures.gives e

@@ -3,6 +3,7 @@ use Rattle.m4_engine.specs.RunSources.{is_sound, ConsumesOnly}
 use Rattle.m4_engine.proofs.Reading.{none_read, one_read, all_read, stopped_so, item, first_for, none_left, rest_kept}
 use Rattle.m4_engine.proofs.Readers.{none_taken_yet, all_sound, pair_item, sources_fail, missed_on, missed_last}
 use Rattle.m4_engine.proofs.Reached.{none_yet, one_more_read, stops_so, all_read_so}
+use Rattle.m4_engine.proofs.Missed.{begun_on, exited_there, same_stop}
 use Rattle.m4_engine.proofs.run.read_sources.Goals as goal
 
 pub sources-init : goal.sources-init
@@ -15,6 +16,7 @@ sources-init g c = (
   all_sound g.R.ByteSource.failures c.args.sources.now,
   refl,
   none_yet g.R.ByteSource.script c.args.sources.now c.args.session.now _ _,
+  refl,
 )
 
 pub sources-preserved : goal.sources-preserved
@@ -29,6 +31,7 @@ sources-preserved g c = (
   pair_item (is_sound g.R.ByteSource.failures) c.sources.source-index c.sources.sources c.args.sources.now c.source-item.result c.read.new.source c.sources.invariant.5 c.sources.invariant.1 (search rules) c.in_ok-read.ensures.read,
   missed_on c.sources.source-index c.sources.sources c.args.sources.now c.source-item.result c.sources.session.any_missing c.read.new.session.any_missing _ c.sources.invariant.1 (search rules) c.in_ok-read.ensures.any_missing c.sources.invariant.6,
   one_more_read g.R.ByteSource.script c.sources.source-index c.sources.sources c.args.sources.now c.source-item.result c.read.new.source c.args.session.now c.sources.session c.read.new.session _ _ _ _ _ _ c.sources.invariant.1 (search rules) c.sources.invariant.7 c.in_ok-read.ensures.reached,
+  begun_on c.sources.source-index c.sources.sources c.args.sources.now c.source-item.result c.sources.session.any_missing c.read.new.session.any_missing _ c.sources.invariant.1 (search rules) c.in_ok-read.ensures.any_missing c.sources.invariant.8,
 )
 
 pub returns-in_err-read-clause-goes : goal.returns-in_err-read-clause-goes
@@ -54,3 +57,8 @@ returns-in_err-read-clause-reached g c = stops_so g.R.ByteSource.script c.source
 
 pub returns-clause-reached : goal.returns-clause-reached
 returns-clause-reached g c = all_read_so g.R.ByteSource.script c.sources.source-index c.sources.sources c.args.sources.now c.args.session.now c.sources.session _ c.sources.invariant.1 (search rules) c.requires c.sources.invariant.0 c.sources.invariant.7
+
+pub returns-in_err-read-clause-exited : goal.returns-in_err-read-clause-exited
+returns-in_err-read-clause-exited g c = λ code e n.
+    exited_there c.sources.source-index c.sources.sources c.args.sources.now c.source-item.result c.read.new.source c.sources.session.any_missing c.read.new.session.any_missing _ c.sources.invariant.1 (search rules) c.sources.invariant.8
+    (c.read.ensures.exited code (same_stop c.in_err-read.field-0.0 _ c.read.result c.from_residual.result (search rules) (search rules) e)) n

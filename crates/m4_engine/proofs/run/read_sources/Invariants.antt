@@ -1,4 +1,4 @@
-use Rattle.std.proofs.Common.{◌≡◌, List, drop}
+use Rattle.std.proofs.Common.{◌≡◌, List, drop, take}
 use Rattle.std.specs.Prelude.{◌||◌}
 use Rattle.m4_engine.specs.File.{Source}
 use Rattle.m4_engine.specs.Writers.{both, NoneFailed}
@@ -19,3 +19,4 @@ invariant-sources g l =
     × AllPairs (is_sound g.R.ByteSource.failures) l.fn.sources l.sources
     × ((any_unopened (drop l.source-index l.fn.sources) || l.session.any_missing) ≡ (any_unopened l.fn.sources || l.fn.session.any_missing))
     × ReadSoFar g.R.ByteSource.script l.source-index l.fn.sources l.sources l.fn.session l.session (both g.O.ByteSink.contents g.M.ByteSink.contents l.fn.out l.out l.fn.messages l.messages)
+    × (l.session.any_missing ≡ (any_unopened (take l.source-index l.fn.sources) || l.fn.session.any_missing))

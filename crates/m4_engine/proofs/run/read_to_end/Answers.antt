@@ -6,6 +6,7 @@ use Rattle.m4_engine.proofs.Whole.{early_so, late_so, well_so, sized_so}
 use Rattle.m4_engine.proofs.Starts.{close_left}
 use Rattle.m4_engine.proofs.RunReached.{early_reached, late_reached, closed_reached}
 use Rattle.m4_engine.proofs.Tears.{torn_so}
+use Rattle.m4_engine.proofs.Missed.{exited_late, same_stop}
 use Rattle.m4_engine.proofs.run.read_to_end.Goals as goal
 
 pub returns-in_err-read_sources-clause-gives : goal.returns-in_err-read_sources-clause-gives
@@ -34,7 +35,7 @@ pub returns-in_err-close-clause-left : goal.returns-in_err-close-clause-left
 returns-in_err-close-clause-left g c = close_left c.args.freezes c.read_sources.new.session c.close.new.session _ c.in_err-close.field-0.0 c.close.result c.from_residual-in_err-close.result (search rules) (search rules) c.in_ok-read_sources.ensures.unfinished c.close.ensures.gives
 
 pub returns-in_err-read_sources-clause-reached : goal.returns-in_err-read_sources-clause-reached
-returns-in_err-read_sources-clause-reached g c = λ n. early_reached g.R.ByteSource.script c.args.sources.now c.read_sources.new.sources c.args.session.now c.read_sources.new.session _ c.in_err-read_sources.field-0.0 c.read_sources.result c.from_residual.result (search rules) (search rules) c.read_sources.ensures.reached
+returns-in_err-read_sources-clause-reached g c = λ n. early_reached g.R.ByteSource.script c.args.sources.now c.read_sources.new.sources c.args.session.now c.read_sources.new.session _ c.in_err-read_sources.field-0.0 c.read_sources.result c.from_residual.result (search rules) (search rules) c.read_sources.ensures.left c.read_sources.ensures.reached
 
 pub returns-in_err-close-clause-reached : goal.returns-in_err-close-clause-reached
 returns-in_err-close-clause-reached g c = λ n. late_reached g.R.ByteSource.script c.args.sources.now c.read_sources.new.sources c.args.freezes c.args.session.now c.read_sources.new.session c.close.new.session _ _ _ _ _ _ n c.in_ok-read_sources.ensures.unfinished c.in_ok-read_sources.ensures.reached _ c.in_err-close.field-0.0 c.close.result c.from_residual-in_err-close.result refl (search rules) (search rules) c.close.ensures.gives
@@ -48,3 +49,14 @@ returns-in_err-read_sources-clause-torn g c = λ whole ss s e. inl refl
 pub returns-in_err-close-clause-torn : goal.returns-in_err-close-clause-torn
 returns-in_err-close-clause-torn g c = λ whole ss s e.
     torn_so c.args.session.now.limits (after_sources c.args.session.now.limits ss (progress_of c.args.session.now)) c.args.session.now c.read_sources.new.session _ _ _ refl (c.in_ok-read_sources.ensures.goes ss s) c.in_err-close.field-0.0 c.close.result c.from_residual-in_err-close.result (search rules) (search rules) e (c.close.ensures.torn whole)
+
+pub returns-in_err-read_sources-clause-exited : goal.returns-in_err-read_sources-clause-exited
+returns-in_err-read_sources-clause-exited g c = λ code e n.
+    c.read_sources.ensures.exited code (same_stop c.in_err-read_sources.field-0.0 _ c.read_sources.result c.from_residual.result (search rules) (search rules) e) n
+
+pub returns-in_err-close-clause-exited : goal.returns-in_err-close-clause-exited
+returns-in_err-close-clause-exited g c = λ code e n.
+    exited_late c.args.sources.now c.read_sources.new.sources c.read_sources.new.session.any_missing c.close.new.session.any_missing c.args.session.now.any_missing c.in_ok-read_sources.ensures.any_missing c.close.ensures.any_missing n
+
+pub returns-clause-exited : goal.returns-clause-exited
+returns-clause-exited g c = λ code e n. absurd cc

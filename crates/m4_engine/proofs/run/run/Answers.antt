@@ -8,6 +8,7 @@ use Rattle.m4_engine.proofs.Readers.{none_taken_yet, all_sound, run_fails}
 use Rattle.m4_engine.proofs.RunReached.{never_passed, passed}
 use Rattle.m4_engine.specs.Session.{FreezeLeaves}
 use Rattle.m4_engine.proofs.Tears.{ended_write}
+use Rattle.m4_engine.proofs.Missed.{begun_unmissed, left_exited, never_exited}
 use Rattle.m4_engine.proofs.run.run.Goals as goal
 
 pub returns-in-Err-clause-gives : goal.returns-in-Err-clause-gives
@@ -80,3 +81,11 @@ returns-clause-torn g c = λ whole file t ss s e.
     let left : State → Type 0 = λ x. FreezeLeaves x (g.Z.ByteSink.contents c.args.freeze_to.now) (g.Z.ByteSink.contents c.read_to_end-answer.new.freeze_to) in
     starts.begun_state left c.args.options (start_of c.args.options.prefix file) ss c.in-Ok.session c.begin.result _ _ (search rules) (c.begin.ensures.begins file t)
     (ended_write _ _ c.read_to_end-answer.result c.ending-2.result c.ending-2.ensures e (c.read_to_end-answer.ensures.torn whole ss s))
+
+pub returns-in-Err-clause-exited : goal.returns-in-Err-clause-exited
+returns-in-Err-clause-exited g c = λ code e. never_exited c.args.options c.begin.result c.in-Err.stop c.status.result c.ending.result code (search rules) c.ending.ensures c.begin.ensures.begun e
+
+pub returns-clause-exited : goal.returns-clause-exited
+returns-clause-exited g c = λ code e.
+    left_exited c.args.sources.now c.read_to_end-answer.new.sources c.read_to_end-answer.new.session c.read_to_end-answer.result c.ending-2.result code c.read_to_end-answer.ensures.left (search rules) e
+    (λ r. c.read_to_end-answer.ensures.exited code r (begun_unmissed c.args.options c.in-Ok.session c.begin.result (search rules) c.begin.ensures.begun))

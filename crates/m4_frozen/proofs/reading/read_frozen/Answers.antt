@@ -1,5 +1,5 @@
 -- Each window is read on; what is answered for it is what the clauses say.
-use Rattle.std.proofs.Common.{◌∙◌}
+use Rattle.std.proofs.Common.{◌∙◌, refl}
 use Rattle.std.proofs.lemmas.Result.{err_from_is_err_and}
 use Rattle.m4_frozen.proofs.WindowRead.{filled, left_within, dropped, window_refused, window_ended, window_failed, never_read}
 use Rattle.m4_frozen.proofs.reading.read_frozen.Goals as goal
@@ -123,11 +123,10 @@ returns-in-End-clause-read_fault g c =
     c.in_ok-pause.ensures (rw c.in-End.is at c.in_ok-after.ensures.takes.1) c.end.ensures).not_read
 
 pub returns-in-Failure-clause-fault : goal.returns-in-Failure-clause-fault
-returns-in-Failure-clause-fault g c = λ room.
-    window_failed (g.R.ByteSource.script c.args.reader.now) (g.R.ByteSource.script c.fill.new.reader)
+returns-in-Failure-clause-fault g c = rw c.failed.ensures (λ room. window_failed (g.R.ByteSource.script c.args.reader.now) (g.R.ByteSource.script c.fill.new.reader)
     c.fill.new.self
-    c.loop-loading.loading c.read_window.new.loading c.in_ok-pause.pause c.failure.result
+    c.loop-loading.loading c.read_window.new.loading c.in_ok-pause.pause _
     (filled (g.R.ByteSource.script c.args.reader.now) (g.R.ByteSource.script c.loop-loading.reader)
     (g.R.ByteSource.script c.fill.new.reader) c.loop-loading.window c.fill.new.self c.loop-loading.loading
     c.loop-loading.invariant.0 c.in_ok-after.ensures.takes.0)
-    c.in_ok-pause.ensures (rw c.in-Failure.is at c.in_ok-after.ensures.takes.1) c.failure.ensures
+    c.in_ok-pause.ensures (rw c.in-Failure.is at c.in_ok-after.ensures.takes.1) refl)

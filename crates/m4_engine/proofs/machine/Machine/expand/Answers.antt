@@ -1,5 +1,5 @@
 use Rattle.std.proofs.Common.{refl, ◌∙◌}
-use Rattle.m4_engine.proofs.Blockwise.{takes_nothing, needs_so, blocks_came, stopped_so, fault_counted_so, none_failed, came_counted, ends_so}
+use Rattle.m4_engine.proofs.Blockwise.{takes_nothing, needs_so, blocks_came, stopped_so, fault_counted_so, lasting_so, none_failed, came_counted, ends_so}
 use Rattle.m4_engine.proofs.machine.Machine.expand.Goals as goal
 
 pub blocks-2-init : goal.blocks-2-init
@@ -20,6 +20,9 @@ blocks-2-preserved g c =
       out = c.in-Needs.ensures.counted.0 ∙ c.blocks-2.invariant.out;
       reported = c.in-Needs.ensures.counted.1 ∙ c.blocks-2.invariant.reported;
     }
+
+pub cause_of_fault-requires : goal.cause_of_fault-requires
+cause_of_fault-requires g c = lasting_so c.in-Needs.more c.expand_in_hand.new.self _ _ c.expand_in_hand.new.input c.read_on.new.input c.in-Err.fault c.in-Err.ensures.gives
 
 pub returns-in-Err : goal.returns-in-Err
 returns-in-Err g c =

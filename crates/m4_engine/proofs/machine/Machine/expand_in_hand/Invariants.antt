@@ -1,4 +1,4 @@
-use Rattle.std.proofs.Common.{◌≡◌}
+use Rattle.std.proofs.Common.{◌≡◌, []}
 use Rattle.m4_engine.proofs.LoopKeeps.{turns_of}
 use Rattle.m4_engine.proofs.Running.{Running}
 use Rattle.m4_engine.proofs.machine.Machine.expand_in_hand.Given as goal
@@ -7,6 +7,7 @@ use Rattle.m4_engine.proofs.machine.Machine.expand_in_hand.Given as goal
 abbrev pub invariant-turns : goal.invariant-turns
 invariant-turns g l = record {
   runs : Running l.fn.wanted l.fn.self l.fn.input.pending (g.O.ByteSink.contents l.fn.out) (g.M.ByteSink.contents l.fn.messages) l.self l.input (g.O.ByteSink.contents l.out) (g.M.ByteSink.contents l.messages);
+  quiet : (l.self).messages ≡ [];
   out : g.O.ByteSink.failures l.out ≡ g.O.ByteSink.failures l.fn.out;
   reported : g.M.ByteSink.failures l.messages ≡ g.M.ByteSink.failures l.fn.messages;
 }

@@ -22,4 +22,4 @@ returns-clause-gives g c =
     let mid = c.read_saved.new.self in
     let l : IsOpen mid = gone_on _ c.args.self.now mid _ c.in_ok-read_saved.ensures.goes.0 in
     finish_then c.args.self.now mid c.finish_here.new.self _ _ _ _ _ _ c.in_ok-read_saved.ensures.goes.0 c.in_ok-read_saved.ensures.none_saved c.read_saved.ensures.any_missing (Ok tt)
-    (issued_all mid c.finish_here.new.self _ _ _ l c.in_ok-read_saved.ensures.none_saved (search rules) (search rules) (search rules) (search rules) (search rules) (search rules))
+    (issued_all mid c.finish_here.new.self _ _ _ l c.in_ok-read_saved.ensures.none_saved (search rules) (search rules) (search rules) (search rules) (search rules) (search rules) (search rules))

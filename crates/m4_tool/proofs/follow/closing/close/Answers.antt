@@ -3,6 +3,7 @@ use Rattle.std.proofs.Common.{ap, ◌∙◌}
 use Rattle.m4_tool.specs.RunEnd.{last_fault}
 use Rattle.m4_tool.specs.Line.{last_lines, refusals}
 use Rattle.m4_tool.specs.LineRun.{failure_after}
+use Rattle.m4_tool.proofs.Counts.{flushed_grew}
 use Rattle.m4_tool.proofs.LineEnds.{reports_after}
 use Rattle.m4_tool.proofs.follow.closing.close.Goals as goal
 
@@ -15,6 +16,6 @@ returns-clause-closes g c = record {
   failed = c.failure_after.ensures ∙ ap (λ f. failure_after f c.report_refusal-is_reported.result) c.failure_of.ensures;
   output = c.flush_all-flushed.ensures.output;
   reports = reports_after (refusals c.args.file.now c.args.ending.cause) (last_lines (last_fault c.args.ending.cause c.flush_all-flushed.result)) _ _ _ _ _ _ _ _
-      c.flush_all-flushed.ensures.messages c.flush_all-flushed.ensures.failures c.report_refusal-is_reported.ensures.reports c.report_last.ensures.reports;
+      c.flush_all-flushed.ensures.messages (flushed_grew c.flush_all-flushed.result _ c.flush_all-flushed.ensures.counted).1 c.report_refusal-is_reported.ensures.reports c.report_last.ensures.reports;
   files = c.flush_all-flushed.ensures.files;
 }

@@ -1,4 +1,5 @@
-use Rattle.std.proofs.Common.{rules, take, ◌∙◌}
+use Rattle.std.proofs.Common.{rules, take, ◌∙◌, ◌≡◌, ℕ, sym, subst}
+use Rattle.m4_tool.specs.Line.{Rose}
 use Rattle.m4_tool.proofs.MadeFiles.{begun_so, put_stands, put_tried, put_takes, takes_none}
 use Rattle.m4_tool.proofs.late.LateFileByteSink.put.Goals as goal
 
@@ -7,10 +8,13 @@ invariant_of-self-in-Ok-1 g c =
     let s = c.args.self.now in
     let b = begun_so g.K.Place.name g.K.Place.before (g.W.World.files s.world) (g.W.World.files c.begin.new.world) s.created c.as_slice.result.now c.begin.result s.agrees (c.as_slice.ensures.value ∙ s.named) (search rules) c.begin.ensures.begun in
     let more = take c.in-Ok.n c.args.bytes.now in
+    let same : g.W.World.failures c.append.new.self ≡ g.W.World.failures s.world = search rules in
     record {
       named = s.named;
       agrees = put_stands g.K.Place.name c.as_slice-2.result.now more g.K.Place.before _ _ (g.W.World.files c.append.new.self) s.created (c.as_slice-2.ensures.value ∙ s.named) b c.in-Ok.ensures.appended;
       tried = put_tried g.K.Place.name c.as_slice-2.result.now c.args.bytes.now c.in-Ok.n g.K.Place.before _ _ (g.W.World.files c.append.new.self) s.created s.failures (c.as_slice-2.ensures.value ∙ s.named) b c.in-Ok.ensures.appended c.in-Ok.ensures.some c.in-Ok.ensures.within;
+      unfailed = λ z. same ∙ s.unfailed z;
+      failed = λ z. subst (λ (x : ℕ). Rose g.K.Place.failures x) (sym same) (s.failed z);
     }
 
 pub returns-in-Ok-clause-takes : goal.returns-in-Ok-clause-takes
