@@ -20,19 +20,27 @@ use m4_engine::options::Options;
 use std::alloc::{AllocError, Global};
 
 const ABOUT: &str =
-    "Expands macros in the language of GNU M4, with the builtins that m4r(1) lists. Saves their definitions as \
-    frozen state files and starts from them, GNU M4's too; lists such files and writes their canonical text.";
+    "Expands macros in the language of GNU M4. A library is frozen once, and each page starts from it:
+
+  m4r -F macros.m4f macros.m4             freezes the library
+  m4r -R macros.m4f page.m4 > page.html   expands a page from it
+
+Together they write what `m4r macros.m4 page.m4` writes, if the first ends with status 0 and `m4wrap`
+has saved no text in it.";
 
 const USAGE: &str = "m4r [-F FILE] [-R FILE] [-L N] [--expansions=N] [-P] [FILE...]
        m4r --canon=FILE
        m4r --inspect=FILE";
 
 const AFTER_HELP: &str =
-    "The files are read in this order; `-`, or no FILE, is standard input. Output goes to standard
-output, messages to standard error. Use --canon or --inspect without any other option or file.
-The FILE of an option is a frozen state file, as `m4r -F FILE` and `m4 -F FILE` write it, and `-`
-there names a file called `-`. The FILE of -F is created when its first byte is written, so that
--R and -F may name one file.
+    "The files are read in this order. `-` there, or no FILE, is standard input; the FILE of an option
+may be a file called `-`. Output goes to standard output, messages to standard error. Use --canon or
+--inspect without any other option or file. The FILE of an option is a frozen state file, of m4r or
+of GNU m4. That of -F is created when its first byte is written, so that -R and -F may name one file.
+
+Not in m4r: the builtins include, sinclude, syscmd, esyscmd, sysval, regexp, patsubst, format,
+maketemp, mkstemp, traceon, traceoff, debugmode, debugfile, changeword and __program__, which are
+ordinary words, and options like -D, -I, -s and --version. The man page, m4r(1), says what to do.
 
 Exit status:
    0  success
@@ -43,8 +51,6 @@ Exit status:
 
 Examples:
   m4r macros.m4 page.m4 > page.html          expands a page with a library of macros
-  m4r -F macros.m4f macros.m4                freezes the library
-  m4r -R macros.m4f page.m4 > page.html      expands the page from the frozen library
   m4r --inspect=macros.m4f                   lists the contents of the frozen library
   m4r --canon=macros.m4f > canonical.m4f     writes its canonical text, for cmp";
 
