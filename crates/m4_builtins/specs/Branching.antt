@@ -2,7 +2,8 @@
 -- Believed. Manual: "Testing if a macro is defined", "If-else construct, or multibranch", "Recursion
 -- in m4". Words: ifdef, chosen, ifelse, shift.
 -- own: `ifelse` warns of one argument too many if two texts with no result would be left.
-use Rattle.std.specs.Prelude.{ℕ, ◌%◌, ◌==◌, ◌&&◌, nat_le, Bool, true, false, List, [], ◌∷◌, Option, Some, None, length, if◌then◌else◌}
+use Rattle.std.specs.Prelude.{ℕ, ◌%◌, ◌==◌, ◌&&◌, nat_le, Bool, true, false, List, [], ◌∷◌, Option, Some, None, length}
+use Rattle.std.specs.Prelude.{if◌then◌else◌}
 use Rattle.std.specs.Str.{bytes_eq}
 use Rattle.m4_state.specs.declared.builtin.Builtin.TheVariants.{Ifelse}
 use Rattle.m4_state.specs.declared.definition.Def.{Def}

@@ -3,7 +3,8 @@
 -- Words: reading_of, number_of_reading, reading_warning, with_number.
 -- own: white space before a number is skipped, after it none is; only white space is no number; a
 -- number that does not fit in 32 bits with its sign is none.
-use Rattle.std.specs.Prelude.{ℕ, ◌-◌, ◌^◌, ◌==◌, ◌&&◌, nat_le, ℤ, pos, neg_ℤ, Bool, true, false, not, List, [], ◌∷◌, Option, Some, None, drop, length, if◌then◌else◌}
+use Rattle.std.specs.Prelude.{ℕ, ◌-◌, ◌^◌, ◌==◌, ◌&&◌, nat_le, ℤ, pos, neg_ℤ, Bool, true, false, not, List, [], ◌∷◌}
+use Rattle.std.specs.Prelude.{Option, Some, None, drop, length, if◌then◌else◌}
 use Rattle.m4_state.specs.declared.builtin.Builtin.{Builtin}
 use Rattle.m4_state.specs.State.{State}
 use Rattle.m4_input.specs.Ascii.{is_space, is_digit}

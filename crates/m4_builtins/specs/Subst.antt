@@ -1,7 +1,8 @@
 -- Subst: a text definition with the arguments of a call substituted.
 -- Believed. Manual: "Arguments to macros", "Special arguments to macros". Words: piece, all_quoted, subst.
 -- own: `$` and the longest run of digits is one number.
-use Rattle.std.specs.Prelude.{ℕ, zero, suc, ◌+◌, ◌-◌, ◌*◌, ◌==◌, List, [], ◌∷◌, ◌++◌, length, take, fold, map, if◌then◌else◌, slice_get}
+use Rattle.std.specs.Prelude.{ℕ, zero, suc, ◌+◌, ◌-◌, ◌*◌, ◌==◌, List, [], ◌∷◌, ◌++◌, length, take, fold, map}
+use Rattle.std.specs.Prelude.{if◌then◌else◌, slice_get}
 use Rattle.std.specs.Fmt.{decimal}
 use Rattle.m4_state.specs.declared.delimiters.Delimiters.{Delimiters}
 use Rattle.m4_input.specs.Ascii.{dollar, hash, star, at_sign, comma, digit_zero, is_digit}

@@ -2,7 +2,8 @@
 -- Believed. Manual: "Translating characters". Words: run, ranges, translated, translit.
 -- own: a `-` between two bytes is a range, rising or falling, whose end may begin the next one; one
 -- that is first or last is a plain byte.
-use Rattle.std.specs.Prelude.{ℕ, zero, suc, ◌+◌, ◌-◌, ◌==◌, nat_lt, Bool, true, false, List, [], ◌∷◌, ◌++◌, Option, Some, None, flat_map, position, slice_get, option_to_list, if◌then◌else◌}
+use Rattle.std.specs.Prelude.{ℕ, zero, suc, ◌+◌, ◌-◌, ◌==◌, nat_lt, Bool, true, false, List, [], ◌∷◌, ◌++◌, Option}
+use Rattle.std.specs.Prelude.{Some, None, flat_map, position, slice_get, option_to_list, if◌then◌else◌}
 use Rattle.m4_state.specs.State.{State}
 use Rattle.m4_builtins.specs.declared.args.Arg.{Arg}
 use Rattle.m4_builtins.specs.Args.{text_at}

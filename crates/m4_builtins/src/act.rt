@@ -45,7 +45,8 @@ pub fn act(
     requires definition { IsDefinition def.now }
     requires args { AllByRecursion IsArg args.now.list }
     // exact steps: the new state and the effect
-    ensures { IfOk result (λ e. spec.act def.now args.now.name args.now.list place.now state.old ≡ record { state = state.new; effect = e }) }
+    ensures { IfOk result (λ e. spec.act def.now args.now.name args.now.list place.now state.old
+        ≡ record { state = state.new; effect = e }) }
 {
     let mut effect = Effect::new(alloc);
     act_on(
@@ -73,7 +74,8 @@ pub fn act_on(
     requires definition { IsDefinition def.now }
     requires args { AllByRecursion IsArg list.now }
     // exact steps: the new state and the effect
-    ensures { OnOk result (spec.act def.now name.now list.now place.now state.old ≡ record { state = state.new; effect = effect.new }) }
+    ensures { OnOk result (spec.act def.now name.now list.now place.now state.old
+        ≡ record { state = state.new; effect = effect.new }) }
 {
     let mut step = begin(effect, def, name, list, place, state)?;
     loop {
@@ -95,7 +97,8 @@ fn act_builtin<'a>(
 ) -> Result<Step<'a>, BuiltinFault>
     requires fresh { effect.old ≡ nothing }
     requires args { AllByRecursion IsArg list.now }
-    ensures leads { IfOk result (λ step. LeadsTo (spec.act (defs.Builtin builtin) [] list.now place.now state.old) place.now state.new effect.new step) }
+    ensures leads { IfOk result (λ step. LeadsTo (spec.act (defs.Builtin builtin) [] list.now place.now state.old)
+        place.now state.new effect.new step) }
     ensures shorter { IfOk result (λ step. IsShorter (length list.now) step) }
 {
     let Row { least, most, .. } = builtin.row();
@@ -129,7 +132,9 @@ fn row<'a>(
 ) -> Result<Step<'a>, BuiltinFault>
     requires fresh { effect.old ≡ nothing }
     requires args { AllByRecursion IsArg list.now }
-    ensures leads { IfOk result (λ step. LeadsTo (spec.row (spec.goes_on list.now place.now state.old) name list.now place.now state.old) place.now state.new effect.new step) }
+    ensures leads { IfOk result (λ step. LeadsTo (spec.row
+        (spec.goes_on list.now place.now state.old) name list.now place.now state.old) place.now state.new effect.new
+        step) }
     ensures shorter { IfOk result (λ step. IsShorter (length list.now) step) }
     ensures unbounded { IfOk result (λ step. IsUnbounded (most_of name) step) }
 {

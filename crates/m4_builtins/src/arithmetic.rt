@@ -67,7 +67,11 @@ pub(crate) fn decr(
 /// Expands to a number, with these messages.
 fn give_number(effect: &mut Effect, number: i32, messages: Bytes) -> Result<(), AllocError>
     requires { effect.old ≡ nothing }
-    ensures { OnOk result (effect.new ≡ record nothing { push = Some (pushes.Text (signed_decimal number)); messages = messages }) }
+    ensures { OnOk result (effect.new ≡ record nothing {
+      push = Some
+          (pushes.Text (signed_decimal number));
+      messages = messages;
+    }) }
 {
     let mut buffer = Buffer::new();
     effect.give_copy(buffer.format(number).as_bytes())?;

@@ -37,7 +37,8 @@ pub(crate) fn ifelse(
     state: &State,
 ) -> Result<(), AllocError>
     requires { effect.old ≡ nothing }
-    ensures { OnOk result (spec.ifelse list.now place.now state.now ≡ record { state = state.now; effect = effect.new }) }
+    ensures { OnOk result (spec.ifelse list.now place.now state.now
+        ≡ record { state = state.now; effect = effect.new }) }
 {
     let _ = state;
     match list {

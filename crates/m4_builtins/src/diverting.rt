@@ -27,7 +27,8 @@ pub(crate) fn divert(
     state: &mut State,
 ) -> Result<(), BuiltinFault>
     requires { effect.old ≡ nothing }
-    ensures { OnOk result (spec.divert list.now place.now state.old ≡ record { state = state.new; effect = effect.new }) }
+    ensures { OnOk result (spec.divert list.now place.now state.old
+        ≡ record { state = state.new; effect = effect.new }) }
 {
     let Some(first) = list.first() else {
         state.divert(0);
@@ -51,7 +52,8 @@ pub(crate) fn undivert(
     state: &mut State,
 ) -> Result<(), BuiltinFault>
     requires { effect.old ≡ nothing }
-    ensures { OnOk result (spec.undivert list.now place.now state.old ≡ record { state = state.new; effect = effect.new }) }
+    ensures { OnOk result (spec.undivert list.now place.now state.old
+        ≡ record { state = state.new; effect = effect.new }) }
 {
     let alloc = effect.alloc();
     let mut messages = Vec::new(alloc);

@@ -229,7 +229,8 @@ impl Effect {
 
     /// Inserts the text of an argument before the input: a definition, or none, counts as empty.
     pub(crate) fn give_argument(&mut self, arg: Option<&Arg>) -> Result<(), AllocError>
-        ensures { OnOk result (self.new ≡ record self.old { push = Some (pushes.Text (text_of_any (option_copied arg.entry))) }) }
+        ensures { OnOk result (self.new ≡ record self.old
+            { push = Some (pushes.Text (text_of_any (option_copied arg.entry))) }) }
     {
         match arg {
             Some(Arg::Text(text)) => self.give_shared(text),

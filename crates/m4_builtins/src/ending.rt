@@ -39,7 +39,8 @@ pub(crate) fn m4exit(
     state: &State,
 ) -> Result<(), AllocError>
     requires { effect.old ≡ nothing }
-    ensures { OnOk result (spec.m4exit list.now place.now state.now ≡ record { state = state.now; effect = effect.new }) }
+    ensures { OnOk result (spec.m4exit list.now place.now state.now
+        ≡ record { state = state.now; effect = effect.new }) }
 {
     let Some(first) = list.first() else {
         effect.end_with(0);
@@ -56,7 +57,8 @@ fn end_by(
     state: &State,
 ) -> Result<(), AllocError>
     requires { effect.old ≡ nothing }
-    ensures { OnOk result (spec.exits_reading reading place.now state.now ≡ record { state = state.now; effect = effect.new }) }
+    ensures { OnOk result (spec.exits_reading reading place.now state.now
+        ≡ record { state = state.now; effect = effect.new }) }
 {
     let _ = state;
     let alloc = effect.alloc();

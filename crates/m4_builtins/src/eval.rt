@@ -55,7 +55,8 @@ fn digits_in(
     place: &Place,
     messages: &mut Vec<u8>,
 ) -> Result<Option<Vec<u8>>, AllocError>
-    ensures { IfOk result (λ digits. ReadsAs (spec.with_digits list.now place.now) (option_map (λ v. v.items) digits) messages.old.items messages.new.items) }
+    ensures { IfOk result (λ digits. ReadsAs (spec.with_digits list.now place.now)
+        (option_map (λ v. v.items) digits) messages.old.items messages.new.items) }
 {
     let Some(radix) = radix_in(alloc, text_at(list, 1), place, messages)? else {
         return Ok(None);
@@ -76,7 +77,8 @@ fn radix_in(
     place: &Place,
     messages: &mut Vec<u8>,
 ) -> Result<Option<Radix>, AllocError>
-    ensures { IfOk result (λ radix. ReadsAs (λ s. spec.with_radix place.now s text.now) radix messages.old.items messages.new.items) }
+    ensures { IfOk result (λ radix. ReadsAs (λ s. spec.with_radix place.now s text.now) radix messages.old.items
+        messages.new.items) }
 {
     if text.is_empty() {
         return Ok(Some(Radix::decimal()));
@@ -98,7 +100,8 @@ fn width_in(
     place: &Place,
     messages: &mut Vec<u8>,
 ) -> Result<Option<usize>, AllocError>
-    ensures { IfOk result (λ width. ReadsAs (λ s. spec.with_width place.now s (option_map text_of_arg (option_copied arg.entry))) width messages.old.items messages.new.items) }
+    ensures { IfOk result (λ width. ReadsAs (λ s. spec.with_width place.now s
+        (option_map text_of_arg (option_copied arg.entry))) width messages.old.items messages.new.items) }
 {
     let Some(arg) = arg else {
         return Ok(Some(0));
@@ -123,7 +126,8 @@ fn value_in(
     place: &Place,
     messages: &mut Vec<u8>,
 ) -> Result<Option<i32>, AllocError>
-    ensures { IfOk result (λ value. ReadsAs (λ s. spec.with_value place.now s text.now) value messages.old.items messages.new.items) }
+    ensures { IfOk result (λ value. ReadsAs (λ s. spec.with_value place.now s text.now) value messages.old.items
+        messages.new.items) }
 {
     if is_blank(text) {
         let warning = empty_number_message(alloc, place, Builtin::Eval)?;

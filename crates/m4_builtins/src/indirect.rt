@@ -45,7 +45,8 @@ pub(crate) fn begin<'a>(
 ) -> Result<Step<'a>, BuiltinFault>
     requires fresh { effect.old ≡ nothing }
     requires args { AllByRecursion IsArg list.now }
-    ensures leads { IfOk result (λ step. LeadsTo (act def.now name.now list.now place.now state.now) place.now state.now effect.new step) }
+    ensures leads { IfOk result (λ step. LeadsTo (act def.now name.now list.now place.now state.now) place.now state.now
+        effect.new step) }
     ensures shorter { (n : ℕ) → length list.now < n → IfOk result (λ step. IsShorter n step) }
 {
     match def {
@@ -71,7 +72,8 @@ pub(crate) fn indir<'a>(
 ) -> Result<Step<'a>, BuiltinFault>
     requires fresh { effect.old ≡ nothing }
     requires args { AllByRecursion IsArg list.now }
-    ensures leads { IfOk result (λ step. LeadsTo (spec.indir (goes_on list.now place.now state.now) list.now place.now state.now) place.now state.now effect.new step) }
+    ensures leads { IfOk result (λ step. LeadsTo (spec.indir
+        (goes_on list.now place.now state.now) list.now place.now state.now) place.now state.now effect.new step) }
     ensures shorter { IfOk result (λ step. IsShorter (length list.now) step) }
 {
     let Some((first, rest)) = list.split_first() else {
@@ -99,7 +101,8 @@ pub(crate) fn builtin<'a>(
 ) -> Result<Step<'a>, BuiltinFault>
     requires fresh { effect.old ≡ nothing }
     requires args { AllByRecursion IsArg list.now }
-    ensures leads { IfOk result (λ step. LeadsTo (spec.builtin (goes_on list.now place.now state.now) list.now place.now state.now) place.now state.now effect.new step) }
+    ensures leads { IfOk result (λ step. LeadsTo (spec.builtin
+        (goes_on list.now place.now state.now) list.now place.now state.now) place.now state.now effect.new step) }
     ensures shorter { IfOk result (λ step. IsShorter (length list.now) step) }
 {
     let Some((first, rest)) = list.split_first() else {

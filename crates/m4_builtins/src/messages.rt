@@ -1,7 +1,9 @@
 //! The messages about a call, one line each. The texts are those of `specs/Messages.antt`.
 
 ghost use Rattle.std.specs.Prelude.{◌≡◌, ◌++◌, IfOk, OnOk, codes};
-ghost use Rattle.m4_builtins.specs.Messages.{place_text, warning, error, too_few, excess, empty_number, not_numeric, unknown_macro, unknown_builtin, unsupported, dropped, bad_name, bad_status, divide_by_zero, bad_expression, out_of_range};
+ghost use Rattle.m4_builtins.specs.Messages.{place_text, warning, error, too_few, excess, empty_number, not_numeric};
+ghost use Rattle.m4_builtins.specs.Messages.{unknown_macro, unknown_builtin, unsupported, dropped, bad_name};
+ghost use Rattle.m4_builtins.specs.Messages.{bad_status, divide_by_zero, bad_expression, out_of_range};
 
 use crate::fault::BuiltinFault;
 use crate::place::Place;

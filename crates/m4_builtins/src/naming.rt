@@ -31,7 +31,8 @@ pub(crate) fn define(
 ) -> Result<(), BuiltinFault>
     requires fresh { effect.old ≡ nothing }
     requires args { AllByRecursion IsArg list.now }
-    ensures { OnOk result (spec.define list.now place.now state.old ≡ record { state = state.new; effect = effect.new }) }
+    ensures { OnOk result (spec.define list.now place.now state.old
+        ≡ record { state = state.new; effect = effect.new }) }
 {
     let Some((first, rest)) = list.split_first() else {
         return Ok(());
@@ -58,7 +59,8 @@ pub(crate) fn pushdef(
 ) -> Result<(), BuiltinFault>
     requires fresh { effect.old ≡ nothing }
     requires args { AllByRecursion IsArg list.now }
-    ensures { OnOk result (spec.pushdef list.now place.now state.old ≡ record { state = state.new; effect = effect.new }) }
+    ensures { OnOk result (spec.pushdef list.now place.now state.old
+        ≡ record { state = state.new; effect = effect.new }) }
 {
     let Some((first, rest)) = list.split_first() else {
         return Ok(());
@@ -194,8 +196,10 @@ fn push_text(
     texts: &mut Vec<u8>,
     warnings: &mut Vec<u8>,
 ) -> Result<(), BuiltinFault>
-    ensures texts { OnOk result (texts.new.items ≡ texts.old.items ++ spec.text_given (pair_of quotes.entry) (option_copied def.entry)) }
-    ensures warnings { OnOk result (warnings.new.items ≡ warnings.old.items ++ spec.left_out place.now (option_copied def.entry)) }
+    ensures texts { OnOk result (texts.new.items ≡ texts.old.items ++ spec.text_given (pair_of quotes.entry)
+        (option_copied def.entry)) }
+    ensures warnings { OnOk result (warnings.new.items ≡ warnings.old.items ++ spec.left_out place.now
+        (option_copied def.entry)) }
 {
     match def {
         None => {}

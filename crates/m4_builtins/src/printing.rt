@@ -29,7 +29,8 @@ pub(crate) fn dumpdef(
     state: &State,
 ) -> Result<(), BuiltinFault>
     requires { effect.old ≡ nothing }
-    ensures { OnOk result (spec.dumpdef list.now place.now state.now ≡ record { state = state.now; effect = effect.new }) }
+    ensures { OnOk result (spec.dumpdef list.now place.now state.now
+        ≡ record { state = state.now; effect = effect.new }) }
 {
     let alloc = effect.alloc();
     // All memory for names is allocated before the first message is made.

@@ -1,6 +1,7 @@
 //! Substitution: replaces `$0`, `$1`, `$#`, `$*` and `$@` in a text by a call's name and arguments.
 
-ghost use Rattle.std.specs.Prelude.{◌≡◌, ◌==◌, ◌≤◌, ◌^◌, [], ◌∷◌, ◌++◌, IfOk, OnOk, ℕ, ◌+◌, ◌<◌, length, map, not, decimal, take, drop, IfSome};
+ghost use Rattle.std.specs.Prelude.{◌≡◌, ◌==◌, ◌≤◌, ◌^◌, [], ◌∷◌, ◌++◌, IfOk, OnOk, ℕ, ◌+◌, ◌<◌, length, map, not};
+ghost use Rattle.std.specs.Prelude.{decimal, take, drop, IfSome};
 ghost use Rattle.m4_input.specs.Ascii.{dollar, is_digit};
 ghost use Rattle.m4_input.specs.Token.{run_length};
 ghost use Rattle.m4_input.specs.DelimsView.{pair_of};
@@ -150,7 +151,8 @@ fn push_dollar(
     list: &[Arg],
     quotes: (&[u8], &[u8]),
 ) -> Result<usize, AllocError>
-    ensures used { IfOk result (λ n. n ≡ (after_dollar name.now (map text_of_arg list.now) (pair_of quotes.entry) after.now).1) }
+    ensures used { IfOk result (λ n. n ≡ (after_dollar name.now (map text_of_arg list.now)
+        (pair_of quotes.entry) after.now).1) }
     ensures text { OnOk result (out.new.items ≡ out.old.items
         ++ (after_dollar name.now (map text_of_arg list.now) (pair_of quotes.entry) after.now).0) }
     ensures within { IfOk result (λ n. n ≤ length after.now) }
@@ -291,7 +293,8 @@ pub(crate) fn push_quoted(
     args: &[Arg],
     quotes: (&[u8], &[u8]),
 ) -> Result<(), AllocError>
-    ensures { OnOk result (out.new.items ≡ out.old.items ++ all_quoted (pair_of quotes.entry) (map text_of_arg args.now)) }
+    ensures { OnOk result (out.new.items ≡ out.old.items ++ all_quoted (pair_of quotes.entry)
+        (map text_of_arg args.now)) }
 {
     match quotes {
         ([begin], [end]) => push_all_between(out, args, *begin, *end),
@@ -337,7 +340,8 @@ fn push_each_quoted(
     args: &[Arg],
     quotes: (&[u8], &[u8]),
 ) -> Result<(), AllocError>
-    ensures { OnOk result (out.new.items ≡ out.old.items ++ all_quoted (pair_of quotes.entry) (map text_of_arg args.now)) }
+    ensures { OnOk result (out.new.items ≡ out.old.items ++ all_quoted (pair_of quotes.entry)
+        (map text_of_arg args.now)) }
 {
     let mut first = true;
     for arg in args {

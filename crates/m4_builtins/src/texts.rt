@@ -49,7 +49,8 @@ pub(crate) fn substr(
     state: &State,
 ) -> Result<(), AllocError>
     requires { effect.old ≡ nothing }
-    ensures { OnOk result (spec.substr list.now place.now state.now ≡ record { state = state.now; effect = effect.new }) }
+    ensures { OnOk result (spec.substr list.now place.now state.now
+        ≡ record { state = state.now; effect = effect.new }) }
 {
     let _ = state;
     let [text, from, counts @ ..] = list else {

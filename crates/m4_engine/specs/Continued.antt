@@ -33,9 +33,11 @@ comes_to w c = resume Expansion Kept Ended turn join expand c.outer (then_on (sk
 
 -- from the one place the machine goes on as from the other, whatever follows the bytes in hand: it made o and
 -- m on the way
-pub record Leads (w : Wanted) (old : Engine) (p : Pending) (v : Wanted) (new : Engine) (q : Pending) (o m : List ℕ) : Type 0 where
+pub record Leads (w : Wanted) (old : Engine) (p : Pending) (v : Wanted) (new : Engine) (q : Pending)
+    (o m : List ℕ) : Type 0 where
   pub means : (z : List ℕ) (more : Bool) → MayFollow p.may_follow z more → (a b : List ℕ)
-      → comes_to v (configuration (a ++ o) (b ++ m) new (longer z more q)) ≡ comes_to w (configuration a b old (longer z more p))
+      → comes_to v (configuration (a ++ o) (b ++ m) new (longer z more q))
+      ≡ comes_to w (configuration a b old (longer z more p))
   pub follows : q.may_follow ≡ p.may_follow
   pub limits : new.limits ≡ old.limits
 
@@ -45,7 +47,8 @@ pub record IsFlushed (e : Engine) : Type 0 where
   pub messages : e.messages ≡ []
 
 -- the bytes in hand were expanded as far as they decide: what was made was written
-pub record HandNeeds (w : Wanted) (old : Engine) (i : Held) (v : Wanted) (new : Engine) (j : Held) (c : Contents) : Type 0 where
+pub record HandNeeds (w : Wanted) (old : Engine) (i : Held) (v : Wanted) (new : Engine) (j : Held)
+    (c : Contents) : Type 0 where
   pub o : List ℕ
   pub m : List ℕ
   pub written : HasWritten o m c
@@ -54,15 +57,18 @@ pub record HandNeeds (w : Wanted) (old : Engine) (i : Held) (v : Wanted) (new : 
   pub opened : (i.pending).may_follow ≡ true
   pub flushed : IsFlushed new
   pub undecided : (a b : List ℕ)
-      → comes_to v (configuration (a ++ o) (b ++ m) new j.pending) ≡ Halted (record { so_far = so_far_of (a ++ o) (b ++ m) new; reason = NeedsInput })
+      → comes_to v (configuration (a ++ o) (b ++ m) new j.pending)
+      ≡ Halted (record { so_far = so_far_of (a ++ o) (b ++ m) new; reason = NeedsInput })
 
 -- the expansion ended, whatever follows the bytes in hand: what was made was written
-pub record HandEnds (w : Wanted) (old : Engine) (p : Pending) (cause : Cause) (new : Engine) (c : Contents) : Type 0 where
+pub record HandEnds (w : Wanted) (old : Engine) (p : Pending) (cause : Cause) (new : Engine)
+    (c : Contents) : Type 0 where
   pub o : List ℕ
   pub m : List ℕ
   pub written : HasWritten o m c
   pub ends : (z : List ℕ) (more : Bool) → MayFollow p.may_follow z more → (a b : List ℕ)
-      → comes_to w (configuration a b old (longer z more p)) ≡ Halted (record { so_far = so_far_of (a ++ o) (b ++ m) new; reason = Ends cause })
+      → comes_to w (configuration a b old (longer z more p))
+      ≡ Halted (record { so_far = so_far_of (a ++ o) (b ++ m) new; reason = Ends cause })
   pub flushed : IsFlushed new
   pub limits : new.limits ≡ old.limits
 

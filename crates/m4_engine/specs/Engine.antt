@@ -1,7 +1,8 @@
 -- Engine: a run between two turns, as the machine represents it, and the steps of a turn.
 -- Not believed: it connects the code with `Expand`; the turns' lemmas prove that they agree.
 use Rattle.std.specs.Fmt.{decimal}
-use Rattle.std.specs.Prelude.{◌≡◌, codes, nat_lt, not, ◌&&◌, suc, Option, Some, None, ℕ, Bool, true, false, List, [], ◌∷◌, ◌++◌, length, take, drop, ◌<◌, ◌≤◌, ◌⊎◌, Result, IfOk, OnOk}
+use Rattle.std.specs.Prelude.{◌≡◌, codes, nat_lt, not, ◌&&◌, suc, Option, Some, None, ℕ, Bool, true, false, List, []}
+use Rattle.std.specs.Prelude.{◌∷◌, ◌++◌, length, take, drop, ◌<◌, ◌≤◌, ◌⊎◌, Result, IfOk, OnOk}
 use Rattle.m4_state.specs.declared.definition.Def.{Def}
 use Rattle.m4_state.specs.State.{State, appended}
 use Rattle.m4_input.specs.Pending.{Pending, text_of, consumed, line_length}
@@ -9,7 +10,8 @@ use Rattle.m4_engine.specs.Plain.{total, ArePlain, IsPlainRun}
 use Rattle.m4_engine.specs.Collected.{IsListRun}
 use Rattle.m4_builtins.specs.declared.place.Place.{Place}
 use Rattle.m4_builtins.specs.Messages.{dropped}
-use Rattle.m4_engine.specs.Expansion.{Call, Limits, RunSoFar, Mode, Outside, Collecting, Kept, Expansion, Ended, Ends, NeedsInput, issued, place_at}
+use Rattle.m4_engine.specs.Expansion.{Call, Limits, RunSoFar, Mode, Outside, Collecting, Kept, Expansion, Ended, Ends}
+use Rattle.m4_engine.specs.Expansion.{NeedsInput, issued, place_at}
 use Rattle.m4_state.specs.Definition.{IsDefinition}
 use Rattle.m4_input.specs.declared.token.Token.{Token}
 use Rattle.m4_input.specs.declared.pushed.Pushed.{Pushed}
@@ -165,7 +167,8 @@ Moves may e p turns.SkipsLine f =
 Moves may e p turns.NeedsMore f = Unit {0}
 Moves may e p (turns.Ends end) f =
     (z : List ℕ) (more : Bool) → MayFollow may z more
-    → (o m : List ℕ) → f z more o m ≡ Stops (Halted (record { so_far = so_far_of o m e; reason = Ends (cause_of_end end) }))
+    → (o m : List ℕ) → f z more o m ≡ Stops (Halted (record
+    { so_far = so_far_of o m e; reason = Ends (cause_of_end end) }))
 
 -- an input without a fault; if a definition is its first token, it is valid
 abbrev pub IsFront : Option Def → Type 0
@@ -226,7 +229,8 @@ StaysBy i j (turns.Ends end) = Unit {0}
 StaysBy i j t = Stays i j
 
 -- the same; and if the expansion continues, the input is ready
-pub record Steps (result : Result Turned TurnFault) (old new : Engine) (i j : Held) (to : Turned → Type 0) : Type 0 where
+pub record Steps (result : Result Turned TurnFault) (old new : Engine) (i j : Held)
+    (to : Turned → Type 0) : Type 0 where
   pub moves : IfOk result to
   pub ready : IfOk result (StaysBy i j)
   pub limits : OnOk result (new.limits ≡ old.limits)
@@ -363,7 +367,8 @@ PassesText m n x old new =
     ⊎ ((c : Call) × (d : Call) × (cs : List Call) × IsListRun old.state m n c d x × (old.open_calls ≡ c ∷ cs)
     × (new ≡ record old { open_calls = d ∷ cs }))
 
--- a pass over a text, which others in hand may follow, and more bytes may; the lookahead is right, once its place is set
+-- a pass over a text, which others in hand may follow, and more bytes may; the lookahead is right, once its place is
+-- set
 pub record PassesBy (n : ℕ) (a : Lookahead) (x : List ℕ) (others more : Bool) (old new : Engine) : Type 0 where
   pub passes : PassesText more n x old new
   pub within : n ≤ length x

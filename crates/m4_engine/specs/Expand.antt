@@ -4,7 +4,8 @@
 -- A turn consumes the first token. A name with a definition is a call: it is counted, its arguments
 -- are collected, it is acted on, and its result is read again. All other tokens are text.
 -- Words: called, call, turn, expand.
-use Rattle.std.specs.Prelude.{ℕ, suc, ◌+◌, ◌-◌, Bool, true, false, ◌&&◌, nat_lt, List, [], ◌∷◌, ◌++◌, Option, Some, None, length, codes}
+use Rattle.std.specs.Prelude.{ℕ, suc, ◌+◌, ◌-◌, Bool, true, false, ◌&&◌, nat_lt, List, [], ◌∷◌, ◌++◌, Option, Some}
+use Rattle.std.specs.Prelude.{None, length, codes}
 use Rattle.std.specs.Fmt.{decimal}
 use Rattle.m4_state.specs.declared.definition.Def.{Def}
 use Rattle.m4_state.specs.State.{top_of}
@@ -25,7 +26,9 @@ use Rattle.m4_builtins.specs.Act.{Acted, act, needs_list}
 use Rattle.m4_engine.specs.declared.ending.Cause.{Cause}
 use Rattle.m4_engine.specs.declared.ending.Cause.TheVariants as causes
 use Rattle.m4_engine.specs.Nesting.{Turn, Halt, GoOn, Bare, Opens, Outcome, Halted, Closed, expansion}
-use Rattle.m4_engine.specs.Expansion.{RunSoFar, Limits, Call, Mode, Outside, Collecting, Expansion, Kept, Ends, NeedsInput, OutOfBound, Ended, place_at, with_call, reading, stop, fail, put_text, put_token}
+use Rattle.m4_engine.specs.Expansion.{RunSoFar, Limits, Call, Mode, Outside, Collecting, Expansion, Kept, Ends}
+use Rattle.m4_engine.specs.Expansion.{NeedsInput, OutOfBound, Ended, place_at, with_call, reading, stop, fail, put_text}
+use Rattle.m4_engine.specs.Expansion.{put_token}
 use Rattle.m4_engine.specs.Args.{take_byte, role_of}
 
 -- a value, if there is one, is inserted before the pending input

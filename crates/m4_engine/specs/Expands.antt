@@ -1,7 +1,8 @@
 -- Expands: the effect of an input's expansion on the machine and the writers.
 -- Not believed: it connects the machine with `Session`, which says the same of a source.
 -- Manual: "How m4 copies input to output".
--- Words: made_before, input_expansion, Expanded, LastAsked, ReadSo, Fell, Expands, ReadsBy, FlushesPrefix, IsInOrder, IsIdle.
+-- Words: made_before, input_expansion, Expanded, LastAsked, ReadSo, Fell, Expands, ReadsBy, FlushesPrefix, IsInOrder,
+-- IsIdle.
 use Rattle.std.specs.Prelude.{◌≡◌, ◌≤◌, ℕ, Bool, true, List, [], ◌++◌, ◌⊎◌, Option, length}
 use Rattle.m4_state.specs.Device.{Script, with_bytes, HasBegun, IsAtFault, one_more}
 use Rattle.m4_input.specs.Pending.{Pending}
@@ -49,7 +50,8 @@ pub record LastAsked (old : Engine) (p : Pending) (x : List ℕ) (w : Contents) 
       ((input_expansion old (longer asked true p)).so_far).messages w
 
 -- the reader gave x, so that q is in hand of the input; and whatever follows q, P is so of the expansion
-pub record ReadSo (old : Engine) (p : Pending) (before after : Option Script) (w : Contents) (P : Ended → Type 0) : Type 0 where
+pub record ReadSo (old : Engine) (p : Pending) (before after : Option Script) (w : Contents)
+    (P : Ended → Type 0) : Type 0 where
   pub x : List ℕ
   pub q : Pending
   pub reads : Reads before after p x q

@@ -26,7 +26,8 @@ IsMeaning (meanings.Expansion x) bare s name place =
     (bare ≡ true) × (text : List ℕ) × (top_of s name ≡ Some (Text text)) × (x ≡ subst text name [] s.quotes)
 IsMeaning meanings.LineSkip bare s name place = (bare ≡ true) × (top_of s name ≡ Some (Builtin Dnl))
 IsMeaning (meanings.Call c) bare s name place =
-    (top_of s name ≡ Some c.definition) × (c.name ≡ name) × (c.place ≡ place) × (c ≡ call_of c.definition c.name c.place)
+    (top_of s name ≡ Some c.definition) × (c.name ≡ name) × (c.place ≡ place)
+    × (c ≡ call_of c.definition c.name c.place)
 
 -- what a call does is known only if it is bare, and a call has no argument yet
 abbrev pub Fits : Meaning → Bool → Type 0

@@ -36,7 +36,8 @@ IsCurrent script before after m taken = ⊥
 
 -- the first sources of a run were read to their ends, these bytes were taken of the one after them, and the later
 -- ones are as they were
-abbrev pub Reaches : {R : Type 0} → (R → Option Script) → List (RunSource R) → List (RunSource R) → List Source → List ℕ → List ℕ → Type 0
+abbrev pub Reaches : {R : Type 0} → (R → Option Script) → List (RunSource R) → List (RunSource R) → List Source → List ℕ
+    → List ℕ → Type 0
 Reaches script (x ∷ xs) (y ∷ ys) [] name taken = IsCurrent script x y name taken × (ys ≡ xs)
 Reaches script (x ∷ xs) (y ∷ ys) (s ∷ ss) name taken =
     IsRead script x y s × Reaches script xs ys ss name taken
@@ -71,7 +72,8 @@ pub record AskedAt (part : List ℕ → SettledSoFar) (cause : Cause) (taken : L
 
 -- how far a run came that was at p before its sources: those before the current one were read to their ends, `taken`
 -- is what was taken of the current one, and of the later ones nothing was
-pub record Reached {R : Type 0} (script : R → Option Script) (old new : List (RunSource R)) (limits : Limits) (p : Progress) (cause : Cause) (w : Contents) : Type 0 where
+pub record Reached {R : Type 0} (script : R → Option Script) (old new : List (RunSource R)) (limits : Limits)
+    (p : Progress) (cause : Cause) (w : Contents) : Type 0 where
   pub before : List Source
   pub name : List ℕ
   pub taken : List ℕ
@@ -89,7 +91,8 @@ pub record IsPast {R : Type 0} (script : R → Option Script) (old new : List (R
 
 -- by the cause: a run that read everything came past its sources; after a frozen file that is refused nothing is read;
 -- and a writer or an allocation may have failed before anything was read
-abbrev pub OnePassBy : {R : Type 0} → (R → Option Script) → List (RunSource R) → List (RunSource R) → Options → Start → Cause → Contents → Type 0
+abbrev pub OnePassBy : {R : Type 0} → (R → Option Script) → List (RunSource R) → List (RunSource R) → Options → Start
+    → Cause → Contents → Type 0
 OnePassBy script old new o start (causes.Frozen fault) w = new ≡ old
 OnePassBy script old new o start causes.Write w =
     (new ≡ old) ⊎ Reached script old new (limits_of o) (begun start) causes.Write w
@@ -99,5 +102,6 @@ OnePassBy script old new o start causes.Done w = IsPast script old new (limits_o
 OnePassBy script old new o start cause w = Reached script old new (limits_of o) (begun start) cause w
 
 -- a run passes over its sources once; of a run without sources nothing is said
-abbrev pub OnePass : {R : Type 0} → (R → Option Script) → List (RunSource R) → List (RunSource R) → Options → Start → Cause → Contents → Type 0
+abbrev pub OnePass : {R : Type 0} → (R → Option Script) → List (RunSource R) → List (RunSource R) → Options → Start
+    → Cause → Contents → Type 0
 OnePass script old new o start cause w = old ≢ [] → OnePassBy script old new o start cause w

@@ -36,7 +36,8 @@ IsPlainRun s m n x = (lens : List ℕ) × ArePlain s m lens x × (total lens ≡
 
 -- the result of one look at the first token
 abbrev pub IsFirst : State → Bool → List ℕ → First → Type 0
-IsFirst s m x (firsts.Word n) = (scan s.quotes s.comments m x ≡ Found (Name (take n x)) n) × (top_of s (take n x) ≡ None)
+IsFirst s m x (firsts.Word n) = (scan s.quotes s.comments m x ≡ Found (Name (take n x)) n)
+    × (top_of s (take n x) ≡ None)
 IsFirst s m x (firsts.Byte b) = (scan s.quotes s.comments m x ≡ Found (Byte b) 1) × (take 1 x ≡ b ∷ [])
 IsFirst s m x (firsts.Quoted begin len all) = scan s.quotes s.comments m x ≡ Found (Str (take len (drop begin x))) all
 IsFirst s m x (firsts.Called n listed d) =

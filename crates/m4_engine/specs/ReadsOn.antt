@@ -29,7 +29,8 @@ pub record HasReadOn (w : Wanted) (e : Engine) (before after : Option Script) (o
   pub sound : new.fault ≡ None
 
 -- the questions stopped by a fault: x came before, and no byte is lost
-pub record HasStopped (w : Wanted) (e : Engine) (before after : Option Script) (old new : Held) (fault : InputFault) : Type 0 where
+pub record HasStopped (w : Wanted) (e : Engine) (before after : Option Script) (old new : Held)
+    (fault : InputFault) : Type 0 where
   pub x : List ℕ
   pub given : before ≡ after_bytes x after
   pub undecided : IsWantedAfter w e old.pending x

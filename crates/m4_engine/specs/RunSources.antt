@@ -51,14 +51,16 @@ ExtendsSource script (sources.Opened name reader) after s =
     ExtendsOpened name (script reader) (script_of script after) s
 ExtendsSource script (sources.Unopened name) after s = s ≡ Unopened name
 
-abbrev pub ExtendSources : {R : Type 0} → (R → Option Script) → List (RunSource R) → List (RunSource R) → List Source → Type 0
+abbrev pub ExtendSources : {R : Type 0} → (R → Option Script) → List (RunSource R) → List (RunSource R) → List Source
+    → Type 0
 ExtendSources script [] [] [] = Unit {0}
 ExtendSources script (x ∷ xs) (y ∷ ys) (s ∷ ss) = ExtendsSource script x y s × ExtendSources script xs ys ss
 ExtendSources script before after ss = ⊥
 
 -- definitions' sources for those of a run, by the run's sources before and after it: those with the readers'
 -- bytes, or any that start with the bytes that were read
-abbrev pub DescribeSources : {R : Type 0} → (R → Option Script) → List (RunSource R) → List (RunSource R) → List Source → Type 0
+abbrev pub DescribeSources : {R : Type 0} → (R → Option Script) → List (RunSource R) → List (RunSource R) → List Source
+    → Type 0
 DescribeSources script before after ss =
     (map (source_of script) before ≡ map Some ss) ⊎ ExtendSources script before after ss
 

@@ -1,10 +1,11 @@
 -- Session: a run between two of its calls, and what each call does to it.
 -- Believed. Manual: "Command line files", "Invoking m4".
--- Words: SessionState, progress_of, written, session_from, fresh_session, IsOpen, ReloadGives, Completed, FileAsked, FileRead, FileEnded, FileFell, FileGives,
--- MissingGives, EndGives, FinishGives, FreezeGives, FreezeLeaves, BeginGives, IsBegun, ReadFails, ReloadFails, BeginFails, SparesBy, ByAnswer, WriteFails,
--- MessageWriteFails.
+-- Words: SessionState, progress_of, written, session_from, fresh_session, IsOpen, ReloadGives, Completed, FileAsked,
+-- FileRead, FileEnded, FileFell, FileGives, MissingGives, EndGives, FinishGives, FreezeGives, FreezeLeaves, BeginGives,
+-- IsBegun, ReadFails, ReloadFails, BeginFails, SparesBy, ByAnswer, WriteFails, MessageWriteFails.
 -- A session is a run's progress without the bytes that were written; these went to the writers.
-use Rattle.std.specs.Prelude.{◌≡◌, ◌≢◌, ◌≤◌, length, IfSome, ℕ, Bool, true, false, List, [], ◌∷◌, ◌++◌, Option, Some, None, Result, Ok, Err, ◌⊎◌}
+use Rattle.std.specs.Prelude.{◌≡◌, ◌≢◌, ◌≤◌, length, IfSome, ℕ, Bool, true, false, List, [], ◌∷◌, ◌++◌, Option, Some}
+use Rattle.std.specs.Prelude.{None, Result, Ok, Err, ◌⊎◌}
 use Rattle.m4_state.specs.State.{State, IsSized}
 use Rattle.m4_state.specs.Fresh.{fresh}
 use Rattle.m4_state.specs.Device.{Script, after_bytes, IsAtEnd, IsAtFault, with_bytes, HasBegun, one_more}
@@ -22,7 +23,8 @@ use Rattle.m4_engine.specs.Expansion.{Limits, EndReason, Ends, NeedsInput, Ended
 use Rattle.m4_engine.specs.Expand.{expand_input}
 use Rattle.m4_engine.specs.RunSources.{AllPairs, IsFaultBy, IsUnrefused, HasFailed, is_sound, AnyFailed}
 use Rattle.m4_engine.specs.Start.{Start, From, Faulty, IsStart}
-use Rattle.m4_engine.specs.Writers.{Contents, Failures, Three, NoneFailed, OneFailed, ByCause, Broken, WroteAtLeast, IsSpared, Spares}
+use Rattle.m4_engine.specs.Writers.{Contents, Failures, Three, NoneFailed, OneFailed, ByCause, Broken, WroteAtLeast}
+use Rattle.m4_engine.specs.Writers.{IsSpared, Spares}
 use Rattle.m4_engine.specs.File.{Opened, Unopened, Progress, file, file_pending, after_source, cannot_open}
 use Rattle.m4_engine.specs.Wraps.{read_saved, after_wraps}
 use Rattle.m4_engine.specs.Run.{limits_of, status_of, closed_output, result_of}
@@ -146,7 +148,8 @@ FileBroke name before after old new w cause =
     (λ bytes. Broken (file old.limits (progress_of old).so_far name bytes) w) × Interrupted old new cause
 
 -- the reader delivered x and failed: what x settles was written, and nothing else
-pub record FileFell (name : List ℕ) (before after : Option Script) (old new : SessionState) (w : Contents) : Type 0 where
+pub record FileFell (name : List ℕ) (before after : Option Script) (old new : SessionState)
+    (w : Contents) : Type 0 where
   pub x : List ℕ
   pub given : before ≡ after_bytes x after
   pub at_fault : IsAtFault after
@@ -156,7 +159,8 @@ pub record FileFell (name : List ℕ) (before after : Option Script) (old new : 
   pub messages : w.messages_new ≡ with_bytes w.messages_old ((settled_part old name x).so_far).messages
 
 -- a file: it is read to its end, or the run ends
-abbrev pub FileGives : List ℕ → Option Script → Option Script → SessionState → SessionState → Contents → Result Unit Stop → Type 0
+abbrev pub FileGives : List ℕ → Option Script → Option Script → SessionState → SessionState → Contents
+    → Result Unit Stop → Type 0
 FileGives name before after old new w (Ok done) = FileDone name before after old new w
 FileGives name before after old new w (Err stops.Finished) = Refused old new w × (after ≡ before)
 FileGives name before after old new w (Err (stops.Ended causes.Done)) = ⊥
@@ -254,7 +258,8 @@ over_after causes.Done over = over
 over_after cause over = Some cause
 
 -- a source that wasn't opened: it is reported
-abbrev pub MissingGives : List ℕ → SessionState → SessionState → Option (List ℕ) → Option (List ℕ) → Result Unit Stop → Type 0
+abbrev pub MissingGives : List ℕ → SessionState → SessionState → Option (List ℕ) → Option (List ℕ) → Result Unit Stop
+    → Type 0
 MissingGives name old new messages_old messages_new (Ok done) =
     IsOpen old × IsOpen new × (new.limits ≡ old.limits)
     × (progress_of new ≡ written (after_source old.limits (Unopened name) (progress_of old)))

@@ -15,13 +15,15 @@ use Rattle.m4_engine.specs.Writers.{Contents}
 use Rattle.m4_engine.specs.OnePass.{IsRead, IsCurrent, AreRead, AskedAt, Reached, IsPast}
 
 -- a source that ended the run: so far it was read
-abbrev pub EndsWithin : {R : Type 0} → (R → Option Script) → RunSource R → RunSource R → SessionState → Contents → Cause → Type 0
+abbrev pub EndsWithin : {R : Type 0} → (R → Option Script) → RunSource R → RunSource R → SessionState → Contents → Cause
+    → Type 0
 EndsWithin script before after old w cause =
     (name taken : List ℕ) × IsCurrent script before after name taken
     × AskedAt (settled_in old.limits (progress_of old) name) cause taken w
 
 -- a source was read to its end, or the run ended within it
-abbrev pub SourceGives : {R : Type 0} → (R → Option Script) → RunSource R → RunSource R → SessionState → SessionState → Contents → Result Unit Stop → Type 0
+abbrev pub SourceGives : {R : Type 0} → (R → Option Script) → RunSource R → RunSource R → SessionState → SessionState
+    → Contents → Result Unit Stop → Type 0
 SourceGives script before after old new w (Ok done) =
     (s : Source) × IsRead script before after s
     × Completed old new (after_source old.limits s (progress_of old)) w
@@ -31,7 +33,8 @@ SourceGives script before after old new w (Err (stops.Ended cause)) =
     EndsWithin script before after old w cause
 
 -- the sources were read to their ends, in order, or the run ended within one of them
-abbrev pub SourcesGive : {R : Type 0} → (R → Option Script) → List (RunSource R) → List (RunSource R) → SessionState → SessionState → Contents → Result Unit Stop → Type 0
+abbrev pub SourcesGive : {R : Type 0} → (R → Option Script) → List (RunSource R) → List (RunSource R) → SessionState
+    → SessionState → Contents → Result Unit Stop → Type 0
 SourcesGive script before after old new w (Ok done) =
     (ss : List Source) × AreRead script before after ss
     × Completed old new (after_sources old.limits ss (progress_of old)) w
@@ -41,7 +44,8 @@ SourcesGive script before after old new w (Err (stops.Ended cause)) =
     Reached script before after old.limits (progress_of old) cause w
 
 -- the sources and the end of the run: after all of them the last one is the current one
-abbrev pub RunReached : {R : Type 0} → (R → Option Script) → List (RunSource R) → List (RunSource R) → SessionState → Contents → Result Bool Stop → Type 0
+abbrev pub RunReached : {R : Type 0} → (R → Option Script) → List (RunSource R) → List (RunSource R) → SessionState
+    → Contents → Result Bool Stop → Type 0
 RunReached script before after old w (Ok wrapped) =
     IsPast script before after old.limits (progress_of old) causes.Done w
 RunReached script before after old w (Err stops.Finished) = ⊥

@@ -3,7 +3,8 @@
 //! A call is kept in a box, with its memory, and the next one takes it. So a call is moved by its address, and
 //! most calls ask for no memory.
 
-ghost use Rattle.std.specs.Prelude.{◌≡◌, ◌<◌, ◌≤◌, ◌+◌, ◌-◌, suc, OnErr, ◌++◌, ◌∷◌, [], true, false, nat_lt, Ok, OnOk, IfOk, length, take};
+ghost use Rattle.std.specs.Prelude.{◌≡◌, ◌<◌, ◌≤◌, ◌+◌, ◌-◌, suc, OnErr, ◌++◌, ◌∷◌, [], true, false, nat_lt, Ok, OnOk};
+ghost use Rattle.std.specs.Prelude.{IfOk, length, take};
 ghost use Rattle.std.specs.List.{AllByRecursion};
 ghost use Rattle.m4_state.specs.Definition.{IsDefinition};
 ghost use Rattle.m4_builtins.specs.Args.{IsArg};
@@ -94,7 +95,8 @@ fn drop_large(args: &mut [Arg]) {
 /// then has. Returns whether it did, and if so the buffer is empty.
 #[inline(always)]
 fn put_text_at(args: &mut Vec<Arg>, count: usize, bytes: &mut Vec<u8>) -> bool
-    ensures put { result ≡ true → take (count + 1) args.new.items ≡ take count args.old.items ++ arguments.Text bytes.old.items ∷ [] }
+    ensures put { result ≡ true → take (count + 1) args.new.items
+        ≡ take count args.old.items ++ arguments.Text bytes.old.items ∷ [] }
     ensures empty { result ≡ true → bytes.new.items ≡ [] }
     ensures within { result ≡ true → count + 1 ≤ length args.new.items }
     ensures left { result ≡ false → (args.new.items ≡ args.old.items) × (bytes.new.items ≡ bytes.old.items) }
@@ -323,7 +325,8 @@ impl OpenCall {
     #[inline(always)]
     pub fn put_front(&mut self, text: &[u8], len: usize) -> Result<(), AllocError>
         requires { len ≤ length text.now }
-        ensures { OnOk result (self.new ≡ record self.old { begun = true; bytes = self.old.bytes ++ take len text.now }) }
+        ensures { OnOk result (self.new ≡ record self.old
+            { begun = true; bytes = self.old.bytes ++ take len text.now }) }
     {
         let parts = &mut *self.parts;
         parts.begun = true;
@@ -333,7 +336,8 @@ impl OpenCall {
     /// Appends a definition to the argument.
     pub fn put_token(&mut self, definition: Def) -> Result<(), AllocError>
         requires { IsDefinition definition }
-        ensures { OnOk result (self.new ≡ record self.old { begun = true; tokens = self.old.tokens ++ definition ∷ [] }) }
+        ensures { OnOk result (self.new ≡ record self.old
+            { begun = true; tokens = self.old.tokens ++ definition ∷ [] }) }
     {
         self.parts.begun = true;
         self.parts.tokens.push(definition)?;
@@ -371,7 +375,8 @@ impl OpenCall {
 
     /// Returns whether the argument drops definitions. A single definition without text is the argument itself.
     fn drops(&self) -> bool
-        ensures { dropped_if_any self.now.place self.now.bytes self.now.tokens ≡ warning_if_dropped result self.now.place }
+        ensures { dropped_if_any self.now.place self.now.bytes self.now.tokens
+            ≡ warning_if_dropped result self.now.place }
     {
         match self.parts.tokens.len() {
             0 => false,
@@ -385,7 +390,8 @@ impl OpenCall {
     pub fn end_argument(&mut self) -> Result<bool, AllocError>
         requires { self.old.parentheses ≡ 0 }
         ensures { IfOk result (λ drops. (self.new ≡ with_argument self.old)
-            × (dropped_if_any self.old.place self.old.bytes self.old.tokens ≡ warning_if_dropped drops self.old.place)) }
+            × (dropped_if_any self.old.place self.old.bytes self.old.tokens
+            ≡ warning_if_dropped drops self.old.place)) }
     {
         let parts = &mut *self.parts;
         let is_large = parts.bytes.len() > LARGEST;
@@ -408,7 +414,8 @@ impl OpenCall {
     fn end_any_argument(&mut self) -> Result<bool, AllocError>
         requires { self.old.parentheses ≡ 0 }
         ensures { IfOk result (λ drops. (self.new ≡ with_argument self.old)
-            × (dropped_if_any self.old.place self.old.bytes self.old.tokens ≡ warning_if_dropped drops self.old.place)) }
+            × (dropped_if_any self.old.place self.old.bytes self.old.tokens
+            ≡ warning_if_dropped drops self.old.place)) }
     {
         let drops = self.drops();
         let alloc = *self.parts.bytes.allocator();

@@ -58,7 +58,8 @@ fn collect_first(
     delims: &Delims<'_>,
 ) -> Result<usize, AllocError>
     requires lies { FirstLies (length text.now) first.now }
-    ensures collected { IfOk result (λ n. (s : State) (m : Bool) → pair_of delims.now.quotes ≡ s.quotes → pair_of delims.now.comments ≡ s.comments
+    ensures collected { IfOk result (λ n. (s : State) (m : Bool) → pair_of delims.now.quotes ≡ s.quotes
+        → pair_of delims.now.comments ≡ s.comments
         → IsFirst s m text.now first.now → IsListRun s m n call.old call.new text.now) }
     ensures within { IfOk result (λ n. n ≤ length text.now) }
 {
@@ -86,7 +87,8 @@ fn collect_byte(
     delims: &Delims<'_>,
 ) -> Result<usize, AllocError>
     requires { 0 < length text.now }
-    ensures collected { IfOk result (λ n. (s : State) (m : Bool) → pair_of delims.now.quotes ≡ s.quotes → pair_of delims.now.comments ≡ s.comments
+    ensures collected { IfOk result (λ n. (s : State) (m : Bool) → pair_of delims.now.quotes ≡ s.quotes
+        → pair_of delims.now.comments ≡ s.comments
         → scan s.quotes s.comments m text.now ≡ Found (Byte byte) 1 → IsListRun s m n call.old call.new text.now) }
     ensures within { IfOk result (λ n. n ≤ length text.now) }
 {
@@ -108,8 +110,10 @@ fn collect_byte(
 #[inline(always)]
 fn collect_text(call: &mut OpenCall, text: &[u8], delims: &Delims<'_>) -> Result<usize, AllocError>
     requires { 0 < length text.now }
-    ensures collected { IfOk result (λ n. (s : State) (m : Bool) (b : ℕ) → pair_of delims.now.quotes ≡ s.quotes → pair_of delims.now.comments ≡ s.comments
-        → scan s.quotes s.comments m text.now ≡ Found (Byte b) 1 → role_of b call.old ≡ Role.Other → IsListRun s m n call.old call.new text.now) }
+    ensures collected { IfOk result (λ n. (s : State) (m : Bool) (b : ℕ) → pair_of delims.now.quotes ≡ s.quotes
+        → pair_of delims.now.comments ≡ s.comments
+        → scan s.quotes s.comments m text.now ≡ Found (Byte b) 1 → role_of b call.old ≡ Role.Other
+        → IsListRun s m n call.old call.new text.now) }
     ensures within { IfOk result (λ n. n ≤ length text.now) }
 {
     let len = 1 + text_len(text.split_at(1).1, delims);

@@ -89,7 +89,8 @@ pub fn first_plain<'a>(
 fn comment_len(text: &[u8], state: &State, delims: &Delims<'_>, may_follow: bool) -> usize
     requires quotes { pair_of delims.now.quotes ≡ state.now.quotes }
     requires comments { pair_of delims.now.comments ≡ state.now.comments }
-    ensures comment { 0 < result → scan state.now.quotes state.now.comments may_follow text.now ≡ Found (Comment (take result text.now)) result }
+    ensures comment { 0 < result → scan state.now.quotes state.now.comments may_follow text.now
+        ≡ Found (Comment (take result text.now)) result }
     ensures within { result ≤ length text.now }
 {
     let Some(first) = text.first() else {

@@ -2,7 +2,8 @@
 //!
 //! The contract of each function is a law of `specs/Laws.antt`.
 
-ghost use Rattle.m4_engine.specs.Laws.{Chain, ExpansionRules, ExpandRules, LargerCalls, LargerNesting, OneStart, RunEnds, SameDenotation, SettledBegins, Split, SplitStates, TwoRuns, WrapsRules};
+ghost use Rattle.m4_engine.specs.Laws.{Chain, ExpansionRules, ExpandRules, LargerCalls, LargerNesting, OneStart};
+ghost use Rattle.m4_engine.specs.Laws.{RunEnds, SameDenotation, SettledBegins, Split, SplitStates, TwoRuns, WrapsRules};
 
 /// An expansion with nested calls is the result of its turns: no bound on them is ever reached.
 pub fn expansion_rules<S, F, D>()

@@ -59,8 +59,9 @@ pub enum Lookahead {
 }
 
 impl Meaning {
-    /// Returns the meaning of a name with this definition. If it is called without a list (`bare`), the meaning of a text
-    /// macro is its expansion, and `dnl`, which many lines end with, is known at once. A call's place is to be set.
+    /// Returns the meaning of a name with this definition. If it is called without a list (`bare`), the meaning of a
+    /// text macro is its expansion, and `dnl`, which many lines end with, is known at once. A call's place is to be
+    /// set.
     #[inline(always)]
     pub fn of(
         spare: &mut Spare,

@@ -15,7 +15,9 @@ ghost use Rattle.m4_engine.specs.Writers.{both, three, ByCause, NoneOfThree, One
 ghost use Rattle.m4_engine.specs.RunSources.{DescribeSources, DescribesSource, ReadersFailBy, DescribesFrozen};
 ghost use Rattle.m4_engine.specs.RunSources.{FrozenFailsBy, MissedBy, any_unopened, is_unopened, AllConsumeOnly};
 ghost use Rattle.m4_engine.specs.RunSources.{ConsumesOnly};
-ghost use Rattle.m4_engine.specs.Session.{FreezeLeaves, IsOpen, IsLeft, GoesTo, BeginGives, BeginFails, IsBegun, CloseGives, ByAnswer, WriteFails, MessageWriteFails, SourceFails, SourcesFail, SparesBy, last_state, progress_of, status_at};
+ghost use Rattle.m4_engine.specs.Session.{FreezeLeaves, IsOpen, IsLeft, GoesTo, BeginGives, BeginFails, IsBegun};
+ghost use Rattle.m4_engine.specs.Session.{CloseGives, ByAnswer, WriteFails, MessageWriteFails, SourceFails};
+ghost use Rattle.m4_engine.specs.Session.{SourcesFail, SparesBy, last_state, progress_of, status_at};
 ghost use Rattle.m4_engine.specs.OnePass.{OnePass};
 ghost use Rattle.m4_engine.specs.SourcesRead.{SourceGives, SourcesGive, RunReached};
 ghost use Rattle.m4_engine.specs.WholeRun.{RunGives, NothingIsDone, result_after, ending_by};
@@ -58,7 +60,8 @@ pub fn run<R: ByteSource, O: ByteSink, M: ByteSink, Z: ByteSink>(
     ensures gives { (file : Option Script) → DescribesFrozen R.script frozen.old file
         → (ss : List Said) → DescribeSources R.script sources.old sources.new ss →
         RunGives (defined options file ss) result.ending
-        (three Z.contents (both O.contents M.contents out.old out.new messages.old messages.new) freeze_to.old freeze_to.new) }
+        (three Z.contents (both O.contents M.contents out.old out.new messages.old messages.new) freeze_to.old
+        freeze_to.new) }
     // whole run: the status of its cause, which is 1 after a source that wasn't opened
     ensures status { (any_missing : Bool) × (result.ending.status ≡ status_of (Ends result.ending.cause) any_missing)
         × (result.ending.cause ≡ Cause.Done → any_missing ≡ any_unopened sources.old) }
@@ -69,20 +72,26 @@ pub fn run<R: ByteSource, O: ByteSink, M: ByteSink, Z: ByteSink>(
     // whole run: a frozen state is sized
     ensures sized { (file : Option Script) → DescribesFrozen R.script frozen.old file
         → (ss : List Said) → DescribeSources R.script sources.old sources.new ss →
-        result.ending.cause ≡ Cause.Done → options.freeze ≡ true → IsSized (frozen_state options (start_of options.prefix file) ss) }
-    // torn files: if each put of the frozen text is taken whole, a write fault leaves nothing of it, or a torn beginning
+        result.ending.cause ≡ Cause.Done → options.freeze ≡ true
+        → IsSized (frozen_state options (start_of options.prefix file) ss) }
+    // torn files: if each put of the frozen text is taken whole, a write fault leaves nothing of it, or a torn
+    // beginning
     ensures torn { Z.takes_whole ≡ true → (file : Option Script) → DescribesFrozen R.script frozen.old file
         → (ss : List Said) → DescribeSources R.script sources.old sources.new ss → result.ending.cause ≡ Cause.Write
-        → FreezeLeaves (frozen_state options (start_of options.prefix file) ss) (Z.contents freeze_to.old) (Z.contents freeze_to.new) }
+        → FreezeLeaves (frozen_state options (start_of options.prefix file) ss) (Z.contents freeze_to.old)
+        (Z.contents freeze_to.new) }
     // safe and total: a read fault is reported if a reader failed in this call, and only then
     ensures read { ReadersFailBy R.failures result.ending.cause sources.old sources.new }
     // safe and total: a read fault of a frozen file is reported only if its reader failed in this call
     ensures frozen_read { FrozenFailsBy R.failures result.ending.cause frozen.old frozen.new }
     // safe and total: a write fault is reported only if a writer failed in this call
     ensures write { ByCause result.ending.cause
-        (NoneOfThree (three Z.failures (both O.failures M.failures out.old out.new messages.old messages.new) freeze_to.old freeze_to.new))
-        (OneOfThree (three Z.failures (both O.failures M.failures out.old out.new messages.old messages.new) freeze_to.old freeze_to.new)
-        (three Z.contents (both O.contents M.contents out.old out.new messages.old messages.new) freeze_to.old freeze_to.new)) }
+        (NoneOfThree (three Z.failures (both O.failures M.failures out.old out.new messages.old messages.new)
+        freeze_to.old freeze_to.new))
+        (OneOfThree (three Z.failures (both O.failures M.failures out.old out.new messages.old messages.new)
+        freeze_to.old freeze_to.new)
+        (three Z.contents (both O.contents M.contents out.old out.new messages.old messages.new) freeze_to.old
+        freeze_to.new)) }
     // whole run: each reader delivered a prefix of its known bytes
     ensures taken { AllConsumeOnly R.script sources.old sources.new }
     // one pass: the sources are read in order, each only as far as the bytes in hand leave the run open; all that
@@ -91,12 +100,15 @@ pub fn run<R: ByteSource, O: ByteSink, M: ByteSink, Z: ByteSink>(
         → OnePass R.script sources.old sources.new options (start_of options.prefix file) result.ending.cause
         (both O.contents M.contents out.old out.new messages.old messages.new) }
     // faults leave beginnings: if a frozen file is refused, no source is read and nothing is written
-    ensures refused { (fault : FrozenFault) → result.ending.cause ≡ Cause.Frozen fault → NothingIsDone sources.old sources.new
-        (three Z.contents (both O.contents M.contents out.old out.new messages.old messages.new) freeze_to.old freeze_to.new) }
+    ensures refused { (fault : FrozenFault) → result.ending.cause ≡ Cause.Frozen fault
+        → NothingIsDone sources.old sources.new
+        (three Z.contents (both O.contents M.contents out.old out.new messages.old messages.new) freeze_to.old
+        freeze_to.new) }
     // whole run: only a run that freezes, and reached its end, uses the writer of the frozen text
     ensures spared { options.freeze ≡ false → freeze_to.new ≡ freeze_to.old }
     ensures spared_by { Spares result.ending.cause
-        (three Z.contents (both O.contents M.contents out.old out.new messages.old messages.new) freeze_to.old freeze_to.new) }
+        (three Z.contents (both O.contents M.contents out.old out.new messages.old messages.new) freeze_to.old
+        freeze_to.new) }
 {
     let mut session = match begin(alloc, options, frozen, out) {
         Ok(session) => session,
@@ -131,7 +143,8 @@ fn begin<R: ByteSource, O: ByteSink>(
     ensures begins { (file : Option Script) → DescribesFrozen R.script frozen.old file
         → BeginGives (start_of options.prefix file) options (O.contents out.old) (O.contents out.new) result }
     ensures begun { IsBegun options result }
-    ensures refused { (fault : FrozenFault) → result ≡ Err (Stop.Ended (Cause.Frozen fault)) → O.contents out.new ≡ O.contents out.old }
+    ensures refused { (fault : FrozenFault) → result ≡ Err (Stop.Ended (Cause.Frozen fault))
+        → O.contents out.new ≡ O.contents out.old }
     ensures write { MessageWriteFails result (O.failures out.old) (O.failures out.new) }
     ensures read { BeginFails R.failures result frozen.old frozen.new }
 {
@@ -170,29 +183,38 @@ fn read_to_end<R: ByteSource, O: ByteSink, M: ByteSink, Z: ByteSink>(
     requires live { IsOpen session.old }
     requires unsaved { session.old.saved ≡ [] }
     ensures gives { (ss : List Said) → DescribeSources R.script sources.old sources.new ss →
-        RunGives (result_after freezes session.old.limits ss (after_sources session.old.limits ss (progress_of session.old)))
+        RunGives (result_after freezes session.old.limits ss
+        (after_sources session.old.limits ss (progress_of session.old)))
         (ending_by (status_at session.new) result)
-        (three Z.contents (both O.contents M.contents out.old out.new messages.old messages.new) freeze_to.old freeze_to.new) }
+        (three Z.contents (both O.contents M.contents out.old out.new messages.old messages.new) freeze_to.old
+        freeze_to.new) }
     ensures left { IsLeft session.new result }
     ensures reached { sources.old ≢ [] → RunReached R.script sources.old sources.new session.old
         (both O.contents M.contents out.old out.new messages.old messages.new) result }
-    ensures any_missing { OnOk result (session.new.any_missing ≡ (any_unopened sources.old || session.old.any_missing)) }
+    ensures any_missing { OnOk result (session.new.any_missing
+        ≡ (any_unopened sources.old || session.old.any_missing)) }
     ensures exited { (code : ℕ) → result ≡ Err (Stop.Ended (Cause.Exited code)) → session.old.any_missing ≡ false
         → MissedBy sources.old sources.new session.new.any_missing }
     ensures sized { (ss : List Said) → DescribeSources R.script sources.old sources.new ss → OnOk result (freezes ≡ true
-        → IsSized ((after_wraps session.old.limits (after_sources session.old.limits ss (progress_of session.old))).so_far).state) }
+        → IsSized ((after_wraps session.old.limits (after_sources session.old.limits ss
+        (progress_of session.old))).so_far).state) }
     ensures torn { Z.takes_whole ≡ true → (ss : List Said) → DescribeSources R.script sources.old sources.new ss
         → result ≡ Err (Stop.Ended Cause.Write)
-        → FreezeLeaves ((after_wraps session.old.limits (after_sources session.old.limits ss (progress_of session.old))).so_far).state
+        → FreezeLeaves ((after_wraps session.old.limits (after_sources session.old.limits ss
+        (progress_of session.old))).so_far).state
         (Z.contents freeze_to.old) (Z.contents freeze_to.new) }
     ensures read { SourcesFail R.failures result sources.old sources.new }
     ensures taken { AllConsumeOnly R.script sources.old sources.new }
     ensures write { ByAnswer result
-        (NoneOfThree (three Z.failures (both O.failures M.failures out.old out.new messages.old messages.new) freeze_to.old freeze_to.new))
-        (OneOfThree (three Z.failures (both O.failures M.failures out.old out.new messages.old messages.new) freeze_to.old freeze_to.new)
-        (three Z.contents (both O.contents M.contents out.old out.new messages.old messages.new) freeze_to.old freeze_to.new)) }
+        (NoneOfThree (three Z.failures (both O.failures M.failures out.old out.new messages.old messages.new)
+        freeze_to.old freeze_to.new))
+        (OneOfThree (three Z.failures (both O.failures M.failures out.old out.new messages.old messages.new)
+        freeze_to.old freeze_to.new)
+        (three Z.contents (both O.contents M.contents out.old out.new messages.old messages.new) freeze_to.old
+        freeze_to.new)) }
     ensures spared { freezes ≡ false → freeze_to.new ≡ freeze_to.old }
-    ensures spared_by { SparesBy result (three Z.contents (both O.contents M.contents out.old out.new messages.old messages.new) freeze_to.old freeze_to.new) }
+    ensures spared_by { SparesBy result (three Z.contents
+        (both O.contents M.contents out.old out.new messages.old messages.new) freeze_to.old freeze_to.new) }
 {
     read_sources(session, sources, out, messages)?;
     let wrapped = session.wrapped();
@@ -209,12 +231,16 @@ fn close<O: ByteSink, M: ByteSink, Z: ByteSink>(
     freeze_to: &mut Z,
 ) -> Result<(), Stop>
     ensures gives { CloseGives freezes session.old session.new
-        (three Z.contents (both O.contents M.contents out.old out.new messages.old messages.new) freeze_to.old freeze_to.new)
+        (three Z.contents (both O.contents M.contents out.old out.new messages.old messages.new) freeze_to.old
+        freeze_to.new)
         result }
     ensures write { ByAnswer result
-        (NoneOfThree (three Z.failures (both O.failures M.failures out.old out.new messages.old messages.new) freeze_to.old freeze_to.new))
-        (OneOfThree (three Z.failures (both O.failures M.failures out.old out.new messages.old messages.new) freeze_to.old freeze_to.new)
-        (three Z.contents (both O.contents M.contents out.old out.new messages.old messages.new) freeze_to.old freeze_to.new)) }
+        (NoneOfThree (three Z.failures (both O.failures M.failures out.old out.new messages.old messages.new)
+        freeze_to.old freeze_to.new))
+        (OneOfThree (three Z.failures (both O.failures M.failures out.old out.new messages.old messages.new)
+        freeze_to.old freeze_to.new)
+        (three Z.contents (both O.contents M.contents out.old out.new messages.old messages.new) freeze_to.old
+        freeze_to.new)) }
     ensures torn { Z.takes_whole ≡ true → result ≡ Err (Stop.Ended Cause.Write)
         → FreezeLeaves (last_state session.old) (Z.contents freeze_to.old) (Z.contents freeze_to.new) }
     ensures spared { freezes ≡ false → freeze_to.new ≡ freeze_to.old }
@@ -277,7 +303,8 @@ fn read_sources<R: ByteSource, O: ByteSink, M: ByteSink>(
         (both O.contents M.contents out.old out.new messages.old messages.new)
         result }
     ensures unfinished { OnOk result (IsOpen session.new) }
-    ensures any_missing { OnOk result (session.new.any_missing ≡ (any_unopened sources.old || session.old.any_missing)) }
+    ensures any_missing { OnOk result (session.new.any_missing
+        ≡ (any_unopened sources.old || session.old.any_missing)) }
     ensures exited { (code : ℕ) → result ≡ Err (Stop.Ended (Cause.Exited code)) → session.old.any_missing ≡ false
         → MissedBy sources.old sources.new session.new.any_missing }
     ensures reached { SourcesGive R.script sources.old sources.new session.old session.new

@@ -3,7 +3,10 @@
 
 ghost use Rattle.std.specs.Prelude.{◌≡◌, true, false, Some, [], IfOk, IfErr, OnOk, Err};
 ghost use Rattle.m4_engine.specs.Writers.{both, three, NoneOfThree, OneOfThree};
-ghost use Rattle.m4_engine.specs.Session.{SessionState, IsOpen, answer_by, over_after, session_from, fresh_session, ReloadGives, FileGives, MissingGives, FinishGives, FreezeGives, FreezeLeaves, last_state, ReadFails, ReloadFails, ByAnswer, WriteFails, MessageWriteFails, WrapsGive, session_after_wraps, round_of, is_saved, status_at};
+ghost use Rattle.m4_engine.specs.Session.{SessionState, IsOpen, answer_by, over_after, session_from, fresh_session};
+ghost use Rattle.m4_engine.specs.Session.{ReloadGives, FileGives, MissingGives, FinishGives, FreezeGives, FreezeLeaves};
+ghost use Rattle.m4_engine.specs.Session.{last_state, ReadFails, ReloadFails, ByAnswer, WriteFails, MessageWriteFails};
+ghost use Rattle.m4_engine.specs.Session.{WrapsGive, session_after_wraps, round_of, is_saved, status_at};
 
 use crate::ending::Cause;
 use crate::machine::Machine;
@@ -131,8 +134,9 @@ impl Session {
         self.finished = true;
     }
 
-    /// Expands a file, block by block. Returns `Ended(Read)` if the reader fails, after the output and messages that the
-    /// bytes before its fault settle. `Ended(Write)` and `Ended(OutOfMemory)` follow prefixes of its output and messages.
+    /// Expands a file, block by block. Returns `Ended(Read)` if the reader fails, after the output and messages that
+    /// the bytes before its fault settle. `Ended(Write)` and `Ended(OutOfMemory)` follow prefixes of its output and
+    /// messages.
     pub fn file<R: ByteSource, O: ByteSink, M: ByteSink>(
         &mut self,
         name: Bytes,
@@ -183,7 +187,8 @@ impl Session {
     /// of the message.
     pub fn missing<M: ByteSink>(&mut self, name: &[u8], messages: &mut M) -> Result<(), Stop>
         // session steps: the unopened source, with its message written
-        ensures gives { MissingGives name.now self.old self.new (M.contents messages.old) (M.contents messages.new) result }
+        ensures gives { MissingGives name.now self.old self.new (M.contents messages.old)
+            (M.contents messages.new) result }
         // safe and total: a write fault is returned only if a writer failed in this call
         ensures write { MessageWriteFails result (M.failures messages.old) (M.failures messages.new) }
         ensures any_missing { OnOk result (self.new.any_missing ≡ true) }
@@ -282,16 +287,20 @@ impl Session {
     ) -> Result<(), Stop>
         // session steps: the saved texts, then the frozen text
         ensures gives { FreezeGives self.old self.new
-            (three Z.contents (both O.contents M.contents out.old out.new messages.old messages.new) freeze_to.old freeze_to.new)
+            (three Z.contents (both O.contents M.contents out.old out.new messages.old messages.new) freeze_to.old
+            freeze_to.new)
             result }
         // torn files: if each put is taken whole, a write fault leaves nothing of the frozen text, or a torn beginning
         ensures torn { Z.takes_whole ≡ true → result ≡ Err (Stop.Ended Cause.Write)
             → FreezeLeaves (last_state self.old) (Z.contents freeze_to.old) (Z.contents freeze_to.new) }
         // safe and total: a write fault is returned only if a writer failed in this call
         ensures write { ByAnswer result
-            (NoneOfThree (three Z.failures (both O.failures M.failures out.old out.new messages.old messages.new) freeze_to.old freeze_to.new))
-            (OneOfThree (three Z.failures (both O.failures M.failures out.old out.new messages.old messages.new) freeze_to.old freeze_to.new)
-            (three Z.contents (both O.contents M.contents out.old out.new messages.old messages.new) freeze_to.old freeze_to.new)) }
+            (NoneOfThree (three Z.failures (both O.failures M.failures out.old out.new messages.old messages.new)
+            freeze_to.old freeze_to.new))
+            (OneOfThree (three Z.failures (both O.failures M.failures out.old out.new messages.old messages.new)
+            freeze_to.old freeze_to.new)
+            (three Z.contents (both O.contents M.contents out.old out.new messages.old messages.new) freeze_to.old
+            freeze_to.new)) }
         ensures any_missing { self.new.any_missing ≡ self.old.any_missing }
     {
         if !self.is_open() {

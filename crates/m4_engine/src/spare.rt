@@ -81,8 +81,8 @@ impl Spare {
         }
     }
 
-    /// Gives an open call the memory of the call that was made last, if it has none for its arguments yet. Calls that nest
-    /// deep are made one after another, the innermost first, so that one memory serves all of them.
+    /// Gives an open call the memory of the call that was made last, if it has none for its arguments yet. Calls that
+    /// nest deep are made one after another, the innermost first, so that one memory serves all of them.
     #[inline(always)]
     pub fn lend(&mut self, call: &mut OpenCall)
         ensures { call.new ≡ call.old }

@@ -26,8 +26,10 @@ static CLASSES: [u8; 256] = *b"\
 #[inline(always)]
 fn class_of(pair: &(&[u8], &[u8])) -> u8
     ensures least { 48 ≤ result }
-    ensures starts { (b : ℕ) → result < get_or CLASSES b 0 → (y : List ℕ) → starts_with (pair_of pair.now) (b ∷ y) ≡ false }
-    ensures may { (b : ℕ) → result < get_or CLASSES b 0 → (m : Bool) (y : List ℕ) → may_start (pair_of pair.now) m (b ∷ y) ≡ false }
+    ensures starts { (b : ℕ) → result < get_or CLASSES b 0 → (y : List ℕ)
+        → starts_with (pair_of pair.now) (b ∷ y) ≡ false }
+    ensures may { (b : ℕ) → result < get_or CLASSES b 0 → (m : Bool) (y : List ℕ)
+        → may_start (pair_of pair.now) m (b ∷ y) ≡ false }
 {
     match pair.0.first() {
         Some(byte) => CLASSES[*byte as usize].max(b'0'),
@@ -38,7 +40,8 @@ fn class_of(pair: &(&[u8], &[u8])) -> u8
 /// Returns the greater class of the bytes with which delimiters begin. A byte of a class above it is text.
 #[inline(always)]
 fn greatest_class(delims: &Delims<'_>) -> u8
-    ensures { (b : ℕ) → b < 256 → result < get_or CLASSES b 0 → IsTextByte (pair_of delims.now.quotes) (pair_of delims.now.comments) b }
+    ensures { (b : ℕ) → b < 256 → result < get_or CLASSES b 0
+        → IsTextByte (pair_of delims.now.quotes) (pair_of delims.now.comments) b }
 {
     let comments = class_of(&delims.comments);
     let quotes = class_of(&delims.quotes);

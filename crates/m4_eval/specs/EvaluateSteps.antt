@@ -1,7 +1,8 @@
 -- EvaluateSteps: an expression's value, computed while its text is read, without its syntax.
 -- Not believed: the law `ValuesAreRead` ties it to ReadExpression and Value.
 -- Words: joined_values, Place, joined_while, values_from, value_at.
-use Rattle.std.specs.Prelude.{ℕ, zero, suc, ◌==◌, nat_le, ℤ, pos, true, false, List, [], ◌∷◌, Option, Some, None, option_map, option_and_then, if◌then◌else◌}
+use Rattle.std.specs.Prelude.{ℕ, zero, suc, ◌==◌, nat_le, ℤ, pos, true, false, List, [], ◌∷◌, Option, Some, None}
+use Rattle.std.specs.Prelude.{option_map, option_and_then, if◌then◌else◌}
 use Rattle.m4_input.specs.Ascii.{is_space, open_parenthesis, close_parenthesis}
 use Rattle.m4_eval.specs.declared.frame.Frame.{Frame}
 use Rattle.m4_eval.specs.declared.frame.Frame.TheVariants.{Opened, Prefixed, Left}

@@ -5,7 +5,9 @@ use Rattle.std.specs.Prelude.{ℕ, List, codes}
 use Rattle.m4_eval.specs.declared.operator.Sign.{Sign}
 use Rattle.m4_eval.specs.declared.operator.Sign.TheVariants.{Positive, Negative, Complement, Not}
 use Rattle.m4_eval.specs.declared.operator.Operator.{Operator}
-use Rattle.m4_eval.specs.declared.operator.Operator.TheVariants.{Multiply, Divide, Remainder, Add, Subtract, ShiftLeft, ShiftRight, Less, LessOrEqual, Greater, GreaterOrEqual, Equal, NotEqual, BitAnd, BitXor, BitOr, And, Or}
+use Rattle.m4_eval.specs.declared.operator.Operator.TheVariants.{Multiply, Divide, Remainder, Add, Subtract, ShiftLeft}
+use Rattle.m4_eval.specs.declared.operator.Operator.TheVariants.{ShiftRight, Less, LessOrEqual, Greater, GreaterOrEqual}
+use Rattle.m4_eval.specs.declared.operator.Operator.TheVariants.{Equal, NotEqual, BitAnd, BitXor, BitOr, And, Or}
 
 pub data Expression : Type 0 where
   -- a literal, by its number, however large

@@ -1,7 +1,8 @@
 -- InRadix: which numbers are a radix, and how a value is written in one.
 -- Believed. Manual: "Evaluating integer expressions". Words: radix_at, in_radix.
 -- own: the sign is not counted in the width.
-use Rattle.std.specs.Prelude.{ℕ, nat_le, ◌&&◌, ◌-◌, ℤ, pos, negsuc, List, [], ◌∷◌, ◌++◌, false, Option, Some, None, if◌then◌else◌, replicate, length, unsigned_abs}
+use Rattle.std.specs.Prelude.{ℕ, nat_le, ◌&&◌, ◌-◌, ℤ, pos, negsuc, List, [], ◌∷◌, ◌++◌, false, Option, Some, None}
+use Rattle.std.specs.Prelude.{if◌then◌else◌, replicate, length, unsigned_abs}
 use Rattle.std.specs.Int.{is_negative}
 use Rattle.std.specs.Fmt.{digits}
 use Rattle.m4_input.specs.Ascii.{digit_zero}

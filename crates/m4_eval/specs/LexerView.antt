@@ -1,7 +1,8 @@
 -- LexerView: numbers as the code reads them, digit by digit.
 -- Not believed: it only connects the code with specs/ReadExpression.antt. Words: number_after, in_bits,
 -- radix_said, bits_after, capped_after.
-use Rattle.std.specs.Prelude.{ℕ, ◌+◌, ◌*◌, nat_le, ◌&&◌, min, ℤ, pos, ◌+ℤ◌, ◌*ℤ◌, List, [], ◌∷◌, true, false, Option, Some, None, option_and_then, if◌then◌else◌}
+use Rattle.std.specs.Prelude.{ℕ, ◌+◌, ◌*◌, nat_le, ◌&&◌, min, ℤ, pos, ◌+ℤ◌, ◌*ℤ◌, List, [], ◌∷◌, true, false, Option}
+use Rattle.std.specs.Prelude.{Some, None, option_and_then, if◌then◌else◌}
 use Rattle.std.specs.Char.{digit_value, is_digit}
 use Rattle.m4_eval.specs.Value.{wrapped}
 use Rattle.m4_eval.specs.ReadExpression.{number_of}

@@ -1,7 +1,8 @@
 -- ReadExpression: reads an expression's text byte by byte, with its open parts on a stack.
 -- Not believed: the law `ReadsExpressions` ties it to SpellsExpression.
 -- Words: Frame, Reading, literal_at, operator_at, completed, joined_above, read_from, expression_at.
-use Rattle.std.specs.Prelude.{ℕ, zero, suc, ◌+◌, ◌==◌, nat_le, ◌&&◌, ◌||◌, Bool, true, false, List, [], ◌∷◌, drop, length, Option, Some, None, option_map, option_and_then, if◌then◌else◌}
+use Rattle.std.specs.Prelude.{ℕ, zero, suc, ◌+◌, ◌==◌, nat_le, ◌&&◌, ◌||◌, Bool, true, false, List, [], ◌∷◌, drop}
+use Rattle.std.specs.Prelude.{length, Option, Some, None, option_map, option_and_then, if◌then◌else◌}
 use Rattle.std.specs.List.{list_all}
 use Rattle.std.specs.Char.{is_digit}
 use Rattle.m4_input.specs.Ascii.{is_space, open_parenthesis, close_parenthesis, digit_zero}
@@ -9,7 +10,9 @@ use Rattle.m4_eval.specs.Literal.{colon}
 use Rattle.m4_eval.specs.declared.operator.Sign.{Sign}
 use Rattle.m4_eval.specs.declared.operator.Sign.TheVariants.{Positive, Negative, Complement, Not}
 use Rattle.m4_eval.specs.declared.operator.Operator.{Operator}
-use Rattle.m4_eval.specs.declared.operator.Operator.TheVariants.{Multiply, Divide, Remainder, Add, Subtract, ShiftLeft, ShiftRight, Less, LessOrEqual, Greater, GreaterOrEqual, Equal, NotEqual, BitAnd, BitXor, BitOr, And, Or}
+use Rattle.m4_eval.specs.declared.operator.Operator.TheVariants.{Multiply, Divide, Remainder, Add, Subtract, ShiftLeft}
+use Rattle.m4_eval.specs.declared.operator.Operator.TheVariants.{ShiftRight, Less, LessOrEqual, Greater, GreaterOrEqual}
+use Rattle.m4_eval.specs.declared.operator.Operator.TheVariants.{Equal, NotEqual, BitAnd, BitXor, BitOr, And, Or}
 use Rattle.m4_eval.specs.Expression.{Expression, Number, Group, Signed, Joined, level_of}
 use Rattle.m4_eval.specs.Literal.{number_in}
 

@@ -8,7 +8,8 @@ use Rattle.std.specs.Prelude.{◌≡◌, ℕ, suc, ◌≤◌, List, [], ◌∷�
 use Rattle.std.specs.List.{list_all}
 use Rattle.m4_input.specs.Ascii.{is_space, open_parenthesis, close_parenthesis}
 use Rattle.m4_eval.specs.Literal.{IsLiteral}
-use Rattle.m4_eval.specs.Expression.{Expression, Number, Group, Signed, Joined, byte_of, symbol_of, level_of, operand_level}
+use Rattle.m4_eval.specs.Expression.{Expression, Number, Group, Signed, Joined, byte_of, symbol_of, level_of}
+use Rattle.m4_eval.specs.Expression.{operand_level}
 
 -- white space, perhaps none
 abbrev pub AreSpaces : List ℕ → Type 0

@@ -80,7 +80,8 @@ fn join_while(waiting: &mut Vec<Frame>, least: u8, operand: Option<i32>) -> Opti
 
 /// Removes the innermost frame if it is a parenthesis.
 fn pop_opened(waiting: &mut Vec<Frame>) -> bool
-    ensures { MatchBool result (reverse waiting.old.items ≡ Opened ∷ reverse waiting.new.items) (NotOpened (reverse waiting.old.items)) }
+    ensures { MatchBool result (reverse waiting.old.items ≡ Opened ∷ reverse waiting.new.items)
+        (NotOpened (reverse waiting.old.items)) }
 {
     let Some(Frame::Opened) = waiting.last().copied() else {
         return false;
@@ -95,7 +96,8 @@ fn read_operand(
     byte: u8,
     after: &[u8],
 ) -> Result<Option<(Option<Option<i32>>, usize)>, AllocError>
-    ensures step { IfOk result (λ r. placed (reverse waiting.new.items) r ≡ before_step (reverse waiting.old.items) byte after.now) }
+    ensures step { IfOk result (λ r. placed (reverse waiting.new.items) r
+        ≡ before_step (reverse waiting.old.items) byte after.now) }
     ensures within { IfOk result (λ r. IfSome r (λ q. q.1 ≤ length after.now)) }
 {
     if byte == b'(' {
@@ -119,7 +121,8 @@ fn read_operator(
     byte: u8,
     after: &[u8],
 ) -> Result<Option<(Option<Option<i32>>, usize)>, AllocError>
-    ensures step { IfOk result (λ r. placed (reverse waiting.new.items) r ≡ after_step (reverse waiting.old.items) value byte after.now) }
+    ensures step { IfOk result (λ r. placed (reverse waiting.new.items) r
+        ≡ after_step (reverse waiting.old.items) value byte after.now) }
     ensures within { IfOk result (λ r. IfSome r (λ q. q.1 ≤ length after.now)) }
 {
     if byte == b')' {
@@ -146,7 +149,8 @@ fn read_token(
     byte: u8,
     after: &[u8],
 ) -> Result<Option<(Option<Option<i32>>, usize)>, AllocError>
-    ensures step { IfOk result (λ r. placed (reverse waiting.new.items) r ≡ step_from current (reverse waiting.old.items) byte after.now) }
+    ensures step { IfOk result (λ r. placed (reverse waiting.new.items) r
+        ≡ step_from current (reverse waiting.old.items) byte after.now) }
     ensures within { IfOk result (λ r. IfSome r (λ q. q.1 ≤ length after.now)) }
 {
     match current {

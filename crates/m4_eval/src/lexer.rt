@@ -3,7 +3,8 @@
 //! Manual: "Evaluating integer expressions".
 
 ghost use Rattle.std.specs.Prelude.{◌≡◌, ◌≤◌, ◌+◌, zero, ℕ, length, take, drop, option_map, pos, Some, IfSome};
-ghost use Rattle.m4_eval.specs.ReadExpression.{is_alphanumeric, run_of, sign_at, operator_at, literal_at, number_of, in_marked_radix, in_radix_from, in_stated_radix};
+ghost use Rattle.m4_eval.specs.ReadExpression.{is_alphanumeric, run_of, sign_at, operator_at, literal_at, number_of};
+ghost use Rattle.m4_eval.specs.ReadExpression.{in_marked_radix, in_radix_from, in_stated_radix};
 ghost use Rattle.m4_eval.specs.LexerView.{next_bits, bits_after, bits_of, in_bits, radix_said};
 ghost use Rattle.std.specs.Char.{digit_value};
 ghost use Rattle.m4_eval.specs.Value.{wrapped};

@@ -35,7 +35,8 @@ pub record HasCome (old new : Window) (messages_old messages_new : Option Script
 
 -- a block was read, and this is known of the reader
 abbrev pub Fills : Window → Window → Option Script → Option Script → BlockRead → Type 0
-Fills old new messages_old messages_new after = HasCome old new messages_old messages_new × MatchesScript after messages_new
+Fills old new messages_old messages_new after = HasCome old new messages_old messages_new
+    × MatchesScript after messages_new
 
 -- all bytes that were read but those of the window are loaded
 pub record IsUnderway (at_first remaining : Option Script) (window : Window) (loading : Loading)

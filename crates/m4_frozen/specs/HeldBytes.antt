@@ -16,4 +16,5 @@ pub record HasTaken (old new : List ℕ) (messages_old messages_new : Option Scr
 -- some bytes were appended, or the reader failed and none were
 abbrev pub Takes : List ℕ → List ℕ → Option Script → Option Script → Result ℕ DeviceFault → Type 0
 Takes old new messages_old messages_new (Ok n) = HasTaken old new messages_old messages_new n
-Takes old new messages_old messages_new (Err fault) = (new ≡ old) × (messages_new ≡ messages_old) × IsAtFault messages_old
+Takes old new messages_old messages_new (Err fault) = (new ≡ old) × (messages_new ≡ messages_old)
+    × IsAtFault messages_old

@@ -1,7 +1,8 @@
 -- Laws: facts about the definitions only: each file is decided, and canonical text loads as its state.
 -- Believed as statements; the functions of the module `laws` carry their proofs.
 -- The law `TiesReaderSteps` cites `ReaderSteps`; no other believed statement depends on that file.
--- Words: OneReading, OneAnswer, TiesReaderSteps, FreezeLoads, CanonAgain, as_older, RefreezeOlder, TornRefused, TornFaults.
+-- Words: OneReading, OneAnswer, TiesReaderSteps, FreezeLoads, CanonAgain, as_older, RefreezeOlder, TornRefused,
+-- TornFaults.
 use Rattle.std.specs.Prelude.{◌≡◌, ◌↔◌, ℕ, List, [], ◌⊎◌, Ok, Err, map, if◌then◌else◌}
 use Rattle.std.specs.Str.{bytes_eq}
 use Rattle.m4_state.specs.declared.builtin.Builtin.{Builtin}

@@ -1,7 +1,8 @@
 -- Underway: the part of a file that was read so far, if its bytes arrive block by block.
 -- Not believed: private contracts cite it; `read_frozen` states the same for whole files.
 -- Words: EndsWith, IsPlaced, Skips, HasRead, ReadsOne, PausesAt, Advances.
-use Rattle.std.specs.Prelude.{◌≡◌, ℕ, ℤ, ◌+◌, ◌-◌, ◌<◌, ◌≤◌, Bool, true, false, List, [], ◌∷◌, ◌++◌, length, drop, Option, Some, None, IfSome, Result, Ok, Err, ◌⊎◌}
+use Rattle.std.specs.Prelude.{◌≡◌, ℕ, ℤ, ◌+◌, ◌-◌, ◌<◌, ◌≤◌, Bool, true, false, List, [], ◌∷◌, ◌++◌, length, drop}
+use Rattle.std.specs.Prelude.{Option, Some, None, IfSome, Result, Ok, Err, ◌⊎◌}
 use Rattle.std.specs.Borrow.{Bor}
 use Rattle.m4_state.specs.State.{diverted, appended}
 use Rattle.m4_state.specs.declared.fault.StateFault.{StateFault}
@@ -20,7 +21,8 @@ use Rattle.m4_frozen.specs.declared.loading.Pause.{Pause}
 use Rattle.m4_frozen.specs.Denote.{denote, issued_by}
 use Rattle.m4_frozen.specs.Directive.{Directive, Text, Diversion}
 use Rattle.m4_frozen.specs.Outcome.{Loads}
-use Rattle.m4_frozen.specs.ReaderSteps.{◌>>=◌, skip_lines, string_at, expect_byte, directives_at, after_version, file_at, is_settled}
+use Rattle.m4_frozen.specs.ReaderSteps.{◌>>=◌, skip_lines, string_at, expect_byte, directives_at, after_version}
+use Rattle.m4_frozen.specs.ReaderSteps.{file_at, is_settled}
 
 -- a block ends with these bytes
 abbrev pub EndsWith : List ℕ → List ℕ → Type 0
@@ -28,7 +30,8 @@ EndsWith block bytes = (front : List ℕ) × (block ≡ front ++ bytes)
 
 -- the strings of a text directive are in the block, `after` bytes before the end of which the directive ends
 abbrev pub IsPlaced : CodeDirective → ℕ → List ℕ → Type 0
-IsPlaced (code.Text both middle) after block = (end : List ℕ) × (length end ≡ after + 1) × EndsWith block (both.now ++ end)
+IsPlaced (code.Text both middle) after block = (end : List ℕ) × (length end ≡ after + 1)
+    × EndsWith block (both.now ++ end)
 IsPlaced (code.Quotes begin end) after block = Unit {0}
 IsPlaced (code.Comments begin end) after block = Unit {0}
 IsPlaced (code.Builtin name builtin) after block = Unit {0}

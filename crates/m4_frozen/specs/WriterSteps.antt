@@ -1,6 +1,7 @@
 -- The texts that the parts of the writer write, in the order of the code.
 -- Not believed: `freeze` is these texts joined (proofs/FreezeParts.antt).
-use Rattle.std.specs.Prelude.{◌≡◌, ℕ, ℤ, pos, Bool, true, List, [], ◌∷◌, ◌++◌, length, map, codes, decimal, Option, Result, Ok, Err, ◌⊎◌}
+use Rattle.std.specs.Prelude.{◌≡◌, ℕ, ℤ, pos, Bool, true, List, [], ◌∷◌, ◌++◌, length, map, codes, decimal, Option}
+use Rattle.std.specs.Prelude.{Result, Ok, Err, ◌⊎◌}
 use Rattle.std.specs.Fmt.{signed_decimal}
 use Rattle.std.specs.List.{flat_map, filter}
 use Rattle.std.specs.Prelude.{if◌then◌else◌, int_lt}

@@ -6,8 +6,8 @@ use m4_state::bytes::Bytes;
 use std::alloc::{AllocError, Global};
 use std::marker::Model;
 
-/// The bytes of a block, and the slice that its long texts are parts of, once one of them was asked for. Contracts see the
-/// bytes.
+/// The bytes of a block, and the slice that its long texts are parts of, once one of them was asked for. Contracts see
+/// the bytes.
 #[derive(Drop)]
 pub(crate) struct Block<'a> {
     bytes: &'a [u8],
@@ -42,8 +42,8 @@ impl<'a> Block<'a> {
         self.bytes.len()
     }
 
-    /// Returns `len` bytes from a place on. All that are asked for share one copy of the block, so that a long text takes no
-    /// memory of its own.
+    /// Returns `len` bytes from a place on. All that are asked for share one copy of the block, so that a long text
+    /// takes no memory of its own.
     pub(crate) fn part(
         &mut self,
         alloc: Global,

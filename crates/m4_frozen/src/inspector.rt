@@ -49,7 +49,8 @@ fn put_listing<W: ByteSink>(
     pairs: &[Named],
     writer: &mut W,
 ) -> Result<(), DeviceFault>
-    ensures puts { Puts result (W.contents writer.old) (W.contents writer.new) (steps.listing_text loaded.now pairs.now) }
+    ensures puts { Puts result (W.contents writer.old) (W.contents writer.new)
+        (steps.listing_text loaded.now pairs.now) }
     ensures counted { W.failures writer.new ≡ count_after result (W.failures writer.old) }
 {
     put_settings(&loaded.state, writer)?;
@@ -75,7 +76,8 @@ fn put_delimiters<W: ByteSink>(
     end: &[u8],
     writer: &mut W,
 ) -> Result<(), DeviceFault>
-    ensures puts { Puts result (W.contents writer.old) (W.contents writer.new) (steps.begin_end_line word.now begin.now end.now) }
+    ensures puts { Puts result (W.contents writer.old) (W.contents writer.new)
+        (steps.begin_end_line word.now begin.now end.now) }
     ensures counted { W.failures writer.new ≡ count_after result (W.failures writer.old) }
 {
     if begin.is_empty() {
@@ -112,7 +114,8 @@ fn put_definition<W: ByteSink>(
     definition: &Def,
     writer: &mut W,
 ) -> Result<(), DeviceFault>
-    ensures puts { Puts result (W.contents writer.old) (W.contents writer.new) (lines.definition_line name.now definition.now) }
+    ensures puts { Puts result (W.contents writer.old) (W.contents writer.new)
+        (lines.definition_line name.now definition.now) }
     ensures counted { W.failures writer.new ≡ count_after result (W.failures writer.old) }
 {
     match definition {
@@ -156,7 +159,8 @@ fn put_diverted<W: ByteSink>(loaded: &Loaded, writer: &mut W) -> Result<(), Devi
 
 /// Writes the diversions that contain text, by rising number.
 fn put_texts<W: ByteSink>(state: &State, writer: &mut W) -> Result<(), DeviceFault>
-    ensures puts { Puts result (W.contents writer.old) (W.contents writer.new) (steps.texts_lines state.now.diversions) }
+    ensures puts { Puts result (W.contents writer.old) (W.contents writer.new)
+        (steps.texts_lines state.now.diversions) }
     ensures counted { W.failures writer.new ≡ count_after result (W.failures writer.old) }
 {
     let mut last = 0;
@@ -169,7 +173,8 @@ fn put_texts<W: ByteSink>(state: &State, writer: &mut W) -> Result<(), DeviceFau
 
 /// Writes a diversion's number and the length of its text.
 fn put_diversion<W: ByteSink>(number: i32, text: &[u8], writer: &mut W) -> Result<(), DeviceFault>
-    ensures puts { Puts result (W.contents writer.old) (W.contents writer.new) (lines.diversion_line (number, text.now)) }
+    ensures puts { Puts result (W.contents writer.old) (W.contents writer.new)
+        (lines.diversion_line (number, text.now)) }
     ensures counted { W.failures writer.new ≡ count_after result (W.failures writer.old) }
 {
     let mut digits = Buffer::new();
@@ -209,7 +214,8 @@ fn put_two_words<W: ByteSink>(
     second: &[u8],
     writer: &mut W,
 ) -> Result<(), DeviceFault>
-    ensures puts { Puts result (W.contents writer.old) (W.contents writer.new) (steps.two_words_line word.now first.now second.now) }
+    ensures puts { Puts result (W.contents writer.old) (W.contents writer.new)
+        (steps.two_words_line word.now first.now second.now) }
     ensures counted { W.failures writer.new ≡ count_after result (W.failures writer.old) }
 {
     put_word(word, first, writer)?;

@@ -2,7 +2,8 @@
 //!
 //! Each function's contract is a law of `specs/Laws.antt`. Manual: "Frozen file format".
 
-ghost use Rattle.m4_frozen.specs.Laws.{OneReading, OneAnswer, OneAnswerOfFailed, TiesReaderSteps, FreezeLoads, CanonAgain, TornRefused, TornFaults, RefreezeOlder};
+ghost use Rattle.m4_frozen.specs.Laws.{OneReading, OneAnswer, OneAnswerOfFailed, TiesReaderSteps, FreezeLoads};
+ghost use Rattle.m4_frozen.specs.Laws.{CanonAgain, TornRefused, TornFaults, RefreezeOlder};
 
 /// The same bytes spell only one list of directives.
 pub fn one_reading()

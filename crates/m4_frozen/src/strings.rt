@@ -51,7 +51,8 @@ pub(crate) fn pair_head(bytes: &[u8]) -> Result<((&[u8], u64), &[u8]), Refusal>
 /// the bytes after them.
 #[tactic(auto, unfolding(crate::specs::ReaderSteps::pair_at, crate::specs::ReaderSteps::string_at))]
 pub(crate) fn joined_pair(bytes: &[u8]) -> Result<((&[u8], usize), &[u8]), Refusal>
-    ensures gives { Gives (λ x. ((take x.0.1 x.0.0.now, drop x.0.1 x.0.0.now), x.1.now)) result (steps.pair_at bytes.now) }
+    ensures gives { Gives (λ x. ((take x.0.1 x.0.0.now, drop x.0.1 x.0.0.now), x.1.now)) result
+        (steps.pair_at bytes.now) }
     ensures within { IfOk result (λ x. x.0.1 ≤ length x.0.0.now) }
 {
     let (n, rest) = length(bytes)?;

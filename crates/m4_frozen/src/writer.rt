@@ -72,7 +72,8 @@ fn put_frozen<W: ByteSink>(
     writer: &mut W,
 ) -> Result<(), DeviceFault>
     ensures puts { Puts result (W.contents writer.old) (W.contents writer.new) (steps.frozen_text state.now pairs.now) }
-    ensures torn { W.takes_whole ≡ true → OnErr result (steps.StopsTorn (W.contents writer.old) (W.contents writer.new) (steps.all_directives state.now pairs.now)) }
+    ensures torn { W.takes_whole ≡ true → OnErr result (steps.StopsTorn (W.contents writer.old) (W.contents writer.new)
+        (steps.all_directives state.now pairs.now)) }
     ensures counted { W.failures writer.new ≡ count_after result (W.failures writer.old) }
 {
     write_all(writer, HEADER)?;
@@ -86,7 +87,8 @@ fn put_directives<W: ByteSink>(
     pairs: &[Named],
     writer: &mut W,
 ) -> Result<(), DeviceFault>
-    ensures puts { PutsAll W.takes_whole result (W.contents writer.old) (W.contents writer.new) (steps.all_directives state.now pairs.now) }
+    ensures puts { PutsAll W.takes_whole result (W.contents writer.old) (W.contents writer.new)
+        (steps.all_directives state.now pairs.now) }
     ensures counted { W.failures writer.new ≡ count_after result (W.failures writer.old) }
 {
     put_settings(state, writer)?;
@@ -96,7 +98,8 @@ fn put_directives<W: ByteSink>(
 
 /// Writes each pair of delimiters that is not the default.
 fn put_settings<W: ByteSink>(state: &State, writer: &mut W) -> Result<(), DeviceFault>
-    ensures puts { PutsAll W.takes_whole result (W.contents writer.old) (W.contents writer.new) (steps.settings_directives state.now) }
+    ensures puts { PutsAll W.takes_whole result (W.contents writer.old) (W.contents writer.new)
+        (steps.settings_directives state.now) }
     ensures counted { W.failures writer.new ≡ count_after result (W.failures writer.old) }
 {
     put_delimiters(b'Q', state.quotes(), (b"`", b"'"), writer)?;
@@ -105,7 +108,8 @@ fn put_settings<W: ByteSink>(state: &State, writer: &mut W) -> Result<(), Device
 
 /// Writes the diversions that contain text, and the number of the current one.
 fn put_diversions<W: ByteSink>(state: &State, writer: &mut W) -> Result<(), DeviceFault>
-    ensures puts { PutsAll W.takes_whole result (W.contents writer.old) (W.contents writer.new) (steps.diverted_directives state.now) }
+    ensures puts { PutsAll W.takes_whole result (W.contents writer.old) (W.contents writer.new)
+        (steps.diverted_directives state.now) }
     ensures counted { W.failures writer.new ≡ count_after result (W.failures writer.old) }
 {
     let last = put_texts(state, writer)?;
@@ -123,7 +127,8 @@ fn put_delimiters<W: ByteSink>(
         (steps.delimiters_text letter
         (record { begin = default.entry.0.now; end = default.entry.1.now })
         (record { begin = pair.entry.0.now; end = pair.entry.1.now })) }
-    ensures stops { W.takes_whole ≡ true → OnErr result (steps.StopsInOne (W.contents writer.old) (W.contents writer.new)
+    ensures stops { W.takes_whole ≡ true → OnErr result (steps.StopsInOne (W.contents writer.old)
+        (W.contents writer.new)
         (texts.two_strings letter pair.entry.0.now pair.entry.1.now)) }
     ensures counted { W.failures writer.new ≡ count_after result (W.failures writer.old) }
 {
@@ -137,7 +142,8 @@ fn put_delimiters<W: ByteSink>(
 
 /// Writes the definitions of the names, in their order.
 fn put_names<W: ByteSink>(pairs: &[Named], writer: &mut W) -> Result<(), DeviceFault>
-    ensures puts { PutsAll W.takes_whole result (W.contents writer.old) (W.contents writer.new) (steps.names_directives pairs.now) }
+    ensures puts { PutsAll W.takes_whole result (W.contents writer.old) (W.contents writer.new)
+        (steps.names_directives pairs.now) }
     ensures counted { W.failures writer.new ≡ count_after result (W.failures writer.old) }
 {
     let mut gathered = Gathered::new();
@@ -185,7 +191,8 @@ fn put_stack<W: ByteSink>(
     gathered: &mut Gathered,
     writer: &mut W,
 ) -> Result<(), DeviceFault>
-    ensures puts { PutsAll W.takes_whole result (W.contents writer.old) (W.contents writer.new) (steps.stack_directives name.now stack.now) }
+    ensures puts { PutsAll W.takes_whole result (W.contents writer.old) (W.contents writer.new)
+        (steps.stack_directives name.now stack.now) }
     ensures counted { W.failures writer.new ≡ count_after result (W.failures writer.old) }
 {
     for definition in stack {
@@ -216,7 +223,8 @@ fn put_definition<W: ByteSink>(
 
 /// Writes the diversions that contain text, by rising number. Returns the last one's number, or 0.
 fn put_texts<W: ByteSink>(state: &State, writer: &mut W) -> Result<i32, DeviceFault>
-    ensures puts { PutsAll W.takes_whole result (W.contents writer.old) (W.contents writer.new) (steps.texts_directives state.now.diversions) }
+    ensures puts { PutsAll W.takes_whole result (W.contents writer.old) (W.contents writer.new)
+        (steps.texts_directives state.now.diversions) }
     ensures last { IfOk result (λ n. n ≡ texts.last_number (pos 0) state.now.diversions) }
     ensures counted { W.failures writer.new ≡ count_after result (W.failures writer.old) }
 {
@@ -230,7 +238,8 @@ fn put_texts<W: ByteSink>(state: &State, writer: &mut W) -> Result<i32, DeviceFa
 
 /// Writes the current number, unless the last diversion has set it.
 fn put_current<W: ByteSink>(current: i32, last: i32, writer: &mut W) -> Result<(), DeviceFault>
-    ensures puts { PutsAll W.takes_whole result (W.contents writer.old) (W.contents writer.new) (steps.current_directives current last) }
+    ensures puts { PutsAll W.takes_whole result (W.contents writer.old) (W.contents writer.new)
+        (steps.current_directives current last) }
     ensures counted { W.failures writer.new ≡ count_after result (W.failures writer.old) }
 {
     if current == last {
@@ -248,8 +257,10 @@ fn put_gathered<W: ByteSink>(
     gathered: &mut Gathered,
     writer: &mut W,
 ) -> Result<(), DeviceFault>
-    ensures puts { Puts result (W.contents writer.old) (W.contents writer.new) (steps.late_pair letter first.now second.now) }
-    ensures stops { W.takes_whole ≡ true → OnErr result (steps.StopsInOne (W.contents writer.old) (W.contents writer.new) (texts.two_strings letter first.now second.now)) }
+    ensures puts { Puts result (W.contents writer.old) (W.contents writer.new)
+        (steps.late_pair letter first.now second.now) }
+    ensures stops { W.takes_whole ≡ true → OnErr result (steps.StopsInOne (W.contents writer.old)
+        (W.contents writer.new) (texts.two_strings letter first.now second.now)) }
     ensures counted { W.failures writer.new ≡ count_after result (W.failures writer.old) }
 {
     gathered.clear();
@@ -267,8 +278,10 @@ fn put_long<W: ByteSink>(
     second: &[u8],
     writer: &mut W,
 ) -> Result<(), DeviceFault>
-    ensures puts { Puts result (W.contents writer.old) (W.contents writer.new) (steps.late_pair letter first.now second.now) }
-    ensures stops { W.takes_whole ≡ true → OnErr result (steps.StopsInOne (W.contents writer.old) (W.contents writer.new) (texts.two_strings letter first.now second.now)) }
+    ensures puts { Puts result (W.contents writer.old) (W.contents writer.new)
+        (steps.late_pair letter first.now second.now) }
+    ensures stops { W.takes_whole ≡ true → OnErr result (steps.StopsInOne (W.contents writer.old)
+        (W.contents writer.new) (texts.two_strings letter first.now second.now)) }
     ensures counted { W.failures writer.new ≡ count_after result (W.failures writer.old) }
 {
     let mut first_length = Buffer::new();
@@ -335,7 +348,8 @@ fn gather_long_length(gathered: &mut Gathered, length: usize) -> Result<(), Capa
 
 /// Writes `D`, a number, a length and a text.
 fn put_diversion<W: ByteSink>(number: i32, text: &[u8], writer: &mut W) -> Result<(), DeviceFault>
-    ensures puts { PutsAll W.takes_whole result (W.contents writer.old) (W.contents writer.new) (directives.Diversion number text.now ∷ []) }
+    ensures puts { PutsAll W.takes_whole result (W.contents writer.old) (W.contents writer.new)
+        (directives.Diversion number text.now ∷ []) }
     ensures counted { W.failures writer.new ≡ count_after result (W.failures writer.old) }
 {
     let mut digits = Buffer::new();

@@ -1,7 +1,8 @@
 -- Blocks: what an input has in hand of its file, and what it asks its reader for.
 -- Believed. Manual: "How m4 copies input to output". Words: BlockGives, IsOpenAfter, TokenBlocks, TokenGives, LooksAt,
 -- ListGives, LineGives, IsInFront.
-use Rattle.std.specs.Prelude.{◌≡◌, ◌⊎◌, ◌≤◌, nat_lt, ℕ, Bool, true, false, List, [], ◌++◌, Option, Some, None, Result, Ok, Err, length, take, drop}
+use Rattle.std.specs.Prelude.{◌≡◌, ◌⊎◌, ◌≤◌, nat_lt, ℕ, Bool, true, false, List, [], ◌++◌, Option, Some, None, Result}
+use Rattle.std.specs.Prelude.{Ok, Err, length, take, drop}
 use Rattle.m4_state.specs.Device.{Script, after_bytes, IsAtEnd, IsAtFault}
 use Rattle.m4_state.specs.declared.delimiters.Delimiters.{Delimiters}
 use Rattle.m4_input.specs.declared.fault.InputFault.{InputFault}
@@ -38,14 +39,16 @@ pub record TokenBlocks (q c : Delimiters) (old : Pending) (x : List ℕ) : Type 
   pub undecided : IsOpenAfter q c old front
 
 -- the questions stopped by a fault: x came before, and no byte is lost
-pub record TokenStops (q c : Delimiters) (before after : Option Script) (old new : Held) (fault : InputFault) : Type 0 where
+pub record TokenStops (q c : Delimiters) (before after : Option Script) (old new : Held)
+    (fault : InputFault) : Type 0 where
   pub x : List ℕ
   pub given : before ≡ after_bytes x after
   pub undecided : IsOpenAfter q c old.pending x
   pub stopped : new ≡ record old { pending = longer x true old.pending; fault = Some fault }
 
 -- a block, and further blocks while they leave the first token open
-abbrev pub TokenGives : Delimiters → Delimiters → Option Script → Option Script → Held → Held → Result Unit InputFault → Type 0
+abbrev pub TokenGives : Delimiters → Delimiters → Option Script → Option Script → Held → Held → Result Unit InputFault
+    → Type 0
 TokenGives q c before after old new (Ok done) =
     (x : List ℕ) × Reads before after old.pending x new.pending × TokenBlocks q c old.pending x
     × ((new.pending).may_follow ≡ false → IsOpenAfter q c old.pending x) × (new.fault ≡ None)

@@ -2,7 +2,8 @@
 -- Not believed: it connects `more_of_token` with `scan`, so that a token over many blocks is looked at once.
 -- Words: further, kind_in, HasPassed, Follows, NameIsOpen, CommentIsOpen, StringIsOpen, IsOpenAt, StaysOpen,
 -- NameGoesOn, CommentGoesOn, StringGoesOn.
-use Rattle.std.specs.Prelude.{◌≡◌, ◌≤◌, ◌+◌, ◌-◌, ℕ, Bool, true, false, List, [], ◌∷◌, ◌++◌, Option, Some, None, length, drop}
+use Rattle.std.specs.Prelude.{◌≡◌, ◌≤◌, ◌+◌, ◌-◌, ℕ, Bool, true, false, List, [], ◌∷◌, ◌++◌, Option, Some, None, length}
+use Rattle.std.specs.Prelude.{drop}
 use Rattle.m4_state.specs.declared.delimiters.Delimiters.{Delimiters}
 use Rattle.m4_input.specs.declared.front.Kind.{Kind}
 use Rattle.m4_input.specs.declared.front.Kind.TheVariants.{CommentHere, NameHere, StringHere, Undecided}
@@ -47,7 +48,8 @@ pub record CommentIsOpen (q c : Delimiters) (k : ℕ) (x : List ℕ) : Type 0 wh
   pub kind : kind_in q c x ≡ CommentHere
   pub long : length c.begin ≤ length x
   pub within : k ≤ length (drop (length c.begin) x)
-  pub same : (z : List ℕ) → before c.end (drop (length c.begin) x ++ z) ≡ further k (before c.end (drop k (drop (length c.begin) x) ++ z))
+  pub same : (z : List ℕ) → before c.end (drop (length c.begin) x ++ z)
+      ≡ further k (before c.end (drop k (drop (length c.begin) x) ++ z))
 
 -- a string: after the first k bytes that come after its begin-quote n nested strings are open
 pub record StringIsOpen (q c : Delimiters) (k n : ℕ) (x : List ℕ) : Type 0 where

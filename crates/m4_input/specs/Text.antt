@@ -1,7 +1,8 @@
 -- Text: the bytes of an input, as its code represents them.
 -- Not believed: it only connects the code with specs/Pending.antt and specs/Blocks.antt. Words: HeldText,
 -- text_in, text_after, joined, TakesBlock, failures_by, LiesIn.
-use Rattle.std.specs.Prelude.{◌≡◌, ℕ, ◌-◌, ◌≤◌, nat_lt, Bool, List, [], ◌∷◌, ◌++◌, length, take, drop, Option, Result, Ok, Err}
+use Rattle.std.specs.Prelude.{◌≡◌, ℕ, ◌-◌, ◌≤◌, nat_lt, Bool, List, [], ◌∷◌, ◌++◌, length, take, drop, Option, Result}
+use Rattle.std.specs.Prelude.{Ok, Err}
 use Rattle.m4_state.specs.Device.{Script, after_bytes, one_more, IsAtEnd, IsAtFault}
 use Rattle.m4_input.specs.declared.fault.InputFault.{InputFault}
 use Rattle.m4_input.specs.declared.fault.InputFault.TheVariants as faults

@@ -1,9 +1,10 @@
 //! The bytes of one file that are in hand, of which a beginning was read.
 //!
-//! A block of the file is appended. If the buffer is full, and more bytes were read than are left, the bytes that are left
-//! are moved to its front. So reading a file and moving its bytes takes time in proportion to the file.
+//! A block of the file is appended. If the buffer is full, and more bytes were read than are left, the bytes that are
+//! left are moved to its front. So reading a file and moving its bytes takes time in proportion to the file.
 
-ghost use Rattle.std.specs.Prelude.{◌≡◌, ◌+◌, ◌<◌, ◌≤◌, ◌++◌, [], OnOk, OnErr, IfOk, Ok, true, false, length, take, drop, vec_len, vec_capacity, ◌-◌};
+ghost use Rattle.std.specs.Prelude.{◌≡◌, ◌+◌, ◌<◌, ◌≤◌, ◌++◌, [], OnOk, OnErr, IfOk, Ok, true, false, length, take};
+ghost use Rattle.std.specs.Prelude.{drop, vec_len, vec_capacity, ◌-◌};
 ghost use Rattle.m4_input.specs.Input.{block};
 ghost use Rattle.m4_input.specs.Pending.{counted, newlines_in};
 

@@ -7,7 +7,8 @@
 //!
 //! Contracts see `Held` (`specs/Input.antt`). Manual: "How m4 copies input to output".
 
-ghost use Rattle.std.specs.Prelude.{◌≡◌, ◌<◌, ◌≤◌, List, ℕ, Some, None, OnOk, OnErr, IfOk, IfErr, IfSome, Ok, Err, true, false, [], ◌||◌, length, take};
+ghost use Rattle.std.specs.Prelude.{◌≡◌, ◌<◌, ◌≤◌, List, ℕ, Some, None, OnOk, OnErr, IfOk, IfErr, IfSome, Ok, Err};
+ghost use Rattle.std.specs.Prelude.{true, false, [], ◌||◌, length, take};
 ghost use Rattle.m4_state.specs.Device.{Script};
 ghost use Rattle.m4_input.specs.DelimsView.{pair_of};
 ghost use Rattle.m4_input.specs.Pending.{consumed, line_of, name_of, newlines_in, text_of};
@@ -76,7 +77,8 @@ impl Drop for Input {
 }
 
 impl Input {
-    ghost use Rattle.m4_input.specs.Input.{Held, IsLasting, unread_file, wrapped_text, with_pushed, all_read, NextGives, ParenGives, SkipGives, failures_after};
+    ghost use Rattle.m4_input.specs.Input.{Held, IsLasting, unread_file, wrapped_text, with_pushed, all_read};
+    ghost use Rattle.m4_input.specs.Input.{NextGives, ParenGives, SkipGives, failures_after};
     ghost use Rattle.m4_input.specs.Blocks.{BlockGives, TokenGives, LooksAt, ListGives, LineGives, IsInFront};
     ghost use Rattle.m4_input.specs.Text.{LiesIn};
     ghost use Rattle.m4_input.specs.OpenToken.{IsOpenAt};
@@ -178,7 +180,8 @@ impl Input {
     /// after them.
     #[doc(hidden)]
     pub fn copy_front(&self, most: usize, copy: &mut Vec<u8>) -> Result<bool, AllocError>
-        ensures text { IfOk result (λ others. IsInFront self.now.pending copy.new.items (others || self.now.pending.may_follow)) }
+        ensures text { IfOk result (λ others. IsInFront self.now.pending copy.new.items
+            (others || self.now.pending.may_follow)) }
         ensures some { 0 < most → IfOk result (λ others. others ≡ true → 0 < length copy.new.items) }
     {
         self.text.copy_front(most, copy)

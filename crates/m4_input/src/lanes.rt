@@ -16,7 +16,8 @@ pub const LANES: usize = 16;
 /// Returns the first lane that is marked, or 16 if none is.
 #[inline(always)]
 fn first_lane(marks: u64) -> usize
-    ensures { (p : ℕ → Bool) (x : List ℕ) → length x ≡ 16 → marks ≡ mask_l (map p x) → result ≡ prefix_len (λ b. not (p b)) x }
+    ensures { (p : ℕ → Bool) (x : List ℕ) → length x ≡ 16 → marks ≡ mask_l (map p x)
+        → result ≡ prefix_len (λ b. not (p b)) x }
 {
     if marks == 0 {
         LANES

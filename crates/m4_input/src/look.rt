@@ -9,7 +9,8 @@ ghost use Rattle.m4_input.specs.Ascii.{is_name_byte};
 ghost use Rattle.m4_input.specs.DelimsView.{pair_of};
 ghost use Rattle.m4_input.specs.Look.{scan_of, LookLies};
 ghost use Rattle.m4_input.specs.Paren.{paren_in};
-ghost use Rattle.m4_input.specs.Token.{starts_with, may_start, run_length, unended, name_at, comment_at, string_at, scan};
+ghost use Rattle.m4_input.specs.Token.{starts_with, may_start, run_length, unended, name_at, comment_at, string_at};
+ghost use Rattle.m4_input.specs.Token.{scan};
 
 use crate::delims::Delims;
 use crate::front::{Answer, Kind, Look, Unended};

@@ -75,7 +75,8 @@ impl<'a> Window<'a> {
     /// none, returns the place from which on it may begin with bytes that follow.
     fn comment_goes_on(&self, at: usize, pair: &Pair<'_>) -> Option<usize>
         requires { length pair.now.0.now + at ≤ length self.now }
-        ensures { IfSome result (λ n. CommentGoesOn (pair_of pair.now).end at n (drop (length pair.now.0.now) self.now)) }
+        ensures { IfSome result (λ n. CommentGoesOn (pair_of pair.now).end at n
+            (drop (length pair.now.0.now) self.now)) }
     {
         let all = self.len();
         let from = pair.0.len() + at;
@@ -95,7 +96,8 @@ impl<'a> Window<'a> {
         requires long { length quotes.now.0.now ≤ length self.now }
         requires begin { 0 < length quotes.now.0.now }
         requires passed { HasPassed (pair_of quotes.now) 0 (drop (length quotes.now.0.now) self.now) depth at }
-        ensures { IfSome result (λ r. StringGoesOn (pair_of quotes.now) r.1 r.0 (drop (length quotes.now.0.now) self.now)) }
+        ensures { IfSome result (λ r. StringGoesOn (pair_of quotes.now) r.1 r.0
+            (drop (length quotes.now.0.now) self.now)) }
     {
         let _small = self.len();
         let shorts = (single(quotes.0), single(quotes.1));
@@ -118,7 +120,8 @@ impl<'a> Window<'a> {
         requires long { length quotes.now.0.now ≤ length self.now }
         requires begin { 0 < length quotes.now.0.now }
         requires passed { HasPassed (pair_of quotes.now) 0 (drop (length quotes.now.0.now) self.now) depth at }
-        ensures { IfSome result (λ r. StringGoesOn (pair_of quotes.now) r.1 r.0 (drop (length quotes.now.0.now) self.now)) }
+        ensures { IfSome result (λ r. StringGoesOn (pair_of quotes.now) r.1 r.0
+            (drop (length quotes.now.0.now) self.now)) }
     {
         if quotes.1.is_empty() {
             return None;

@@ -4,7 +4,8 @@
 //! takes its place, and so does a text that is pushed. To push a text takes no copy, and to consume bytes takes
 //! time in proportion to the segments that they end.
 
-ghost use Rattle.std.specs.Prelude.{◌≡◌, ◌≢◌, ◌<◌, ◌≤◌, ◌^◌, ◌++◌, ◌+◌, [], IfOk, OnOk, OnErr, Ok, true, false, length, take, nat_lt};
+ghost use Rattle.std.specs.Prelude.{◌≡◌, ◌≢◌, ◌<◌, ◌≤◌, ◌^◌, ◌++◌, ◌+◌, [], IfOk, OnOk, OnErr, Ok, true, false, length};
+ghost use Rattle.std.specs.Prelude.{take, nat_lt};
 ghost use Rattle.m4_input.specs.Pending.{newlines_in};
 
 use crate::fault::InputFault;

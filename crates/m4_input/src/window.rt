@@ -3,7 +3,8 @@
 //! Contracts see a window as one list of bytes, so the tests and searches on it speak only of lists. Only
 //! `len`, `byte`, `tail` and `copy` use the parts.
 
-ghost use Rattle.std.specs.Prelude.{◌≡◌, ◌+◌, ◌^◌, ◌<◌, ◌≤◌, ◌∷◌, ◌++◌, [], IfSome, IfNone, IfOk, IsTrue, length, drop, take, slice_get};
+ghost use Rattle.std.specs.Prelude.{◌≡◌, ◌+◌, ◌^◌, ◌<◌, ◌≤◌, ◌∷◌, ◌++◌, [], IfSome, IfNone, IfOk, IsTrue, length, drop};
+ghost use Rattle.std.specs.Prelude.{take, slice_get};
 ghost use Rattle.m4_input.specs.Ascii.{is_letter, is_name_byte};
 ghost use Rattle.m4_input.specs.Text.{joined};
 ghost use Rattle.m4_input.specs.Token.{begins, is_cut, run_length, before};
@@ -44,7 +45,8 @@ impl<'a> Model for Window<'a> {
 
     ghost view = { λ w. (w.top.now ++ joined w.below.now) ++ w.file.now };
 
-    ghost invariant = { λ w. (w.held ≡ length (joined w.below.now)) × (length w.top.now + w.held + length w.file.now < 2 ^ 64) };
+    ghost invariant = { λ w. (w.held ≡ length (joined w.below.now))
+        × (length w.top.now + w.held + length w.file.now < 2 ^ 64) };
 }
 
 /// Returns the byte at a place, if there is one.

@@ -6,7 +6,11 @@
 use Rattle.std.specs.Prelude.{ℕ, Bool, true, false, List, [], ◌∷◌, Option, Some, None, find, codes}
 use Rattle.std.specs.Str.{bytes_eq}
 use Rattle.m4_state.specs.declared.builtin.Builtin.{Builtin}
-use Rattle.m4_state.specs.declared.builtin.Builtin.TheVariants.{Define, Undefine, Pushdef, Popdef, Defn, Indir, IndirBuiltin, Ifdef, Ifelse, Shift, Dumpdef, Dnl, Changequote, Changecom, Divert, Undivert, Divnum, Len, Index, Substr, Translit, Incr, Decr, Eval, Errprint, M4wrap, M4exit, File, Line}
+use Rattle.m4_state.specs.declared.builtin.Builtin.TheVariants.{Define, Undefine, Pushdef, Popdef, Defn, Indir}
+use Rattle.m4_state.specs.declared.builtin.Builtin.TheVariants.{IndirBuiltin, Ifdef, Ifelse, Shift, Dumpdef, Dnl}
+use Rattle.m4_state.specs.declared.builtin.Builtin.TheVariants.{Changequote, Changecom, Divert, Undivert, Divnum, Len}
+use Rattle.m4_state.specs.declared.builtin.Builtin.TheVariants.{Index, Substr, Translit, Incr, Decr, Eval, Errprint}
+use Rattle.m4_state.specs.declared.builtin.Builtin.TheVariants.{M4wrap, M4exit, File, Line}
 
 -- how a builtin is called
 pub record Row : Type 0 where

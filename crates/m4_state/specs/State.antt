@@ -4,7 +4,8 @@
 -- Words: State, stack_of, pushed, popped, defined, undefined, with_quotes, with_comments, diverted,
 -- appended, undiverted, issued_from, IsState, IsSized.
 -- A list with rising keys is the only such list of its finite map: equal states are equal records.
-use Rattle.std.specs.Prelude.{◌≢◌, ◌<◌, ◌^◌, ◌-◌, ℕ, ℤ, pos, Bool, not, List, [], ◌∷◌, ◌++◌, length, map, Option, Some, None, IsTrue, unwrap_or, slice_get, if◌then◌else◌, FitsSigned, int_lt}
+use Rattle.std.specs.Prelude.{◌≢◌, ◌<◌, ◌^◌, ◌-◌, ℕ, ℤ, pos, Bool, not, List, [], ◌∷◌, ◌++◌, length, map, Option, Some}
+use Rattle.std.specs.Prelude.{None, IsTrue, unwrap_or, slice_get, if◌then◌else◌, FitsSigned, int_lt}
 use Rattle.std.specs.Int.{w32}
 use Rattle.std.specs.List.{AllByRecursion, filter}
 use Rattle.std.specs.Ordering.{int_cmp, int_eq}

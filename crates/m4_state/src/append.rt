@@ -25,8 +25,8 @@ pub fn append(out: &mut Vec<u8>, text: &[u8]) -> Result<(), AllocError>
     }
 }
 
-/// Appends the first `len` bytes of a text. A few of them are copied as one piece of a fixed length, where the text is as
-/// long, and what comes after them is cut off again: that takes no call that copies.
+/// Appends the first `len` bytes of a text. A few of them are copied as one piece of a fixed length, where the text is
+/// as long, and what comes after them is cut off again: that takes no call that copies.
 #[inline(always)]
 pub fn append_front(out: &mut Vec<u8>, text: &[u8], len: usize) -> Result<(), AllocError>
     requires { len ≤ length text.now }

@@ -56,9 +56,17 @@ impl<'a> MemSource<'a> {
     /// Returns a reader of at most `at_most` bytes for each take. After the last byte it fails or ends.
     pub fn new(bytes: &'a [u8], at_most: usize, fails: bool) -> MemSource<'a>
         requires { 0 < at_most }
-        ensures script { ⟦<MemSource<'a> as ByteSource>⟧.script result ≡ Some (record { bytes = bytes.now; fails = fails }) }
+        ensures script { ⟦<MemSource<'a> as ByteSource>⟧.script result
+            ≡ Some (record { bytes = bytes.now; fails = fails }) }
         ensures failures { ⟦<MemSource<'a> as ByteSource>⟧.failures result ≡ 0 }
-        ensures reader { result ≡ record { all = bytes.now; taken = 0; at_most = at_most; fails = fails; failures = 0 } }
+        ensures reader { result ≡ record {
+          all = bytes.now;
+          taken = 0;
+          at_most = at_most;
+          fails = fails;
+          failures =
+              0;
+        } }
     {
         MemSource {
             bytes,
@@ -94,7 +102,8 @@ impl ByteSource for MemSource<'_> {
         ensures within { IfOk result (λ n. n ≤ length buf.old) }
         ensures gives { IfOk result (λ n. script_of self.old ≡ after_bytes (take n buf.new) (script_of self.new)) }
         ensures end { result ≡ Ok 0 → IsAtEnd (script_of self.new) }
-        ensures falls { IfOk result (λ n. 0 < n → length self.new.all - self.new.taken < length self.old.all - self.old.taken) }
+        ensures falls { IfOk result (λ n. 0 < n → length self.new.all - self.new.taken < length self.old.all -
+            self.old.taken) }
         ensures fault { OnErr result (IsAtFault (script_of self.old)) }
         ensures unchanged { OnErr result (script_of self.new ≡ script_of self.old) }
         ensures counted { self.new.failures ≡ count_after result self.old.failures }

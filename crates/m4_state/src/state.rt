@@ -5,7 +5,8 @@
 //! each call defines the complete new record; if an allocation fails, the state is unchanged.
 
 ghost use Rattle.m4_state.specs.Fresh.{fresh_name};
-ghost use Rattle.std.specs.Prelude.{◌≡◌, ◌≢◌, ◌≤◌, ◌∷◌, [], IfOk, IfSome, IfNone, OnOk, OnErr, length, take, drop, option_copied, option_map, true};
+ghost use Rattle.std.specs.Prelude.{◌≡◌, ◌≢◌, ◌≤◌, ◌∷◌, [], IfOk, IfSome, IfNone, OnOk, OnErr, length, take, drop};
+ghost use Rattle.std.specs.Prelude.{option_copied, option_map, true};
 
 use crate::builtin::Builtin;
 use crate::bytes::Bytes;
@@ -69,7 +70,9 @@ impl State {
     ghost use Rattle.m4_state.specs.Definition.{IsDefinition};
     ghost use Rattle.m4_state.specs.declared.definition.Def.TheVariants as defs;
     ghost use Rattle.m4_state.specs.Fresh.{fresh, with_builtin};
-    ghost use Rattle.m4_state.specs.State.{AreDiversions, IsState, IsSized, empty, names_of, stack_of, top_of, pushed, popped, defined, undefined, with_quotes, with_comments, diverted, appended, undiverted, issued_from, unless_empty, diversion_of, next_after};
+    ghost use Rattle.m4_state.specs.State.{AreDiversions, IsState, IsSized, empty, names_of, stack_of, top_of, pushed};
+    ghost use Rattle.m4_state.specs.State.{popped, defined, undefined, with_quotes, with_comments, diverted, appended};
+    ghost use Rattle.m4_state.specs.State.{undiverted, issued_from, unless_empty, diversion_of, next_after};
 
     /// Returns the empty state: no names, no diversions, the default delimiters.
     pub fn empty(alloc: Global) -> Result<State, StateFault>
@@ -173,7 +176,8 @@ impl State {
     pub fn push_text(&mut self, bytes: &[u8], middle: usize) -> Result<(), StateFault>
         requires { middle ≤ length bytes.now }
         // exact steps: the complete new record; if an allocation fails, it is unchanged
-        ensures ok { OnOk result (self.new ≡ pushed self.old (take middle bytes.now) (defs.Text (drop middle bytes.now))) }
+        ensures ok { OnOk result (self.new ≡ pushed self.old (take middle bytes.now)
+            (defs.Text (drop middle bytes.now))) }
         ensures err { OnErr result (self.new ≡ self.old) }
     {
         self.table.push_text(bytes, middle)?;
@@ -285,7 +289,8 @@ impl State {
     pub fn undivert(&mut self, number: i32) -> Result<Option<Vec<u8>>, StateFault>
         // exact steps: the complete new record and the result; if an allocation fails, it is unchanged
         ensures ok { OnOk result (self.new ≡ undiverted self.old number) }
-        ensures issued { IfOk result (λ text. option_map (λ t. t.items) text ≡ unless_empty (issued_from self.old number)) }
+        ensures issued { IfOk result (λ text. option_map (λ t. t.items) text
+            ≡ unless_empty (issued_from self.old number)) }
         ensures err { OnErr result (self.new ≡ self.old) }
     {
         if number == self.current {

@@ -24,7 +24,8 @@ pub fn write_all<W: ByteSink>(writer: &mut W, bytes: &[u8]) -> Result<(), Device
 pub fn write_pieces<W: ByteSink>(writer: &mut W, pieces: &[&[u8]]) -> Result<(), DeviceFault>
     ensures puts { Puts result (W.contents writer.old) (W.contents writer.new) (joined pieces.now) }
     // each is put as one
-    ensures whole { W.takes_whole ≡ true → OnErr result (HasPutPieces (W.contents writer.old) (W.contents writer.new) pieces.now) }
+    ensures whole { W.takes_whole ≡ true → OnErr result (HasPutPieces (W.contents writer.old)
+        (W.contents writer.new) pieces.now) }
     ensures counted { W.failures writer.new ≡ count_after result (W.failures writer.old) }
 {
     for piece in pieces {

@@ -132,7 +132,8 @@ result_by (Starts frozen) o file (Some ss) = Some (result_of_run file (run o fro
 -- the result of a line; none if a source's reader fails
 abbrev pub line : Request → Files → Script → Option LineResult
 line q files input =
-    result_by (thaw_in files q.reload) q.options (unwrap_or q.reload []) (all_of (sources_in files input (words_of q.names)))
+    result_by (thaw_in files q.reload) q.options (unwrap_or q.reload [])
+    (all_of (sources_in files input (words_of q.names)))
 
 -- a source that a file may have been: with its bytes or, if its reader fails, with any that begin with them
 abbrev pub ExtendsFile : List ℕ → Option Script → Source → Type 0

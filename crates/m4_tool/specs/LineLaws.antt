@@ -45,8 +45,9 @@ pub record LineJoins (first second joint : LineResult) : Type 0 where
   pub frozen : joint.frozen ≡ second.frozen
 
 -- `m4r -F s A...` and then `m4r -R s B...`, which meets the files as the first line left them, join to
--- `m4r A... B...`. The first run froze a text and carries, no B is standard input or the file s, and the joint run doesn't end
--- by the limit of calls. The first line may also start from a frozen file, and the second may freeze to one.
+-- `m4r A... B...`. The first run froze a text and carries, no B is standard input or the file s, and the joint run
+-- doesn't end by the limit of calls. The first line may also start from a frozen file, and the second may freeze to
+-- one.
 abbrev pub FreezeThenReload : Type 0
 FreezeThenReload =
     (o : Options) (prefix : Bool) (reload freeze : Option (List ℕ)) (s : List ℕ) (as' bs : List (List ℕ))

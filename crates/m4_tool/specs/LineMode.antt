@@ -1,7 +1,8 @@
 -- LineMode: what a mode gives in a world of files.
 -- Believed. Words: closed_status, closed_lines, ends_of, ModeEnds, ModeFollows.
 -- own: a mode whose file can't be opened does nothing else; a last flush that fails is a write fault.
-use Rattle.std.specs.Prelude.{◌≡◌, ℕ, zero, suc, Bool, true, false, List, [], ◌∷◌, ◌++◌, Option, Some, None, Result, Ok, Err, codes}
+use Rattle.std.specs.Prelude.{◌≡◌, ℕ, zero, suc, Bool, true, false, List, [], ◌∷◌, ◌++◌, Option, Some, None, Result, Ok}
+use Rattle.std.specs.Prelude.{Err, codes}
 use Rattle.m4_state.specs.Device.{Script}
 use Rattle.m4_engine.specs.File.{cannot_open}
 use Rattle.m4_tool.specs.declared.fault.ModeFault.{ModeFault}
@@ -38,7 +39,8 @@ pub record ModeEnds (mode : Mode) (file : List ℕ) (script : Script) (status : 
   pub flushed : Bool
   pub is_status : status ≡ closed_status (status_of end) flushed
   pub output : ends_of mode end script w.out_old w.out_new
-  pub messages : Reports (fault_lines file end ++ closed_lines (status_of end) flushed) w.messages_old w.messages_new w.failures_old w.failures_new
+  pub messages : Reports (fault_lines file end ++ closed_lines (status_of end) flushed) w.messages_old w.messages_new
+      w.failures_old w.failures_new
   pub files : w.files_new ≡ w.files_old
 
 -- a mode whose file can't be opened

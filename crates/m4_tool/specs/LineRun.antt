@@ -23,7 +23,8 @@ use Rattle.m4_tool.specs.Line.{AnyRose, Counts, Grew, NoneRose, Rose, Seen, HasP
 use Rattle.m4_tool.specs.Line.{added_lines, failure_of, input_after, refusals, script_at}
 
 -- the writers and the files, by the functions of their traits
-abbrev pub seen : {O M : Type 0} → (O → Option (List ℕ)) → (M → Option (List ℕ)) → (M → ℕ) → O → O → M → M → Option Files → Option Files → Seen
+abbrev pub seen : {O M : Type 0} → (O → Option (List ℕ)) → (M → Option (List ℕ)) → (M → ℕ) → O → O → M → M
+    → Option Files → Option Files → Seen
 seen of_out of_messages count out_old out_new messages_old messages_new files_old files_new = record {
   out_old = of_out out_old;
   out_new = of_out out_new;
@@ -114,7 +115,8 @@ pub record Closes (file : List ℕ) (e : Ending) (status : ℕ) (failure : Optio
   pub files : w.files_new ≡ w.files_old
 
 -- a mode that ended with this status was reported
-pub record ModeCloses (old new : ℕ) (out out' messages messages' : Option (List ℕ)) (failures failures' : ℕ) : Type 0 where
+pub record ModeCloses (old new : ℕ) (out out' messages messages' : Option (List ℕ))
+    (failures failures' : ℕ) : Type 0 where
   pub flushed : Bool
   pub is_status : new ≡ closed_status old flushed
   pub output : out' ≡ out

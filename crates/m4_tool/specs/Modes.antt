@@ -93,7 +93,8 @@ Ends = Result (Unit {0}) ModeFault → Script → Option (List ℕ) → Option (
 
 -- a mode was run on this file and returned this status: the status, the output, the devices and the
 -- messages agree on one end
-pub record ModeRuns (Finishes : Ends) (file : List ℕ) (reader : Reading) (out errors : Writing) (answer : ℕ) : Type 0 where
+pub record ModeRuns (Finishes : Ends) (file : List ℕ) (reader : Reading) (out errors : Writing)
+    (answer : ℕ) : Type 0 where
   pub end : Result (Unit {0}) ModeFault
   pub status : answer ≡ status_of end
   pub output : IfSome reader.script (λ script. Finishes end script out.old out.new)

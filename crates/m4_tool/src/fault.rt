@@ -79,7 +79,8 @@ fn put_frozen_fault<M: ByteSink>(
     file: &[u8],
     messages: &mut M,
 ) -> Result<(), DeviceFault>
-    ensures puts { Puts result (M.contents messages.old) (M.contents messages.new) (line_of file.now (faults.Frozen fault)) }
+    ensures puts { Puts result (M.contents messages.old) (M.contents messages.new)
+        (line_of file.now (faults.Frozen fault)) }
     ensures counted { M.failures messages.new ≡ count_after result (M.failures messages.old) }
 {
     let text = text_of(fault.kind);

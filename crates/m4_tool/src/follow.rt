@@ -1,7 +1,8 @@
 //! A line that is followed in a world: a mode, or a run over the files of the line, which starts from a
 //! frozen file and freezes to one. Manual: "Invoking m4".
 
-ghost use Rattle.std.specs.Prelude.{◌≡◌, map, [], List, ℕ, Option, Some, None, IfSome, true, false, unwrap_or, option_map, string_bytes};
+ghost use Rattle.std.specs.Prelude.{◌≡◌, map, [], List, ℕ, Option, Some, None, IfSome, true, false, unwrap_or};
+ghost use Rattle.std.specs.Prelude.{option_map, string_bytes};
 ghost use Rattle.m4_state.specs.Device.{Script};
 ghost use Rattle.m4_engine.specs.RunSources.{DescribesFrozen};
 ghost use Rattle.m4_engine.specs.File.{Source as Said};
@@ -42,14 +43,17 @@ pub fn follow<W: World, O: Shows, M: Shows>(
         → W.making world ≡ false → W.files world ≡ Some files → W.input world ≡ Some input
         → line_result (request_of line.now) files input ≡ Some r
         → Follows (request_of line.now) r result.status result.failure
-        (seen O.contents M.contents M.failures out.old out.new messages.old messages.new (W.files world) (W.files result.world)) }
+        (seen O.contents M.contents M.failures out.old out.new messages.old messages.new (W.files world)
+        (W.files result.world)) }
     // line in a world: if the reader of a source fails, those over any source that begins with its bytes, if the run
     // ended before the fault; otherwise prefixes of them
-    ensures extends { (files : Files) (input : Script) (r : LineResult) → line.now.canon ≡ None → line.now.inspect ≡ None
+    ensures extends { (files : Files) (input : Script) (r : LineResult) → line.now.canon ≡ None
+        → line.now.inspect ≡ None
         → W.making world ≡ false → W.files world ≡ Some files → W.input world ≡ Some input
         → MayGive (request_of line.now) files input r
         → Follows (request_of line.now) r result.status result.failure
-        (seen O.contents M.contents M.failures out.old out.new messages.old messages.new (W.files world) (W.files result.world)) }
+        (seen O.contents M.contents M.failures out.old out.new messages.old messages.new (W.files world)
+        (W.files result.world)) }
     // torn files: if each append takes all of its bytes or none, the frozen file has all of its text, or is as it
     // was, or is refused by a run that reloads it
     ensures torn { (files : Files) (input : Script) (r : LineResult) → line.now.canon ≡ None → line.now.inspect ≡ None
@@ -59,11 +63,14 @@ pub fn follow<W: World, O: Shows, M: Shows>(
     // line in a world: a mode on the file of its name
     ensures canon { IfSome line.now.canon (λ file. (files : Files) → W.making world ≡ false → W.files world ≡ Some files
         → ModeFollows Mode.Canon (string_bytes file) (files (string_bytes file)) result.status
-        (seen O.contents M.contents M.failures out.old out.new messages.old messages.new (W.files world) (W.files result.world))) }
+        (seen O.contents M.contents M.failures out.old out.new messages.old messages.new (W.files world)
+        (W.files result.world))) }
     // line in a world: the same, for the other mode
-    ensures inspect { line.now.canon ≡ None → IfSome line.now.inspect (λ file. (files : Files) → W.making world ≡ false → W.files world ≡ Some files
+    ensures inspect { line.now.canon ≡ None → IfSome line.now.inspect
+        (λ file. (files : Files) → W.making world ≡ false → W.files world ≡ Some files
         → ModeFollows Mode.Inspect (string_bytes file) (files (string_bytes file)) result.status
-        (seen O.contents M.contents M.failures out.old out.new messages.old messages.new (W.files world) (W.files result.world))) }
+        (seen O.contents M.contents M.failures out.old out.new messages.old messages.new (W.files world)
+        (W.files result.world))) }
     // safe and total: a failed write or flush is reported only if one failed in this call
     ensures counted { line.now.canon ≡ None → line.now.inspect ≡ None
         → FailedAs result.failure (counts (O.failures out.old) (O.failures out.new)
@@ -118,7 +125,8 @@ fn follow_mode<W: World, O: Shows, M: Shows>(
 ) -> Followed<W>
     ensures follows { (files : Files) → W.making world ≡ false → W.files world ≡ Some files
         → ModeFollows mode file.now (files file.now) result.status
-        (seen O.contents M.contents M.failures out.old out.new messages.old messages.new (W.files world) (W.files result.world)) }
+        (seen O.contents M.contents M.failures out.old out.new messages.old messages.new (W.files world)
+        (W.files result.world)) }
     ensures output_shown { result.failure ≡ None → O.shown out.new ≡ O.contents out.new }
     ensures messages_shown { result.failure ≡ None → M.shown messages.new ≡ M.contents messages.new }
     ensures kept { result.failure ≡ None → W.kept result.world ≡ W.files result.world }
@@ -167,7 +175,8 @@ fn follow_run<W: World, O: Shows, M: Shows>(
         → W.making world ≡ false → W.files world ≡ Some files → W.input world ≡ Some input
         → MayGive (request_of line.now) files input r
         → Follows (request_of line.now) r result.status result.failure
-        (seen O.contents M.contents M.failures out.old out.new messages.old messages.new (W.files world) (W.files result.world)) }
+        (seen O.contents M.contents M.failures out.old out.new messages.old messages.new (W.files world)
+        (W.files result.world)) }
     ensures torn { (files : Files) (input : Script) (r : LineResult)
         → W.appends_whole ≡ true → W.making world ≡ false → W.files world ≡ Some files → W.input world ≡ Some input
         → MayGive (request_of line.now) files input r
@@ -214,12 +223,14 @@ fn follow_from<W: World, O: Shows, M: Shows>(
         → ExtendFiles files input (words_of (request_of line.now).names) ss
         → EndsBy result.failure (unwrap_or (request_of line.now).freeze []) file.now
         (result_of_run file.now (defined line.now.options script ss)) result.status
-        (seen O.contents M.contents M.failures out.old out.new messages.old messages.new (W.files world) (W.files result.world)) }
+        (seen O.contents M.contents M.failures out.old out.new messages.old messages.new (W.files world)
+        (W.files result.world)) }
     ensures torn { (files : Files) (input : Script) (script : Option Script) (ss : List Said)
         → W.appends_whole ≡ true → W.making world ≡ false → W.files world ≡ Some files → W.input world ≡ Some input
         → DescribesFrozen W.Reader.script frozen.old script
         → ExtendFiles files input (words_of (request_of line.now).names) ss
-        → FreezesOrTears (unwrap_or (request_of line.now).freeze []) (result_of_run file.now (defined line.now.options script ss)).frozen
+        → FreezesOrTears (unwrap_or (request_of line.now).freeze [])
+        (result_of_run file.now (defined line.now.options script ss)).frozen
         (W.files world) (W.files result.world) }
     ensures counted { FailedAs result.failure (counts (O.failures out.old) (O.failures out.new)
         (M.failures messages.old) (M.failures messages.new) (W.failures world) (W.failures result.world)) }

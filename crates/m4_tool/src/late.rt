@@ -43,7 +43,8 @@ pub(crate) struct LateFile<W: World, K: Place> {
     failures: u64,
     of: PhantomData<K>,
     ghost named: { name ≡ K.name },
-    ghost agrees: { W.files world ≡ after_writing created K.name (written created K.name (W.files world)) K.before } by { Prim.hlevel props },
+    ghost agrees: { W.files world
+        ≡ after_writing created K.name (written created K.name (W.files world)) K.before } by { Prim.hlevel props },
     ghost tried: { is_tried created failures (written created K.name (W.files world)) ≡ true },
     ghost unfailed: { failures ≡ 0 → W.failures world ≡ K.failures },
     ghost failed: { 0 < failures → Rose K.failures (W.failures world) },
@@ -71,7 +72,8 @@ impl<W: World, K: Place> LateFile<W, K> {
     /// Returns the world, with the file if one was created.
     pub(crate) fn into_world(self) -> W
         ensures world { result ≡ self.world }
-        ensures files { W.files result ≡ after_writing self.created K.name (written self.created K.name (W.files self.world)) K.before }
+        ensures files { W.files result ≡ after_writing self.created K.name
+            (written self.created K.name (W.files self.world)) K.before }
         ensures unfailed { self.failures ≡ 0 → W.failures result ≡ K.failures }
         ensures failed { 0 < self.failures → Rose K.failures (W.failures result) }
         ensures tried { is_tried self.created self.failures (written self.created K.name (W.files self.world)) ≡ true }

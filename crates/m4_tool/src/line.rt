@@ -4,10 +4,12 @@
 //! limit out of its range. Only one rule about two words is checked here: a mode is given alone.
 //! Contracts see the words by `known_words` (specs/CommandLine.antt).
 //! Manual: "Invoking m4".
-ghost use Rattle.std.specs.Prelude.{◌≡◌, ◌≢◌, ◌≤◌, ◌<◌, ◌^◌, IfErr, IfOk, codes, false, true, is_some, map, option_map, string_bytes};
+ghost use Rattle.std.specs.Prelude.{◌≡◌, ◌≢◌, ◌≤◌, ◌<◌, ◌^◌, IfErr, IfOk, codes, false, true, is_some, map, option_map};
+ghost use Rattle.std.specs.Prelude.{string_bytes};
 ghost use Rattle.clap.specs.Walk.{texts};
 ghost use Rattle.clap.specs.Words.{app_of, first_of, found_of, new_app, one_of, rows_of, rule_of};
-ghost use Rattle.m4_tool.specs.CommandLine.{AreInRange, HoldsFound, IsLimit, IsModeNotAlone, IsRefusal, Says, ModeIsAlone};
+ghost use Rattle.m4_tool.specs.CommandLine.{AreInRange, HoldsFound, IsLimit, IsModeNotAlone, IsRefusal, Says};
+ghost use Rattle.m4_tool.specs.CommandLine.{ModeIsAlone};
 ghost use Rattle.m4_tool.specs.CommandLine.{asks, file_word, files_in, has_files, has_options, help_word, is_given};
 ghost use Rattle.m4_tool.specs.CommandLine.{known_words, limit_word, mode_has_others, path_word, rows_by};
 ghost use Rattle.m4_tool.specs.CommandLine.{with_frozen, with_limits, with_modes, with_prefix, without_short_help};

@@ -50,7 +50,8 @@ impl<'a> MemWorld<'a> {
 
     /// Makes the reader of standard input fail after its bytes.
     pub fn fail_input(&mut self)
-        ensures input { ⟦<MemWorld<'a> as World>⟧.input self.new ≡ Some (record { bytes = self.old.input.now; fails = true }) }
+        ensures input { ⟦<MemWorld<'a> as World>⟧.input self.new
+            ≡ Some (record { bytes = self.old.input.now; fails = true }) }
         ensures files { ⟦<MemWorld<'a> as World>⟧.files self.new ≡ ⟦<MemWorld<'a> as World>⟧.files self.old }
         ensures making { ⟦<MemWorld<'a> as World>⟧.making self.new ≡ ⟦<MemWorld<'a> as World>⟧.making self.old }
     {
@@ -142,7 +143,8 @@ impl<'a> World for MemWorld<'a> {
 
 /// Returns a reader of the first file of this name.
 fn found<'a>(given: &'a [Given<'a>], name: &[u8]) -> Option<MemSource<'a>>
-    ensures { option_map ⟦<MemSource<'a> as ByteSource>⟧.script result ≡ option_map Some (given_files given.now name.now) }
+    ensures { option_map ⟦<MemSource<'a> as ByteSource>⟧.script result
+        ≡ option_map Some (given_files given.now name.now) }
 {
     for file in given {
         if name == file.name {

@@ -6,7 +6,8 @@
 ghost use Rattle.std.specs.Prelude.{◌≡◌, ℕ, IfSome};
 ghost use Rattle.m4_state.specs.Device.{Script};
 ghost use Rattle.m4_tool.specs.ModeFault.{status_of};
-ghost use Rattle.m4_tool.specs.Modes.{CanonEnds, CanonRuns, Holds, InspectEnds, InspectRuns, IsOfDevice, ReportsFault, reads, writes};
+ghost use Rattle.m4_tool.specs.Modes.{CanonEnds, CanonRuns, Holds, InspectEnds, InspectRuns, IsOfDevice, ReportsFault};
+ghost use Rattle.m4_tool.specs.Modes.{reads, writes};
 
 use crate::fault::ModeFault;
 use m4_frozen::inspector::list;

@@ -36,12 +36,14 @@ pub trait World: Drop {
 
     /// Opens a file for reading, unless that fails.
     fn open(&self, name: &[u8]) -> Option<Self::Reader>
-        ensures { making self.now ≡ false → IfSome (files self.now) (λ fs. option_map Self.Reader.script result ≡ option_map Some (fs name.now)) };
+        ensures { making self.now ≡ false → IfSome (files self.now)
+            (λ fs. option_map Self.Reader.script result ≡ option_map Some (fs name.now)) };
 
     /// Returns the reader of standard input. It is read once: a second reader finds the end.
     fn stdin(&mut self) -> Self::Reader
         ensures script { IfSome (input self.old) (λ script. Self.Reader.script result ≡ Some script) }
-        ensures ended { IfSome (input self.old) (λ script. input self.new ≡ Some (record { bytes = []; fails = false })) }
+        ensures ended { IfSome (input self.old) (λ script. input self.new
+            ≡ Some (record { bytes = []; fails = false })) }
         ensures making { making self.new ≡ making self.old }
         ensures files { files self.new ≡ files self.old }
         ensures failures { failures self.new ≡ failures self.old };
@@ -59,7 +61,8 @@ pub trait World: Drop {
         ensures within { IfOk result (λ n. n ≤ length bytes.now) }
         ensures some { IfOk result (λ n. 0 < n) }
         ensures whole { appends_whole ≡ true → IfOk result (λ n. n ≡ length bytes.now) }
-        ensures appended { IfOk result (λ n. files self.new ≡ option_map (with_more name.now (take n bytes.now)) (files self.old)) }
+        ensures appended { IfOk result (λ n. files self.new
+            ≡ option_map (with_more name.now (take n bytes.now)) (files self.old)) }
         ensures unchanged { OnErr result (files self.new ≡ files self.old) }
         ensures counted { failures self.new ≡ count_after result (failures self.old) };
 

@@ -1,12 +1,14 @@
 //! Calls: one begins at its name, is made when its arguments are complete, and what it gives is pushed.
 //! Manual: "Macro invocation", "Macro arguments".
 
-ghost use Rattle.std.specs.Prelude.{◌≡◌, ◌<◌, ◌≤◌, nat_lt, List, ℕ, [], ◌∷◌, ◌++◌, None, Some, Ok, OnOk, true, false, length};
+ghost use Rattle.std.specs.Prelude.{◌≡◌, ◌<◌, ◌≤◌, nat_lt, List, ℕ, [], ◌∷◌, ◌++◌, None, Some, Ok, OnOk, true, false};
+ghost use Rattle.std.specs.Prelude.{length};
 ghost use Rattle.m4_input.specs.Paren.{paren_at};
 ghost use Rattle.m4_input.specs.declared.front.Answer.TheVariants as answers;
 ghost use Rattle.m4_input.specs.Input.{longer};
 ghost use Rattle.m4_input.specs.Pending.{text_of, consumed};
-ghost use Rattle.m4_engine.specs.Engine.{Moves, IsTaken, IsReady, Makes, Steps, Pushes, Extended, Stays, with_made, with_one_call, is_deep_in, step, here_of, outer_of, called_within};
+ghost use Rattle.m4_engine.specs.Engine.{Moves, IsTaken, IsReady, Makes, Steps, Pushes, Extended, Stays, with_made};
+ghost use Rattle.m4_engine.specs.Engine.{with_one_call, is_deep_in, step, here_of, outer_of, called_within};
 ghost use Rattle.m4_builtins.specs.Act.{IsPushed, act};
 ghost use Rattle.m4_builtins.specs.Acted.{nothing};
 ghost use Rattle.m4_builtins.specs.Subst.{subst};
@@ -115,9 +117,11 @@ impl Machine {
         input: &mut Input,
     ) -> Result<Turned, TurnFault>
         requires input { IsTaken input.old }
-        requires list { listed ≡ true → paren_at self.old.state.quotes self.old.state.comments input.old.pending ≡ answers.Yes }
+        requires list { listed ≡ true → paren_at self.old.state.quotes self.old.state.comments input.old.pending
+            ≡ answers.Yes }
         requires fresh { call ≡ call_of call.definition call.name call.place }
-        ensures { Steps result self.old self.new input.old input.new (λ t. (before : Extended) → Moves input.old.pending.may_follow self.new input.new.pending t
+        ensures { Steps result self.old self.new input.old input.new
+            (λ t. (before : Extended) → Moves input.old.pending.may_follow self.new input.new.pending t
             (λ z more o m. step (outer_of self.old.open_calls)
             (call_turn listed call (longer z more input.old.pending) (here_of o m self.old (before z more))))) }
     {
@@ -141,7 +145,8 @@ impl Machine {
     /// Consumes the parenthesis that opens a list. It was recognised as a token, so it is one byte.
     fn take_parenthesis(&self, input: &mut Input)
         requires ready { IsReady input.old }
-        requires paren_follows { paren_at self.now.state.quotes self.now.state.comments input.old.pending ≡ answers.Yes }
+        requires paren_follows { paren_at self.now.state.quotes self.now.state.comments input.old.pending
+            ≡ answers.Yes }
         ensures taken { input.new.pending ≡ consumed 1 input.old.pending }
         ensures within { 1 ≤ length (text_of input.old.pending) }
         ensures ready { Stays input.old input.new }
@@ -159,7 +164,8 @@ impl Machine {
         requires input { IsTaken input.old }
         requires room { nat_lt self.old.calls self.old.limits.calls ≡ true }
         requires shallow { is_deep_in self.old ≡ false }
-        ensures { Steps result self.old self.new input.old input.new (λ t. (c : Call) (x : List ℕ) → c.definition ≡ Text x → text ≡ subst x c.name c.done self.old.state.quotes
+        ensures { Steps result self.old self.new input.old input.new
+            (λ t. (c : Call) (x : List ℕ) → c.definition ≡ Text x → text ≡ subst x c.name c.done self.old.state.quotes
             → (before : Extended) → Moves input.old.pending.may_follow self.new input.new.pending t
             (λ z more o m. step (outer_of self.old.open_calls)
             (call_turn false c (longer z more input.old.pending) (here_of o m self.old (before z more))))) }
@@ -182,8 +188,10 @@ impl Machine {
     #[inline(never)]
     pub(super) fn call(&mut self, call: OpenCall, input: &mut Input) -> Result<Turned, TurnFault>
         requires { IsTaken input.old }
-        ensures { Steps result self.old self.new input.old input.new (λ t. Moves input.old.pending.may_follow self.new input.new.pending t
-            (λ z more o m. called_within self.old.open_calls call (here_of o m self.old (longer z more input.old.pending)))) }
+        ensures { Steps result self.old self.new input.old input.new
+            (λ t. Moves input.old.pending.may_follow self.new input.new.pending t
+            (λ z more o m. called_within self.old.open_calls call
+            (here_of o m self.old (longer z more input.old.pending)))) }
     {
         self.lend(input);
         self.call_any(call, input)
@@ -193,8 +201,10 @@ impl Machine {
     #[inline(always)]
     fn call_any(&mut self, call: OpenCall, input: &mut Input) -> Result<Turned, TurnFault>
         requires { IsTaken input.old }
-        ensures { Steps result self.old self.new input.old input.new (λ t. Moves input.old.pending.may_follow self.new input.new.pending t
-            (λ z more o m. called_within self.old.open_calls call (here_of o m self.old (longer z more input.old.pending)))) }
+        ensures { Steps result self.old self.new input.old input.new
+            (λ t. Moves input.old.pending.may_follow self.new input.new.pending t
+            (λ z more o m. called_within self.old.open_calls call
+            (here_of o m self.old (longer z more input.old.pending)))) }
     {
         if let Def::Text(text) = call.definition() {
             let quotes = self.state.quotes();
@@ -211,8 +221,10 @@ impl Machine {
     #[inline(never)]
     fn call_builtin(&mut self, call: OpenCall, input: &mut Input) -> Result<Turned, TurnFault>
         requires { IsTaken input.old }
-        ensures { Steps result self.old self.new input.old input.new (λ t. Moves input.old.pending.may_follow self.new input.new.pending t
-            (λ z more o m. called_within self.old.open_calls call (here_of o m self.old (longer z more input.old.pending)))) }
+        ensures { Steps result self.old self.new input.old input.new
+            (λ t. Moves input.old.pending.may_follow self.new input.new.pending t
+            (λ z more o m. called_within self.old.open_calls call
+            (here_of o m self.old (longer z more input.old.pending)))) }
     {
         self.effect.clear();
         act_on_call(&mut self.effect, &call, &mut self.state)?;
@@ -256,9 +268,11 @@ impl Machine {
     #[inline(always)]
     fn take_text(&mut self, text: Bytes, input: &mut Input) -> Result<Turned, TurnFault>
         requires { IsTaken input.old }
-        ensures { Steps result self.old self.new input.old input.new (λ t. (c : Call) (x : List ℕ) → c.definition ≡ Text x → text ≡ subst x c.name c.done self.old.state.quotes
+        ensures { Steps result self.old self.new input.old input.new
+            (λ t. (c : Call) (x : List ℕ) → c.definition ≡ Text x → text ≡ subst x c.name c.done self.old.state.quotes
             → Moves input.old.pending.may_follow self.new input.new.pending t
-            (λ z more o m. called_within self.old.open_calls c (here_of o m self.old (longer z more input.old.pending)))) }
+            (λ z more o m. called_within self.old.open_calls c
+            (here_of o m self.old (longer z more input.old.pending)))) }
     {
         push_text(input, text)?;
         self.begin_argument();

@@ -49,7 +49,8 @@ impl Machine {
         requires { earlier ≤ length self.old.output }
         ensures engine { OnOk result (self.new ≡ after_flush self.old) }
         ensures output { OnOk result (O.contents out.new ≡ with_bytes (O.contents out.old) self.old.output) }
-        ensures messages { OnOk result (M.contents messages.new ≡ with_bytes (M.contents messages.old) self.old.messages) }
+        ensures messages { OnOk result (M.contents messages.new
+            ≡ with_bytes (M.contents messages.old) self.old.messages) }
         ensures order { OnErr result (IsInOrder (take earlier self.old.output) self.old.messages
             (both O.contents M.contents out.old out.new messages.old messages.new)) }
         ensures begun { OnErr result (FlushesPrefix self.old.output self.old.messages
@@ -111,7 +112,8 @@ impl Machine {
             (both O.contents M.contents out.old out.new messages.old messages.new) result }
         ensures order { OrderBy wanted self.old input.old.pending
             (both O.contents M.contents out.old out.new messages.old messages.new) result }
-        ensures counted { FailsBy (cause_of result) (both O.failures M.failures out.old out.new messages.old messages.new) }
+        ensures counted { FailsBy (cause_of result) (both O.failures M.failures out.old out.new messages.old
+            messages.new) }
     {
         let at_token = match wanted {
             Wanted::Token => true,

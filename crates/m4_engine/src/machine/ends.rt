@@ -1,4 +1,5 @@
-//! The end of the input, also inside a string, a comment or a list. Manual: "Quoting input tokens", "Comments in m4 input",
+//! The end of the input, also inside a string, a comment or a list. Manual: "Quoting input tokens", "Comments in m4
+//! input",
 //! "Macro arguments".
 
 ghost use Rattle.std.specs.Prelude.{◌≡◌, ◌<◌, Bool, List, ℕ, Some, Ok};
@@ -17,7 +18,8 @@ use m4_input::input::Input;
 impl Machine {
     /// Acts on the end of the input.
     pub(super) fn take_end(&mut self) -> Result<Turned, TurnFault>
-        ensures { Makes result self.old self.new (λ t. (may : Bool) (p : Pending) (before : Extended) → Moves may self.new p t
+        ensures { Makes result self.old self.new (λ t. (may : Bool) (p : Pending) (before : Extended)
+            → Moves may self.new p t
             (λ z more o m. step (outer_of self.old.open_calls)
             (take_end (mode_of self.old.open_calls) (here_of o m self.old (before z more))))) }
     {
@@ -37,7 +39,8 @@ impl Machine {
         line: u64,
         input: &Input,
     ) -> Result<Turned, TurnFault>
-        ensures { Makes result self.old self.new (λ t. (may : Bool) (p : Pending) (before : Extended) → ((z : List ℕ) (more : Bool) → (before z more).file ≡ input.now.pending.file)
+        ensures { Makes result self.old self.new (λ t. (may : Bool) (p : Pending) (before : Extended)
+            → ((z : List ℕ) (more : Bool) → (before z more).file ≡ input.now.pending.file)
             → Moves may self.new p t (λ z more o m. step (outer_of self.old.open_calls)
             (take_front (Refused what line) (here_of o m self.old (before z more))))) }
     {

@@ -3,7 +3,8 @@
 ghost use Rattle.std.specs.Prelude.{◌≡◌, ◌<◌, ◌&&◌, nat_lt, ◌++◌, OnOk, true, codes};
 ghost use Rattle.std.specs.Fmt.{decimal};
 ghost use Rattle.m4_builtins.specs.Messages.{error};
-ghost use Rattle.m4_engine.specs.Engine.{with_engine_message, with_one_call, calls_text, nested_text, is_deep_in, allows_call};
+ghost use Rattle.m4_engine.specs.Engine.{with_engine_message, with_one_call, calls_text, nested_text, is_deep_in};
+ghost use Rattle.m4_engine.specs.Engine.{allows_call};
 
 use crate::call::OpenCall;
 use crate::machine::Machine;
@@ -45,14 +46,16 @@ impl Machine {
 
     /// Adds the error that there are too many calls.
     pub(super) fn report_call_limit(&mut self, call: &OpenCall) -> Result<(), TurnFault>
-        ensures { OnOk result (self.new ≡ with_engine_message (error call.now.place (calls_text self.old.limits.calls)) self.old) }
+        ensures { OnOk result (self.new ≡ with_engine_message
+            (error call.now.place (calls_text self.old.limits.calls)) self.old) }
     {
         self.report_limit(call.place(), self.most_calls, b" calls")
     }
 
     /// Adds the error that too many calls are nested.
     pub(super) fn report_nesting_limit(&mut self, call: &OpenCall) -> Result<(), TurnFault>
-        ensures { OnOk result (self.new ≡ with_engine_message (error call.now.place (nested_text self.old.limits.nesting)) self.old) }
+        ensures { OnOk result (self.new ≡ with_engine_message
+            (error call.now.place (nested_text self.old.limits.nesting)) self.old) }
     {
         self.report_limit(call.place(), self.most_nested, b" nested calls")
     }

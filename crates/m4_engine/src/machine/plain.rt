@@ -32,8 +32,8 @@ fn may_follow(input: &Input, others: bool) -> bool
     others || input.may_follow()
 }
 
-/// Returns whether a text has few bytes, and begins and ends with a letter, as many results of calls do. Then it is mostly
-/// a name, whose end the bytes after it decide, so that no look at the text alone is of use.
+/// Returns whether a text has few bytes, and begins and ends with a letter, as many results of calls do. Then it is
+/// mostly a name, whose end the bytes after it decide, so that no look at the text alone is of use.
 #[inline(always)]
 fn is_short_name(text: &[u8]) -> bool {
     match text {
@@ -151,8 +151,8 @@ impl Machine {
         Ok((len, lookahead))
     }
 
-    /// The same where text goes to a diversion or is dropped. The token after the passed ones is looked at again, since to
-    /// divert text ends what was borrowed of the state.
+    /// The same where text goes to a diversion or is dropped. The token after the passed ones is looked at again, since
+    /// to divert text ends what was borrowed of the state.
     #[inline(never)]
     fn pass_diverted(
         &mut self,

@@ -9,7 +9,8 @@ ghost use Rattle.m4_input.specs.declared.front.Scan.TheVariants.{Found};
 ghost use Rattle.m4_input.specs.declared.token.Token.TheVariants.{Name};
 ghost use Rattle.m4_input.specs.Input.{answer_of, longer};
 ghost use Rattle.m4_input.specs.Pending.{line_of, text_of, consumed};
-ghost use Rattle.m4_engine.specs.Engine.{Moves, IsTaken, IsReady, Makes, Steps, Turns, Extended, IsAt, IsLookahead, is_bare, step, here_of, outer_of};
+ghost use Rattle.m4_engine.specs.Engine.{Moves, IsTaken, IsReady, Makes, Steps, Turns, Extended, IsAt, IsLookahead};
+ghost use Rattle.m4_engine.specs.Engine.{is_bare, step, here_of, outer_of};
 ghost use Rattle.m4_builtins.specs.declared.place.Place.{Place};
 ghost use Rattle.m4_engine.specs.Lookahead.{IsMeaning, Fits};
 ghost use Rattle.m4_builtins.specs.Acted.{nothing};
@@ -88,7 +89,8 @@ impl Machine {
         requires ready { IsReady input.old }
         requires first { input.old.pending.definition ≡ None }
         requires line { line ≡ line_of input.old.pending }
-        requires scanned { scan self.old.state.quotes self.old.state.comments input.old.pending.may_follow (text_of input.old.pending)
+        requires scanned { scan self.old.state.quotes self.old.state.comments input.old.pending.may_follow
+            (text_of input.old.pending)
             ≡ Found token len }
         requires within { len ≤ length (text_of input.old.pending) }
         ensures { Turns result self.old self.new input.old input.new }
@@ -123,7 +125,8 @@ impl Machine {
         requires ready { IsReady input.old }
         requires first { input.old.pending.definition ≡ None }
         requires line { line ≡ line_of input.old.pending }
-        requires scanned { scan self.old.state.quotes self.old.state.comments input.old.pending.may_follow (text_of input.old.pending)
+        requires scanned { scan self.old.state.quotes self.old.state.comments input.old.pending.may_follow
+            (text_of input.old.pending)
             ≡ Found (Name name) len }
         requires within { len ≤ length (text_of input.old.pending) }
         ensures { Turns result self.old self.new input.old input.new }
@@ -164,12 +167,16 @@ impl Machine {
     #[inline(always)]
     fn take_named(&mut self, named: Named, input: &mut Input) -> Result<Turned, TurnFault>
         requires input { IsTaken input.old }
-        requires list { paren_at self.old.state.quotes self.old.state.comments input.old.pending ≡ answer_of named.listed }
+        requires list { paren_at self.old.state.quotes self.old.state.comments input.old.pending
+            ≡ answer_of named.listed }
         requires fits { Fits named.meaning (is_bare named.listed self.old) }
-        ensures { Steps result self.old self.new input.old input.new (λ t. (name : List ℕ) (at : Place) (before : Extended)
+        ensures { Steps result self.old self.new input.old input.new
+            (λ t. (name : List ℕ) (at : Place) (before : Extended)
             → IsAt at before → IsMeaning named.meaning (is_bare named.listed self.old) self.old.state name at
-            → Moves input.old.pending.may_follow self.new input.new.pending t (λ z more o m. step (outer_of self.old.open_calls)
-            (take_name (top_of self.old.state name) name (longer z more input.old.pending) (here_of o m self.old (before z more))))) }
+            → Moves input.old.pending.may_follow self.new input.new.pending t
+            (λ z more o m. step (outer_of self.old.open_calls)
+            (take_name (top_of self.old.state name) name (longer z more input.old.pending)
+            (here_of o m self.old (before z more))))) }
     {
         let Named {
             len: _len,

@@ -29,7 +29,8 @@ pub fn close<W: World, O: Shows, M: Shows>(
     messages: &mut M,
 ) -> Followed<W>
     ensures closes { Closes file.now ending result.status result.failure
-        (seen O.contents M.contents M.failures out.old out.new messages.old messages.new (W.files world) (W.files result.world)) }
+        (seen O.contents M.contents M.failures out.old out.new messages.old messages.new (W.files world)
+        (W.files result.world)) }
     ensures counted { ClosedAs ending.cause result.failure (counts (O.failures out.old) (O.failures out.new)
         (M.failures messages.old) (M.failures messages.new) (W.failures world) (W.failures result.world)) }
     ensures output_shown { result.failure ≡ None → O.shown out.new ≡ O.contents out.new }
@@ -70,7 +71,8 @@ fn report_refusal<M: Shows>(cause: Cause, file: &[u8], messages: &mut M) -> bool
         (M.failures messages.old) (M.failures messages.new) }
     ensures refused { result ≡ false → refusals file.now cause ≢ [] }
     ensures counted { RefusedAs result (M.failures messages.old) (M.failures messages.new) }
-    ensures shown { result ≡ true → M.shown messages.old ≡ M.contents messages.old → M.shown messages.new ≡ M.contents messages.new }
+    ensures shown { result ≡ true → M.shown messages.old ≡ M.contents messages.old
+        → M.shown messages.new ≡ M.contents messages.new }
 {
     match cause {
         Cause::Frozen(_) => {
@@ -84,7 +86,8 @@ fn report_refusal<M: Shows>(cause: Cause, file: &[u8], messages: &mut M) -> bool
 
 /// Reports the fault that ended the run or its last flushes, if there is one.
 fn report_last<M: Shows>(cause: Cause, flushed: bool, messages: &mut M)
-    ensures reports { Reports (last_lines (last_fault cause flushed)) (M.contents messages.old) (M.contents messages.new)
+    ensures reports { Reports (last_lines (last_fault cause flushed)) (M.contents messages.old)
+        (M.contents messages.new)
         (M.failures messages.old) (M.failures messages.new) }
     ensures unreported { last_fault cause flushed ≡ None → messages.new ≡ messages.old }
 {
@@ -145,7 +148,8 @@ pub fn close_unopened<W: World, O: Shows, M: Shows>(
     messages: &mut M,
 ) -> Followed<W>
     ensures ends { (name : List ℕ) → EndsBy result.failure name file.now (unreloaded file.now) result.status
-        (seen O.contents M.contents M.failures out.old out.new messages.old messages.new (W.files world) (W.files result.world)) }
+        (seen O.contents M.contents M.failures out.old out.new messages.old messages.new (W.files world)
+        (W.files result.world)) }
     ensures counted { FailedAs result.failure (counts (O.failures out.old) (O.failures out.new)
         (M.failures messages.old) (M.failures messages.new) (W.failures world) (W.failures result.world)) }
     ensures files { W.files result.world ≡ W.files world }

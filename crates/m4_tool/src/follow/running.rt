@@ -1,6 +1,7 @@
 //! The run of a line: over its sources, from its start, to the file to which it freezes.
 
-ghost use Rattle.std.specs.Prelude.{◌≡◌, ◌⊎◌, [], List, ℕ, Option, Some, None, IfOk, true, false, map, unwrap_or, option_map, string_bytes};
+ghost use Rattle.std.specs.Prelude.{◌≡◌, ◌⊎◌, [], List, ℕ, Option, Some, None, IfOk, true, false, map, unwrap_or};
+ghost use Rattle.std.specs.Prelude.{option_map, string_bytes};
 ghost use Rattle.m4_state.specs.Device.{Script};
 ghost use Rattle.m4_engine.specs.File.{Source as Said};
 ghost use Rattle.m4_engine.specs.RunSources.{DescribesFrozen};
@@ -46,7 +47,8 @@ pub fn run_line<W: World, O: Shows, M: Shows>(
         → DescribesFrozen W.Reader.script frozen.old script
         → ExtendFiles files input (words_of (request_of line.now).names) ss
         → RanBy (unwrap_or (request_of line.now).freeze []) (defined line.now.options script ss) result.ending
-        (seen O.contents M.contents M.failures out.old out.new messages.old messages.new (W.files world) (W.files result.world)) }
+        (seen O.contents M.contents M.failures out.old out.new messages.old messages.new (W.files world)
+        (W.files result.world)) }
     ensures torn { W.appends_whole ≡ true → (files : Files) (input : Script) (script : Option Script) (ss : List Said)
         → W.making world ≡ false → W.files world ≡ Some files → W.input world ≡ Some input
         → DescribesFrozen W.Reader.script frozen.old script
@@ -119,8 +121,10 @@ fn run_late<W: World, K: Place, O: Shows, M: Shows>(
         → map (named_of W.Reader.script) sources.old ≡ named_in files input names
         → DescribesFrozen W.Reader.script frozen.old script → ExtendFiles files input names ss
         → RanBy K.name (defined options script ss) result.ending
-        (seen O.contents M.contents M.failures out.old out.new messages.old messages.new K.before (W.files result.world)) }
-    ensures torn { W.appends_whole ≡ true → (files : Files) (input : Script) (names : List (List ℕ)) (script : Option Script) (ss : List Said)
+        (seen O.contents M.contents M.failures out.old out.new messages.old messages.new K.before
+        (W.files result.world)) }
+    ensures torn { W.appends_whole ≡ true → (files : Files) (input : Script) (names : List (List ℕ))
+        (script : Option Script) (ss : List Said)
         → map (named_of W.Reader.script) sources.old ≡ named_in files input names
         → DescribesFrozen W.Reader.script frozen.old script → ExtendFiles files input names ss
         → result.ending.cause ≡ Cause.Write → TearsFile K.name K.before (W.files result.world) }
