@@ -17,4 +17,5 @@ pub mod shows;
 mod sources;
 mod stacks;
 mod texts;
+mod whole_texts;
 mod wrapped;

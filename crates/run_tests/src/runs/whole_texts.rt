@@ -1,0 +1,276 @@
+//! Whole frozen texts of runs from the fresh state, byte for byte, with readers of several sizes. Manual: "Fast
+//! loading of frozen state", "Frozen file format".
+
+use super::given::{AT_MOST, BLOCKS, ROOM, USUAL, ended, files, freezing, run_over};
+use super::report::Report;
+use super::shows::agrees;
+use m4_engine::ending::{Cause, Ending};
+use m4_engine::options::Options;
+use std::alloc::{AllocError, Global};
+use std::process::Abort;
+
+const BEGIN: &str = "# m4 frozen state\nV1\n";
+
+const END: &str = "# End of frozen state file\n";
+
+const UNDERSCORES: &str =
+    "F8,8\n__file____file__\nT7,0\n__gnu__\nF8,8\n__line____line__\nT8,0\n__unix__\n";
+
+const BUILTIN: &str = "F7,7\nbuiltinbuiltin\n";
+
+const CHANGES: &str = "F9,9\nchangecomchangecom\nF11,11\nchangequotechangequote\n";
+
+const DECR_TO_PUSHDEF: &str =
+    "F4,4\ndecrdecr\nF6,6\ndefinedefine\nF4,4\ndefndefn\nF6,6\ndivertdivert\nF6,6\ndivnumdivnum\n\
+    F3,3\ndnldnl\nF7,7\ndumpdefdumpdef\nF8,8\nerrprinterrprint\nF4,4\nevaleval\nF5,5\nifdefifdef\n\
+    F6,6\nifelseifelse\nF4,4\nincrincr\nF5,5\nindexindex\nF5,5\nindirindir\nF3,3\nlenlen\n\
+    F6,6\nm4exitm4exit\nF6,6\nm4wrapm4wrap\nF6,6\npopdefpopdef\nF7,7\npushdefpushdef\n";
+
+const SHIFT: &str = "F5,5\nshiftshift\n";
+
+const SUBSTR_ON: &str =
+    "F6,6\nsubstrsubstr\nF8,8\ntranslittranslit\nF8,8\nundefineundefine\nF8,8\nundivertundivert\n";
+
+/// The directives of the fresh state if its builtins have prefixes.
+const PREFIXED: &str =
+    "T7,0\n__gnu__\nT8,0\n__unix__\nF11,8\nm4___file____file__\nF11,8\nm4___line____line__\n\
+    F10,7\nm4_builtinbuiltin\nF12,9\nm4_changecomchangecom\nF14,11\nm4_changequotechangequote\n\
+    F7,4\nm4_decrdecr\nF9,6\nm4_definedefine\nF7,4\nm4_defndefn\nF9,6\nm4_divertdivert\n\
+    F9,6\nm4_divnumdivnum\nF6,3\nm4_dnldnl\nF10,7\nm4_dumpdefdumpdef\nF11,8\nm4_errprinterrprint\n\
+    F7,4\nm4_evaleval\nF8,5\nm4_ifdefifdef\nF9,6\nm4_ifelseifelse\nF7,4\nm4_incrincr\n\
+    F8,5\nm4_indexindex\nF8,5\nm4_indirindir\nF6,3\nm4_lenlen\nF9,6\nm4_m4exitm4exit\n\
+    F9,6\nm4_m4wrapm4wrap\nF9,6\nm4_popdefpopdef\nF10,7\nm4_pushdefpushdef\nF8,5\nm4_shiftshift\n\
+    F9,6\nm4_substrsubstr\nF11,8\nm4_translittranslit\nF11,8\nm4_undefineundefine\n\
+    F11,8\nm4_undivertundivert\n";
+
+/// A file, what a run over it writes and how it ends, and the parts of the frozen text.
+struct Frozen {
+    name: &'static str,
+    prefix: bool,
+    file: &'static str,
+    output: &'static str,
+    messages: &'static str,
+    end: (u8, Cause),
+    frozen_text: &'static [&'static str],
+}
+
+/// A run that reads everything and writes nothing but the fresh state.
+const FRESH: Frozen = Frozen {
+    name: "",
+    prefix: false,
+    file: "",
+    output: "",
+    messages: "",
+    end: (0, Cause::Done),
+    frozen_text: &[
+        BEGIN,
+        UNDERSCORES,
+        BUILTIN,
+        CHANGES,
+        DECR_TO_PUSHDEF,
+        SHIFT,
+        SUBSTR_ON,
+        END,
+    ],
+};
+
+static NAMES: [Frozen; 5] = [
+    Frozen {
+        name: "the fresh state",
+        ..FRESH
+    },
+    Frozen {
+        name: "the fresh state with prefixes",
+        prefix: true,
+        frozen_text: &[BEGIN, PREFIXED, END],
+        ..FRESH
+    },
+    Frozen {
+        name: "a stack of two definitions",
+        file: "define(`x',`1')pushdef(`x',`2')dnl\n",
+        frozen_text: &[
+            BEGIN,
+            UNDERSCORES,
+            BUILTIN,
+            CHANGES,
+            DECR_TO_PUSHDEF,
+            SHIFT,
+            SUBSTR_ON,
+            "T1,1\nx1\nT1,1\nx2\n",
+            END,
+        ],
+        ..FRESH
+    },
+    Frozen {
+        name: "a builtin under another name",
+        file: "define(`cut',defn(`shift'))undefine(`shift')cut(1,2,3) shift(1)\n",
+        output: "2,3 shift(1)\n",
+        frozen_text: &[
+            BEGIN,
+            UNDERSCORES,
+            BUILTIN,
+            CHANGES,
+            "F3,5\ncutshift\n",
+            DECR_TO_PUSHDEF,
+            SUBSTR_ON,
+            END,
+        ],
+        ..FRESH
+    },
+    Frozen {
+        name: "three names, one of them defined again",
+        file: "define(`b',`1')define(`a',`2')define(`c',`3')undefine(`a')define(`a',`4')dnl\n",
+        frozen_text: &[
+            BEGIN,
+            UNDERSCORES,
+            "T1,1\na4\nT1,1\nb1\n",
+            BUILTIN,
+            "T1,1\nc3\n",
+            CHANGES,
+            DECR_TO_PUSHDEF,
+            SHIFT,
+            SUBSTR_ON,
+            END,
+        ],
+        ..FRESH
+    },
+];
+
+static SETTINGS: [Frozen; 5] = [
+    Frozen {
+        name: "quotes that are changed, and no comments",
+        file: "changequote([,])changecom(,)dnl\n",
+        frozen_text: &[
+            BEGIN,
+            "Q1,1\n[]\nC0,0\n\n",
+            UNDERSCORES,
+            BUILTIN,
+            CHANGES,
+            DECR_TO_PUSHDEF,
+            SHIFT,
+            SUBSTR_ON,
+            END,
+        ],
+        ..FRESH
+    },
+    Frozen {
+        name: "diversions that were begun out of order",
+        file: "divert(2)two\ndivert(1)one\ndivert(2)dnl\n",
+        frozen_text: &[
+            BEGIN,
+            UNDERSCORES,
+            BUILTIN,
+            CHANGES,
+            DECR_TO_PUSHDEF,
+            SHIFT,
+            SUBSTR_ON,
+            "D1,4\none\n\nD2,4\ntwo\n\n",
+            END,
+        ],
+        ..FRESH
+    },
+    Frozen {
+        name: "a negative current number",
+        file: "divert(-1)junk\n",
+        frozen_text: &[
+            BEGIN,
+            UNDERSCORES,
+            BUILTIN,
+            CHANGES,
+            DECR_TO_PUSHDEF,
+            SHIFT,
+            SUBSTR_ON,
+            "D-1,0\n\n",
+            END,
+        ],
+        ..FRESH
+    },
+    Frozen {
+        name: "a current number without text",
+        file: "divert(3)dnl\n",
+        frozen_text: &[
+            BEGIN,
+            UNDERSCORES,
+            BUILTIN,
+            CHANGES,
+            DECR_TO_PUSHDEF,
+            SHIFT,
+            SUBSTR_ON,
+            "D3,0\n\n",
+            END,
+        ],
+        ..FRESH
+    },
+    Frozen {
+        name: "a string without an end",
+        file: "x\n`abc",
+        output: "x\n",
+        messages: "m4:a.m4:2: ERROR: end of input in string\n",
+        end: (1, Cause::EndInString),
+        frozen_text: &[],
+        ..FRESH
+    },
+];
+
+/// Returns the report on a run, with the parts of its frozen text.
+fn printed(
+    alloc: Global,
+    output: &[u8],
+    messages: &[u8],
+    ending: Ending,
+    frozen_text: &[&str],
+) -> Result<Vec<u8>, AllocError> {
+    let mut report = Report::new(alloc);
+    report.run(output, messages, ending);
+    report.add(b"|");
+    for part in frozen_text {
+        report.add(part.as_bytes());
+    }
+    report.text()
+}
+
+/// Runs over a row's file and reports the run.
+fn seen(
+    rt: &(impl Abort + Alloc<A = Global>),
+    row: &Frozen,
+    block: usize,
+) -> Result<Vec<u8>, AllocError> {
+    let options = Options {
+        prefix: row.prefix,
+        ..freezing(USUAL)
+    };
+    let mut sources = files(rt, &[(b"a.m4", row.file.as_bytes())], block);
+    let seen = run_over(rt, options, &mut None, &mut sources, ROOM, AT_MOST);
+    let mut report = Report::new(rt.alloc());
+    report.run(seen.output.written(), seen.messages.written(), seen.ending);
+    report.add(b"|");
+    report.add(seen.frozen_text.written());
+    report.text()
+}
+
+/// Compares the report on each row, at each size of a block.
+fn compare(rt: &(impl Abort + Alloc<A = Global>), rows: &[Frozen]) {
+    for row in rows {
+        for block in BLOCKS {
+            let (output, messages) = (row.output.as_bytes(), row.messages.as_bytes());
+            let want = printed(
+                rt.alloc(),
+                output,
+                messages,
+                ended(row.end.0, row.end.1),
+                row.frozen_text,
+            );
+            agrees(rt, row.name, want, seen(rt, row, block));
+        }
+    }
+}
+
+#[test]
+fn names_are_frozen(rt: HostRuntime) {
+    compare(&rt, &NAMES);
+}
+
+#[test]
+fn settings_are_frozen(rt: HostRuntime) {
+    compare(&rt, &SETTINGS);
+}
