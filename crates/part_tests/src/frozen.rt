@@ -4,6 +4,7 @@
 //! The offsets and lengths were counted by hand from the format. Manual: "Frozen file format".
 
 mod canon;
+mod each_name;
 mod early;
 mod faults;
 mod listing;
