@@ -16,6 +16,7 @@ mod sessions;
 pub mod shows;
 mod sources;
 mod stacks;
+mod sweeps;
 mod texts;
 mod whole_texts;
 mod wrapped;
