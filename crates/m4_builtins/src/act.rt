@@ -193,7 +193,7 @@ pub fn needs_list(def: &Def) -> bool
     ensures { result ≡ spec.needs_list def.now }
 {
     match def {
-        Def::Builtin(builtin) => builtin.row().needs_args,
+        Def::Builtin(builtin) => builtin.needs_args(),
         Def::Text(_) | Def::Placeholder(_) => false,
     }
 }

@@ -40,7 +40,7 @@ pub(crate) fn define(
     match first {
         Arg::Text(name) => {
             let def = definition_in(rest)?;
-            state.define(name.as_slice(), def)?;
+            state.define_borrowed(name.as_slice(), def)?;
         }
         Arg::Definition(_) => {
             effect.warn(bad_name_message(effect.alloc(), place, Builtin::Define)?);
@@ -68,7 +68,7 @@ pub(crate) fn pushdef(
     match first {
         Arg::Text(name) => {
             let def = definition_in(rest)?;
-            state.push(name.as_slice(), def)?;
+            state.push_borrowed(name.as_slice(), def)?;
         }
         Arg::Definition(_) => {
             effect.warn(bad_name_message(effect.alloc(), place, Builtin::Pushdef)?);

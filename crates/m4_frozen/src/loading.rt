@@ -336,7 +336,7 @@ impl Loading {
         }
         let after = expect_byte(b'\n', after)?;
         let text = Bytes::from_vec(text)?;
-        self.state.push(name.as_slice(), Def::Text(text))?;
+        self.state.push_borrowed(name.as_slice(), Def::Text(text))?;
         Ok(Some(after))
     }
 
@@ -388,12 +388,12 @@ impl Loading {
                 let len = both.len() - *middle;
                 let from = block.len() - (after + 1 + len);
                 let text = block.part(alloc, from, len)?;
-                self.state.push(both.split_at(*middle).0, Def::Text(text))
+                self.state.push_borrowed(both.split_at(*middle).0, Def::Text(text))
             }
             Directive::Text(both, middle) => self.state.push_text(both, *middle),
             Directive::Builtin(name, builtin) => {
                 let builtin = builtin_or_placeholder(alloc, builtin)?;
-                self.state.push(name, builtin)
+                self.state.push_borrowed(name, builtin)
             }
             Directive::Diversion(number, text) => {
                 self.state.divert(*number);

@@ -1,6 +1,6 @@
 -- Standard: the devices over std's readers and writers, as contracts see them.
 -- Not believed: it only names the fields. Words: source_failures, source_takes_left,
--- sink_failures, writer_of.
+-- sink_failures.
 use Rattle.std.specs.Prelude.{ℕ}
 use Rattle.m4_state.specs.declared.standard.StdSource.{StdSource}
 use Rattle.m4_state.specs.declared.standard.StdSink.{StdSink}
@@ -16,7 +16,3 @@ source_takes_left s = s.takes_left
 -- the number of puts of a writer that have failed
 abbrev pub sink_failures : {W : Type 0} → StdSink W → ℕ
 sink_failures s = s.failures
-
--- the writer of std
-abbrev pub writer_of : {W : Type 0} → StdSink W → W
-writer_of s = s.writer

@@ -114,7 +114,7 @@ fn called(
 }
 
 impl Builtin {
-    ghost use Rattle.m4_state.specs.Builtin.{row_of, builtin_named, name_of};
+    ghost use Rattle.m4_state.specs.Builtin.{row_of, builtin_named, name_of, needs_args, takes_tokens};
 
     /// All builtins.
     pub const TABLE: [Builtin; 29] = [
@@ -203,5 +203,19 @@ impl Builtin {
         ensures { result.now ≡ name_of self }
     {
         self.row().name
+    }
+
+    /// Returns whether its name is recognised only with parameters. Manual: "Macro invocation".
+    pub fn needs_args(self) -> bool
+        ensures { result ≡ needs_args self }
+    {
+        self.row().needs_args
+    }
+
+    /// Returns whether a definition may be its argument; if not, it counts as an empty text.
+    pub fn takes_tokens(self) -> bool
+        ensures { result ≡ takes_tokens self }
+    {
+        self.row().takes_tokens
     }
 }

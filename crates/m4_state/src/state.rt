@@ -99,9 +99,9 @@ impl State {
     {
         let mut state = State::empty(alloc)?;
         let empty = Bytes::empty();
-        state.push(b"__gnu__", Def::Text(empty))?;
+        state.push_borrowed(b"__gnu__", Def::Text(empty))?;
         let empty = Bytes::empty();
-        state.push(b"__unix__", Def::Text(empty))?;
+        state.push_borrowed(b"__unix__", Def::Text(empty))?;
         for builtin in Builtin::TABLE {
             state.push_builtin(alloc, prefix, builtin)?;
         }
@@ -118,7 +118,7 @@ impl State {
         ensures { OnOk result (self.new ≡ with_builtin prefix self.old builtin) }
     {
         let name = fresh_name(alloc, prefix, builtin)?;
-        self.push(name.as_slice(), Def::Builtin(builtin))
+        self.push(name, Def::Builtin(builtin))
     }
 
     /// Returns the definitions of a name, the oldest first; none if it has none. The time is
@@ -160,10 +160,20 @@ impl State {
         Ok(self.table.definitions()?)
     }
 
-    /// Pushes a definition on those of a name, which is copied if it is new. Manual: "Temporarily redefining macros".
-    pub fn push(&mut self, name: &[u8], def: Def) -> Result<(), StateFault>
+    /// Pushes a definition on those of a name. Manual: "Temporarily redefining macros".
+    pub fn push(&mut self, name: Bytes, def: Def) -> Result<(), StateFault>
         requires { IsDefinition def }
         // exact steps: the complete new record; if an allocation fails, it is unchanged
+        ensures ok { OnOk result (self.new ≡ pushed self.old name def) }
+        ensures err { OnErr result (self.new ≡ self.old) }
+    {
+        self.push_borrowed(name.as_slice(), def)
+    }
+
+    /// The same with a borrowed name, which is copied only if it is new: a name of the input needs no copy first.
+    #[doc(hidden)]
+    pub fn push_borrowed(&mut self, name: &[u8], def: Def) -> Result<(), StateFault>
+        requires { IsDefinition def }
         ensures ok { OnOk result (self.new ≡ pushed self.old name.now def) }
         ensures err { OnErr result (self.new ≡ self.old) }
     {
@@ -171,11 +181,11 @@ impl State {
         Ok(())
     }
 
-    /// Pushes a copy of the bytes from `middle` on, as a text, on the definitions of the name before them,
-    /// which is copied if it is new. Manual: "Temporarily redefining macros".
+    /// The same with the copy of a text: the bytes before `middle` are the name, those from there on the text. A
+    /// directive has both in one slice.
+    #[doc(hidden)]
     pub fn push_text(&mut self, bytes: &[u8], middle: usize) -> Result<(), StateFault>
         requires { middle ≤ length bytes.now }
-        // exact steps: the complete new record; if an allocation fails, it is unchanged
         ensures ok { OnOk result (self.new ≡ pushed self.old (take middle bytes.now)
             (defs.Text (drop middle bytes.now))) }
         ensures err { OnErr result (self.new ≡ self.old) }
@@ -184,11 +194,20 @@ impl State {
         Ok(())
     }
 
-    /// Replaces the top definition of a name, or adds the first one, with a copy of the name. Manual:
-    /// "Defining a macro".
-    pub fn define(&mut self, name: &[u8], def: Def) -> Result<(), StateFault>
+    /// Replaces the top definition of a name, or adds the first one. Manual: "Defining a macro".
+    pub fn define(&mut self, name: Bytes, def: Def) -> Result<(), StateFault>
         requires { IsDefinition def }
         // exact steps: the complete new record; if an allocation fails, it is unchanged
+        ensures ok { OnOk result (self.new ≡ defined self.old name def) }
+        ensures err { OnErr result (self.new ≡ self.old) }
+    {
+        self.define_borrowed(name.as_slice(), def)
+    }
+
+    /// The same with a borrowed name, which is copied only if it is new.
+    #[doc(hidden)]
+    pub fn define_borrowed(&mut self, name: &[u8], def: Def) -> Result<(), StateFault>
+        requires { IsDefinition def }
         ensures ok { OnOk result (self.new ≡ defined self.old name.now def) }
         ensures err { OnErr result (self.new ≡ self.old) }
     {

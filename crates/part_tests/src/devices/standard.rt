@@ -178,14 +178,15 @@ fn describe_puts(
 
 // Reports writing bytes to a writer.
 fn put_into(alloc: Global, script: &'static [Answer]) -> Result<Vec<u8>, AllocError> {
-    let mut writer = StdSink::new(Scripted {
+    let mut scripted = Scripted {
         script,
         taken: Vec::new(alloc),
-    });
+    };
+    let mut writer = StdSink::new(&mut scripted);
     let first = write_all(&mut writer, b"abcdefgh");
     let second = writer.put(b"ij");
     let mut report = Report::new(alloc);
-    report.add(&writer.into_inner().taken);
+    report.add(&scripted.taken);
     describe_puts(first, second, &mut report);
     report.text()
 }

@@ -52,8 +52,9 @@ static ROWS: [(&str, &[Step], &str); 2] = [
 fn do_step(alloc: Global, state: &mut State, step: Step) -> Result<(), StateFault> {
     match step {
         Step::Define(name, text) => {
+            let name = Bytes::from_slice(alloc, name.as_bytes())?;
             let text = Bytes::from_slice(alloc, text.as_bytes())?;
-            state.define(name.as_bytes(), Def::Text(text))
+            state.define(name, Def::Text(text))
         }
         Step::Undefine(name) => {
             state.undefine(name.as_bytes());

@@ -56,13 +56,13 @@ fn report_of(alloc: Global, name: &[u8]) -> Result<Vec<u8>, AllocError> {
 fn describe(builtin: Builtin, report: &mut Report) {
     report.add(builtin.name());
     report.add(b": ");
-    let row = builtin.row();
-    if row.needs_args {
+    if builtin.needs_args() {
         report.add(b"parameters, ");
     }
-    if row.takes_tokens {
+    if builtin.takes_tokens() {
         report.add(b"definitions, ");
     }
+    let row = builtin.row();
     report.number(row.least);
     match row.most {
         Some(most) => {

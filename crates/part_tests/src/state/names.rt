@@ -4,6 +4,7 @@
 use crate::given::{Given, describe_definition, made, start};
 use crate::report::Report;
 use crate::shows::shows;
+use m4_state::bytes::Bytes;
 use m4_state::definition::Def;
 use m4_state::fault::StateFault;
 use m4_state::state::State;
@@ -167,29 +168,33 @@ fn list_definitions(state: &State, report: &mut Report) {
     }
 }
 
-// Pushes or defines a name.
-fn define(
+// Pushes a definition on those of a name.
+fn push(
     alloc: Global,
     state: &mut State,
-    pushes: bool,
     name: &[u8],
     given: Given,
 ) -> Result<(), StateFault> {
-    let definition = made(alloc, given)?;
-    if pushes {
-        state.push(name, definition)
-    } else {
-        state.define(name, definition)
-    }
+    state.push(Bytes::from_slice(alloc, name)?, made(alloc, given)?)
+}
+
+// Sets the top definition of a name.
+fn define(
+    alloc: Global,
+    state: &mut State,
+    name: &[u8],
+    given: Given,
+) -> Result<(), StateFault> {
+    state.define(Bytes::from_slice(alloc, name)?, made(alloc, given)?)
 }
 
 // Performs a step.
 fn do_step(alloc: Global, state: &mut State, step: Step, report: &mut Report) {
     let done = match step {
-        Step::Push(name, given) => define(alloc, state, true, name.as_bytes(), given),
-        Step::PushByte(byte, given) => define(alloc, state, true, &[byte], given),
+        Step::Push(name, given) => push(alloc, state, name.as_bytes(), given),
+        Step::PushByte(byte, given) => push(alloc, state, &[byte], given),
         Step::PushText(both, middle) => state.push_text(both.as_bytes(), middle.min(both.len())),
-        Step::Define(name, given) => define(alloc, state, false, name.as_bytes(), given),
+        Step::Define(name, given) => define(alloc, state, name.as_bytes(), given),
         Step::Pop(name) => {
             state.pop(name.as_bytes());
             Ok(())

@@ -1,5 +1,5 @@
 use Rattle.std.proofs.Common.{rules}
-use Rattle.m4_state.proofs.state.State.push.Goals as goal
+use Rattle.m4_state.proofs.state.State.push_borrowed.Goals as goal
 
 pub returns-clause-ok : goal.returns-clause-ok
 returns-clause-ok c = search rules
