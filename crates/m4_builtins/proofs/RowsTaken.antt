@@ -11,7 +11,7 @@ use Rattle.m4_state.specs.Builtin.{takes_tokens, least_of, most_of}
 use Rattle.m4_state.specs.State.{State, popped, undefined, with_quotes, with_comments, top_of}
 use Rattle.m4_eval.specs.InRadix.{in_radix}
 use Rattle.m4_builtins.specs.declared.args.Arg.{Arg}
-use Rattle.m4_builtins.specs.Acted.{Effect}
+use Rattle.m4_builtins.specs.declared.effect.Effect.{Effect}
 use Rattle.m4_builtins.specs.declared.number.Reading.{Reading}
 use Rattle.m4_builtins.specs.declared.place.Place.{Place}
 use Rattle.m4_builtins.specs.Args.{text_of_arg, texts_of, only_text, text_at, or_empty, with_spaces}

@@ -1,20 +1,12 @@
 -- Acted: the state and the effect of a call, and the forms that the builtins' rows use for them.
--- Believed. Words: Effect, Acted, IsPushed, nothing, changes, only_warning, gives, expands, warning_first.
-use Rattle.std.specs.Prelude.{ℕ, Bool, false, List, [], ◌++◌, Option, Some, None}
+-- Believed. An effect has the fields of the code's record `Effect` (src/effect.rt).
+-- Words: Acted, IsPushed, nothing, changes, only_warning, gives, expands, warning_first.
+use Rattle.std.specs.Prelude.{ℕ, false, List, [], ◌++◌, Option, Some, None}
 use Rattle.m4_state.specs.Definition.{IsDefinition}
 use Rattle.m4_state.specs.State.{State}
 use Rattle.m4_input.specs.declared.pushed.Pushed.{Pushed}
 use Rattle.m4_input.specs.declared.pushed.Pushed.TheVariants as pushes
-
--- what a call leaves to be done: a value that is inserted before the input, messages, output, a text that is
--- read after all input, whether the rest of the line is skipped, and the code with which the run ends
-pub record Effect : Type 0 where
-  pub push : Option Pushed
-  pub messages : List ℕ
-  pub output : List ℕ
-  pub wrap : Option (List ℕ)
-  pub skip : Bool
-  pub exit : Option ℕ
+use Rattle.m4_builtins.specs.declared.effect.Effect.{Effect}
 
 -- the state and the effect of a call
 pub record Acted : Type 0 where

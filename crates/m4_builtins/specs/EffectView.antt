@@ -1,8 +1,9 @@
 -- EffectView: the meaning of the fields of an effect.
 -- Not believed: it only connects the code with specs/Acted.antt. Words: effect_view, IsEffect.
 use Rattle.std.specs.Prelude.{◌≡◌, false}
-use Rattle.m4_builtins.specs.declared.effect.Effect.TheInside.{Inside}
-use Rattle.m4_builtins.specs.Acted.{Effect, IsPushed, nothing}
+use Rattle.m4_builtins.specs.declared.effect_buffer.EffectBuffer.TheInside.{Inside}
+use Rattle.m4_builtins.specs.declared.effect.Effect.{Effect}
+use Rattle.m4_builtins.specs.Acted.{IsPushed, nothing}
 
 abbrev pub effect_view : Inside → Effect
 effect_view e = record {

@@ -8,7 +8,8 @@ use Rattle.m4_builtins.specs.declared.indirect.Step.{Step}
 use Rattle.m4_builtins.specs.declared.indirect.Step.TheVariants as steps
 use Rattle.m4_builtins.specs.declared.place.Place.{Place}
 use Rattle.m4_builtins.specs.Args.{IsArg}
-use Rattle.m4_builtins.specs.Acted.{Effect, Acted, nothing}
+use Rattle.m4_builtins.specs.declared.effect.Effect.{Effect}
+use Rattle.m4_builtins.specs.Acted.{Acted, nothing}
 use Rattle.m4_builtins.specs.Act.{act}
 
 -- the effect of a call is complete, or is clear and the call is that of a builtin with these arguments

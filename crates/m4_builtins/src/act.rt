@@ -17,6 +17,7 @@ use crate::branching::{ifdef, ifelse, shift};
 use crate::delimiting::{changecom, changequote};
 use crate::diverting::{divert, divnum, undivert};
 use crate::effect::Effect;
+use crate::effect_buffer::EffectBuffer;
 use crate::ending::{m4exit, m4wrap};
 use crate::eval::eval;
 use crate::fault::BuiltinFault;
@@ -48,7 +49,7 @@ pub fn act(
     ensures { IfOk result (λ e. spec.act def.now args.now.name args.now.list place.now state.old
         ≡ record { state = state.new; effect = e }) }
 {
-    let mut effect = Effect::new(alloc);
+    let mut effect = EffectBuffer::new(alloc);
     act_on(
         &mut effect,
         def,
@@ -57,13 +58,13 @@ pub fn act(
         place,
         state,
     )?;
-    Ok(effect)
+    Ok(effect.into_effect())
 }
 
 /// Makes a call whose name and arguments are borrowed, as [`act`] does, and fills an effect that is clear.
 #[doc(hidden)]
 pub fn act_on(
-    effect: &mut Effect,
+    effect: &mut EffectBuffer,
     def: &Def,
     name: &[u8],
     list: &[Arg],
@@ -89,7 +90,7 @@ pub fn act_on(
 /// Calls a builtin. With too few arguments it warns, and most builtins do nothing else. Arguments above
 /// its maximum are ignored, with a warning before the builtin's own.
 fn act_builtin<'a>(
-    effect: &mut Effect,
+    effect: &mut EffectBuffer,
     builtin: Builtin,
     list: &'a [Arg],
     place: &Place,
@@ -124,7 +125,7 @@ fn act_builtin<'a>(
 /// Calls a builtin with enough arguments. If an argument is a definition and the builtin reads a text, it
 /// counts as empty.
 fn row<'a>(
-    effect: &mut Effect,
+    effect: &mut EffectBuffer,
     name: Builtin,
     list: &'a [Arg],
     place: &Place,
@@ -174,7 +175,11 @@ fn row<'a>(
 
 /// Expands as a call with missing arguments does: with one argument, `index` expands to 0, `substr` to all
 /// of it, and `translit` to it unchanged.
-fn give_though_few(effect: &mut Effect, builtin: Builtin, list: &[Arg]) -> Result<(), AllocError>
+fn give_though_few(
+    effect: &mut EffectBuffer,
+    builtin: Builtin,
+    list: &[Arg],
+) -> Result<(), AllocError>
     requires { effect.old ≡ nothing }
     ensures { OnOk result (effect.new ≡ record nothing { push = spec.given_though_few builtin list.now }) }
 {

@@ -7,7 +7,7 @@ ghost use Rattle.m4_builtins.specs.Acted.{nothing};
 ghost use Rattle.m4_builtins.specs.Arithmetic as spec;
 
 use crate::args::{Arg, text_at};
-use crate::effect::Effect;
+use crate::effect_buffer::EffectBuffer;
 use crate::number::number_in;
 use crate::place::Place;
 use itoa::Buffer;
@@ -19,7 +19,7 @@ use std::alloc::AllocError;
 /// Adds 1 to a number; the greatest number wraps to the least. Manual: "Decrement and increment
 /// operators".
 pub(crate) fn incr(
-    effect: &mut Effect,
+    effect: &mut EffectBuffer,
     list: &[Arg],
     place: &Place,
     state: &State,
@@ -43,7 +43,7 @@ pub(crate) fn incr(
 /// Subtracts 1 from a number; the least number wraps to the greatest. Manual: "Decrement and increment
 /// operators".
 pub(crate) fn decr(
-    effect: &mut Effect,
+    effect: &mut EffectBuffer,
     list: &[Arg],
     place: &Place,
     state: &State,
@@ -65,7 +65,7 @@ pub(crate) fn decr(
 }
 
 /// Expands to a number, with these messages.
-fn give_number(effect: &mut Effect, number: i32, messages: Bytes) -> Result<(), AllocError>
+fn give_number(effect: &mut EffectBuffer, number: i32, messages: Bytes) -> Result<(), AllocError>
     requires { effect.old ≡ nothing }
     ensures { OnOk result (effect.new ≡ record nothing {
       push = Some

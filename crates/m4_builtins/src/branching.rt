@@ -7,7 +7,7 @@ ghost use Rattle.m4_builtins.specs.Args.{texts_of, text_of_any};
 ghost use Rattle.m4_builtins.specs.Branching as spec;
 
 use crate::args::{Arg, argument_at, text_at, text_of};
-use crate::effect::Effect;
+use crate::effect_buffer::EffectBuffer;
 use crate::messages::{excess_message, too_few_message};
 use crate::place::Place;
 use crate::substitute::push_quoted;
@@ -17,7 +17,11 @@ use std::alloc::AllocError;
 
 /// Expands to the second argument if the first has a definition, otherwise to the third. Manual:
 /// "Testing if a macro is defined".
-pub(crate) fn ifdef(effect: &mut Effect, list: &[Arg], state: &State) -> Result<(), AllocError>
+pub(crate) fn ifdef(
+    effect: &mut EffectBuffer,
+    list: &[Arg],
+    state: &State,
+) -> Result<(), AllocError>
     requires { effect.old ≡ nothing }
     ensures { OnOk result (spec.ifdef list.now state.now ≡ record { state = state.now; effect = effect.new }) }
 {
@@ -31,7 +35,7 @@ pub(crate) fn ifdef(effect: &mut Effect, list: &[Arg], state: &State) -> Result<
 /// Compares two arguments. Expands to the third if they are equal; otherwise continues after it. Manual:
 /// "If-else construct, or multibranch".
 pub(crate) fn ifelse(
-    effect: &mut Effect,
+    effect: &mut EffectBuffer,
     list: &[Arg],
     place: &Place,
     state: &State,
@@ -79,7 +83,11 @@ fn has_extra(count: usize) -> bool
 }
 
 /// Expands to all arguments but the first, each between quotes. Manual: "Recursion in m4".
-pub(crate) fn shift(effect: &mut Effect, list: &[Arg], state: &State) -> Result<(), AllocError>
+pub(crate) fn shift(
+    effect: &mut EffectBuffer,
+    list: &[Arg],
+    state: &State,
+) -> Result<(), AllocError>
     requires { effect.old ≡ nothing }
     ensures { OnOk result (spec.shift list.now state.now ≡ record { state = state.now; effect = effect.new }) }
 {

@@ -8,7 +8,7 @@ ghost use Rattle.m4_builtins.specs.Diverting as spec;
 ghost use Rattle.m4_builtins.specs.Numeric.{number_of_reading, reading_warning};
 
 use crate::args::{Arg, text_of};
-use crate::effect::Effect;
+use crate::effect_buffer::EffectBuffer;
 use crate::fault::BuiltinFault;
 use crate::number::number_in;
 use crate::place::Place;
@@ -21,7 +21,7 @@ use std::alloc::{AllocError, Global};
 /// Selects the diversion with a number; 0 if there is no argument. An invalid number changes nothing.
 /// Manual: "Diverting output".
 pub(crate) fn divert(
-    effect: &mut Effect,
+    effect: &mut EffectBuffer,
     list: &[Arg],
     place: &Place,
     state: &mut State,
@@ -46,7 +46,7 @@ pub(crate) fn divert(
 /// Undiverts the diversions with these numbers, or all if there is no argument. Invalid numbers are
 /// skipped. Manual: "Undiverting output".
 pub(crate) fn undivert(
-    effect: &mut Effect,
+    effect: &mut EffectBuffer,
     list: &[Arg],
     place: &Place,
     state: &mut State,
@@ -69,7 +69,7 @@ pub(crate) fn undivert(
 }
 
 /// Expands to the number of the current diversion. Manual: "Diversion numbers".
-pub(crate) fn divnum(effect: &mut Effect, state: &State) -> Result<(), AllocError>
+pub(crate) fn divnum(effect: &mut EffectBuffer, state: &State) -> Result<(), AllocError>
     requires { effect.old ≡ nothing }
     ensures { OnOk result (spec.divnum state.now ≡ record { state = state.now; effect = effect.new }) }
 {

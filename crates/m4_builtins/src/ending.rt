@@ -6,7 +6,7 @@ ghost use Rattle.m4_builtins.specs.Acted.{nothing};
 ghost use Rattle.m4_builtins.specs.Ending as spec;
 
 use crate::args::{Arg, text_of};
-use crate::effect::Effect;
+use crate::effect_buffer::EffectBuffer;
 use crate::messages::{bad_status_message, empty_number_message, not_numeric_message};
 use crate::number::{Reading, reading_of};
 use crate::place::Place;
@@ -18,7 +18,11 @@ use std::alloc::AllocError;
 
 /// Saves the arguments, joined by spaces, until all input is read. Manual: "Saving text until end of
 /// input".
-pub(crate) fn m4wrap(effect: &mut Effect, list: &[Arg], state: &State) -> Result<(), AllocError>
+pub(crate) fn m4wrap(
+    effect: &mut EffectBuffer,
+    list: &[Arg],
+    state: &State,
+) -> Result<(), AllocError>
     requires { effect.old ≡ nothing }
     ensures { OnOk result (spec.m4wrap list.now state.now ≡ record { state = state.now; effect = effect.new }) }
 {
@@ -33,7 +37,7 @@ pub(crate) fn m4wrap(effect: &mut Effect, list: &[Arg], state: &State) -> Result
 /// Ends the run with a code: 0 if there is no argument, and 1 with a warning if the argument is no code.
 /// Manual: "Exiting from m4".
 pub(crate) fn m4exit(
-    effect: &mut Effect,
+    effect: &mut EffectBuffer,
     list: &[Arg],
     place: &Place,
     state: &State,
@@ -51,7 +55,7 @@ pub(crate) fn m4exit(
 
 /// Ends the run with the code that an argument was read as.
 fn end_by(
-    effect: &mut Effect,
+    effect: &mut EffectBuffer,
     reading: Reading,
     place: &Place,
     state: &State,

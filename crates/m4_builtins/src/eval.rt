@@ -8,7 +8,7 @@ ghost use Rattle.m4_builtins.specs.Eval as spec;
 ghost use Rattle.m4_builtins.specs.ReadsAs.{ReadsAs};
 
 use crate::args::{Arg, text_at, text_of};
-use crate::effect::Effect;
+use crate::effect_buffer::EffectBuffer;
 use crate::messages::{
     bad_expression_message, divide_by_zero_message, empty_number_message, out_of_range_message,
 };
@@ -27,7 +27,7 @@ use std::alloc::{AllocError, Global};
 /// digits as the third one says. The first invalid argument ends the call with a warning. Manual:
 /// "Evaluating integer expressions".
 pub(crate) fn eval(
-    effect: &mut Effect,
+    effect: &mut EffectBuffer,
     list: &[Arg],
     place: &Place,
     state: &State,

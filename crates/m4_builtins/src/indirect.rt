@@ -13,7 +13,7 @@ ghost use Rattle.m4_builtins.specs.Indirect as spec;
 ghost use Rattle.m4_builtins.specs.Steps.{LeadsTo, IsShorter};
 
 use crate::args::Arg;
-use crate::effect::Effect;
+use crate::effect_buffer::EffectBuffer;
 use crate::fault::BuiltinFault;
 use crate::messages::{
     bad_name_message, unknown_builtin_message, unknown_macro_message, unsupported_message,
@@ -36,7 +36,7 @@ pub(crate) enum Step<'a> {
 /// a builtin's call moves no [`Step`].
 #[inline(always)]
 pub(crate) fn begin<'a>(
-    effect: &mut Effect,
+    effect: &mut EffectBuffer,
     def: &Def,
     name: &[u8],
     list: &'a [Arg],
@@ -65,7 +65,7 @@ pub(crate) fn begin<'a>(
 
 /// Calls the macro that the first argument names. Manual: "Indirect call of macros".
 pub(crate) fn indir<'a>(
-    effect: &mut Effect,
+    effect: &mut EffectBuffer,
     list: &'a [Arg],
     place: &Place,
     state: &State,
@@ -94,7 +94,7 @@ pub(crate) fn indir<'a>(
 
 /// Calls the builtin whose own name is the first argument. Manual: "Indirect call of builtins".
 pub(crate) fn builtin<'a>(
-    effect: &mut Effect,
+    effect: &mut EffectBuffer,
     list: &'a [Arg],
     place: &Place,
     state: &State,

@@ -14,15 +14,16 @@ mod branching;
 mod delimiting;
 mod diverting;
 pub mod effect;
+// What the engine fills and reuses.
+#[doc(hidden)]
+pub mod effect_buffer;
 mod ending;
 mod eval;
 pub mod fault;
 mod indirect;
 pub mod messages;
 mod naming;
-// Public only for the tests: the one reading of numeric arguments.
-#[doc(hidden)]
-pub mod number;
+mod number;
 pub mod place;
 mod printing;
 pub mod substitute;

@@ -11,7 +11,7 @@ ghost use Rattle.m4_builtins.specs.Args.{IsArg, text_of_arg, quoted};
 ghost use Rattle.m4_builtins.specs.Naming as spec;
 
 use crate::args::{Arg, text_of};
-use crate::effect::Effect;
+use crate::effect_buffer::EffectBuffer;
 use crate::fault::BuiltinFault;
 use crate::messages::{bad_name_message, dropped_message};
 use crate::place::Place;
@@ -24,7 +24,7 @@ use std::alloc::{AllocError, Global};
 
 /// Defines the first argument, a name, as the second one. Manual: "Defining a macro".
 pub(crate) fn define(
-    effect: &mut Effect,
+    effect: &mut EffectBuffer,
     list: &[Arg],
     place: &Place,
     state: &mut State,
@@ -52,7 +52,7 @@ pub(crate) fn define(
 /// Pushes the second argument onto the definitions of the first one. Manual: "Temporarily redefining
 /// macros".
 pub(crate) fn pushdef(
-    effect: &mut Effect,
+    effect: &mut EffectBuffer,
     list: &[Arg],
     place: &Place,
     state: &mut State,
@@ -108,7 +108,7 @@ pub(crate) fn popdef(list: &[Arg], state: &mut State)
 
 /// Expands to the definition of a name, or to the texts of several names. Manual: "Renaming macros".
 pub(crate) fn defn(
-    effect: &mut Effect,
+    effect: &mut EffectBuffer,
     list: &[Arg],
     place: &Place,
     state: &State,
@@ -136,7 +136,7 @@ pub(crate) fn defn(
 
 /// Expands to a text between quotes, or to the builtin or placeholder itself; to an empty text if there is none.
 fn give_definition(
-    effect: &mut Effect,
+    effect: &mut EffectBuffer,
     def: Option<&Def>,
     quotes: (&[u8], &[u8]),
 ) -> Result<(), AllocError>

@@ -27,8 +27,7 @@ const MAGNITUDE_LIMIT: usize = 0x8000_0000;
 
 /// Reads a numeric argument. White space may come before a number, and a sign; nothing may follow
 /// it.
-pub fn reading_of(text: &[u8]) -> Reading
-    // exact steps: the result of reading the text
+pub(crate) fn reading_of(text: &[u8]) -> Reading
     ensures { result ≡ spec.reading_of text.now }
 {
     match text {

@@ -8,7 +8,7 @@ ghost use Rattle.m4_builtins.specs.Printing as spec;
 ghost use Rattle.m4_builtins.specs.Args.{texts_of};
 
 use crate::args::{Arg, text_of};
-use crate::effect::Effect;
+use crate::effect_buffer::EffectBuffer;
 use crate::fault::BuiltinFault;
 use crate::messages::unknown_macro_message;
 use crate::place::Place;
@@ -23,7 +23,7 @@ use std::alloc::{AllocError, Global};
 /// the names. Warns of names without a definition before that. Manual: "Displaying macro
 /// definitions".
 pub(crate) fn dumpdef(
-    effect: &mut Effect,
+    effect: &mut EffectBuffer,
     list: &[Arg],
     place: &Place,
     state: &State,
@@ -152,7 +152,11 @@ fn push_bracketed(name: &[u8], messages: &mut Vec<u8>) -> Result<(), AllocError>
 }
 
 /// Writes the arguments, joined by spaces, to the messages. Manual: "Printing error messages".
-pub(crate) fn errprint(effect: &mut Effect, list: &[Arg], state: &State) -> Result<(), AllocError>
+pub(crate) fn errprint(
+    effect: &mut EffectBuffer,
+    list: &[Arg],
+    state: &State,
+) -> Result<(), AllocError>
     requires { effect.old ≡ nothing }
     ensures { OnOk result (spec.errprint list.now state.now ≡ record { state = state.now; effect = effect.new }) }
 {
@@ -166,7 +170,11 @@ pub(crate) fn errprint(effect: &mut Effect, list: &[Arg], state: &State) -> Resu
 
 /// Expands to the name of the input between quotes; to an empty one in wrapped text, whose line is 0.
 /// Manual: "Printing current location".
-pub(crate) fn file(effect: &mut Effect, place: &Place, state: &State) -> Result<(), AllocError>
+pub(crate) fn file(
+    effect: &mut EffectBuffer,
+    place: &Place,
+    state: &State,
+) -> Result<(), AllocError>
     requires { effect.old ≡ nothing }
     ensures { OnOk result (spec.file place.now state.now ≡ record { state = state.now; effect = effect.new }) }
 {
@@ -182,7 +190,11 @@ pub(crate) fn file(effect: &mut Effect, place: &Place, state: &State) -> Result<
 }
 
 /// Expands to the line of the call; to 0 in wrapped text. Manual: "Printing current location".
-pub(crate) fn line(effect: &mut Effect, place: &Place, state: &State) -> Result<(), AllocError>
+pub(crate) fn line(
+    effect: &mut EffectBuffer,
+    place: &Place,
+    state: &State,
+) -> Result<(), AllocError>
     requires { effect.old ≡ nothing }
     ensures { OnOk result (spec.line place.now state.now ≡ record { state = state.now; effect = effect.new }) }
 {

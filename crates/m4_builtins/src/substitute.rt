@@ -9,7 +9,7 @@ ghost use Rattle.m4_builtins.specs.Args.{text_of_arg, texts_of, joined, quoted};
 ghost use Rattle.m4_builtins.specs.Subst.{subst, after_dollar, number_of, nth_text, all_quoted};
 ghost use Rattle.m4_builtins.specs.Numbers.{IsNumber};
 
-use crate::args::{Arg, text_of};
+use crate::args::{Arg, Args, text_of};
 use crate::fault::BuiltinFault;
 use itoa::Buffer;
 use m4_input::lanes::{LANES, len_before};
@@ -24,15 +24,20 @@ use std::alloc::{AllocError, Global};
 pub fn substitute(
     alloc: Global,
     text: &[u8],
-    name: &[u8],
-    list: &[Arg],
+    args: &Args,
     quotes: (&[u8], &[u8]),
 ) -> Result<Bytes, BuiltinFault>
     // exact steps: the text with the arguments substituted
-    ensures { IfOk result (λ b. b ≡ subst text.now name.now list.now (pair_of quotes.entry)) }
+    ensures { IfOk result (λ b. b ≡ subst text.now args.now.name args.now.list (pair_of quotes.entry)) }
 {
     let mut out = Vec::with_capacity(alloc, text.len())?;
-    substitute_onto(&mut out, text, name, list, quotes)?;
+    substitute_onto(
+        &mut out,
+        text,
+        args.name.as_slice(),
+        args.list.as_slice(),
+        quotes,
+    )?;
     Ok(Bytes::from(out))
 }
 

@@ -7,7 +7,7 @@ ghost use Rattle.m4_builtins.specs.Acted.{nothing};
 ghost use Rattle.m4_builtins.specs.Texts as spec;
 
 use crate::args::{Arg, text_at, text_of};
-use crate::effect::Effect;
+use crate::effect_buffer::EffectBuffer;
 use crate::number::number_in;
 use crate::place::Place;
 use itoa::Buffer;
@@ -18,7 +18,7 @@ use memchr::memmem;
 use std::alloc::AllocError;
 
 /// Expands to the number of bytes of the first argument. Manual: "Calculating length of strings".
-pub(crate) fn len(effect: &mut Effect, list: &[Arg], state: &State) -> Result<(), AllocError>
+pub(crate) fn len(effect: &mut EffectBuffer, list: &[Arg], state: &State) -> Result<(), AllocError>
     requires { effect.old ≡ nothing }
     ensures { OnOk result (spec.len list.now state.now ≡ record { state = state.now; effect = effect.new }) }
 {
@@ -28,7 +28,11 @@ pub(crate) fn len(effect: &mut Effect, list: &[Arg], state: &State) -> Result<()
 
 /// Expands to the first place of the second argument in the first one, from 0; to -1 if there is none.
 /// Takes time in proportion to both. Manual: "Searching for substrings".
-pub(crate) fn index(effect: &mut Effect, list: &[Arg], state: &State) -> Result<(), AllocError>
+pub(crate) fn index(
+    effect: &mut EffectBuffer,
+    list: &[Arg],
+    state: &State,
+) -> Result<(), AllocError>
     requires { effect.old ≡ nothing }
     ensures { OnOk result (spec.index list.now state.now ≡ record { state = state.now; effect = effect.new }) }
 {
@@ -43,7 +47,7 @@ pub(crate) fn index(effect: &mut Effect, list: &[Arg], state: &State) -> Result<
 /// as the third one says. Both numbers are read before anything is cut; the first invalid one ends the
 /// call. Manual: "Extracting substrings".
 pub(crate) fn substr(
-    effect: &mut Effect,
+    effect: &mut EffectBuffer,
     list: &[Arg],
     place: &Place,
     state: &State,
@@ -105,7 +109,7 @@ fn place_in(text: &[u8], part: &[u8]) -> Option<usize>
 }
 
 /// Expands to a count in decimal.
-fn give_count(effect: &mut Effect, count: usize) -> Result<(), AllocError>
+fn give_count(effect: &mut EffectBuffer, count: usize) -> Result<(), AllocError>
     requires { effect.old ≡ nothing }
     ensures { OnOk result (effect.new ≡ record nothing { push = Some (pushes.Text (decimal count)) }) }
 {

@@ -9,7 +9,7 @@ ghost use Rattle.m4_builtins.specs.ByteTable.{Replaces};
 ghost use Rattle.m4_builtins.specs.Translit as spec;
 
 use crate::args::{Arg, text_at};
-use crate::effect::Effect;
+use crate::effect_buffer::EffectBuffer;
 use m4_state::state::State;
 use std::alloc::{AllocError, Global};
 
@@ -19,7 +19,11 @@ type Changes = [Option<u8>; 256];
 /// Expands to the first argument with the bytes of the second one replaced by those of the third. Takes
 /// time in proportion to the text and to the expanded ranges. Manual: "Translating
 /// characters".
-pub(crate) fn translit(effect: &mut Effect, list: &[Arg], state: &State) -> Result<(), AllocError>
+pub(crate) fn translit(
+    effect: &mut EffectBuffer,
+    list: &[Arg],
+    state: &State,
+) -> Result<(), AllocError>
     requires { effect.old ≡ nothing }
     ensures { OnOk result (spec.translit list.now state.now ≡ record { state = state.now; effect = effect.new }) }
 {

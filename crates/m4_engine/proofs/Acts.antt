@@ -5,7 +5,7 @@ use Rattle.m4_state.specs.State.{State}
 use Rattle.m4_input.specs.Pending.{Pending, text_of, line_length}
 use Rattle.m4_input.specs.Input.{Held, longer}
 use Rattle.m4_builtins.specs.Act.{Acted, act}
-use Rattle.m4_builtins.specs.Acted.{Effect}
+use Rattle.m4_builtins.specs.declared.effect.Effect.{Effect}
 use Rattle.std.specs.Prelude.{Result, Ok, Err, IfOk}
 use Rattle.m4_engine.specs.declared.turned.Turned.{Turned}
 use Rattle.m4_engine.specs.declared.turned.TurnFault.{TurnFault}

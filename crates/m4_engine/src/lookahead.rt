@@ -13,7 +13,7 @@ use crate::call::OpenCall;
 use crate::front::First;
 use crate::spare::Spare;
 use crate::turned::TurnFault;
-use m4_builtins::effect::Effect;
+use m4_builtins::effect_buffer::EffectBuffer;
 use m4_input::input::Input;
 use m4_state::builtin::Builtin;
 use m4_state::bytes::Bytes;
@@ -65,7 +65,7 @@ impl Meaning {
     #[inline(always)]
     pub fn of(
         spare: &mut Spare,
-        effect: &mut Effect,
+        effect: &mut EffectBuffer,
         state: &State,
         bare: bool,
         name: &[u8],
@@ -107,7 +107,7 @@ impl Lookahead {
     #[inline(always)]
     pub fn of(
         spare: &mut Spare,
-        effect: &mut Effect,
+        effect: &mut EffectBuffer,
         state: &State,
         room: bool,
         first: First<'_>,

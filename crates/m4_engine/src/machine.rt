@@ -21,7 +21,7 @@ mod turn;
 use crate::call::OpenCall;
 use crate::spare::Spare;
 use crate::turned::TurnFault;
-use m4_builtins::effect::Effect;
+use m4_builtins::effect_buffer::EffectBuffer;
 use m4_builtins::messages::error_message;
 use m4_builtins::place::Place;
 use m4_state::bytes::Bytes;
@@ -45,7 +45,7 @@ pub struct Machine {
     saved: Vec<Bytes>,
     spare: Spare,
     // The effect of the call that is made, or of the last one, whose memory the next one takes.
-    effect: Effect,
+    effect: EffectBuffer,
     // The memory of bytes that were joined to look at them.
     joined: Vec<u8>,
 }
@@ -112,7 +112,7 @@ impl Machine {
             messages: Vec::new(alloc),
             saved: Vec::new(alloc),
             spare: Spare::new(alloc),
-            effect: Effect::new(alloc),
+            effect: EffectBuffer::new(alloc),
             joined: Vec::new(alloc),
         }
     }

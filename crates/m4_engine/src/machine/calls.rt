@@ -21,7 +21,7 @@ use crate::call::OpenCall;
 use crate::machine::Machine;
 use crate::turned::{TurnEnd, TurnFault, Turned};
 use m4_builtins::act::act_on;
-use m4_builtins::effect::Effect;
+use m4_builtins::effect_buffer::EffectBuffer;
 use m4_input::input::Input;
 use m4_input::pushed::Pushed;
 use m4_state::bytes::Bytes;
@@ -30,7 +30,7 @@ use m4_state::state::State;
 use std::alloc::AllocError;
 
 /// Acts on the complete arguments of a call: changes the state, and fills an effect that is clear.
-fn act_on_call(effect: &mut Effect, call: &OpenCall, state: &mut State) -> Result<(), TurnFault>
+fn act_on_call(effect: &mut EffectBuffer, call: &OpenCall, state: &mut State) -> Result<(), TurnFault>
     requires { effect.old ≡ nothing }
     ensures { OnOk result (act call.now.definition call.now.name call.now.done call.now.place state.old
         ≡ record { state = state.new; effect = effect.new }) }
@@ -81,7 +81,7 @@ fn push_text(input: &mut Input, text: Bytes) -> Result<(), TurnFault>
 /// Not inlined, since hardly any call makes them.
 #[inline(never)]
 fn put_more(
-    effect: &mut Effect,
+    effect: &mut EffectBuffer,
     messages: &mut Vec<u8>,
     output: &mut Vec<u8>,
     saved: &mut Vec<Bytes>,

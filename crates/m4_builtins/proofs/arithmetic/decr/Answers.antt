@@ -3,7 +3,7 @@ use Rattle.std.specs.Fmt.{signed_decimal}
 use Rattle.std.specs.Int.{int_wrapping_sub}
 use Rattle.std.proofs.lemmas.Result.{IfOk-weaker}
 use Rattle.m4_state.specs.declared.builtin.Builtin.TheVariants.{Decr}
-use Rattle.m4_builtins.specs.Acted.{Effect}
+use Rattle.m4_builtins.specs.declared.effect.Effect.{Effect}
 use Rattle.m4_builtins.specs.Args.{text_at}
 use Rattle.m4_builtins.specs.Acted.{Acted}
 use Rattle.m4_builtins.specs.Numeric.{reading_of, number_of_reading}

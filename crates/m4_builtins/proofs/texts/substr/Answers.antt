@@ -3,7 +3,8 @@ use Rattle.std.specs.Prelude.{FitsSigned}
 use Rattle.std.specs.Int.{w32}
 use Rattle.std.proofs.lemmas.Int.{to_z-of_z}
 use Rattle.m4_input.specs.declared.pushed.Pushed.TheVariants as pushes
-use Rattle.m4_builtins.specs.Acted.{Effect, only_warning}
+use Rattle.m4_builtins.specs.declared.effect.Effect.{Effect}
+use Rattle.m4_builtins.specs.Acted.{only_warning}
 use Rattle.m4_builtins.specs.Args.{text_of_arg}
 use Rattle.m4_builtins.specs.Texts.{from_place, at_most}
 use Rattle.m4_builtins.proofs.Cut.{leaves, pushed_with, number_of, warning_on, read_of, warned_of, substr-no_place, substr-no_count, substr-rest, substr-counted}

@@ -2,7 +2,8 @@ use Rattle.std.proofs.Common.{◌≡◌, ◌++◌, [], ap, sym, ◌∙◌, subst
 use Rattle.std.specs.Prelude.{Option, None}
 use Rattle.m4_input.specs.Input.{longer}
 use Rattle.m4_input.specs.declared.pushed.Pushed.{Pushed}
-use Rattle.m4_builtins.specs.Acted.{Acted, Effect, nothing}
+use Rattle.m4_builtins.specs.declared.effect.Effect.{Effect}
+use Rattle.m4_builtins.specs.Acted.{Acted, nothing}
 use Rattle.m4_engine.specs.Engine.{Engine, with_made}
 use Rattle.m4_engine.specs.Expand.{with_saved, with_value}
 use Rattle.m4_engine.proofs.Acts.{made_and_begun, called_goes, called_skips, called_exits}

@@ -1,0 +1,326 @@
+//! An effect that calls fill in turn, with the memory of the ones before.
+
+ghost use Rattle.std.specs.Prelude.{◌≡◌, ◌++◌, [], OnOk, IfOk, Some, None, true, false, option_copied};
+ghost use Rattle.m4_input.specs.DelimsView.{pair_of};
+
+use crate::args::Arg;
+use crate::effect::Effect;
+use crate::fault::BuiltinFault;
+use crate::substitute::substitute_with;
+use m4_input::pushed::Pushed;
+use m4_state::bytes::Bytes;
+use m4_state::definition::Def;
+use std::alloc::{AllocError, Global};
+use std::marker::Model;
+
+/// An [`Effect`] that the engine keeps. Calls fill it in turn, so that most of them ask for no memory: a text that is
+/// made has the memory of `buffer`, which the run gives back when that text was read. Most calls leave nothing to do but
+/// to insert a value, which `has_more` says in one test. A definition that is inserted is valid.
+pub struct EffectBuffer {
+    push: Option<Pushed>,
+    buffer: Vec<u8>,
+    has_more: bool,
+    messages: Bytes,
+    output: Bytes,
+    wrap: Option<Bytes>,
+    skip: bool,
+    exit: Option<u8>,
+}
+
+impl Model for EffectBuffer {
+    ghost use Rattle.m4_builtins.specs.declared.effect.Effect.{Effect as Filled};
+    ghost use Rattle.m4_builtins.specs.EffectView.{effect_view, IsEffect};
+
+    ghost Value = { Filled };
+
+    ghost view = { effect_view };
+
+    ghost invariant = { IsEffect };
+}
+
+// Written out so that a caller's proof contains one call, not the drop of each field.
+impl Drop for EffectBuffer {
+    fn drop(self) {
+        let EffectBuffer {
+            push: _push,
+            buffer: _buffer,
+            has_more: _has_more,
+            messages: _messages,
+            output: _output,
+            wrap: _wrap,
+            skip: _skip,
+            exit: _exit,
+        } = self;
+    }
+}
+
+impl EffectBuffer {
+    ghost use Rattle.m4_input.specs.declared.pushed.Pushed.TheVariants as pushes;
+    ghost use Rattle.m4_state.specs.Definition.{IsDefinition};
+    ghost use Rattle.m4_builtins.specs.Acted.{IsPushed, nothing};
+    ghost use Rattle.m4_builtins.specs.Args.{text_of_any};
+    ghost use Rattle.m4_builtins.specs.Subst.{subst};
+
+    /// Creates an effect that leaves nothing to do.
+    pub fn new(alloc: Global) -> EffectBuffer
+        ensures { result ≡ nothing }
+    {
+        EffectBuffer {
+            push: None,
+            buffer: Vec::new(alloc),
+            has_more: false,
+            messages: Bytes::empty(),
+            output: Bytes::empty(),
+            wrap: None,
+            skip: false,
+            exit: None,
+        }
+    }
+
+    /// Returns the effect as a record of its own.
+    pub(crate) fn into_effect(self) -> Effect
+        ensures { result ≡ self }
+    {
+        let EffectBuffer {
+            push,
+            buffer: _buffer,
+            has_more: _has_more,
+            messages,
+            output,
+            wrap,
+            skip,
+            exit,
+        } = self;
+        Effect {
+            push,
+            messages,
+            output,
+            wrap,
+            skip,
+            exit,
+        }
+    }
+
+    /// Makes this an effect that leaves nothing to do. Its memory is kept.
+    pub fn clear(&mut self)
+        ensures { self.new ≡ nothing }
+    {
+        self.push = None;
+        if self.has_more {
+            self.clear_more();
+        }
+    }
+
+    /// Leaves nothing to do but to insert the value.
+    #[inline(never)]
+    fn clear_more(&mut self)
+        ensures { self.new ≡ record nothing { push = self.old.push } }
+    {
+        self.has_more = false;
+        self.wrap = None;
+        self.skip = false;
+        self.exit = None;
+        // Hardly any call makes them, so their memory is not kept.
+        self.messages = Bytes::empty();
+        self.output = Bytes::empty();
+    }
+
+    /// Returns whether there is more to do than to insert a value.
+    pub fn has_more(&self) -> bool
+        ensures { result ≡ false → self.now ≡ record nothing { push = self.now.push } }
+    {
+        self.has_more
+    }
+
+    /// Returns whether its buffer has memory for a text.
+    pub fn has_memory(&self) -> bool {
+        self.buffer.capacity() > 0
+    }
+
+    /// Gives it memory for the next text that is made: that of a buffer whose contents are discarded.
+    pub fn lend(&mut self, buffer: Vec<u8>)
+        ensures { self.new ≡ self.old }
+    {
+        self.buffer = buffer;
+    }
+
+    /// Removes the value that is inserted before the input, and returns it. A definition is valid.
+    pub fn take_push(&mut self) -> Option<Pushed>
+        ensures value { result ≡ self.old.push }
+        ensures valid { IsPushed result }
+        ensures rest { self.new ≡ record self.old { push = None } }
+    {
+        self.push.take()
+    }
+
+    /// Returns a text with a call's name and arguments substituted, by these quotes, in the memory of the effect.
+    pub fn expand(
+        &mut self,
+        text: &Bytes,
+        name: &[u8],
+        list: &[Arg],
+        quotes: (&[u8], &[u8]),
+    ) -> Result<Bytes, BuiltinFault>
+        // exact steps: the text with the arguments substituted
+        ensures text { IfOk result (λ b. b ≡ subst text.now name.now list.now (pair_of quotes.entry)) }
+        ensures stays { self.new ≡ self.old }
+    {
+        substitute_with(&mut self.buffer, text, name, list, quotes)
+    }
+
+    /// Returns the messages to be written.
+    pub fn messages(&self) -> &[u8]
+        ensures { result.now ≡ self.now.messages }
+    {
+        self.messages.as_slice()
+    }
+
+    /// Returns the output to be written at once.
+    pub fn output(&self) -> &[u8]
+        ensures { result.now ≡ self.now.output }
+    {
+        self.output.as_slice()
+    }
+
+    /// Removes the text that is read after all input, and returns it.
+    pub fn take_wrap(&mut self) -> Option<Bytes>
+        ensures taken { result ≡ self.old.wrap }
+        ensures rest { self.new ≡ record self.old { wrap = None } }
+    {
+        self.wrap.take()
+    }
+
+    /// Returns whether the rest of the line is skipped.
+    pub fn skips(&self) -> bool
+        ensures { result ≡ self.now.skip }
+    {
+        self.skip
+    }
+
+    /// Returns the code with which the run ends here.
+    pub fn exit(&self) -> Option<u8>
+        ensures { result ≡ self.now.exit }
+    {
+        self.exit
+    }
+
+    /// Returns the allocator of the effect's texts.
+    pub(crate) fn alloc(&self) -> Global {
+        *self.buffer.allocator()
+    }
+
+    /// Returns an empty buffer for a text that is then inserted by `give`.
+    pub(crate) fn buffer(&mut self) -> Vec<u8>
+        requires { self.old ≡ nothing }
+        ensures empty { result.items ≡ [] }
+        ensures stays { self.new ≡ nothing }
+    {
+        let alloc = self.alloc();
+        let mut buffer = std::mem::replace(&mut self.buffer, Vec::new(alloc));
+        buffer.clear();
+        buffer
+    }
+
+    /// Inserts a text before the input.
+    pub(crate) fn give(&mut self, text: Vec<u8>)
+        ensures { self.new ≡ record self.old { push = Some (pushes.Text text.items) } }
+    {
+        self.buffer = text;
+        self.push = Some(Pushed::Text(Bytes::take_from(&mut self.buffer)));
+    }
+
+    /// Inserts this text before the input.
+    pub(crate) fn give_text(&mut self, text: Bytes)
+        ensures { self.new ≡ record self.old { push = Some (pushes.Text text) } }
+    {
+        self.push = Some(Pushed::Text(text));
+    }
+
+    /// Inserts a copy of a text before the input.
+    pub(crate) fn give_copy(&mut self, text: &[u8]) -> Result<(), AllocError>
+        ensures { OnOk result (self.new ≡ record self.old { push = Some (pushes.Text text.now) }) }
+    {
+        self.push = Some(Pushed::Text(Bytes::copy_with(&mut self.buffer, text)?));
+        Ok(())
+    }
+
+    /// Inserts a text before the input, shared if it is long.
+    pub(crate) fn give_shared(&mut self, text: &Bytes) -> Result<(), AllocError>
+        ensures { OnOk result (self.new ≡ record self.old { push = Some (pushes.Text text.now) }) }
+    {
+        self.push = Some(Pushed::Text(text.share_with(&mut self.buffer)?));
+        Ok(())
+    }
+
+    /// Inserts the text of an argument before the input: a definition, or none, counts as empty.
+    pub(crate) fn give_argument(&mut self, arg: Option<&Arg>) -> Result<(), AllocError>
+        ensures { OnOk result (self.new ≡ record self.old
+            { push = Some (pushes.Text (text_of_any (option_copied arg.entry))) }) }
+    {
+        match arg {
+            Some(Arg::Text(text)) => self.give_shared(text),
+            Some(Arg::Definition(_)) | None => self.give_copy(&[]),
+        }
+    }
+
+    /// Inserts a definition before the input.
+    pub(crate) fn give_definition(&mut self, definition: Def)
+        requires { IsDefinition definition }
+        ensures { self.new ≡ record self.old { push = Some (pushes.Definition definition) } }
+    {
+        self.push = Some(Pushed::Definition(definition));
+    }
+
+    /// Sets the messages.
+    pub(crate) fn warn(&mut self, messages: Bytes)
+        ensures { self.new ≡ record self.old { messages = messages } }
+    {
+        // Builtins that read numbers always set them, and mostly there are none.
+        self.has_more |= !messages.as_slice().is_empty();
+        self.messages = messages;
+    }
+
+    /// Inserts a message before the others.
+    pub(crate) fn warn_first(&mut self, message: Bytes) -> Result<(), AllocError>
+        ensures { OnOk result (self.new ≡ record self.old { messages = message ++ self.old.messages }) }
+    {
+        let mut messages = Vec::new(self.alloc());
+        messages.extend_from_slice(message.as_slice())?;
+        messages.extend_from_slice(self.messages.as_slice())?;
+        self.has_more = true;
+        self.messages = Bytes::from(messages);
+        Ok(())
+    }
+
+    /// Sets the output that is written at once.
+    pub(crate) fn issue(&mut self, output: Bytes)
+        ensures { self.new ≡ record self.old { output = output } }
+    {
+        self.has_more = true;
+        self.output = output;
+    }
+
+    /// Saves a text until all input is read.
+    pub(crate) fn save(&mut self, text: Bytes)
+        ensures { self.new ≡ record self.old { wrap = Some text } }
+    {
+        self.has_more = true;
+        self.wrap = Some(text);
+    }
+
+    /// Skips the rest of the line.
+    pub(crate) fn skip_line(&mut self)
+        ensures { self.new ≡ record self.old { skip = true } }
+    {
+        self.has_more = true;
+        self.skip = true;
+    }
+
+    /// Ends the run with a code.
+    pub(crate) fn end_with(&mut self, code: u8)
+        ensures { self.new ≡ record self.old { exit = Some code } }
+    {
+        self.has_more = true;
+        self.exit = Some(code);
+    }
+}
