@@ -18,6 +18,7 @@ use Rattle.m4_eval.specs.Evaluated.{evaluated}
 use Rattle.m4_eval.specs.InRadix.{radix_at, in_radix}
 use Rattle.m4_builtins.specs.declared.args.Arg.{Arg}
 use Rattle.m4_builtins.specs.declared.args.Arg.TheVariants as args
+use Rattle.m4_builtins.specs.declared.effect.Effect.{Effect}
 use Rattle.m4_builtins.specs.declared.number.Reading.{Reading}
 use Rattle.m4_builtins.specs.declared.number.Reading.TheVariants.{Number, Empty, NotNumeric}
 use Rattle.m4_builtins.specs.declared.place.Place.{Place}
@@ -32,7 +33,7 @@ use Rattle.m4_builtins.specs.Arithmetic.{incr, decr}
 use Rattle.m4_builtins.specs.Texts.{substr}
 use Rattle.m4_builtins.specs.Messages.{bad_status, empty_number}
 use Rattle.m4_builtins.specs.Ending.{exits, exits_by, exits_reading, m4exit}
-use Rattle.m4_builtins.specs.Eval.{if_radix, with_radix, if_width, with_width, if_value, with_value, with_digits, eval}
+use Rattle.m4_builtins.specs.Eval.{if_radix, with_radix, if_width, with_width, if_value, with_value, eval}
 use Rattle.m4_builtins.specs.Indirect.{Inner, called_by_name, indir, done_by_name, builtin}
 use Rattle.m4_builtins.specs.Act.{row, taken, given_though_few, act_unless, act_with, goes_on, act}
 use Rattle.m4_builtins.proofs.NumbersFit.{IsReading, reading_fits}
@@ -76,16 +77,16 @@ module _ (p : Place) where
   given_is q (Some (defs.Builtin b)) h = h (defs.Builtin b) refl
   given_is q (Some (defs.Placeholder x)) h = h (defs.Placeholder x) refl
 
-  defn_is : (list : List Arg) (s : State) → IsState s → IsActed (defn list p s)
-  defn_is [] s h = record { state = h; push = tt }
-  defn_is (a ∷ []) s h = record { state = h; push = given_is s.quotes (top_of s (text_of_arg a)) (λ d e. top_definition s (text_of_arg a) d h e) }
-  defn_is (a ∷ b ∷ rest) s h = record { state = h; push = tt }
+  defn_is : (list : List Arg) (s : State) → IsState s → IsPushed (defn list p s).push
+  defn_is [] s h = tt
+  defn_is (a ∷ []) s h = given_is s.quotes (top_of s (text_of_arg a)) (λ d e. top_definition s (text_of_arg a) d h e)
+  defn_is (a ∷ b ∷ rest) s h = tt
 
-  ifelse_is : (list : List Arg) (s : State) → IsState s → IsActed (ifelse list p s)
-  ifelse_is [] s h = record { state = h; push = tt }
-  ifelse_is (a ∷ []) s h = record { state = h; push = tt }
-  ifelse_is (a ∷ b ∷ []) s h = record { state = h; push = tt }
-  ifelse_is (a ∷ b ∷ c ∷ rest) s h = record { state = h; push = tt }
+  ifelse_is : (list : List Arg) → IsPushed (ifelse list p).push
+  ifelse_is [] = tt
+  ifelse_is (a ∷ []) = tt
+  ifelse_is (a ∷ b ∷ []) = tt
+  ifelse_is (a ∷ b ∷ c ∷ rest) = tt
 
   divert_by : (r : Reading) (s : State) → IsState s → IsReading r → IsState (diverted_if s (number_of_reading r))
   divert_by (Number n) s h fits = IsState-diverted s n h fits
@@ -104,81 +105,77 @@ module _ (p : Place) where
   undivert_is [] s h = record { state = brought_back_is (held_numbers s) s h; push = tt }
   undivert_is (a ∷ rest) s h = record { state = brought_back_is (filter_map number_of_reading (readings_of (a ∷ rest))) s h; push = tt }
 
-  number_is : (b : Builtin) (s : State) (r : Reading) (does : ℤ → Acted) → IsState s → ((n : ℤ) → IsActed (does n)) → IsActed (with_number p b s r does)
-  number_is b s (Number n) does h each = each n
-  number_is b s Empty does h each = record { state = (each (pos 0)).state; push = (each (pos 0)).push }
-  number_is b s NotNumeric does h each = record { state = h; push = tt }
+  number_is : (b : Builtin) (r : Reading) (does : ℤ → Effect) → ((n : ℤ) → IsPushed (does n).push) → IsPushed (with_number p b r does).push
+  number_is b (Number n) does each = each n
+  number_is b Empty does each = each (pos 0)
+  number_is b NotNumeric does each = tt
 
-  substr_is : (list : List Arg) (s : State) → IsState s → IsActed (substr list p s)
-  substr_is [] s h = record { state = h; push = tt }
-  substr_is (a ∷ []) s h = record { state = h; push = tt }
-  substr_is (a ∷ b ∷ []) s h = number_is Substr s (reading_of (text_of_arg b)) _ h (λ n. record { state = h; push = tt })
-  substr_is (a ∷ b ∷ c ∷ rest) s h =
-      number_is Substr s (reading_of (text_of_arg b)) _ h
-      (λ n. number_is Substr s (reading_of (text_of_arg c)) _ h (λ m. record { state = h; push = tt }))
+  substr_is : (list : List Arg) → IsPushed (substr list p).push
+  substr_is [] = tt
+  substr_is (a ∷ []) = tt
+  substr_is (a ∷ b ∷ []) = number_is Substr (reading_of (text_of_arg b)) _ (λ n. tt)
+  substr_is (a ∷ b ∷ c ∷ rest) =
+      number_is Substr (reading_of (text_of_arg b)) _ (λ n. number_is Substr (reading_of (text_of_arg c)) _ (λ m. tt))
 
-  incr_is : (list : List Arg) (s : State) → IsState s → IsActed (incr list p s)
-  incr_is list s h = number_is Incr s (reading_of (text_at list 0)) _ h (λ n. record { state = h; push = tt })
+  incr_is : (list : List Arg) → IsPushed (incr list p).push
+  incr_is list = number_is Incr (reading_of (text_at list 0)) _ (λ n. tt)
 
-  decr_is : (list : List Arg) (s : State) → IsState s → IsActed (decr list p s)
-  decr_is list s h = number_is Decr s (reading_of (text_at list 0)) _ h (λ n. record { state = h; push = tt })
+  decr_is : (list : List Arg) → IsPushed (decr list p).push
+  decr_is list = number_is Decr (reading_of (text_at list 0)) _ (λ n. tt)
 
-  radix_is : (does : ℕ → Acted) (s : State) (o : Option ℕ) → IsState s → ((radix : ℕ) → IsActed (does radix)) → IsActed (if_radix p s does o)
-  radix_is does s (Some radix) h each = each radix
-  radix_is does s None h each = record { state = h; push = tt }
+  radix_is : (does : ℕ → Effect) (o : Option ℕ) → ((radix : ℕ) → IsPushed (does radix).push) → IsPushed (if_radix p does o).push
+  radix_is does (Some radix) each = each radix
+  radix_is does None each = tt
 
-  width_is : (does : ℕ → Acted) (s : State) (n : ℤ) → IsState s → ((width : ℕ) → IsActed (does width)) → IsActed (if_width p s does n)
-  width_is does s (pos n) h each = each n
-  width_is does s (negsuc n) h each = record { state = h; push = tt }
+  width_is : (does : ℕ → Effect) (n : ℤ) → ((width : ℕ) → IsPushed (does width).push) → IsPushed (if_width p does n).push
+  width_is does (pos n) each = each n
+  width_is does (negsuc n) each = tt
 
-  value_is : (does : ℤ → Acted) (s : State) (v : Evaluated) → IsState s → ((n : ℤ) → IsActed (does n)) → IsActed (if_value p s does v)
-  value_is does s (Value n) h each = each n
-  value_is does s DivideByZero h each = record { state = h; push = tt }
-  value_is does s BadExpression h each = record { state = h; push = tt }
+  value_is : (does : ℤ → Effect) (v : Evaluated) → ((n : ℤ) → IsPushed (does n).push) → IsPushed (if_value p does v).push
+  value_is does (Value n) each = each n
+  value_is does DivideByZero each = tt
+  value_is does BadExpression each = tt
 
-  with_radix_is : (x : List ℕ) (does : ℕ → Acted) (s : State) → IsState s → ((radix : ℕ) → IsActed (does radix)) → IsActed (with_radix p s x does)
-  with_radix_is [] does s h each = each 10
-  with_radix_is (b ∷ x) does s h each = number_is Eval s (reading_of (b ∷ x)) _ h (λ n. radix_is does s (radix_at n) h each)
+  with_radix_is : (x : List ℕ) (does : ℕ → Effect) → ((radix : ℕ) → IsPushed (does radix).push) → IsPushed (with_radix p x does).push
+  with_radix_is [] does each = each 10
+  with_radix_is (b ∷ x) does each = number_is Eval (reading_of (b ∷ x)) _ (λ n. radix_is does (radix_at n) each)
 
-  with_width_is : (o : Option (List ℕ)) (does : ℕ → Acted) (s : State) → IsState s → ((width : ℕ) → IsActed (does width)) → IsActed (with_width p s o does)
-  with_width_is None does s h each = each 0
-  with_width_is (Some x) does s h each = number_is Eval s (reading_of x) _ h (λ n. width_is does s n h each)
+  with_width_is : (o : Option (List ℕ)) (does : ℕ → Effect) → ((width : ℕ) → IsPushed (does width).push) → IsPushed (with_width p o does).push
+  with_width_is None does each = each 0
+  with_width_is (Some x) does each = number_is Eval (reading_of x) _ (λ n. width_is does n each)
 
-  with_value_is : (x : List ℕ) (does : ℤ → Acted) (s : State) → IsState s → ((n : ℤ) → IsActed (does n)) → IsActed (with_value p s x does)
-  with_value_is x does s h each = by (list_all is_space x)
+  with_value_is : (x : List ℕ) (does : ℤ → Effect) → ((n : ℤ) → IsPushed (does n).push) → IsPushed (with_value p x does).push
+  with_value_is x does each = by (list_all is_space x)
     where
-      by : (b : Bool) → IsActed (if b then warning_first (empty_number p Eval) (does (pos 0)) else if_value p s does (evaluated x))
-      by true = record { state = (each (pos 0)).state; push = (each (pos 0)).push }
-      by false = value_is does s (evaluated x) h each
+      by : (b : Bool) → IsPushed (if b then warning_first (empty_number p Eval) (does (pos 0)) else if_value p does (evaluated x)).push
+      by true = each (pos 0)
+      by false = value_is does (evaluated x) each
 
-  digits_are : (list : List Arg) (s : State) (does : List ℕ → Acted) → IsState s → ((x : List ℕ) → IsActed (does x)) → IsActed (with_digits list p s does)
-  digits_are list s does h each =
-      let written : ℕ → ℕ → ℤ → Acted = λ radix width n. does (in_radix radix width n) in
-      let after_width : ℕ → ℕ → Acted = λ radix width. with_value p s (text_at list 0) (written radix width) in
-      let after_radix : ℕ → Acted = λ radix. with_width p s (slice_get (texts_of list) 2) (after_width radix) in
-      with_radix_is (text_at list 1) after_radix s h
-      (λ radix. with_width_is (slice_get (texts_of list) 2) (after_width radix) s h
-      (λ width. with_value_is (text_at list 0) (written radix width) s h (λ n. each (in_radix radix width n))))
+  eval_is : (list : List Arg) → IsPushed (eval list p).push
+  eval_is list =
+      let written : ℕ → ℕ → ℤ → Effect = λ radix width n. expands (in_radix radix width n) in
+      let after_width : ℕ → ℕ → Effect = λ radix width. with_value p (text_at list 0) (written radix width) in
+      let after_radix : ℕ → Effect = λ radix. with_width p (slice_get (texts_of list) 2) (after_width radix) in
+      with_radix_is (text_at list 1) after_radix
+      (λ radix. with_width_is (slice_get (texts_of list) 2) (after_width radix)
+      (λ width. with_value_is (text_at list 0) (written radix width) (λ n. tt)))
 
-  eval_is : (list : List Arg) (s : State) → IsState s → IsActed (eval list p s)
-  eval_is list s h = digits_are list s (expands s) h (λ x. record { state = h; push = tt })
-
-  exits_by_is : (n : ℤ) (s : State) → IsState s → IsActed (exits_by n p s)
-  exits_by_is (pos n) s h = by (nat_le n 255)
+  exits_by_is : (n : ℤ) → IsPushed (exits_by n p).push
+  exits_by_is (pos n) = by (nat_le n 255)
     where
-      by : (b : Bool) → IsActed (if b then exits s n else warning_first (bad_status p) (exits s 1))
-      by true = record { state = h; push = tt }
-      by false = record { state = h; push = tt }
-  exits_by_is (negsuc n) s h = record { state = h; push = tt }
+      by : (b : Bool) → IsPushed (if b then exits n else warning_first (bad_status p) (exits 1)).push
+      by true = tt
+      by false = tt
+  exits_by_is (negsuc n) = tt
 
-  exits_reading_is : (r : Reading) (s : State) → IsState s → IsActed (exits_reading r p s)
-  exits_reading_is (Number n) s h = exits_by_is n s h
-  exits_reading_is Empty s h = record { state = h; push = tt }
-  exits_reading_is NotNumeric s h = record { state = h; push = tt }
+  exits_reading_is : (r : Reading) → IsPushed (exits_reading r p).push
+  exits_reading_is (Number n) = exits_by_is n
+  exits_reading_is Empty = tt
+  exits_reading_is NotNumeric = tt
 
-  m4exit_is : (list : List Arg) (s : State) → IsState s → IsActed (m4exit list p s)
-  m4exit_is [] s h = record { state = h; push = tt }
-  m4exit_is (a ∷ rest) s h = exits_reading_is (reading_of (text_of_arg a)) s h
+  m4exit_is : (list : List Arg) → IsPushed (m4exit list p).push
+  m4exit_is [] = tt
+  m4exit_is (a ∷ rest) = exits_reading_is (reading_of (text_of_arg a))
 
   few_is : (b : Builtin) (list : List Arg) → IsPushed (given_though_few b list)
   few_is Index (a ∷ []) = tt
@@ -221,11 +218,11 @@ module _ (p : Place) where
     row_is Changecom list s h v = record { state = IsState-with_comments s (text_at list 0) (text_at list 1) h; push = tt }
     row_is Pushdef list s h v = pushdef_is list s h v
     row_is Popdef list s h v = record { state = each_is popped (λ t name is. IsState-popped t name is) list s h; push = tt }
-    row_is Defn list s h v = defn_is list s h
+    row_is Defn list s h v = record { state = h; push = defn_is list s h }
     row_is Indir list s h v = indir_is list s h
     row_is IndirBuiltin list s h v = builtin_is list s h
     row_is Ifdef list s h v = record { state = h; push = tt }
-    row_is Ifelse list s h v = ifelse_is list s h
+    row_is Ifelse list s h v = record { state = h; push = ifelse_is list }
     row_is Shift list s h v = record { state = h; push = tt }
     row_is Dumpdef list s h v = record { state = h; push = tt }
     row_is Divert list s h v = divert_is list s h
@@ -233,14 +230,14 @@ module _ (p : Place) where
     row_is Divnum list s h v = record { state = h; push = tt }
     row_is Len list s h v = record { state = h; push = tt }
     row_is Index list s h v = record { state = h; push = tt }
-    row_is Substr list s h v = substr_is list s h
+    row_is Substr list s h v = record { state = h; push = substr_is list }
     row_is Translit list s h v = record { state = h; push = tt }
-    row_is Incr list s h v = incr_is list s h
-    row_is Decr list s h v = decr_is list s h
-    row_is Eval list s h v = eval_is list s h
+    row_is Incr list s h v = record { state = h; push = incr_is list }
+    row_is Decr list s h v = record { state = h; push = decr_is list }
+    row_is Eval list s h v = record { state = h; push = eval_is list }
     row_is Errprint list s h v = record { state = h; push = tt }
     row_is M4wrap list s h v = record { state = h; push = tt }
-    row_is M4exit list s h v = m4exit_is list s h
+    row_is M4exit list s h v = record { state = h; push = m4exit_is list }
     row_is File list s h v = record { state = h; push = tt }
     row_is Line list s h v = record { state = h; push = tt }
 

@@ -2,13 +2,12 @@
 use Rattle.std.proofs.Common.{◌≡◌, ℕ, ◌-◌, ◌<◌, ◌≤◌, ℤ, List, [], ◌∷◌, ◌++◌, append-nil, append_assoc, length, length-drop, take, drop, get_or, Option, Some, None, refl, sym, ap, ◌∙◌, arith}
 use Rattle.std.proofs.lemmas.List.{take_all}
 use Rattle.m4_state.specs.declared.builtin.Builtin.TheVariants.{Substr}
-use Rattle.m4_state.specs.State.{State}
 use Rattle.m4_input.specs.declared.pushed.Pushed.TheVariants as pushes
 use Rattle.m4_builtins.specs.declared.args.Arg.{Arg}
 use Rattle.m4_builtins.specs.declared.effect.Effect.{Effect}
 use Rattle.m4_builtins.specs.declared.place.Place.{Place}
 use Rattle.m4_builtins.specs.Args.{text_of_arg}
-use Rattle.m4_builtins.specs.Acted.{Acted, nothing, only_warning, expands, warning_first}
+use Rattle.m4_builtins.specs.Acted.{nothing, only_warning, expands, warning_first}
 use Rattle.m4_builtins.specs.Numeric.{reading_of, number_of_reading, reading_warning, with_number}
 use Rattle.m4_builtins.specs.Texts.{substr, from_place, at_most}
 use Rattle.m4_builtins.proofs.WithNumber.{with_number-some, with_number-none}
@@ -30,92 +29,88 @@ pub warned_of : (p : Place) (old new messages x : List ℕ) (a : Arg) → old �
 warned_of p old new messages x a was warned same =
     warned ∙ (λ i. was i ++ reading_warning p Substr (reading_of (same i)))
 
--- the state stays, and an effect is left
-abbrev pub leaves : State → Effect → Acted
-leaves s e = record { state = s; effect = e }
-
 -- what is left where a text is pushed, and messages are added at the end
-pub pushed_with : (s : State) (r : Acted) (e : Effect) (messages warnings text part : List ℕ) → r ≡ warning_first warnings (expands s part)
+pub pushed_with : (r e : Effect) (messages warnings text part : List ℕ) → r ≡ warning_first warnings (expands part)
     → e ≡ record nothing { push = Some (pushes.Text text) } → text ≡ part → messages ≡ warnings
-    → r ≡ leaves s (record e { messages = messages })
-pushed_with s r e messages warnings text part gives effect same warned =
+    → r ≡ record e { messages = messages }
+pushed_with r e messages warnings text part gives effect same warned =
     gives
-    ∙ ap (λ (x : List ℕ). leaves s (record nothing { push = Some (pushes.Text part); messages = x })) (append-nil warnings)
-    ∙ (λ i. leaves s (record nothing { push = Some (pushes.Text (sym same i)); messages = sym warned i }))
-    ∙ ap (λ (f : Effect). leaves s (record f { messages = messages })) (sym effect)
+    ∙ ap (λ (x : List ℕ). (record nothing { push = Some (pushes.Text part); messages = x })) (append-nil warnings)
+    ∙ (λ i. (record nothing { push = Some (pushes.Text (sym same i)); messages = sym warned i }))
+    ∙ ap (λ (f : Effect). (record f { messages = messages })) (sym effect)
 
 -- a part of a text, by the arguments after its place
-abbrev counted : Place → State → List Arg → List ℕ → Acted
-counted p s [] part = expands s part
-counted p s (c ∷ rest) part =
-    with_number p Substr s (reading_of (text_of_arg c)) (λ count. expands s (at_most count part))
+abbrev counted : Place → List Arg → List ℕ → Effect
+counted p [] part = expands part
+counted p (c ∷ rest) part =
+    with_number p Substr (reading_of (text_of_arg c)) (λ count. expands (at_most count part))
 
 -- all that comes after the second
 after_second : (list : List Arg) → take (length list - 2) (drop 2 list) ≡ drop 2 list
 after_second list = take_all (length list - 2) (drop 2 list) (omega (arith, length-drop 2 list))
 
-module _ (p : Place) (s : State) where
-  counted-none : (counts : List Arg) (part : List ℕ) → length counts < 1 → counted p s counts part ≡ expands s part
+module _ (p : Place) where
+  counted-none : (counts : List Arg) (part : List ℕ) → length counts < 1 → counted p counts part ≡ expands part
   counted-none [] part none = refl
   counted-none (c ∷ rest) part none = absurd (omega arith)
 
   counted-some : (counts : List Arg) (c : Arg) (count : ℤ) (part : List ℕ) → 1 ≤ length counts → c ≡ get_or counts 0 c → Some count ≡ number_of c
-      → counted p s counts part ≡ warning_first (warning_on p c) (expands s (at_most count part))
+      → counted p counts part ≡ warning_first (warning_on p c) (expands (at_most count part))
   counted-some [] c count part some is number = absurd (omega arith)
   counted-some (d ∷ rest) c count part some is number =
-      ap (λ (a : Arg). counted p s (a ∷ rest) part) (sym is)
-      ∙ with_number-some p Substr s (λ count. expands s (at_most count part)) (reading_of (text_of_arg c)) count number
+      ap (λ (a : Arg). counted p (a ∷ rest) part) (sym is)
+      ∙ with_number-some p Substr (λ count. expands (at_most count part)) (reading_of (text_of_arg c)) count number
 
   counted-bad : (counts : List Arg) (c : Arg) (part : List ℕ) → 1 ≤ length counts → c ≡ get_or counts 0 c → None ≡ number_of c
-      → counted p s counts part ≡ only_warning s (warning_on p c)
+      → counted p counts part ≡ only_warning (warning_on p c)
   counted-bad [] c part some is number = absurd (omega arith)
   counted-bad (d ∷ rest) c part some is number =
-      ap (λ (a : Arg). counted p s (a ∷ rest) part) (sym is)
-      ∙ with_number-none p Substr s (λ count. expands s (at_most count part)) (reading_of (text_of_arg c)) number
+      ap (λ (a : Arg). counted p (a ∷ rest) part) (sym is)
+      ∙ with_number-none p Substr (λ count. expands (at_most count part)) (reading_of (text_of_arg c)) number
 
   -- of two arguments or more
   by_counts : (list : List Arg) (a b : Arg) → 2 ≤ length list → a ≡ get_or list 0 a → b ≡ get_or list 1 b
-      → substr list p s ≡ with_number p Substr s (reading_of (text_of_arg b)) (λ from. counted p s (drop 2 list) (from_place from (text_of_arg a)))
+      → substr list p ≡ with_number p Substr (reading_of (text_of_arg b)) (λ from. counted p (drop 2 list) (from_place from (text_of_arg a)))
   by_counts [] a b le first second = absurd (omega arith)
   by_counts (x ∷ []) a b le first second = absurd (omega arith)
   by_counts (x ∷ y ∷ []) a b le first second =
-      (λ i. substr (sym first i ∷ sym second i ∷ []) p s)
+      (λ i. substr (sym first i ∷ sym second i ∷ []) p)
   by_counts (x ∷ y ∷ z ∷ rest) a b le first second =
-      (λ i. substr (sym first i ∷ sym second i ∷ z ∷ rest) p s)
+      (λ i. substr (sym first i ∷ sym second i ∷ z ∷ rest) p)
 
-module _ (p : Place) (s : State) (list counts : List Arg) (a b : Arg) (le : 2 ≤ length list) (first : a ≡ get_or list 0 a) (second : b ≡ get_or list 1 b) (rest : counts ≡ take (length list - 2) (drop 2 list)) where
-  by_place : substr list p s ≡ with_number p Substr s (reading_of (text_of_arg b)) (λ from. counted p s counts (from_place from (text_of_arg a)))
+module _ (p : Place) (list counts : List Arg) (a b : Arg) (le : 2 ≤ length list) (first : a ≡ get_or list 0 a) (second : b ≡ get_or list 1 b) (rest : counts ≡ take (length list - 2) (drop 2 list)) where
+  by_place : substr list p ≡ with_number p Substr (reading_of (text_of_arg b)) (λ from. counted p counts (from_place from (text_of_arg a)))
   by_place =
-      by_counts p s list a b le first second
-      ∙ ap (λ (cs : List Arg). with_number p Substr s (reading_of (text_of_arg b)) (λ from. counted p s cs (from_place from (text_of_arg a)))) (sym (rest ∙ after_second list))
+      by_counts p list a b le first second
+      ∙ ap (λ (cs : List Arg). with_number p Substr (reading_of (text_of_arg b)) (λ from. counted p cs (from_place from (text_of_arg a)))) (sym (rest ∙ after_second list))
 
   -- the place is no number
-  pub substr-no_place : None ≡ number_of b → substr list p s ≡ only_warning s (warning_on p b)
+  pub substr-no_place : None ≡ number_of b → substr list p ≡ only_warning (warning_on p b)
   substr-no_place number =
       by_place
-      ∙ with_number-none p Substr s (λ from. counted p s counts (from_place from (text_of_arg a))) (reading_of (text_of_arg b)) number
+      ∙ with_number-none p Substr (λ from. counted p counts (from_place from (text_of_arg a))) (reading_of (text_of_arg b)) number
 
   module _ (from : ℤ) (place : Some from ≡ number_of b) where
-    by_count : substr list p s ≡ warning_first (warning_on p b) (counted p s counts (from_place from (text_of_arg a)))
+    by_count : substr list p ≡ warning_first (warning_on p b) (counted p counts (from_place from (text_of_arg a)))
     by_count =
         by_place
-        ∙ with_number-some p Substr s (λ from. counted p s counts (from_place from (text_of_arg a))) (reading_of (text_of_arg b)) from place
+        ∙ with_number-some p Substr (λ from. counted p counts (from_place from (text_of_arg a))) (reading_of (text_of_arg b)) from place
 
     -- there is no count
-    pub substr-rest : length counts < 1 → substr list p s ≡ warning_first (warning_on p b) (expands s (from_place from (text_of_arg a)))
+    pub substr-rest : length counts < 1 → substr list p ≡ warning_first (warning_on p b) (expands (from_place from (text_of_arg a)))
     substr-rest none =
-        by_count ∙ ap (warning_first (warning_on p b)) (counted-none p s counts (from_place from (text_of_arg a)) none)
+        by_count ∙ ap (warning_first (warning_on p b)) (counted-none p counts (from_place from (text_of_arg a)) none)
 
     -- the count is no number
     pub substr-no_count : (c : Arg) → 1 ≤ length counts → c ≡ get_or counts 0 c → None ≡ number_of c
-        → substr list p s ≡ warning_first (warning_on p b) (only_warning s (warning_on p c))
+        → substr list p ≡ warning_first (warning_on p b) (only_warning (warning_on p c))
     substr-no_count c some third number =
-        by_count ∙ ap (warning_first (warning_on p b)) (counted-bad p s counts c (from_place from (text_of_arg a)) some third number)
+        by_count ∙ ap (warning_first (warning_on p b)) (counted-bad p counts c (from_place from (text_of_arg a)) some third number)
 
     -- both are numbers
     pub substr-counted : (c : Arg) (count : ℤ) → 1 ≤ length counts → c ≡ get_or counts 0 c → Some count ≡ number_of c
-        → substr list p s ≡ warning_first (warning_on p b ++ warning_on p c) (expands s (at_most count (from_place from (text_of_arg a))))
+        → substr list p ≡ warning_first (warning_on p b ++ warning_on p c) (expands (at_most count (from_place from (text_of_arg a))))
     substr-counted c count some third number =
         by_count
-        ∙ ap (warning_first (warning_on p b)) (counted-some p s counts c count (from_place from (text_of_arg a)) some third number)
-        ∙ ap (λ (x : List ℕ). leaves s (record nothing { push = Some (pushes.Text (at_most count (from_place from (text_of_arg a)))); messages = x })) (sym (append_assoc (warning_on p b) (warning_on p c) []))
+        ∙ ap (warning_first (warning_on p b)) (counted-some p counts c count (from_place from (text_of_arg a)) some third number)
+        ∙ ap (λ (x : List ℕ). (record nothing { push = Some (pushes.Text (at_most count (from_place from (text_of_arg a)))); messages = x })) (sym (append_assoc (warning_on p b) (warning_on p c) []))

@@ -2,51 +2,47 @@
 use Rattle.std.proofs.Common.{◌≡◌, ℕ, List, [], ◌++◌, Option, Some, None, refl, sym, ap, ◌∙◌, append-nil, append_assoc}
 use Rattle.std.specs.Prelude.{ℤ}
 use Rattle.m4_state.specs.declared.builtin.Builtin.{Builtin}
-use Rattle.m4_state.specs.State.{State}
+use Rattle.m4_builtins.specs.declared.effect.Effect.{Effect}
 use Rattle.m4_builtins.specs.declared.number.Reading.{Reading}
 use Rattle.m4_builtins.specs.declared.place.Place.{Place}
-use Rattle.m4_builtins.specs.Acted.{Acted, only_warning, warning_first}
+use Rattle.m4_builtins.specs.Acted.{only_warning, warning_first}
 use Rattle.m4_builtins.specs.Numeric.{number_of_reading, reading_warning, with_number}
 use Rattle.m4_builtins.specs.ReadsAs.{after, ReadsAs}
 use Rattle.m4_builtins.proofs.WithNumber.{with_number-some, with_number-none}
 
--- with a message in front, which is longer by what comes after it
-abbrev first_and : Acted → List ℕ → Acted
-first_and r messages = record { state = r.state; effect = record r.effect { messages = messages } }
-
 -- warnings one after the other
-both : {A : Type 0} (v w : List ℕ) (s : State) (does : A → Acted) (o : Option A) → warning_first v (after w s does o) ≡ after (v ++ w) s does o
-both v w s does None = refl
-both v w s does (Some x) = ap (first_and (does x)) (sym (append_assoc v w ((does x).effect).messages))
+both : {A : Type 0} (v w : List ℕ) (does : A → Effect) (o : Option A) → warning_first v (after w does o) ≡ after (v ++ w) does o
+both v w does None = refl
+both v w does (Some x) = ap (λ (m : List ℕ). record (does x) { messages = m }) (sym (append_assoc v w (does x).messages))
 
 -- nothing is read, and there is no warning
-pub reads_at_once : {A : Type 0} (x : A) (before : List ℕ) → ReadsAs (λ s does. does x) (Some x) before before
-reads_at_once x before = ([], sym (append-nil before), (λ s does. refl))
+pub reads_at_once : {A : Type 0} (x : A) (before : List ℕ) → ReadsAs (λ does. does x) (Some x) before before
+reads_at_once x before = ([], sym (append-nil before), (λ does. refl))
 
 -- a fault, and its warning
-pub reads_wrong : {A : Type 0} (warning before now : List ℕ) → now ≡ before ++ warning → ReadsAs {A = A} (λ s does. only_warning s warning) None before now
-reads_wrong warning before now grown = (warning, grown, (λ s does. refl))
+pub reads_wrong : {A : Type 0} (warning before now : List ℕ) → now ≡ before ++ warning → ReadsAs {A = A} (λ does. only_warning warning) None before now
+reads_wrong warning before now grown = (warning, grown, (λ does. refl))
 
 -- a value, after a warning
-pub reads_warned : {A : Type 0} (x : A) (warning before now : List ℕ) → now ≡ before ++ warning → ReadsAs (λ s does. warning_first warning (does x)) (Some x) before now
-reads_warned x warning before now grown = (warning, grown, (λ s does. refl))
+pub reads_warned : {A : Type 0} (x : A) (warning before now : List ℕ) → now ≡ before ++ warning → ReadsAs (λ does. warning_first warning (does x)) (Some x) before now
+reads_warned x warning before now grown = (warning, grown, (λ does. refl))
 
 -- what comes first is wrong, and nothing is read after it
-pub reads_no_more : {A B : Type 0} (first : State → (A → Acted) → Acted) (next : A → State → (B → Acted) → Acted) (before now : List ℕ)
-    → ReadsAs first None before now → ReadsAs (λ s does. first s (λ x. next x s does)) None before now
-reads_no_more first next before now (w, grown, same) = (w, grown, (λ s does. same s (λ x. next x s does)))
+pub reads_no_more : {A B : Type 0} (first : (A → Effect) → Effect) (next : A → (B → Effect) → Effect) (before now : List ℕ)
+    → ReadsAs first None before now → ReadsAs (λ does. first (λ x. next x does)) None before now
+reads_no_more first next before now (w, grown, same) = (w, grown, (λ does. same (λ x. next x does)))
 
 -- what comes first is read, and then the next
-pub reads_on : {A B : Type 0} (first : State → (A → Acted) → Acted) (next : A → State → (B → Acted) → Acted) (x : A) (o : Option B) (before between now : List ℕ)
-    → ReadsAs first (Some x) before between → ReadsAs (next x) o between now → ReadsAs (λ s does. first s (λ y. next y s does)) o before now
+pub reads_on : {A B : Type 0} (first : (A → Effect) → Effect) (next : A → (B → Effect) → Effect) (x : A) (o : Option B) (before between now : List ℕ)
+    → ReadsAs first (Some x) before between → ReadsAs (next x) o between now → ReadsAs (λ does. first (λ y. next y does)) o before now
 reads_on first next x o before between now (v, grown, same) (w, grown_2, same_2) = (
   v ++ w,
   grown_2 ∙ ap (λ (m : List ℕ). m ++ w) grown ∙ append_assoc before v w,
-  (λ s does. same s (λ y. next y s does) ∙ ap (warning_first v) (same_2 s does) ∙ both v w s does o),
+  (λ does. same (λ y. next y does) ∙ ap (warning_first v) (same_2 does) ∙ both v w does o),
 )
 
 -- a number, as it was read
 pub reads_number : (p : Place) (b : Builtin) (r : Reading) (o : Option ℤ) (before now : List ℕ) → o ≡ number_of_reading r → now ≡ before ++ reading_warning p b r
-    → ReadsAs (λ s. with_number p b s r) o before now
-reads_number p b r None before now e grown = (reading_warning p b r, grown, (λ s does. with_number-none p b s does r e))
-reads_number p b r (Some n) before now e grown = (reading_warning p b r, grown, (λ s does. with_number-some p b s does r n e))
+    → ReadsAs (with_number p b r) o before now
+reads_number p b r None before now e grown = (reading_warning p b r, grown, (λ does. with_number-none p b does r e))
+reads_number p b r (Some n) before now e grown = (reading_warning p b r, grown, (λ does. with_number-some p b does r n e))

@@ -2,7 +2,7 @@
 -- Believed. Its lemmas: `ActKeeps` (a valid state stays valid, and pushes valid definitions).
 -- Manual: "Deleting whitespace in input", "Arguments to macros", "Macro invocation"; the sections of
 -- the other builtins are named at their own definitions, a file for each chapter.
--- Words: row, act_with, goes_on, act, needs_list, given_though_few. One line for each builtin, and one for
+-- Words: row, warned, act_with, goes_on, act, needs_list, given_though_few. One line for each builtin, and one for
 -- each kind of definition.
 -- own: a placeholder, which names a builtin of another m4, expands to nothing with a warning.
 -- own: with one argument `index` expands to 0, `substr` and `translit` to it, after the warning.
@@ -21,7 +21,7 @@ use Rattle.m4_input.specs.declared.pushed.Pushed.{Pushed}
 use Rattle.m4_input.specs.declared.pushed.Pushed.TheVariants as pushes
 use Rattle.m4_builtins.specs.declared.args.Arg.{Arg}
 use Rattle.m4_builtins.specs.declared.place.Place.{Place}
-pub use Rattle.m4_builtins.specs.Acted.{Acted, IsPushed, nothing, changes, only_warning, gives, expands, warning_first}
+pub use Rattle.m4_builtins.specs.Acted.{Acted, IsPushed, nothing, expands, only_warning, warning_first, leaves, changes}
 use Rattle.m4_builtins.specs.Args.{text_of_arg, only_text}
 use Rattle.m4_builtins.specs.Arithmetic.{incr, decr}
 use Rattle.m4_builtins.specs.Branching.{ifdef, ifelse, shift}
@@ -49,31 +49,31 @@ row inner Define list p s = define list p s
 row inner Undefine list p s = undefine list s
 row inner Pushdef list p s = pushdef list p s
 row inner Popdef list p s = popdef list s
-row inner Defn list p s = defn list p s
+row inner Defn list p s = leaves s (defn list p s)
 row inner Indir list p s = indir inner list p s
 row inner IndirBuiltin list p s = builtin inner list p s
-row inner Ifdef list p s = ifdef list s
-row inner Ifelse list p s = ifelse list p s
-row inner Shift list p s = shift list s
-row inner Dumpdef list p s = dumpdef list p s
-row inner Dnl list p s = record { state = s; effect = record nothing { skip = true } }
+row inner Ifdef list p s = leaves s (ifdef list s)
+row inner Ifelse list p s = leaves s (ifelse list p)
+row inner Shift list p s = leaves s (shift list s)
+row inner Dumpdef list p s = leaves s (dumpdef list p s)
+row inner Dnl list p s = leaves s (record nothing { skip = true })
 row inner Changequote list p s = changes (changequote list s)
 row inner Changecom list p s = changes (changecom list s)
 row inner Divert list p s = divert list p s
 row inner Undivert list p s = undivert list p s
-row inner Divnum list p s = divnum s
-row inner Len list p s = len list s
-row inner Index list p s = index list s
-row inner Substr list p s = substr list p s
-row inner Translit list p s = translit list s
-row inner Incr list p s = incr list p s
-row inner Decr list p s = decr list p s
-row inner Eval list p s = eval list p s
-row inner Errprint list p s = errprint list s
-row inner M4wrap list p s = m4wrap list s
-row inner M4exit list p s = m4exit list p s
-row inner File list p s = file p s
-row inner Line list p s = line p s
+row inner Divnum list p s = leaves s (divnum s)
+row inner Len list p s = leaves s (len list)
+row inner Index list p s = leaves s (index list)
+row inner Substr list p s = leaves s (substr list p)
+row inner Translit list p s = leaves s (translit list)
+row inner Incr list p s = leaves s (incr list p)
+row inner Decr list p s = leaves s (decr list p)
+row inner Eval list p s = leaves s (eval list p)
+row inner Errprint list p s = leaves s (errprint list)
+row inner M4wrap list p s = leaves s (m4wrap list)
+row inner M4exit list p s = leaves s (m4exit list p)
+row inner File list p s = leaves s (file p s)
+row inner Line list p s = leaves s (line p)
 
 -- whether a count is above the maximum
 abbrev pub is_above : Option ℕ → ℕ → Bool
@@ -99,24 +99,25 @@ given_though_few b list = None
 
 -- a call with missing arguments: a warning, and the state stays
 abbrev pub lacks : Builtin → List Arg → Place → State → Acted
-lacks b list p s = record {
-  state = s;
-  effect = record nothing { push = given_though_few b list; messages = too_few p b };
-}
+lacks b list p s = leaves s (record nothing { push = given_though_few b list; messages = too_few p b })
+
+-- a call with a message before its others
+abbrev pub warned : List ℕ → Acted → Acted
+warned x r = leaves r.state (warning_first x r.effect)
 
 -- a builtin's row; `few` says that arguments are missing
 abbrev pub act_unless : Inner → Bool → Builtin → List Arg → Place → State → Acted
 act_unless inner true b list p s = lacks b list p s
 act_unless inner false b list p s =
-    warning_first (excess_if (is_above (most_of b) (length list)) p b)
+    warned (excess_if (is_above (most_of b) (length list)) p b)
     (row inner b (taken (takes_tokens b) list) p s)
 
 -- a call of a definition under a name; `inner` continues an indirect call
 abbrev pub act_with : Inner → Def → List ℕ → List Arg → Place → State → Acted
-act_with inner (defs.Text x) name list p s = expands s (subst x name list s.quotes)
+act_with inner (defs.Text x) name list p s = leaves s (expands (subst x name list s.quotes))
 act_with inner (defs.Builtin b) name list p s =
     act_unless inner (nat_lt (length list) (least_of b)) b list p s
-act_with inner (defs.Placeholder x) name list p s = only_warning s (unsupported p x)
+act_with inner (defs.Placeholder x) name list p s = leaves s (only_warning (unsupported p x))
 
 -- how an indirect call with these arguments continues: as a call with those after the first; without any
 -- it does nothing

@@ -1,6 +1,6 @@
 -- Acted: the state and the effect of a call, and the forms that the builtins' rows use for them.
 -- Believed. An effect has the fields of the code's record `Effect` (src/effect.rt).
--- Words: Acted, IsPushed, nothing, changes, only_warning, gives, expands, warning_first.
+-- Words: Acted, IsPushed, nothing, gives, expands, only_warning, warning_first, leaves, changes.
 use Rattle.std.specs.Prelude.{ℕ, false, List, [], ◌++◌, Option, Some, None}
 use Rattle.m4_state.specs.Definition.{IsDefinition}
 use Rattle.m4_state.specs.State.{State}
@@ -23,23 +23,26 @@ IsPushed (Some (pushes.Definition d)) = IsDefinition d
 abbrev pub nothing : Effect
 nothing = record { push = None; messages = []; output = []; wrap = None; skip = false; exit = None }
 
--- the state changes and the call expands to nothing
-abbrev pub changes : State → Acted
-changes s = record { state = s; effect = nothing }
-
--- the call expands to nothing, with a message
-abbrev pub only_warning : State → List ℕ → Acted
-only_warning s message = record { state = s; effect = record nothing { messages = message } }
-
 -- the call expands to a value
-abbrev pub gives : State → Pushed → Acted
-gives s v = record { state = s; effect = record nothing { push = Some v } }
+abbrev pub gives : Pushed → Effect
+gives v = record nothing { push = Some v }
 
 -- the call expands to a text
-abbrev pub expands : State → List ℕ → Acted
-expands s x = gives s (pushes.Text x)
+abbrev pub expands : List ℕ → Effect
+expands x = gives (pushes.Text x)
+
+-- the call expands to nothing, with a message
+abbrev pub only_warning : List ℕ → Effect
+only_warning message = record nothing { messages = message }
 
 -- with a message before the others
-abbrev pub warning_first : List ℕ → Acted → Acted
-warning_first x r =
-    record { state = r.state; effect = record r.effect { messages = x ++ (r.effect).messages } }
+abbrev pub warning_first : List ℕ → Effect → Effect
+warning_first x e = record e { messages = x ++ e.messages }
+
+-- the state after a call, and its effect
+abbrev pub leaves : State → Effect → Acted
+leaves s e = record { state = s; effect = e }
+
+-- the state changes and the call expands to nothing
+abbrev pub changes : State → Acted
+changes s = leaves s nothing

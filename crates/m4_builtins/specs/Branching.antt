@@ -9,9 +9,10 @@ use Rattle.m4_state.specs.declared.builtin.Builtin.TheVariants.{Ifelse}
 use Rattle.m4_state.specs.declared.definition.Def.{Def}
 use Rattle.m4_state.specs.State.{State, top_of}
 use Rattle.m4_builtins.specs.declared.args.Arg.{Arg}
+use Rattle.m4_builtins.specs.declared.effect.Effect.{Effect}
 use Rattle.m4_builtins.specs.declared.place.Place.{Place}
 use Rattle.m4_builtins.specs.Args.{texts_of, after_first, text_at}
-use Rattle.m4_builtins.specs.Acted.{Acted, changes, only_warning, expands, warning_first}
+use Rattle.m4_builtins.specs.Acted.{nothing, only_warning, expands, warning_first}
 use Rattle.m4_builtins.specs.Messages.{too_few, excess}
 use Rattle.m4_builtins.specs.Subst.{all_quoted}
 
@@ -20,8 +21,8 @@ abbrev pub ifdef_by : Option Def → List Arg → List ℕ
 ifdef_by None list = text_at list 2
 ifdef_by (Some d) list = text_at list 1
 
-abbrev pub ifdef : List Arg → State → Acted
-ifdef list s = expands s (ifdef_by (top_of s (text_at list 0)) list)
+abbrev pub ifdef : List Arg → State → Effect
+ifdef list s = expands (ifdef_by (top_of s (text_at list 0)) list)
 
 -- the text that `ifelse` chooses: the third if the first two are equal; otherwise the fourth if at most
 -- one more follows it, or else the choice among those after the first three
@@ -44,14 +45,14 @@ extra_warning p true = excess p Ifelse
 extra_warning p false = []
 
 -- `ifelse`
-abbrev pub ifelse : List Arg → Place → State → Acted
-ifelse [] p s = changes s
-ifelse (a ∷ []) p s = changes s
-ifelse (a ∷ b ∷ []) p s = only_warning s (too_few p Ifelse)
-ifelse (a ∷ b ∷ c ∷ rest) p s =
+abbrev pub ifelse : List Arg → Place → Effect
+ifelse [] p = nothing
+ifelse (a ∷ []) p = nothing
+ifelse (a ∷ b ∷ []) p = only_warning (too_few p Ifelse)
+ifelse (a ∷ b ∷ c ∷ rest) p =
     warning_first (extra_warning p (has_extra (length (a ∷ b ∷ c ∷ rest))))
-    (expands s (chosen (texts_of (a ∷ b ∷ c ∷ rest))))
+    (expands (chosen (texts_of (a ∷ b ∷ c ∷ rest))))
 
 -- `shift`: all arguments but the first, each between quotes
-abbrev pub shift : List Arg → State → Acted
-shift list s = expands s (all_quoted s.quotes (texts_of (after_first list)))
+abbrev pub shift : List Arg → State → Effect
+shift list s = expands (all_quoted s.quotes (texts_of (after_first list)))

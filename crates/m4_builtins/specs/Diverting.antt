@@ -7,10 +7,11 @@ use Rattle.std.specs.Fmt.{signed_decimal}
 use Rattle.m4_state.specs.declared.builtin.Builtin.TheVariants.{Divert, Undivert}
 use Rattle.m4_state.specs.State.{State, diverted, undiverted, issued_from}
 use Rattle.m4_builtins.specs.declared.args.Arg.{Arg}
+use Rattle.m4_builtins.specs.declared.effect.Effect.{Effect}
 use Rattle.m4_builtins.specs.declared.number.Reading.{Reading}
 use Rattle.m4_builtins.specs.declared.place.Place.{Place}
 use Rattle.m4_builtins.specs.Args.{text_of_arg}
-use Rattle.m4_builtins.specs.Acted.{Acted, nothing, changes, expands}
+use Rattle.m4_builtins.specs.Acted.{Acted, nothing, expands, only_warning, leaves, changes}
 use Rattle.m4_builtins.specs.Numeric.{reading_of, number_of_reading, reading_warning}
 
 -- with another current diversion, if there is a number
@@ -23,10 +24,7 @@ abbrev pub divert : List Arg → Place → State → Acted
 divert [] p s = changes (diverted s (pos 0))
 divert (a ∷ rest) p s =
     let r = reading_of (text_of_arg a) in
-    record {
-      state = diverted_if s (number_of_reading r);
-      effect = record nothing { messages = reading_warning p Divert r };
-    }
+    leaves (diverted_if s (number_of_reading r)) (only_warning (reading_warning p Divert r))
 
 -- the state after diversions were undiverted, one after another
 abbrev pub brought_back : List ℤ → State → State
@@ -39,10 +37,8 @@ issued_by (number ∷ numbers) s = issued_from s number ++ issued_by numbers (un
 
 -- diversions are undiverted, with warnings
 abbrev pub brings_back : List ℤ → List ℕ → State → Acted
-brings_back numbers warnings s = record {
-  state = brought_back numbers s;
-  effect = record nothing { messages = warnings; output = issued_by numbers s };
-}
+brings_back numbers warnings s =
+    leaves (brought_back numbers s) (record nothing { messages = warnings; output = issued_by numbers s })
 
 -- the numbers of the diversions that contain text, in rising order; if the current one is among them,
 -- undiverting it changes nothing
@@ -61,5 +57,5 @@ undivert (a ∷ rest) p s =
     (flat_map (reading_warning p Undivert) (readings_of (a ∷ rest))) s
 
 -- `divnum`
-abbrev pub divnum : State → Acted
-divnum s = expands s (signed_decimal s.current)
+abbrev pub divnum : State → Effect
+divnum s = expands (signed_decimal s.current)

@@ -11,7 +11,7 @@ use Rattle.m4_state.specs.State.{State, top_of}
 use Rattle.m4_builtins.specs.declared.args.Arg.{Arg}
 use Rattle.m4_builtins.specs.declared.args.Arg.TheVariants as args
 use Rattle.m4_builtins.specs.declared.place.Place.{Place}
-use Rattle.m4_builtins.specs.Acted.{Acted, changes, only_warning}
+use Rattle.m4_builtins.specs.Acted.{Acted, only_warning, leaves, changes}
 use Rattle.m4_builtins.specs.Messages.{unknown_macro, unknown_builtin, bad_name}
 
 -- how an indirect call continues: as the call of another definition, under its name
@@ -20,22 +20,22 @@ Inner = Def → List ℕ → Acted
 
 -- a call of the definition of a name, if there is one
 abbrev pub called_by_name : Inner → Option Def → List ℕ → Place → State → Acted
-called_by_name inner None name p s = only_warning s (unknown_macro p name)
+called_by_name inner None name p s = leaves s (only_warning (unknown_macro p name))
 called_by_name inner (Some d) name p s = inner d name
 
 -- `indir`: the macro of that name, by its top definition
 abbrev pub indir : Inner → List Arg → Place → State → Acted
 indir inner [] p s = changes s
 indir inner (args.Text x ∷ rest) p s = called_by_name inner (top_of s x) x p s
-indir inner (args.Definition d ∷ rest) p s = only_warning s (bad_name p Indir)
+indir inner (args.Definition d ∷ rest) p s = leaves s (only_warning (bad_name p Indir))
 
 -- a call of a builtin by its own name, if there is one
 abbrev pub done_by_name : Inner → Option Builtin → List ℕ → Place → State → Acted
-done_by_name inner None name p s = only_warning s (unknown_builtin p name)
+done_by_name inner None name p s = leaves s (only_warning (unknown_builtin p name))
 done_by_name inner (Some b) name p s = inner (defs.Builtin b) name
 
 -- `builtin`: the builtin of that name, whatever definitions the name has
 abbrev pub builtin : Inner → List Arg → Place → State → Acted
 builtin inner [] p s = changes s
 builtin inner (args.Text x ∷ rest) p s = done_by_name inner (builtin_named x) x p s
-builtin inner (args.Definition d ∷ rest) p s = only_warning s (bad_name p IndirBuiltin)
+builtin inner (args.Definition d ∷ rest) p s = leaves s (only_warning (bad_name p IndirBuiltin))

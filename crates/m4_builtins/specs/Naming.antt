@@ -12,9 +12,10 @@ use Rattle.m4_input.specs.declared.pushed.Pushed.{Pushed}
 use Rattle.m4_input.specs.declared.pushed.Pushed.TheVariants as pushes
 use Rattle.m4_builtins.specs.declared.args.Arg.{Arg}
 use Rattle.m4_builtins.specs.declared.args.Arg.TheVariants as args
+use Rattle.m4_builtins.specs.declared.effect.Effect.{Effect}
 use Rattle.m4_builtins.specs.declared.place.Place.{Place}
 use Rattle.m4_builtins.specs.Args.{text_of_arg, texts_of, definition_of_arg, quoted}
-use Rattle.m4_builtins.specs.Acted.{Acted, changes, only_warning, gives, expands, warning_first}
+use Rattle.m4_builtins.specs.Acted.{Acted, nothing, gives, expands, only_warning, warning_first, leaves, changes}
 use Rattle.m4_builtins.specs.Messages.{dropped, bad_name}
 
 -- the second of two arguments as a definition, or the empty text if there is none
@@ -26,13 +27,13 @@ definition_in (a ∷ rest) = definition_of_arg a
 abbrev pub define : List Arg → Place → State → Acted
 define [] p s = changes s
 define (args.Text x ∷ rest) p s = changes (defined s x (definition_in rest))
-define (args.Definition d ∷ rest) p s = only_warning s (bad_name p Define)
+define (args.Definition d ∷ rest) p s = leaves s (only_warning (bad_name p Define))
 
 -- `pushdef`: the same, pushed onto the definitions that the name has
 abbrev pub pushdef : List Arg → Place → State → Acted
 pushdef [] p s = changes s
 pushdef (args.Text x ∷ rest) p s = changes (pushed s x (definition_in rest))
-pushdef (args.Definition d ∷ rest) p s = only_warning s (bad_name p Pushdef)
+pushdef (args.Definition d ∷ rest) p s = leaves s (only_warning (bad_name p Pushdef))
 
 -- each argument in order, as a name, changes the state
 abbrev pub for_each : (State → List ℕ → State) → List Arg → State → State
@@ -72,9 +73,9 @@ abbrev pub tops_of : State → List Arg → List (Option Def)
 tops_of s list = map (top_of s) (texts_of list)
 
 -- `defn`
-abbrev pub defn : List Arg → Place → State → Acted
-defn [] p s = changes s
-defn (a ∷ []) p s = gives s (definition_given s.quotes (top_of s (text_of_arg a)))
+abbrev pub defn : List Arg → Place → State → Effect
+defn [] p s = nothing
+defn (a ∷ []) p s = gives (definition_given s.quotes (top_of s (text_of_arg a)))
 defn (a ∷ b ∷ rest) p s =
     warning_first (flat_map (left_out p) (tops_of s (a ∷ b ∷ rest)))
-    (expands s (flat_map (text_given s.quotes) (tops_of s (a ∷ b ∷ rest))))
+    (expands (flat_map (text_given s.quotes) (tops_of s (a ∷ b ∷ rest))))

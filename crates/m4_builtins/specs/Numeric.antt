@@ -6,13 +6,13 @@
 use Rattle.std.specs.Prelude.{ℕ, ◌-◌, ◌^◌, ◌==◌, ◌&&◌, nat_le, ℤ, pos, neg_ℤ, Bool, true, false, not, List, [], ◌∷◌}
 use Rattle.std.specs.Prelude.{Option, Some, None, drop, length, if◌then◌else◌}
 use Rattle.m4_state.specs.declared.builtin.Builtin.{Builtin}
-use Rattle.m4_state.specs.State.{State}
 use Rattle.m4_input.specs.Ascii.{is_space, is_digit}
 use Rattle.m4_input.specs.Token.{run_length}
 use Rattle.m4_builtins.specs.declared.number.Reading.{Reading}
 use Rattle.m4_builtins.specs.declared.number.Reading.TheVariants.{Number, Empty, NotNumeric}
 use Rattle.m4_builtins.specs.declared.place.Place.{Place}
-use Rattle.m4_builtins.specs.Acted.{Acted, only_warning, warning_first}
+use Rattle.m4_builtins.specs.declared.effect.Effect.{Effect}
+use Rattle.m4_builtins.specs.Acted.{only_warning, warning_first}
 use Rattle.m4_builtins.specs.Messages.{empty_number, not_numeric}
 use Rattle.m4_builtins.specs.Subst.{number_of}
 
@@ -76,7 +76,7 @@ reading_warning p b NotNumeric = not_numeric p b
 
 -- continues with a number that was read, after the warning on an empty one; without a number it only
 -- warns
-abbrev pub with_number : Place → Builtin → State → Reading → (ℤ → Acted) → Acted
-with_number p b s (Number n) does = does n
-with_number p b s Empty does = warning_first (empty_number p b) (does (pos 0))
-with_number p b s NotNumeric does = only_warning s (not_numeric p b)
+abbrev pub with_number : Place → Builtin → Reading → (ℤ → Effect) → Effect
+with_number p b (Number n) does = does n
+with_number p b Empty does = warning_first (empty_number p b) (does (pos 0))
+with_number p b NotNumeric does = only_warning (not_numeric p b)

@@ -12,9 +12,10 @@ use Rattle.m4_state.specs.Builtin.{name_of}
 use Rattle.m4_state.specs.Table.{byte_order}
 use Rattle.m4_state.specs.State.{State, top_of, names_of}
 use Rattle.m4_builtins.specs.declared.args.Arg.{Arg}
+use Rattle.m4_builtins.specs.declared.effect.Effect.{Effect}
 use Rattle.m4_builtins.specs.declared.place.Place.{Place}
 use Rattle.m4_builtins.specs.Args.{texts_of, with_spaces, quoted}
-use Rattle.m4_builtins.specs.Acted.{Acted, only_warning, expands}
+use Rattle.m4_builtins.specs.Acted.{only_warning, expands}
 use Rattle.m4_builtins.specs.Messages.{unknown_macro}
 
 -- a builtin's name as it is shown
@@ -65,17 +66,17 @@ lines_of names s = flat_map (λ name. line_shown s.quotes name (top_of s name)) 
 abbrev pub dumped : List (List ℕ) → Place → State → List ℕ
 dumped names p s = warnings_on names p s ++ lines_of (in_byte_order names) s
 
-abbrev pub dumpdef : List Arg → Place → State → Acted
-dumpdef list p s = only_warning s (dumped (names_shown list s) p s)
+abbrev pub dumpdef : List Arg → Place → State → Effect
+dumpdef list p s = only_warning (dumped (names_shown list s) p s)
 
 -- `errprint`: the arguments joined by spaces; no newline is added
-abbrev pub errprint : List Arg → State → Acted
-errprint list s = only_warning s (with_spaces (texts_of list))
+abbrev pub errprint : List Arg → Effect
+errprint list = only_warning (with_spaces (texts_of list))
 
 -- `__file__`: between quotes; empty in wrapped text, whose line is 0
-abbrev pub file : Place → State → Acted
-file p s = expands s (quoted s.quotes (if p.line == 0 then [] else p.file))
+abbrev pub file : Place → State → Effect
+file p s = expands (quoted s.quotes (if p.line == 0 then [] else p.file))
 
 -- `__line__`: 0 in wrapped text
-abbrev pub line : Place → State → Acted
-line p s = expands s (decimal p.line)
+abbrev pub line : Place → Effect
+line p = expands (decimal p.line)

@@ -4,17 +4,17 @@
 use Rattle.std.specs.Prelude.{ℕ, ℤ, pos, negsuc, List, [], ◌∷◌, Option, Some, None, length, take, drop, codes}
 use Rattle.std.specs.Fmt.{decimal}
 use Rattle.m4_state.specs.declared.builtin.Builtin.TheVariants.{Substr}
-use Rattle.m4_state.specs.State.{State}
 use Rattle.m4_input.specs.Token.{before}
 use Rattle.m4_builtins.specs.declared.args.Arg.{Arg}
+use Rattle.m4_builtins.specs.declared.effect.Effect.{Effect}
 use Rattle.m4_builtins.specs.declared.place.Place.{Place}
 use Rattle.m4_builtins.specs.Args.{text_of_arg, text_at}
-use Rattle.m4_builtins.specs.Acted.{Acted, changes, expands}
+use Rattle.m4_builtins.specs.Acted.{nothing, expands}
 use Rattle.m4_builtins.specs.Numeric.{reading_of, with_number}
 
 -- `len`: the number of bytes
-abbrev pub len : List Arg → State → Acted
-len list s = expands s (decimal (length (text_at list 0)))
+abbrev pub len : List Arg → Effect
+len list = expands (decimal (length (text_at list 0)))
 
 -- the first place at which a text contains a part, from 0
 abbrev pub place_in : List ℕ → List ℕ → Option ℕ
@@ -27,8 +27,8 @@ place_shown None = codes "-1"
 place_shown (Some n) = decimal n
 
 -- `index`
-abbrev pub index : List Arg → State → Acted
-index list s = expands s (place_shown (place_in (text_at list 0) (text_at list 1)))
+abbrev pub index : List Arg → Effect
+index list = expands (place_shown (place_in (text_at list 0) (text_at list 1)))
 
 -- the bytes from a place on; none if the place is negative, or after the end of the text
 abbrev pub from_place : ℤ → List ℕ → List ℕ
@@ -42,13 +42,13 @@ at_most (negsuc n) x = []
 
 -- `substr`, whose numbers are read from left to right before anything is cut; without a count, all of
 -- the rest
-abbrev pub substr : List Arg → Place → State → Acted
-substr [] p s = changes s
-substr (a ∷ []) p s = changes s
-substr (a ∷ b ∷ []) p s =
-    with_number p Substr s (reading_of (text_of_arg b))
-    (λ from. expands s (from_place from (text_of_arg a)))
-substr (a ∷ b ∷ c ∷ rest) p s =
-    with_number p Substr s (reading_of (text_of_arg b))
-    (λ from. with_number p Substr s (reading_of (text_of_arg c))
-    (λ count. expands s (at_most count (from_place from (text_of_arg a)))))
+abbrev pub substr : List Arg → Place → Effect
+substr [] p = nothing
+substr (a ∷ []) p = nothing
+substr (a ∷ b ∷ []) p =
+    with_number p Substr (reading_of (text_of_arg b))
+    (λ from. expands (from_place from (text_of_arg a)))
+substr (a ∷ b ∷ c ∷ rest) p =
+    with_number p Substr (reading_of (text_of_arg b))
+    (λ from. with_number p Substr (reading_of (text_of_arg c))
+    (λ count. expands (at_most count (from_place from (text_of_arg a)))))

@@ -4,10 +4,10 @@
 -- that is first or last is a plain byte.
 use Rattle.std.specs.Prelude.{ℕ, zero, suc, ◌+◌, ◌-◌, ◌==◌, nat_lt, Bool, true, false, List, [], ◌∷◌, ◌++◌, Option}
 use Rattle.std.specs.Prelude.{Some, None, flat_map, position, slice_get, option_to_list, if◌then◌else◌}
-use Rattle.m4_state.specs.State.{State}
 use Rattle.m4_builtins.specs.declared.args.Arg.{Arg}
+use Rattle.m4_builtins.specs.declared.effect.Effect.{Effect}
 use Rattle.m4_builtins.specs.Args.{text_at}
-use Rattle.m4_builtins.specs.Acted.{Acted, expands}
+use Rattle.m4_builtins.specs.Acted.{expands}
 use Rattle.m4_builtins.specs.Numeric.{minus}
 
 -- n bytes from b on, each 1 above the one before it, or each 1 below
@@ -57,6 +57,6 @@ abbrev pub translated : List ℕ → List ℕ → List ℕ → List ℕ
 translated x from to = flat_map (λ b. replaced (position (λ c. c == b) from) to b) x
 
 -- `translit`
-abbrev pub translit : List Arg → State → Acted
-translit list s =
-    expands s (translated (text_at list 0) (ranges (text_at list 1)) (ranges (text_at list 2)))
+abbrev pub translit : List Arg → Effect
+translit list =
+    expands (translated (text_at list 0) (ranges (text_at list 1)) (ranges (text_at list 2)))

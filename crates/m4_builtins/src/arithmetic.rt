@@ -13,21 +13,14 @@ use crate::place::Place;
 use itoa::Buffer;
 use m4_state::builtin::Builtin;
 use m4_state::bytes::Bytes;
-use m4_state::state::State;
 use std::alloc::AllocError;
 
 /// Adds 1 to a number; the greatest number wraps to the least. Manual: "Decrement and increment
 /// operators".
-pub(crate) fn incr(
-    effect: &mut EffectBuffer,
-    list: &[Arg],
-    place: &Place,
-    state: &State,
-) -> Result<(), AllocError>
+pub(crate) fn incr(effect: &mut EffectBuffer, list: &[Arg], place: &Place) -> Result<(), AllocError>
     requires { effect.old ≡ nothing }
-    ensures { OnOk result (spec.incr list.now place.now state.now ≡ record { state = state.now; effect = effect.new }) }
+    ensures { OnOk result (effect.new ≡ spec.incr list.now place.now) }
 {
-    let _ = state;
     let alloc = effect.alloc();
     let mut messages = Vec::new(alloc);
     let text = text_at(list, 0);
@@ -42,16 +35,10 @@ pub(crate) fn incr(
 
 /// Subtracts 1 from a number; the least number wraps to the greatest. Manual: "Decrement and increment
 /// operators".
-pub(crate) fn decr(
-    effect: &mut EffectBuffer,
-    list: &[Arg],
-    place: &Place,
-    state: &State,
-) -> Result<(), AllocError>
+pub(crate) fn decr(effect: &mut EffectBuffer, list: &[Arg], place: &Place) -> Result<(), AllocError>
     requires { effect.old ≡ nothing }
-    ensures { OnOk result (spec.decr list.now place.now state.now ≡ record { state = state.now; effect = effect.new }) }
+    ensures { OnOk result (effect.new ≡ spec.decr list.now place.now) }
 {
-    let _ = state;
     let alloc = effect.alloc();
     let mut messages = Vec::new(alloc);
     let text = text_at(list, 0);

@@ -23,7 +23,7 @@ pub(crate) fn ifdef(
     state: &State,
 ) -> Result<(), AllocError>
     requires { effect.old ≡ nothing }
-    ensures { OnOk result (spec.ifdef list.now state.now ≡ record { state = state.now; effect = effect.new }) }
+    ensures { OnOk result (effect.new ≡ spec.ifdef list.now state.now) }
 {
     let chosen = match state.top(text_at(list, 0)) {
         Some(_) => argument_at(list, 1),
@@ -38,13 +38,10 @@ pub(crate) fn ifelse(
     effect: &mut EffectBuffer,
     list: &[Arg],
     place: &Place,
-    state: &State,
 ) -> Result<(), AllocError>
     requires { effect.old ≡ nothing }
-    ensures { OnOk result (spec.ifelse list.now place.now state.now
-        ≡ record { state = state.now; effect = effect.new }) }
+    ensures { OnOk result (effect.new ≡ spec.ifelse list.now place.now) }
 {
-    let _ = state;
     match list {
         [] | [_] => {}
         [_, _] => effect.warn(too_few_message(effect.alloc(), place, Builtin::Ifelse)?),
@@ -89,7 +86,7 @@ pub(crate) fn shift(
     state: &State,
 ) -> Result<(), AllocError>
     requires { effect.old ≡ nothing }
-    ensures { OnOk result (spec.shift list.now state.now ≡ record { state = state.now; effect = effect.new }) }
+    ensures { OnOk result (effect.new ≡ spec.shift list.now state.now) }
 {
     let mut text = effect.buffer();
     if let Some((_, rest)) = list.split_first() {

@@ -71,7 +71,7 @@ pub(crate) fn undivert(
 /// Expands to the number of the current diversion. Manual: "Diversion numbers".
 pub(crate) fn divnum(effect: &mut EffectBuffer, state: &State) -> Result<(), AllocError>
     requires { effect.old ≡ nothing }
-    ensures { OnOk result (spec.divnum state.now ≡ record { state = state.now; effect = effect.new }) }
+    ensures { OnOk result (effect.new ≡ spec.divnum state.now) }
 {
     let mut buffer = Buffer::new();
     effect.give_copy(buffer.format(state.current()).as_bytes())

@@ -13,20 +13,14 @@ use crate::place::Place;
 use crate::substitute::push_joined;
 use m4_state::builtin::Builtin;
 use m4_state::bytes::Bytes;
-use m4_state::state::State;
 use std::alloc::AllocError;
 
 /// Saves the arguments, joined by spaces, until all input is read. Manual: "Saving text until end of
 /// input".
-pub(crate) fn m4wrap(
-    effect: &mut EffectBuffer,
-    list: &[Arg],
-    state: &State,
-) -> Result<(), AllocError>
+pub(crate) fn m4wrap(effect: &mut EffectBuffer, list: &[Arg]) -> Result<(), AllocError>
     requires { effect.old ≡ nothing }
-    ensures { OnOk result (spec.m4wrap list.now state.now ≡ record { state = state.now; effect = effect.new }) }
+    ensures { OnOk result (effect.new ≡ spec.m4wrap list.now) }
 {
-    let _ = state;
     let alloc = effect.alloc();
     let mut text = Vec::new(alloc);
     push_joined(&mut text, list, b' ')?;
@@ -40,31 +34,22 @@ pub(crate) fn m4exit(
     effect: &mut EffectBuffer,
     list: &[Arg],
     place: &Place,
-    state: &State,
 ) -> Result<(), AllocError>
     requires { effect.old ≡ nothing }
-    ensures { OnOk result (spec.m4exit list.now place.now state.now
-        ≡ record { state = state.now; effect = effect.new }) }
+    ensures { OnOk result (effect.new ≡ spec.m4exit list.now place.now) }
 {
     let Some(first) = list.first() else {
         effect.end_with(0);
         return Ok(());
     };
-    end_by(effect, reading_of(text_of(first)), place, state)
+    end_by(effect, reading_of(text_of(first)), place)
 }
 
 /// Ends the run with the code that an argument was read as.
-fn end_by(
-    effect: &mut EffectBuffer,
-    reading: Reading,
-    place: &Place,
-    state: &State,
-) -> Result<(), AllocError>
+fn end_by(effect: &mut EffectBuffer, reading: Reading, place: &Place) -> Result<(), AllocError>
     requires { effect.old ≡ nothing }
-    ensures { OnOk result (spec.exits_reading reading place.now state.now
-        ≡ record { state = state.now; effect = effect.new }) }
+    ensures { OnOk result (effect.new ≡ spec.exits_reading reading place.now) }
 {
-    let _ = state;
     let alloc = effect.alloc();
     let (code, warning) = match reading {
         Reading::Number(number) => match u8::try_from(number) {

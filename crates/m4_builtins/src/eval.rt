@@ -20,22 +20,15 @@ use m4_eval::evaluate::{Evaluated, evaluate};
 use m4_eval::radix::Radix;
 use m4_state::builtin::Builtin;
 use m4_state::bytes::Bytes;
-use m4_state::state::State;
 use std::alloc::{AllocError, Global};
 
 /// Expands to the value of the first argument, in the radix of the second one, with at least as many
 /// digits as the third one says. The first invalid argument ends the call with a warning. Manual:
 /// "Evaluating integer expressions".
-pub(crate) fn eval(
-    effect: &mut EffectBuffer,
-    list: &[Arg],
-    place: &Place,
-    state: &State,
-) -> Result<(), AllocError>
+pub(crate) fn eval(effect: &mut EffectBuffer, list: &[Arg], place: &Place) -> Result<(), AllocError>
     requires { effect.old ≡ nothing }
-    ensures { OnOk result (spec.eval list.now place.now state.now ≡ record { state = state.now; effect = effect.new }) }
+    ensures { OnOk result (effect.new ≡ spec.eval list.now place.now) }
 {
-    let _ = state;
     let alloc = effect.alloc();
     let mut messages = Vec::new(alloc);
     let buffer = effect.buffer();
@@ -77,7 +70,7 @@ fn radix_in(
     place: &Place,
     messages: &mut Vec<u8>,
 ) -> Result<Option<Radix>, AllocError>
-    ensures { IfOk result (λ radix. ReadsAs (λ s. spec.with_radix place.now s text.now) radix messages.old.items
+    ensures { IfOk result (λ radix. ReadsAs (spec.with_radix place.now text.now) radix messages.old.items
         messages.new.items) }
 {
     if text.is_empty() {
@@ -100,7 +93,7 @@ fn width_in(
     place: &Place,
     messages: &mut Vec<u8>,
 ) -> Result<Option<usize>, AllocError>
-    ensures { IfOk result (λ width. ReadsAs (λ s. spec.with_width place.now s
+    ensures { IfOk result (λ width. ReadsAs (spec.with_width place.now
         (option_map text_of_arg (option_copied arg.entry))) width messages.old.items messages.new.items) }
 {
     let Some(arg) = arg else {
@@ -126,7 +119,7 @@ fn value_in(
     place: &Place,
     messages: &mut Vec<u8>,
 ) -> Result<Option<i32>, AllocError>
-    ensures { IfOk result (λ value. ReadsAs (λ s. spec.with_value place.now s text.now) value messages.old.items
+    ensures { IfOk result (λ value. ReadsAs (spec.with_value place.now text.now) value messages.old.items
         messages.new.items) }
 {
     if is_blank(text) {

@@ -114,7 +114,7 @@ pub(crate) fn defn(
     state: &State,
 ) -> Result<(), BuiltinFault>
     requires { effect.old ≡ nothing }
-    ensures { OnOk result (spec.defn list.now place.now state.now ≡ record { state = state.now; effect = effect.new }) }
+    ensures { OnOk result (effect.new ≡ spec.defn list.now place.now state.now) }
 {
     match list {
         [] => Ok(()),

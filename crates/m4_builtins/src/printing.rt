@@ -29,8 +29,7 @@ pub(crate) fn dumpdef(
     state: &State,
 ) -> Result<(), BuiltinFault>
     requires { effect.old ≡ nothing }
-    ensures { OnOk result (spec.dumpdef list.now place.now state.now
-        ≡ record { state = state.now; effect = effect.new }) }
+    ensures { OnOk result (effect.new ≡ spec.dumpdef list.now place.now state.now) }
 {
     let alloc = effect.alloc();
     // All memory for names is allocated before the first message is made.
@@ -152,15 +151,10 @@ fn push_bracketed(name: &[u8], messages: &mut Vec<u8>) -> Result<(), AllocError>
 }
 
 /// Writes the arguments, joined by spaces, to the messages. Manual: "Printing error messages".
-pub(crate) fn errprint(
-    effect: &mut EffectBuffer,
-    list: &[Arg],
-    state: &State,
-) -> Result<(), AllocError>
+pub(crate) fn errprint(effect: &mut EffectBuffer, list: &[Arg]) -> Result<(), AllocError>
     requires { effect.old ≡ nothing }
-    ensures { OnOk result (spec.errprint list.now state.now ≡ record { state = state.now; effect = effect.new }) }
+    ensures { OnOk result (effect.new ≡ spec.errprint list.now) }
 {
-    let _ = state;
     let alloc = effect.alloc();
     let mut text = Vec::new(alloc);
     push_joined(&mut text, list, b' ')?;
@@ -176,7 +170,7 @@ pub(crate) fn file(
     state: &State,
 ) -> Result<(), AllocError>
     requires { effect.old ≡ nothing }
-    ensures { OnOk result (spec.file place.now state.now ≡ record { state = state.now; effect = effect.new }) }
+    ensures { OnOk result (effect.new ≡ spec.file place.now state.now) }
 {
     let name = if place.line == 0 {
         &[]
@@ -190,15 +184,10 @@ pub(crate) fn file(
 }
 
 /// Expands to the line of the call; to 0 in wrapped text. Manual: "Printing current location".
-pub(crate) fn line(
-    effect: &mut EffectBuffer,
-    place: &Place,
-    state: &State,
-) -> Result<(), AllocError>
+pub(crate) fn line(effect: &mut EffectBuffer, place: &Place) -> Result<(), AllocError>
     requires { effect.old ≡ nothing }
-    ensures { OnOk result (spec.line place.now state.now ≡ record { state = state.now; effect = effect.new }) }
+    ensures { OnOk result (effect.new ≡ spec.line place.now) }
 {
-    let _ = state;
     let mut buffer = Buffer::new();
     effect.give_copy(buffer.format(place.line).as_bytes())
 }

@@ -13,30 +13,23 @@ use crate::place::Place;
 use itoa::Buffer;
 use m4_state::builtin::Builtin;
 use m4_state::bytes::Bytes;
-use m4_state::state::State;
 use memchr::memmem;
 use std::alloc::AllocError;
 
 /// Expands to the number of bytes of the first argument. Manual: "Calculating length of strings".
-pub(crate) fn len(effect: &mut EffectBuffer, list: &[Arg], state: &State) -> Result<(), AllocError>
+pub(crate) fn len(effect: &mut EffectBuffer, list: &[Arg]) -> Result<(), AllocError>
     requires { effect.old ≡ nothing }
-    ensures { OnOk result (spec.len list.now state.now ≡ record { state = state.now; effect = effect.new }) }
+    ensures { OnOk result (effect.new ≡ spec.len list.now) }
 {
-    let _ = state;
     give_count(effect, text_at(list, 0).len())
 }
 
 /// Expands to the first place of the second argument in the first one, from 0; to -1 if there is none.
 /// Takes time in proportion to both. Manual: "Searching for substrings".
-pub(crate) fn index(
-    effect: &mut EffectBuffer,
-    list: &[Arg],
-    state: &State,
-) -> Result<(), AllocError>
+pub(crate) fn index(effect: &mut EffectBuffer, list: &[Arg]) -> Result<(), AllocError>
     requires { effect.old ≡ nothing }
-    ensures { OnOk result (spec.index list.now state.now ≡ record { state = state.now; effect = effect.new }) }
+    ensures { OnOk result (effect.new ≡ spec.index list.now) }
 {
-    let _ = state;
     match place_in(text_at(list, 0), text_at(list, 1)) {
         Some(place) => give_count(effect, place),
         None => effect.give_copy(b"-1"),
@@ -50,13 +43,10 @@ pub(crate) fn substr(
     effect: &mut EffectBuffer,
     list: &[Arg],
     place: &Place,
-    state: &State,
 ) -> Result<(), AllocError>
     requires { effect.old ≡ nothing }
-    ensures { OnOk result (spec.substr list.now place.now state.now
-        ≡ record { state = state.now; effect = effect.new }) }
+    ensures { OnOk result (effect.new ≡ spec.substr list.now place.now) }
 {
-    let _ = state;
     let [text, from, counts @ ..] = list else {
         return Ok(());
     };

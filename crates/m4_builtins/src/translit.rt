@@ -10,7 +10,6 @@ ghost use Rattle.m4_builtins.specs.Translit as spec;
 
 use crate::args::{Arg, text_at};
 use crate::effect_buffer::EffectBuffer;
-use m4_state::state::State;
 use std::alloc::{AllocError, Global};
 
 /// The replacement of each byte, by its number; none if it is deleted.
@@ -19,15 +18,10 @@ type Changes = [Option<u8>; 256];
 /// Expands to the first argument with the bytes of the second one replaced by those of the third. Takes
 /// time in proportion to the text and to the expanded ranges. Manual: "Translating
 /// characters".
-pub(crate) fn translit(
-    effect: &mut EffectBuffer,
-    list: &[Arg],
-    state: &State,
-) -> Result<(), AllocError>
+pub(crate) fn translit(effect: &mut EffectBuffer, list: &[Arg]) -> Result<(), AllocError>
     requires { effect.old ≡ nothing }
-    ensures { OnOk result (spec.translit list.now state.now ≡ record { state = state.now; effect = effect.new }) }
+    ensures { OnOk result (effect.new ≡ spec.translit list.now) }
 {
-    let _ = state;
     let alloc = effect.alloc();
     let from = ranges(alloc, text_at(list, 1))?;
     let to = ranges(alloc, text_at(list, 2))?;

@@ -27,5 +27,5 @@ returns c =
       | then-is_none+in_ok-out_of_range_message+in_ok-extend_from_slice w ↦ radix_lost p _ _ (radix_at n) (search rules) (search rules)
       | else-is_none w ↦ radix_kept p _ _ (radix_at n) (search rules) (search rules)
     ] in
-    subst (λ o. ReadsAs (λ s. with_radix p s text) o c.args.messages.now.items c.if-is_none.messages.items) (sym radix)
+    subst (λ o. ReadsAs (with_radix p text) o c.args.messages.now.items c.if-is_none.messages.items) (sym radix)
     (radix_read p text n c.args.messages.now.items c.number_in.new.messages.items c.if-is_none.messages.items some read warned after_it)

@@ -6,7 +6,7 @@ use Rattle.m4_builtins.proofs.ActKeeps.{second_valid}
 use Rattle.m4_builtins.proofs.naming.define.Goals as goal
 
 -- the second argument is in order as a definition
-pub define_borrowed-requires : goal.define-requires
+pub define_borrowed-requires : goal.define_borrowed-requires
 define_borrowed-requires c =
     let valid = subst (AllByRecursion IsArg) c.in-Some.ensures.cases.0 c.requires.args in
     subst IsDefinition (sym c.in_ok-def-in-Text.ensures) (second_valid c.in-Some.rest.now valid.1)

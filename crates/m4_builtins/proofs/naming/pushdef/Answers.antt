@@ -6,10 +6,10 @@ use Rattle.m4_builtins.proofs.ActKeeps.{second_valid}
 use Rattle.m4_builtins.proofs.naming.pushdef.Goals as goal
 
 -- the second argument is in order as a definition
-pub push_borrowed-requires : goal.push-requires
+pub push_borrowed-requires : goal.push_borrowed-requires
 push_borrowed-requires c =
     let valid = subst (AllByRecursion IsArg) c.in-Some.ensures.cases.0 c.requires.args in
     subst IsDefinition (sym c.in_ok-def-in-Text.ensures) (second_valid c.in-Some.rest.now valid.1)
 
-pub returns-in_ok-push_borrowed-in-Text : goal.returns-in_ok-push-in-Text
+pub returns-in_ok-push_borrowed-in-Text : goal.returns-in_ok-push_borrowed-in-Text
 returns-in_ok-push_borrowed-in-Text c = search rules

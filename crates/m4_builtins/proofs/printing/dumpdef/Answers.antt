@@ -1,10 +1,10 @@
-use Rattle.std.proofs.Common.{◌≡◌, ◌++◌, ℕ, List, ap, sym, ◌∙◌, rules}
+use Rattle.std.proofs.Common.{◌≡◌, ◌++◌, ℕ, List, ap, ◌∙◌, rules}
 use Rattle.std.specs.Ordering.{is_lt}
 use Rattle.std.specs.Cmp.Lexicographic.{nat_list_cmp_total}
 use Rattle.std.proofs.lemmas.List.Sorted.{ranks_by, answers_always}
 use Rattle.m4_state.specs.Table.{byte_order}
 use Rattle.m4_builtins.specs.declared.effect.Effect.{Effect}
-use Rattle.m4_builtins.specs.Acted.{Acted, only_warning}
+use Rattle.m4_builtins.specs.Acted.{only_warning}
 use Rattle.m4_builtins.specs.Printing.{names_shown, warnings_on, lines_of, in_byte_order, dumped}
 use Rattle.m4_builtins.proofs.SortedTexts.{sorted_in_byte_order}
 use Rattle.m4_builtins.proofs.printing.dumpdef.Goals as goal
@@ -21,4 +21,4 @@ returns c =
     let second : c.push_lines.new.messages.items ≡ c.push_warnings.new.messages.items ++ lines_of c.sort_unstable_by.new.self.items s = search rules in
     let messages : c.from.result ≡ dumped (names_shown c.args.list.now s) p s =
     c.from.ensures ∙ second ∙ (λ i. first i ++ lines_of (ordered i) s) ∙ ap (λ (ns : List (List ℕ)). dumped ns p s) c.in_ok-names.ensures in
-    ap (λ (x : List ℕ). only_warning s x) (sym messages) ∙ ap (λ (e : Effect). let r : Acted = record { state = s; effect = record e { messages = c.from.result } } in r) (sym c.requires) ∙ ap (λ (e : Effect). let r : Acted = record { state = s; effect = e } in r) (sym c.warn.ensures)
+    c.warn.ensures ∙ ap (λ (e : Effect). record e { messages = c.from.result }) c.requires ∙ ap only_warning messages

@@ -1,4 +1,4 @@
-use Rattle.std.proofs.Common.{◌≡◌, map, ap, ◌∙◌, sym, length, rules}
+use Rattle.std.proofs.Common.{◌≡◌, map, ◌∙◌, sym, rules}
 use Rattle.m4_input.specs.DelimsView.{pair_of}
 use Rattle.m4_builtins.specs.Args.{text_of_arg}
 use Rattle.m4_builtins.proofs.Joins.{all_plain}
