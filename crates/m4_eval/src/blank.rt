@@ -7,7 +7,7 @@ ghost use Rattle.m4_input.specs.Ascii as ascii;
 ghost use Rattle.m4_input.specs.Token.{run_length};
 
 /// Returns whether a byte is white space.
-pub fn is_space(byte: u8) -> bool
+pub(crate) fn is_space(byte: u8) -> bool
     ensures { result ≡ ascii.is_space byte }
 {
     byte == b' ' || (9 <= byte && byte <= 13)

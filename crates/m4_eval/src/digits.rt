@@ -1,10 +1,11 @@
 //! Writes a number in a radix. Manual: "Evaluating integer expressions".
 
-ghost use Rattle.std.specs.Prelude.{◌≡◌, ◌<◌, IfOk, drop, false};
+ghost use Rattle.std.specs.Prelude.{◌≡◌, ◌<◌, IfOk, drop, false, length};
 ghost use Rattle.std.specs.Fmt.{digits, digit_glyph};
 ghost use Rattle.m4_eval.specs.InRadix as spec;
 
 use crate::radix::Radix;
+use itoa::Buffer;
 use std::alloc::AllocError;
 
 /// Returns a value in a radix: `-` if it is negative, and the digits of its absolute value, in lower
@@ -21,9 +22,9 @@ pub fn in_radix(
     // exact expressions: the sign, the zeros and the digits
     ensures text { IfOk result (λ v. v.items ≡ spec.in_radix radix width value) }
 {
+    let mut decimal = Buffer::new();
     let mut room = [0; 64];
-    let start = write_digits(value.unsigned_abs(), radix, &mut room);
-    let digits = room.as_slice().split_at(start).1;
+    let digits = digits_of(value.unsigned_abs(), radix, &mut decimal, &mut room);
     let zeros = width.saturating_sub(digits.len());
     let mut text = buffer;
     text.clear();
@@ -35,39 +36,25 @@ pub fn in_radix(
     Ok(text)
 }
 
-/// Writes the digits of a number at the end of a buffer, and returns where they start.
-fn write_digits(number: u32, radix: Radix, room: &mut [u8; 64]) -> usize
-    ensures within { result < 64 }
-    ensures value { drop result room.new ≡ digits radix false number }
+/// Returns the digits of a number in a radix. Those of radix 10 are in the first buffer, others in the second one.
+fn digits_of<'a>(
+    number: u32,
+    radix: Radix,
+    decimal: &'a mut Buffer,
+    room: &'a mut [u8; 64],
+) -> &'a [u8]
+    ensures some { 0 < length result.now }
+    ensures value { result.now ≡ digits radix false number }
 {
     if radix.value() == 10 {
-        write_decimal(number, room)
-    } else {
-        write_in(number, radix, room)
+        return decimal.format(number).as_bytes();
     }
-}
-
-/// Writes the decimal digits of a number at the end of a buffer, and returns where they start. A division
-/// by a constant takes far less time than one by a radix.
-fn write_decimal(number: u32, room: &mut [u8; 64]) -> usize
-    ensures within { result < 64 }
-    ensures value { drop result room.new ≡ digits 10 false number }
-{
-    let mut i = 64;
-    let mut rest = number;
-    while i > 0 {
-        i -= 1;
-        room[i] = digit_byte(rest % 10);
-        rest /= 10;
-        if rest == 0 {
-            break;
-        }
-    }
-    i
+    let start = write_digits(number, radix, room);
+    room.as_slice().split_at(start).1
 }
 
 /// Writes the digits of a number in a radix at the end of a buffer, and returns where they start.
-fn write_in(number: u32, radix: Radix, room: &mut [u8; 64]) -> usize
+fn write_digits(number: u32, radix: Radix, room: &mut [u8; 64]) -> usize
     ensures within { result < 64 }
     ensures value { drop result room.new ≡ digits radix false number }
 {

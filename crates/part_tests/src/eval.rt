@@ -3,7 +3,7 @@
 
 use crate::report::{Report, repeated};
 use crate::shows::shows;
-use m4_eval::blank::{is_blank, is_space, spaces_len};
+use m4_eval::blank::{is_blank, spaces_len};
 use m4_eval::digits::in_radix;
 use m4_eval::evaluate::{Evaluated, evaluate};
 use m4_eval::radix::Radix;
@@ -154,8 +154,6 @@ fn white_space(rt: HostRuntime) {
 }
 
 #[test]
-fn one_byte_of_white_space_and_the_usual_radix(rt: HostRuntime) {
-    assert!(rt; is_space(b'\r'));
-    assert!(rt; !is_space(b'x'));
+fn the_usual_radix_is_ten(rt: HostRuntime) {
     assert!(rt; Radix::decimal().value() == 10);
 }

@@ -1,6 +1,6 @@
 use Rattle.std.proofs.Common.{◌≡◌, ◌≤◌, length, drop, false}
 use Rattle.std.specs.Fmt.{digits_onto, digits}
-use Rattle.m4_eval.proofs.digits.write_in.Given as goal
+use Rattle.m4_eval.proofs.digits.write_digits.Given as goal
 
 -- the digits that are left to write, followed by those that are written, are all of them
 abbrev pub invariant-loop-i : goal.invariant-loop-i
