@@ -73,9 +73,9 @@ fn text_call_of(alloc: Global, name: &str, texts: &[&str]) -> Result<Args, Alloc
     })
 }
 
-// Adds the arguments of a call.
-fn describe_arguments(args: &Args, report: &mut Report) {
-    for arg in args.list.as_slice() {
+// Adds arguments.
+fn describe_arguments(list: &[Arg], report: &mut Report) {
+    for arg in list {
         match arg {
             Arg::Text(text) => report.pair(text.as_slice(), b"; "),
             Arg::Definition(_) => report.add(b"a definition; "),
@@ -83,15 +83,23 @@ fn describe_arguments(args: &Args, report: &mut Report) {
     }
 }
 
-// Returns the arguments of a call, read back.
+// Returns the arguments of a call, read and then given back.
 fn arguments(alloc: Global) -> Result<Vec<u8>, AllocError> {
     let args = text_call_of(alloc, "f", &["one", "two"])?;
     let mut report = Report::new(alloc);
-    describe_arguments(&args, &mut report);
+    describe_arguments(args.list.as_slice(), &mut report);
+    report.add(b"and ");
+    let items = args.list.into_vec();
+    describe_arguments(items.as_slice(), &mut report);
     report.text()
 }
 
 #[test]
 fn arguments_in_their_order(rt: HostRuntime) {
-    shows(&rt, "two texts", b"one; two; ", arguments(rt.alloc()));
+    shows(
+        &rt,
+        "two texts",
+        b"one; two; and one; two; ",
+        arguments(rt.alloc()),
+    );
 }

@@ -1,61 +1,82 @@
-//! Arguments that are numbers. Manual: "Macro arguments", "Diverting output".
+//! Arguments that are numbers, as `incr` reads them. Manual: "Macro arguments", "Decrement and increment operators".
 
-use crate::report::Report;
+use super::steps::{Row, Step, report_of, tried};
 use crate::shows::shows;
-use m4_builtins::number::{Reading, reading_of};
-use std::alloc::{AllocError, Global};
 
-// A row's name, an argument, and the result of reading it.
-type Row = (&'static str, &'static str, &'static str);
-
-static ROWS: [Row; 21] = [
-    ("digits", "12", "12"),
-    ("white space in front", " \t\n\x0b\x0c\r12", "12"),
-    ("a plus", "+5", "5"),
-    ("a zero with a minus", "-0", "0"),
-    ("the greatest", "2147483647", "2147483647"),
-    ("the least", "-2147483648", "-2147483648"),
+static NUMBERS: [Row; 8] = [
+    ("digits", false, &[Step::Call("incr", &["12"])], "push 13\n"),
+    (
+        "white space in front",
+        false,
+        &[Step::Call("incr", &[" \t\n\x0b\x0c\r12"])],
+        "push 13\n",
+    ),
+    ("a plus", false, &[Step::Call("incr", &["+5"])], "push 6\n"),
+    (
+        "a zero with a minus",
+        false,
+        &[Step::Call("incr", &["-0"])],
+        "push 1\n",
+    ),
+    (
+        "one below the greatest",
+        false,
+        &[Step::Call("incr", &["2147483646"])],
+        "push 2147483647\n",
+    ),
+    (
+        "the least",
+        false,
+        &[Step::Call("incr", &["-2147483648"])],
+        "push -2147483647\n",
+    ),
     (
         "many leading zeros",
-        "0000000000000000000000000000000000000005",
-        "5",
+        false,
+        &[Step::Call("incr", &["0000000000000000000000000000000000000005"])],
+        "push 6\n",
     ),
     (
         "many leading zeros after a minus",
-        " -0000000000000000000000000000000000000007",
-        "-7",
+        false,
+        &[Step::Call("incr", &[" -0000000000000000000000000000000000000007"])],
+        "push -6\n",
     ),
-    ("nothing", "", "empty"),
-    // arguments that are no numbers
-    ("one above the greatest", "2147483648", "not numeric"),
-    ("one below the least", "-2147483649", "not numeric"),
-    ("30 digits", "123456789012345678901234567890", "not numeric"),
-    ("2 to the power 64", "18446744073709551616", "not numeric"),
-    ("a letter after", "1x", "not numeric"),
-    ("a letter", "x", "not numeric"),
-    ("white space alone", "  ", "not numeric"),
-    ("white space after", "1 ", "not numeric"),
-    ("white space after a sign", "- 1", "not numeric"),
-    ("a sign alone", "-", "not numeric"),
-    ("two signs", "+-1", "not numeric"),
-    ("the bytes beside the digits", "/:", "not numeric"),
 ];
 
-// Reports an argument.
-fn reading_seen(alloc: Global, text: &[u8]) -> Result<Vec<u8>, AllocError> {
-    let mut report = Report::new(alloc);
-    match reading_of(text) {
-        Reading::Number(number) => report.number(number),
-        Reading::Empty => report.add(b"empty"),
-        Reading::NotNumeric => report.add(b"not numeric"),
-    }
-    report.text()
-}
+// Texts that are no numbers, each with its name.
+static NO_NUMBERS: [(&str, Step); 11] = [
+    ("one above the greatest", Step::Call("incr", &["2147483648"])),
+    ("one below the least", Step::Call("incr", &["-2147483649"])),
+    (
+        "30 digits",
+        Step::Call("incr", &["123456789012345678901234567890"]),
+    ),
+    (
+        "2 to the power 64",
+        Step::Call("incr", &["18446744073709551616"]),
+    ),
+    ("a letter after", Step::Call("incr", &["1x"])),
+    ("white space alone", Step::Call("incr", &["  "])),
+    ("white space after", Step::Call("incr", &["1 "])),
+    ("white space after a sign", Step::Call("incr", &["- 1"])),
+    ("a sign alone", Step::Call("incr", &["-"])),
+    ("two signs", Step::Call("incr", &["+-1"])),
+    ("the bytes beside the digits", Step::Call("incr", &["/:"])),
+];
+
+// What is said of each of them.
+const WARNING: &str = "m4:a.m4:1: Warning: non-numeric argument to builtin `incr'\n";
 
 #[test]
 fn arguments_and_the_numbers_that_they_are(rt: HostRuntime) {
-    for row in &ROWS {
-        let got = reading_seen(rt.alloc(), row.1.as_bytes());
-        shows(&rt, row.0, row.2.as_bytes(), got);
+    tried(&rt, rt.alloc(), &NUMBERS);
+}
+
+#[test]
+fn texts_that_are_no_numbers(rt: HostRuntime) {
+    for &(name, step) in &NO_NUMBERS {
+        let got = report_of(rt.alloc(), false, &[step]);
+        shows(&rt, name, WARNING.as_bytes(), got);
     }
 }

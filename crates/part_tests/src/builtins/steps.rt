@@ -63,27 +63,35 @@ fn describe_push(push: Option<Pushed>, report: &mut Report) {
 }
 
 // Adds what is left for the end of the run: a saved text, or an exit code.
-fn describe_end(effect: &mut Effect, report: &mut Report) {
-    if let Some(text) = effect.take_wrap() {
+fn describe_end(wrap: Option<Bytes>, exit: Option<u8>, report: &mut Report) {
+    if let Some(text) = wrap {
         describe_text(b"wrap ", text.as_slice(), report);
     }
-    if let Some(code) = effect.exit() {
+    if let Some(code) = exit {
         report.counted(b"exit ", code as usize);
         report.add(b"\n");
     }
 }
 
 // Adds the effect of a call.
-fn describe(effect: &mut Effect, report: &mut Report) {
-    describe_push(effect.take_push(), report);
-    if effect.skips() {
+fn describe(effect: Effect, report: &mut Report) {
+    let Effect {
+        push,
+        messages,
+        output,
+        wrap,
+        skip,
+        exit,
+    } = effect;
+    describe_push(push, report);
+    if skip {
         report.add(b"skip\n");
     }
-    if !effect.output().is_empty() {
-        describe_text(b"output ", effect.output(), report);
+    if !output.as_slice().is_empty() {
+        describe_text(b"output ", output.as_slice(), report);
     }
-    report.add(effect.messages());
-    describe_end(effect, report);
+    report.add(messages.as_slice());
+    describe_end(wrap, exit, report);
 }
 
 // Returns the effect of a call.
@@ -115,7 +123,7 @@ fn call(
 {
     match args {
         Ok(args) => match acted(alloc, state, called, &args) {
-            Ok(mut effect) => describe(&mut effect, report),
+            Ok(effect) => describe(effect, report),
             Err(BuiltinFault::OutOfMemory) => report.refuse(),
         },
         Err(AllocError) => report.refuse(),

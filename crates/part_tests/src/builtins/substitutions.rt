@@ -76,8 +76,7 @@ fn given(alloc: Global, text: &str, args: &Args, quotes: Quotes) -> Result<Vec<u
     match substitute(
         alloc,
         text.as_bytes(),
-        args.name.as_slice(),
-        args.list.as_slice(),
+        args,
         (quotes.0.as_bytes(), quotes.1.as_bytes()),
     ) {
         Ok(got) => joined(alloc, &[got.as_slice()]),
