@@ -5,6 +5,10 @@
 //! `arithmetic`, `eval`, `ending`. `specs/Act.antt` defines the effect of each call, with a file for each
 //! chapter; `specs/Subst.antt` the expansion of a text; `specs/Messages.antt` the messages.
 //! Manual: "Definitions", "Conditionals", "Input control", and the chapters of the builtins.
+//!
+//! For users of the crate: `act::act` and `substitute::substitute`, with [`args`], [`place`], [`effect`] and [`fault`]. For
+//! the engine: `act::act_on` and [`effect_buffer`], by which calls fill one effect in turn, `act::needs_list`, and the two
+//! messages of [`messages`] that it writes itself.
 #![tactic(auto)]
 
 pub mod act;

@@ -1,13 +1,19 @@
 -- Evaluated: the value of the text of an expression.
--- Believed. Manual: "Evaluating integer expressions". Words: evaluated.
--- It reads the text by `ReadExpression`. By the law `ReadsExpressions` this finds exactly the
--- expression that the text spells.
-use Rattle.std.specs.Prelude.{ℕ, ℤ, List, Option, Some, None}
+-- Believed: IsEvaluated. `evaluated` computes it by `ReadExpression`, which finds exactly the expression that a text
+-- spells, by the law `ReadsExpressions`. Manual: "Evaluating integer expressions". Words: IsEvaluated, evaluated.
+use Rattle.std.specs.Prelude.{◌≡◌, ℕ, ℤ, List, Option, Some, None}
 use Rattle.m4_eval.specs.declared.evaluate.Evaluated.{Evaluated}
 use Rattle.m4_eval.specs.declared.evaluate.Evaluated.TheVariants.{Value, DivideByZero, BadExpression}
 use Rattle.m4_eval.specs.Expression.{Expression}
+use Rattle.m4_eval.specs.SpellsExpression.{SpellsExpression}
 use Rattle.m4_eval.specs.ReadExpression.{expression_at}
 use Rattle.m4_eval.specs.Value.{value}
+
+-- a text's value is that of the expression that it spells, unless a zero divides in it, or it spells none
+abbrev pub IsEvaluated : List ℕ → Evaluated → Type 0
+IsEvaluated text (Value z) = (e : Expression) × SpellsExpression e text × (value e ≡ Some z)
+IsEvaluated text DivideByZero = (e : Expression) × SpellsExpression e text × (value e ≡ None)
+IsEvaluated text BadExpression = (e : Expression) → SpellsExpression e text → ⊥
 
 -- the value, unless a zero divides
 abbrev pub of_value : Option ℤ → Evaluated

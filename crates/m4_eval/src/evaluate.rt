@@ -24,6 +24,8 @@ pub enum Evaluated {
 /// Fails only if an allocation fails. The time and the memory are proportional to the text.
 pub fn evaluate(alloc: Global, text: &[u8]) -> Result<Evaluated, AllocError>
     // exact expressions: the value of the expression that the text spells, if it has one
+    ensures spelled { IfOk result (λ v. spec.IsEvaluated text.now v) }
+    // exact expressions: it is computed as the text is read
     ensures value { IfOk result (λ v. v ≡ spec.evaluated text.now) }
 {
     match value_of(alloc, text)? {

@@ -4,6 +4,10 @@
 //! defines the pending input, `specs/Token.antt` its first token, `specs/Paren.antt` whether an argument
 //! list follows, and `specs/Input.antt` the effect of each call.
 //! Manual: "Lexical and syntactic conventions", "How m4 copies input to output".
+//!
+//! For users of the crate: `Input::file`, `wrapped`, `next`, `sees_paren`, `skip_line`, `push_front`, `line` and `name`, with
+//! [`delims`], [`token`], [`pushed`] and [`fault`]. For the engine, which takes many tokens at once: the calls of `Input` on
+//! the bytes in hand, with [`front`], [`look`] and [`lanes`].
 #![tactic(auto)]
 
 pub mod delims;
