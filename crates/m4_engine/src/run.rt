@@ -20,6 +20,7 @@ ghost use Rattle.m4_engine.specs.Session.{CloseGives, ByAnswer, WriteFails, Mess
 ghost use Rattle.m4_engine.specs.Session.{SourcesFail, SparesBy, last_state, progress_of, status_at};
 ghost use Rattle.m4_engine.specs.OnePass.{OnePass};
 ghost use Rattle.m4_engine.specs.SourcesRead.{SourceGives, SourcesGive, RunReached};
+ghost use Rattle.m4_engine.specs.RunKept.{IsRun};
 ghost use Rattle.m4_engine.specs.WholeRun.{RunGives, NothingIsDone, result_after, ending_by};
 
 use crate::ending::{Cause, Ending};
@@ -29,16 +30,6 @@ use crate::source::Source;
 use crate::stop::Stop;
 use m4_state::device::{ByteSink, ByteSource};
 use std::alloc::Global;
-
-/// The end of a run, and what is left of it.
-#[derive(Drop)]
-pub struct Ran {
-    /// How the run ended.
-    pub ending: Ending,
-    /// The session, with the state and all its definitions; none if the run did not begin. A program that ends
-    /// now may leave it to the end of the process, and need not free each definition.
-    pub session: Option<Session>,
-}
 
 /// Runs over the sources in order, from the frozen file if there is one, otherwise from the fresh state. At
 /// the end it undiverts all diversions or, if the options ask for it, freezes its state. The bytes that it
@@ -55,37 +46,37 @@ pub fn run<R: ByteSource, O: ByteSink, M: ByteSink, Z: ByteSink>(
     out: &mut O,
     messages: &mut M,
     freeze_to: &mut Z,
-) -> Ran
+) -> Ending
     // whole run: the bytes written and the ending are those of the definition of a run
     ensures gives { (file : Option Script) → DescribesFrozen R.script frozen.old file
         → (ss : List Said) → DescribeSources R.script sources.old sources.new ss →
-        RunGives (defined options file ss) result.ending
+        RunGives (defined options file ss) result
         (three Z.contents (both O.contents M.contents out.old out.new messages.old messages.new) freeze_to.old
         freeze_to.new) }
     // whole run: the status of its cause, which is 1 after a source that wasn't opened
-    ensures status { (any_missing : Bool) × (result.ending.status ≡ status_of (Ends result.ending.cause) any_missing)
-        × (result.ending.cause ≡ Cause.Done → any_missing ≡ any_unopened sources.old) }
+    ensures status { (any_missing : Bool) × (result.status ≡ status_of (Ends result.cause) any_missing)
+        × (result.cause ≡ Cause.Done → any_missing ≡ any_unopened sources.old) }
     // whole run: after `m4exit` it is that of its code, for 0 by the sources before the one that called it
-    ensures exited { (code : ℕ) → result.ending.cause ≡ Cause.Exited code → (any_missing : Bool)
-        × (result.ending.status ≡ status_of (Ends (Cause.Exited code)) any_missing)
+    ensures exited { (code : ℕ) → result.cause ≡ Cause.Exited code → (any_missing : Bool)
+        × (result.status ≡ status_of (Ends (Cause.Exited code)) any_missing)
         × MissedBy sources.old sources.new any_missing }
     // whole run: a frozen state is sized
     ensures sized { (file : Option Script) → DescribesFrozen R.script frozen.old file
         → (ss : List Said) → DescribeSources R.script sources.old sources.new ss →
-        result.ending.cause ≡ Cause.Done → options.freeze ≡ true
+        result.cause ≡ Cause.Done → options.freeze ≡ true
         → IsSized (frozen_state options (start_of options.prefix file) ss) }
     // torn files: if each put of the frozen text is taken whole, a write fault leaves nothing of it, or a torn
     // beginning
     ensures torn { Z.takes_whole ≡ true → (file : Option Script) → DescribesFrozen R.script frozen.old file
-        → (ss : List Said) → DescribeSources R.script sources.old sources.new ss → result.ending.cause ≡ Cause.Write
+        → (ss : List Said) → DescribeSources R.script sources.old sources.new ss → result.cause ≡ Cause.Write
         → FreezeLeaves (frozen_state options (start_of options.prefix file) ss) (Z.contents freeze_to.old)
         (Z.contents freeze_to.new) }
     // safe and total: a read fault is reported if a reader failed in this call, and only then
-    ensures read { ReadersFailBy R.failures result.ending.cause sources.old sources.new }
+    ensures read { ReadersFailBy R.failures result.cause sources.old sources.new }
     // safe and total: a read fault of a frozen file is reported only if its reader failed in this call
-    ensures frozen_read { FrozenFailsBy R.failures result.ending.cause frozen.old frozen.new }
+    ensures frozen_read { FrozenFailsBy R.failures result.cause frozen.old frozen.new }
     // safe and total: a write fault is reported only if a writer failed in this call
-    ensures write { ByCause result.ending.cause
+    ensures write { ByCause result.cause
         (NoneOfThree (three Z.failures (both O.failures M.failures out.old out.new messages.old messages.new)
         freeze_to.old freeze_to.new))
         (OneOfThree (three Z.failures (both O.failures M.failures out.old out.new messages.old messages.new)
@@ -97,18 +88,58 @@ pub fn run<R: ByteSource, O: ByteSink, M: ByteSink, Z: ByteSink>(
     // one pass: the sources are read in order, each only as far as the bytes in hand leave the run open; all that
     // these settle is written before further bytes are asked for
     ensures one_pass { (file : Option Script) → DescribesFrozen R.script frozen.old file
-        → OnePass R.script sources.old sources.new options (start_of options.prefix file) result.ending.cause
+        → OnePass R.script sources.old sources.new options (start_of options.prefix file) result.cause
         (both O.contents M.contents out.old out.new messages.old messages.new) }
     // faults leave beginnings: if a frozen file is refused, no source is read and nothing is written
-    ensures refused { (fault : FrozenFault) → result.ending.cause ≡ Cause.Frozen fault
+    ensures refused { (fault : FrozenFault) → result.cause ≡ Cause.Frozen fault
         → NothingIsDone sources.old sources.new
         (three Z.contents (both O.contents M.contents out.old out.new messages.old messages.new) freeze_to.old
         freeze_to.new) }
     // whole run: only a run that freezes, and reached its end, uses the writer of the frozen text
     ensures spared { options.freeze ≡ false → freeze_to.new ≡ freeze_to.old }
-    ensures spared_by { Spares result.ending.cause
+    ensures spared_by { Spares result.cause
         (three Z.contents (both O.contents M.contents out.old out.new messages.old messages.new) freeze_to.old
         freeze_to.new) }
+{
+    let ran = run_keeping(alloc, options, frozen, sources, out, messages, freeze_to);
+    ran.ending
+}
+
+/// The end of a run, and what is left of it.
+#[doc(hidden)]
+#[derive(Drop)]
+pub struct Ran {
+    /// How the run ended.
+    pub ending: Ending,
+    /// The session, with the state and all its definitions; none if the run did not begin.
+    pub session: Option<Session>,
+}
+
+/// Runs as [`run`] does, and returns the session with the ending: a program that ends now leaves it to the end of the
+/// process, and frees none of its definitions. That is a quarter of a short run from a large frozen file.
+#[doc(hidden)]
+pub fn run_keeping<R: ByteSource, O: ByteSink, M: ByteSink, Z: ByteSink>(
+    alloc: Global,
+    options: Options,
+    frozen: &mut Option<R>,
+    sources: &mut [Source<R>],
+    out: &mut O,
+    messages: &mut M,
+    freeze_to: &mut Z,
+) -> Ran
+    ensures { IsRun R.script R.failures Z.takes_whole (record {
+      options = options;
+      file_old = frozen.old;
+      file_new = frozen.new;
+      sources_old = sources.old;
+      sources_new = sources.new;
+      contents = three Z.contents (both O.contents M.contents out.old out.new messages.old messages.new) freeze_to.old
+          freeze_to.new;
+      failures = three Z.failures (both O.failures M.failures out.old out.new messages.old messages.new) freeze_to.old
+          freeze_to.new;
+      freeze_old = freeze_to.old;
+      freeze_new = freeze_to.new;
+    }) result.ending }
 {
     let mut session = match begin(alloc, options, frozen, out) {
         Ok(session) => session,

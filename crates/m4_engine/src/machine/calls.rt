@@ -30,7 +30,11 @@ use m4_state::state::State;
 use std::alloc::AllocError;
 
 /// Acts on the complete arguments of a call: changes the state, and fills an effect that is clear.
-fn act_on_call(effect: &mut EffectBuffer, call: &OpenCall, state: &mut State) -> Result<(), TurnFault>
+fn act_on_call(
+    effect: &mut EffectBuffer,
+    call: &OpenCall,
+    state: &mut State,
+) -> Result<(), TurnFault>
     requires { effect.old ≡ nothing }
     ensures { OnOk result (act call.now.definition call.now.name call.now.done call.now.place state.old
         ≡ record { state = state.new; effect = effect.new }) }

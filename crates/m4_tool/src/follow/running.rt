@@ -17,7 +17,7 @@ use crate::line::Line;
 use crate::world::{Shows, World};
 use m4_engine::ending::{Cause, Ending};
 use m4_engine::options::Options;
-use m4_engine::run::run;
+use m4_engine::run::run_keeping;
 use m4_engine::source::Source;
 use m4_state::bytes::Bytes;
 use std::alloc::{AllocError, Global};
@@ -132,7 +132,7 @@ fn run_late<W: World, K: Place, O: Shows, M: Shows>(
         (M.failures messages.old) (M.failures messages.new) K.failures (W.failures result.world)) }
 {
     let mut late: LateFile<W, K> = LateFile::new(world, name);
-    let ran = run(alloc, options, frozen, sources, out, messages, &mut late);
+    let ran = run_keeping(alloc, options, frozen, sources, out, messages, &mut late);
     // The program ends after this, so the definitions are not freed one by one.
     forget(ran.session);
     Ran {

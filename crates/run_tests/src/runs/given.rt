@@ -137,8 +137,7 @@ pub fn run_over<'a>(
         &mut output,
         &mut messages,
         &mut frozen_text,
-    )
-    .ending;
+    );
     Seen {
         output,
         messages,

@@ -97,8 +97,7 @@ fn run_row(
         &mut output,
         &mut messages,
         &mut frozen_text,
-    )
-    .ending;
+    );
     Seen {
         output,
         messages,

@@ -1,91 +1,41 @@
-use Rattle.std.proofs.Common.{rules, refl, inl}
-use Rattle.m4_state.specs.State.{State, IsSized}
-use Rattle.m4_engine.specs.Start.{start_of}
-use Rattle.m4_engine.specs.Writers.{both, three}
-use Rattle.m4_engine.proofs.Whole.{left_status}
-use Rattle.m4_engine.proofs.Starts as starts
-use Rattle.m4_engine.proofs.Readers.{none_taken_yet, all_sound, run_fails}
-use Rattle.m4_engine.proofs.RunReached.{never_passed, passed}
-use Rattle.m4_engine.specs.Session.{FreezeLeaves}
-use Rattle.m4_engine.proofs.Tears.{ended_write}
-use Rattle.m4_engine.proofs.Missed.{begun_unmissed, left_exited, never_exited}
+-- Each clause is one of the call that keeps the session.
 use Rattle.m4_engine.proofs.run.run.Goals as goal
 
-pub returns-in-Err-clause-gives : goal.returns-in-Err-clause-gives
-returns-in-Err-clause-gives g c = λ file t ss s. starts.never_gives c.args.options (start_of c.args.options.prefix file) ss c.begin.result c.in-Err.stop c.status.result c.ending.result _ _ _ _ (search rules) c.status.ensures c.ending.ensures (c.begin.ensures.begins file t)
-
 pub returns-clause-gives : goal.returns-clause-gives
-returns-clause-gives g c = λ file t ss s. starts.begun_gives c.args.options (start_of c.args.options.prefix file) ss c.in-Ok.session c.begin.result c.ending-2.result _ _ _ _ _ _ _ _ (search rules) (search rules) (c.begin.ensures.begins file t) (c.read_to_end-answer.ensures.gives ss s)
-
-pub returns-in-Err-clause-status : goal.returns-in-Err-clause-status
-returns-in-Err-clause-status g c = starts.never_status c.args.options c.begin.result c.in-Err.stop c.status.result c.ending.result _ (search rules) c.status.ensures c.ending.ensures c.begin.ensures.begun
+returns-clause-gives g c = c.run_keeping-ran.ensures.gives
 
 pub returns-clause-status : goal.returns-clause-status
-returns-clause-status g c = left_status c.read_to_end-answer.new.session c.read_to_end-answer.result c.ending-2.result _ c.read_to_end-answer.ensures.left (search rules) (search rules)
-
-pub returns-in-Err-clause-read : goal.returns-in-Err-clause-read
-returns-in-Err-clause-read g c = starts.never_read g.R.ByteSource.failures c.args.sources.now c.args.sources.now c.args.options c.begin.result c.in-Err.stop c.status.result c.ending.result (search rules) c.status.ensures c.ending.ensures c.begin.ensures.begun (all_sound g.R.ByteSource.failures c.args.sources.now)
-
-pub returns-clause-read : goal.returns-clause-read
-returns-clause-read g c = run_fails g.R.ByteSource.failures _ c.args.sources.now c.read_to_end-answer.new.sources c.read_to_end-answer.result c.ending-2.result c.ending-2.ensures c.read_to_end-answer.ensures.read
-
-pub returns-in-Err-clause-taken : goal.returns-in-Err-clause-taken
-returns-in-Err-clause-taken g c = none_taken_yet g.R.ByteSource.script c.args.sources.now
-
-pub returns-in-Err-clause-frozen_read : goal.returns-in-Err-clause-frozen_read
-returns-in-Err-clause-frozen_read g c = starts.never_frozen g.R.ByteSource.failures c.args.frozen.now c.begin.new.frozen c.args.options c.begin.result c.in-Err.stop c.status.result c.ending.result (search rules) c.status.ensures c.ending.ensures c.begin.ensures.begun c.begin.ensures.read
-
-pub returns-clause-frozen_read : goal.returns-clause-frozen_read
-returns-clause-frozen_read g c = starts.begun_frozen g.R.ByteSource.failures c.args.frozen.now c.begin.new.frozen c.in-Ok.session c.begin.result c.read_to_end-answer.new.session _ c.read_to_end-answer.result c.ending-2.result (search rules) c.ending-2.ensures c.read_to_end-answer.ensures.left c.begin.ensures.read
-
-pub returns-in-Err-clause-write : goal.returns-in-Err-clause-write
-returns-in-Err-clause-write g c = starts.never_wrote c.args.options c.begin.result c.in-Err.stop c.status.result c.ending.result _ _ _ _ (three g.Z.ByteSink.contents (both g.O.ByteSink.contents g.M.ByteSink.contents c.args.out.now c.begin.new.out c.args.messages.now c.args.messages.now) c.args.freeze_to.now c.args.freeze_to.now) (search rules) c.status.ensures c.ending.ensures c.begin.ensures.begun refl c.begin.ensures.write
-
-pub returns-clause-write : goal.returns-clause-write
-returns-clause-write g c = search rules
-
-pub returns-clause-spared : goal.returns-clause-spared
-returns-clause-spared g c = search rules
-
-pub returns-in-Err-clause-refused : goal.returns-in-Err-clause-refused
-returns-in-Err-clause-refused g c = λ fault e. starts.never_done c.args.sources.now c.args.options c.begin.result c.in-Err.stop c.status.result c.ending.result fault _ _ _ _ (search rules) c.status.ensures c.ending.ensures c.begin.ensures.begun e (c.begin.ensures.refused fault)
-
-pub returns-clause-refused : goal.returns-clause-refused
-returns-clause-refused g c = λ fault e. absurd (starts.not_refused c.read_to_end-answer.new.session _ c.read_to_end-answer.result c.ending-2.result fault c.ending-2.ensures c.read_to_end-answer.ensures.left e)
-
-pub returns-in-Err-clause-spared_by : goal.returns-in-Err-clause-spared_by
-returns-in-Err-clause-spared_by g c = starts.spares_any c.ending.result.cause (three g.Z.ByteSink.contents (both g.O.ByteSink.contents g.M.ByteSink.contents c.args.out.now c.begin.new.out c.args.messages.now c.args.messages.now) c.args.freeze_to.now c.args.freeze_to.now) refl
-
-pub returns-clause-spared_by : goal.returns-clause-spared_by
-returns-clause-spared_by g c = starts.ended_spared _ c.read_to_end-answer.result c.ending-2.result
-    (both g.O.ByteSink.contents g.M.ByteSink.contents c.begin.new.out c.read_to_end-answer.new.out c.args.messages.now c.read_to_end-answer.new.messages)
-    (both g.O.ByteSink.contents g.M.ByteSink.contents c.args.out.now c.read_to_end-answer.new.out c.args.messages.now c.read_to_end-answer.new.messages)
-    _ _ c.ending-2.ensures c.read_to_end-answer.ensures.spared_by
-
-pub returns-clause-sized : goal.returns-clause-sized
-returns-clause-sized g c = λ file t ss s e f.
-    starts.begun_state IsSized c.args.options (start_of c.args.options.prefix file) ss c.in-Ok.session c.begin.result _ _ (search rules) (c.begin.ensures.begins file t)
-    (starts.ended_done _ c.read_to_end-answer.new.session _ c.read_to_end-answer.result c.ending-2.result c.ending-2.ensures c.read_to_end-answer.ensures.left e (c.read_to_end-answer.ensures.sized ss s) f)
-
-pub returns-in-Err-clause-one_pass : goal.returns-in-Err-clause-one_pass
-returns-in-Err-clause-one_pass g c = λ file t. never_passed g.R.ByteSource.script c.args.sources.now c.args.options (start_of c.args.options.prefix file) _ c.begin.result c.in-Err.stop c.status.result c.ending.result (search rules) c.ending.ensures c.begin.ensures.begun
-
-pub returns-clause-one_pass : goal.returns-clause-one_pass
-returns-clause-one_pass g c = λ file t. passed g.R.ByteSource.script c.args.sources.now c.read_to_end-answer.new.sources c.args.options (start_of c.args.options.prefix file) c.in-Ok.session c.begin.result _ c.read_to_end-answer.result c.ending-2.result _ _ _ _ _ (search rules) c.ending-2.ensures (c.begin.ensures.begins file t) c.read_to_end-answer.ensures.reached
-
-pub returns-in-Err-clause-torn : goal.returns-in-Err-clause-torn
-returns-in-Err-clause-torn g c = λ whole file t ss s e. inl refl
-
-pub returns-clause-torn : goal.returns-clause-torn
-returns-clause-torn g c = λ whole file t ss s e.
-    let left : State → Type 0 = λ x. FreezeLeaves x (g.Z.ByteSink.contents c.args.freeze_to.now) (g.Z.ByteSink.contents c.read_to_end-answer.new.freeze_to) in
-    starts.begun_state left c.args.options (start_of c.args.options.prefix file) ss c.in-Ok.session c.begin.result _ _ (search rules) (c.begin.ensures.begins file t)
-    (ended_write _ _ c.read_to_end-answer.result c.ending-2.result c.ending-2.ensures e (c.read_to_end-answer.ensures.torn whole ss s))
-
-pub returns-in-Err-clause-exited : goal.returns-in-Err-clause-exited
-returns-in-Err-clause-exited g c = λ code e. never_exited c.args.options c.begin.result c.in-Err.stop c.status.result c.ending.result code (search rules) c.ending.ensures c.begin.ensures.begun e
+returns-clause-status g c = c.run_keeping-ran.ensures.status
 
 pub returns-clause-exited : goal.returns-clause-exited
-returns-clause-exited g c = λ code e.
-    left_exited c.args.sources.now c.read_to_end-answer.new.sources c.read_to_end-answer.new.session c.read_to_end-answer.result c.ending-2.result code c.read_to_end-answer.ensures.left (search rules) e
-    (λ r. c.read_to_end-answer.ensures.exited code r (begun_unmissed c.args.options c.in-Ok.session c.begin.result (search rules) c.begin.ensures.begun))
+returns-clause-exited g c = c.run_keeping-ran.ensures.exited
+
+pub returns-clause-sized : goal.returns-clause-sized
+returns-clause-sized g c = c.run_keeping-ran.ensures.sized
+
+pub returns-clause-torn : goal.returns-clause-torn
+returns-clause-torn g c = c.run_keeping-ran.ensures.torn
+
+pub returns-clause-read : goal.returns-clause-read
+returns-clause-read g c = c.run_keeping-ran.ensures.read
+
+pub returns-clause-frozen_read : goal.returns-clause-frozen_read
+returns-clause-frozen_read g c = c.run_keeping-ran.ensures.frozen_read
+
+pub returns-clause-write : goal.returns-clause-write
+returns-clause-write g c = c.run_keeping-ran.ensures.write
+
+pub returns-clause-taken : goal.returns-clause-taken
+returns-clause-taken g c = c.run_keeping-ran.ensures.taken
+
+pub returns-clause-one_pass : goal.returns-clause-one_pass
+returns-clause-one_pass g c = c.run_keeping-ran.ensures.one_pass
+
+pub returns-clause-refused : goal.returns-clause-refused
+returns-clause-refused g c = c.run_keeping-ran.ensures.refused
+
+pub returns-clause-spared : goal.returns-clause-spared
+returns-clause-spared g c = c.run_keeping-ran.ensures.spared
+
+pub returns-clause-spared_by : goal.returns-clause-spared_by
+returns-clause-spared_by g c = c.run_keeping-ran.ensures.spared_by
