@@ -21,6 +21,7 @@ pub mod Writers
 pub mod Expands
 pub mod Continued
 pub mod ReadsOn
+pub mod RunKept
 pub mod RunSources
 pub mod Session
 pub mod SessionView
