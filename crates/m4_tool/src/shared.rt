@@ -83,24 +83,29 @@ impl<W: Write, E: Write> SharedOutputs<W, E> {
     }
 }
 
-/// A reader that flushes both outputs before each read.
+/// A reader that flushes both outputs, if it has them, before each read.
 #[derive(Drop)]
 pub struct FlushBeforeRead<'a, R, W, E> {
     reader: R,
-    shown: &'a SharedOutputs<W, E>,
+    outputs: Option<&'a SharedOutputs<W, E>>,
 }
 
 impl<'a, R, W, E> FlushBeforeRead<'a, R, W, E> {
-    /// Returns this reader, which will flush these writers.
-    pub fn new(reader: R, shown: &'a SharedOutputs<W, E>) -> FlushBeforeRead<'a, R, W, E> {
-        FlushBeforeRead { reader, shown }
+    /// Returns this reader, which will flush these outputs.
+    pub fn new(
+        reader: R,
+        outputs: Option<&'a SharedOutputs<W, E>>,
+    ) -> FlushBeforeRead<'a, R, W, E> {
+        FlushBeforeRead { reader, outputs }
     }
 }
 
 impl<R: Read, W: Write, E: Write> Read for FlushBeforeRead<'_, R, W, E> {
     fn read(&mut self, buf: &mut [u8]) -> io::Result<usize> {
-        // Bytes that could not be flushed stay in the writer, and its last flush reports the fault again.
-        let _flushed = self.shown.flush();
+        if let Some(outputs) = self.outputs {
+            // Bytes that could not be flushed stay in the writer, and its last flush reports the fault again.
+            let _flushed = outputs.flush();
+        }
         self.reader.read(buf)
     }
 }

@@ -12,7 +12,7 @@ ghost use Rattle.m4_tool.specs.LineRun.{Ran as RanBy, RanCounts, named_in, named
 ghost use Rattle.m4_tool.specs.TornFile.{TearsFile};
 
 use super::sources::sources_of;
-use crate::late::{LateFile, Place};
+use crate::late::{LateFile, LateStart};
 use crate::line::Line;
 use crate::world::{Shows, World};
 use m4_engine::ending::{Cause, Ending};
@@ -104,7 +104,7 @@ fn without_memory<W>(world: W) -> Ran<W>
 
 /// Runs over the sources. The frozen text goes to a file of this name, which is created when its first
 /// byte is written.
-fn run_late<W: World, K: Place, O: Shows, M: Shows>(
+fn run_late<W: World, K: LateStart, O: Shows, M: Shows>(
     alloc: Global,
     options: Options,
     frozen: &mut Option<W::Reader>,
@@ -131,7 +131,7 @@ fn run_late<W: World, K: Place, O: Shows, M: Shows>(
     ensures counted { RanCounts result.ending.cause (counts (O.failures out.old) (O.failures out.new)
         (M.failures messages.old) (M.failures messages.new) K.failures (W.failures result.world)) }
 {
-    let mut late: LateFile<W, K> = LateFile::new(world, name);
+    let mut late: LateFile<W, K> = LateFile::over(world, name);
     let ran = run(alloc, options, frozen, sources, out, messages, &mut late);
     // The program ends after this, so the definitions are not freed one by one.
     forget(ran.session);
