@@ -107,4 +107,5 @@ failed_as cause (Some failures.Write) o o1 o2 m m1 m2 w w1 w2 r k = elim k.1 [
 ]
 failed_as cause (Some failures.Report) o o1 o2 m m1 m2 w w1 w2 r k = then_rose m m1 m2 r.grew.1 k
 failed_as cause (Some failures.Read) o o1 o2 m m1 m2 w w1 w2 r k = tt
+failed_as cause (Some failures.Load) o o1 o2 m m1 m2 w w1 w2 r k = tt
 failed_as cause (Some failures.OutOfMemory) o o1 o2 m m1 m2 w w1 w2 r k = tt

@@ -1,4 +1,5 @@
 pub mod CommandLine
+pub mod Failure
 pub mod Late
 pub mod Line
 pub mod LineLaws

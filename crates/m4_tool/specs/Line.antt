@@ -1,7 +1,7 @@
 -- Line: what a run over the files of a line gives in a world of files.
 -- Believed. Manual: "Invoking m4", "Command line files", "Fast loading of frozen state".
 -- Words: Request, request_of, sources_in, LineResult, line, ExtendFiles, MayGive, Grew, Rose, Counts, FailedAs,
--- Reports, failure_of, AsDefined, BrokeOff, Follows.
+-- Reports, AsDefined, BrokeOff, Follows.
 -- own: a frozen file that can't be opened is the only work of its line; standard input is read once.
 use Rattle.std.specs.Prelude.{◌≡◌, ◌≢◌, ◌⊎◌, ◌≤◌, ◌^◌, ◌-◌, min, ℕ, Bool, true, false, List, [], ◌∷◌, ◌++◌, map}
 use Rattle.std.specs.Prelude.{Option, Some, None, Result, Ok, Err}
@@ -9,8 +9,6 @@ use Rattle.std.specs.Prelude.{option_map, unwrap_or, codes, string_bytes, if◌t
 use Rattle.std.specs.Str.{bytes_eq}
 use Rattle.m4_state.specs.Device.{Script, with_bytes, one_more, HasBegun, Puts}
 use Rattle.m4_state.specs.declared.device.DeviceFault.{DeviceFault}
-use Rattle.m4_frozen.specs.declared.fault.FrozenKind.{FrozenKind}
-use Rattle.m4_frozen.specs.declared.fault.FrozenKind.TheVariants as kinds
 use Rattle.m4_engine.specs.declared.options.Options.{Options}
 use Rattle.m4_engine.specs.declared.ending.Cause.{Cause}
 use Rattle.m4_engine.specs.declared.ending.Cause.TheVariants as causes
@@ -21,7 +19,8 @@ use Rattle.m4_engine.specs.Run.{RunResult, run}
 use Rattle.m4_tool.specs.declared.line.Line.{Line}
 use Rattle.m4_tool.specs.declared.followed.Failure.{Failure}
 use Rattle.m4_tool.specs.declared.followed.Failure.TheVariants as failures
-use Rattle.m4_tool.specs.RunEnd.{source_name, refused_line, last_fault}
+use Rattle.m4_tool.specs.Failure.{failure_lines}
+use Rattle.m4_tool.specs.RunEnd.{source_name, refused_line, failure_of}
 use Rattle.m4_tool.specs.World.{Files, with_file, made_file}
 
 -- what a line asks for if it has no mode: the files to be read, and the names to reload from and to freeze to
@@ -219,31 +218,9 @@ Reports (line ∷ lines) old new failures failures' =
     (mid : Option (List ℕ)) × (count : ℕ)
     × Reported line old mid failures count × Reports lines mid new count failures'
 
--- what failed, by why the run ended and whether everything was flushed
-abbrev pub failure_by : Cause → Option Failure
-failure_by causes.Read = Some failures.Read
-failure_by causes.Write = Some failures.Write
-failure_by causes.OutOfMemory = Some failures.OutOfMemory
-failure_by cause = None
-
-abbrev pub frozen_failure : FrozenKind → Option Failure
-frozen_failure kinds.OutOfMemory = Some failures.OutOfMemory
-frozen_failure kind = None
-
-abbrev pub failure_of : Cause → Bool → Option Failure
-failure_of (causes.Frozen fault) true = frozen_failure fault.kind
-failure_of (causes.Frozen fault) false = Some failures.Write
-failure_of cause true = failure_by cause
-failure_of cause false = Some (unwrap_or (failure_by cause) failures.Write)
-
--- the last line, if there is one
-abbrev pub last_lines : Option (List ℕ) → List (List ℕ)
-last_lines None = []
-last_lines (Some text) = (codes "m4: " ++ (text ++ codes "\n")) ∷ []
-
 -- the lines that the program adds
 abbrev pub added_lines : List ℕ → Cause → Bool → List (List ℕ)
-added_lines file cause flushed = refusals file cause ++ last_lines (last_fault cause flushed)
+added_lines file cause flushed = refusals file cause ++ failure_lines (failure_of cause flushed)
 
 -- the line ended as it is defined: everything was written, and the file has its text
 pub record AsDefined (name : List ℕ) (r : LineResult) (status : ℕ) (w : Seen) : Type 0 where

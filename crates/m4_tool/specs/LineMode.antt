@@ -2,12 +2,14 @@
 -- Believed. Words: closed_status, closed_lines, ends_of, ModeEnds, ModeFollows.
 -- own: a mode whose file can't be opened does nothing else; a last flush that fails is a write fault.
 use Rattle.std.specs.Prelude.{◌≡◌, ℕ, zero, suc, Bool, true, false, List, [], ◌∷◌, ◌++◌, Option, Some, None, Result, Ok}
-use Rattle.std.specs.Prelude.{Err, codes}
+use Rattle.std.specs.Prelude.{Err}
 use Rattle.m4_state.specs.Device.{Script}
 use Rattle.m4_engine.specs.File.{cannot_open}
 use Rattle.m4_tool.specs.declared.fault.ModeFault.{ModeFault}
 use Rattle.m4_tool.specs.declared.follow.Mode.{Mode}
 use Rattle.m4_tool.specs.declared.follow.Mode.TheVariants as kinds
+use Rattle.m4_tool.specs.declared.followed.Failure.TheVariants as failures
+use Rattle.m4_tool.specs.Failure.{failure_line}
 use Rattle.m4_tool.specs.ModeFault.{line_of, status_of}
 use Rattle.m4_tool.specs.Modes.{CanonEnds, InspectEnds}
 use Rattle.m4_tool.specs.Line.{Reports, Seen}
@@ -25,7 +27,7 @@ closed_status (suc n) flushed = suc n
 
 abbrev pub closed_lines : ℕ → Bool → List (List ℕ)
 closed_lines zero true = []
-closed_lines zero false = codes "m4: write fault\n" ∷ []
+closed_lines zero false = failure_line failures.Write ∷ []
 closed_lines (suc n) flushed = []
 
 -- how a mode ends

@@ -16,11 +16,12 @@ use Rattle.m4_engine.specs.Writers.{writers, ByCause}
 use Rattle.m4_engine.specs.WholeRun.{GivesBy}
 use Rattle.m4_tool.specs.declared.followed.Failure.{Failure}
 use Rattle.m4_tool.specs.declared.followed.Failure.TheVariants as failures
-use Rattle.m4_tool.specs.RunEnd.{last_status, source_name}
+use Rattle.m4_tool.specs.Failure.{status_after}
+use Rattle.m4_tool.specs.RunEnd.{failure_of, source_name}
 use Rattle.m4_tool.specs.LineMode.{closed_lines, closed_status}
 use Rattle.m4_tool.specs.World.{Files, made_file}
 use Rattle.m4_tool.specs.Line.{AnyRose, Counts, Grew, NoneRose, Rose, Seen, HasPrefix, Reports}
-use Rattle.m4_tool.specs.Line.{added_lines, failure_of, input_after, refusals, script_at}
+use Rattle.m4_tool.specs.Line.{added_lines, input_after, refusals, script_at}
 
 -- the writers and the files, by the functions of their traits
 abbrev pub seen : {O M : Type 0} → (O → Option (List ℕ)) → (M → Option (List ℕ)) → (M → ℕ) → O → O → M → M
@@ -106,7 +107,7 @@ failure_after failure is_reported = failure
 -- a run that ended was reported
 pub record Closes (file : List ℕ) (e : Ending) (status : ℕ) (failure : Option Failure) (w : Seen) : Type 0 where
   pub flushed : Bool
-  pub is_status : status ≡ last_status e flushed
+  pub is_status : status ≡ status_after (failure_of e.cause flushed) e.status
   pub is_reported : Bool
   pub refused : is_reported ≡ false → refusals file e.cause ≢ []
   pub failed : failure ≡ failure_after (failure_of e.cause flushed) is_reported

@@ -5,6 +5,7 @@ ghost use Rattle.m4_state.specs.Device.{Puts, count_after};
 ghost use Rattle.m4_tool.specs.ModeFault.{line_of, text_of};
 ghost use Rattle.m4_tool.specs.declared.fault.ModeFault.TheVariants as faults;
 
+use crate::followed::Failure;
 use itoa::Buffer;
 use m4_frozen::fault::{FrozenFault, FrozenKind, WriteFault};
 use m4_state::device::{ByteSink, DeviceFault};
@@ -67,8 +68,8 @@ impl ModeFault {
         match self {
             ModeFault::Frozen(fault) => put_frozen_fault(fault, file, messages),
             ModeFault::Issues => put_line(file, b"K1 text would be issued at reload", messages),
-            ModeFault::Write => write_all(messages, b"m4: write fault\n"),
-            ModeFault::OutOfMemory => write_all(messages, b"m4: out of memory\n"),
+            ModeFault::Write => write_all(messages, Failure::Write.line().as_bytes()),
+            ModeFault::OutOfMemory => write_all(messages, Failure::OutOfMemory.line().as_bytes()),
         }
     }
 }

@@ -19,11 +19,11 @@ mod closing;
 mod running;
 mod sources;
 
-use crate::followed::Followed;
+use crate::followed::{FAILED, Followed};
 use crate::line::Line;
 use crate::modes;
 use crate::world::{Shows, World};
-use closing::{FAILED, close, close_mode, close_unopened, put_unopened};
+use closing::{close, close_mode, close_unopened, put_unopened};
 use m4_state::device::{ByteSink, ByteSource};
 use running::run_line;
 use std::alloc::Global;

@@ -7,8 +7,9 @@ ghost use Rattle.clap.specs.Walk.{texts};
 ghost use Rattle.m4_tool.specs.CommandLine.{AreInRange, IsModeNotAlone, IsRefusal, Says, ModeIsAlone};
 
 use crate::follow::follow;
+use crate::followed::{FAILED, Failure};
 use crate::line::{Line, LineFault, read_line};
-use crate::reports::{FAILED, report};
+use crate::reports::{report, report_failure};
 use crate::shared::{BLOCK, MESSAGES, SharedOutputs};
 use crate::std_world::{StdShown, StdWorld};
 use crate::streams::occupy_closed;
@@ -86,9 +87,9 @@ fn run_line<R: Files + Alloc<A = Global> + Print + Eprint, I: Read + Copy, E: Wr
     line: &Line,
     spare: Option<<R as Files>::File>,
 ) -> u8 {
-    follow_line(rt, input, errors, line, spare).unwrap_or_else(|_refused| report(
+    follow_line(rt, input, errors, line, spare).unwrap_or_else(|_refused| report_failure(
         rt,
-        "out of memory",
+        Failure::OutOfMemory,
     ))
 }
 
@@ -115,7 +116,7 @@ fn follow_line<R: Files + Alloc<A = Global> + Print + Eprint, I: Read + Copy, E:
 fn report_line_fault(rt: &(impl Print + Eprint), fault: &LineFault) -> u8 {
     match fault {
         LineFault::ModeNotAlone => report(rt, "U1 a mode stands alone"),
-        LineFault::OutOfMemory => report(rt, "out of memory"),
+        LineFault::OutOfMemory => report_failure(rt, Failure::OutOfMemory),
         LineFault::Parse(error) => print_answer(rt, error),
     }
 }
@@ -123,7 +124,7 @@ fn report_line_fault(rt: &(impl Print + Eprint), fault: &LineFault) -> u8 {
 // Prints the text of `clap`: help on standard output, or a refusal on standard error.
 fn print_answer(rt: &(impl Print + Eprint), error: &clap::Error) -> u8 {
     if error.print(rt).is_err() {
-        return report(rt, "write fault");
+        return report_failure(rt, Failure::Write);
     }
     if error.use_stderr() { FAILED } else { 0 }
 }
@@ -133,7 +134,7 @@ fn report_unread_words(rt: &impl Eprint, fault: &io::Error) -> u8
     ensures { result ≡ FAILED }
 {
     if fault.kind() == ErrorKind::OutOfMemory {
-        report(rt, "out of memory")
+        report_failure(rt, Failure::OutOfMemory)
     } else {
         report(rt, "a word of the command line is not UTF-8")
     }

@@ -1,23 +1,18 @@
 //! The end of a line: its outputs and its file are flushed, and what is not reported yet is reported.
 
-ghost use Rattle.std.specs.Prelude.{◌≡◌, ◌≢◌, ◌∷◌, [], List, ℕ, None, false, true};
-ghost use Rattle.m4_state.specs.Device.{Puts, count_after, joined};
+ghost use Rattle.std.specs.Prelude.{◌≡◌, ◌≢◌, [], List, ℕ, None, Some, false, true};
+ghost use Rattle.m4_state.specs.Device.{Puts, count_after};
 ghost use Rattle.m4_engine.specs.File.{cannot_open};
-ghost use Rattle.m4_tool.specs.RunEnd.{last_fault, last_status};
-ghost use Rattle.m4_tool.specs.Line.{EndsBy, FailedAs, Grew, Reports, counts, failure_of, last_lines, refusals};
-ghost use Rattle.m4_tool.specs.Line.{unreloaded};
+ghost use Rattle.m4_tool.specs.Failure.{failure_lines};
+ghost use Rattle.m4_tool.specs.Line.{EndsBy, FailedAs, Reports, counts, refusals, unreloaded};
 ghost use Rattle.m4_tool.specs.LineRun.{ClosedAs, Closes, FlushedAs, ModeCloses, RefusedAs, failure_after, seen};
 
-use crate::endings::{last_fault, put_refused};
-use crate::followed::{Failure, Followed};
+use crate::endings::{failure_of, put_refused};
+use crate::followed::{FAILED, Failure, Followed, status_after};
 use crate::world::{Shows, World};
 use m4_engine::ending::{Cause, Ending};
-use m4_frozen::fault::FrozenKind;
 use m4_state::device::{ByteSink, DeviceFault};
-use m4_state::transfer::write_pieces;
-
-/// The status of a run that did not do the work of its line.
-pub const FAILED: u8 = 1;
+use m4_state::transfer::{write_all, write_pieces};
 
 /// Flushes everything after a run, and reports what the run has not reported itself. `file` is the name of
 /// its frozen file. If a report can't be written, only the status shows it.
@@ -40,10 +35,11 @@ pub fn close<W: World, O: Shows, M: Shows>(
     let mut world = world;
     let flushed = flush_all(&mut world, out, messages);
     let is_reported = report_refusal(ending.cause, file, messages);
-    report_last(ending.cause, flushed, messages);
+    let failure = failure_of(ending.cause, flushed);
+    report_last(failure, messages);
     Followed {
-        status: last_status(ending, flushed),
-        failure: failure_after(failure_of(ending.cause, flushed), is_reported),
+        status: status_after(failure, ending.status),
+        failure: failure_after(failure, is_reported),
         world,
     }
 }
@@ -84,49 +80,27 @@ fn report_refusal<M: Shows>(cause: Cause, file: &[u8], messages: &mut M) -> bool
     }
 }
 
-/// Reports the fault that ended the run or its last flushes, if there is one.
-fn report_last<M: Shows>(cause: Cause, flushed: bool, messages: &mut M)
-    ensures reports { Reports (last_lines (last_fault cause flushed)) (M.contents messages.old)
-        (M.contents messages.new)
+/// Reports what failed in the run or in its last flushes, if something did.
+fn report_last<M: Shows>(failure: Option<Failure>, messages: &mut M)
+    ensures reports { Reports (failure_lines failure) (M.contents messages.old) (M.contents messages.new)
         (M.failures messages.old) (M.failures messages.new) }
-    ensures unreported { last_fault cause flushed ≡ None → messages.new ≡ messages.old }
+    ensures unreported { failure ≡ None → messages.new ≡ messages.old }
 {
-    match last_fault(cause, flushed) {
-        Some(text) => report(&[b"m4: ", text.as_bytes(), b"\n"], messages),
+    match failure {
+        Some(failure) => report(failure, messages),
         None => {}
     }
 }
 
-/// Writes one line to the messages and flushes them.
-fn report<M: Shows>(line: &[&[u8]], messages: &mut M)
-    ensures reports { Reports (joined line.now ∷ []) (M.contents messages.old) (M.contents messages.new)
+/// Writes the line of a failure to the messages and flushes them, if it has one.
+fn report<M: Shows>(failure: Failure, messages: &mut M)
+    ensures reports { Reports (failure_lines (Some failure)) (M.contents messages.old) (M.contents messages.new)
         (M.failures messages.old) (M.failures messages.new) }
 {
-    let _put = write_pieces(messages, line);
-    let _shown = messages.flush();
-}
-
-/// Returns the exit status of a run that ended so.
-fn last_status(ending: Ending, flushed: bool) -> u8
-    ensures { result ≡ last_status ending flushed }
-{
-    match last_fault(ending.cause, flushed) {
-        Some(_) => FAILED,
-        None => ending.status,
-    }
-}
-
-/// Returns what failed in a run that ended so.
-fn failure_of(cause: Cause, flushed: bool) -> Option<Failure>
-    ensures { result ≡ failure_of cause flushed }
-{
-    match cause {
-        Cause::Read => Some(Failure::Read),
-        Cause::Write => Some(Failure::Write),
-        Cause::OutOfMemory => Some(Failure::OutOfMemory),
-        _ if !flushed => Some(Failure::Write),
-        Cause::Frozen(fault) if fault.kind == FrozenKind::OutOfMemory => Some(Failure::OutOfMemory),
-        _ => None,
+    let line = failure.line().as_bytes();
+    if !line.is_empty() {
+        let _put = write_all(messages, line);
+        let _shown = messages.flush();
     }
 }
 
@@ -194,7 +168,7 @@ pub fn close_mode<W: World, O: Shows, M: Shows>(
     let mut world = world;
     let all_flushed = flush_all(&mut world, out, messages);
     if status == 0 && !all_flushed {
-        report(&[b"m4: write fault\n"], messages);
+        report(Failure::Write, messages);
         return Followed {
             status: FAILED,
             failure: Some(Failure::Write),
