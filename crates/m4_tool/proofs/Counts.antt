@@ -7,7 +7,7 @@ use Rattle.m4_engine.specs.declared.ending.Cause.TheVariants as causes
 use Rattle.m4_engine.specs.Writers.{ByCause}
 use Rattle.m4_tool.specs.declared.followed.Failure.{Failure}
 use Rattle.m4_tool.specs.declared.followed.Failure.TheVariants as failures
-use Rattle.m4_tool.specs.Line.{AnyRose, Counts, FailedAs, Grew, GrewBy, NoneRose, Rose, counts}
+use Rattle.m4_tool.specs.FailureCounts.{AnyRose, Counts, FailedAs, Grew, GrewBy, NoneRose, Rose, counts}
 use Rattle.m4_tool.specs.LineRun.{AllGrew, ClosedAs, FlushedAs, RanCounts}
 
 pub grew_none : (f g : ℕ) → g ≡ f → Grew f g

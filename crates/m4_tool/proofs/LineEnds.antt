@@ -21,11 +21,13 @@ use Rattle.m4_engine.specs.WholeRun.{GivesBy, RefusedBy, WroteAll, WrotePrefix}
 use Rattle.m4_tool.specs.declared.followed.Failure.{Failure}
 use Rattle.m4_tool.specs.declared.followed.Failure.TheVariants as failures
 use Rattle.m4_tool.specs.Failure.{failure_lines, lines_of, status_after}
-use Rattle.m4_tool.specs.RunEnd.{failure_by, failure_of, frozen_failure, refused_line}
-use Rattle.m4_tool.specs.World.{Files, made_file}
-use Rattle.m4_tool.specs.Line.{AsDefined, BrokeOff, EndsBy, FilesBy, Grew, HasPrefix, LineResult, Reports, Seen, added_lines, refusals, refusals_by, result_of_run, unreloaded}
-use Rattle.m4_tool.proofs.Counts.{before_by, by_grew, grew_by, grew_none, grew_one, grew_then}
+use Rattle.m4_tool.specs.Line.{refused_line, LineResult, refusals, refusals_by, result_of_run, unreloaded}
+use Rattle.m4_tool.specs.FailureCounts.{Grew}
+use Rattle.m4_tool.specs.LineEnd.{failure_by, failure_of, frozen_failure, AsDefined, BrokeOff, EndsBy, FilesBy}
+use Rattle.m4_tool.specs.LineEnd.{HasPrefix, Reports, Seen, added_lines}
 use Rattle.m4_tool.specs.LineRun.{Closes, CountedBy, Ran, RanFiles, failure_after}
+use Rattle.m4_tool.specs.World.{Files, made_file}
+use Rattle.m4_tool.proofs.Counts.{before_by, by_grew, grew_by, grew_none, grew_one, grew_then}
 
 -- lines that were added after some failures
 pub reports-before : (xs : List (List ℕ)) (a b : Option (List ℕ)) (f g h : ℕ) → Grew f g → Reports xs a b g h → Reports xs a b f h

@@ -12,7 +12,7 @@ use Rattle.m4_engine.specs.Writers.{Both, ByCause, NoneOfThree, OneOfThree, Thre
 use Rattle.m4_engine.specs.WholeRun.{FrozenBegan, FrozenBy, HasFrozen, RunGives}
 use Rattle.m4_tool.specs.World.{Files, with_file, made_file}
 use Rattle.m4_tool.specs.Late.{written, after_writing, is_tried}
-use Rattle.m4_tool.specs.Line.{HasPrefix}
+use Rattle.m4_tool.specs.LineEnd.{HasPrefix}
 use Rattle.m4_tool.specs.LineRun.{CountedBy, Ran, RanFiles}
 use Rattle.m4_tool.proofs.LineEnds.{seen_from}
 

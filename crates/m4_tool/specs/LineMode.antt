@@ -12,7 +12,7 @@ use Rattle.m4_tool.specs.declared.followed.Failure.TheVariants as failures
 use Rattle.m4_tool.specs.Failure.{failure_line}
 use Rattle.m4_tool.specs.ModeFault.{line_of, status_of}
 use Rattle.m4_tool.specs.Modes.{CanonEnds, InspectEnds}
-use Rattle.m4_tool.specs.Line.{Reports, Seen}
+use Rattle.m4_tool.specs.LineEnd.{Reports, Seen}
 
 -- the line for a mode that did not do its work
 abbrev pub fault_lines : List ℕ → Result (Unit {0}) ModeFault → List (List ℕ)

@@ -1,6 +1,6 @@
 -- LineRun: what the steps of following a line pass to one another.
--- Not believed: `follow` is stated with the words of Line only, and proved through these.
--- Words: seen, named_of, named_in, RanFiles, AllGrew, FlushedAs, RanCounts, RefusedAs, ClosedAs, CountedBy, Ran,
+-- Not believed: `follow` is stated with the words of Known, Line and LineEnd only, and proved through these.
+-- Words: named_of, named_in, RanFiles, AllGrew, FlushedAs, RanCounts, RefusedAs, ClosedAs, CountedBy, Ran,
 -- Closes, ModeCloses.
 use Rattle.std.specs.Prelude.{◌≡◌, ◌≢◌, ◌⊎◌, ℕ, Bool, true, false, List, [], ◌∷◌}
 use Rattle.std.specs.Prelude.{Option, Some, None, unwrap_or, option_map}
@@ -17,25 +17,11 @@ use Rattle.m4_engine.specs.WholeRun.{GivesBy}
 use Rattle.m4_tool.specs.declared.followed.Failure.{Failure}
 use Rattle.m4_tool.specs.declared.followed.Failure.TheVariants as failures
 use Rattle.m4_tool.specs.Failure.{status_after}
-use Rattle.m4_tool.specs.RunEnd.{failure_of, source_name}
+use Rattle.m4_tool.specs.Line.{source_name, input_after, refusals, script_at}
+use Rattle.m4_tool.specs.FailureCounts.{AnyRose, Counts, Grew, NoneRose, Rose}
+use Rattle.m4_tool.specs.LineEnd.{failure_of, Seen, HasPrefix, Reports, added_lines}
 use Rattle.m4_tool.specs.LineMode.{closed_lines, closed_status}
 use Rattle.m4_tool.specs.World.{Files, made_file}
-use Rattle.m4_tool.specs.Line.{AnyRose, Counts, Grew, NoneRose, Rose, Seen, HasPrefix, Reports}
-use Rattle.m4_tool.specs.Line.{added_lines, input_after, refusals, script_at}
-
--- the writers and the files, by the functions of their traits
-abbrev pub seen : {O M : Type 0} → (O → Option (List ℕ)) → (M → Option (List ℕ)) → (M → ℕ) → O → O → M → M
-    → Option Files → Option Files → Seen
-seen of_out of_messages count out_old out_new messages_old messages_new files_old files_new = record {
-  out_old = of_out out_old;
-  out_new = of_out out_new;
-  messages_old = of_messages messages_old;
-  messages_new = of_messages messages_new;
-  failures_old = count messages_old;
-  failures_new = count messages_new;
-  files_old = files_old;
-  files_new = files_new;
-}
 
 -- a source by its name, with its bytes if it was opened and they are known
 pub record Named : Type 0 where

@@ -9,7 +9,7 @@ ghost use Rattle.std.specs.Option.{ForSome};
 ghost use Rattle.std.proofs.Props.{props};
 ghost use Rattle.m4_state.specs.Device.{count_after};
 ghost use Rattle.m4_tool.specs.World.{Files};
-ghost use Rattle.m4_tool.specs.Line.{Rose};
+ghost use Rattle.m4_tool.specs.FailureCounts.{Rose};
 ghost use Rattle.m4_tool.specs.Late.{after_writing, begun_in, is_tried, written};
 
 use crate::std_world::StdFiles;

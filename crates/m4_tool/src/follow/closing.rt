@@ -4,8 +4,10 @@ ghost use Rattle.std.specs.Prelude.{◌≡◌, ◌≢◌, [], List, ℕ, None, S
 ghost use Rattle.m4_state.specs.Device.{Puts, count_after};
 ghost use Rattle.m4_engine.specs.File.{cannot_open};
 ghost use Rattle.m4_tool.specs.Failure.{failure_lines};
-ghost use Rattle.m4_tool.specs.Line.{EndsBy, FailedAs, Reports, counts, refusals, unreloaded};
-ghost use Rattle.m4_tool.specs.LineRun.{ClosedAs, Closes, FlushedAs, ModeCloses, RefusedAs, failure_after, seen};
+ghost use Rattle.m4_tool.specs.Line.{refusals, unreloaded};
+ghost use Rattle.m4_tool.specs.FailureCounts.{FailedAs, counts_of};
+ghost use Rattle.m4_tool.specs.LineEnd.{AllShown, EndsBy, Reports, seen};
+ghost use Rattle.m4_tool.specs.LineRun.{ClosedAs, Closes, FlushedAs, ModeCloses, RefusedAs, failure_after};
 
 use crate::endings::{failure_of, put_refused};
 use crate::followed::{FAILED, Failure, Followed, status_after};
@@ -24,13 +26,11 @@ pub fn close<W: World, O: Shows, M: Shows>(
     messages: &mut M,
 ) -> Followed<W>
     ensures closes { Closes file.now ending result.status result.failure
-        (seen O.contents M.contents M.failures out.old out.new messages.old messages.new (W.files world)
-        (W.files result.world)) }
-    ensures counted { ClosedAs ending.cause result.failure (counts (O.failures out.old) (O.failures out.new)
-        (M.failures messages.old) (M.failures messages.new) (W.failures world) (W.failures result.world)) }
-    ensures output_shown { result.failure ≡ None → O.shown out.new ≡ O.contents out.new }
-    ensures messages_shown { result.failure ≡ None → M.shown messages.new ≡ M.contents messages.new }
-    ensures kept { result.failure ≡ None → W.kept result.world ≡ W.files result.world }
+        (seen O.contents M.contents M.failures W.files out.old out.new messages.old messages.new world result.world) }
+    ensures counted { ClosedAs ending.cause result.failure (counts_of O.failures M.failures W.failures
+        out.old out.new messages.old messages.new world result.world) }
+    ensures shown { result.failure ≡ None
+        → AllShown O.shown O.contents M.shown M.contents W.kept W.files out.new messages.new result.world }
 {
     let mut world = world;
     let flushed = flush_all(&mut world, out, messages);
@@ -48,12 +48,11 @@ pub fn close<W: World, O: Shows, M: Shows>(
 fn flush_all<W: World, O: Shows, M: Shows>(world: &mut W, out: &mut O, messages: &mut M) -> bool
     ensures output { O.contents out.new ≡ O.contents out.old }
     ensures messages { M.contents messages.new ≡ M.contents messages.old }
-    ensures counted { FlushedAs result (counts (O.failures out.old) (O.failures out.new)
-        (M.failures messages.old) (M.failures messages.new) (W.failures world.old) (W.failures world.new)) }
+    ensures counted { FlushedAs result (counts_of O.failures M.failures W.failures
+        out.old out.new messages.old messages.new world.old world.new) }
     ensures files { W.files world.new ≡ W.files world.old }
-    ensures output_shown { result ≡ true → O.shown out.new ≡ O.contents out.new }
-    ensures messages_shown { result ≡ true → M.shown messages.new ≡ M.contents messages.new }
-    ensures kept { result ≡ true → W.kept world.new ≡ W.files world.new }
+    ensures shown { result ≡ true
+        → AllShown O.shown O.contents M.shown M.contents W.kept W.files out.new messages.new world.new }
 {
     let output = out.flush().is_ok();
     let others = messages.flush().is_ok();
@@ -122,14 +121,12 @@ pub fn close_unopened<W: World, O: Shows, M: Shows>(
     messages: &mut M,
 ) -> Followed<W>
     ensures ends { (name : List ℕ) → EndsBy result.failure name file.now (unreloaded file.now) result.status
-        (seen O.contents M.contents M.failures out.old out.new messages.old messages.new (W.files world)
-        (W.files result.world)) }
-    ensures counted { FailedAs result.failure (counts (O.failures out.old) (O.failures out.new)
-        (M.failures messages.old) (M.failures messages.new) (W.failures world) (W.failures result.world)) }
+        (seen O.contents M.contents M.failures W.files out.old out.new messages.old messages.new world result.world) }
+    ensures counted { FailedAs result.failure (counts_of O.failures M.failures W.failures
+        out.old out.new messages.old messages.new world result.world) }
     ensures files { W.files result.world ≡ W.files world }
-    ensures output_shown { result.failure ≡ None → O.shown out.new ≡ O.contents out.new }
-    ensures messages_shown { result.failure ≡ None → M.shown messages.new ≡ M.contents messages.new }
-    ensures kept { result.failure ≡ None → W.kept result.world ≡ W.files result.world }
+    ensures shown { result.failure ≡ None
+        → AllShown O.shown O.contents M.shown M.contents W.kept W.files out.new messages.new result.world }
 {
     let cause = match put_unopened(file, messages) {
         Ok(()) => Cause::Done,
@@ -161,9 +158,8 @@ pub fn close_mode<W: World, O: Shows, M: Shows>(
     ensures closes { ModeCloses status result.status (O.contents out.old) (O.contents out.new)
         (M.contents messages.old) (M.contents messages.new) (M.failures messages.old) (M.failures messages.new) }
     ensures files { W.files result.world ≡ W.files world }
-    ensures output_shown { result.failure ≡ None → O.shown out.new ≡ O.contents out.new }
-    ensures messages_shown { result.failure ≡ None → M.shown messages.new ≡ M.contents messages.new }
-    ensures kept { result.failure ≡ None → W.kept result.world ≡ W.files result.world }
+    ensures shown { result.failure ≡ None
+        → AllShown O.shown O.contents M.shown M.contents W.kept W.files out.new messages.new result.world }
 {
     let mut world = world;
     let all_flushed = flush_all(&mut world, out, messages);

@@ -1,8 +1,8 @@
 -- What is reported after the last flushes is the line's.
 use Rattle.std.proofs.Common.{ap, ◌∙◌}
 use Rattle.m4_tool.specs.Failure.{failure_lines, status_after}
-use Rattle.m4_tool.specs.RunEnd.{failure_of}
 use Rattle.m4_tool.specs.Line.{refusals}
+use Rattle.m4_tool.specs.LineEnd.{failure_of}
 use Rattle.m4_tool.specs.LineRun.{failure_after}
 use Rattle.m4_tool.proofs.Counts.{flushed_grew}
 use Rattle.m4_tool.proofs.LineEnds.{reports_after}

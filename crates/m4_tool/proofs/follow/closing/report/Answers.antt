@@ -1,7 +1,7 @@
 -- The line is written, and then flushed, unless it is empty.
 use Rattle.std.proofs.Common.{rules, ◌≡◌, ◌∙◌, List, ℕ, subst}
 use Rattle.m4_tool.specs.Failure.{failure_line, lines_of}
-use Rattle.m4_tool.specs.Line.{Reports}
+use Rattle.m4_tool.specs.LineEnd.{Reports}
 use Rattle.m4_tool.proofs.Counts.{grew_after, grew_by}
 use Rattle.m4_tool.proofs.LineEnds.{line_reported}
 use Rattle.m4_tool.proofs.follow.closing.report.Goals as goal

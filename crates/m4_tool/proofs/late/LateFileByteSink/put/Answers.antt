@@ -1,5 +1,5 @@
 use Rattle.std.proofs.Common.{rules, take, ◌∙◌, ◌≡◌, ℕ, sym, subst}
-use Rattle.m4_tool.specs.Line.{Rose}
+use Rattle.m4_tool.specs.FailureCounts.{Rose}
 use Rattle.m4_tool.proofs.MadeFiles.{begun_so, put_stands, put_tried, put_takes, takes_none}
 use Rattle.m4_tool.proofs.late.LateFileByteSink.put.Goals as goal
 
