@@ -25,7 +25,7 @@ use Rattle.m4_tool.specs.Line.{refused_line, LineResult, refusals, refusals_by, 
 use Rattle.m4_tool.specs.FailureCounts.{Grew}
 use Rattle.m4_tool.specs.LineEnd.{failure_by, failure_of, frozen_failure, AsDefined, BrokeOff, EndsBy, FilesBy}
 use Rattle.m4_tool.specs.LineEnd.{HasPrefix, Reports, Seen, added_lines}
-use Rattle.m4_tool.specs.LineRun.{Closes, CountedBy, Ran, RanFiles, failure_after}
+use Rattle.m4_tool.specs.LineRun.{Closes, CountedBy, RanBy, RanFiles, failure_after}
 use Rattle.m4_tool.specs.World.{Files, made_file}
 use Rattle.m4_tool.proofs.Counts.{before_by, by_grew, grew_by, grew_none, grew_one, grew_then}
 
@@ -102,7 +102,7 @@ freezes_at_end o frozen ss =
     let p = after_wraps (limits_of o) (after_sources (limits_of o) ss (begun (start_of o.prefix frozen))) in
     by_over p.over o.freeze (saved_after ss (after_sources (limits_of o) ss (begun (start_of o.prefix frozen)))) p.so_far p.any_missing
 
-none_made : (name : List ℕ) (files : Option Files) → option_map (made_file name []) files ≡ files
+pub none_made : (name : List ℕ) (files : Option Files) → option_map (made_file name []) files ≡ files
 none_made name None = refl
 none_made name (Some f) = refl
 
@@ -299,7 +299,7 @@ after_report (Some f) b name file r status w h k = h
 
 -- a run that ended and was reported is the line's
 pub ended : (failure : Option Failure) (name file : List ℕ) (r : RunResult) (e : Ending) (o0 o1 o2 m0 m1 m2 : Option (List ℕ)) (f0 f1 f2 : ℕ) (w0 w1 w2 : Option Files) (status : ℕ)
-    → FreezesAtEnd r → Ran name r e (seen_from o0 o1 m0 m1 f0 f1 w0 w1) → Closes file e status failure (seen_from o1 o2 m1 m2 f1 f2 w1 w2)
+    → FreezesAtEnd r → RanBy name r e (seen_from o0 o1 m0 m1 f0 f1 w0 w1) → Closes file e status failure (seen_from o1 o2 m1 m2 f1 f2 w1 w2)
     → EndsBy failure name file (result_of_run file r) status (seen_from o0 o2 m0 m2 f0 f2 w0 w2)
 ended failure name file r e o0 o1 o2 m0 m1 m2 f0 f1 f2 w0 w1 w2 status z a d =
     let h = ends_by (failure_of e.cause d.flushed) name file r e.cause d.flushed e.status e.wrapped a.any_missing o0 o1 o2 m0 m1 m2 f0 f1 f2 w0 w1 w2 status z refl a.gives a.counted a.is_status a.files d.is_status d.output d.reports d.files in
@@ -345,7 +345,7 @@ missed_cause (Err e) = causes.Write
 
 missed_ran : (name given : List ℕ) (r : Result (Unit {0}) DeviceFault) (o m m' : Option (List ℕ)) (f f' : ℕ) (w : Option Files)
     → Puts r m m' (cannot_open given) → f' ≡ count_after r f
-    → Ran name (missed_run given) (record { status = 1; cause = missed_cause r; wrapped = false }) (seen_from o o m m' f f' w w)
+    → RanBy name (missed_run given) (record { status = 1; cause = missed_cause r; wrapped = false }) (seen_from o o m m' f f' w w)
 missed_ran name given (Ok x) o m m' f f' w p n = record {
   gives = record { reason = refl; status = refl; wrapped = refl; output = with_bytes-nil o; messages = p };
   counted = n;

@@ -14,6 +14,7 @@ use Rattle.m4_engine.specs.Session.{FreezeLeaves}
 use Rattle.m4_tool.specs.World.{Files, with_file}
 use Rattle.m4_tool.specs.Late.{written, after_writing}
 use Rattle.m4_tool.specs.LineRun.{RanFiles}
+use Rattle.m4_tool.proofs.RanFiles.{text_in}
 use Rattle.m4_tool.specs.TornFile.{IsTornFile, TearsFile, FreezesOrTears}
 
 -- a torn beginning is such a file
@@ -28,9 +29,6 @@ empty_sized = record { table = tt; quotes = (omega arith, omega arith); comments
 
 nothing_torn : IsTornFile []
 nothing_torn = torn_file empty [] IsState-empty empty_sized (inl (header, (λ e. cc), refl))
-
-text_in : (a b : List ℕ) → Some a ≡ Some b → a ≡ b
-text_in a b e = ap (λ (o : Option (List ℕ)). unwrap_or o []) e
 
 has_torn : (name bytes : List ℕ) (f : Files) (now : Option Files) → IsTornFile bytes
     → now ≡ after_writing true name (written true name now) (Some f) → written true name now ≡ Some bytes → TearsFile name (Some f) now

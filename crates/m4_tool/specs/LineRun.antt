@@ -1,6 +1,6 @@
 -- LineRun: what the steps of following a line pass to one another.
 -- Not believed: `follow` is stated with the words of Known, Line and LineEnd only, and proved through these.
--- Words: named_of, named_in, RanFiles, AllGrew, FlushedAs, RanCounts, RefusedAs, ClosedAs, CountedBy, Ran,
+-- Words: named_of, named_in, RanFiles, AllGrew, FlushedAs, RanCounts, RefusedAs, ClosedAs, CountedBy, RanBy,
 -- Closes, ModeCloses.
 use Rattle.std.specs.Prelude.{◌≡◌, ◌≢◌, ◌⊎◌, ℕ, Bool, true, false, List, [], ◌∷◌}
 use Rattle.std.specs.Prelude.{Option, Some, None, unwrap_or, option_map}
@@ -78,7 +78,7 @@ CountedBy causes.Write old new = (new ≡ old) ⊎ (new ≡ one_more old)
 CountedBy cause old new = new ≡ old
 
 -- a run of a line ended
-pub record Ran (name : List ℕ) (r : RunResult) (e : Ending) (w : Seen) : Type 0 where
+pub record RanBy (name : List ℕ) (r : RunResult) (e : Ending) (w : Seen) : Type 0 where
   pub gives : GivesBy e.cause r e (writers w.out_old w.out_new w.messages_old w.messages_new)
   pub counted : CountedBy e.cause w.failures_old w.failures_new
   pub any_missing : Bool

@@ -17,8 +17,8 @@ ghost use Rattle.m4_tool.specs.Modes.{ModeRuns, reads, writes};
 ghost use Rattle.m4_tool.specs.TornFile.{FreezesOrTears};
 
 mod closing;
+mod opening;
 mod running;
-mod sources;
 
 use crate::followed::{FAILED, Followed};
 use crate::line::Line;

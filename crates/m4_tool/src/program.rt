@@ -48,7 +48,7 @@ fn status_of_words<R: Files + Alloc<A = Global> + Print + Eprint, I: Read + Copy
     spare: Option<<R as Files>::File>,
 ) -> u8 {
     match line_of(rt.alloc(), words) {
-        Ok(line) => run_line(rt, input, errors, &line, spare),
+        Ok(line) => status_of_line(rt, input, errors, &line, spare),
         Err(fault) => report_line_fault(rt, &fault),
     }
 }
@@ -79,8 +79,8 @@ fn borrowed<'a>(alloc: Global, words: &'a [String]) -> Result<Vec<&'a str>, Allo
     Ok(texts)
 }
 
-// Follows the line. Its output and its messages are written in blocks.
-fn run_line<R: Files + Alloc<A = Global> + Print + Eprint, I: Read + Copy, E: Write + Drop>(
+// Follows the line and returns its status. If a block can't be allocated, that is reported.
+fn status_of_line<R: Files + Alloc<A = Global> + Print + Eprint, I: Read + Copy, E: Write + Drop>(
     rt: &R,
     input: I,
     errors: E,
@@ -93,7 +93,8 @@ fn run_line<R: Files + Alloc<A = Global> + Print + Eprint, I: Read + Copy, E: Wr
     ))
 }
 
-// Follows the line in the world of this runtime; an error is a block that could not be allocated.
+// Follows the line in the world of this runtime, and returns its status. Its output and its messages are written in
+// blocks; an error is a block that could not be allocated.
 #[inline(never)]
 fn follow_line<R: Files + Alloc<A = Global> + Print + Eprint, I: Read + Copy, E: Write + Drop>(
     rt: &R,

@@ -10,10 +10,10 @@ ghost use Rattle.m4_tool.specs.Line.{freeze_name, request_of, words_of};
 ghost use Rattle.m4_tool.specs.FailureCounts.{counts_of};
 ghost use Rattle.m4_tool.specs.Known.{ExtendFiles, Knows};
 ghost use Rattle.m4_tool.specs.LineEnd.{seen};
-ghost use Rattle.m4_tool.specs.LineRun.{Ran as RanBy, RanCounts, named_in, named_of};
+ghost use Rattle.m4_tool.specs.LineRun.{RanBy, RanCounts, named_in, named_of};
 ghost use Rattle.m4_tool.specs.TornFile.{TearsFile};
 
-use super::sources::sources_of;
+use super::opening::sources_of;
 use crate::late::{LateFile, LateStart};
 use crate::line::Line;
 use crate::world::{Shows, World};

@@ -27,7 +27,7 @@ pub fn sources_of<W: World>(
     if files.is_empty() {
         return input_alone(alloc, world);
     }
-    files_of(alloc, world, files)
+    opened_files(alloc, world, files)
 }
 
 /// Returns standard input as the only source.
@@ -45,7 +45,7 @@ fn input_alone<W: World>(alloc: Global, world: &mut W) -> Result<Vec<Source<W::R
 }
 
 /// Opens the files in order.
-fn files_of<W: World>(
+fn opened_files<W: World>(
     alloc: Global,
     world: &mut W,
     files: &[String],

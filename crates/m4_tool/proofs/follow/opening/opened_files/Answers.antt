@@ -4,7 +4,7 @@ use Rattle.std.specs.Prelude.{string_bytes}
 use Rattle.m4_tool.specs.Line.{input_after}
 use Rattle.m4_tool.specs.LineRun.{named_at, named_of}
 use Rattle.m4_tool.proofs.OpenedFiles.{one_opened, all_opened}
-use Rattle.m4_tool.proofs.follow.sources.files_of.Goals as goal
+use Rattle.m4_tool.proofs.follow.opening.opened_files.Goals as goal
 
 pub loop-file-preserved : goal.loop-file-preserved
 loop-file-preserved g c = (
