@@ -5,7 +5,7 @@ use Rattle.m4_state.specs.Device.{Script, Puts, count_after}
 use Rattle.m4_state.specs.declared.device.DeviceFault.{DeviceFault}
 use Rattle.m4_engine.specs.File.{cannot_open}
 use Rattle.m4_tool.specs.declared.fault.ModeFault.{ModeFault}
-use Rattle.m4_tool.specs.declared.follow.Mode.{Mode}
+use Rattle.m4_tool.specs.declared.modes.Mode.{Mode}
 use Rattle.m4_tool.specs.World.{Files}
 use Rattle.m4_tool.specs.ModeFault.{status_of}
 use Rattle.m4_tool.specs.Modes.{ModeRuns, ReportsFault}

@@ -16,7 +16,7 @@ use Rattle.m4_tool.specs.LineEnd.{HasPrefix}
 use Rattle.m4_tool.specs.LineRun.{CountedBy, RanBy, RanFiles}
 use Rattle.m4_tool.proofs.LineEnds.{none_made, seen_from}
 
-pub text_in : (a b : List ℕ) → Some a ≡ Some b → a ≡ b
+text_in : (a b : List ℕ) → Some a ≡ Some b → a ≡ b
 text_in a b e = ap (λ (o : Option (List ℕ)). unwrap_or o []) e
 
 made_here : (name text : List ℕ) (f : Files) (failures : ℕ) → failures ≡ 0 → is_tried true failures (Some text) ≡ true → with_file name text f ≡ made_file name text f

@@ -14,7 +14,6 @@ use Rattle.m4_engine.specs.Session.{FreezeLeaves}
 use Rattle.m4_tool.specs.World.{Files, with_file}
 use Rattle.m4_tool.specs.Late.{written, after_writing}
 use Rattle.m4_tool.specs.LineRun.{RanFiles}
-use Rattle.m4_tool.proofs.RanFiles.{text_in}
 use Rattle.m4_tool.specs.TornFile.{IsTornFile, TearsFile, FreezesOrTears}
 
 -- a torn beginning is such a file

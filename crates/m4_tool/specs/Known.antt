@@ -1,16 +1,11 @@
 -- Known: what is known of a world, and the results that a line may give in it if readers of its files fail.
--- Believed: public contracts cite it. Words: KnowsFiles, Knows, HasNoMode, ExtendFiles, MayGive.
+-- Believed: public contracts cite it. Words: KnowsFiles, Knows, ExtendFiles, MayGive.
 use Rattle.std.specs.Prelude.{◌≡◌, ℕ, Bool, false, List, [], ◌∷◌, ◌++◌, Option, Some, None}
 use Rattle.m4_state.specs.Device.{Script}
 use Rattle.m4_engine.specs.File.{Source, Opened, Unopened}
-use Rattle.m4_tool.specs.declared.line.Line.{Line}
 use Rattle.m4_tool.specs.Line.{LineResult, Request, input_after, reload_name, result_by, script_at, source_name}
 use Rattle.m4_tool.specs.Line.{thaw_in, words_of}
 use Rattle.m4_tool.specs.World.{Files}
-
--- the line is a run over files
-abbrev pub HasNoMode : Line → Type 0
-HasNoMode line = (line.canon ≡ None) × (line.inspect ≡ None)
 
 -- the world has these files, by the functions of its trait, and has made none yet
 abbrev pub KnowsFiles : {W : Type 0} → (W → Bool) → (W → Option Files) → W → Files → Type 0

@@ -1,7 +1,7 @@
 //! A line that is followed in a world: a mode, or a run over the files of the line, which starts from a
 //! frozen file and freezes to one. Manual: "Invoking m4".
 
-ghost use Rattle.std.specs.Prelude.{◌≡◌, List, Option, Some, None, IfSome, true, string_bytes};
+ghost use Rattle.std.specs.Prelude.{◌≡◌, List, Option, None, IfSome, true, option_map};
 ghost use Rattle.m4_state.specs.Device.{Script};
 ghost use Rattle.m4_engine.specs.RunSources.{DescribesFrozen};
 ghost use Rattle.m4_engine.specs.File.{Source as Said};
@@ -10,10 +10,10 @@ ghost use Rattle.m4_tool.specs.World.{Files};
 ghost use Rattle.m4_tool.specs.Line.{LineResult, freeze_name, line as line_result, request_of, result_of_run};
 ghost use Rattle.m4_tool.specs.Line.{words_of};
 ghost use Rattle.m4_tool.specs.FailureCounts.{FailedAs, counts_of};
-ghost use Rattle.m4_tool.specs.Known.{ExtendFiles, HasNoMode, Knows, KnowsFiles, MayGive};
+ghost use Rattle.m4_tool.specs.Known.{ExtendFiles, Knows, KnowsFiles, MayGive};
 ghost use Rattle.m4_tool.specs.LineEnd.{AllShown, EndsBy, Follows, seen};
-ghost use Rattle.m4_tool.specs.LineMode.{ModeFollows, ends_of};
-ghost use Rattle.m4_tool.specs.Modes.{ModeRuns, reads, writes};
+ghost use Rattle.m4_tool.specs.LineMode.{ModeFollows, ends_of, mode_of};
+ghost use Rattle.m4_tool.specs.Modes.{RunsBy};
 ghost use Rattle.m4_tool.specs.TornFile.{FreezesOrTears};
 
 mod closing;
@@ -22,7 +22,7 @@ mod running;
 
 use crate::followed::{FAILED, Followed};
 use crate::line::Line;
-use crate::modes;
+use crate::modes::{self, Mode};
 use crate::world::{Shows, World};
 use closing::{close, close_mode, close_unopened, put_unopened};
 use m4_state::device::{ByteSink, ByteSource};
@@ -41,71 +41,51 @@ pub fn follow<W: World, O: Shows, M: Shows>(
     // line in a world: the status, the output, the messages and the frozen file are those of the line; if a device
     // or an allocation fails, prefixes of them
     ensures runs { (files : Files) (input : Script) (r : LineResult)
-        → HasNoMode line.now → Knows W.making W.files W.input world files input
+        → mode_of line.now ≡ None → Knows W.making W.files W.input world files input
         → line_result (request_of line.now) files input ≡ Some r
         → Follows (request_of line.now) r result.status result.failure
         (seen O.contents M.contents M.failures W.files out.old out.new messages.old messages.new world result.world) }
     // line in a world: if the reader of a source fails, those over any source that begins with its bytes, if the run
     // ended before the fault; otherwise prefixes of them
     ensures extends { (files : Files) (input : Script) (r : LineResult)
-        → HasNoMode line.now → Knows W.making W.files W.input world files input
+        → mode_of line.now ≡ None → Knows W.making W.files W.input world files input
         → MayGive (request_of line.now) files input r
         → Follows (request_of line.now) r result.status result.failure
         (seen O.contents M.contents M.failures W.files out.old out.new messages.old messages.new world result.world) }
     // torn files: if each append takes all of its bytes or none, the frozen file has all of its text, or is as it
     // was, or is refused by a run that reloads it
     ensures torn { (files : Files) (input : Script) (r : LineResult)
-        → HasNoMode line.now → W.appends_whole ≡ true → Knows W.making W.files W.input world files input
+        → mode_of line.now ≡ None → W.appends_whole ≡ true → Knows W.making W.files W.input world files input
         → MayGive (request_of line.now) files input r
         → FreezesOrTears (freeze_name (request_of line.now)) r.frozen (W.files world) (W.files result.world) }
     // line in a world: a mode on the file of its name
-    ensures canon { IfSome line.now.canon (λ file. (files : Files)
+    ensures mode { IfSome (mode_of line.now) (λ found. (files : Files)
         → KnowsFiles W.making W.files world files
-        → ModeFollows Mode.Canon (string_bytes file) (files (string_bytes file)) result.status
-        (seen O.contents M.contents M.failures W.files out.old out.new messages.old messages.new world result.world)) }
-    // line in a world: the same, for the other mode
-    ensures inspect { line.now.canon ≡ None → IfSome line.now.inspect (λ file. (files : Files)
-        → KnowsFiles W.making W.files world files
-        → ModeFollows Mode.Inspect (string_bytes file) (files (string_bytes file)) result.status
+        → ModeFollows found.0 found.1 (files found.1) result.status
         (seen O.contents M.contents M.failures W.files out.old out.new messages.old messages.new world result.world)) }
     // safe and total: a failed write or flush is reported only if one failed in this call
-    ensures counted { HasNoMode line.now → FailedAs result.failure (counts_of O.failures M.failures W.failures
+    ensures counted { mode_of line.now ≡ None → FailedAs result.failure (counts_of O.failures M.failures W.failures
         out.old out.new messages.old messages.new world result.world) }
     // line in a world: if nothing failed, all that was written is flushed: the output, the messages and the file
     // that was made
     ensures shown { result.failure ≡ None
         → AllShown O.shown O.contents M.shown M.contents W.kept W.files out.new messages.new result.world }
 {
-    if let Some(file) = &line.canon {
-        return follow_mode(
-            alloc,
-            Mode::Canon,
-            file.as_str().as_bytes(),
-            world,
-            out,
-            messages,
-        );
+    match mode_of(line) {
+        Some((mode, file)) => follow_mode(alloc, mode, file, world, out, messages),
+        None => follow_run(alloc, line, world, out, messages),
     }
-    if let Some(file) = &line.inspect {
-        return follow_mode(
-            alloc,
-            Mode::Inspect,
-            file.as_str().as_bytes(),
-            world,
-            out,
-            messages,
-        );
-    }
-    follow_run(alloc, line, world, out, messages)
 }
 
-/// The modes of a command line.
-#[derive(Clone, Copy)]
-enum Mode {
-    /// Prints the canonical text of a frozen file.
-    Canon,
-    /// Lists a frozen file.
-    Inspect,
+/// Returns the mode of a line with the name of its file, if the line has a mode.
+fn mode_of(line: &Line) -> Option<(Mode, &[u8])>
+    ensures { option_map (λ found. (found.0, found.1.now)) result ≡ mode_of line.now }
+{
+    match (&line.canon, &line.inspect) {
+        (Some(file), _) => Some((Mode::Canon, file.as_str().as_bytes())),
+        (None, Some(file)) => Some((Mode::Inspect, file.as_str().as_bytes())),
+        (None, None) => None,
+    }
 }
 
 /// Runs a mode on a file, or reports that it can't be opened.
@@ -144,9 +124,8 @@ fn run_mode<R: ByteSource, O: ByteSink, M: ByteSink>(
     out: &mut O,
     messages: &mut M,
 ) -> u8
-    ensures { ModeRuns (ends_of mode) file.now (reads R.script R.failures reader.old reader.new)
-        (writes O.contents O.failures out.old out.new)
-        (writes M.contents M.failures messages.old messages.new) result }
+    ensures { RunsBy (ends_of mode) file.now R.script R.failures O.contents O.failures M.contents M.failures
+        reader.old reader.new out.old out.new messages.old messages.new result }
 {
     match mode {
         Mode::Canon => modes::canon(alloc, file, reader, out, messages),
