@@ -91,7 +91,7 @@ fn put_frozen_fault<M: ByteSink>(
     }
 }
 
-/// Writes a line with a file and its fault, without a place.
+/// Writes the line for a fault of this file that has no place in it.
 fn put_line<M: ByteSink>(file: &[u8], text: &[u8], messages: &mut M) -> Result<(), DeviceFault>
     ensures puts { Puts result (M.contents messages.old) (M.contents messages.new)
         (codes "m4: " ++ (file.now ++ (codes ": " ++ (text.now ++ codes "\n")))) }
@@ -100,7 +100,7 @@ fn put_line<M: ByteSink>(file: &[u8], text: &[u8], messages: &mut M) -> Result<(
     write_pieces(messages, &[b"m4: ", file, b": ", text, b"\n"])
 }
 
-/// Writes a line with a file, its fault and the byte where it is.
+/// Writes the line for a fault of this file at this byte.
 fn put_line_at<M: ByteSink>(
     file: &[u8],
     text: &[u8],

@@ -176,7 +176,7 @@ fn follow_run<W: World, O: Shows, M: Shows>(
     }
 }
 
-/// Follows a line from this start. `file` is the name of its frozen file.
+/// Follows a line without a mode that starts from this frozen file, if there is one. `file` is the name of that file.
 fn follow_from<W: World, O: Shows, M: Shows>(
     alloc: Global,
     line: &Line,

@@ -68,7 +68,7 @@ fn line_of(alloc: Global, words: &[String]) -> Result<Line, LineFault>
     read_line(alloc, texts.as_slice())
 }
 
-// Borrows the words, for `read_line`.
+// Returns the words as borrowed texts, which `read_line` reads.
 fn borrowed<'a>(alloc: Global, words: &'a [String]) -> Result<Vec<&'a str>, AllocError>
     ensures { IfOk result (λ same. texts same.items ≡ map string_bytes words.now) }
 {
@@ -113,7 +113,7 @@ fn follow_line<R: Files + Alloc<A = Global> + Print + Eprint, I: Read + Copy, E:
     Ok(followed.status)
 }
 
-// Reports why a line is refused. Help that was requested is not a fault.
+// Reports why a line is refused, and returns the status. Help that was requested is not a fault.
 fn report_line_fault(rt: &(impl Print + Eprint), fault: &LineFault) -> u8 {
     match fault {
         LineFault::ModeNotAlone => report(rt, "U1 a mode stands alone"),
@@ -122,7 +122,7 @@ fn report_line_fault(rt: &(impl Print + Eprint), fault: &LineFault) -> u8 {
     }
 }
 
-// Prints the text of `clap`: help on standard output, or a refusal on standard error.
+// Prints the text of `clap`, which is help for standard output or a refusal for standard error, and returns the status.
 fn print_answer(rt: &(impl Print + Eprint), error: &clap::Error) -> u8 {
     if error.print(rt).is_err() {
         return report_failure(rt, Failure::Write);
@@ -130,7 +130,7 @@ fn print_answer(rt: &(impl Print + Eprint), error: &clap::Error) -> u8 {
     if error.use_stderr() { FAILED } else { 0 }
 }
 
-// Reports why the words of the process could not be read.
+// Reports why the words of the process could not be read, and returns the status.
 fn report_unread_words(rt: &impl Eprint, fault: &io::Error) -> u8
     ensures { result ≡ FAILED }
 {

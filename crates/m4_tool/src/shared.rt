@@ -11,7 +11,8 @@ pub const BLOCK: usize = 65536;
 /// How many bytes of messages are buffered, at most. Few runs have more, and a longer one is written with no copy.
 pub const MESSAGES: usize = 1024;
 
-/// A writer that is shared, together with another one. A call during another one fails; there is none.
+/// One of two writers that a run shares with the reader of standard input. Before it writes, it flushes the other one.
+/// A call during another one fails; there is none.
 #[derive(Drop)]
 pub struct Shared<'a, W, V> {
     cell: &'a RefCell<W>,
@@ -34,6 +35,7 @@ impl<W: Write, V: Write> Write for Shared<'_, W, V> {
     }
 }
 
+// Flushes a shared writer.
 fn flush<W: Write>(cell: &RefCell<W>) -> io::Result<()> {
     match cell.try_borrow_mut() {
         Ok(mut writer) => writer.flush(),
@@ -49,7 +51,7 @@ pub struct SharedOutputs<W, E> {
 }
 
 impl<W, E> SharedOutputs<W, E> {
-    /// Shares these two writers.
+    /// Returns outputs that share these two writers.
     pub fn new(output: W, messages: E) -> SharedOutputs<W, E> {
         SharedOutputs {
             output: RefCell::new(output),

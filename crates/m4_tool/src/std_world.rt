@@ -25,7 +25,7 @@ const TOO_MANY: [i32; 2] = [23, 24];
 /// file touches little memory.
 const BLOCK: usize = 32768;
 
-/// The file that was made, if one was.
+/// A writer to the file that was made. If none was, each write fails, and a flush has nothing to do.
 #[derive(Drop)]
 struct Made<F> {
     file: Option<F>,

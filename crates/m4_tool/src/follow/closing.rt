@@ -16,8 +16,8 @@ use m4_engine::ending::{Cause, Ending};
 use m4_state::device::{ByteSink, DeviceFault};
 use m4_state::transfer::{write_all, write_pieces};
 
-/// Flushes everything after a run, and reports what the run has not reported itself. `file` is the name of
-/// its frozen file. If a report can't be written, only the status shows it.
+/// Ends a line whose run ended so: flushes everything, and reports what the run has not reported itself. `file` is the
+/// name of its frozen file. If a report can't be written, only the status shows it.
 pub fn close<W: World, O: Shows, M: Shows>(
     ending: Ending,
     file: &[u8],
@@ -103,7 +103,7 @@ fn report<M: Shows>(failure: Failure, messages: &mut M)
     }
 }
 
-/// Returns what failed, if the line for a refused file was reported or not.
+/// Returns what failed. If nothing else did, that is `Report` unless the line for a refused file was reported.
 fn failure_after(failure: Option<Failure>, is_reported: bool) -> Option<Failure>
     ensures { result ≡ failure_after failure is_reported }
 {
@@ -148,7 +148,8 @@ pub fn put_unopened<M: ByteSink>(file: &[u8], messages: &mut M) -> Result<(), De
     write_pieces(messages, &[b"m4: cannot open `", file, b"'\n"])
 }
 
-/// Flushes everything after a mode that ended with this status. A flush that fails is a write fault.
+/// Ends a line with a mode that returned this status: flushes everything, and reports a flush that fails unless the
+/// mode has failed itself.
 pub fn close_mode<W: World, O: Shows, M: Shows>(
     status: u8,
     world: W,

@@ -1,6 +1,7 @@
 //! The run of a line: over its sources, from its start, to the file to which it freezes.
 
-ghost use Rattle.std.specs.Prelude.{◌≡◌, [], List, ℕ, Option, IfOk, true, false, map, unwrap_or, option_map, string_bytes};
+ghost use Rattle.std.specs.Prelude.{◌≡◌, [], List, ℕ, Option, IfOk, true, false, map, unwrap_or};
+ghost use Rattle.std.specs.Prelude.{option_map, string_bytes};
 ghost use Rattle.m4_state.specs.Device.{Script};
 ghost use Rattle.m4_engine.specs.File.{Source as Said};
 ghost use Rattle.m4_engine.specs.RunSources.{DescribesFrozen};
@@ -35,7 +36,7 @@ pub struct Ran<W> {
     pub world: W,
 }
 
-/// Opens the files of a line and runs over them, from this frozen file if there is one.
+/// Opens the files of a line and runs over them. The run starts from this frozen file, if there is one.
 pub fn run_line<W: World, O: Shows, M: Shows>(
     alloc: Global,
     line: &Line,
