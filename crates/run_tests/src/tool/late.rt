@@ -12,9 +12,11 @@ use m4_tool::late::{LateFile, LateStart};
 use m4_tool::mem_world::MemWorld;
 use m4_tool::std_world::StdFiles;
 use m4_tool::world::World;
+use std::alloc::Global;
 use std::fs;
 use std::marker::Brand;
 use std::process::Abort;
+use std::rt::Files;
 
 // The pieces that are written, and the file that is made.
 static ROWS: [(&[&[u8]], &str); 4] = [
@@ -57,7 +59,9 @@ fn late_files_are_made(rt: HostRuntime) {
 const PATH: &str = "late_file_of_a_test_of_m4r";
 
 // Makes a late file over the files of the process. If that fails, the test ends.
-fn late_of<'a>(rt: &'a HostRuntime) -> LateFile<StdFiles<'a, HostRuntime>, Brand> {
+fn late_of<'a, R: Files + Alloc<A = Global> + Abort>(
+    rt: &'a R,
+) -> LateFile<StdFiles<'a, R>, Brand> {
     match LateFile::new(rt, PATH) {
         Ok(late) => late,
         Err(_fault) => panic!(rt; "no late file"),
@@ -65,7 +69,7 @@ fn late_of<'a>(rt: &'a HostRuntime) -> LateFile<StdFiles<'a, HostRuntime>, Brand
 }
 
 // Returns whether the file of the process has this text.
-fn has_text(rt: &HostRuntime, text: &str) -> bool {
+fn has_text(rt: &(impl Files + Alloc), text: &str) -> bool {
     match fs::read_to_string(rt, PATH) {
         Ok(found) => found.as_str() == text,
         Err(_fault) => false,
