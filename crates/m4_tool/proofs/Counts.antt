@@ -7,7 +7,7 @@ use Rattle.m4_engine.specs.declared.ending.Cause.TheVariants as causes
 use Rattle.m4_engine.specs.Writers.{ByCause}
 use Rattle.m4_tool.specs.declared.followed.Failure.{Failure}
 use Rattle.m4_tool.specs.declared.followed.Failure.TheVariants as failures
-use Rattle.m4_tool.specs.Line.{AnyRose, Counts, FailedAs, Grew, GrewBy, NoneRose, Rose, counts}
+use Rattle.m4_tool.specs.FailureCounts.{AnyRose, Counts, FailedAs, Grew, GrewBy, NoneRose, Rose, counts}
 use Rattle.m4_tool.specs.LineRun.{AllGrew, ClosedAs, FlushedAs, RanCounts}
 
 pub grew_none : (f g : ℕ) → g ≡ f → Grew f g
@@ -107,4 +107,5 @@ failed_as cause (Some failures.Write) o o1 o2 m m1 m2 w w1 w2 r k = elim k.1 [
 ]
 failed_as cause (Some failures.Report) o o1 o2 m m1 m2 w w1 w2 r k = then_rose m m1 m2 r.grew.1 k
 failed_as cause (Some failures.Read) o o1 o2 m m1 m2 w w1 w2 r k = tt
+failed_as cause (Some failures.Load) o o1 o2 m m1 m2 w w1 w2 r k = tt
 failed_as cause (Some failures.OutOfMemory) o o1 o2 m m1 m2 w w1 w2 r k = tt

@@ -7,10 +7,11 @@ use Rattle.m4_engine.specs.declared.source.Source.{Source as RunSource}
 use Rattle.m4_engine.specs.declared.source.Source.TheVariants as sources
 use Rattle.m4_engine.specs.File.{Source, Opened, Unopened}
 use Rattle.m4_engine.specs.RunSources.{AllConsumeOnly, ConsumesOnly, ExtendSources, ExtendsOpened, ExtendsRead, ExtendsSource, whole}
-use Rattle.m4_tool.specs.RunEnd.{source_name}
-use Rattle.m4_tool.specs.World.{Files}
-use Rattle.m4_tool.specs.Line.{ExtendFiles, ExtendsFile, LineResult, MayGive, Missing, Request, Starts, Thawed, all_of, file_source, input_after, line, result_by, script_at, sources_in, thaw_in, words_of}
+use Rattle.m4_tool.specs.Line.{source_name, LineResult, Missing, Request, Starts, Thawed, all_of, file_source}
+use Rattle.m4_tool.specs.Line.{input_after, line, result_by, script_at, sources_in, thaw_in, words_of}
+use Rattle.m4_tool.specs.Known.{ExtendFiles, ExtendsFile, MayGive}
 use Rattle.m4_tool.specs.LineRun.{Named, named_in, named_of}
+use Rattle.m4_tool.specs.World.{Files}
 use Rattle.m4_tool.proofs.OpenedFiles.{all_there}
 
 -- what was read of a reader, and the rest

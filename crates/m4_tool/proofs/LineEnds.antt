@@ -1,6 +1,6 @@
 -- The end of a line, by the end of its run and by what was flushed.
 use Rattle.std.proofs.Common.{◌≡◌, ◌≢◌, ℕ, Bool, true, false, List, [], ◌∷◌, ◌++◌, Option, Some, None, refl, sym, ap, ◌∙◌, subst, append-nil, ◌⊎◌, inl, inr}
-use Rattle.std.specs.Prelude.{option_map, unwrap_or, codes, Result, Ok, Err}
+use Rattle.std.specs.Prelude.{◌==◌, length, option_map, unwrap_or, Result, Ok, Err}
 use Rattle.m4_state.specs.Device.{Script, with_bytes, HasBegun, Puts, count_after}
 use Rattle.m4_state.specs.declared.device.DeviceFault.{DeviceFault}
 use Rattle.m4_frozen.specs.declared.fault.FrozenFault.{FrozenFault}
@@ -15,16 +15,19 @@ use Rattle.m4_engine.specs.Expansion.{EndReason, Ends, RunSoFar}
 use Rattle.m4_engine.specs.File.{Source, after_sources, cannot_open}
 use Rattle.m4_engine.specs.Start.{begun, start_of}
 use Rattle.m4_engine.specs.Wraps.{after_wraps}
-use Rattle.m4_engine.specs.Run.{RunResult, status_of, frozen_status, limits_of, result_by, run, saved_after}
+use Rattle.m4_engine.specs.Run.{RunResult, status_of, limits_of, result_by, run, saved_after}
 use Rattle.m4_engine.specs.Writers.{Contents, writers}
 use Rattle.m4_engine.specs.WholeRun.{GivesBy, RefusedBy, WroteAll, WrotePrefix}
 use Rattle.m4_tool.specs.declared.followed.Failure.{Failure}
 use Rattle.m4_tool.specs.declared.followed.Failure.TheVariants as failures
-use Rattle.m4_tool.specs.RunEnd.{last_status, refused_line}
+use Rattle.m4_tool.specs.Failure.{failure_lines, lines_of, status_after}
+use Rattle.m4_tool.specs.Line.{refused_line, LineResult, refusals, refusals_by, result_of_run, unreloaded}
+use Rattle.m4_tool.specs.FailureCounts.{Grew}
+use Rattle.m4_tool.specs.LineEnd.{failure_by, failure_of, frozen_failure, AsDefined, BrokeOff, EndsBy, FilesBy}
+use Rattle.m4_tool.specs.LineEnd.{HasPrefix, Reports, Seen, added_lines}
+use Rattle.m4_tool.specs.LineRun.{Closes, CountedBy, RanBy, RanFiles, failure_after}
 use Rattle.m4_tool.specs.World.{Files, made_file}
-use Rattle.m4_tool.specs.Line.{AsDefined, BrokeOff, EndsBy, FilesBy, Grew, HasPrefix, LineResult, Reports, Seen, added_lines, failure_by, failure_of, frozen_failure, last_lines, refusals, refusals_by, result_of_run, unreloaded}
 use Rattle.m4_tool.proofs.Counts.{before_by, by_grew, grew_by, grew_none, grew_one, grew_then}
-use Rattle.m4_tool.specs.LineRun.{Closes, CountedBy, Ran, RanFiles, failure_after}
 
 -- lines that were added after some failures
 pub reports-before : (xs : List (List ℕ)) (a b : Option (List ℕ)) (f g h : ℕ) → Grew f g → Reports xs a b g h → Reports xs a b f h
@@ -74,35 +77,11 @@ wrote_all causes.NestingLimit true r e w n g = g
 wrote_all (causes.Frozen f) false r e w n g = absurd cc
 wrote_all c false r e w n g = absurd cc
 
-status_all : (c : Cause) (b : Bool) (s : ℕ) (x : Bool) → failure_of c b ≡ None → last_status (record { status = s; cause = c; wrapped = x }) b ≡ s
-status_all causes.Read true s x n = absurd cc
-status_all causes.Write true s x n = absurd cc
-status_all causes.OutOfMemory true s x n = absurd cc
-status_all (causes.Frozen f) true s x n = refl
-status_all causes.Done true s x n = refl
-status_all (causes.Exited code) true s x n = refl
-status_all causes.EndInString true s x n = refl
-status_all causes.EndInComment true s x n = refl
-status_all causes.EndInArguments true s x n = refl
-status_all causes.ExpansionLimit true s x n = refl
-status_all causes.NestingLimit true s x n = refl
-status_all (causes.Frozen f) false s x n = absurd cc
-status_all c false s x n = absurd cc
+status_all : (c : Cause) (b : Bool) (s : ℕ) → failure_of c b ≡ None → status_after (failure_of c b) s ≡ s
+status_all c b s n = ap (λ (f : Option Failure). status_after f s) n
 
 added_all : (c : Cause) (b : Bool) (file : List ℕ) → failure_of c b ≡ None → added_lines file c b ≡ refusals file c
-added_all causes.Read true file n = absurd cc
-added_all causes.Write true file n = absurd cc
-added_all causes.OutOfMemory true file n = absurd cc
-added_all (causes.Frozen f) true file n = refl
-added_all causes.Done true file n = refl
-added_all (causes.Exited code) true file n = refl
-added_all causes.EndInString true file n = refl
-added_all causes.EndInComment true file n = refl
-added_all causes.EndInArguments true file n = refl
-added_all causes.ExpansionLimit true file n = refl
-added_all causes.NestingLimit true file n = refl
-added_all (causes.Frozen f) false file n = absurd cc
-added_all c false file n = absurd cc
+added_all c b file n = ap (λ (f : Option Failure). refusals file c ++ failure_lines f) n ∙ append-nil (refusals file c)
 
 counted_all : (c : Cause) (b : Bool) (f g : ℕ) → failure_of c b ≡ None → CountedBy c f g → g ≡ f
 counted_all causes.Write true f g n h = absurd cc
@@ -123,7 +102,7 @@ freezes_at_end o frozen ss =
     let p = after_wraps (limits_of o) (after_sources (limits_of o) ss (begun (start_of o.prefix frozen))) in
     by_over p.over o.freeze (saved_after ss (after_sources (limits_of o) ss (begun (start_of o.prefix frozen)))) p.so_far p.any_missing
 
-none_made : (name : List ℕ) (files : Option Files) → option_map (made_file name []) files ≡ files
+pub none_made : (name : List ℕ) (files : Option Files) → option_map (made_file name []) files ≡ files
 none_made name None = refl
 none_made name (Some f) = refl
 
@@ -209,6 +188,7 @@ files_fail : (f : Failure) (c : Cause) (b : Bool) (name text : List ℕ) (old ne
 files_fail failures.Write c b name text old new e h = some_files c name text old new h
 files_fail failures.Read c b name text old new e h = kept_files c b failures.Read name text old new e (λ k. cc) h
 files_fail failures.Report c b name text old new e h = kept_files c b failures.Report name text old new e (λ k. cc) h
+files_fail failures.Load c b name text old new e h = kept_files c b failures.Load name text old new e (λ k. cc) h
 files_fail failures.OutOfMemory c b name text old new e h = kept_files c b failures.OutOfMemory name text old new e (λ k. cc) h
 
 counted_some : (c : Cause) (f g : ℕ) → CountedBy c f g → Grew f g
@@ -216,36 +196,8 @@ counted_some causes.Write f g (inl h) = grew_none f g h
 counted_some causes.Write f g (inr h) = grew_one f g h
 counted_some c f g h = grew_none f g h
 
-frozen_fail : (k : FrozenKind) (f : Failure) → frozen_failure k ≡ Some f → frozen_status k ≡ 1
-frozen_fail kinds.OutOfMemory f e = refl
-frozen_fail kinds.NoVersion f e = refl
-frozen_fail kinds.Newer f e = absurd cc
-frozen_fail kinds.VersionZero f e = refl
-frozen_fail kinds.SecondVersion f e = refl
-frozen_fail kinds.UnknownDirective f e = refl
-frozen_fail kinds.DigitExpected f e = refl
-frozen_fail kinds.NumberTooLarge f e = refl
-frozen_fail kinds.SeparatorExpected f e = refl
-frozen_fail kinds.PrematureEnd f e = refl
-frozen_fail kinds.Read f e = refl
-
-status_fail : (c : Cause) (b : Bool) (f : Failure) (s : ℕ) (x m : Bool) → failure_of c b ≡ Some f → s ≡ status_of (Ends c) m → last_status (record { status = s; cause = c; wrapped = x }) b ≡ 1
-status_fail causes.Read true f s x m n e = refl
-status_fail causes.Write true f s x m n e = refl
-status_fail causes.OutOfMemory true f s x m n e = refl
-status_fail causes.Read false f s x m n e = refl
-status_fail causes.Write false f s x m n e = refl
-status_fail causes.OutOfMemory false f s x m n e = refl
-status_fail (causes.Frozen fault) true f s x m n e = e ∙ frozen_fail fault.kind f n
-status_fail (causes.Frozen fault) false f s x m n e = refl
-status_fail causes.Done true f s x m n e = absurd cc
-status_fail (causes.Exited code) true f s x m n e = absurd cc
-status_fail causes.EndInString true f s x m n e = absurd cc
-status_fail causes.EndInComment true f s x m n e = absurd cc
-status_fail causes.EndInArguments true f s x m n e = absurd cc
-status_fail causes.ExpansionLimit true f s x m n e = absurd cc
-status_fail causes.NestingLimit true f s x m n e = absurd cc
-status_fail c false f s x m n e = refl
+status_fail : (c : Cause) (b : Bool) (f : Failure) (s : ℕ) → failure_of c b ≡ Some f → status_after (failure_of c b) s ≡ 1
+status_fail c b f s n = ap (λ (o : Option Failure). status_after o s) n
 
 -- the writers and the files of a line, by those of its run and of its end
 abbrev pub seen_from : Option (List ℕ) → Option (List ℕ) → Option (List ℕ) → Option (List ℕ) → ℕ → ℕ → Option Files → Option Files → Seen
@@ -253,14 +205,14 @@ seen_from o o' m m' f f' w w' = record { out_old = o; out_new = o'; messages_old
 
 as_defined : (name file : List ℕ) (r : RunResult) (c : Cause) (b : Bool) (s : ℕ) (x : Bool) (o0 o1 o2 m0 m1 m2 : Option (List ℕ)) (f0 f1 f2 : ℕ) (w0 w1 w2 : Option Files) (status : ℕ)
     → FreezesAtEnd r → failure_of c b ≡ None → WroteAll r (record { status = s; cause = c; wrapped = x }) (writers o0 o1 m0 m1) → CountedBy c f0 f1 → RanFiles c name (unwrap_or r.frozen []) w0 w1
-    → status ≡ last_status (record { status = s; cause = c; wrapped = x }) b → o2 ≡ o1 → Reports (added_lines file c b) m1 m2 f1 f2 → w2 ≡ w1
+    → status ≡ status_after (failure_of c b) s → o2 ≡ o1 → Reports (added_lines file c b) m1 m2 f1 f2 → w2 ≡ w1
     → AsDefined name (result_of_run file r) status (seen_from o0 o2 m0 m2 f0 f2 w0 w2)
 as_defined name file r c b s x o0 o1 o2 m0 m1 m2 f0 f1 f2 w0 w1 w2 status z n g k h l o p q =
     let lines : added_lines file c b ≡ refusals_by file r.reason = added_all c b file n ∙ ap (refusals_by file) (sym g.reason) in
     let p1 = subst (λ (ls : List (List ℕ)). Reports ls m1 m2 f1 f2) lines p in
     let p2 = subst (λ (a : Option (List ℕ)). Reports (refusals_by file r.reason) a m2 f1 f2) g.messages p1 in
     record {
-      is_status = l ∙ status_all c b s x n ∙ g.status;
+      is_status = l ∙ status_all c b s n ∙ g.status;
       output = o ∙ g.output;
       messages = subst (λ (f : ℕ). Reports (refusals_by file r.reason) (with_bytes m0 r.messages) m2 f f2) (counted_all c b f0 f1 n k) p2;
       files = q ∙ files_all c name r w0 w1 g.reason z (unfailed c b n) h;
@@ -268,10 +220,10 @@ as_defined name file r c b s x o0 o1 o2 m0 m1 m2 f0 f1 f2 w0 w1 w2 status z n g 
 
 broke_off : (name file : List ℕ) (r : RunResult) (c : Cause) (b : Bool) (f : Failure) (s : ℕ) (x m : Bool) (o0 o1 o2 m0 m1 m2 : Option (List ℕ)) (f0 f1 f2 : ℕ) (w0 w1 w2 : Option Files) (status : ℕ)
     → failure_of c b ≡ Some f → Prefixes r (writers o0 o1 m0 m1) → CountedBy c f0 f1 → s ≡ status_of (Ends c) m → RanFiles c name (unwrap_or r.frozen []) w0 w1
-    → status ≡ last_status (record { status = s; cause = c; wrapped = x }) b → o2 ≡ o1 → Reports (added_lines file c b) m1 m2 f1 f2 → w2 ≡ w1
+    → status ≡ status_after (failure_of c b) s → o2 ≡ o1 → Reports (added_lines file c b) m1 m2 f1 f2 → w2 ≡ w1
     → BrokeOff name file (result_of_run file r) status f (seen_from o0 o2 m0 m2 f0 f2 w0 w2)
 broke_off name file r c b f s x m o0 o1 o2 m0 m1 m2 f0 f1 f2 w0 w1 w2 status n g k t h l o p q = record {
-  is_status = l ∙ status_fail c b f s x m n t;
+  is_status = l ∙ status_fail c b f s n;
   output = subst (λ (v : Option (List ℕ)). HasBegun o0 v r.output) (sym o) g.output;
   cause = c;
   flushed = b;
@@ -323,7 +275,7 @@ no_report c false e = or_write (failure_by c) (no_report_by c) e
 
 ends_by : (failure : Option Failure) (name file : List ℕ) (r : RunResult) (c : Cause) (b : Bool) (s : ℕ) (x m : Bool) (o0 o1 o2 m0 m1 m2 : Option (List ℕ)) (f0 f1 f2 : ℕ) (w0 w1 w2 : Option Files) (status : ℕ)
     → FreezesAtEnd r → failure ≡ failure_of c b → GivesBy c r (record { status = s; cause = c; wrapped = x }) (writers o0 o1 m0 m1) → CountedBy c f0 f1 → s ≡ status_of (Ends c) m → RanFiles c name (unwrap_or r.frozen []) w0 w1
-    → status ≡ last_status (record { status = s; cause = c; wrapped = x }) b → o2 ≡ o1 → Reports (added_lines file c b) m1 m2 f1 f2 → w2 ≡ w1
+    → status ≡ status_after (failure_of c b) s → o2 ≡ o1 → Reports (added_lines file c b) m1 m2 f1 f2 → w2 ≡ w1
     → EndsBy failure name file (result_of_run file r) status (seen_from o0 o2 m0 m2 f0 f2 w0 w2)
 ends_by None name file r c b s x m o0 o1 o2 m0 m1 m2 f0 f1 f2 w0 w1 w2 status z n g k t h l o p q =
     as_defined name file r c b s x o0 o1 o2 m0 m1 m2 f0 f1 f2 w0 w1 w2 status z (sym n) (wrote_all c b r (record { status = s; cause = c; wrapped = x }) (writers o0 o1 m0 m1) (sym n) g) k h l o p q
@@ -335,6 +287,8 @@ ends_by (Some failures.Write) name file r c b s x m o0 o1 o2 m0 m1 m2 f0 f1 f2 w
     broke_off name file r c b failures.Write s x m o0 o1 o2 m0 m1 m2 f0 f1 f2 w0 w1 w2 status (sym n) (prefixes c r (record { status = s; cause = c; wrapped = x }) (writers o0 o1 m0 m1) g) k t h l o p q
 ends_by (Some failures.OutOfMemory) name file r c b s x m o0 o1 o2 m0 m1 m2 f0 f1 f2 w0 w1 w2 status z n g k t h l o p q =
     broke_off name file r c b failures.OutOfMemory s x m o0 o1 o2 m0 m1 m2 f0 f1 f2 w0 w1 w2 status (sym n) (prefixes c r (record { status = s; cause = c; wrapped = x }) (writers o0 o1 m0 m1) g) k t h l o p q
+ends_by (Some failures.Load) name file r c b s x m o0 o1 o2 m0 m1 m2 f0 f1 f2 w0 w1 w2 status z n g k t h l o p q =
+    broke_off name file r c b failures.Load s x m o0 o1 o2 m0 m1 m2 f0 f1 f2 w0 w1 w2 status (sym n) (prefixes c r (record { status = s; cause = c; wrapped = x }) (writers o0 o1 m0 m1) g) k t h l o p q
 
 -- the same if a line for a refused file could not be written
 after_report : (failure : Option Failure) (is_reported : Bool) (name file : List ℕ) (r : LineResult) (status : ℕ) (w : Seen) → EndsBy failure name file r status w
@@ -345,7 +299,7 @@ after_report (Some f) b name file r status w h k = h
 
 -- a run that ended and was reported is the line's
 pub ended : (failure : Option Failure) (name file : List ℕ) (r : RunResult) (e : Ending) (o0 o1 o2 m0 m1 m2 : Option (List ℕ)) (f0 f1 f2 : ℕ) (w0 w1 w2 : Option Files) (status : ℕ)
-    → FreezesAtEnd r → Ran name r e (seen_from o0 o1 m0 m1 f0 f1 w0 w1) → Closes file e status failure (seen_from o1 o2 m1 m2 f1 f2 w1 w2)
+    → FreezesAtEnd r → RanBy name r e (seen_from o0 o1 m0 m1 f0 f1 w0 w1) → Closes file e status failure (seen_from o1 o2 m1 m2 f1 f2 w1 w2)
     → EndsBy failure name file (result_of_run file r) status (seen_from o0 o2 m0 m2 f0 f2 w0 w2)
 ended failure name file r e o0 o1 o2 m0 m1 m2 f0 f1 f2 w0 w1 w2 status z a d =
     let h = ends_by (failure_of e.cause d.flushed) name file r e.cause d.flushed e.status e.wrapped a.any_missing o0 o1 o2 m0 m1 m2 f0 f1 f2 w0 w1 w2 status z refl a.gives a.counted a.is_status a.files d.is_status d.output d.reports d.files in
@@ -363,13 +317,10 @@ refusal_reported cause fault file r old mid new f g h is p n k l =
 pub some_refused : (cause : Cause) (fault : FrozenFault) (file : List ℕ) → cause ≡ causes.Frozen fault → refusals file cause ≢ []
 some_refused cause fault file is = subst (λ (c : Cause). refusals file c ≢ []) (sym is) (λ q. cc)
 
--- the last line
-pub last_reported : (fault : Option (List ℕ)) (text : List ℕ) (old new : Option (List ℕ)) (f g : ℕ) → Some text ≡ fault
-    → Reports ((codes "m4: " ++ (text ++ codes "\n")) ∷ []) old new f g → Reports (last_lines fault) old new f g
-last_reported fault text old new f g e p = subst (λ (o : Option (List ℕ)). Reports (last_lines o) old new f g) e p
-
-pub none_reported : (fault : Option (List ℕ)) (old : Option (List ℕ)) (f : ℕ) → None ≡ fault → Reports (last_lines fault) old old f f
-none_reported fault old f e = subst (λ (o : Option (List ℕ)). Reports (last_lines o) old old f f) e (refl, grew_none f f refl)
+-- a line that is not empty
+pub line_reported : (line : List ℕ) (old new : Option (List ℕ)) (f g : ℕ) → (length line == 0) ≡ false → Reports (line ∷ []) old new f g → Reports (lines_of line) old new f g
+line_reported [] old new f g e p = absurd cc
+line_reported (b ∷ bs) old new f g e p = p
 
 -- the same end, by the names of its parts
 pub ends_as : (failure : Option Failure) (name file file' : List ℕ) (r r' : LineResult) (status : ℕ) (w : Seen) → file ≡ file' → r ≡ r' → EndsBy failure name file r status w → EndsBy failure name file' r' status w
@@ -394,7 +345,7 @@ missed_cause (Err e) = causes.Write
 
 missed_ran : (name given : List ℕ) (r : Result (Unit {0}) DeviceFault) (o m m' : Option (List ℕ)) (f f' : ℕ) (w : Option Files)
     → Puts r m m' (cannot_open given) → f' ≡ count_after r f
-    → Ran name (missed_run given) (record { status = 1; cause = missed_cause r; wrapped = false }) (seen_from o o m m' f f' w w)
+    → RanBy name (missed_run given) (record { status = 1; cause = missed_cause r; wrapped = false }) (seen_from o o m m' f f' w w)
 missed_ran name given (Ok x) o m m' f f' w p n = record {
   gives = record { reason = refl; status = refl; wrapped = refl; output = with_bytes-nil o; messages = p };
   counted = n;

@@ -1,6 +1,7 @@
 -- A file that is made when its first byte is written.
 use Rattle.std.proofs.Common.{◌≡◌, ◌<◌, ◌≤◌, ℕ, zero, suc, Bool, true, false, List, [], ◌∷◌, ◌++◌, length, take, Option, Some, None, refl, sym, ap, ◌∙◌, arith}
 use Rattle.std.specs.Prelude.{option_map, unwrap_or, if◌then◌else◌, Result, Ok, Err, OnOk, is_err}
+use Rattle.std.specs.Option.{ForSome}
 use Rattle.std.specs.Str.{bytes_eq}
 use Rattle.m4_state.specs.Device.{Script, with_bytes}
 use Rattle.m4_tool.specs.World.{Files, whole_file, with_file, longer, with_more}
@@ -42,9 +43,17 @@ begun_by : (name : List ℕ) (before old mid : Option Files) (created : Bool)
 begun_by name before old mid false e m = record { bytes = []; files = m ∙ ap (option_map (with_file name [])) e; was = none_at name before old e }
 begun_by name before old mid true e m = record { bytes = unwrap_or (written true name old) []; files = m ∙ e; was = was_at name before old (unwrap_or (written true name old) []) e }
 
+-- the name doesn't matter if the files are not known
+named_begun : (name given : List ℕ) (before old : Option Files) (created : Bool) → old ≡ after_writing created name (written created name old) before
+    → ForSome before (λ _. given ≡ name) → begun_in created given old ≡ begun_in created name old
+named_begun name given None old false e n = rw e refl
+named_begun name given None old true e n = refl
+named_begun name given (Some f) old created e n = ap (λ (g : List ℕ). begun_in created g old) (n f refl)
+
 pub begun_so : {E : Type 0} (name : List ℕ) (before old mid : Option Files) (created : Bool) (given : List ℕ) (r : Result (Unit {0}) E)
-    → old ≡ after_writing created name (written created name old) before → given ≡ name → is_err r ≡ false → OnOk r (mid ≡ begun_in created given old) → Begun name before old mid created
-begun_so name before old mid created given (Ok x) e n is m = begun_by name before old mid created e (m ∙ ap (λ (g : List ℕ). begun_in created g old) n)
+    → old ≡ after_writing created name (written created name old) before → ForSome before (λ _. given ≡ name) → is_err r ≡ false
+    → OnOk r (mid ≡ begun_in created given old) → Begun name before old mid created
+begun_so name before old mid created given (Ok x) e n is m = begun_by name before old mid created e (m ∙ named_begun name given before old created e n)
 begun_so name before old mid created given (Err x) e n is m = absurd cc
 
 bytes_eq-same : (name : List ℕ) → bytes_eq name name ≡ true
@@ -96,17 +105,26 @@ takes_more name more before old mid now created b e =
 pub takes_none : (name : List ℕ) (before old mid now : Option Files) (created : Bool) → (b : Begun name before old mid created) → now ≡ mid → written true name now ≡ written created name old
 takes_none name before old mid now created b e = written_at name b.bytes before now (e ∙ b.files) ∙ sym b.was
 
+named_more : (name given more bytes : List ℕ) (before mid : Option Files) → mid ≡ option_map (with_file name bytes) before
+    → ForSome before (λ _. given ≡ name) → option_map (with_more given more) mid ≡ option_map (with_more name more) mid
+named_more name given more bytes None mid e n = rw e refl
+named_more name given more bytes (Some f) mid e n = ap (λ (g : List ℕ). option_map (with_more g more) mid) (n f refl)
+
 -- the same, by the name that was given
-pub put_stands : (name given more : List ℕ) (before old mid now : Option Files) (created : Bool) → given ≡ name → (b : Begun name before old mid created) → now ≡ option_map (with_more given more) mid → now ≡ after_writing true name (written true name now) before
+pub put_stands : (name given more : List ℕ) (before old mid now : Option Files) (created : Bool) → ForSome before (λ _. given ≡ name)
+    → (b : Begun name before old mid created) → now ≡ option_map (with_more given more) mid → now ≡ after_writing true name (written true name now) before
 put_stands name given more before old mid now created n b e =
-    stands_at name (b.bytes ++ more) before now (more_at name more before old mid now created b (e ∙ ap (λ (g : List ℕ). option_map (with_more g more) mid) n))
+    stands_at name (b.bytes ++ more) before now (more_at name more before old mid now created b (e ∙ named_more name given more b.bytes before mid b.files n))
 
-pub put_takes : (name given more : List ℕ) (before old mid now : Option Files) (created : Bool) → given ≡ name → (b : Begun name before old mid created) → now ≡ option_map (with_more given more) mid → written true name now ≡ with_bytes (written created name old) more
+pub put_takes : (name given more : List ℕ) (before old mid now : Option Files) (created : Bool) → ForSome before (λ _. given ≡ name)
+    → (b : Begun name before old mid created) → now ≡ option_map (with_more given more) mid → written true name now ≡ with_bytes (written created name old) more
 put_takes name given more before old mid now created n b e =
-    takes_more name more before old mid now created b (e ∙ ap (λ (g : List ℕ). option_map (with_more g more) mid) n)
+    takes_more name more before old mid now created b (e ∙ named_more name given more b.bytes before mid b.files n)
 
-pub put_tried : (name given bytes : List ℕ) (n : ℕ) (before old mid now : Option Files) (created : Bool) (failures : ℕ) → given ≡ name → (b : Begun name before old mid created) → now ≡ option_map (with_more given (take n bytes)) mid → 0 < n → n ≤ length bytes → is_tried true failures (written true name now) ≡ true
+pub put_tried : (name given bytes : List ℕ) (n : ℕ) (before old mid now : Option Files) (created : Bool) (failures : ℕ) → ForSome before (λ _. given ≡ name)
+    → (b : Begun name before old mid created) → now ≡ option_map (with_more given (take n bytes)) mid → 0 < n → n ≤ length bytes
+    → is_tried true failures (written true name now) ≡ true
 put_tried name given bytes n before old mid now created failures m b e lt le =
     tried_at name b.bytes (take n bytes) before now failures
-    (more_at name (take n bytes) before old mid now created b (e ∙ ap (λ (g : List ℕ). option_map (with_more g (take n bytes)) mid) m))
+    (more_at name (take n bytes) before old mid now created b (e ∙ named_more name given (take n bytes) b.bytes before mid b.files m))
     (omega (arith, length-take n bytes))

@@ -5,14 +5,15 @@ use Rattle.m4_state.specs.Device.{Script, Puts, count_after}
 use Rattle.m4_state.specs.declared.device.DeviceFault.{DeviceFault}
 use Rattle.m4_engine.specs.File.{cannot_open}
 use Rattle.m4_tool.specs.declared.fault.ModeFault.{ModeFault}
-use Rattle.m4_tool.specs.declared.follow.Mode.{Mode}
+use Rattle.m4_tool.specs.declared.modes.Mode.{Mode}
 use Rattle.m4_tool.specs.World.{Files}
 use Rattle.m4_tool.specs.ModeFault.{status_of}
 use Rattle.m4_tool.specs.Modes.{ModeRuns, ReportsFault}
-use Rattle.m4_tool.specs.Line.{Grew, Reports}
+use Rattle.m4_tool.specs.FailureCounts.{Grew}
+use Rattle.m4_tool.specs.LineEnd.{Reports}
+use Rattle.m4_tool.specs.LineRun.{ModeCloses}
 use Rattle.m4_tool.proofs.Counts.{grew_by, grew_none}
 use Rattle.m4_tool.specs.LineMode.{ModeFollows, closed_lines, closed_status, ends_of, fault_lines}
-use Rattle.m4_tool.specs.LineRun.{ModeCloses}
 use Rattle.m4_tool.proofs.LineEnds.{reports-append, reports-before, seen_from}
 
 fault_reported : (end : Result (Unit {0}) ModeFault) (file : List ℕ) (m m' : Option (List ℕ)) (f f' : ℕ) → ReportsFault end file m m' f f' → Reports (fault_lines file end) m m' f f'

@@ -12,9 +12,9 @@ use Rattle.m4_engine.specs.Writers.{Both, ByCause, NoneOfThree, OneOfThree, Thre
 use Rattle.m4_engine.specs.WholeRun.{FrozenBegan, FrozenBy, HasFrozen, RunGives}
 use Rattle.m4_tool.specs.World.{Files, with_file, made_file}
 use Rattle.m4_tool.specs.Late.{written, after_writing, is_tried}
-use Rattle.m4_tool.specs.Line.{HasPrefix}
-use Rattle.m4_tool.specs.LineRun.{CountedBy, Ran, RanFiles}
-use Rattle.m4_tool.proofs.LineEnds.{seen_from}
+use Rattle.m4_tool.specs.LineEnd.{HasPrefix}
+use Rattle.m4_tool.specs.LineRun.{CountedBy, RanBy, RanFiles}
+use Rattle.m4_tool.proofs.LineEnds.{none_made, seen_from}
 
 text_in : (a b : List ℕ) → Some a ≡ Some b → a ≡ b
 text_in a b e = ap (λ (o : Option (List ℕ)). unwrap_or o []) e
@@ -37,10 +37,6 @@ made_so name text (Some f) now true failures s t z w =
     let k : is_tried true failures (Some text) ≡ true = sym (ap (is_tried true failures) w) ∙ t in
     s ∙ ap (λ (o : Option (List ℕ)). Some (with_file name (unwrap_or o []) f)) w ∙ ap (λ (g : Files). Some g) (made_here name text f failures z k)
 
-none_made : (name : List ℕ) (before : Option Files) → option_map (made_file name []) before ≡ before
-none_made name None = refl
-none_made name (Some f) = refl
-
 -- nothing was written, and no write failed
 kept_so : (name : List ℕ) (before now : Option Files) (created : Bool) (failures : ℕ)
     → now ≡ after_writing created name (written created name now) before → is_tried created failures (written created name now) ≡ true
@@ -52,12 +48,12 @@ nothing_put : (old : Option (List ℕ)) (text : List ℕ) → HasBegun old old t
 nothing_put old text = (text, HasPut-start old text)
 
 -- a prefix of a text was written
-begun_so : (name text : List ℕ) (before now : Option Files) (created : Bool)
+prefix_made : (name text : List ℕ) (before now : Option Files) (created : Bool)
     → now ≡ after_writing created name (written created name now) before → HasBegun (written false name before) (written created name now) text
     → (now ≡ before) ⊎ HasPrefix name text before now
-begun_so name text before now false s h = inl s
-begun_so name text None now true s h = inl s
-begun_so name text (Some f) now true s h = inr (record {
+prefix_made name text before now false s h = inl s
+prefix_made name text None now true s h = inl s
+prefix_made name text (Some f) now true s h = inr (record {
   front = h.1.front;
   rest = h.0;
   parts = h.1.parts;
@@ -71,10 +67,10 @@ module _ (r : RunResult) (name : List ℕ) (before now : Option Files) (created 
   done_by (Some text) h e = made_so name text before now created failures s t (e ∙ z) (h ∙ ap (λ (o : Option (List ℕ)). with_bytes o text) m)
 
   write_by : (made0 : Option (List ℕ)) → made0 ≡ written false name before → (written created name now ≡ made0) ⊎ FrozenBegan r (record { two = two; frozen_old = made0; frozen_new = written created name now }) → (now ≡ before) ⊎ HasPrefix name (unwrap_or r.frozen []) before now
-  write_by old k (inl e) = begun_so name (unwrap_or r.frozen []) before now created s (subst (λ (o : Option (List ℕ)). HasBegun (written false name before) o (unwrap_or r.frozen [])) (sym (e ∙ k)) (nothing_put (written false name before) (unwrap_or r.frozen [])))
+  write_by old k (inl e) = prefix_made name (unwrap_or r.frozen []) before now created s (subst (λ (o : Option (List ℕ)). HasBegun (written false name before) o (unwrap_or r.frozen [])) (sym (e ∙ k)) (nothing_put (written false name before) (unwrap_or r.frozen [])))
   write_by old k (inr b) =
       let p = subst (λ (o : Option (List ℕ)). HasBegun o (written created name now) b.text) k b.begun in
-      begun_so name (unwrap_or r.frozen []) before now created s (subst (λ (o : Option (List ℕ)). HasBegun (written false name before) (written created name now) (unwrap_or o [])) (sym b.is) p)
+      prefix_made name (unwrap_or r.frozen []) before now created s (subst (λ (o : Option (List ℕ)). HasBegun (written false name before) (written created name now) (unwrap_or o [])) (sym b.is) p)
 
   pub files_by : (cause : Cause) → FrozenBy cause r (record { two = two; frozen_old = made0; frozen_new = written created name now })
       → ByCause cause (NoneOfThree (record { two = two_failures; frozen_old = failures0; frozen_new = failures })) (OneOfThree (record { two = two_failures; frozen_old = failures0; frozen_new = failures }) (record { two = two; frozen_old = made0; frozen_new = written created name now }))
@@ -100,7 +96,7 @@ pub ran_so : (r : RunResult) (e : Ending) (m : Bool) (name : List ℕ) (before n
     (OneOfThree (record { two = writers of0 of1 mf0 mf1; frozen_old = failures0; frozen_new = failures }) (record { two = writers o0 o1 m0 m1; frozen_old = written created0 name w0; frozen_new = written created name now }))
     → e.status ≡ status_of (Ends e.cause) m
     → now ≡ after_writing created name (written created name now) before → is_tried created failures (written created name now) ≡ true
-    → Ran name r e (seen_from o0 o1 m0 m1 mf0 mf1 before now)
+    → RanBy name r e (seen_from o0 o1 m0 m1 mf0 mf1 before now)
 ran_so r e m name before now created failures failures0 created0 w0 o0 o1 m0 m1 of0 of1 mf0 mf1 c k z g b st a t = record {
   gives = g.gives;
   counted = counted_by e.cause (record { two = writers of0 of1 mf0 mf1; frozen_old = failures0; frozen_new = failures }) (record { two = writers o0 o1 m0 m1; frozen_old = written created0 name w0; frozen_new = written created name now }) b;
@@ -111,7 +107,7 @@ ran_so r e m name before now created failures failures0 created0 w0 o0 o1 m0 m1 
 
 -- a run that was not begun
 pub not_begun : (name : List ℕ) (r : RunResult) (e : Ending) (o m : Option (List ℕ)) (f : ℕ) (old new : Option Files) → e ≡ record { status = 1; cause = causes.OutOfMemory; wrapped = false } → new ≡ old
-    → Ran name r e (seen_from o o m m f f old new)
+    → RanBy name r e (seen_from o o m m f f old new)
 not_begun name r e o m f old new is k = rw is (record {
   gives = record { wrapped = refl; output = nothing_put o r.output; messages = nothing_put m r.messages };
   counted = refl;
@@ -122,7 +118,7 @@ not_begun name r e o m f old new is k = rw is (record {
 
 -- the same run, by the names of its parts
 pub ran_as : (name name' : List ℕ) (r : RunResult) (e : Ending) (o o' m m' : Option (List ℕ)) (f f' : ℕ) (old old' new : Option Files)
-    → name ≡ name' → old ≡ old' → Ran name r e (seen_from o o' m m' f f' old new) → Ran name' r e (seen_from o o' m m' f f' old' new)
+    → name ≡ name' → old ≡ old' → RanBy name r e (seen_from o o' m m' f f' old new) → RanBy name' r e (seen_from o o' m m' f f' old' new)
 ran_as name name' r e o o' m m' f f' old old' new n k h =
-    subst (λ (w : Option Files). Ran name' r e (seen_from o o' m m' f f' w new)) k
-    (subst (λ (x : List ℕ). Ran x r e (seen_from o o' m m' f f' old new)) n h)
+    subst (λ (w : Option Files). RanBy name' r e (seen_from o o' m m' f f' w new)) k
+    (subst (λ (x : List ℕ). RanBy x r e (seen_from o o' m m' f f' old new)) n h)

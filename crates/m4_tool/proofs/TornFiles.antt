@@ -29,9 +29,6 @@ empty_sized = record { table = tt; quotes = (omega arith, omega arith); comments
 nothing_torn : IsTornFile []
 nothing_torn = torn_file empty [] IsState-empty empty_sized (inl (header, (λ e. cc), refl))
 
-text_in : (a b : List ℕ) → Some a ≡ Some b → a ≡ b
-text_in a b e = ap (λ (o : Option (List ℕ)). unwrap_or o []) e
-
 has_torn : (name bytes : List ℕ) (f : Files) (now : Option Files) → IsTornFile bytes
     → now ≡ after_writing true name (written true name now) (Some f) → written true name now ≡ Some bytes → TearsFile name (Some f) now
 has_torn name bytes f now t s w = inr (record {

@@ -1,6 +1,10 @@
 pub mod CommandLine
+pub mod Failure
+pub mod FailureCounts
+pub mod Known
 pub mod Late
 pub mod Line
+pub mod LineEnd
 pub mod LineLaws
 pub mod LineMode
 pub mod LineRun
@@ -8,6 +12,5 @@ pub mod LineSteps
 pub mod Memory
 pub mod ModeFault
 pub mod Modes
-pub mod RunEnd
 pub mod TornFile
 pub mod World

@@ -1,16 +1,28 @@
 -- LineMode: what a mode gives in a world of files.
--- Believed. Words: closed_status, closed_lines, ends_of, ModeEnds, ModeFollows.
+-- Believed: public contracts cite it. Words: mode_of, closed_status, closed_lines, ends_of, ModeEnds, ModeFollows.
 -- own: a mode whose file can't be opened does nothing else; a last flush that fails is a write fault.
 use Rattle.std.specs.Prelude.{◌≡◌, ℕ, zero, suc, Bool, true, false, List, [], ◌∷◌, ◌++◌, Option, Some, None, Result, Ok}
-use Rattle.std.specs.Prelude.{Err, codes}
+use Rattle.std.specs.Prelude.{Err, option_map, string_bytes}
 use Rattle.m4_state.specs.Device.{Script}
 use Rattle.m4_engine.specs.File.{cannot_open}
 use Rattle.m4_tool.specs.declared.fault.ModeFault.{ModeFault}
-use Rattle.m4_tool.specs.declared.follow.Mode.{Mode}
-use Rattle.m4_tool.specs.declared.follow.Mode.TheVariants as kinds
+use Rattle.m4_tool.specs.declared.line.Line.{Line}
+use Rattle.m4_tool.specs.declared.modes.Mode.{Mode}
+use Rattle.m4_tool.specs.declared.modes.Mode.TheVariants as kinds
+use Rattle.m4_tool.specs.declared.followed.Failure.TheVariants as failures
+use Rattle.m4_tool.specs.Failure.{failure_line}
 use Rattle.m4_tool.specs.ModeFault.{line_of, status_of}
 use Rattle.m4_tool.specs.Modes.{CanonEnds, InspectEnds}
-use Rattle.m4_tool.specs.Line.{Reports, Seen}
+use Rattle.m4_tool.specs.LineEnd.{Reports, Seen}
+
+-- the mode of a line with the name of its file; none if it is a run over files
+abbrev pub mode_by : Option (List ℕ) → Option (List ℕ) → Option (Mode × List ℕ)
+mode_by (Some file) inspect = Some (kinds.Canon, file)
+mode_by None (Some file) = Some (kinds.Inspect, file)
+mode_by None None = None
+
+abbrev pub mode_of : Line → Option (Mode × List ℕ)
+mode_of line = mode_by (option_map string_bytes line.canon) (option_map string_bytes line.inspect)
 
 -- the line for a mode that did not do its work
 abbrev pub fault_lines : List ℕ → Result (Unit {0}) ModeFault → List (List ℕ)
@@ -25,7 +37,7 @@ closed_status (suc n) flushed = suc n
 
 abbrev pub closed_lines : ℕ → Bool → List (List ℕ)
 closed_lines zero true = []
-closed_lines zero false = codes "m4: write fault\n" ∷ []
+closed_lines zero false = failure_line failures.Write ∷ []
 closed_lines (suc n) flushed = []
 
 -- how a mode ends

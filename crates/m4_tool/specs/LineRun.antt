@@ -1,6 +1,6 @@
 -- LineRun: what the steps of following a line pass to one another.
--- Not believed: `follow` is stated with the words of Line only, and proved through these.
--- Words: seen, named_of, named_in, RanFiles, AllGrew, FlushedAs, RanCounts, RefusedAs, ClosedAs, CountedBy, Ran,
+-- Not believed: `follow` is stated with the words of Known, Line and LineEnd only, and proved through these.
+-- Words: named_of, named_in, RanFiles, AllGrew, FlushedAs, RanCounts, RefusedAs, ClosedAs, CountedBy, RanBy,
 -- Closes, ModeCloses.
 use Rattle.std.specs.Prelude.{◌≡◌, ◌≢◌, ◌⊎◌, ℕ, Bool, true, false, List, [], ◌∷◌}
 use Rattle.std.specs.Prelude.{Option, Some, None, unwrap_or, option_map}
@@ -16,25 +16,12 @@ use Rattle.m4_engine.specs.Writers.{writers, ByCause}
 use Rattle.m4_engine.specs.WholeRun.{GivesBy}
 use Rattle.m4_tool.specs.declared.followed.Failure.{Failure}
 use Rattle.m4_tool.specs.declared.followed.Failure.TheVariants as failures
-use Rattle.m4_tool.specs.RunEnd.{last_status, source_name}
+use Rattle.m4_tool.specs.Failure.{status_after}
+use Rattle.m4_tool.specs.Line.{source_name, input_after, refusals, script_at}
+use Rattle.m4_tool.specs.FailureCounts.{AnyRose, Counts, Grew, NoneRose, Rose}
+use Rattle.m4_tool.specs.LineEnd.{failure_of, Seen, HasPrefix, Reports, added_lines}
 use Rattle.m4_tool.specs.LineMode.{closed_lines, closed_status}
 use Rattle.m4_tool.specs.World.{Files, made_file}
-use Rattle.m4_tool.specs.Line.{AnyRose, Counts, Grew, NoneRose, Rose, Seen, HasPrefix, Reports}
-use Rattle.m4_tool.specs.Line.{added_lines, failure_of, input_after, refusals, script_at}
-
--- the writers and the files, by the functions of their traits
-abbrev pub seen : {O M : Type 0} → (O → Option (List ℕ)) → (M → Option (List ℕ)) → (M → ℕ) → O → O → M → M
-    → Option Files → Option Files → Seen
-seen of_out of_messages count out_old out_new messages_old messages_new files_old files_new = record {
-  out_old = of_out out_old;
-  out_new = of_out out_new;
-  messages_old = of_messages messages_old;
-  messages_new = of_messages messages_new;
-  failures_old = count messages_old;
-  failures_new = count messages_new;
-  files_old = files_old;
-  files_new = files_new;
-}
 
 -- a source by its name, with its bytes if it was opened and they are known
 pub record Named : Type 0 where
@@ -91,7 +78,7 @@ CountedBy causes.Write old new = (new ≡ old) ⊎ (new ≡ one_more old)
 CountedBy cause old new = new ≡ old
 
 -- a run of a line ended
-pub record Ran (name : List ℕ) (r : RunResult) (e : Ending) (w : Seen) : Type 0 where
+pub record RanBy (name : List ℕ) (r : RunResult) (e : Ending) (w : Seen) : Type 0 where
   pub gives : GivesBy e.cause r e (writers w.out_old w.out_new w.messages_old w.messages_new)
   pub counted : CountedBy e.cause w.failures_old w.failures_new
   pub any_missing : Bool
@@ -106,7 +93,7 @@ failure_after failure is_reported = failure
 -- a run that ended was reported
 pub record Closes (file : List ℕ) (e : Ending) (status : ℕ) (failure : Option Failure) (w : Seen) : Type 0 where
   pub flushed : Bool
-  pub is_status : status ≡ last_status e flushed
+  pub is_status : status ≡ status_after (failure_of e.cause flushed) e.status
   pub is_reported : Bool
   pub refused : is_reported ≡ false → refusals file e.cause ≢ []
   pub failed : failure ≡ failure_after (failure_of e.cause flushed) is_reported

@@ -8,6 +8,8 @@ use Rattle.m4_frozen.specs.declared.fault.WriteFault.{WriteFault}
 use Rattle.m4_frozen.specs.declared.fault.WriteFault.TheVariants as writes
 use Rattle.m4_tool.specs.declared.fault.ModeFault.{ModeFault}
 use Rattle.m4_tool.specs.declared.fault.ModeFault.TheVariants as faults
+use Rattle.m4_tool.specs.declared.followed.Failure.TheVariants as failures
+use Rattle.m4_tool.specs.Failure.{failure_line}
 
 -- a write that failed, or an allocation that failed
 abbrev pub fault_of_write : WriteFault → ModeFault
@@ -40,8 +42,8 @@ line_of file (faults.Frozen f) =
     codes "m4: " ++ (file ++ (codes ": " ++ (text_of f.kind ++ (place_of f.kind f.offset ++ codes "\n"))))
 line_of file faults.Issues =
     codes "m4: " ++ (file ++ (codes ": " ++ (codes "K1 text would be issued at reload" ++ codes "\n")))
-line_of file faults.Write = codes "m4: write fault\n"
-line_of file faults.OutOfMemory = codes "m4: out of memory\n"
+line_of file faults.Write = failure_line failures.Write
+line_of file faults.OutOfMemory = failure_line failures.OutOfMemory
 
 -- a newer format has a status of its own
 abbrev pub status_of_kind : FrozenKind → ℕ

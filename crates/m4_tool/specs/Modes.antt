@@ -1,5 +1,5 @@
 -- The results of the modes for the bytes of a frozen file.
--- Believed: public contracts cite it. Words: CanonEnds, InspectEnds, ReportsFault, IsOfDevice, CanonRuns, InspectRuns.
+-- Believed: public contracts cite it. Words: CanonEnds, InspectEnds, ReportsFault, IsOfDevice, ModeRuns, RunsBy.
 -- own: a file that would issue text has no canonical text.
 use Rattle.std.specs.Prelude.{◌≡◌, ◌≢◌, ℕ, false, List, [], Option, Result, Ok, Err, IfSome}
 use Rattle.m4_state.specs.Device.{Script, with_bytes, count_after, one_more, HasBegun, Puts}
@@ -101,10 +101,9 @@ pub record ModeRuns (Finishes : Ends) (file : List ℕ) (reader : Reading) (out 
   pub device : IsOfDevice end reader.failures_old reader.failures_new out.failures_old out.failures_new
   pub messages : ReportsFault end file errors.old errors.new errors.failures_old errors.failures_new
 
--- `--canon` was run on this file
-abbrev pub CanonRuns : List ℕ → Reading → Writing → Writing → ℕ → Type 0
-CanonRuns = ModeRuns CanonEnds
-
--- `--inspect` was run on this file
-abbrev pub InspectRuns : List ℕ → Reading → Writing → Writing → ℕ → Type 0
-InspectRuns = ModeRuns InspectEnds
+-- the same, by the functions of the traits of its reader and its writers
+abbrev pub RunsBy : {R O M : Type 0} → Ends → List ℕ → (R → Option Script) → (R → ℕ) → (O → Option (List ℕ)) → (O → ℕ)
+    → (M → Option (List ℕ)) → (M → ℕ) → R → R → O → O → M → M → ℕ → Type 0
+RunsBy Finishes file script taken contents put reported told reader reader' out out' messages messages' answer =
+    ModeRuns Finishes file (reads script taken reader reader') (writes contents put out out')
+    (writes reported told messages messages') answer

@@ -1,11 +1,14 @@
-//! The report at the end of a run.
+//! The end of a run: the report on its frozen file, and what failed.
 
-ghost use Rattle.std.specs.Prelude.{◌≡◌, option_map};
+ghost use Rattle.std.specs.Prelude.{◌≡◌};
 ghost use Rattle.m4_state.specs.Device.{Puts, count_after};
-ghost use Rattle.m4_tool.specs.RunEnd.{last_fault, refused_line};
+ghost use Rattle.m4_tool.specs.Line.{refused_line};
+ghost use Rattle.m4_tool.specs.LineEnd.{failure_of};
 
 use crate::fault::ModeFault;
+use crate::followed::Failure;
 use m4_engine::ending::Cause;
+use m4_frozen::fault::FrozenKind;
 use m4_state::device::{ByteSink, DeviceFault};
 
 /// Writes the line for this frozen file, if the run ended because the file was refused.
@@ -23,16 +26,16 @@ pub(crate) fn put_refused<M: ByteSink>(
     }
 }
 
-/// Returns what is still to be reported for a run with this cause. `flushed`: whether its output and
-/// frozen text were flushed. The run, or [`put_refused`], has reported all other causes.
-pub(crate) fn last_fault(cause: Cause, flushed: bool) -> Option<&'static str>
-    ensures { option_map (λ text. text.now) result ≡ last_fault cause flushed }
+/// Returns what failed in a run with this cause. `flushed`: whether its output and frozen text were flushed.
+pub(crate) fn failure_of(cause: Cause, flushed: bool) -> Option<Failure>
+    ensures { result ≡ failure_of cause flushed }
 {
     match cause {
-        Cause::Read => Some("read fault"),
-        Cause::Write => Some("write fault"),
-        Cause::OutOfMemory => Some("out of memory"),
-        _ if !flushed => Some("write fault"),
+        Cause::Read => Some(Failure::Read),
+        Cause::Write => Some(Failure::Write),
+        Cause::OutOfMemory => Some(Failure::OutOfMemory),
+        _ if !flushed => Some(Failure::Write),
+        Cause::Frozen(fault) if fault.kind == FrozenKind::OutOfMemory => Some(Failure::Load),
         _ => None,
     }
 }

@@ -5,6 +5,7 @@ ghost use Rattle.m4_state.specs.Device.{Puts, count_after};
 ghost use Rattle.m4_tool.specs.ModeFault.{line_of, text_of};
 ghost use Rattle.m4_tool.specs.declared.fault.ModeFault.TheVariants as faults;
 
+use crate::followed::Failure;
 use itoa::Buffer;
 use m4_frozen::fault::{FrozenFault, FrozenKind, WriteFault};
 use m4_state::device::{ByteSink, DeviceFault};
@@ -67,8 +68,8 @@ impl ModeFault {
         match self {
             ModeFault::Frozen(fault) => put_frozen_fault(fault, file, messages),
             ModeFault::Issues => put_line(file, b"K1 text would be issued at reload", messages),
-            ModeFault::Write => write_all(messages, b"m4: write fault\n"),
-            ModeFault::OutOfMemory => write_all(messages, b"m4: out of memory\n"),
+            ModeFault::Write => write_all(messages, Failure::Write.line().as_bytes()),
+            ModeFault::OutOfMemory => write_all(messages, Failure::OutOfMemory.line().as_bytes()),
         }
     }
 }
@@ -90,7 +91,7 @@ fn put_frozen_fault<M: ByteSink>(
     }
 }
 
-/// Writes a line with a file and its fault, without a place.
+/// Writes the line for a fault of this file that has no place in it.
 fn put_line<M: ByteSink>(file: &[u8], text: &[u8], messages: &mut M) -> Result<(), DeviceFault>
     ensures puts { Puts result (M.contents messages.old) (M.contents messages.new)
         (codes "m4: " ++ (file.now ++ (codes ": " ++ (text.now ++ codes "\n")))) }
@@ -99,7 +100,7 @@ fn put_line<M: ByteSink>(file: &[u8], text: &[u8], messages: &mut M) -> Result<(
     write_pieces(messages, &[b"m4: ", file, b": ", text, b"\n"])
 }
 
-/// Writes a line with a file, its fault and the byte where it is.
+/// Writes the line for a fault of this file at this byte.
 fn put_line_at<M: ByteSink>(
     file: &[u8],
     text: &[u8],

@@ -1,29 +1,30 @@
 //! A line that is followed in a world: a mode, or a run over the files of the line, which starts from a
 //! frozen file and freezes to one. Manual: "Invoking m4".
 
-ghost use Rattle.std.specs.Prelude.{◌≡◌, map, [], List, ℕ, Option, Some, None, IfSome, true, false, unwrap_or};
-ghost use Rattle.std.specs.Prelude.{option_map, string_bytes};
+ghost use Rattle.std.specs.Prelude.{◌≡◌, List, Option, None, IfSome, true, option_map};
 ghost use Rattle.m4_state.specs.Device.{Script};
 ghost use Rattle.m4_engine.specs.RunSources.{DescribesFrozen};
 ghost use Rattle.m4_engine.specs.File.{Source as Said};
 ghost use Rattle.m4_engine.specs.Run.{run as defined};
 ghost use Rattle.m4_tool.specs.World.{Files};
-ghost use Rattle.m4_tool.specs.Line.{EndsBy, ExtendFiles, FailedAs, Follows, LineResult, MayGive, counts};
-ghost use Rattle.m4_tool.specs.Line.{line as line_result, request_of, result_of_run, words_of};
-ghost use Rattle.m4_tool.specs.LineMode.{ModeFollows, ends_of};
-ghost use Rattle.m4_tool.specs.LineRun.{seen};
-ghost use Rattle.m4_tool.specs.Modes.{ModeRuns, reads, writes};
+ghost use Rattle.m4_tool.specs.Line.{LineResult, freeze_name, line as line_result, request_of, result_of_run};
+ghost use Rattle.m4_tool.specs.Line.{words_of};
+ghost use Rattle.m4_tool.specs.FailureCounts.{FailedAs, counts_of};
+ghost use Rattle.m4_tool.specs.Known.{ExtendFiles, Knows, KnowsFiles, MayGive};
+ghost use Rattle.m4_tool.specs.LineEnd.{AllShown, EndsBy, Follows, seen};
+ghost use Rattle.m4_tool.specs.LineMode.{ModeFollows, ends_of, mode_of};
+ghost use Rattle.m4_tool.specs.Modes.{RunsBy};
 ghost use Rattle.m4_tool.specs.TornFile.{FreezesOrTears};
 
 mod closing;
+mod opening;
 mod running;
-mod sources;
 
-use crate::followed::Followed;
+use crate::followed::{FAILED, Followed};
 use crate::line::Line;
-use crate::modes;
+use crate::modes::{self, Mode};
 use crate::world::{Shows, World};
-use closing::{FAILED, close, close_mode, close_unopened, put_unopened};
+use closing::{close, close_mode, close_unopened, put_unopened};
 use m4_state::device::{ByteSink, ByteSource};
 use running::run_line;
 use std::alloc::Global;
@@ -39,79 +40,52 @@ pub fn follow<W: World, O: Shows, M: Shows>(
 ) -> Followed<W>
     // line in a world: the status, the output, the messages and the frozen file are those of the line; if a device
     // or an allocation fails, prefixes of them
-    ensures runs { (files : Files) (input : Script) (r : LineResult) → line.now.canon ≡ None → line.now.inspect ≡ None
-        → W.making world ≡ false → W.files world ≡ Some files → W.input world ≡ Some input
+    ensures runs { (files : Files) (input : Script) (r : LineResult)
+        → mode_of line.now ≡ None → Knows W.making W.files W.input world files input
         → line_result (request_of line.now) files input ≡ Some r
         → Follows (request_of line.now) r result.status result.failure
-        (seen O.contents M.contents M.failures out.old out.new messages.old messages.new (W.files world)
-        (W.files result.world)) }
+        (seen O.contents M.contents M.failures W.files out.old out.new messages.old messages.new world result.world) }
     // line in a world: if the reader of a source fails, those over any source that begins with its bytes, if the run
     // ended before the fault; otherwise prefixes of them
-    ensures extends { (files : Files) (input : Script) (r : LineResult) → line.now.canon ≡ None
-        → line.now.inspect ≡ None
-        → W.making world ≡ false → W.files world ≡ Some files → W.input world ≡ Some input
+    ensures extends { (files : Files) (input : Script) (r : LineResult)
+        → mode_of line.now ≡ None → Knows W.making W.files W.input world files input
         → MayGive (request_of line.now) files input r
         → Follows (request_of line.now) r result.status result.failure
-        (seen O.contents M.contents M.failures out.old out.new messages.old messages.new (W.files world)
-        (W.files result.world)) }
+        (seen O.contents M.contents M.failures W.files out.old out.new messages.old messages.new world result.world) }
     // torn files: if each append takes all of its bytes or none, the frozen file has all of its text, or is as it
     // was, or is refused by a run that reloads it
-    ensures torn { (files : Files) (input : Script) (r : LineResult) → line.now.canon ≡ None → line.now.inspect ≡ None
-        → W.appends_whole ≡ true → W.making world ≡ false → W.files world ≡ Some files → W.input world ≡ Some input
+    ensures torn { (files : Files) (input : Script) (r : LineResult)
+        → mode_of line.now ≡ None → W.appends_whole ≡ true → Knows W.making W.files W.input world files input
         → MayGive (request_of line.now) files input r
-        → FreezesOrTears (unwrap_or (request_of line.now).freeze []) r.frozen (W.files world) (W.files result.world) }
+        → FreezesOrTears (freeze_name (request_of line.now)) r.frozen (W.files world) (W.files result.world) }
     // line in a world: a mode on the file of its name
-    ensures canon { IfSome line.now.canon (λ file. (files : Files) → W.making world ≡ false → W.files world ≡ Some files
-        → ModeFollows Mode.Canon (string_bytes file) (files (string_bytes file)) result.status
-        (seen O.contents M.contents M.failures out.old out.new messages.old messages.new (W.files world)
-        (W.files result.world))) }
-    // line in a world: the same, for the other mode
-    ensures inspect { line.now.canon ≡ None → IfSome line.now.inspect
-        (λ file. (files : Files) → W.making world ≡ false → W.files world ≡ Some files
-        → ModeFollows Mode.Inspect (string_bytes file) (files (string_bytes file)) result.status
-        (seen O.contents M.contents M.failures out.old out.new messages.old messages.new (W.files world)
-        (W.files result.world))) }
+    ensures mode { IfSome (mode_of line.now) (λ found. (files : Files)
+        → KnowsFiles W.making W.files world files
+        → ModeFollows found.0 found.1 (files found.1) result.status
+        (seen O.contents M.contents M.failures W.files out.old out.new messages.old messages.new world result.world)) }
     // safe and total: a failed write or flush is reported only if one failed in this call
-    ensures counted { line.now.canon ≡ None → line.now.inspect ≡ None
-        → FailedAs result.failure (counts (O.failures out.old) (O.failures out.new)
-        (M.failures messages.old) (M.failures messages.new) (W.failures world) (W.failures result.world)) }
-    // line in a world: if nothing failed, the output that was written is flushed
-    ensures output_shown { result.failure ≡ None → O.shown out.new ≡ O.contents out.new }
-    // line in a world: and so are the messages
-    ensures messages_shown { result.failure ≡ None → M.shown messages.new ≡ M.contents messages.new }
-    // line in a world: and the file that was made
-    ensures kept { result.failure ≡ None → W.kept result.world ≡ W.files result.world }
+    ensures counted { mode_of line.now ≡ None → FailedAs result.failure (counts_of O.failures M.failures W.failures
+        out.old out.new messages.old messages.new world result.world) }
+    // line in a world: if nothing failed, all that was written is flushed: the output, the messages and the file
+    // that was made
+    ensures shown { result.failure ≡ None
+        → AllShown O.shown O.contents M.shown M.contents W.kept W.files out.new messages.new result.world }
 {
-    if let Some(file) = &line.canon {
-        return follow_mode(
-            alloc,
-            Mode::Canon,
-            file.as_str().as_bytes(),
-            world,
-            out,
-            messages,
-        );
+    match mode_of(line) {
+        Some((mode, file)) => follow_mode(alloc, mode, file, world, out, messages),
+        None => follow_run(alloc, line, world, out, messages),
     }
-    if let Some(file) = &line.inspect {
-        return follow_mode(
-            alloc,
-            Mode::Inspect,
-            file.as_str().as_bytes(),
-            world,
-            out,
-            messages,
-        );
-    }
-    follow_run(alloc, line, world, out, messages)
 }
 
-/// The modes of a command line.
-#[derive(Clone, Copy)]
-enum Mode {
-    /// Prints the canonical text of a frozen file.
-    Canon,
-    /// Lists a frozen file.
-    Inspect,
+/// Returns the mode of a line with the name of its file, if the line has a mode.
+fn mode_of(line: &Line) -> Option<(Mode, &[u8])>
+    ensures { option_map (λ found. (found.0, found.1.now)) result ≡ mode_of line.now }
+{
+    match (&line.canon, &line.inspect) {
+        (Some(file), _) => Some((Mode::Canon, file.as_str().as_bytes())),
+        (None, Some(file)) => Some((Mode::Inspect, file.as_str().as_bytes())),
+        (None, None) => None,
+    }
 }
 
 /// Runs a mode on a file, or reports that it can't be opened.
@@ -123,13 +97,11 @@ fn follow_mode<W: World, O: Shows, M: Shows>(
     out: &mut O,
     messages: &mut M,
 ) -> Followed<W>
-    ensures follows { (files : Files) → W.making world ≡ false → W.files world ≡ Some files
+    ensures follows { (files : Files) → KnowsFiles W.making W.files world files
         → ModeFollows mode file.now (files file.now) result.status
-        (seen O.contents M.contents M.failures out.old out.new messages.old messages.new (W.files world)
-        (W.files result.world)) }
-    ensures output_shown { result.failure ≡ None → O.shown out.new ≡ O.contents out.new }
-    ensures messages_shown { result.failure ≡ None → M.shown messages.new ≡ M.contents messages.new }
-    ensures kept { result.failure ≡ None → W.kept result.world ≡ W.files result.world }
+        (seen O.contents M.contents M.failures W.files out.old out.new messages.old messages.new world result.world) }
+    ensures shown { result.failure ≡ None
+        → AllShown O.shown O.contents M.shown M.contents W.kept W.files out.new messages.new result.world }
 {
     match world.open(file) {
         Some(mut reader) => {
@@ -152,9 +124,8 @@ fn run_mode<R: ByteSource, O: ByteSink, M: ByteSink>(
     out: &mut O,
     messages: &mut M,
 ) -> u8
-    ensures { ModeRuns (ends_of mode) file.now (reads R.script R.failures reader.old reader.new)
-        (writes O.contents O.failures out.old out.new)
-        (writes M.contents M.failures messages.old messages.new) result }
+    ensures { RunsBy (ends_of mode) file.now R.script R.failures O.contents O.failures M.contents M.failures
+        reader.old reader.new out.old out.new messages.old messages.new result }
 {
     match mode {
         Mode::Canon => modes::canon(alloc, file, reader, out, messages),
@@ -172,20 +143,18 @@ fn follow_run<W: World, O: Shows, M: Shows>(
     messages: &mut M,
 ) -> Followed<W>
     ensures follows { (files : Files) (input : Script) (r : LineResult)
-        → W.making world ≡ false → W.files world ≡ Some files → W.input world ≡ Some input
+        → Knows W.making W.files W.input world files input
         → MayGive (request_of line.now) files input r
         → Follows (request_of line.now) r result.status result.failure
-        (seen O.contents M.contents M.failures out.old out.new messages.old messages.new (W.files world)
-        (W.files result.world)) }
+        (seen O.contents M.contents M.failures W.files out.old out.new messages.old messages.new world result.world) }
     ensures torn { (files : Files) (input : Script) (r : LineResult)
-        → W.appends_whole ≡ true → W.making world ≡ false → W.files world ≡ Some files → W.input world ≡ Some input
+        → W.appends_whole ≡ true → Knows W.making W.files W.input world files input
         → MayGive (request_of line.now) files input r
-        → FreezesOrTears (unwrap_or (request_of line.now).freeze []) r.frozen (W.files world) (W.files result.world) }
-    ensures counted { FailedAs result.failure (counts (O.failures out.old) (O.failures out.new)
-        (M.failures messages.old) (M.failures messages.new) (W.failures world) (W.failures result.world)) }
-    ensures output_shown { result.failure ≡ None → O.shown out.new ≡ O.contents out.new }
-    ensures messages_shown { result.failure ≡ None → M.shown messages.new ≡ M.contents messages.new }
-    ensures kept { result.failure ≡ None → W.kept result.world ≡ W.files result.world }
+        → FreezesOrTears (freeze_name (request_of line.now)) r.frozen (W.files world) (W.files result.world) }
+    ensures counted { FailedAs result.failure (counts_of O.failures M.failures W.failures
+        out.old out.new messages.old messages.new world result.world) }
+    ensures shown { result.failure ≡ None
+        → AllShown O.shown O.contents M.shown M.contents W.kept W.files out.new messages.new result.world }
 {
     match &line.reload {
         None => follow_from(alloc, line, &mut None, b"", world, out, messages),
@@ -207,7 +176,7 @@ fn follow_run<W: World, O: Shows, M: Shows>(
     }
 }
 
-/// Follows a line from this start. `file` is the name of its frozen file.
+/// Follows a line without a mode that starts from this frozen file, if there is one. `file` is the name of that file.
 fn follow_from<W: World, O: Shows, M: Shows>(
     alloc: Global,
     line: &Line,
@@ -218,25 +187,22 @@ fn follow_from<W: World, O: Shows, M: Shows>(
     messages: &mut M,
 ) -> Followed<W>
     ensures ends { (files : Files) (input : Script) (script : Option Script) (ss : List Said)
-        → W.making world ≡ false → W.files world ≡ Some files → W.input world ≡ Some input
-        → DescribesFrozen W.Reader.script frozen.old script
+        → Knows W.making W.files W.input world files input → DescribesFrozen W.Reader.script frozen.old script
         → ExtendFiles files input (words_of (request_of line.now).names) ss
-        → EndsBy result.failure (unwrap_or (request_of line.now).freeze []) file.now
+        → EndsBy result.failure (freeze_name (request_of line.now)) file.now
         (result_of_run file.now (defined line.now.options script ss)) result.status
-        (seen O.contents M.contents M.failures out.old out.new messages.old messages.new (W.files world)
-        (W.files result.world)) }
+        (seen O.contents M.contents M.failures W.files out.old out.new messages.old messages.new world result.world) }
     ensures torn { (files : Files) (input : Script) (script : Option Script) (ss : List Said)
-        → W.appends_whole ≡ true → W.making world ≡ false → W.files world ≡ Some files → W.input world ≡ Some input
-        → DescribesFrozen W.Reader.script frozen.old script
+        → W.appends_whole ≡ true
+        → Knows W.making W.files W.input world files input → DescribesFrozen W.Reader.script frozen.old script
         → ExtendFiles files input (words_of (request_of line.now).names) ss
-        → FreezesOrTears (unwrap_or (request_of line.now).freeze [])
+        → FreezesOrTears (freeze_name (request_of line.now))
         (result_of_run file.now (defined line.now.options script ss)).frozen
         (W.files world) (W.files result.world) }
-    ensures counted { FailedAs result.failure (counts (O.failures out.old) (O.failures out.new)
-        (M.failures messages.old) (M.failures messages.new) (W.failures world) (W.failures result.world)) }
-    ensures output_shown { result.failure ≡ None → O.shown out.new ≡ O.contents out.new }
-    ensures messages_shown { result.failure ≡ None → M.shown messages.new ≡ M.contents messages.new }
-    ensures kept { result.failure ≡ None → W.kept result.world ≡ W.files result.world }
+    ensures counted { FailedAs result.failure (counts_of O.failures M.failures W.failures
+        out.old out.new messages.old messages.new world result.world) }
+    ensures shown { result.failure ≡ None
+        → AllShown O.shown O.contents M.shown M.contents W.kept W.files out.new messages.new result.world }
 {
     let ran = run_line(alloc, line, frozen, world, out, messages);
     close(ran.ending, file, ran.world, out, messages)

@@ -1,4 +1,10 @@
-//! How a line ends.
+//! How a line ends: what failed, if anything did, with the line and the status.
+
+ghost use Rattle.std.specs.Prelude.{◌≡◌};
+ghost use Rattle.m4_tool.specs.Failure.{failure_line, status_after};
+
+/// The status of a line whose work was not done.
+pub(crate) const FAILED: u8 = 1;
 
 /// Why a line was not followed to its defined end.
 #[derive(Clone, Copy, Debug)]
@@ -9,8 +15,34 @@ pub enum Failure {
     Write,
     /// An allocation failed.
     OutOfMemory,
+    /// An allocation failed while the frozen file was loaded. The line for that file reports it.
+    Load,
     /// The line for a frozen file that was refused could not be written or flushed. Nothing else failed.
     Report,
+}
+
+impl Failure {
+    /// Returns the line that reports it. It is empty if the line for a frozen file reports it, or failed itself.
+    pub(crate) fn line(self) -> &'static str
+        ensures { result.now ≡ failure_line self }
+    {
+        match self {
+            Failure::Read => "m4: read fault\n",
+            Failure::Write => "m4: write fault\n",
+            Failure::OutOfMemory => "m4: out of memory\n",
+            Failure::Load | Failure::Report => "",
+        }
+    }
+}
+
+/// Returns the status of a line whose run has this status: another one if something failed.
+pub(crate) fn status_after(failure: Option<Failure>, status: u8) -> u8
+    ensures { result ≡ status_after failure status }
+{
+    match failure {
+        Some(_) => FAILED,
+        None => status,
+    }
 }
 
 /// The end of a line, with the world after it.

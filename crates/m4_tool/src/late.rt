@@ -1,31 +1,40 @@
 //! The file to which a run freezes. It is created when its first byte is written.
+//!
+//! The file is one of a world: of the files of a process, or of any other. A contract that knows the files follows
+//! them by a type parameter, which stands for where the late file starts.
 //! Manual: "Fast loading of frozen state".
 
-ghost use Rattle.std.specs.Prelude.{◌≡◌, ◌<◌, ℕ, List, [], Option, Some, None, false, true, OnOk, OnErr};
+ghost use Rattle.std.specs.Prelude.{◌≡◌, ◌<◌, ℕ, List, [], Option, Some, None, false, true, IfOk, OnOk, OnErr};
+ghost use Rattle.std.specs.Option.{ForSome};
 ghost use Rattle.std.proofs.Props.{props};
 ghost use Rattle.m4_state.specs.Device.{count_after};
 ghost use Rattle.m4_tool.specs.World.{Files};
-ghost use Rattle.m4_tool.specs.Line.{Rose};
+ghost use Rattle.m4_tool.specs.FailureCounts.{Rose};
 ghost use Rattle.m4_tool.specs.Late.{after_writing, begun_in, is_tried, written};
 
+use crate::std_world::StdFiles;
 use crate::world::World;
 use m4_state::bytes::Bytes;
 use m4_state::device::{ByteSink, DeviceFault};
+use std::alloc::Global;
+use std::io;
 use std::marker::{Brand, PhantomData};
+use std::rt::Files as RuntimeFiles;
 
-/// What contracts know of a late file: the files before it, and its name.
-pub(crate) trait Place {
+/// Where a late file starts, for contracts: its name, and the world's files and count of failures before it.
+pub trait LateStart {
     /// The files before it; none if they are not known.
     ghost before: { Option Files };
 
-    /// Its name.
+    /// Its name, if the files are known.
     ghost name: { List ℕ };
 
     /// The world's count of failures before it.
     ghost failures: { ℕ };
 }
 
-impl Place for Brand {
+/// The start of a file of which contracts know nothing. A caller that knows more picks it.
+impl LateStart for Brand {
     ghost before = { None };
 
     ghost name = { [] };
@@ -36,13 +45,13 @@ impl Place for Brand {
 /// A sink over a file that is created when its first byte is written. Until then a file of that name
 /// stays as it is: a run that writes nothing leaves an old file unchanged, and the run may read it.
 #[derive(Drop)]
-pub(crate) struct LateFile<W: World, K: Place> {
+pub struct LateFile<W: World, K: LateStart> {
     world: W,
     name: Bytes,
     created: bool,
     failures: u64,
     of: PhantomData<K>,
-    ghost named: { name ≡ K.name },
+    ghost named: { ForSome K.before (λ _. name ≡ K.name) },
     ghost agrees: { W.files world
         ≡ after_writing created K.name (written created K.name (W.files world)) K.before } by { Prim.hlevel props },
     ghost tried: { is_tried created failures (written created K.name (W.files world)) ≡ true },
@@ -50,11 +59,24 @@ pub(crate) struct LateFile<W: World, K: Place> {
     ghost failed: { 0 < failures → Rose K.failures (W.failures world) },
 }
 
-impl<W: World, K: Place> LateFile<W, K> {
-    /// Returns a sink over the file of this name, which is not created yet.
-    pub(crate) fn new(world: W, name: Bytes) -> LateFile<W, K>
+impl<'a, R: RuntimeFiles + Alloc<A = Global>> LateFile<StdFiles<'a, R>, Brand> {
+    /// Returns a sink over the file of this path, which is not created yet. Its bytes are written in blocks: `finish`
+    /// of the world that `into_world` returns writes the last one. Allocates a block and a copy of the path.
+    pub fn new(rt: &'a R, path: &str) -> io::Result<LateFile<StdFiles<'a, R>, Brand>>
+        ensures created { IfOk result (λ late. late.created ≡ false) }
+        ensures failures { IfOk result (λ late. late.failures ≡ 0) }
+    {
+        let world = StdFiles::of_files(rt)?;
+        let name = Bytes::from_slice(rt.alloc(), path.as_bytes())?;
+        Ok(LateFile::over(world, name))
+    }
+}
+
+impl<W: World, K: LateStart> LateFile<W, K> {
+    /// Returns a sink over the file of this name in a world, which is not created yet.
+    pub fn over(world: W, name: Bytes) -> LateFile<W, K>
         requires before { W.files world ≡ K.before }
-        requires name { name ≡ K.name }
+        requires name { ForSome K.before (λ _. name ≡ K.name) }
         requires failures { W.failures world ≡ K.failures }
         ensures created { result.created ≡ false }
         ensures world { result.world ≡ world }
@@ -70,7 +92,7 @@ impl<W: World, K: Place> LateFile<W, K> {
     }
 
     /// Returns the world, with the file if one was created.
-    pub(crate) fn into_world(self) -> W
+    pub fn into_world(self) -> W
         ensures world { result ≡ self.world }
         ensures files { W.files result ≡ after_writing self.created K.name
             (written self.created K.name (W.files self.world)) K.before }
@@ -89,7 +111,7 @@ impl<W: World, K: Place> LateFile<W, K> {
     }
 }
 
-impl<W: World, K: Place> ByteSink for LateFile<W, K> {
+impl<W: World, K: LateStart> ByteSink for LateFile<W, K> {
     ghost contents = { λ s. written s.created K.name (W.files s.world) };
 
     ghost takes_whole = { W.appends_whole };
@@ -97,7 +119,7 @@ impl<W: World, K: Place> ByteSink for LateFile<W, K> {
     ghost failures = { λ s. s.failures };
 
     fn put(&mut self, bytes: &[u8]) -> Result<usize, DeviceFault> {
-        if begin(&mut self.world, self.name.as_slice(), self.created).is_err() {
+        if create_once(&mut self.world, self.name.as_slice(), self.created).is_err() {
             self.failures = self.failures.saturating_add(1);
             return Err(DeviceFault);
         }
@@ -113,7 +135,7 @@ impl<W: World, K: Place> ByteSink for LateFile<W, K> {
 }
 
 /// Creates the file, unless it was created before.
-fn begin<W: World>(world: &mut W, name: &[u8], created: bool) -> Result<(), DeviceFault>
+fn create_once<W: World>(world: &mut W, name: &[u8], created: bool) -> Result<(), DeviceFault>
     ensures begun { OnOk result (W.files world.new ≡ begun_in created name.now (W.files world.old)) }
     ensures unchanged { OnErr result (W.files world.new ≡ W.files world.old) }
     ensures counted { W.failures world.new ≡ count_after result (W.failures world.old) }

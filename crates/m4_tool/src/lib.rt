@@ -10,7 +10,7 @@ pub mod fault;
 pub mod follow;
 pub mod followed;
 pub mod given;
-mod late;
+pub mod late;
 pub mod laws;
 pub mod line;
 pub mod mem_world;

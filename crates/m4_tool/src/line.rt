@@ -198,7 +198,7 @@ fn is_given(matches: &ArgMatches<'_>, name: &str) -> bool
     matches.contains_id(name)
 }
 
-// Returns whether an option without a value is given: if it is not, its text is `false`.
+// Returns whether an option without a value is given. Its text is `true` then.
 fn asks(matches: &ArgMatches<'_>, name: &str) -> bool
     ensures { result ≡ asks name.now (rows_of (found_of matches.now)) }
 {
@@ -264,7 +264,7 @@ fn files_of(alloc: Global, matches: &ArgMatches<'_>) -> Result<Vec<String>, Allo
     }
 }
 
-// Copies the texts, so that the line owns them.
+// Returns copies of the texts, which the line owns.
 fn copies(alloc: Global, files: &[&str]) -> Result<Vec<String>, AllocError>
     ensures { IfOk result (λ same. map string_bytes same.items ≡ texts files.now) }
 {
@@ -409,7 +409,7 @@ fn help<'a>(alloc: Global) -> Arg<'a>
         .help("Prints this help")
 }
 
-// Distinguishes an error of `clap` that memory ran out from a refused line.
+// Returns the fault for an error of `clap`: either memory ran out, or the line is refused.
 fn fault_of_parse(error: Error) -> LineFault
     ensures { ClassifiesError error result }
 {

@@ -6,8 +6,7 @@
 ghost use Rattle.std.specs.Prelude.{◌≡◌, ℕ, IfSome};
 ghost use Rattle.m4_state.specs.Device.{Script};
 ghost use Rattle.m4_tool.specs.ModeFault.{status_of};
-ghost use Rattle.m4_tool.specs.Modes.{CanonEnds, CanonRuns, Holds, InspectEnds, InspectRuns, IsOfDevice, ReportsFault};
-ghost use Rattle.m4_tool.specs.Modes.{reads, writes};
+ghost use Rattle.m4_tool.specs.Modes.{CanonEnds, Holds, InspectEnds, IsOfDevice, ReportsFault, RunsBy};
 
 use crate::fault::ModeFault;
 use m4_frozen::inspector::list;
@@ -17,6 +16,15 @@ use m4_frozen::writer::write_frozen;
 use m4_state::device::{ByteSink, ByteSource};
 use std::alloc::Global;
 use std::mem::forget;
+
+/// The modes of a command line.
+#[derive(Clone, Copy)]
+pub enum Mode {
+    /// Prints the canonical text of a frozen file.
+    Canon,
+    /// Lists a frozen file.
+    Inspect,
+}
 
 /// Writes the canonical text of the state in a frozen file, and returns the exit status.
 pub fn canon<R: ByteSource, O: ByteSink, M: ByteSink>(
@@ -29,9 +37,8 @@ pub fn canon<R: ByteSource, O: ByteSink, M: ByteSink>(
     // exact writer: the canonical text of a file that is read and issues nothing, and status 0; otherwise
     // nothing, and the line and the status of the fault
     // safe and total: a fault of a device is returned only if that device failed in this call
-    ensures { CanonRuns file.now (reads R.script R.failures reader.old reader.new)
-        (writes O.contents O.failures out.old out.new)
-        (writes M.contents M.failures messages.old messages.new) result }
+    ensures { RunsBy CanonEnds file.now R.script R.failures O.contents O.failures M.contents M.failures
+        reader.old reader.new out.old out.new messages.old messages.new result }
 {
     let end = canonicalise(alloc, reader, out);
     answer(end, file, messages)
@@ -48,9 +55,8 @@ pub fn inspect<R: ByteSource, O: ByteSink, M: ByteSink>(
     // exact writer: the lines of a file that is read, and status 0; otherwise nothing, and the line and the
     // status of the fault
     // safe and total: a fault of a device is returned only if that device failed in this call
-    ensures { InspectRuns file.now (reads R.script R.failures reader.old reader.new)
-        (writes O.contents O.failures out.old out.new)
-        (writes M.contents M.failures messages.old messages.new) result }
+    ensures { RunsBy InspectEnds file.now R.script R.failures O.contents O.failures M.contents M.failures
+        reader.old reader.new out.old out.new messages.old messages.new result }
 {
     let end = list_file(alloc, reader, out);
     answer(end, file, messages)
@@ -69,12 +75,12 @@ fn canonicalise<R: ByteSource, O: ByteSink>(
 {
     let loaded = read_frozen(alloc, reader)?;
     let end = write_loaded(&loaded, out);
-    // the program ends after this, so the strings are not freed one by one
+    // The program ends after this, so the strings are not freed one by one.
     forget(loaded);
     end
 }
 
-/// Writes the canonical text of what was loaded, if that issues no text.
+/// Writes the canonical text of a loaded file, if the file issues no text.
 fn write_loaded<O: ByteSink>(loaded: &Loaded, out: &mut O) -> Result<(), ModeFault>
     ensures ends { (script : Script) → Holds script loaded.now
         → CanonEnds result script (O.contents out.old) (O.contents out.new) }
@@ -100,7 +106,7 @@ fn list_file<R: ByteSource, O: ByteSink>(
 {
     let loaded = read_frozen(alloc, reader)?;
     let listed = list(&loaded, out);
-    // as in `canonicalise`
+    // As in `canonicalise`.
     forget(loaded);
     Ok(listed?)
 }

@@ -7,8 +7,9 @@ ghost use Rattle.clap.specs.Walk.{texts};
 ghost use Rattle.m4_tool.specs.CommandLine.{AreInRange, IsModeNotAlone, IsRefusal, Says, ModeIsAlone};
 
 use crate::follow::follow;
+use crate::followed::{FAILED, Failure};
 use crate::line::{Line, LineFault, read_line};
-use crate::reports::{FAILED, report};
+use crate::reports::{report, report_failure};
 use crate::shared::{BLOCK, MESSAGES, SharedOutputs};
 use crate::std_world::{StdShown, StdWorld};
 use crate::streams::occupy_closed;
@@ -47,7 +48,7 @@ fn status_of_words<R: Files + Alloc<A = Global> + Print + Eprint, I: Read + Copy
     spare: Option<<R as Files>::File>,
 ) -> u8 {
     match line_of(rt.alloc(), words) {
-        Ok(line) => run_line(rt, input, errors, &line, spare),
+        Ok(line) => status_of_line(rt, input, errors, &line, spare),
         Err(fault) => report_line_fault(rt, &fault),
     }
 }
@@ -67,7 +68,7 @@ fn line_of(alloc: Global, words: &[String]) -> Result<Line, LineFault>
     read_line(alloc, texts.as_slice())
 }
 
-// Borrows the words, for `read_line`.
+// Returns the words as borrowed texts, which `read_line` reads.
 fn borrowed<'a>(alloc: Global, words: &'a [String]) -> Result<Vec<&'a str>, AllocError>
     ensures { IfOk result (λ same. texts same.items ≡ map string_bytes words.now) }
 {
@@ -78,21 +79,22 @@ fn borrowed<'a>(alloc: Global, words: &'a [String]) -> Result<Vec<&'a str>, Allo
     Ok(texts)
 }
 
-// Follows the line. Its output and its messages are written in blocks.
-fn run_line<R: Files + Alloc<A = Global> + Print + Eprint, I: Read + Copy, E: Write + Drop>(
+// Follows the line and returns its status. If a block can't be allocated, that is reported.
+fn status_of_line<R: Files + Alloc<A = Global> + Print + Eprint, I: Read + Copy, E: Write + Drop>(
     rt: &R,
     input: I,
     errors: E,
     line: &Line,
     spare: Option<<R as Files>::File>,
 ) -> u8 {
-    follow_line(rt, input, errors, line, spare).unwrap_or_else(|_refused| report(
+    follow_line(rt, input, errors, line, spare).unwrap_or_else(|_refused| report_failure(
         rt,
-        "out of memory",
+        Failure::OutOfMemory,
     ))
 }
 
-// Follows the line in the world of this runtime; an error is a block that could not be allocated.
+// Follows the line in the world of this runtime, and returns its status. Its output and its messages are written in
+// blocks; an error is a block that could not be allocated.
 #[inline(never)]
 fn follow_line<R: Files + Alloc<A = Global> + Print + Eprint, I: Read + Copy, E: Write + Drop>(
     rt: &R,
@@ -111,29 +113,29 @@ fn follow_line<R: Files + Alloc<A = Global> + Print + Eprint, I: Read + Copy, E:
     Ok(followed.status)
 }
 
-// Reports why a line is refused. Help that was requested is not a fault.
+// Reports why a line is refused, and returns the status. Help that was requested is not a fault.
 fn report_line_fault(rt: &(impl Print + Eprint), fault: &LineFault) -> u8 {
     match fault {
         LineFault::ModeNotAlone => report(rt, "U1 a mode stands alone"),
-        LineFault::OutOfMemory => report(rt, "out of memory"),
+        LineFault::OutOfMemory => report_failure(rt, Failure::OutOfMemory),
         LineFault::Parse(error) => print_answer(rt, error),
     }
 }
 
-// Prints the text of `clap`: help on standard output, or a refusal on standard error.
+// Prints the text of `clap`, which is help for standard output or a refusal for standard error, and returns the status.
 fn print_answer(rt: &(impl Print + Eprint), error: &clap::Error) -> u8 {
     if error.print(rt).is_err() {
-        return report(rt, "write fault");
+        return report_failure(rt, Failure::Write);
     }
     if error.use_stderr() { FAILED } else { 0 }
 }
 
-// Reports why the words of the process could not be read.
+// Reports why the words of the process could not be read, and returns the status.
 fn report_unread_words(rt: &impl Eprint, fault: &io::Error) -> u8
     ensures { result ≡ FAILED }
 {
     if fault.kind() == ErrorKind::OutOfMemory {
-        report(rt, "out of memory")
+        report_failure(rt, Failure::OutOfMemory)
     } else {
         report(rt, "a word of the command line is not UTF-8")
     }

@@ -11,7 +11,8 @@ pub const BLOCK: usize = 65536;
 /// How many bytes of messages are buffered, at most. Few runs have more, and a longer one is written with no copy.
 pub const MESSAGES: usize = 1024;
 
-/// A writer that is shared, together with another one. A call during another one fails; there is none.
+/// One of two writers that a run shares with the reader of standard input. Before it writes, it flushes the other one.
+/// A call during another one fails; there is none.
 #[derive(Drop)]
 pub struct Shared<'a, W, V> {
     cell: &'a RefCell<W>,
@@ -34,6 +35,7 @@ impl<W: Write, V: Write> Write for Shared<'_, W, V> {
     }
 }
 
+// Flushes a shared writer.
 fn flush<W: Write>(cell: &RefCell<W>) -> io::Result<()> {
     match cell.try_borrow_mut() {
         Ok(mut writer) => writer.flush(),
@@ -49,7 +51,7 @@ pub struct SharedOutputs<W, E> {
 }
 
 impl<W, E> SharedOutputs<W, E> {
-    /// Shares these two writers.
+    /// Returns outputs that share these two writers.
     pub fn new(output: W, messages: E) -> SharedOutputs<W, E> {
         SharedOutputs {
             output: RefCell::new(output),
@@ -83,24 +85,29 @@ impl<W: Write, E: Write> SharedOutputs<W, E> {
     }
 }
 
-/// A reader that flushes both outputs before each read.
+/// A reader that flushes both outputs, if it has them, before each read.
 #[derive(Drop)]
 pub struct FlushBeforeRead<'a, R, W, E> {
     reader: R,
-    shown: &'a SharedOutputs<W, E>,
+    outputs: Option<&'a SharedOutputs<W, E>>,
 }
 
 impl<'a, R, W, E> FlushBeforeRead<'a, R, W, E> {
-    /// Returns this reader, which will flush these writers.
-    pub fn new(reader: R, shown: &'a SharedOutputs<W, E>) -> FlushBeforeRead<'a, R, W, E> {
-        FlushBeforeRead { reader, shown }
+    /// Returns this reader, which will flush these outputs.
+    pub fn new(
+        reader: R,
+        outputs: Option<&'a SharedOutputs<W, E>>,
+    ) -> FlushBeforeRead<'a, R, W, E> {
+        FlushBeforeRead { reader, outputs }
     }
 }
 
 impl<R: Read, W: Write, E: Write> Read for FlushBeforeRead<'_, R, W, E> {
     fn read(&mut self, buf: &mut [u8]) -> io::Result<usize> {
-        // Bytes that could not be flushed stay in the writer, and its last flush reports the fault again.
-        let _flushed = self.shown.flush();
+        if let Some(outputs) = self.outputs {
+            // Bytes that could not be flushed stay in the writer, and its last flush reports the fault again.
+            let _flushed = outputs.flush();
+        }
         self.reader.read(buf)
     }
 }

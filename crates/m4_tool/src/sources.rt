@@ -2,7 +2,7 @@
 //! read to its end.
 
 ghost use Rattle.std.specs.Prelude.{◌≡◌, IfOk};
-ghost use Rattle.m4_tool.specs.RunEnd.{source_name};
+ghost use Rattle.m4_tool.specs.Line.{source_name};
 
 use m4_state::bytes::Bytes;
 use std::alloc::{AllocError, Global};

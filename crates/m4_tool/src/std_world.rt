@@ -3,7 +3,7 @@
 //! All files are opened before the run. A process may have so many open files and no more: from the first one
 //! on for which there is no descriptor, a file is tried, closed, and opened again when it is read.
 
-ghost use Rattle.std.specs.Prelude.{◌≡◌, IfErr, None, false};
+ghost use Rattle.std.specs.Prelude.{◌≡◌, IfErr, IfOk, None, false};
 ghost use Rattle.std.specs.IoError.{error_kind};
 
 use crate::shared::{FlushBeforeRead, SharedOutputs};
@@ -14,7 +14,7 @@ use m4_state::standard::StdSource;
 use std::alloc::Global;
 use std::cell::Cell;
 use std::fs::{self, OpenFile};
-use std::io::{self, BufWriter, ErrorKind, Read, Write};
+use std::io::{self, BufWriter, Empty, ErrorKind, Read, Sink, Write};
 use std::rt::Files;
 
 /// The system's numbers of the two errors that say that there are too many open files, in the system and in the
@@ -25,7 +25,7 @@ const TOO_MANY: [i32; 2] = [23, 24];
 /// file touches little memory.
 const BLOCK: usize = 32768;
 
-/// The file that was made, if one was.
+/// A writer to the file that was made. If none was, each write fails, and a flush has nothing to do.
 #[derive(Drop)]
 struct Made<F> {
     file: Option<F>,
@@ -48,17 +48,20 @@ impl<F: Write> Write for Made<F> {
 }
 
 /// The files and the standard input of a process, and the file that was made. Before standard input is
-/// read, both outputs are flushed. The made file is written in blocks.
+/// read, the outputs are flushed, if there are any. The made file is written in blocks.
 #[derive(Drop)]
 pub struct StdWorld<'a, R: Files, I, W, E> {
     rt: &'a R,
     input: I,
-    outputs: &'a SharedOutputs<W, E>,
+    outputs: Option<&'a SharedOutputs<W, E>>,
     made: BufWriter<Made<<R as Files>::File>>,
     spare: Cell<Option<<R as Files>::File>>,
     is_full: Cell<bool>,
     failures: u64,
 }
+
+/// The files of a process as a world of their own, with an empty standard input and no outputs.
+pub type StdFiles<'a, R> = StdWorld<'a, R, Empty, Sink, Sink>;
 
 impl<'a, R: Files + Alloc<A = Global>, I, W, E> StdWorld<'a, R, I, W, E> {
     /// Returns the world of this runtime, with this standard input, whose process writes to these outputs. The
@@ -73,6 +76,21 @@ impl<'a, R: Files + Alloc<A = Global>, I, W, E> StdWorld<'a, R, I, W, E> {
         I: Drop,
         ensures { IfErr result (λ error. error_kind error ≡ ErrorKind.OutOfMemory) }
     {
+        StdWorld::with_outputs(rt, input, Some(outputs), spare)
+    }
+
+    // Returns the world of this runtime, which has not made a file yet.
+    fn with_outputs(
+        rt: &'a R,
+        input: I,
+        outputs: Option<&'a SharedOutputs<W, E>>,
+        spare: Option<<R as Files>::File>,
+    ) -> io::Result<StdWorld<'a, R, I, W, E>>
+    where
+        I: Drop,
+        ensures out_of_memory { IfErr result (λ error. error_kind error ≡ ErrorKind.OutOfMemory) }
+        ensures failures { IfOk result (λ world. world.failures ≡ 0) }
+    {
         let made = BufWriter::with_capacity(rt.alloc(), BLOCK, Made { file: None })?;
         Ok(StdWorld {
             rt,
@@ -83,6 +101,16 @@ impl<'a, R: Files + Alloc<A = Global>, I, W, E> StdWorld<'a, R, I, W, E> {
             is_full: Cell::new(false),
             failures: 0,
         })
+    }
+}
+
+impl<'a, R: Files + Alloc<A = Global>> StdWorld<'a, R, Empty, Sink, Sink> {
+    /// Returns the files of this runtime. Allocates a block.
+    pub fn of_files(rt: &'a R) -> io::Result<StdFiles<'a, R>>
+        ensures out_of_memory { IfErr result (λ error. error_kind error ≡ ErrorKind.OutOfMemory) }
+        ensures failures { IfOk result (λ world. world.failures ≡ 0) }
+    {
+        StdWorld::with_outputs(rt, io::empty(), None, None)
     }
 }
 
@@ -106,6 +134,14 @@ impl<'a, R: Files + Alloc<A = Global>, I, W, E> StdWorld<'a, R, I, W, E> {
             Ok(path) => Some(FileOrInput::Later(self.rt, path)),
             Err(_refused) => None,
         }
+    }
+}
+
+// Flushes the outputs, if there are any, and returns whether all were flushed.
+fn flush_outputs<W: Write, E: Write>(outputs: Option<&SharedOutputs<W, E>>) -> bool {
+    match outputs {
+        Some(outputs) => outputs.flush(),
+        None => true,
     }
 }
 
@@ -175,7 +211,7 @@ impl<'a, R: Files + Alloc<A = Global>, I: Read + Copy, W: Write, E: Write> World
 
     fn create(&mut self, name: &[u8]) -> Result<(), DeviceFault> {
         // An old file is emptied only if nothing that the run wrote before is lost.
-        if !self.outputs.flush() {
+        if !flush_outputs(self.outputs) {
             self.failures = self.failures.saturating_add(1);
             return Err(DeviceFault);
         }

@@ -3,6 +3,7 @@
 mod failing;
 mod faults;
 mod following;
+mod late;
 mod lines;
 mod modes;
 mod shows;

@@ -1,26 +1,23 @@
 //! The end of a line: its outputs and its file are flushed, and what is not reported yet is reported.
 
-ghost use Rattle.std.specs.Prelude.{◌≡◌, ◌≢◌, ◌∷◌, [], List, ℕ, None, false, true};
-ghost use Rattle.m4_state.specs.Device.{Puts, count_after, joined};
+ghost use Rattle.std.specs.Prelude.{◌≡◌, ◌≢◌, [], List, ℕ, None, Some, false, true};
+ghost use Rattle.m4_state.specs.Device.{Puts, count_after};
 ghost use Rattle.m4_engine.specs.File.{cannot_open};
-ghost use Rattle.m4_tool.specs.RunEnd.{last_fault, last_status};
-ghost use Rattle.m4_tool.specs.Line.{EndsBy, FailedAs, Grew, Reports, counts, failure_of, last_lines, refusals};
-ghost use Rattle.m4_tool.specs.Line.{unreloaded};
-ghost use Rattle.m4_tool.specs.LineRun.{ClosedAs, Closes, FlushedAs, ModeCloses, RefusedAs, failure_after, seen};
+ghost use Rattle.m4_tool.specs.Failure.{failure_lines};
+ghost use Rattle.m4_tool.specs.Line.{refusals, unreloaded};
+ghost use Rattle.m4_tool.specs.FailureCounts.{FailedAs, counts_of};
+ghost use Rattle.m4_tool.specs.LineEnd.{AllShown, EndsBy, Reports, seen};
+ghost use Rattle.m4_tool.specs.LineRun.{ClosedAs, Closes, FlushedAs, ModeCloses, RefusedAs, failure_after};
 
-use crate::endings::{last_fault, put_refused};
-use crate::followed::{Failure, Followed};
+use crate::endings::{failure_of, put_refused};
+use crate::followed::{FAILED, Failure, Followed, status_after};
 use crate::world::{Shows, World};
 use m4_engine::ending::{Cause, Ending};
-use m4_frozen::fault::FrozenKind;
 use m4_state::device::{ByteSink, DeviceFault};
-use m4_state::transfer::write_pieces;
+use m4_state::transfer::{write_all, write_pieces};
 
-/// The status of a run that did not do the work of its line.
-pub const FAILED: u8 = 1;
-
-/// Flushes everything after a run, and reports what the run has not reported itself. `file` is the name of
-/// its frozen file. If a report can't be written, only the status shows it.
+/// Ends a line whose run ended so: flushes everything, and reports what the run has not reported itself. `file` is the
+/// name of its frozen file. If a report can't be written, only the status shows it.
 pub fn close<W: World, O: Shows, M: Shows>(
     ending: Ending,
     file: &[u8],
@@ -29,21 +26,20 @@ pub fn close<W: World, O: Shows, M: Shows>(
     messages: &mut M,
 ) -> Followed<W>
     ensures closes { Closes file.now ending result.status result.failure
-        (seen O.contents M.contents M.failures out.old out.new messages.old messages.new (W.files world)
-        (W.files result.world)) }
-    ensures counted { ClosedAs ending.cause result.failure (counts (O.failures out.old) (O.failures out.new)
-        (M.failures messages.old) (M.failures messages.new) (W.failures world) (W.failures result.world)) }
-    ensures output_shown { result.failure ≡ None → O.shown out.new ≡ O.contents out.new }
-    ensures messages_shown { result.failure ≡ None → M.shown messages.new ≡ M.contents messages.new }
-    ensures kept { result.failure ≡ None → W.kept result.world ≡ W.files result.world }
+        (seen O.contents M.contents M.failures W.files out.old out.new messages.old messages.new world result.world) }
+    ensures counted { ClosedAs ending.cause result.failure (counts_of O.failures M.failures W.failures
+        out.old out.new messages.old messages.new world result.world) }
+    ensures shown { result.failure ≡ None
+        → AllShown O.shown O.contents M.shown M.contents W.kept W.files out.new messages.new result.world }
 {
     let mut world = world;
     let flushed = flush_all(&mut world, out, messages);
     let is_reported = report_refusal(ending.cause, file, messages);
-    report_last(ending.cause, flushed, messages);
+    let failure = failure_of(ending.cause, flushed);
+    report_last(failure, messages);
     Followed {
-        status: last_status(ending, flushed),
-        failure: failure_after(failure_of(ending.cause, flushed), is_reported),
+        status: status_after(failure, ending.status),
+        failure: failure_after(failure, is_reported),
         world,
     }
 }
@@ -52,12 +48,11 @@ pub fn close<W: World, O: Shows, M: Shows>(
 fn flush_all<W: World, O: Shows, M: Shows>(world: &mut W, out: &mut O, messages: &mut M) -> bool
     ensures output { O.contents out.new ≡ O.contents out.old }
     ensures messages { M.contents messages.new ≡ M.contents messages.old }
-    ensures counted { FlushedAs result (counts (O.failures out.old) (O.failures out.new)
-        (M.failures messages.old) (M.failures messages.new) (W.failures world.old) (W.failures world.new)) }
+    ensures counted { FlushedAs result (counts_of O.failures M.failures W.failures
+        out.old out.new messages.old messages.new world.old world.new) }
     ensures files { W.files world.new ≡ W.files world.old }
-    ensures output_shown { result ≡ true → O.shown out.new ≡ O.contents out.new }
-    ensures messages_shown { result ≡ true → M.shown messages.new ≡ M.contents messages.new }
-    ensures kept { result ≡ true → W.kept world.new ≡ W.files world.new }
+    ensures shown { result ≡ true
+        → AllShown O.shown O.contents M.shown M.contents W.kept W.files out.new messages.new world.new }
 {
     let output = out.flush().is_ok();
     let others = messages.flush().is_ok();
@@ -84,53 +79,31 @@ fn report_refusal<M: Shows>(cause: Cause, file: &[u8], messages: &mut M) -> bool
     }
 }
 
-/// Reports the fault that ended the run or its last flushes, if there is one.
-fn report_last<M: Shows>(cause: Cause, flushed: bool, messages: &mut M)
-    ensures reports { Reports (last_lines (last_fault cause flushed)) (M.contents messages.old)
-        (M.contents messages.new)
+/// Reports what failed in the run or in its last flushes, if something did.
+fn report_last<M: Shows>(failure: Option<Failure>, messages: &mut M)
+    ensures reports { Reports (failure_lines failure) (M.contents messages.old) (M.contents messages.new)
         (M.failures messages.old) (M.failures messages.new) }
-    ensures unreported { last_fault cause flushed ≡ None → messages.new ≡ messages.old }
+    ensures unreported { failure ≡ None → messages.new ≡ messages.old }
 {
-    match last_fault(cause, flushed) {
-        Some(text) => report(&[b"m4: ", text.as_bytes(), b"\n"], messages),
+    match failure {
+        Some(failure) => report(failure, messages),
         None => {}
     }
 }
 
-/// Writes one line to the messages and flushes them.
-fn report<M: Shows>(line: &[&[u8]], messages: &mut M)
-    ensures reports { Reports (joined line.now ∷ []) (M.contents messages.old) (M.contents messages.new)
+/// Writes the line of a failure to the messages and flushes them, if it has one.
+fn report<M: Shows>(failure: Failure, messages: &mut M)
+    ensures reports { Reports (failure_lines (Some failure)) (M.contents messages.old) (M.contents messages.new)
         (M.failures messages.old) (M.failures messages.new) }
 {
-    let _put = write_pieces(messages, line);
-    let _shown = messages.flush();
-}
-
-/// Returns the exit status of a run that ended so.
-fn last_status(ending: Ending, flushed: bool) -> u8
-    ensures { result ≡ last_status ending flushed }
-{
-    match last_fault(ending.cause, flushed) {
-        Some(_) => FAILED,
-        None => ending.status,
+    let line = failure.line().as_bytes();
+    if !line.is_empty() {
+        let _put = write_all(messages, line);
+        let _shown = messages.flush();
     }
 }
 
-/// Returns what failed in a run that ended so.
-fn failure_of(cause: Cause, flushed: bool) -> Option<Failure>
-    ensures { result ≡ failure_of cause flushed }
-{
-    match cause {
-        Cause::Read => Some(Failure::Read),
-        Cause::Write => Some(Failure::Write),
-        Cause::OutOfMemory => Some(Failure::OutOfMemory),
-        _ if !flushed => Some(Failure::Write),
-        Cause::Frozen(fault) if fault.kind == FrozenKind::OutOfMemory => Some(Failure::OutOfMemory),
-        _ => None,
-    }
-}
-
-/// Returns what failed, if the line for a refused file was reported or not.
+/// Returns what failed. If nothing else did, that is `Report` unless the line for a refused file was reported.
 fn failure_after(failure: Option<Failure>, is_reported: bool) -> Option<Failure>
     ensures { result ≡ failure_after failure is_reported }
 {
@@ -148,14 +121,12 @@ pub fn close_unopened<W: World, O: Shows, M: Shows>(
     messages: &mut M,
 ) -> Followed<W>
     ensures ends { (name : List ℕ) → EndsBy result.failure name file.now (unreloaded file.now) result.status
-        (seen O.contents M.contents M.failures out.old out.new messages.old messages.new (W.files world)
-        (W.files result.world)) }
-    ensures counted { FailedAs result.failure (counts (O.failures out.old) (O.failures out.new)
-        (M.failures messages.old) (M.failures messages.new) (W.failures world) (W.failures result.world)) }
+        (seen O.contents M.contents M.failures W.files out.old out.new messages.old messages.new world result.world) }
+    ensures counted { FailedAs result.failure (counts_of O.failures M.failures W.failures
+        out.old out.new messages.old messages.new world result.world) }
     ensures files { W.files result.world ≡ W.files world }
-    ensures output_shown { result.failure ≡ None → O.shown out.new ≡ O.contents out.new }
-    ensures messages_shown { result.failure ≡ None → M.shown messages.new ≡ M.contents messages.new }
-    ensures kept { result.failure ≡ None → W.kept result.world ≡ W.files result.world }
+    ensures shown { result.failure ≡ None
+        → AllShown O.shown O.contents M.shown M.contents W.kept W.files out.new messages.new result.world }
 {
     let cause = match put_unopened(file, messages) {
         Ok(()) => Cause::Done,
@@ -177,7 +148,8 @@ pub fn put_unopened<M: ByteSink>(file: &[u8], messages: &mut M) -> Result<(), De
     write_pieces(messages, &[b"m4: cannot open `", file, b"'\n"])
 }
 
-/// Flushes everything after a mode that ended with this status. A flush that fails is a write fault.
+/// Ends a line with a mode that returned this status: flushes everything, and reports a flush that fails unless the
+/// mode has failed itself.
 pub fn close_mode<W: World, O: Shows, M: Shows>(
     status: u8,
     world: W,
@@ -187,14 +159,13 @@ pub fn close_mode<W: World, O: Shows, M: Shows>(
     ensures closes { ModeCloses status result.status (O.contents out.old) (O.contents out.new)
         (M.contents messages.old) (M.contents messages.new) (M.failures messages.old) (M.failures messages.new) }
     ensures files { W.files result.world ≡ W.files world }
-    ensures output_shown { result.failure ≡ None → O.shown out.new ≡ O.contents out.new }
-    ensures messages_shown { result.failure ≡ None → M.shown messages.new ≡ M.contents messages.new }
-    ensures kept { result.failure ≡ None → W.kept result.world ≡ W.files result.world }
+    ensures shown { result.failure ≡ None
+        → AllShown O.shown O.contents M.shown M.contents W.kept W.files out.new messages.new result.world }
 {
     let mut world = world;
     let all_flushed = flush_all(&mut world, out, messages);
     if status == 0 && !all_flushed {
-        report(&[b"m4: write fault\n"], messages);
+        report(Failure::Write, messages);
         return Followed {
             status: FAILED,
             failure: Some(Failure::Write),

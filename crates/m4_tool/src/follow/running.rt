@@ -1,18 +1,21 @@
 //! The run of a line: over its sources, from its start, to the file to which it freezes.
 
-ghost use Rattle.std.specs.Prelude.{◌≡◌, ◌⊎◌, [], List, ℕ, Option, Some, None, IfOk, true, false, map, unwrap_or};
+ghost use Rattle.std.specs.Prelude.{◌≡◌, [], List, ℕ, Option, IfOk, true, false, map, unwrap_or};
 ghost use Rattle.std.specs.Prelude.{option_map, string_bytes};
 ghost use Rattle.m4_state.specs.Device.{Script};
 ghost use Rattle.m4_engine.specs.File.{Source as Said};
 ghost use Rattle.m4_engine.specs.RunSources.{DescribesFrozen};
 ghost use Rattle.m4_engine.specs.Run.{run as defined};
 ghost use Rattle.m4_tool.specs.World.{Files};
-ghost use Rattle.m4_tool.specs.Line.{ExtendFiles, counts, request_of, words_of};
-ghost use Rattle.m4_tool.specs.LineRun.{Ran as RanBy, RanCounts, named_in, named_of, seen};
+ghost use Rattle.m4_tool.specs.Line.{freeze_name, request_of, words_of};
+ghost use Rattle.m4_tool.specs.FailureCounts.{counts_of};
+ghost use Rattle.m4_tool.specs.Known.{ExtendFiles, Knows};
+ghost use Rattle.m4_tool.specs.LineEnd.{seen};
+ghost use Rattle.m4_tool.specs.LineRun.{RanBy, RanCounts, named_in, named_of};
 ghost use Rattle.m4_tool.specs.TornFile.{TearsFile};
 
-use super::sources::sources_of;
-use crate::late::{LateFile, Place};
+use super::opening::sources_of;
+use crate::late::{LateFile, LateStart};
 use crate::line::Line;
 use crate::world::{Shows, World};
 use m4_engine::ending::{Cause, Ending};
@@ -33,7 +36,7 @@ pub struct Ran<W> {
     pub world: W,
 }
 
-/// Opens the files of a line and runs over them, from this frozen file if there is one.
+/// Opens the files of a line and runs over them. The run starts from this frozen file, if there is one.
 pub fn run_line<W: World, O: Shows, M: Shows>(
     alloc: Global,
     line: &Line,
@@ -43,20 +46,18 @@ pub fn run_line<W: World, O: Shows, M: Shows>(
     messages: &mut M,
 ) -> Ran<W>
     ensures ran { (files : Files) (input : Script) (script : Option Script) (ss : List Said)
-        → W.making world ≡ false → W.files world ≡ Some files → W.input world ≡ Some input
-        → DescribesFrozen W.Reader.script frozen.old script
+        → Knows W.making W.files W.input world files input → DescribesFrozen W.Reader.script frozen.old script
         → ExtendFiles files input (words_of (request_of line.now).names) ss
-        → RanBy (unwrap_or (request_of line.now).freeze []) (defined line.now.options script ss) result.ending
-        (seen O.contents M.contents M.failures out.old out.new messages.old messages.new (W.files world)
-        (W.files result.world)) }
-    ensures torn { W.appends_whole ≡ true → (files : Files) (input : Script) (script : Option Script) (ss : List Said)
-        → W.making world ≡ false → W.files world ≡ Some files → W.input world ≡ Some input
-        → DescribesFrozen W.Reader.script frozen.old script
+        → RanBy (freeze_name (request_of line.now)) (defined line.now.options script ss) result.ending
+        (seen O.contents M.contents M.failures W.files out.old out.new messages.old messages.new world result.world) }
+    ensures torn { W.appends_whole ≡ true
+        → (files : Files) (input : Script) (script : Option Script) (ss : List Said)
+        → Knows W.making W.files W.input world files input → DescribesFrozen W.Reader.script frozen.old script
         → ExtendFiles files input (words_of (request_of line.now).names) ss
         → result.ending.cause ≡ Cause.Write
-        → TearsFile (unwrap_or (request_of line.now).freeze []) (W.files world) (W.files result.world) }
-    ensures counted { RanCounts result.ending.cause (counts (O.failures out.old) (O.failures out.new)
-        (M.failures messages.old) (M.failures messages.new) (W.failures world) (W.failures result.world)) }
+        → TearsFile (freeze_name (request_of line.now)) (W.files world) (W.files result.world) }
+    ensures counted { RanCounts result.ending.cause (counts_of O.failures M.failures W.failures
+        out.old out.new messages.old messages.new world result.world) }
 {
     let mut world = world;
     let Ok(mut sources) = sources_of(alloc, &mut world, line.files.as_slice()) else {
@@ -104,7 +105,7 @@ fn without_memory<W>(world: W) -> Ran<W>
 
 /// Runs over the sources. The frozen text goes to a file of this name, which is created when its first
 /// byte is written.
-fn run_late<W: World, K: Place, O: Shows, M: Shows>(
+fn run_late<W: World, K: LateStart, O: Shows, M: Shows>(
     alloc: Global,
     options: Options,
     frozen: &mut Option<W::Reader>,
@@ -121,17 +122,16 @@ fn run_late<W: World, K: Place, O: Shows, M: Shows>(
         → map (named_of W.Reader.script) sources.old ≡ named_in files input names
         → DescribesFrozen W.Reader.script frozen.old script → ExtendFiles files input names ss
         → RanBy K.name (defined options script ss) result.ending
-        (seen O.contents M.contents M.failures out.old out.new messages.old messages.new K.before
-        (W.files result.world)) }
+        (seen O.contents M.contents M.failures W.files out.old out.new messages.old messages.new world result.world) }
     ensures torn { W.appends_whole ≡ true → (files : Files) (input : Script) (names : List (List ℕ))
         (script : Option Script) (ss : List Said)
         → map (named_of W.Reader.script) sources.old ≡ named_in files input names
         → DescribesFrozen W.Reader.script frozen.old script → ExtendFiles files input names ss
-        → result.ending.cause ≡ Cause.Write → TearsFile K.name K.before (W.files result.world) }
-    ensures counted { RanCounts result.ending.cause (counts (O.failures out.old) (O.failures out.new)
-        (M.failures messages.old) (M.failures messages.new) K.failures (W.failures result.world)) }
+        → result.ending.cause ≡ Cause.Write → TearsFile K.name (W.files world) (W.files result.world) }
+    ensures counted { RanCounts result.ending.cause (counts_of O.failures M.failures W.failures
+        out.old out.new messages.old messages.new world result.world) }
 {
-    let mut late: LateFile<W, K> = LateFile::new(world, name);
+    let mut late: LateFile<W, K> = LateFile::over(world, name);
     let ran = run_keeping(alloc, options, frozen, sources, out, messages, &mut late);
     // The program ends after this, so the definitions are not freed one by one.
     forget(ran.session);

@@ -3,12 +3,12 @@ use Rattle.m4_tool.specs.Line.{request_of}
 use Rattle.m4_tool.proofs.ExtendedFiles.{line_given}
 use Rattle.m4_tool.proofs.follow.follow.Goals as goal
 
-pub returns-clause-runs : goal.returns-clause-runs
-returns-clause-runs g c = λ files input r a b m f i e.
-    c.follow_run.ensures.follows files input r m f i (line_given (request_of c.args.line.now) files input r e)
+pub returns-in-None-clause-runs : goal.returns-in-None-clause-runs
+returns-in-None-clause-runs g c = λ files input r n k e.
+    c.follow_run.ensures.follows files input r k (line_given (request_of c.args.line.now) files input r e)
 
-pub returns-clause-extends : goal.returns-clause-extends
-returns-clause-extends g c = λ files input r a b m f i e. c.follow_run.ensures.follows files input r m f i e
+pub returns-in-None-clause-extends : goal.returns-in-None-clause-extends
+returns-in-None-clause-extends g c = λ files input r n k e. c.follow_run.ensures.follows files input r k e
 
-pub returns-clause-torn : goal.returns-clause-torn
-returns-clause-torn g c = λ files input r a b whole m f i e. c.follow_run.ensures.torn files input r whole m f i e
+pub returns-in-None-clause-torn : goal.returns-in-None-clause-torn
+returns-in-None-clause-torn g c = λ files input r n whole k e. c.follow_run.ensures.torn files input r whole k e

@@ -3,7 +3,7 @@ use Rattle.m4_tool.proofs.ModeLines.{mode_ends, mode_missed}
 use Rattle.m4_tool.proofs.follow.follow_mode.Goals as goal
 
 pub returns-in-Some-clause-follows : goal.returns-in-Some-clause-follows
-returns-in-Some-clause-follows g c = λ files m f.
+returns-in-Some-clause-follows g c = λ files k.
     mode_ends c.args.mode c.args.file.now (g.W.Reader.ByteSource.script c.in-Some.reader) (files c.args.file.now)
     (g.W.Reader.ByteSource.failures c.in-Some.reader) (g.W.Reader.ByteSource.failures c.run_mode-status.new.reader)
     (g.O.ByteSink.contents c.args.out.now) (g.O.ByteSink.contents c.run_mode-status.new.out) (g.O.ByteSink.contents c.close_mode.new.out)
@@ -11,13 +11,13 @@ returns-in-Some-clause-follows g c = λ files m f.
     (g.O.ByteSink.failures c.args.out.now) (g.O.ByteSink.failures c.run_mode-status.new.out)
     (g.M.ByteSink.failures c.args.messages.now) (g.M.ByteSink.failures c.run_mode-status.new.messages) (g.M.ByteSink.failures c.close_mode.new.messages)
     c.run_mode-status.result c.close_mode.result.status (g.W.World.files c.args.world) (g.W.World.files c.close_mode.result.world)
-    (rw f at (c.in-Some.ensures m)) c.run_mode-status.ensures c.close_mode.ensures.closes c.close_mode.ensures.files
+    (rw k.1 at (c.in-Some.ensures k.0)) c.run_mode-status.ensures c.close_mode.ensures.closes c.close_mode.ensures.files
 
 pub returns-in-None-clause-follows : goal.returns-in-None-clause-follows
-returns-in-None-clause-follows g c = λ files m f.
+returns-in-None-clause-follows g c = λ files k.
     mode_missed c.args.mode c.args.file.now (files c.args.file.now) c.put_unopened-put.result
     (g.O.ByteSink.contents c.args.out.now) (g.O.ByteSink.contents c.close_mode-in-None.new.out)
     (g.M.ByteSink.contents c.args.messages.now) (g.M.ByteSink.contents c.put_unopened-put.new.messages) (g.M.ByteSink.contents c.close_mode-in-None.new.messages)
     (g.M.ByteSink.failures c.args.messages.now) (g.M.ByteSink.failures c.put_unopened-put.new.messages) (g.M.ByteSink.failures c.close_mode-in-None.new.messages)
     c.close_mode-in-None.result.status (g.W.World.files c.args.world) (g.W.World.files c.close_mode-in-None.result.world)
-    (rw f at (c.in-None.ensures m)) c.put_unopened-put.ensures.puts c.put_unopened-put.ensures.counted c.close_mode-in-None.ensures.closes c.close_mode-in-None.ensures.files
+    (rw k.1 at (c.in-None.ensures k.0)) c.put_unopened-put.ensures.puts c.put_unopened-put.ensures.counted c.close_mode-in-None.ensures.closes c.close_mode-in-None.ensures.files

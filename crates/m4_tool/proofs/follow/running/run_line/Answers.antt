@@ -8,35 +8,35 @@ use Rattle.m4_tool.proofs.TornFiles.{tears_as}
 use Rattle.m4_tool.proofs.follow.running.run_line.Goals as goal
 
 pub returns-in_default-clause-ran : goal.returns-in_default-clause-ran
-returns-in_default-clause-ran g c = λ files input script ss m f i t e.
+returns-in_default-clause-ran g c = λ files input script ss k t e.
     not_begun (unwrap_or (option_map string_bytes c.args.line.now.freeze) []) (defined c.args.line.now.options script ss) c.without_memory.result.ending _ _ _ _ _ c.without_memory.ensures.ending (ap g.W.World.files c.without_memory.ensures.world ∙ c.sources_of.ensures.files)
 
 pub returns-in_default-name_of-clause-ran : goal.returns-in_default-name_of-clause-ran
-returns-in_default-name_of-clause-ran g c = λ files input script ss m f i t e.
+returns-in_default-name_of-clause-ran g c = λ files input script ss k t e.
     not_begun (unwrap_or (option_map string_bytes c.args.line.now.freeze) []) (defined c.args.line.now.options script ss) c.without_memory-in_default-name_of.result.ending _ _ _ _ _ c.without_memory-in_default-name_of.ensures.ending (ap g.W.World.files c.without_memory-in_default-name_of.ensures.world ∙ c.sources_of.ensures.files)
 
 pub returns-clause-ran : goal.returns-clause-ran
-returns-clause-ran g c = λ files input script ss m f i t e.
+returns-clause-ran g c = λ files input script ss k t e.
     ran_as c.in-Ok-name_of.name (unwrap_or (option_map string_bytes c.args.line.now.freeze) []) (defined c.args.line.now.options script ss) c.run_late.result.ending
     (g.O.ByteSink.contents c.args.out.now) (g.O.ByteSink.contents c.run_late.new.out) (g.M.ByteSink.contents c.args.messages.now) (g.M.ByteSink.contents c.run_late.new.messages)
     (g.M.ByteSink.failures c.args.messages.now) (g.M.ByteSink.failures c.run_late.new.messages)
     (g.W.World.files c.sources_of.new.world) (g.W.World.files c.args.world) (g.W.World.files c.run_late.result.world)
     c.in-Ok-name_of.ensures c.sources_of.ensures.files
     (c.run_late.ensures.ran files input (words_of (map string_bytes c.args.line.now.files.items)) script ss
-    (rw c.deref_mut.ensures.value (rw c.as_slice.ensures.value at (c.in-Ok.ensures.sources files input m f i))) t e)
+    (rw c.deref_mut.ensures.value (rw c.as_slice.ensures.value at (c.in-Ok.ensures.sources files input k))) t e)
 
 pub returns-in_default-clause-torn : goal.returns-in_default-clause-torn
-returns-in_default-clause-torn g c = λ whole files input script ss m f i t e cause.
+returns-in_default-clause-torn g c = λ whole files input script ss k t e cause.
     inl (ap g.W.World.files c.without_memory.ensures.world ∙ c.sources_of.ensures.files)
 
 pub returns-in_default-name_of-clause-torn : goal.returns-in_default-name_of-clause-torn
-returns-in_default-name_of-clause-torn g c = λ whole files input script ss m f i t e cause.
+returns-in_default-name_of-clause-torn g c = λ whole files input script ss k t e cause.
     inl (ap g.W.World.files c.without_memory-in_default-name_of.ensures.world ∙ c.sources_of.ensures.files)
 
 pub returns-clause-torn : goal.returns-clause-torn
-returns-clause-torn g c = λ whole files input script ss m f i t e cause.
+returns-clause-torn g c = λ whole files input script ss k t e cause.
     tears_as c.in-Ok-name_of.name (unwrap_or (option_map string_bytes c.args.line.now.freeze) [])
     (g.W.World.files c.sources_of.new.world) (g.W.World.files c.args.world) (g.W.World.files c.run_late.result.world)
     c.in-Ok-name_of.ensures c.sources_of.ensures.files
     (c.run_late.ensures.torn whole files input (words_of (map string_bytes c.args.line.now.files.items)) script ss
-    (rw c.deref_mut.ensures.value (rw c.as_slice.ensures.value at (c.in-Ok.ensures.sources files input m f i))) t e cause)
+    (rw c.deref_mut.ensures.value (rw c.as_slice.ensures.value at (c.in-Ok.ensures.sources files input k))) t e cause)

@@ -1,30 +1,30 @@
 use Rattle.std.proofs.Common.{rules, take, ◌∙◌, ◌≡◌, ℕ, sym, subst}
-use Rattle.m4_tool.specs.Line.{Rose}
+use Rattle.m4_tool.specs.FailureCounts.{Rose}
 use Rattle.m4_tool.proofs.MadeFiles.{begun_so, put_stands, put_tried, put_takes, takes_none}
 use Rattle.m4_tool.proofs.late.LateFileByteSink.put.Goals as goal
 
 pub invariant_of-self-in-Ok-1 : goal.invariant_of-self-in-Ok-1
 invariant_of-self-in-Ok-1 g c =
     let s = c.args.self.now in
-    let b = begun_so g.K.Place.name g.K.Place.before (g.W.World.files s.world) (g.W.World.files c.begin.new.world) s.created c.as_slice.result.now c.begin.result s.agrees (c.as_slice.ensures.value ∙ s.named) (search rules) c.begin.ensures.begun in
+    let b = begun_so g.K.LateStart.name g.K.LateStart.before (g.W.World.files s.world) (g.W.World.files c.create_once.new.world) s.created c.as_slice.result.now c.create_once.result s.agrees (λ f e. c.as_slice.ensures.value ∙ s.named f e) (search rules) c.create_once.ensures.begun in
     let more = take c.in-Ok.n c.args.bytes.now in
     let same : g.W.World.failures c.append.new.self ≡ g.W.World.failures s.world = search rules in
     record {
       named = s.named;
-      agrees = put_stands g.K.Place.name c.as_slice-2.result.now more g.K.Place.before _ _ (g.W.World.files c.append.new.self) s.created (c.as_slice-2.ensures.value ∙ s.named) b c.in-Ok.ensures.appended;
-      tried = put_tried g.K.Place.name c.as_slice-2.result.now c.args.bytes.now c.in-Ok.n g.K.Place.before _ _ (g.W.World.files c.append.new.self) s.created s.failures (c.as_slice-2.ensures.value ∙ s.named) b c.in-Ok.ensures.appended c.in-Ok.ensures.some c.in-Ok.ensures.within;
+      agrees = put_stands g.K.LateStart.name c.as_slice-2.result.now more g.K.LateStart.before _ _ (g.W.World.files c.append.new.self) s.created (λ f e. c.as_slice-2.ensures.value ∙ s.named f e) b c.in-Ok.ensures.appended;
+      tried = put_tried g.K.LateStart.name c.as_slice-2.result.now c.args.bytes.now c.in-Ok.n g.K.LateStart.before _ _ (g.W.World.files c.append.new.self) s.created s.failures (λ f e. c.as_slice-2.ensures.value ∙ s.named f e) b c.in-Ok.ensures.appended c.in-Ok.ensures.some c.in-Ok.ensures.within;
       unfailed = λ z. same ∙ s.unfailed z;
-      failed = λ z. subst (λ (x : ℕ). Rose g.K.Place.failures x) (sym same) (s.failed z);
+      failed = λ z. subst (λ (x : ℕ). Rose g.K.LateStart.failures x) (sym same) (s.failed z);
     }
 
 pub returns-in-Ok-clause-takes : goal.returns-in-Ok-clause-takes
 returns-in-Ok-clause-takes g c =
     let s = c.args.self.now in
-    let b = begun_so g.K.Place.name g.K.Place.before (g.W.World.files s.world) (g.W.World.files c.begin.new.world) s.created c.as_slice.result.now c.begin.result s.agrees (c.as_slice.ensures.value ∙ s.named) (search rules) c.begin.ensures.begun in
-    put_takes g.K.Place.name c.as_slice-2.result.now (take c.in-Ok.n c.args.bytes.now) g.K.Place.before _ _ (g.W.World.files c.append.new.self) s.created (c.as_slice-2.ensures.value ∙ s.named) b c.in-Ok.ensures.appended
+    let b = begun_so g.K.LateStart.name g.K.LateStart.before (g.W.World.files s.world) (g.W.World.files c.create_once.new.world) s.created c.as_slice.result.now c.create_once.result s.agrees (λ f e. c.as_slice.ensures.value ∙ s.named f e) (search rules) c.create_once.ensures.begun in
+    put_takes g.K.LateStart.name c.as_slice-2.result.now (take c.in-Ok.n c.args.bytes.now) g.K.LateStart.before _ _ (g.W.World.files c.append.new.self) s.created (λ f e. c.as_slice-2.ensures.value ∙ s.named f e) b c.in-Ok.ensures.appended
 
 pub returns-in-Err-clause-unchanged : goal.returns-in-Err-clause-unchanged
 returns-in-Err-clause-unchanged g c =
     let s = c.args.self.now in
-    let b = begun_so g.K.Place.name g.K.Place.before (g.W.World.files s.world) (g.W.World.files c.begin.new.world) s.created c.as_slice.result.now c.begin.result s.agrees (c.as_slice.ensures.value ∙ s.named) (search rules) c.begin.ensures.begun in
-    takes_none g.K.Place.name g.K.Place.before _ _ (g.W.World.files c.append.new.self) s.created b (search rules)
+    let b = begun_so g.K.LateStart.name g.K.LateStart.before (g.W.World.files s.world) (g.W.World.files c.create_once.new.world) s.created c.as_slice.result.now c.create_once.result s.agrees (λ f e. c.as_slice.ensures.value ∙ s.named f e) (search rules) c.create_once.ensures.begun in
+    takes_none g.K.LateStart.name g.K.LateStart.before _ _ (g.W.World.files c.append.new.self) s.created b (search rules)

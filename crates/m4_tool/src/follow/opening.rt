@@ -1,9 +1,10 @@
 //! The sources of a run: the files of the line, opened in their order, and standard input.
 
-ghost use Rattle.std.specs.Prelude.{◌≡◌, [], Some, IfOk, false, map, string_bytes};
+ghost use Rattle.std.specs.Prelude.{◌≡◌, [], Some, IfOk, map, string_bytes};
 ghost use Rattle.m4_state.specs.Device.{Script};
 ghost use Rattle.m4_tool.specs.World.{Files};
 ghost use Rattle.m4_tool.specs.Line.{input_after, words_of};
+ghost use Rattle.m4_tool.specs.Known.{Knows};
 ghost use Rattle.m4_tool.specs.LineRun.{named_at, named_in, named_of};
 
 use crate::sources::{INPUT, source_name};
@@ -17,8 +18,8 @@ pub fn sources_of<W: World>(
     world: &mut W,
     files: &[String],
 ) -> Result<Vec<Source<W::Reader>>, AllocError>
-    ensures sources { IfOk result (λ all. (fs : Files) (input : Script) → W.making world.old ≡ false
-        → W.files world.old ≡ Some fs → W.input world.old ≡ Some input
+    ensures sources { IfOk result (λ all. (fs : Files) (input : Script)
+        → Knows W.making W.files W.input world.old fs input
         → map (named_of W.Reader.script) all.items ≡ named_in fs input (words_of (map string_bytes files.now))) }
     ensures files { W.files world.new ≡ W.files world.old }
     ensures failures { W.failures world.new ≡ W.failures world.old }
@@ -26,13 +27,13 @@ pub fn sources_of<W: World>(
     if files.is_empty() {
         return input_alone(alloc, world);
     }
-    files_of(alloc, world, files)
+    opened_files(alloc, world, files)
 }
 
 /// Returns standard input as the only source.
 fn input_alone<W: World>(alloc: Global, world: &mut W) -> Result<Vec<Source<W::Reader>>, AllocError>
-    ensures sources { IfOk result (λ all. (fs : Files) (input : Script) → W.making world.old ≡ false
-        → W.files world.old ≡ Some fs → W.input world.old ≡ Some input
+    ensures sources { IfOk result (λ all. (fs : Files) (input : Script)
+        → Knows W.making W.files W.input world.old fs input
         → map (named_of W.Reader.script) all.items ≡ named_in fs input (words_of [])) }
     ensures files { W.files world.new ≡ W.files world.old }
     ensures failures { W.failures world.new ≡ W.failures world.old }
@@ -44,13 +45,13 @@ fn input_alone<W: World>(alloc: Global, world: &mut W) -> Result<Vec<Source<W::R
 }
 
 /// Opens the files in order.
-fn files_of<W: World>(
+fn opened_files<W: World>(
     alloc: Global,
     world: &mut W,
     files: &[String],
 ) -> Result<Vec<Source<W::Reader>>, AllocError>
-    ensures sources { IfOk result (λ all. (fs : Files) (input : Script) → W.making world.old ≡ false
-        → W.files world.old ≡ Some fs → W.input world.old ≡ Some input
+    ensures sources { IfOk result (λ all. (fs : Files) (input : Script)
+        → Knows W.making W.files W.input world.old fs input
         → map (named_of W.Reader.script) all.items ≡ named_in fs input (map string_bytes files.now)) }
     ensures files { W.files world.new ≡ W.files world.old }
     ensures failures { W.failures world.new ≡ W.failures world.old }
@@ -69,8 +70,8 @@ fn opened<W: World>(
     world: &mut W,
     file: &str,
 ) -> Result<Source<W::Reader>, AllocError>
-    ensures source { IfOk result (λ s. (fs : Files) (input : Script) → W.making world.old ≡ false
-        → W.files world.old ≡ Some fs → W.input world.old ≡ Some input
+    ensures source { IfOk result (λ s. (fs : Files) (input : Script)
+        → Knows W.making W.files W.input world.old fs input
         → named_of W.Reader.script s ≡ named_at fs input file.now) }
     ensures input { IfOk result (λ s. (input : Script) → W.input world.old ≡ Some input
         → W.input world.new ≡ Some (input_after input file.now)) }

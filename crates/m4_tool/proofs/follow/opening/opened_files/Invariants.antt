@@ -4,7 +4,7 @@ use Rattle.std.specs.Prelude.{string_bytes}
 use Rattle.m4_state.specs.Device.{Script}
 use Rattle.m4_tool.specs.World.{Files}
 use Rattle.m4_tool.proofs.OpenedFiles.{Opening}
-use Rattle.m4_tool.proofs.follow.sources.files_of.Given as goal
+use Rattle.m4_tool.proofs.follow.opening.opened_files.Given as goal
 
 abbrev pub invariant-loop-file : goal.invariant-loop-file
 invariant-loop-file g l =

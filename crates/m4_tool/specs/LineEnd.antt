@@ -1,0 +1,127 @@
+-- LineEnd: how following a line ends: as the line is defined, or broken off by a failure.
+-- Believed: public contracts cite it. Words: Seen, seen, AllShown, Reports, failure_of, AsDefined, BrokeOff, Follows.
+-- own: that a last flush that fails is a write fault.
+use Rattle.std.specs.Prelude.{◌≡◌, ◌≢◌, ◌⊎◌, ℕ, Bool, true, false, List, [], ◌∷◌, ◌++◌, Option, Some, None, Result}
+use Rattle.std.specs.Prelude.{option_map, unwrap_or}
+use Rattle.m4_state.specs.Device.{with_bytes, HasBegun, Puts}
+use Rattle.m4_state.specs.declared.device.DeviceFault.{DeviceFault}
+use Rattle.m4_frozen.specs.declared.fault.FrozenKind.{FrozenKind}
+use Rattle.m4_frozen.specs.declared.fault.FrozenKind.TheVariants as kinds
+use Rattle.m4_engine.specs.declared.ending.Cause.{Cause}
+use Rattle.m4_engine.specs.declared.ending.Cause.TheVariants as causes
+use Rattle.m4_tool.specs.declared.followed.Failure.{Failure}
+use Rattle.m4_tool.specs.declared.followed.Failure.TheVariants as failures
+use Rattle.m4_tool.specs.Failure.{failure_lines}
+use Rattle.m4_tool.specs.FailureCounts.{Grew, GrewBy}
+use Rattle.m4_tool.specs.Line.{LineResult, Request, freeze_name, refusals, reload_name}
+use Rattle.m4_tool.specs.World.{Files, with_file, made_file}
+
+-- the writers and the files before and after; `failures` counts the failed writes and flushes of messages
+pub record Seen : Type 0 where
+  pub out_old : Option (List ℕ)
+  pub out_new : Option (List ℕ)
+  pub messages_old : Option (List ℕ)
+  pub messages_new : Option (List ℕ)
+  pub failures_old : ℕ
+  pub failures_new : ℕ
+  pub files_old : Option Files
+  pub files_new : Option Files
+
+-- the same, by the functions of their traits
+abbrev pub seen : {O M W : Type 0} → (O → Option (List ℕ)) → (M → Option (List ℕ)) → (M → ℕ) → (W → Option Files)
+    → O → O → M → M → W → W → Seen
+seen of_out of_messages count of_files out out' messages messages' world world' = record {
+  out_old = of_out out;
+  out_new = of_out out';
+  messages_old = of_messages messages;
+  messages_new = of_messages messages';
+  failures_old = count messages;
+  failures_new = count messages';
+  files_old = of_files world;
+  files_new = of_files world';
+}
+
+-- all that was written is flushed: the output, the messages and the file that was made
+abbrev pub AllShown : {O M W : Type 0} → (O → Option (List ℕ)) → (O → Option (List ℕ)) → (M → Option (List ℕ))
+    → (M → Option (List ℕ)) → (W → Option Files) → (W → Option Files) → O → M → W → Type 0
+AllShown shown contents messages_shown messages_contents kept files out messages world =
+    (shown out ≡ contents out) × (messages_shown messages ≡ messages_contents messages) × (kept world ≡ files world)
+
+-- a line was added to the messages, or a prefix of it if the messages failed
+pub record Reported (line : List ℕ) (old new : Option (List ℕ)) (failures failures' : ℕ) : Type 0 where
+  pub put : Result (Unit {0}) DeviceFault
+  pub puts : Puts put old new line
+  pub counted : GrewBy put failures failures'
+
+-- these lines were added in order
+abbrev pub Reports : List (List ℕ) → Option (List ℕ) → Option (List ℕ) → ℕ → ℕ → Type 0
+Reports [] old new failures failures' = (new ≡ old) × Grew failures failures'
+Reports (line ∷ lines) old new failures failures' =
+    (mid : Option (List ℕ)) × (count : ℕ)
+    × Reported line old mid failures count × Reports lines mid new count failures'
+
+-- what failed in the run, by its cause
+abbrev pub failure_by : Cause → Option Failure
+failure_by causes.Read = Some failures.Read
+failure_by causes.Write = Some failures.Write
+failure_by causes.OutOfMemory = Some failures.OutOfMemory
+failure_by cause = None
+
+abbrev pub frozen_failure : FrozenKind → Option Failure
+frozen_failure kinds.OutOfMemory = Some failures.Load
+frozen_failure kind = None
+
+-- what failed, by why the run ended and whether everything was flushed: a last flush that fails is a write fault
+abbrev pub failure_of : Cause → Bool → Option Failure
+failure_of (causes.Frozen fault) true = frozen_failure fault.kind
+failure_of (causes.Frozen fault) false = Some failures.Write
+failure_of cause true = failure_by cause
+failure_of cause false = Some (unwrap_or (failure_by cause) failures.Write)
+
+-- the lines that the program adds
+abbrev pub added_lines : List ℕ → Cause → Bool → List (List ℕ)
+added_lines file cause flushed = refusals file cause ++ failure_lines (failure_of cause flushed)
+
+-- the line ended as it is defined: everything was written, and the file has its text
+pub record AsDefined (name : List ℕ) (r : LineResult) (status : ℕ) (w : Seen) : Type 0 where
+  pub is_status : status ≡ r.status
+  pub output : w.out_new ≡ with_bytes w.out_old r.output
+  pub messages : Reports r.lines (with_bytes w.messages_old r.messages) w.messages_new w.failures_old w.failures_new
+  pub files : w.files_new ≡ option_map (made_file name r.frozen) w.files_old
+
+-- the named file has a prefix of the text
+pub record HasPrefix (name text : List ℕ) (old new : Option Files) : Type 0 where
+  pub front : List ℕ
+  pub rest : List ℕ
+  pub parts : text ≡ front ++ rest
+  pub files : new ≡ option_map (with_file name front) old
+
+-- the files are as they were, unless a write failed: then the named one may have a prefix of the text
+abbrev pub FilesBy : Failure → List ℕ → List ℕ → Option Files → Option Files → Type 0
+FilesBy failures.Write name text old new = (new ≡ old) ⊎ HasPrefix name text old new
+FilesBy failure name text old new = new ≡ old
+
+-- a device or an allocation failed: prefixes of everything were written, and then the lines about the failure
+pub record BrokeOff (name file : List ℕ) (r : LineResult) (status : ℕ) (failure : Failure) (w : Seen) : Type 0 where
+  pub is_status : status ≡ 1
+  pub output : HasBegun w.out_old w.out_new r.output
+  pub cause : Cause
+  pub flushed : Bool
+  pub failed : failure_of cause flushed ≡ Some failure
+  pub begun : Option (List ℕ)
+  pub messages : HasBegun w.messages_old begun r.messages
+  pub count : ℕ
+  pub counted : Grew w.failures_old count
+  pub reports : Reports (added_lines file cause flushed) begun w.messages_new count w.failures_new
+  pub files : FilesBy failure name r.frozen w.files_old w.files_new
+
+-- by what failed; if only the line for a refused file could not be written, all else is as defined
+abbrev pub EndsBy : Option Failure → List ℕ → List ℕ → LineResult → ℕ → Seen → Type 0
+EndsBy None name file r status w = AsDefined name r status w
+EndsBy (Some failures.Report) name file r status w = AsDefined name r status w × (r.lines ≢ [])
+EndsBy (Some failure) name file r status w = BrokeOff name file r status failure w
+
+-- a line whose result is r was followed
+abbrev pub Follows : Request → LineResult → ℕ → Option Failure → Seen → Type 0
+Follows q r status failure w =
+    EndsBy failure (freeze_name q) (reload_name q) r status w
