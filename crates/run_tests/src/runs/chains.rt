@@ -4,7 +4,7 @@ use super::given::{
     AT_MOST, BLOCKS, ROOM, Seen, USUAL, ended, freezing, opened, options, run_over,
 };
 use super::report::Report;
-use super::shows::{agrees, shows};
+use super::shows::{agrees_by, shows};
 use m4_engine::ending::Cause;
 use m4_engine::options::Options;
 use m4_state::memory::MemSource;
@@ -135,7 +135,8 @@ fn chains_are_one_run(rt: HostRuntime) {
     for row in &GROUPINGS {
         for block in BLOCKS {
             let want = expected_of(rt.alloc(), row.written);
-            agrees(&rt, row.name, want, seen_of(&rt, row.runs, block));
+            let got = seen_of(&rt, row.runs, block);
+            agrees_by(&rt, row.name, block, want, got);
         }
     }
 }

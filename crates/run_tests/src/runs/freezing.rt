@@ -2,7 +2,7 @@
 
 use super::given::{AT_MOST, BLOCKS, ROOM, Seen, USUAL, ended, files, freezing, options, run_over};
 use super::report::Report;
-use super::shows::agrees;
+use super::shows::agrees_by;
 use m4_engine::ending::{Cause, Ending};
 use m4_engine::options::Options;
 use m4_frozen::fault::{FrozenFault, FrozenKind};
@@ -227,7 +227,8 @@ fn frozen_files_are_loaded(rt: HostRuntime) {
     for row in &LOADED {
         for block in BLOCKS {
             let got = seen_from(&rt, row.frozen, false, row.file, block);
-            agrees(&rt, row.name, expected_of(rt.alloc(), row), got);
+            let want = expected_of(rt.alloc(), row);
+            agrees_by(&rt, row.name, block, want, got);
         }
     }
 }
@@ -247,7 +248,8 @@ fn refused_frozen_files_leave_nothing(rt: HostRuntime) {
     for row in &REFUSED {
         for block in BLOCKS {
             let got = seen_from(&rt, row.frozen, row.fails, "x", block);
-            agrees(&rt, row.name, expected_of_refused(rt.alloc(), row), got);
+            let want = expected_of_refused(rt.alloc(), row);
+            agrees_by(&rt, row.name, block, want, got);
         }
     }
 }
@@ -263,7 +265,7 @@ fn a_run_that_breaks_off_freezes_nothing(rt: HostRuntime) {
             b"",
         );
         let got = seen_from(&rt, "V1\nD0,3\nhi\n\n", false, "x\n`abc", block);
-        agrees(&rt, "a string without an end", expected, got);
+        agrees_by(&rt, "a string without an end", block, expected, got);
     }
 }
 
@@ -516,7 +518,8 @@ fn compare_splits(rt: &(impl Abort + Alloc<A = Global>), rows: &[Split]) {
     for row in rows {
         for block in BLOCKS {
             let got = seen_split(rt, row, block);
-            agrees(rt, row.name, expected_split(rt.alloc(), row), got);
+            let want = expected_split(rt.alloc(), row);
+            agrees_by(rt, row.name, block, want, got);
         }
     }
 }

@@ -4,7 +4,7 @@
 use super::given::{AT_MOST, BLOCKS, ROOM, Seen, USUAL, files, freezing, options, run_over};
 use super::report::Report;
 use super::rows::{DONE, End, Row, compare, ending};
-use super::shows::agrees;
+use super::shows::agrees_by;
 use m4_engine::ending::{Cause, Ending};
 use m4_engine::options::Options;
 use m4_state::memory::MemSource;
@@ -425,7 +425,7 @@ fn compare_frozen(rt: &(impl Abort + Alloc<A = Global>), rows: &[Frozen]) {
     for &(name, file, output, end, freezes) in rows {
         for block in BLOCKS {
             let want = expected_frozen(rt, (output, end, freezes), block);
-            agrees(rt, name, want, seen_frozen(rt, file, block));
+            agrees_by(rt, name, block, want, seen_frozen(rt, file, block));
         }
     }
 }
@@ -530,7 +530,7 @@ fn saved_text_is_not_carried(rt: HostRuntime) {
     for &(name, files, outputs, joint) in &APART {
         for block in BLOCKS {
             let want = expected_apart(rt.alloc(), outputs, joint);
-            agrees(&rt, name, want, seen_apart(&rt, files, block));
+            agrees_by(&rt, name, block, want, seen_apart(&rt, files, block));
         }
     }
 }

@@ -7,7 +7,7 @@ use super::following::add_written;
 use super::shows::text_of;
 use crate::runs::given::sink;
 use crate::runs::report::Report;
-use crate::runs::shows::agrees;
+use crate::runs::shows::agrees_by;
 use m4_state::memory::MemSource;
 use m4_tool::modes::{canon, inspect};
 use std::alloc::{AllocError, Global};
@@ -178,7 +178,8 @@ fn expected(alloc: Global, row: Row<'_>) -> Result<Vec<u8>, AllocError> {
 // Runs a row with these devices, and compares the reports.
 fn check_by(rt: &(impl Abort + Alloc<A = Global>), row: Row<'_>, devices: Devices) {
     let want = expected(rt.alloc(), row);
-    agrees(rt, text_of(row.file), want, seen_by(rt, row, devices));
+    let name = text_of(row.file);
+    agrees_by(rt, name, devices.at_most, want, seen_by(rt, row, devices));
 }
 
 // Runs a row with devices of each size.
