@@ -210,11 +210,12 @@ fn sweep(rt: &(impl Abort + Alloc<A = Global>), row: &Whole, device: Device) {
             let seen = run_row(rt, row, limited(device, after), block);
             assert!(rt;
                 is_right(row, device, after, &seen),
-                "{}: {device:?} fails after {after} bytes, read {block} at a time: {:?}, output {}, messages {}",
+                "{}: {device:?} fails after {after} bytes, read {block} at a time: {:?}\n{}\n{}\n{}",
                 row.name,
                 seen.ending,
                 seen.output.written().escape_ascii(),
-                seen.messages.written().escape_ascii()
+                seen.messages.written().escape_ascii(),
+                seen.frozen_text.written().escape_ascii()
             );
         }
     }
