@@ -57,9 +57,9 @@ static ROWS: [Row; 13] = [
         b"abc",
     ),
     (
-        "a placeholder alone",
-        b"V1\nF6,6\nregexpregexp\n",
-        b"F6,6\nregexpregexp\n",
+        "a placeholder alone, under its name and another one",
+        b"V1\nF6,6\nregexpregexp\nF2,6\nreregexp\n",
+        b"F2,6\nreregexp\nF6,6\nregexpregexp\n",
         b"",
     ),
     (
