@@ -13,6 +13,52 @@ impl fmt::Display for Shown<'_> {
     }
 }
 
+/// Ends the test unless the report of a row is the expected one, run with devices that take this many bytes at
+/// a time, after this many bytes: those of the file before it is cut, or those before a device fails. A row that
+/// failed names both.
+pub fn agrees_cut(
+    rt: &impl Abort,
+    row: &str,
+    (block, cut): (usize, usize),
+    expected: Result<Vec<u8>, AllocError>,
+    got: Result<Vec<u8>, AllocError>,
+) {
+    match (expected, got) {
+        (Ok(expected), Ok(got)) => {
+            if got.as_slice() != expected.as_slice() {
+                panic!(rt;
+                    "{row}, cut after {cut} bytes, {block} bytes at a time\nexpected: {}\n     got: {}",
+                    Shown(&expected),
+                    Shown(&got)
+                );
+            }
+        }
+        _ => panic!(rt; "{row}, cut after {cut} bytes, {block} bytes at a time: out of memory"),
+    }
+}
+
+/// Does the same for a row that is not cut.
+pub fn agrees_by(
+    rt: &impl Abort,
+    row: &str,
+    block: usize,
+    expected: Result<Vec<u8>, AllocError>,
+    got: Result<Vec<u8>, AllocError>,
+) {
+    match (expected, got) {
+        (Ok(expected), Ok(got)) => {
+            if got.as_slice() != expected.as_slice() {
+                panic!(rt;
+                    "{row}, {block} bytes at a time\nexpected: {}\n     got: {}",
+                    Shown(&expected),
+                    Shown(&got)
+                );
+            }
+        }
+        _ => panic!(rt; "{row}, {block} bytes at a time: out of memory"),
+    }
+}
+
 // Ends the test with both reports.
 fn fail(rt: &impl Abort, row: &str, expected: &[u8], got: &[u8]) {
     panic!(rt;

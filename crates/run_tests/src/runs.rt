@@ -3,6 +3,7 @@
 
 mod chains;
 mod endings;
+mod failing;
 mod files;
 mod freezing;
 pub mod given;

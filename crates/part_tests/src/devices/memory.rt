@@ -2,7 +2,7 @@
 
 use super::take_all;
 use crate::report::{Report, joined, repeated};
-use crate::shows::{agrees, shows};
+use crate::shows::{agrees_by, agrees_cut, shows};
 use m4_state::device::{ByteSink, ByteSource, DeviceFault};
 use m4_state::memory::{MemSink, MemSource};
 use m4_state::transfer::{write_all, write_pieces};
@@ -48,7 +48,9 @@ fn taken_of(alloc: Global, at_most: usize, fails: bool) -> Result<Vec<u8>, Alloc
 fn all_that_is_given_is_taken(rt: HostRuntime) {
     for &(name, fails, want) in &READERS {
         for &at_most in &SIZES {
-            shows(&rt, name, want, taken_of(rt.alloc(), at_most, fails));
+            let want = Vec::from_slice(rt.alloc(), want);
+            let got = taken_of(rt.alloc(), at_most, fails);
+            agrees_by(&rt, name, at_most, want, got);
         }
     }
 }
@@ -133,10 +135,12 @@ fn bytes_are_put_up_to_the_room(rt: HostRuntime) {
     for room in 0..=BYTES.len() {
         for &at_most in &SIZES {
             let got = put_into(rt.alloc(), room, at_most);
-            agrees(
+            let want = put_where(rt.alloc(), room);
+            agrees_cut(
                 &rt,
-                "room for a beginning or all",
-                put_where(rt.alloc(), room),
+                "a writer with room for this",
+                (at_most, room),
+                want,
                 got,
             );
         }

@@ -2,7 +2,7 @@
 
 use super::{BLOCK, BLOCKS, HEAD, LAST, ROOM, after_a_comment, describe, read, write_canonical};
 use crate::report::{Report, joined, repeated};
-use crate::shows::agrees;
+use crate::shows::{agrees, agrees_by, agrees_cut};
 use m4_frozen::loading::Loaded;
 use m4_state::memory::MemSink;
 use std::alloc::{AllocError, Global};
@@ -57,9 +57,9 @@ static ROWS: [Row; 13] = [
         b"abc",
     ),
     (
-        "a placeholder alone",
-        b"V1\nF6,6\nregexpregexp\n",
-        b"F6,6\nregexpregexp\n",
+        "a placeholder alone, under its name and another one",
+        b"V1\nF6,6\nregexpregexp\nF2,6\nreregexp\n",
+        b"F2,6\nreregexp\nF6,6\nregexpregexp\n",
         b"",
     ),
     (
@@ -116,7 +116,8 @@ fn files_are_frozen_again(rt: HostRuntime) {
     for &(name, bytes, between, issued) in &ROWS {
         for &block in &BLOCKS {
             let want = canonical(rt.alloc(), between, issued);
-            agrees(&rt, name, want, again(rt.alloc(), bytes, block, ROOM));
+            let got = again(rt.alloc(), bytes, block, ROOM);
+            agrees_by(&rt, name, block, want, got);
         }
     }
 }
@@ -137,7 +138,8 @@ fn again_later(alloc: Global, cut: usize) -> Result<Vec<u8>, AllocError> {
 fn a_block_ends_at_each_byte(rt: HostRuntime) {
     for cut in 0..=EACH_LETTER.len() {
         let want = canonical(rt.alloc(), EACH_CANONICAL, b"hi");
-        agrees(&rt, "each letter", want, again_later(rt.alloc(), cut));
+        let got = again_later(rt.alloc(), cut);
+        agrees_cut(&rt, "each letter", (4096, cut), want, got);
     }
 }
 
@@ -173,7 +175,7 @@ fn a_writer_fails_after_each_byte(rt: HostRuntime) {
         for &block in &BLOCKS {
             let want = begun_twice(rt.alloc(), FAILING_CANONICAL.split_at(room).0);
             let got = cut_short(rt.alloc(), room, block);
-            agrees(&rt, "a writer that fails", want, got);
+            agrees_cut(&rt, "a writer that fails", (block, room), want, got);
         }
     }
 }

@@ -3,7 +3,7 @@
 
 use super::{BLOCKS, ROOM, describe, read, refused, write_canonical};
 use crate::report::{Report, joined};
-use crate::shows::agrees;
+use crate::shows::{agrees_by, agrees_cut};
 use m4_frozen::fault::{FrozenFault, FrozenKind};
 use m4_state::memory::MemSink;
 use std::alloc::{AllocError, Global};
@@ -70,7 +70,8 @@ fn a_file_of_each_name_is_cut_at_each_byte(rt: HostRuntime) {
     for len in 0..=FILE.len() {
         for &block in &BLOCKS {
             let got = refused(rt.alloc(), FILE.as_bytes().split_at(len).0, block, false);
-            agrees(&rt, "a file of each name", beginning(rt.alloc(), len), got);
+            let want = beginning(rt.alloc(), len);
+            agrees_cut(&rt, "a file of each name", (block, len), want, got);
         }
     }
 }
@@ -91,12 +92,8 @@ fn a_file_of_each_name_is_written_again(rt: HostRuntime) {
     for file in [FILE, CANONICAL] {
         for &block in &BLOCKS {
             let want = joined(rt.alloc(), &[CANONICAL.as_bytes(), b"; written\n"]);
-            agrees(
-                &rt,
-                "a file of each name",
-                want,
-                again(rt.alloc(), file, block),
-            );
+            let got = again(rt.alloc(), file, block);
+            agrees_by(&rt, "a file of each name", block, want, got);
         }
     }
 }

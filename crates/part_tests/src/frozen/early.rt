@@ -2,7 +2,7 @@
 
 use super::{BLOCK, BLOCKS, after_a_comment, describe, refused};
 use crate::report::Report;
-use crate::shows::shows;
+use crate::shows::{agrees_by, shows};
 use m4_frozen::reading::read_frozen;
 use m4_state::memory::MemSource;
 use std::alloc::{AllocError, Global};
@@ -61,7 +61,8 @@ fn lengths_that_no_memory_has(rt: HostRuntime) {
     for &(name, text, want) in &LENGTHS {
         for &block in &BLOCKS {
             let got = refused(rt.alloc(), text.as_bytes(), block, false);
-            shows(&rt, name, want.as_bytes(), got);
+            let want = Vec::from_slice(rt.alloc(), want.as_bytes());
+            agrees_by(&rt, name, block, want, got);
         }
     }
 }

@@ -2,7 +2,7 @@
 
 use super::{BLOCK, BLOCKS, after_a_comment, describe, refused};
 use crate::report::{Report, printed};
-use crate::shows::{agrees, shows};
+use crate::shows::{agrees_by, agrees_cut, shows};
 use m4_frozen::fault::{FrozenFault, FrozenKind, WriteFault};
 use m4_frozen::reading::read_frozen;
 use m4_state::memory::MemSource;
@@ -210,7 +210,7 @@ fn compare(
 ) {
     for &block in &BLOCKS {
         let want = fault_text(alloc, fault.0, fault.1);
-        agrees(rt, name, want, refused(alloc, bytes, block, fails));
+        agrees_by(rt, name, block, want, refused(alloc, bytes, block, fails));
     }
 }
 
@@ -237,7 +237,8 @@ fn compare_later(
     for cut in 0..=bytes.len() {
         let offset = BLOCK.saturating_sub(cut).saturating_add(fault.1);
         let want = fault_text(alloc, fault.0, offset);
-        agrees(rt, name, want, refused_later(alloc, bytes, cut, fails));
+        let got = refused_later(alloc, bytes, cut, fails);
+        agrees_cut(rt, name, (4096, cut), want, got);
     }
 }
 
@@ -274,7 +275,8 @@ fn a_file_is_cut_at_each_byte(rt: HostRuntime) {
     for len in 0..=CUT.len() {
         for &block in &BLOCKS {
             let got = refused(rt.alloc(), CUT.split_at(len).0, block, false);
-            agrees(&rt, "a file that is cut", beginning(rt.alloc(), len), got);
+            let want = beginning(rt.alloc(), len);
+            agrees_cut(&rt, "a file", (block, len), want, got);
         }
     }
 }
@@ -309,12 +311,8 @@ fn a_reader_fails_after_each_byte(rt: HostRuntime) {
     for len in 0..=CUT.len() {
         for &block in &BLOCKS {
             let got = failed_twice(rt.alloc(), CUT.split_at(len).0, block);
-            agrees(
-                &rt,
-                "a reader that fails",
-                failed_after(rt.alloc(), len),
-                got,
-            );
+            let want = failed_after(rt.alloc(), len);
+            agrees_cut(&rt, "a reader that fails", (block, len), want, got);
         }
     }
 }

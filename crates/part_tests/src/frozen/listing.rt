@@ -2,7 +2,7 @@
 
 use super::{BLOCKS, describe, describe_written, read};
 use crate::report::{Report, joined};
-use crate::shows::agrees;
+use crate::shows::{agrees_by, agrees_cut};
 use m4_frozen::inspector::list;
 use m4_frozen::loading::Loaded;
 use m4_state::memory::MemSink;
@@ -54,12 +54,8 @@ fn files_are_listed(rt: HostRuntime) {
     for &(name, bytes, lines) in &ROWS {
         for &block in &BLOCKS {
             let want = joined(rt.alloc(), &[lines, b"; written\n"]);
-            agrees(
-                &rt,
-                name,
-                want,
-                listed(rt.alloc(), bytes, lines.len(), block),
-            );
+            let got = listed(rt.alloc(), bytes, lines.len(), block);
+            agrees_by(&rt, name, block, want, got);
         }
     }
 }
@@ -69,7 +65,8 @@ fn a_writer_fails_after_each_byte(rt: HostRuntime) {
     for &(name, bytes, lines) in &ROWS {
         for room in 0..lines.len() {
             let want = joined(rt.alloc(), &[lines.split_at(room).0, b"; write fault\n"]);
-            agrees(&rt, name, want, listed(rt.alloc(), bytes, room, 3));
+            let got = listed(rt.alloc(), bytes, room, 3);
+            agrees_cut(&rt, name, (3, room), want, got);
         }
     }
 }

@@ -6,7 +6,7 @@ ghost use Rattle.m4_input.specs.Pending.{text_of};
 use super::{BLOCKS, describe, describe_fault, push};
 use crate::given::{Given, describe_definition, made};
 use crate::report::{Report, repeated};
-use crate::shows::shows;
+use crate::shows::agrees_by;
 use m4_input::delims::Delims;
 use m4_input::fault::InputFault;
 use m4_input::front::{Answer, Scan};
@@ -455,7 +455,8 @@ fn tried_in(rt: &impl Abort, alloc: Global, row: &Row, block: usize) {
         Ok(name) => see(alloc, row, block, name, &mut report),
         Err(AllocError) => report.refuse(),
     }
-    shows(rt, row.name, row.want.as_bytes(), report.text());
+    let want = Vec::from_slice(alloc, row.want.as_bytes());
+    agrees_by(rt, row.name, block, want, report.text());
 }
 
 /// Tries each row with each number of bytes that its reader returns at a time.

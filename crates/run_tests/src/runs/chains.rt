@@ -1,73 +1,76 @@
 //! Chains of runs: each run starts from the text that the one before it froze.
 
-use super::given::{AT_MOST, BLOCKS, ROOM, Seen, USUAL, freezing, opened, options, run_over};
+use super::given::{
+    AT_MOST, BLOCKS, ROOM, Seen, USUAL, ended, freezing, opened, options, run_over,
+};
 use super::report::Report;
-use super::shows::shows;
+use super::shows::{agrees_by, shows};
+use m4_engine::ending::Cause;
 use m4_engine::options::Options;
 use m4_state::memory::MemSource;
 use std::alloc::{AllocError, Global};
 use std::process::Abort;
 
-/// The four sources of the chain.
-const DEFINES: &str = "define(`n',`1')dnl\n";
+/// The four sources of the chain. Each adds a text to the messages.
+const DEFINES: &str = "define(`n',`1')errprint(`d')dnl\n";
 
-const DIVERTS: &str = "n pushdef(`n',`2')divert(1)n\n";
+const DIVERTS: &str = "n pushdef(`n',`2')errprint(n)divert(1)n\n";
 
-const RESTORES: &str = "divert(0)n popdef(`n')dnl\n";
+const RESTORES: &str = "divert(0)n popdef(`n')errprint(n)dnl\n";
 
-const ISSUES: &str = "n undivert(1)end\n";
+const ISSUES: &str = "n undivert(1)end`'errprint(`e')\n";
 
 /// The end of the frozen text of the second of four runs.
 const DIVERTED: &[u8] = b"D1,2\n2\n\n# End of frozen state file\n";
 
-/// A way to divide the sources into runs: the sources of each run, and the outputs of the runs with bars
-/// between them.
+/// A way to divide the sources into runs: the sources of each run, and its output and messages. Each run
+/// reads everything and ends with status 0.
 struct Grouping {
     name: &'static str,
     runs: &'static [&'static [&'static str]],
-    outputs: &'static [u8],
+    written: &'static [(&'static str, &'static str)],
 }
 
 static GROUPINGS: [Grouping; 8] = [
     Grouping {
         name: "four runs",
         runs: &[&[DEFINES], &[DIVERTS], &[RESTORES], &[ISSUES]],
-        outputs: b"|1 |2 |1 2\nend\n",
+        written: &[("", "d"), ("1 ", "2"), ("2 ", "1"), ("1 2\nend\n", "e")],
     },
     Grouping {
         name: "the first two joined",
         runs: &[&[DEFINES, DIVERTS], &[RESTORES], &[ISSUES]],
-        outputs: b"1 |2 |1 2\nend\n",
+        written: &[("1 ", "d2"), ("2 ", "1"), ("1 2\nend\n", "e")],
     },
     Grouping {
         name: "the middle two joined",
         runs: &[&[DEFINES], &[DIVERTS, RESTORES], &[ISSUES]],
-        outputs: b"|1 2 |1 2\nend\n",
+        written: &[("", "d"), ("1 2 ", "21"), ("1 2\nend\n", "e")],
     },
     Grouping {
         name: "the last two joined",
         runs: &[&[DEFINES], &[DIVERTS], &[RESTORES, ISSUES]],
-        outputs: b"|1 |2 1 2\nend\n",
+        written: &[("", "d"), ("1 ", "2"), ("2 1 2\nend\n", "1e")],
     },
     Grouping {
         name: "two and two",
         runs: &[&[DEFINES, DIVERTS], &[RESTORES, ISSUES]],
-        outputs: b"1 |2 1 2\nend\n",
+        written: &[("1 ", "d2"), ("2 1 2\nend\n", "1e")],
     },
     Grouping {
         name: "one and three",
         runs: &[&[DEFINES], &[DIVERTS, RESTORES, ISSUES]],
-        outputs: b"|1 2 1 2\nend\n",
+        written: &[("", "d"), ("1 2 1 2\nend\n", "21e")],
     },
     Grouping {
         name: "three and one",
         runs: &[&[DEFINES, DIVERTS, RESTORES], &[ISSUES]],
-        outputs: b"1 2 |1 2\nend\n",
+        written: &[("1 2 ", "d21"), ("1 2\nend\n", "e")],
     },
     Grouping {
         name: "one run",
         runs: &[&[DEFINES, DIVERTS, RESTORES, ISSUES]],
-        outputs: b"1 2 1 2\nend\n",
+        written: &[("1 2 1 2\nend\n", "d21e")],
     },
 ];
 
@@ -90,8 +93,14 @@ fn next_run(
     Ok(run_over(rt, options, &mut frozen, &mut sources, ROOM, AT_MOST))
 }
 
-/// Returns the outputs of the runs of a chain, with bars between them: each run but the last freezes.
-fn outputs_of(
+/// Adds the output and the messages of a run, and how it ended.
+fn add_seen(seen: &Seen, report: &mut Report) {
+    report.run(seen.output.written(), seen.messages.written(), seen.ending);
+    report.add(b"\n");
+}
+
+/// Reports the runs of a chain: each run but the last freezes.
+fn seen_of(
     rt: &(impl Abort + Alloc<A = Global>),
     runs: &[&[&str]],
     block: usize,
@@ -101,12 +110,22 @@ fn outputs_of(
     if let Some((last, earlier)) = runs.split_last() {
         for texts in earlier {
             let seen = next_run(rt, freezing(USUAL), &before, texts, block)?;
-            report.add(seen.output.written());
-            report.add(b"|");
+            add_seen(&seen, &mut report);
             before = Some(seen);
         }
         let seen = next_run(rt, options(USUAL), &before, last, block)?;
-        report.add(seen.output.written());
+        add_seen(&seen, &mut report);
+    }
+    report.text()
+}
+
+/// Returns the expected report on the runs of a chain.
+fn expected_of(alloc: Global, written: &[(&str, &str)]) -> Result<Vec<u8>, AllocError> {
+    let mut report = Report::new(alloc);
+    for (output, messages) in written {
+        let end = ended(0, Cause::Done);
+        report.run(output.as_bytes(), messages.as_bytes(), end);
+        report.add(b"\n");
     }
     report.text()
 }
@@ -115,7 +134,9 @@ fn outputs_of(
 fn chains_are_one_run(rt: HostRuntime) {
     for row in &GROUPINGS {
         for block in BLOCKS {
-            shows(&rt, row.name, row.outputs, outputs_of(&rt, row.runs, block));
+            let want = expected_of(rt.alloc(), row.written);
+            let got = seen_of(&rt, row.runs, block);
+            agrees_by(&rt, row.name, block, want, got);
         }
     }
 }

@@ -3,7 +3,7 @@
 
 use super::given::{BLOCKS, ROOM, ended, run_file, seen_of_file};
 use super::report::{printed, printed_run};
-use super::shows::agrees;
+use super::shows::{agrees, agrees_by};
 use m4_engine::ending::Cause;
 use std::alloc::Global;
 use std::process::Abort;
@@ -203,7 +203,8 @@ fn compare_whole(rt: &(impl Abort + Alloc<A = Global>), row: &Row) {
     let &(name, file, output, calls) = row;
     for block in BLOCKS {
         let want = printed_run(rt.alloc(), output.as_bytes(), b"", ended(0, Cause::Done));
-        agrees(rt, name, want, seen_of_file(rt, file, block, (calls, 1024)));
+        let got = seen_of_file(rt, file, block, (calls, 1024));
+        agrees_by(rt, name, block, want, got);
     }
 }
 

@@ -2,7 +2,7 @@
 
 use super::given::{AT_MOST, BLOCKS, ROOM, Seen, USUAL, ended, files, freezing, options, run_over};
 use super::report::Report;
-use super::shows::agrees;
+use super::shows::agrees_by;
 use m4_engine::ending::{Cause, Ending};
 use m4_engine::options::Options;
 use m4_frozen::fault::{FrozenFault, FrozenKind};
@@ -227,7 +227,8 @@ fn frozen_files_are_loaded(rt: HostRuntime) {
     for row in &LOADED {
         for block in BLOCKS {
             let got = seen_from(&rt, row.frozen, false, row.file, block);
-            agrees(&rt, row.name, expected_of(rt.alloc(), row), got);
+            let want = expected_of(rt.alloc(), row);
+            agrees_by(&rt, row.name, block, want, got);
         }
     }
 }
@@ -247,7 +248,8 @@ fn refused_frozen_files_leave_nothing(rt: HostRuntime) {
     for row in &REFUSED {
         for block in BLOCKS {
             let got = seen_from(&rt, row.frozen, row.fails, "x", block);
-            agrees(&rt, row.name, expected_of_refused(rt.alloc(), row), got);
+            let want = expected_of_refused(rt.alloc(), row);
+            agrees_by(&rt, row.name, block, want, got);
         }
     }
 }
@@ -263,18 +265,30 @@ fn a_run_that_breaks_off_freezes_nothing(rt: HostRuntime) {
             b"",
         );
         let got = seen_from(&rt, "V1\nD0,3\nhi\n\n", false, "x\n`abc", block);
-        agrees(&rt, "a string without an end", expected, got);
+        agrees_by(&rt, "a string without an end", block, expected, got);
     }
 }
 
-/// Two files, and the outputs of two runs: the first freezes after the first file, the second continues
-/// with the second file and undiverts all diversions.
+/// Two files, and what two runs write: the first freezes after the first file, reads everything and ends
+/// with status 0; the second continues with the second file, and ends as given.
 struct Split {
     name: &'static str,
     first: &'static str,
     second: &'static str,
     outputs: (&'static str, &'static str),
+    messages: (&'static str, &'static str),
+    end: (u8, Cause),
 }
+
+/// Two runs that read everything and write nothing.
+const QUIET: Split = Split {
+    name: "",
+    first: "",
+    second: "",
+    outputs: ("", ""),
+    messages: ("", ""),
+    end: (0, Cause::Done),
+};
 
 static SPLITS: [Split; 11] = [
     Split {
@@ -282,87 +296,126 @@ static SPLITS: [Split; 11] = [
         first: "divert(2)two\ndivert(1)one\ndivert(2)dnl\n",
         second: "more\n",
         outputs: ("", "one\ntwo\nmore\n"),
+        ..QUIET
     },
     Split {
         name: "a negative number",
         first: "divert(-1)junk\n",
         second: "x divert(0)y\n",
         outputs: ("", "y\n"),
+        ..QUIET
     },
     Split {
         name: "a number without text",
         first: "divert(3)dnl\n",
         second: "x\n",
         outputs: ("", "x\n"),
+        ..QUIET
     },
     Split {
         name: "text that is brought back",
         first: "divert(1)a\ndivert(2)b\nundivert(1)divert(0)undivert(2)divnum\n",
         second: "divnum undivert(2)\n",
         outputs: ("b\na\n0\n", "0 \n"),
+        ..QUIET
     },
     Split {
         name: "a greeting",
         first: "define(`hi',`Hello $1.')dnl\n",
         second: "hi(`you')\n",
         outputs: ("", "Hello you.\n"),
+        ..QUIET
     },
     Split {
         name: "delimiters",
         first: "changequote([,])changecom(,)dnl\n",
         second: "# [define]\n",
         outputs: ("", "# define\n"),
+        ..QUIET
     },
     Split {
         name: "a name that two files do not join",
         first: "define(`f',`<$#>')dnl\nf",
         second: "(1)\n",
         outputs: ("<0>", "(1)\n"),
+        ..QUIET
     },
     Split {
         name: "a name that is defined again",
         first: "define(`b',`1')define(`a',`2')define(`c',`3')undefine(`a')define(`a',`4')dnl\n",
         second: "a b c\n",
         outputs: ("", "4 1 3\n"),
+        ..QUIET
     },
     Split {
         name: "a stack that is unwound after the reload",
         first: "define(`t',`1')pushdef(`t',`2')pushdef(`t',`3')dnl\n",
         second: "t popdef(`t')t popdef(`t')t popdef(`t')t\n",
         outputs: ("", "3 2 1 t\n"),
+        ..QUIET
     },
     Split {
         name: "a builtin under another name",
         first: "define(`cut',defn(`shift'))undefine(`shift')dnl\n",
         second: "cut(a,b,c) shift(d,e)\n",
         outputs: ("", "b,c shift(d,e)\n"),
+        ..QUIET
     },
     Split {
         name: "a builtin that is undefined",
         first: "undefine(`dnl')dnl\n",
         second: "dnl x\n",
         outputs: ("dnl\n", "dnl x\n"),
+        ..QUIET
     },
 ];
 
-/// Reports the outputs of two runs and of the single run over both files, and whether the second run and
-/// the single run freeze the same text.
-fn reported(
-    first: &[u8],
-    second: &[u8],
-    joint: &[u8],
-    same: bool,
-    alloc: Global,
-) -> Result<Vec<u8>, AllocError> {
-    let mut report = Report::new(alloc);
-    report.add(first);
-    report.add(b"|");
-    report.add(second);
-    report.add(b"|");
-    report.add(joint);
-    report.add(if same { b"|same" } else { b"|other" });
-    report.text()
-}
+static SPLIT_MESSAGES: [Split; 5] = [
+    Split {
+        name: "a warning in each file",
+        first: "define(`f',`x',`y')dnl\n",
+        second: "f divert(`z')f\n",
+        outputs: ("", "x x\n"),
+        messages: (
+            "m4:a.m4:1: Warning: excess arguments to builtin `define' ignored\n",
+            "m4:b.m4:1: Warning: non-numeric argument to builtin `divert'\n",
+        ),
+        ..QUIET
+    },
+    Split {
+        name: "text that goes to the messages",
+        first: "define(`f',`x')errprint(`a')\n",
+        second: "errprint(f)\n",
+        outputs: ("\n", "\n"),
+        messages: ("a", "x"),
+        ..QUIET
+    },
+    Split {
+        name: "a string without an end in the second file",
+        first: "define(`f',`x')dnl\n",
+        second: "f\n`f",
+        outputs: ("", "x\n"),
+        messages: ("", "m4:b.m4:2: ERROR: end of input in string\n"),
+        end: (1, Cause::EndInString),
+        ..QUIET
+    },
+    Split {
+        name: "a macro that ends the run in the second file",
+        first: "divert(1)d\ndivert(0)define(`f',`m4exit(`3')')a\n",
+        second: "x f()y\n",
+        outputs: ("a\n", "x "),
+        end: (3, Cause::Exited(3)),
+        ..QUIET
+    },
+    Split {
+        name: "a call that never ends in the second file",
+        first: "define(`f',`f(f)')dnl\n",
+        second: "f\n",
+        messages: ("", "m4:b.m4:1: ERROR: more than 1024 nested calls\n"),
+        end: (1, Cause::NestingLimit),
+        ..QUIET
+    },
+];
 
 /// Runs over the first file of a row, and freezes.
 fn first_run(rt: &(impl Abort + Alloc<A = Global>), row: &Split, block: usize) -> Seen {
@@ -385,16 +438,30 @@ fn joint_run(
     run_over(rt, options, &mut None, &mut both, ROOM, AT_MOST)
 }
 
-/// Returns whether the run over both files freezes the same text as the one that continues.
-fn freeze_alike(
+/// Compares the text that the run over both files freezes with that of the run that continues.
+fn frozen_alike(
     rt: &(impl Abort + Alloc<A = Global>),
     frozen: &[u8],
     row: &Split,
     block: usize,
-) -> bool {
+) -> &'static str {
     let later = run_from(rt, freezing(USUAL), (frozen, false), row.second, block);
     let whole = joint_run(rt, freezing(USUAL), row, block);
-    later.frozen_text.written() == whole.frozen_text.written()
+    let (later, whole) = (later.frozen_text.written(), whole.frozen_text.written());
+    if later != whole {
+        return "one text and another one";
+    }
+    if later.is_empty() {
+        "no text"
+    } else {
+        "the same text"
+    }
+}
+
+/// Adds the output and the messages of a run, and how it ended.
+fn add_seen(seen: &Seen, report: &mut Report) {
+    report.run(seen.output.written(), seen.messages.written(), seen.ending);
+    report.add(b"\n");
 }
 
 /// Reports two runs and a single run; the later ones undivert all diversions. Also reports whether they
@@ -408,31 +475,61 @@ fn seen_split(
     let frozen = first.frozen_text.written();
     let second = run_from(rt, options(USUAL), (frozen, false), row.second, block);
     let joint = joint_run(rt, options(USUAL), row, block);
-    reported(
-        first.output.written(),
-        second.output.written(),
-        joint.output.written(),
-        freeze_alike(rt, frozen, row, block),
-        rt.alloc(),
-    )
+    let mut report = Report::new(rt.alloc());
+    for seen in [&first, &second, &joint] {
+        add_seen(seen, &mut report);
+    }
+    report.add(frozen_alike(rt, frozen, row, block).as_bytes());
+    report.text()
 }
 
-/// Returns the expected report: the single run writes what the two write, and freezes the same text.
-fn expected_split(alloc: Global, row: &Split) -> Result<Vec<u8>, AllocError> {
+/// Adds the expected report on the single run: what the two write, and the end of the second one.
+fn add_joint(row: &Split, report: &mut Report) {
     let (first, second) = row.outputs;
-    let mut report = Report::new(alloc);
-    for piece in [first, "|", second, "|", first, second, "|same"] {
+    let (before, after) = row.messages;
+    for piece in [first, second, "|", before, after, "|"] {
         report.add(piece.as_bytes());
     }
+    report.print(&ended(row.end.0, row.end.1));
+    report.add(b"\n");
+}
+
+/// Returns the expected report. Only a run with status 0 that no macro ends freezes a text.
+fn expected_split(alloc: Global, row: &Split) -> Result<Vec<u8>, AllocError> {
+    let (first, second) = row.outputs;
+    let (before, after) = row.messages;
+    let mut report = Report::new(alloc);
+    let end = ended(0, Cause::Done);
+    report.run(first.as_bytes(), before.as_bytes(), end);
+    report.add(b"\n");
+    let end = ended(row.end.0, row.end.1);
+    report.run(second.as_bytes(), after.as_bytes(), end);
+    report.add(b"\n");
+    add_joint(row, &mut report);
+    report.add(match row.end.1 {
+        Cause::Done => b"the same text",
+        _ => b"no text",
+    });
     report.text()
+}
+
+/// Compares the report on each row, at each size of a block.
+fn compare_splits(rt: &(impl Abort + Alloc<A = Global>), rows: &[Split]) {
+    for row in rows {
+        for block in BLOCKS {
+            let got = seen_split(rt, row, block);
+            let want = expected_split(rt.alloc(), row);
+            agrees_by(rt, row.name, block, want, got);
+        }
+    }
 }
 
 #[test]
 fn two_runs_are_one(rt: HostRuntime) {
-    for row in &SPLITS {
-        for block in BLOCKS {
-            let got = seen_split(&rt, row, block);
-            agrees(&rt, row.name, expected_split(rt.alloc(), row), got);
-        }
-    }
+    compare_splits(&rt, &SPLITS);
+}
+
+#[test]
+fn two_runs_have_the_messages_and_the_end_of_one(rt: HostRuntime) {
+    compare_splits(&rt, &SPLIT_MESSAGES);
 }

@@ -1,9 +1,11 @@
 //! Limits of calls, and of nested calls.
 
-use super::given::{BLOCKS, ended, seen_of_file};
+use super::given::{BLOCKS, USUAL, ended, seen_of_file};
 use super::report::printed_run;
-use super::shows::agrees;
+use super::shows::agrees_by;
 use m4_engine::ending::Cause;
+use std::alloc::Global;
+use std::process::Abort;
 
 // A row's name, a file, the limits of calls and of nested calls, output, messages, and the end.
 type Row = (
@@ -18,10 +20,7 @@ type Row = (
 // Three nested calls, after one that defines their name.
 const THREE: &str = "define(`f',`$1')f(f(f(`x')))\n";
 
-// A name that expands to itself.
-const LOOP: &str = "define(`l',`l')l\n";
-
-static ROWS: [Row; 13] = [
+static ROWS: [Row; 12] = [
     (
         "four calls, three open",
         THREE,
@@ -103,14 +102,6 @@ static ROWS: [Row; 13] = [
         (0, Cause::Done),
     ),
     (
-        "a call that never ends",
-        LOOP,
-        (100, 1024),
-        "",
-        "m4:a.m4:1: ERROR: more than 100 calls\n",
-        (1, Cause::ExpansionLimit),
-    ),
-    (
         "one call too few for saved text",
         "m4wrap(`len(`a')')x\n",
         (1, 1024),
@@ -128,9 +119,37 @@ static ROWS: [Row; 13] = [
     ),
 ];
 
-#[test]
-fn limits_end_a_run(rt: HostRuntime) {
-    for &(name, file, limits, output, messages, (status, cause)) in &ROWS {
+// Files that have no end without a limit.
+static ENDLESS: [Row; 3] = [
+    (
+        "a name that expands to itself",
+        "define(`l',`l')l\n",
+        (100, 1024),
+        "",
+        "m4:a.m4:1: ERROR: more than 100 calls\n",
+        (1, Cause::ExpansionLimit),
+    ),
+    (
+        "a name that expands to itself twice",
+        "define(`l',`l l')l\n",
+        (1000, 1024),
+        "",
+        "m4:a.m4:1: ERROR: more than 1000 calls\n",
+        (1, Cause::ExpansionLimit),
+    ),
+    (
+        "a call that is its own argument, with the usual limits",
+        "define(`f',`f(f)')f\n",
+        USUAL,
+        "",
+        "m4:a.m4:1: ERROR: more than 1024 nested calls\n",
+        (1, Cause::NestingLimit),
+    ),
+];
+
+// Compares the report on each row, at each size of a block.
+fn compare(rt: &(impl Abort + Alloc<A = Global>), rows: &[Row]) {
+    for &(name, file, limits, output, messages, (status, cause)) in rows {
         for block in BLOCKS {
             let want = printed_run(
                 rt.alloc(),
@@ -138,7 +157,18 @@ fn limits_end_a_run(rt: HostRuntime) {
                 messages.as_bytes(),
                 ended(status, cause),
             );
-            agrees(&rt, name, want, seen_of_file(&rt, file, block, limits));
+            let got = seen_of_file(rt, file, block, limits);
+            agrees_by(rt, name, block, want, got);
         }
     }
+}
+
+#[test]
+fn limits_end_a_run(rt: HostRuntime) {
+    compare(&rt, &ROWS);
+}
+
+#[test]
+fn limits_end_endless_runs(rt: HostRuntime) {
+    compare(&rt, &ENDLESS);
 }

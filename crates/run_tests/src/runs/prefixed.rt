@@ -2,7 +2,7 @@
 
 use super::given::{AT_MOST, BLOCKS, ROOM, Seen, USUAL, ended, files, freezing, options, run_over};
 use super::report::printed_run;
-use super::shows::agrees;
+use super::shows::agrees_by;
 use m4_engine::ending::Cause;
 use m4_engine::options::Options;
 use m4_state::memory::MemSource;
@@ -108,7 +108,8 @@ fn builtins_with_prefixes(rt: HostRuntime) {
         for block in BLOCKS {
             let end = ended(0, Cause::Done);
             let want = printed_run(rt.alloc(), output.as_bytes(), messages.as_bytes(), end);
-            agrees(&rt, name, want, seen_of(&rt, frozen, file, block));
+            let got = seen_of(&rt, frozen, file, block);
+            agrees_by(&rt, name, block, want, got);
         }
     }
 }

@@ -2,7 +2,7 @@
 
 use super::given::{BLOCKS, USUAL, ended, seen_of_file};
 use super::report::printed_run;
-use super::shows::agrees;
+use super::shows::agrees_by;
 use m4_engine::ending::{Cause, Ending};
 use std::alloc::Global;
 use std::process::Abort;
@@ -30,7 +30,8 @@ pub fn compare(rt: &(impl Abort + Alloc<A = Global>), rows: &[Row]) {
         for block in BLOCKS {
             let (output, messages) = (output.as_bytes(), messages.as_bytes());
             let want = printed_run(rt.alloc(), output, messages, ending(end));
-            agrees(rt, name, want, seen_of_file(rt, file, block, USUAL));
+            let got = seen_of_file(rt, file, block, USUAL);
+            agrees_by(rt, name, block, want, got);
         }
     }
 }

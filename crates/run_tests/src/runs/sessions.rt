@@ -2,7 +2,7 @@
 
 use super::given::{AT_MOST, BLOCKS, ROOM, bytes, options, sink};
 use super::report::Report;
-use super::shows::shows;
+use super::shows::agrees_by;
 use m4_engine::session::Session;
 use m4_state::memory::{MemSink, MemSource};
 use std::alloc::{AllocError, Global};
@@ -193,8 +193,9 @@ fn seen(
 fn calls_and_their_answers(rt: HostRuntime) {
     for &(name, room, calls, want) in &ROWS {
         for block in BLOCKS {
+            let want = Vec::from_slice(rt.alloc(), want.as_bytes());
             let got = seen(&rt, room, calls, block);
-            shows(&rt, name, want.as_bytes(), got);
+            agrees_by(&rt, name, block, want, got);
         }
     }
 }

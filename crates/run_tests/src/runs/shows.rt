@@ -31,3 +31,24 @@ pub fn agrees(
         Err(AllocError) => panic!(rt; "{row}: out of memory"),
     }
 }
+
+/// Does the same for a row whose readers return this many bytes at a time. A row that failed names them.
+pub fn agrees_by(
+    rt: &impl Abort,
+    row: &str,
+    block: usize,
+    expected: Result<Vec<u8>, AllocError>,
+    got: Result<Vec<u8>, AllocError>,
+) {
+    match (expected, got) {
+        (Ok(expected), Ok(got)) => {
+            assert!(rt;
+                got.as_slice() == expected.as_slice(),
+                "{row}, read {block} bytes at a time\nexpected: {}\n     got: {}",
+                expected.as_slice().escape_ascii(),
+                got.as_slice().escape_ascii()
+            );
+        }
+        _ => panic!(rt; "{row}, read {block} bytes at a time: out of memory"),
+    }
+}

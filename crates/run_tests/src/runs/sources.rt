@@ -3,7 +3,7 @@
 
 use super::given::{AT_MOST, BLOCKS, ROOM, USUAL, bytes, ended, options, printed_seen, run_over};
 use super::report::printed_run;
-use super::shows::agrees;
+use super::shows::agrees_by;
 use m4_engine::ending::Cause;
 use m4_engine::source::Source;
 use m4_state::memory::MemSource;
@@ -366,7 +366,8 @@ fn compare(rt: &(impl Abort + Alloc<A = Global>), rows: &[Row]) {
         for block in BLOCKS {
             let end = ended(status, cause);
             let want = printed_run(rt.alloc(), output.as_bytes(), messages.as_bytes(), end);
-            agrees(rt, name, want, seen_of(rt, sources, block, room));
+            let got = seen_of(rt, sources, block, room);
+            agrees_by(rt, name, block, want, got);
         }
     }
 }
@@ -393,7 +394,8 @@ fn compare_failing(rt: &(impl Abort + Alloc<A = Global>), rows: &[Failing]) {
             let end = ended(1, Cause::Read);
             let want = printed_run(rt.alloc(), output.as_bytes(), messages.as_bytes(), end);
             let given = [Given::Failing(text), Given::File("never\n")];
-            agrees(rt, name, want, seen_of(rt, &given, block, ROOM));
+            let got = seen_of(rt, &given, block, ROOM);
+            agrees_by(rt, name, block, want, got);
         }
     }
 }

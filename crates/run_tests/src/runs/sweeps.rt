@@ -3,6 +3,7 @@
 
 use super::given::{AT_MOST, BLOCKS, ROOM, Seen, USUAL, bytes, freezing, sink};
 use m4_engine::ending::Cause;
+use m4_engine::options::Options;
 use m4_engine::run::run;
 use m4_engine::source::Source;
 use m4_frozen::fault::{FrozenFault, FrozenKind};
@@ -51,15 +52,16 @@ static ROWS: [Whole; 3] = [
 
 /// How many bytes each device gives or takes before it fails; a device that does not fail has enough.
 #[derive(Clone, Copy)]
-struct Limits {
-    frozen: usize,
-    file: usize,
-    output: usize,
-    messages: usize,
-    frozen_text: usize,
+pub struct Limits {
+    pub frozen: usize,
+    pub file: usize,
+    pub output: usize,
+    pub messages: usize,
+    pub frozen_text: usize,
 }
 
-const ENOUGH: Limits = Limits {
+/// The limits of devices that do not fail.
+pub const ENOUGH: Limits = Limits {
     frozen: ROOM.0,
     file: ROOM.0,
     output: ROOM.0,
@@ -68,31 +70,31 @@ const ENOUGH: Limits = Limits {
 };
 
 /// Returns a reader that gives this many bytes of a text and then fails, or all of it.
-fn reader(text: &str, limit: usize, block: usize) -> MemSource<'_> {
-    let text = text.as_bytes();
+pub fn reader(text: &[u8], limit: usize, block: usize) -> MemSource<'_> {
     let given = limit.min(text.len());
     MemSource::new(text.split_at(given).0, block.max(1), limit < ROOM.0)
 }
 
-/// Runs a row with devices that fail after these numbers of bytes.
-fn run_row(
+/// Runs over a file, a.m4, from this frozen file, with devices that fail after these numbers of bytes.
+pub fn run_within<'a>(
     rt: &(impl Abort + Alloc<A = Global>),
-    row: &Whole,
+    options: Options,
+    frozen: &mut Option<MemSource<'a>>,
+    file: &'a str,
     limits: Limits,
     block: usize,
 ) -> Seen {
     let mut output = sink(rt, limits.output, AT_MOST);
     let mut messages = sink(rt, limits.messages, AT_MOST);
     let mut frozen_text = sink(rt, limits.frozen_text, AT_MOST);
-    let mut frozen = Some(reader(row.frozen, limits.frozen, block));
     let mut sources = [Source::Opened {
         name: bytes(rt, b"a.m4"),
-        reader: reader(row.file, limits.file, block),
+        reader: reader(file.as_bytes(), limits.file, block),
     }];
     let ending = run(
         rt.alloc(),
-        freezing(USUAL),
-        &mut frozen,
+        options,
+        frozen,
         &mut sources,
         &mut output,
         &mut messages,
@@ -104,6 +106,17 @@ fn run_row(
         frozen_text,
         ending,
     }
+}
+
+/// Runs a row with devices that fail after these numbers of bytes.
+fn run_row(
+    rt: &(impl Abort + Alloc<A = Global>),
+    row: &Whole,
+    limits: Limits,
+    block: usize,
+) -> Seen {
+    let mut frozen = Some(reader(row.frozen.as_bytes(), limits.frozen, block));
+    run_within(rt, freezing(USUAL), &mut frozen, row.file, limits, block)
 }
 
 /// The device that fails.
@@ -196,11 +209,12 @@ fn sweep(rt: &(impl Abort + Alloc<A = Global>), row: &Whole, device: Device) {
             let seen = run_row(rt, row, limited(device, after), block);
             assert!(rt;
                 is_right(row, device, after, &seen),
-                "{}: {device:?} fails after {after} bytes, read {block} at a time: {:?}, output {}, messages {}",
+                "{}: {device:?} fails after {after} bytes, read {block} at a time: {:?}\n{}\n{}\n{}",
                 row.name,
                 seen.ending,
                 seen.output.written().escape_ascii(),
-                seen.messages.written().escape_ascii()
+                seen.messages.written().escape_ascii(),
+                seen.frozen_text.written().escape_ascii()
             );
         }
     }

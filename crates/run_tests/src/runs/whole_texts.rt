@@ -3,7 +3,7 @@
 
 use super::given::{AT_MOST, BLOCKS, ROOM, USUAL, ended, files, freezing, run_over};
 use super::report::Report;
-use super::shows::agrees;
+use super::shows::agrees_by;
 use m4_engine::ending::{Cause, Ending};
 use m4_engine::options::Options;
 use std::alloc::{AllocError, Global};
@@ -260,7 +260,7 @@ fn compare(rt: &(impl Abort + Alloc<A = Global>), rows: &[Frozen]) {
                 ended(row.end.0, row.end.1),
                 row.frozen_text,
             );
-            agrees(rt, row.name, want, seen(rt, row, block));
+            agrees_by(rt, row.name, block, want, seen(rt, row, block));
         }
     }
 }

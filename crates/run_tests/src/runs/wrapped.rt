@@ -4,7 +4,7 @@
 use super::given::{AT_MOST, BLOCKS, ROOM, Seen, USUAL, files, freezing, options, run_over};
 use super::report::Report;
 use super::rows::{DONE, End, Row, compare, ending};
-use super::shows::agrees;
+use super::shows::agrees_by;
 use m4_engine::ending::{Cause, Ending};
 use m4_engine::options::Options;
 use m4_state::memory::MemSource;
@@ -376,32 +376,33 @@ static FREEZES: [Frozen; 7] = [
     ),
 ];
 
-// Returns the report on a run without messages, and its frozen text.
+// Returns the report on a run, and its frozen text.
 fn printed_frozen(
     alloc: Global,
-    output: &[u8],
+    (output, messages): (&[u8], &[u8]),
     ending: Ending,
     frozen_text: &[u8],
 ) -> Result<Vec<u8>, AllocError> {
     let mut report = Report::new(alloc);
-    report.run(output, b"", ending);
+    report.run(output, messages, ending);
     report.add(b"|");
     report.add(frozen_text);
     report.text()
 }
 
-// Returns the expected report on a run that freezes: the frozen text of a run over nothing, or none.
+// Returns the expected report on a run that freezes: no message, and the frozen text of a run over
+// nothing, or none.
 fn expected_frozen(
     rt: &(impl Abort + Alloc<A = Global>),
     (output, end, freezes): (&str, End, bool),
     block: usize,
 ) -> Result<Vec<u8>, AllocError> {
-    let (output, end) = (output.as_bytes(), ending(end));
+    let (written, end): ((&[u8], &[u8]), Ending) = ((output.as_bytes(), b""), ending(end));
     if !freezes {
-        return printed_frozen(rt.alloc(), output, end, b"");
+        return printed_frozen(rt.alloc(), written, end, b"");
     }
     let fresh = run_of(rt, freezing(USUAL), "", block);
-    printed_frozen(rt.alloc(), output, end, fresh.frozen_text.written())
+    printed_frozen(rt.alloc(), written, end, fresh.frozen_text.written())
 }
 
 // Reports a run that freezes.
@@ -413,7 +414,7 @@ fn seen_frozen(
     let seen = run_of(rt, freezing(USUAL), file, block);
     printed_frozen(
         rt.alloc(),
-        seen.output.written(),
+        (seen.output.written(), seen.messages.written()),
         seen.ending,
         seen.frozen_text.written(),
     )
@@ -424,7 +425,7 @@ fn compare_frozen(rt: &(impl Abort + Alloc<A = Global>), rows: &[Frozen]) {
     for &(name, file, output, end, freezes) in rows {
         for block in BLOCKS {
             let want = expected_frozen(rt, (output, end, freezes), block);
-            agrees(rt, name, want, seen_frozen(rt, file, block));
+            agrees_by(rt, name, block, want, seen_frozen(rt, file, block));
         }
     }
 }
@@ -490,21 +491,22 @@ fn run_of_both(
     run_over(rt, options(USUAL), &mut None, &mut sources, ROOM, AT_MOST)
 }
 
-// Returns the outputs of three runs, and whether the first of them reports that it saved text.
-fn printed_apart(
+// Returns the expected report on three runs without messages: the first and the last of them save text.
+fn expected_apart(
     alloc: Global,
-    outputs: (&[u8], &[u8]),
-    joint: &[u8],
-    wrapped: bool,
+    (first, second): (&str, &str),
+    joint: &str,
 ) -> Result<Vec<u8>, AllocError> {
     let mut report = Report::new(alloc);
-    report.add(outputs.0);
-    report.add(b"|");
-    report.add(outputs.1);
-    report.add(b"|");
-    report.add(joint);
-    report.add(if wrapped { b"|wrapped" } else { b"|carried" });
+    report.run(first.as_bytes(), b"", ending(SAVED));
+    report.run(second.as_bytes(), b"", ending(DONE));
+    report.run(joint.as_bytes(), b"", ending(SAVED));
     report.text()
+}
+
+// Adds the output and the messages of a run, and how it ended.
+fn add_seen(seen: &Seen, report: &mut Report) {
+    report.run(seen.output.written(), seen.messages.written(), seen.ending);
 }
 
 // Reports the three runs of a row.
@@ -516,21 +518,19 @@ fn seen_apart(
     let first = run_of(rt, freezing(USUAL), files.0, block);
     let second = run_after(rt, first.frozen_text.written(), files.1, block);
     let joint = run_of_both(rt, files, block);
-    printed_apart(
-        rt.alloc(),
-        (first.output.written(), second.output.written()),
-        joint.output.written(),
-        first.ending.wrapped,
-    )
+    let mut report = Report::new(rt.alloc());
+    for seen in [&first, &second, &joint] {
+        add_seen(seen, &mut report);
+    }
+    report.text()
 }
 
 #[test]
 fn saved_text_is_not_carried(rt: HostRuntime) {
     for &(name, files, outputs, joint) in &APART {
         for block in BLOCKS {
-            let (first, second) = (outputs.0.as_bytes(), outputs.1.as_bytes());
-            let want = printed_apart(rt.alloc(), (first, second), joint.as_bytes(), true);
-            agrees(&rt, name, want, seen_apart(&rt, files, block));
+            let want = expected_apart(rt.alloc(), outputs, joint);
+            agrees_by(&rt, name, block, want, seen_apart(&rt, files, block));
         }
     }
 }

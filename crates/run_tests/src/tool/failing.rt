@@ -4,7 +4,7 @@
 
 ghost use Rattle.std.specs.Prelude.{None, false};
 
-use super::following::{AT_MOST, Around, USUAL, add_made, end_of, expected, last_of, seen_of};
+use super::following::{AT_MOST, Around, USUAL, add_made, end_of, expected, seen_of};
 use crate::runs::given::sink;
 use crate::runs::report::Report;
 use crate::runs::shows::agrees;
@@ -15,10 +15,11 @@ use m4_tool::world::Shows;
 use std::alloc::{AllocError, Global};
 use std::process::Abort;
 
-// The words of a line, standard input, which fails after these bytes, and the status, the least and the
-// most output, and the messages.
-static READERS: [(&[&str], &[u8], u8, &str, &str, &str); 11] = [
+// A row's name, the words of a line, standard input, which fails after these bytes, and the status, the
+// least and the most output, and the messages.
+static READERS: [(&str, &[&str], &[u8], u8, &str, &str, &str); 11] = [
     (
+        "the first file fails in the middle of a name",
         &["m4r", "torn", "a"],
         b"",
         1,
@@ -27,6 +28,7 @@ static READERS: [(&[&str], &[u8], u8, &str, &str, &str); 11] = [
         "m4: read fault\n",
     ),
     (
+        "a file between two others fails",
         &["m4r", "a", "torn", "c"],
         b"",
         1,
@@ -35,6 +37,7 @@ static READERS: [(&[&str], &[u8], u8, &str, &str, &str); 11] = [
         "m4: read fault\n",
     ),
     (
+        "a file fails at once, after a definition",
         &["m4r", "b", "lost", "c"],
         b"",
         1,
@@ -43,6 +46,7 @@ static READERS: [(&[&str], &[u8], u8, &str, &str, &str); 11] = [
         "m4: read fault\n",
     ),
     (
+        "a file that cannot be opened, and one that fails",
         &["m4r", "none", "a", "lost"],
         b"",
         1,
@@ -51,6 +55,7 @@ static READERS: [(&[&str], &[u8], u8, &str, &str, &str); 11] = [
         "m4: cannot open `none'\nm4: read fault\n",
     ),
     (
+        "a run that freezes fails after a reload",
         &["m4r", "-R", "empty", "-F", "s", "lost"],
         b"",
         1,
@@ -58,10 +63,35 @@ static READERS: [(&[&str], &[u8], u8, &str, &str, &str); 11] = [
         "",
         "m4: read fault\n",
     ),
-    (&["m4r", "quit", "torn"], b"", 3, "", "", ""),
-    (&["m4r", "-F", "s", "quit", "lost"], b"", 3, "", "", ""),
-    (&["m4r"], b"in\n", 1, "", "in\n", "m4: read fault\n"),
     (
+        "a macro ends the run before a file that would fail",
+        &["m4r", "quit", "torn"],
+        b"",
+        3,
+        "",
+        "",
+        "",
+    ),
+    (
+        "a macro ends a run that freezes before a file that would fail",
+        &["m4r", "-F", "s", "quit", "lost"],
+        b"",
+        3,
+        "",
+        "",
+        "",
+    ),
+    (
+        "standard input fails after a line",
+        &["m4r"],
+        b"in\n",
+        1,
+        "",
+        "in\n",
+        "m4: read fault\n",
+    ),
+    (
+        "standard input between two files fails",
         &["m4r", "a", "-", "c"],
         b"in\n",
         1,
@@ -70,6 +100,7 @@ static READERS: [(&[&str], &[u8], u8, &str, &str, &str); 11] = [
         "m4: read fault\n",
     ),
     (
+        "standard input is read twice and fails",
         &["m4r", "-", "-"],
         b"in\n",
         1,
@@ -77,7 +108,15 @@ static READERS: [(&[&str], &[u8], u8, &str, &str, &str); 11] = [
         "in\n",
         "m4: read fault\n",
     ),
-    (&["m4r", "quit", "-"], b"in\n", 3, "", "", ""),
+    (
+        "a macro ends the run before standard input would fail",
+        &["m4r", "quit", "-"],
+        b"in\n",
+        3,
+        "",
+        "",
+        "",
+    ),
 ];
 
 // A writer that can't be flushed.
@@ -114,11 +153,20 @@ impl Shows for Unflushed {
     }
 }
 
-// The words of a line, the room of the output and of the messages, and the status, the output and the
+// A row's name, the words of a line, the room of the output and of the messages, and the status, the output and the
 // messages.
-static WRITERS: [(&[&str], usize, usize, u8, &str, &str); 10] = [
-    (&["m4r", "a", "c"], 4, 99, 1, "hi\nx", "m4: write fault\n"),
+static WRITERS: [(&str, &[&str], usize, usize, u8, &str, &str); 10] = [
     (
+        "the output fills up in the second file",
+        &["m4r", "a", "c"],
+        4,
+        99,
+        1,
+        "hi\nx",
+        "m4: write fault\n",
+    ),
+    (
+        "the output fills up after a message",
         &["m4r", "none", "a"],
         2,
         99,
@@ -126,11 +174,44 @@ static WRITERS: [(&[&str], usize, usize, u8, &str, &str); 10] = [
         "hi",
         "m4: cannot open `none'\nm4: write fault\n",
     ),
-    (&["m4r", "none", "a"], 99, 5, 1, "", "m4: c"),
-    (&["m4r", "-R", "none", "a"], 99, 5, 1, "", "m4: c"),
-    (&["m4r", "-R", "bad", "a"], 99, 5, 1, "", "m4: b"),
-    (&["m4r", "-R", "newer", "a"], 99, 5, 63, "", "m4: n"),
     (
+        "the messages fill up: a file that cannot be opened",
+        &["m4r", "none", "a"],
+        99,
+        5,
+        1,
+        "",
+        "m4: c",
+    ),
+    (
+        "the messages fill up: a frozen file that cannot be opened",
+        &["m4r", "-R", "none", "a"],
+        99,
+        5,
+        1,
+        "",
+        "m4: c",
+    ),
+    (
+        "the messages fill up: a frozen file with a fault",
+        &["m4r", "-R", "bad", "a"],
+        99,
+        5,
+        1,
+        "",
+        "m4: b",
+    ),
+    (
+        "the messages fill up: a frozen file of a newer format",
+        &["m4r", "-R", "newer", "a"],
+        99,
+        5,
+        63,
+        "",
+        "m4: n",
+    ),
+    (
+        "the canonical text fills the output",
         &["m4r", "--canon=empty"],
         4,
         99,
@@ -139,6 +220,7 @@ static WRITERS: [(&[&str], usize, usize, u8, &str, &str); 10] = [
         "m4: write fault\n",
     ),
     (
+        "the lines of the inspector fill the output",
         &["m4r", "--inspect=empty"],
         4,
         99,
@@ -146,45 +228,84 @@ static WRITERS: [(&[&str], usize, usize, u8, &str, &str); 10] = [
         "quot",
         "m4: write fault\n",
     ),
-    (&["m4r", "--canon=bad"], 99, 5, 1, "", "m4: b"),
-    (&["m4r", "--inspect=none"], 99, 5, 1, "", "m4: c"),
+    (
+        "the messages fill up: a canonical text of a file with a fault",
+        &["m4r", "--canon=bad"],
+        99,
+        5,
+        1,
+        "",
+        "m4: b",
+    ),
+    (
+        "the messages fill up: an inspected file that cannot be opened",
+        &["m4r", "--inspect=none"],
+        99,
+        5,
+        1,
+        "",
+        "m4: c",
+    ),
 ];
 
-// The words of a line whose outputs can't be flushed, and the status, the output and the messages.
-static FLUSHES: [(&[&str], u8, &str, &str); 8] = [
-    (&["m4r", "a"], 1, "hi\n", "m4: write fault\n"),
+// A row's name, the words of a line whose outputs can't be flushed, and the status, the output and the messages.
+static FLUSHES: [(&str, &[&str], u8, &str, &str); 8] = [
     (
+        "a run with output alone",
+        &["m4r", "a"],
+        1,
+        "hi\n",
+        "m4: write fault\n",
+    ),
+    (
+        "a run with a message alone",
         &["m4r", "none"],
         1,
         "",
         "m4: cannot open `none'\nm4: write fault\n",
     ),
-    (&["m4r", "quit"], 1, "", "m4: write fault\n"),
     (
+        "a run that a macro ends",
+        &["m4r", "quit"],
+        1,
+        "",
+        "m4: write fault\n",
+    ),
+    (
+        "a frozen file that cannot be opened",
         &["m4r", "-R", "none"],
         1,
         "",
         "m4: cannot open `none'\nm4: write fault\n",
     ),
     (
+        "a frozen file of a newer format",
         &["m4r", "-R", "newer"],
         1,
         "",
         "m4: newer: F2 Newer at byte 1\nm4: write fault\n",
     ),
     (
+        "the lines of the inspector",
         &["m4r", "--inspect=empty"],
         1,
         "quotes ` '\ncomments # \\0a\ncurrent 0\n",
         "m4: write fault\n",
     ),
     (
+        "a canonical text of a file of a newer format",
         &["m4r", "--canon=newer"],
         63,
         "",
         "m4: newer: F2 Newer at byte 1\n",
     ),
-    (&["m4r", "--canon=none"], 1, "", "m4: cannot open `none'\n"),
+    (
+        "a canonical text of a file that cannot be opened",
+        &["m4r", "--canon=none"],
+        1,
+        "",
+        "m4: cannot open `none'\n",
+    ),
 ];
 
 // Adds that an output lies between these two, or the output.
@@ -242,7 +363,7 @@ fn expected_between(
 
 #[test]
 fn readers_fail(rt: HostRuntime) {
-    for &(words, input, status, least, most, messages) in &READERS {
+    for &(name, words, input, status, least, most, messages) in &READERS {
         let around = Around {
             input,
             fails: true,
@@ -250,20 +371,20 @@ fn readers_fail(rt: HostRuntime) {
         };
         let want = expected_between(rt.alloc(), status, messages, (least, most));
         let got = seen_between(&rt, words, around, (least, most));
-        agrees(&rt, last_of(words), want, got);
+        agrees(&rt, name, want, got);
     }
 }
 
 #[test]
 fn writers_fail(rt: HostRuntime) {
-    for &(words, room, space, status, output, messages) in &WRITERS {
+    for &(name, words, room, space, status, output, messages) in &WRITERS {
         let around = Around {
             room,
             space,
             ..USUAL
         };
         let want = expected(rt.alloc(), status, output, messages);
-        agrees(&rt, last_of(words), want, seen_of(&rt, words, around));
+        agrees(&rt, name, want, seen_of(&rt, words, around));
     }
 }
 
@@ -312,10 +433,10 @@ fn seen_unflushed(
 
 #[test]
 fn last_flushes_fail(rt: HostRuntime) {
-    for &(words, status, output, messages) in &FLUSHES {
+    for &(name, words, status, output, messages) in &FLUSHES {
         let (output, messages) = (output.as_bytes(), messages.as_bytes());
         let failure = Some(Failure::Write);
         let want = printed_unflushed(rt.alloc(), status, failure, output, messages);
-        agrees(&rt, last_of(words), want, seen_unflushed(&rt, words));
+        agrees(&rt, name, want, seen_unflushed(&rt, words));
     }
 }

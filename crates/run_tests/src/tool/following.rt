@@ -35,14 +35,6 @@ pub const USUAL: Around = Around {
     space: 1000,
 };
 
-/// The name of a row: the last word of its line.
-pub fn last_of(words: &[&'static str]) -> &'static str {
-    match words {
-        [.., last] => last,
-        [] => "",
-    }
-}
-
 // Makes the world of a row.
 fn world_of(alloc: Global, around: Around) -> MemWorld<'static> {
     let mut world = MemWorld::new(alloc, &FILES, around.input, around.makes);

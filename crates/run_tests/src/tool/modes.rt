@@ -7,7 +7,7 @@ use super::following::add_written;
 use super::shows::text_of;
 use crate::runs::given::sink;
 use crate::runs::report::Report;
-use crate::runs::shows::agrees;
+use crate::runs::shows::agrees_by;
 use m4_state::memory::MemSource;
 use m4_tool::modes::{canon, inspect};
 use std::alloc::{AllocError, Global};
@@ -49,7 +49,7 @@ static CANONICAL: [(&[u8], &str); 12] = [
 ];
 
 // A file, whether its reader fails after it, and the status and the line of `--canon`.
-static REFUSED: [(&[u8], bool, u8, &str); 9] = [
+static REFUSED: [(&[u8], bool, u8, &str); 10] = [
     (b"", false, 1, "m4: F: F1 NoVersion at byte 0\n"),
     (b"# c\n\nV2\n", false, 63, "m4: F: F2 Newer at byte 6\n"),
     (b"V0", false, 1, "m4: F: F3 VersionZero at byte 1\n"),
@@ -70,6 +70,12 @@ static REFUSED: [(&[u8], bool, u8, &str); 9] = [
     (b"V2", true, 63, "m4: F: F2 Newer at byte 1\n"),
     (
         b"V1\nD0,1\nx\n",
+        false,
+        1,
+        "m4: F: K1 text would be issued at reload\n",
+    ),
+    (
+        b"V1\nD0,2\nab\nD0,1\nc\nD2,1\nx\nD2,1\ny\nD-1,2\nzz\n",
         false,
         1,
         "m4: F: K1 text would be issued at reload\n",
@@ -172,7 +178,8 @@ fn expected(alloc: Global, row: Row<'_>) -> Result<Vec<u8>, AllocError> {
 // Runs a row with these devices, and compares the reports.
 fn check_by(rt: &(impl Abort + Alloc<A = Global>), row: Row<'_>, devices: Devices) {
     let want = expected(rt.alloc(), row);
-    agrees(rt, text_of(row.file), want, seen_by(rt, row, devices));
+    let name = text_of(row.file);
+    agrees_by(rt, name, devices.at_most, want, seen_by(rt, row, devices));
 }
 
 // Runs a row with devices of each size.

@@ -1,7 +1,7 @@
 //! Lines that are followed in a world in memory: the status, the output, the messages, and the file that is
 //! made. The files and the expected results were written by hand.
 
-use super::following::{AT_MOST, Around, USUAL, add_made, end_of, expected, last_of, seen_of};
+use super::following::{AT_MOST, Around, USUAL, add_made, end_of, expected, seen_of};
 use crate::runs::given::sink;
 use crate::runs::report::Report;
 use crate::runs::shows::agrees;
@@ -68,15 +68,60 @@ pub static FILES: [Given<'static>; 11] = [
     },
 ];
 
-// The words of a line, standard input, and the status, the output and the messages.
-static LINES: [(&[&str], &[u8], u8, &str, &str); 11] = [
-    (&["m4r", "a", "c"], b"", 0, "hi\nx\n", ""),
-    (&["m4r", "b", "c"], b"", 0, "y\ny\n", ""),
-    (&["m4r"], b"in\n", 0, "in\n", ""),
-    (&["m4r", "a", "-", "c"], b"in\n", 0, "hi\nin\nx\n", ""),
-    (&["m4r", "-", "-"], b"in\n", 0, "in\n", ""),
-    (&["m4r", "-"], b"__file__:__line__\n", 0, "stdin:1\n", ""),
+// A row's name, the words of a line, standard input, and the status, the output and the messages.
+type Row = (
+    &'static str,
+    &'static [&'static str],
+    &'static [u8],
+    u8,
+    &'static str,
+    &'static str,
+);
+
+static LINES: [Row; 11] = [
+    ("two files", &["m4r", "a", "c"], b"", 0, "hi\nx\n", ""),
     (
+        "a definition in one file and its name in the next one",
+        &["m4r", "b", "c"],
+        b"",
+        0,
+        "y\ny\n",
+        "",
+    ),
+    (
+        "no file is standard input",
+        &["m4r"],
+        b"in\n",
+        0,
+        "in\n",
+        "",
+    ),
+    (
+        "standard input between two files",
+        &["m4r", "a", "-", "c"],
+        b"in\n",
+        0,
+        "hi\nin\nx\n",
+        "",
+    ),
+    (
+        "standard input is read once",
+        &["m4r", "-", "-"],
+        b"in\n",
+        0,
+        "in\n",
+        "",
+    ),
+    (
+        "the name of standard input, and its first line",
+        &["m4r", "-"],
+        b"__file__:__line__\n",
+        0,
+        "stdin:1\n",
+        "",
+    ),
+    (
+        "a limit of nested calls",
         &["m4r", "-L", "2"],
         b"len(len(len(`a')))\n",
         1,
@@ -84,14 +129,23 @@ static LINES: [(&[&str], &[u8], u8, &str, &str); 11] = [
         "m4:stdin:1: ERROR: more than 2 nested calls\n",
     ),
     (
+        "a file that cannot be opened, between two others",
         &["m4r", "a", "none", "c"],
         b"",
         1,
         "hi\nx\n",
         "m4: cannot open `none'\n",
     ),
-    (&["m4r", "-R", "empty", "b"], b"", 0, "define(x, y)x\n", ""),
     (
+        "a frozen file without builtins",
+        &["m4r", "-R", "empty", "b"],
+        b"",
+        0,
+        "define(x, y)x\n",
+        "",
+    ),
+    (
+        "a frozen file that cannot be opened",
         &["m4r", "-R", "none", "a"],
         b"",
         1,
@@ -99,6 +153,7 @@ static LINES: [(&[&str], &[u8], u8, &str, &str); 11] = [
         "m4: cannot open `none'\n",
     ),
     (
+        "a dash is no standard input for -R",
         &["m4r", "-R", "-", "a"],
         b"V1\n",
         1,
@@ -108,8 +163,9 @@ static LINES: [(&[&str], &[u8], u8, &str, &str); 11] = [
 ];
 
 // The same for frozen files that are refused, and for readers that fail.
-static REFUSED: [(&[&str], &[u8], u8, &str, &str); 5] = [
+static REFUSED: [Row; 5] = [
     (
+        "a frozen file with an unknown directive",
         &["m4r", "-R", "bad", "a"],
         b"",
         1,
@@ -117,6 +173,7 @@ static REFUSED: [(&[&str], &[u8], u8, &str, &str); 5] = [
         "m4: bad: F5 UnknownDirective at byte 3\n",
     ),
     (
+        "a frozen file of a newer format",
         &["m4r", "-R", "newer", "a"],
         b"",
         63,
@@ -124,6 +181,7 @@ static REFUSED: [(&[&str], &[u8], u8, &str, &str); 5] = [
         "m4: newer: F2 Newer at byte 1\n",
     ),
     (
+        "a frozen file whose reader fails",
         &["m4r", "-R", "cut", "a"],
         b"",
         1,
@@ -131,6 +189,7 @@ static REFUSED: [(&[&str], &[u8], u8, &str, &str); 5] = [
         "m4: cut: F10 Read\n",
     ),
     (
+        "a run that freezes and a file that fails",
         &["m4r", "-F", "s", "lost", "a"],
         b"",
         1,
@@ -138,6 +197,7 @@ static REFUSED: [(&[&str], &[u8], u8, &str, &str); 5] = [
         "m4: read fault\n",
     ),
     (
+        "a run that freezes and a frozen file with a fault",
         &["m4r", "-F", "s", "-R", "bad"],
         b"",
         1,
@@ -147,8 +207,9 @@ static REFUSED: [(&[&str], &[u8], u8, &str, &str); 5] = [
 ];
 
 // The same for the modes.
-static MODES: [(&[&str], &[u8], u8, &str, &str); 8] = [
+static MODES: [Row; 8] = [
     (
+        "a canonical text of a file that cannot be opened",
         &["m4r", "--canon=none"],
         b"",
         1,
@@ -156,6 +217,7 @@ static MODES: [(&[&str], &[u8], u8, &str, &str); 8] = [
         "m4: cannot open `none'\n",
     ),
     (
+        "an inspected file that cannot be opened",
         &["m4r", "--inspect=none"],
         b"",
         1,
@@ -163,6 +225,7 @@ static MODES: [(&[&str], &[u8], u8, &str, &str); 8] = [
         "m4: cannot open `none'\n",
     ),
     (
+        "the canonical text of an empty state",
         &["m4r", "--canon=empty"],
         b"",
         0,
@@ -170,6 +233,7 @@ static MODES: [(&[&str], &[u8], u8, &str, &str); 8] = [
         "",
     ),
     (
+        "a canonical text of a file of a newer format",
         &["m4r", "--canon=newer"],
         b"",
         63,
@@ -177,6 +241,7 @@ static MODES: [(&[&str], &[u8], u8, &str, &str); 8] = [
         "m4: newer: F2 Newer at byte 1\n",
     ),
     (
+        "a canonical text of a file that issues text",
         &["m4r", "--canon=issues"],
         b"",
         1,
@@ -184,14 +249,23 @@ static MODES: [(&[&str], &[u8], u8, &str, &str); 8] = [
         "m4: issues: K1 text would be issued at reload\n",
     ),
     (
+        "the lines of a file that issues text",
         &["m4r", "--inspect=issues"],
         b"",
         0,
         "quotes ` '\ncomments # \\0a\ncurrent 0\nissued 1\n",
         "",
     ),
-    (&["m4r", "--inspect=cut"], b"", 1, "", "m4: cut: F10 Read\n"),
     (
+        "an inspected file whose reader fails",
+        &["m4r", "--inspect=cut"],
+        b"",
+        1,
+        "",
+        "m4: cut: F10 Read\n",
+    ),
+    (
+        "a dash is no standard input for --canon",
         &["m4r", "--canon=-"],
         b"V1\n",
         1,
@@ -200,25 +274,16 @@ static MODES: [(&[&str], &[u8], u8, &str, &str); 8] = [
     ),
 ];
 
-// The words of a line, standard input, and the status, the output and the messages.
-type Row = (
-    &'static [&'static str],
-    &'static [u8],
-    u8,
-    &'static str,
-    &'static str,
-);
-
 // Compares the report on each row, in a world where no file can be made.
 fn compare(rt: &(impl Abort + Alloc<A = Global>), rows: &[Row]) {
-    for &(words, input, status, output, messages) in rows {
+    for &(name, words, input, status, output, messages) in rows {
         let around = Around {
             input,
             makes: false,
             ..USUAL
         };
         let want = expected(rt.alloc(), status, output, messages);
-        agrees(rt, last_of(words), want, seen_of(rt, words, around));
+        agrees(rt, name, want, seen_of(rt, words, around));
     }
 }
 
@@ -237,44 +302,57 @@ fn modes_are_followed(rt: HostRuntime) {
     compare(&rt, &MODES);
 }
 
-// The words of a line that freezes, whether a file can be made, the room of the output, and the status, the
-// messages, the name of the file that is made, and its bytes.
-static FROZEN: [(&[&str], bool, usize, u8, &str, &str, &str); 4] = [
+// A row's name, the words of a line that freezes, whether a file can be made, the room of the output, and the
+// status, the messages, the name of the file that is made, and its bytes.
+type Freezing = (
+    &'static str,
+    &'static [&'static str],
+    bool,
+    usize,
+    u8,
+    &'static str,
+    (&'static str, &'static str),
+);
+
+static FROZEN: [Freezing; 4] = [
     (
+        "one file is reloaded and frozen to",
         &["m4r", "-R", "empty", "-F", "empty", "a"],
         true,
         100,
         0,
         "",
-        "empty",
-        "# m4 frozen state\nV1\n# End of frozen state file\n",
+        (
+            "empty",
+            "# m4 frozen state\nV1\n# End of frozen state file\n",
+        ),
     ),
     (
+        "a state is frozen though a file cannot be opened",
         &["m4r", "-R", "empty", "-F", "s", "none"],
         true,
         100,
         1,
         "m4: cannot open `none'\n",
-        "s",
-        "# m4 frozen state\nV1\n# End of frozen state file\n",
+        ("s", "# m4 frozen state\nV1\n# End of frozen state file\n"),
     ),
     (
+        "a frozen file that cannot be made",
         &["m4r", "-F", "s", "a"],
         false,
         100,
         1,
         "m4: write fault\n",
-        "",
-        "",
+        ("", ""),
     ),
     (
+        "nothing is frozen if the output fills up",
         &["m4r", "-F", "s", "a"],
         true,
         2,
         1,
         "m4: write fault\n",
-        "",
-        "",
+        ("", ""),
     ),
 ];
 
@@ -319,13 +397,13 @@ fn expected_frozen(
 
 #[test]
 fn files_are_frozen(rt: HostRuntime) {
-    for &(words, makes, room, status, messages, name, bytes) in &FROZEN {
+    for &(name, words, makes, room, status, messages, made) in &FROZEN {
         let around = Around {
             makes,
             room,
             ..USUAL
         };
-        let want = expected_frozen(rt.alloc(), status, messages, (name, bytes));
+        let want = expected_frozen(rt.alloc(), status, messages, made);
         agrees(&rt, name, want, seen_frozen(&rt, words, around));
     }
 }
