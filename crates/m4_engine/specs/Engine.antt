@@ -236,6 +236,12 @@ pub record Steps (result : Result Turned TurnFault) (old new : Engine) (i j : He
   pub limits : OnOk result (new.limits ≡ old.limits)
   pub made : IfOk result IsMade
 
+-- the definitions' move at the place where the machine is, whatever follows the bytes in hand
+abbrev pub StepsBy : Result Turned TurnFault → Engine → Engine → Held → Held → (Expansion → Move Expansion Kept Ended)
+    → Type 0
+StepsBy result old new i j f = Steps result old new i j (λ t. Moves (i.pending).may_follow new j.pending t
+    (λ z more o m. f (here_of o m old (longer z more i.pending))))
+
 -- P of the innermost call, if a list is open
 abbrev pub IfHead : List Call → (Call → Type 0) → Type 0
 IfHead [] P = Unit {0}

@@ -2,7 +2,7 @@
 -- Believed. Manual: "Command line files", "Invoking m4".
 -- Words: SessionState, progress_of, written, session_from, fresh_session, IsOpen, ReloadGives, Completed, FileAsked,
 -- FileRead, FileEnded, FileFell, FileGives, MissingGives, EndGives, FinishGives, FreezeGives, FreezeLeaves, BeginGives,
--- IsBegun, ReadFails, ReloadFails, BeginFails, SparesBy, ByAnswer, WriteFails, MessageWriteFails.
+-- IsBegun, ReadFails, ReloadFails, BeginFails, SparesBy, ByAnswer, WriteFails, ThreeFail, MessageWriteFails.
 -- A session is a run's progress without the bytes that were written; these went to the writers.
 use Rattle.std.specs.Prelude.{◌≡◌, ◌≢◌, ◌≤◌, length, IfSome, ℕ, Bool, true, false, List, [], ◌∷◌, ◌++◌, Option, Some}
 use Rattle.std.specs.Prelude.{None, Result, Ok, Err, ◌⊎◌}
@@ -24,7 +24,7 @@ use Rattle.m4_engine.specs.Expand.{expand_input}
 use Rattle.m4_engine.specs.RunSources.{AllPairs, IsFaultBy, IsUnrefused, HasFailed, is_sound, AnyFailed}
 use Rattle.m4_engine.specs.Start.{Start, From, Faulty, IsStart}
 use Rattle.m4_engine.specs.Writers.{Contents, Failures, Three, NoneFailed, OneFailed, ByCause, Broken, WroteAtLeast}
-use Rattle.m4_engine.specs.Writers.{IsSpared, Spares}
+use Rattle.m4_engine.specs.Writers.{IsSpared, NoneOfThree, OneOfThree, Spares}
 use Rattle.m4_engine.specs.File.{Opened, Unopened, Progress, file, file_pending, after_source, cannot_open}
 use Rattle.m4_engine.specs.Wraps.{read_saved, after_wraps}
 use Rattle.m4_engine.specs.Run.{limits_of, status_of, closed_output, result_of}
@@ -182,6 +182,10 @@ ByAnswer (Err (stops.Ended cause)) none one = ByCause cause none one
 -- a call ends the run by a write fault if a writer failed in it
 abbrev pub WriteFails : {A : Type 0} → Result A Stop → Failures → Type 0
 WriteFails answer f = ByAnswer answer (NoneFailed f) (OneFailed f)
+
+-- the same of three writers
+abbrev pub ThreeFail : {A : Type 0} → Result A Stop → Three ℕ → Three (Option (List ℕ)) → Type 0
+ThreeFail answer f w = ByAnswer answer (NoneOfThree f) (OneOfThree f w)
 
 -- a call ends the run by a read fault if its reader failed in it, once; otherwise it did not fail
 abbrev pub ReadFails : {A : Type 0} → Result A Stop → ℕ → ℕ → Type 0

@@ -1,7 +1,7 @@
 -- Writers: a call's writers before and after it: the bytes of each, and how often it failed.
 -- Believed: each clause on written bytes cites it. Manual: "Invoking m4".
--- Words: Both, writers, both, Three, three, Contents, Failures, NoneFailed, OneFailed, NoneOfThree,
--- IsSpared, OneOfThree, Spares, FailsOnce, ByCause, FailsBy, Broken, HasWritten, WroteAtLeast.
+-- Words: Both, writers, both, Three, three, all_three, Contents, Failures, NoneFailed, OneFailed, NoneOfThree,
+-- IsSpared, OneOfThree, ThreeFailBy, Spares, FailsOnce, ByCause, FailsBy, Broken, HasWritten, WroteAtLeast.
 use Rattle.std.specs.Prelude.{◌≡◌, ℕ, List, ◌++◌, Option, ◌⊎◌, Result, Ok, Err}
 use Rattle.m4_state.specs.Device.{with_bytes, HasBegun, one_more}
 use Rattle.m4_engine.specs.declared.ending.Cause.{Cause}
@@ -73,6 +73,11 @@ three of_frozen two frozen_old frozen_new = record {
   frozen_new = of_frozen frozen_new;
 }
 
+-- the same, computed for each of the three
+abbrev pub all_three : {O M Z A : Type 0} → (O → A) → (M → A) → (Z → A) → O → O → M → M → Z → Z → Three A
+all_three of_out of_messages of_frozen out_old out_new messages_old messages_new frozen_old frozen_new =
+    three of_frozen (both of_out of_messages out_old out_new messages_old messages_new) frozen_old frozen_new
+
 -- none of three writers failed in the call
 abbrev pub NoneOfThree : Three ℕ → Type 0
 NoneOfThree f = NoneFailed f.two × (f.frozen_new ≡ f.frozen_old)
@@ -86,6 +91,10 @@ abbrev pub OneOfThree : Three ℕ → Three (Option (List ℕ)) → Type 0
 OneOfThree f w =
     (OneFailed f.two × IsSpared f × IsSpared w)
     ⊎ (NoneFailed f.two × (f.frozen_new ≡ one_more f.frozen_old))
+
+-- by a cause: one of three writers failed, once, if it is a write fault, and otherwise none did
+abbrev pub ThreeFailBy : Cause → Three ℕ → Three (Option (List ℕ)) → Type 0
+ThreeFailBy cause f w = ByCause cause (NoneOfThree f) (OneOfThree f w)
 
 -- the writer of the frozen text gets bytes only if the run reaches its end, or ends by a write fault
 abbrev pub Spares : Cause → Three (Option (List ℕ)) → Type 0

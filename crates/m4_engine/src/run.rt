@@ -11,12 +11,12 @@ ghost use Rattle.m4_engine.specs.Start.{start_of};
 ghost use Rattle.m4_engine.specs.Wraps.{after_wraps};
 ghost use Rattle.m4_engine.specs.Run.{run as defined, status_of};
 ghost use Rattle.m4_engine.specs.Expansion.{Ends};
-ghost use Rattle.m4_engine.specs.Writers.{both, three, ByCause, NoneOfThree, OneOfThree, Spares};
+ghost use Rattle.m4_engine.specs.Writers.{all_three, both, Spares, ThreeFailBy};
 ghost use Rattle.m4_engine.specs.RunSources.{DescribeSources, DescribesSource, ReadersFailBy, DescribesFrozen};
 ghost use Rattle.m4_engine.specs.RunSources.{FrozenFailsBy, MissedBy, any_unopened, is_unopened, AllConsumeOnly};
 ghost use Rattle.m4_engine.specs.RunSources.{ConsumesOnly};
 ghost use Rattle.m4_engine.specs.Session.{FreezeLeaves, IsOpen, IsLeft, GoesTo, BeginGives, BeginFails, IsBegun};
-ghost use Rattle.m4_engine.specs.Session.{CloseGives, ByAnswer, WriteFails, MessageWriteFails, SourceFails};
+ghost use Rattle.m4_engine.specs.Session.{CloseGives, WriteFails, ThreeFail, MessageWriteFails, SourceFails};
 ghost use Rattle.m4_engine.specs.Session.{SourcesFail, SparesBy, last_state, progress_of, status_at};
 ghost use Rattle.m4_engine.specs.OnePass.{OnePass};
 ghost use Rattle.m4_engine.specs.SourcesRead.{SourceGives, SourcesGive, RunReached};
@@ -51,8 +51,8 @@ pub fn run<R: ByteSource, O: ByteSink, M: ByteSink, Z: ByteSink>(
     ensures gives { (file : Option Script) → DescribesFrozen R.script frozen.old file
         → (ss : List Said) → DescribeSources R.script sources.old sources.new ss →
         RunGives (defined options file ss) result
-        (three Z.contents (both O.contents M.contents out.old out.new messages.old messages.new) freeze_to.old
-        freeze_to.new) }
+        (all_three O.contents M.contents Z.contents
+        out.old out.new messages.old messages.new freeze_to.old freeze_to.new) }
     // whole run: the status of its cause, which is 1 after a source that wasn't opened
     ensures status { (any_missing : Bool) × (result.status ≡ status_of (Ends result.cause) any_missing)
         × (result.cause ≡ Cause.Done → any_missing ≡ any_unopened sources.old) }
@@ -76,13 +76,11 @@ pub fn run<R: ByteSource, O: ByteSink, M: ByteSink, Z: ByteSink>(
     // safe and total: a read fault of a frozen file is reported only if its reader failed in this call
     ensures frozen_read { FrozenFailsBy R.failures result.cause frozen.old frozen.new }
     // safe and total: a write fault is reported only if a writer failed in this call
-    ensures write { ByCause result.cause
-        (NoneOfThree (three Z.failures (both O.failures M.failures out.old out.new messages.old messages.new)
-        freeze_to.old freeze_to.new))
-        (OneOfThree (three Z.failures (both O.failures M.failures out.old out.new messages.old messages.new)
-        freeze_to.old freeze_to.new)
-        (three Z.contents (both O.contents M.contents out.old out.new messages.old messages.new) freeze_to.old
-        freeze_to.new)) }
+    ensures write { ThreeFailBy result.cause
+        (all_three O.failures M.failures Z.failures
+        out.old out.new messages.old messages.new freeze_to.old freeze_to.new)
+        (all_three O.contents M.contents Z.contents
+        out.old out.new messages.old messages.new freeze_to.old freeze_to.new) }
     // whole run: each reader delivered a prefix of its known bytes
     ensures taken { AllConsumeOnly R.script sources.old sources.new }
     // one pass: the sources are read in order, each only as far as the bytes in hand leave the run open; all that
@@ -93,13 +91,13 @@ pub fn run<R: ByteSource, O: ByteSink, M: ByteSink, Z: ByteSink>(
     // faults leave beginnings: if a frozen file is refused, no source is read and nothing is written
     ensures refused { (fault : FrozenFault) → result.cause ≡ Cause.Frozen fault
         → NothingIsDone sources.old sources.new
-        (three Z.contents (both O.contents M.contents out.old out.new messages.old messages.new) freeze_to.old
-        freeze_to.new) }
+        (all_three O.contents M.contents Z.contents
+        out.old out.new messages.old messages.new freeze_to.old freeze_to.new) }
     // whole run: only a run that freezes, and reached its end, uses the writer of the frozen text
     ensures spared { options.freeze ≡ false → freeze_to.new ≡ freeze_to.old }
     ensures spared_by { Spares result.cause
-        (three Z.contents (both O.contents M.contents out.old out.new messages.old messages.new) freeze_to.old
-        freeze_to.new) }
+        (all_three O.contents M.contents Z.contents
+        out.old out.new messages.old messages.new freeze_to.old freeze_to.new) }
 {
     let ran = run_keeping(alloc, options, frozen, sources, out, messages, freeze_to);
     ran.ending
@@ -133,10 +131,10 @@ pub fn run_keeping<R: ByteSource, O: ByteSink, M: ByteSink, Z: ByteSink>(
       file_new = frozen.new;
       sources_old = sources.old;
       sources_new = sources.new;
-      contents = three Z.contents (both O.contents M.contents out.old out.new messages.old messages.new) freeze_to.old
-          freeze_to.new;
-      failures = three Z.failures (both O.failures M.failures out.old out.new messages.old messages.new) freeze_to.old
-          freeze_to.new;
+      contents = all_three O.contents M.contents Z.contents
+          out.old out.new messages.old messages.new freeze_to.old freeze_to.new;
+      failures = all_three O.failures M.failures Z.failures
+          out.old out.new messages.old messages.new freeze_to.old freeze_to.new;
       freeze_old = freeze_to.old;
       freeze_new = freeze_to.new;
     }) result.ending }
@@ -217,8 +215,8 @@ fn read_to_end<R: ByteSource, O: ByteSink, M: ByteSink, Z: ByteSink>(
         RunGives (result_after freezes session.old.limits ss
         (after_sources session.old.limits ss (progress_of session.old)))
         (ending_by (status_at session.new) result)
-        (three Z.contents (both O.contents M.contents out.old out.new messages.old messages.new) freeze_to.old
-        freeze_to.new) }
+        (all_three O.contents M.contents Z.contents
+        out.old out.new messages.old messages.new freeze_to.old freeze_to.new) }
     ensures left { IsLeft session.new result }
     ensures reached { sources.old ≢ [] → RunReached R.script sources.old sources.new session.old
         (both O.contents M.contents out.old out.new messages.old messages.new) result }
@@ -236,16 +234,14 @@ fn read_to_end<R: ByteSource, O: ByteSink, M: ByteSink, Z: ByteSink>(
         (Z.contents freeze_to.old) (Z.contents freeze_to.new) }
     ensures read { SourcesFail R.failures result sources.old sources.new }
     ensures taken { AllConsumeOnly R.script sources.old sources.new }
-    ensures write { ByAnswer result
-        (NoneOfThree (three Z.failures (both O.failures M.failures out.old out.new messages.old messages.new)
-        freeze_to.old freeze_to.new))
-        (OneOfThree (three Z.failures (both O.failures M.failures out.old out.new messages.old messages.new)
-        freeze_to.old freeze_to.new)
-        (three Z.contents (both O.contents M.contents out.old out.new messages.old messages.new) freeze_to.old
-        freeze_to.new)) }
+    ensures write { ThreeFail result
+        (all_three O.failures M.failures Z.failures
+        out.old out.new messages.old messages.new freeze_to.old freeze_to.new)
+        (all_three O.contents M.contents Z.contents
+        out.old out.new messages.old messages.new freeze_to.old freeze_to.new) }
     ensures spared { freezes ≡ false → freeze_to.new ≡ freeze_to.old }
-    ensures spared_by { SparesBy result (three Z.contents
-        (both O.contents M.contents out.old out.new messages.old messages.new) freeze_to.old freeze_to.new) }
+    ensures spared_by { SparesBy result (all_three O.contents M.contents Z.contents
+        out.old out.new messages.old messages.new freeze_to.old freeze_to.new) }
 {
     read_sources(session, sources, out, messages)?;
     let wrapped = session.wrapped();
@@ -262,16 +258,14 @@ fn close<O: ByteSink, M: ByteSink, Z: ByteSink>(
     freeze_to: &mut Z,
 ) -> Result<(), Stop>
     ensures gives { CloseGives freezes session.old session.new
-        (three Z.contents (both O.contents M.contents out.old out.new messages.old messages.new) freeze_to.old
-        freeze_to.new)
+        (all_three O.contents M.contents Z.contents
+        out.old out.new messages.old messages.new freeze_to.old freeze_to.new)
         result }
-    ensures write { ByAnswer result
-        (NoneOfThree (three Z.failures (both O.failures M.failures out.old out.new messages.old messages.new)
-        freeze_to.old freeze_to.new))
-        (OneOfThree (three Z.failures (both O.failures M.failures out.old out.new messages.old messages.new)
-        freeze_to.old freeze_to.new)
-        (three Z.contents (both O.contents M.contents out.old out.new messages.old messages.new) freeze_to.old
-        freeze_to.new)) }
+    ensures write { ThreeFail result
+        (all_three O.failures M.failures Z.failures
+        out.old out.new messages.old messages.new freeze_to.old freeze_to.new)
+        (all_three O.contents M.contents Z.contents
+        out.old out.new messages.old messages.new freeze_to.old freeze_to.new) }
     ensures torn { Z.takes_whole ≡ true → result ≡ Err (Stop.Ended Cause.Write)
         → FreezeLeaves (last_state session.old) (Z.contents freeze_to.old) (Z.contents freeze_to.new) }
     ensures spared { freezes ≡ false → freeze_to.new ≡ freeze_to.old }

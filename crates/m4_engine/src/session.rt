@@ -2,10 +2,10 @@
 //! Manual: "Command line files", "Invoking m4".
 
 ghost use Rattle.std.specs.Prelude.{◌≡◌, true, false, Some, [], IfOk, IfErr, OnOk, Err};
-ghost use Rattle.m4_engine.specs.Writers.{both, three, NoneOfThree, OneOfThree};
+ghost use Rattle.m4_engine.specs.Writers.{all_three, both};
 ghost use Rattle.m4_engine.specs.Session.{SessionState, IsOpen, answer_by, over_after, session_from, fresh_session};
 ghost use Rattle.m4_engine.specs.Session.{ReloadGives, FileGives, MissingGives, FinishGives, FreezeGives, FreezeLeaves};
-ghost use Rattle.m4_engine.specs.Session.{last_state, ReadFails, ReloadFails, ByAnswer, WriteFails, MessageWriteFails};
+ghost use Rattle.m4_engine.specs.Session.{last_state, ReadFails, ReloadFails, WriteFails, ThreeFail, MessageWriteFails};
 ghost use Rattle.m4_engine.specs.Session.{WrapsGive, session_after_wraps, round_of, is_saved, status_at};
 
 use crate::ending::Cause;
@@ -287,20 +287,18 @@ impl Session {
     ) -> Result<(), Stop>
         // session steps: the saved texts, then the frozen text
         ensures gives { FreezeGives self.old self.new
-            (three Z.contents (both O.contents M.contents out.old out.new messages.old messages.new) freeze_to.old
-            freeze_to.new)
+            (all_three O.contents M.contents Z.contents
+            out.old out.new messages.old messages.new freeze_to.old freeze_to.new)
             result }
         // torn files: if each put is taken whole, a write fault leaves nothing of the frozen text, or a torn beginning
         ensures torn { Z.takes_whole ≡ true → result ≡ Err (Stop.Ended Cause.Write)
             → FreezeLeaves (last_state self.old) (Z.contents freeze_to.old) (Z.contents freeze_to.new) }
         // safe and total: a write fault is returned only if a writer failed in this call
-        ensures write { ByAnswer result
-            (NoneOfThree (three Z.failures (both O.failures M.failures out.old out.new messages.old messages.new)
-            freeze_to.old freeze_to.new))
-            (OneOfThree (three Z.failures (both O.failures M.failures out.old out.new messages.old messages.new)
-            freeze_to.old freeze_to.new)
-            (three Z.contents (both O.contents M.contents out.old out.new messages.old messages.new) freeze_to.old
-            freeze_to.new)) }
+        ensures write { ThreeFail result
+            (all_three O.failures M.failures Z.failures
+            out.old out.new messages.old messages.new freeze_to.old freeze_to.new)
+            (all_three O.contents M.contents Z.contents
+            out.old out.new messages.old messages.new freeze_to.old freeze_to.new) }
         ensures any_missing { self.new.any_missing ≡ self.old.any_missing }
     {
         if !self.is_open() {

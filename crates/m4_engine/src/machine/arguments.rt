@@ -2,9 +2,7 @@
 //! Manual: "Macro arguments".
 
 ghost use Rattle.std.specs.Prelude.{◌≡◌, ◌<◌, Some, Ok, OnOk};
-ghost use Rattle.m4_input.specs.Input.{longer};
-ghost use Rattle.m4_engine.specs.Engine.{Moves, IsTaken, Steps, ending_argument, IfHead, mode_of, close_in, step};
-ghost use Rattle.m4_engine.specs.Engine.{here_of, outer_of};
+ghost use Rattle.m4_engine.specs.Engine.{IsTaken, StepsBy, ending_argument, IfHead, mode_of, close_in, step, outer_of};
 ghost use Rattle.m4_engine.specs.Expand.{take_other};
 
 use crate::machine::Machine;
@@ -18,10 +16,8 @@ impl Machine {
     #[inline(always)]
     pub(super) fn take_byte(&mut self, byte: u8, input: &mut Input) -> Result<Turned, TurnFault>
         requires { IsTaken input.old }
-        ensures { Steps result self.old self.new input.old input.new
-            (λ t. Moves input.old.pending.may_follow self.new input.new.pending t
-            (λ z more o m. step (outer_of self.old.open_calls)
-            (take_other (mode_of self.old.open_calls) byte (here_of o m self.old (longer z more input.old.pending))))) }
+        ensures { StepsBy result self.old self.new input.old input.new
+            (λ s. step (outer_of self.old.open_calls) (take_other (mode_of self.old.open_calls) byte s)) }
     {
         let Some(call) = &mut self.innermost else {
             self.put_text(&[byte])?;
@@ -61,10 +57,8 @@ impl Machine {
     fn take_closing(&mut self, input: &mut Input) -> Result<Turned, TurnFault>
         requires list { IfHead self.old.open_calls (λ c. c.parentheses ≡ 0) }
         requires input { IsTaken input.old }
-        ensures { Steps result self.old self.new input.old input.new
-            (λ t. Moves input.old.pending.may_follow self.new input.new.pending t
-            (λ z more o m. step (outer_of self.old.open_calls)
-            (close_in self.old.open_calls (here_of o m self.old (longer z more input.old.pending))))) }
+        ensures { StepsBy result self.old self.new input.old input.new
+            (λ s. step (outer_of self.old.open_calls) (close_in self.old.open_calls s)) }
     {
         self.end_argument()?;
         let Some(call) = self.close() else {

@@ -7,8 +7,8 @@ ghost use Rattle.m4_input.specs.Paren.{paren_at};
 ghost use Rattle.m4_input.specs.declared.front.Answer.TheVariants as answers;
 ghost use Rattle.m4_input.specs.Input.{longer};
 ghost use Rattle.m4_input.specs.Pending.{text_of, consumed};
-ghost use Rattle.m4_engine.specs.Engine.{Moves, IsTaken, IsReady, Makes, Steps, Pushes, Extended, Stays, with_made};
-ghost use Rattle.m4_engine.specs.Engine.{with_one_call, is_deep_in, step, here_of, outer_of, called_within};
+ghost use Rattle.m4_engine.specs.Engine.{Moves, IsTaken, IsReady, Makes, Steps, StepsBy, Pushes, Extended, Stays};
+ghost use Rattle.m4_engine.specs.Engine.{with_made, with_one_call, is_deep_in, step, here_of, outer_of, called_within};
 ghost use Rattle.m4_builtins.specs.Act.{IsPushed, act};
 ghost use Rattle.m4_builtins.specs.Acted.{nothing};
 ghost use Rattle.m4_builtins.specs.Subst.{subst};
@@ -192,10 +192,7 @@ impl Machine {
     #[inline(never)]
     pub(super) fn call(&mut self, call: OpenCall, input: &mut Input) -> Result<Turned, TurnFault>
         requires { IsTaken input.old }
-        ensures { Steps result self.old self.new input.old input.new
-            (λ t. Moves input.old.pending.may_follow self.new input.new.pending t
-            (λ z more o m. called_within self.old.open_calls call
-            (here_of o m self.old (longer z more input.old.pending)))) }
+        ensures { StepsBy result self.old self.new input.old input.new (called_within self.old.open_calls call) }
     {
         self.lend(input);
         self.call_any(call, input)
@@ -205,10 +202,7 @@ impl Machine {
     #[inline(always)]
     fn call_any(&mut self, call: OpenCall, input: &mut Input) -> Result<Turned, TurnFault>
         requires { IsTaken input.old }
-        ensures { Steps result self.old self.new input.old input.new
-            (λ t. Moves input.old.pending.may_follow self.new input.new.pending t
-            (λ z more o m. called_within self.old.open_calls call
-            (here_of o m self.old (longer z more input.old.pending)))) }
+        ensures { StepsBy result self.old self.new input.old input.new (called_within self.old.open_calls call) }
     {
         if let Def::Text(text) = call.definition() {
             let quotes = self.state.quotes();
@@ -225,10 +219,7 @@ impl Machine {
     #[inline(never)]
     fn call_builtin(&mut self, call: OpenCall, input: &mut Input) -> Result<Turned, TurnFault>
         requires { IsTaken input.old }
-        ensures { Steps result self.old self.new input.old input.new
-            (λ t. Moves input.old.pending.may_follow self.new input.new.pending t
-            (λ z more o m. called_within self.old.open_calls call
-            (here_of o m self.old (longer z more input.old.pending)))) }
+        ensures { StepsBy result self.old self.new input.old input.new (called_within self.old.open_calls call) }
     {
         self.effect.clear();
         act_on_call(&mut self.effect, &call, &mut self.state)?;
