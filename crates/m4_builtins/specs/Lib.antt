@@ -20,3 +20,4 @@ pub mod Act
 pub mod Steps
 pub mod Numbers
 pub mod EffectView
+pub mod Warned

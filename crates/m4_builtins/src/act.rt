@@ -22,7 +22,7 @@ use crate::ending::{m4exit, m4wrap};
 use crate::eval::eval;
 use crate::fault::BuiltinFault;
 use crate::indirect::{Step, begin, builtin, indir};
-use crate::messages::{excess_message, too_few_message};
+use crate::messages::{Warning, warning_message};
 use crate::naming::{define, defn, popdef, pushdef, undefine};
 use crate::place::Place;
 use crate::printing::{dumpdef, errprint, file, line};
@@ -105,7 +105,7 @@ fn act_builtin<'a>(
     let Row { least, most, .. } = builtin.row();
     if list.len() < least {
         give_though_few(effect, builtin, list)?;
-        effect.warn(too_few_message(effect.alloc(), place, builtin)?);
+        effect.warn(warning_message(effect.alloc(), place, Warning::TooFew(builtin))?);
         return Ok(Step::Done);
     }
     let step = row(effect, builtin, list, place, state)?;
@@ -114,7 +114,7 @@ fn act_builtin<'a>(
     }
     match step {
         Step::Done => {
-            let warning = excess_message(effect.alloc(), place, builtin)?;
+            let warning = warning_message(effect.alloc(), place, Warning::Excess(builtin))?;
             effect.warn_first(warning)?;
             Ok(Step::Done)
         }

@@ -7,7 +7,7 @@ ghost use Rattle.m4_builtins.specs.Ending as spec;
 
 use crate::args::{Arg, text_of};
 use crate::effect_buffer::EffectBuffer;
-use crate::messages::{bad_status_message, empty_number_message, not_numeric_message};
+use crate::messages::{Warning, warning_message};
 use crate::number::{Reading, reading_of};
 use crate::place::Place;
 use crate::substitute::push_joined;
@@ -57,10 +57,16 @@ fn end_by(effect: &mut EffectBuffer, reading: Reading, place: &Place) -> Result<
                 effect.end_with(code);
                 return Ok(());
             }
-            Err(_) => (1, bad_status_message(alloc, place)?),
+            Err(_) => (1, warning_message(alloc, place, Warning::BadStatus)?),
         },
-        Reading::Empty => (0, empty_number_message(alloc, place, Builtin::M4exit)?),
-        Reading::NotNumeric => (1, not_numeric_message(alloc, place, Builtin::M4exit)?),
+        Reading::Empty => (
+            0,
+            warning_message(alloc, place, Warning::EmptyNumber(Builtin::M4exit))?,
+        ),
+        Reading::NotNumeric => (
+            1,
+            warning_message(alloc, place, Warning::NotNumeric(Builtin::M4exit))?,
+        ),
     };
     effect.end_with(code);
     effect.warn(warning);

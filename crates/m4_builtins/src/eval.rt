@@ -9,9 +9,7 @@ ghost use Rattle.m4_builtins.specs.ReadsAs.{ReadsAs};
 
 use crate::args::{Arg, text_at, text_of};
 use crate::effect_buffer::EffectBuffer;
-use crate::messages::{
-    bad_expression_message, divide_by_zero_message, empty_number_message, out_of_range_message,
-};
+use crate::messages::{Warning, warning_message};
 use crate::number::number_in;
 use crate::place::Place;
 use m4_eval::blank::is_blank;
@@ -81,7 +79,7 @@ fn radix_in(
     };
     let radix = Radix::new(number);
     if radix.is_none() {
-        messages.extend_from_slice(out_of_range_message(alloc, place)?.as_slice())?;
+        messages.extend_from_slice(warning_message(alloc, place, Warning::OutOfRange)?.as_slice())?;
     }
     Ok(radix)
 }
@@ -105,7 +103,11 @@ fn width_in(
     match usize::try_from(number) {
         Ok(width) => Ok(Some(width)),
         Err(_negative) => {
-            messages.extend_from_slice(out_of_range_message(alloc, place)?.as_slice())?;
+            messages.extend_from_slice(warning_message(
+                alloc,
+                place,
+                Warning::OutOfRange,
+            )?.as_slice())?;
             Ok(None)
         }
     }
@@ -123,14 +125,14 @@ fn value_in(
         messages.new.items) }
 {
     if is_blank(text) {
-        let warning = empty_number_message(alloc, place, Builtin::Eval)?;
+        let warning = warning_message(alloc, place, Warning::EmptyNumber(Builtin::Eval))?;
         messages.extend_from_slice(warning.as_slice())?;
         return Ok(Some(0));
     }
     let warning = match evaluate(alloc, text)? {
         Evaluated::Value(value) => return Ok(Some(value)),
-        Evaluated::DivideByZero => divide_by_zero_message(alloc, place)?,
-        Evaluated::BadExpression => bad_expression_message(alloc, place)?,
+        Evaluated::DivideByZero => warning_message(alloc, place, Warning::DivideByZero)?,
+        Evaluated::BadExpression => warning_message(alloc, place, Warning::BadExpression)?,
     };
     messages.extend_from_slice(warning.as_slice())?;
     Ok(None)

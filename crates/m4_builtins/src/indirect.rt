@@ -15,9 +15,7 @@ ghost use Rattle.m4_builtins.specs.Steps.{LeadsTo, IsShorter};
 use crate::args::Arg;
 use crate::effect_buffer::EffectBuffer;
 use crate::fault::BuiltinFault;
-use crate::messages::{
-    bad_name_message, unknown_builtin_message, unknown_macro_message, unsupported_message,
-};
+use crate::messages::{Warning, warning_message};
 use crate::place::Place;
 use m4_state::builtin::Builtin;
 use m4_state::definition::Def;
@@ -57,7 +55,11 @@ pub(crate) fn begin<'a>(
         }
         Def::Builtin(builtin) => Ok(Step::On(*builtin, list)),
         Def::Placeholder(other) => {
-            effect.warn(unsupported_message(effect.alloc(), place, other.as_slice())?);
+            effect.warn(warning_message(
+                effect.alloc(),
+                place,
+                Warning::Unsupported(other.as_slice()),
+            )?);
             Ok(Step::Done)
         }
     }
@@ -80,13 +82,17 @@ pub(crate) fn indir<'a>(
         return Ok(Step::Done);
     };
     let Arg::Text(name) = first else {
-        effect.warn(bad_name_message(effect.alloc(), place, Builtin::Indir)?);
+        effect.warn(warning_message(effect.alloc(), place, Warning::BadName(Builtin::Indir))?);
         return Ok(Step::Done);
     };
     match state.top(name.as_slice()) {
         Some(def) => begin(effect, def, name.as_slice(), rest, place, state),
         None => {
-            effect.warn(unknown_macro_message(effect.alloc(), place, name.as_slice())?);
+            effect.warn(warning_message(
+                effect.alloc(),
+                place,
+                Warning::UnknownMacro(name.as_slice()),
+            )?);
             Ok(Step::Done)
         }
     }
@@ -109,13 +115,21 @@ pub(crate) fn builtin<'a>(
         return Ok(Step::Done);
     };
     let Arg::Text(name) = first else {
-        effect.warn(bad_name_message(effect.alloc(), place, Builtin::IndirBuiltin)?);
+        effect.warn(warning_message(
+            effect.alloc(),
+            place,
+            Warning::BadName(Builtin::IndirBuiltin),
+        )?);
         return Ok(Step::Done);
     };
     match Builtin::by_name(name.as_slice()) {
         Some(builtin) => Ok(Step::On(builtin, rest)),
         None => {
-            effect.warn(unknown_builtin_message(effect.alloc(), place, name.as_slice())?);
+            effect.warn(warning_message(
+                effect.alloc(),
+                place,
+                Warning::UnknownBuiltin(name.as_slice()),
+            )?);
             Ok(Step::Done)
         }
     }

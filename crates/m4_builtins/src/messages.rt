@@ -1,9 +1,8 @@
 //! The messages about a call, one line each. The texts are those of `specs/Messages.antt`.
 
 ghost use Rattle.std.specs.Prelude.{◌≡◌, ◌++◌, IfOk, OnOk, codes};
-ghost use Rattle.m4_builtins.specs.Messages.{place_text, warning, error, too_few, excess, empty_number, not_numeric};
-ghost use Rattle.m4_builtins.specs.Messages.{unknown_macro, unknown_builtin, unsupported, dropped, bad_name};
-ghost use Rattle.m4_builtins.specs.Messages.{bad_status, divide_by_zero, bad_expression, out_of_range};
+ghost use Rattle.m4_builtins.specs.Messages.{place_text, error, warning, dropped};
+ghost use Rattle.m4_builtins.specs.Warned.{warned_of};
 
 use crate::fault::BuiltinFault;
 use crate::place::Place;
@@ -30,198 +29,97 @@ pub fn dropped_message(alloc: Global, place: &Place) -> Result<Bytes, BuiltinFau
     // exact steps: the complete line
     ensures { IfOk result (λ b. b ≡ dropped place.now) }
 {
-    let mut line = head(alloc, place, b": Warning: ")?;
-    line.extend_from_slice(b"builtin dropped from text")?;
-    line.extend_from_slice(b"\n")?;
-    Ok(Bytes::from(line))
+    Ok(warning_message(alloc, place, Warning::Dropped)?)
 }
 
-/// Returns the warning that a builtin was called with too few arguments.
-pub(crate) fn too_few_message(
+/// What a warning is about: a builtin of the table, or a name that the input or a frozen file has.
+#[derive(Clone, Copy)]
+pub(crate) enum Warning<'a> {
+    /// A builtin was called with too few arguments.
+    TooFew(Builtin),
+    /// A builtin was called with more arguments than it reads.
+    Excess(Builtin),
+    /// An empty argument counts as 0.
+    EmptyNumber(Builtin),
+    /// An argument is no number.
+    NotNumeric(Builtin),
+    /// A builtin reads a name, and its argument was a definition.
+    BadName(Builtin),
+    /// There is no macro of this name.
+    UnknownMacro(&'a [u8]),
+    /// There is no builtin of this name.
+    UnknownBuiltin(&'a [u8]),
+    /// A frozen file asked for a builtin that this processor lacks.
+    Unsupported(&'a [u8]),
+    /// A definition in a text was dropped.
+    Dropped,
+    /// An expression divides by zero.
+    DivideByZero,
+    /// A text is no expression.
+    BadExpression,
+    /// An exit status is out of range.
+    BadStatus,
+    /// A radix or a width is out of range.
+    OutOfRange,
+}
+
+/// Returns the line of a warning.
+pub(crate) fn warning_message(
     alloc: Global,
     place: &Place,
-    builtin: Builtin,
+    about: Warning<'_>,
 ) -> Result<Bytes, AllocError>
     // exact steps: the complete line
-    ensures { IfOk result (λ b. b ≡ too_few place.now builtin) }
+    ensures { IfOk result (λ b. b ≡ warned_of place.now about.entry) }
 {
-    warning_on(
-        alloc,
-        place,
-        b"too few arguments to builtin `",
-        builtin.name(),
-        b"'",
-    )
-}
-
-/// Returns the warning that a builtin was called with more arguments than it reads.
-pub(crate) fn excess_message(
-    alloc: Global,
-    place: &Place,
-    builtin: Builtin,
-) -> Result<Bytes, AllocError>
-    // exact steps: the complete line
-    ensures { IfOk result (λ b. b ≡ excess place.now builtin) }
-{
-    warning_on(
-        alloc,
-        place,
-        b"excess arguments to builtin `",
-        builtin.name(),
-        b"' ignored",
-    )
-}
-
-/// Returns the warning that an empty argument counts as 0.
-pub(crate) fn empty_number_message(
-    alloc: Global,
-    place: &Place,
-    builtin: Builtin,
-) -> Result<Bytes, AllocError>
-    // exact steps: the complete line
-    ensures { IfOk result (λ b. b ≡ empty_number place.now builtin) }
-{
-    warning_on(
-        alloc,
-        place,
-        b"empty string treated as 0 in builtin `",
-        builtin.name(),
-        b"'",
-    )
-}
-
-/// Returns the warning that an argument is no number.
-pub(crate) fn not_numeric_message(
-    alloc: Global,
-    place: &Place,
-    builtin: Builtin,
-) -> Result<Bytes, AllocError>
-    // exact steps: the complete line
-    ensures { IfOk result (λ b. b ≡ not_numeric place.now builtin) }
-{
-    warning_on(
-        alloc,
-        place,
-        b"non-numeric argument to builtin `",
-        builtin.name(),
-        b"'",
-    )
-}
-
-/// Returns the warning that there is no macro of this name.
-pub(crate) fn unknown_macro_message(
-    alloc: Global,
-    place: &Place,
-    name: &[u8],
-) -> Result<Bytes, AllocError>
-    // exact steps: the complete line
-    ensures { IfOk result (λ b. b ≡ unknown_macro place.now name.now) }
-{
-    warning_on(alloc, place, b"undefined macro `", name, b"'")
-}
-
-/// Returns the warning that there is no builtin of this name.
-pub(crate) fn unknown_builtin_message(
-    alloc: Global,
-    place: &Place,
-    name: &[u8],
-) -> Result<Bytes, AllocError>
-    // exact steps: the complete line
-    ensures { IfOk result (λ b. b ≡ unknown_builtin place.now name.now) }
-{
-    warning_on(alloc, place, b"undefined builtin `", name, b"'")
-}
-
-/// Returns the warning that a frozen file asked for a builtin that this processor lacks.
-pub(crate) fn unsupported_message(
-    alloc: Global,
-    place: &Place,
-    name: &[u8],
-) -> Result<Bytes, AllocError>
-    // exact steps: the complete line
-    ensures { IfOk result (λ b. b ≡ unsupported place.now name.now) }
-{
-    warning_on(
-        alloc,
-        place,
-        b"builtin `",
-        name,
-        b"' requested by frozen file is not supported",
-    )
-}
-
-/// Returns the warning that a builtin reads a name and its argument was a definition.
-pub(crate) fn bad_name_message(
-    alloc: Global,
-    place: &Place,
-    builtin: Builtin,
-) -> Result<Bytes, AllocError>
-    // exact steps: the complete line
-    ensures { IfOk result (λ b. b ≡ bad_name place.now builtin) }
-{
-    warning_on(
-        alloc,
-        place,
-        b"invalid macro name ignored in builtin `",
-        builtin.name(),
-        b"'",
-    )
-}
-
-/// Returns the warning that an expression divides by zero.
-pub(crate) fn divide_by_zero_message(alloc: Global, place: &Place) -> Result<Bytes, AllocError>
-    // exact steps: the complete line
-    ensures { IfOk result (λ b. b ≡ divide_by_zero place.now) }
-{
-    warning_on(alloc, place, b"divide by zero in eval", b"", b"")
-}
-
-/// Returns the warning that a text is no expression.
-pub(crate) fn bad_expression_message(alloc: Global, place: &Place) -> Result<Bytes, AllocError>
-    // exact steps: the complete line
-    ensures { IfOk result (λ b. b ≡ bad_expression place.now) }
-{
-    warning_on(alloc, place, b"bad expression in eval", b"", b"")
-}
-
-/// Returns the warning that a radix or a width is out of range.
-pub(crate) fn out_of_range_message(alloc: Global, place: &Place) -> Result<Bytes, AllocError>
-    // exact steps: the complete line
-    ensures { IfOk result (λ b. b ≡ out_of_range place.now) }
-{
-    warning_on(
-        alloc,
-        place,
-        b"radix or width out of range in eval",
-        b"",
-        b"",
-    )
-}
-
-/// Returns the warning that an exit status is out of range.
-pub(crate) fn bad_status_message(alloc: Global, place: &Place) -> Result<Bytes, AllocError>
-    // exact steps: the complete line
-    ensures { IfOk result (λ b. b ≡ bad_status place.now) }
-{
-    warning_on(alloc, place, b"exit status out of range", b"", b"")
-}
-
-/// Returns a warning that contains a name, with a text before and after it.
-fn warning_on(
-    alloc: Global,
-    place: &Place,
-    before: &[u8],
-    name: &[u8],
-    after: &[u8],
-) -> Result<Bytes, AllocError>
-    ensures { IfOk result (λ b. b ≡ warning place.now (before.now ++ name.now ++ after.now)) }
-{
+    let (before, name, after) = parts_of(about);
     let mut line = head(alloc, place, b": Warning: ")?;
     line.extend_from_slice(before)?;
     line.extend_from_slice(name)?;
     line.extend_from_slice(after)?;
     line.push(b'\n')?;
     Ok(Bytes::from(line))
+}
+
+/// Returns the text of a warning: a name, with what comes before and after it.
+fn parts_of<'a>(about: Warning<'a>) -> (&'static [u8], &'a [u8], &'static [u8])
+    ensures { (p : Place) → warning p (result.0.now ++ result.1.now ++ result.2.now) ≡ warned_of p about.entry }
+{
+    match about {
+        Warning::TooFew(builtin) => (b"too few arguments to builtin `", builtin.name(), b"'"),
+        Warning::Excess(builtin) => (
+            b"excess arguments to builtin `",
+            builtin.name(),
+            b"' ignored",
+        ),
+        Warning::EmptyNumber(builtin) => (
+            b"empty string treated as 0 in builtin `",
+            builtin.name(),
+            b"'",
+        ),
+        Warning::NotNumeric(builtin) => (
+            b"non-numeric argument to builtin `",
+            builtin.name(),
+            b"'",
+        ),
+        Warning::BadName(builtin) => (
+            b"invalid macro name ignored in builtin `",
+            builtin.name(),
+            b"'",
+        ),
+        Warning::UnknownMacro(name) => (b"undefined macro `", name, b"'"),
+        Warning::UnknownBuiltin(name) => (b"undefined builtin `", name, b"'"),
+        Warning::Unsupported(name) => (
+            b"builtin `",
+            name,
+            b"' requested by frozen file is not supported",
+        ),
+        Warning::Dropped => (b"builtin dropped from text", b"", b""),
+        Warning::DivideByZero => (b"divide by zero in eval", b"", b""),
+        Warning::BadExpression => (b"bad expression in eval", b"", b""),
+        Warning::BadStatus => (b"exit status out of range", b"", b""),
+        Warning::OutOfRange => (b"radix or width out of range in eval", b"", b""),
+    }
 }
 
 /// Returns the start of each message: the program, the place, and the kind of message.

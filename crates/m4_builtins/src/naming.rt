@@ -13,7 +13,7 @@ ghost use Rattle.m4_builtins.specs.Naming as spec;
 use crate::args::{Arg, text_of};
 use crate::effect_buffer::EffectBuffer;
 use crate::fault::BuiltinFault;
-use crate::messages::{bad_name_message, dropped_message};
+use crate::messages::{Warning, dropped_message, warning_message};
 use crate::place::Place;
 use crate::substitute::push_one_quoted;
 use m4_state::builtin::Builtin;
@@ -43,7 +43,7 @@ pub(crate) fn define(
             state.define_borrowed(name.as_slice(), def)?;
         }
         Arg::Definition(_) => {
-            effect.warn(bad_name_message(effect.alloc(), place, Builtin::Define)?);
+            effect.warn(warning_message(effect.alloc(), place, Warning::BadName(Builtin::Define))?);
         }
     }
     Ok(())
@@ -71,7 +71,11 @@ pub(crate) fn pushdef(
             state.push_borrowed(name.as_slice(), def)?;
         }
         Arg::Definition(_) => {
-            effect.warn(bad_name_message(effect.alloc(), place, Builtin::Pushdef)?);
+            effect.warn(warning_message(
+                effect.alloc(),
+                place,
+                Warning::BadName(Builtin::Pushdef),
+            )?);
         }
     }
     Ok(())

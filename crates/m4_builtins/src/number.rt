@@ -4,7 +4,7 @@
 ghost use Rattle.std.specs.Prelude.{◌≡◌, ◌++◌, OnOk, IfOk};
 ghost use Rattle.m4_builtins.specs.Numeric as spec;
 
-use crate::messages::{empty_number_message, not_numeric_message};
+use crate::messages::{Warning, warning_message};
 use crate::place::Place;
 use crate::substitute::{digits_len, number_of};
 use m4_eval::blank::spaces_len;
@@ -51,12 +51,12 @@ pub(crate) fn number_in(
     match reading_of(text) {
         Reading::Number(number) => Ok(Some(number)),
         Reading::Empty => {
-            let warning = empty_number_message(alloc, place, builtin)?;
+            let warning = warning_message(alloc, place, Warning::EmptyNumber(builtin))?;
             messages.extend_from_slice(warning.as_slice())?;
             Ok(Some(0))
         }
         Reading::NotNumeric => {
-            let warning = not_numeric_message(alloc, place, builtin)?;
+            let warning = warning_message(alloc, place, Warning::NotNumeric(builtin))?;
             messages.extend_from_slice(warning.as_slice())?;
             Ok(None)
         }

@@ -10,7 +10,7 @@ ghost use Rattle.m4_builtins.specs.Args.{texts_of};
 use crate::args::{Arg, text_of};
 use crate::effect_buffer::EffectBuffer;
 use crate::fault::BuiltinFault;
-use crate::messages::unknown_macro_message;
+use crate::messages::{Warning, warning_message};
 use crate::place::Place;
 use crate::substitute::{push_joined, push_one_quoted};
 use itoa::Buffer;
@@ -94,7 +94,7 @@ fn push_warning(
     if def.is_some() {
         return Ok(());
     }
-    let warning = unknown_macro_message(alloc, place, name)?;
+    let warning = warning_message(alloc, place, Warning::UnknownMacro(name))?;
     messages.extend_from_slice(warning.as_slice())
 }
 
