@@ -1,6 +1,6 @@
 //! Runs one of whose devices fails, and all that they leave. Manual: "Exiting from m4", "Fast loading of frozen state".
 
-use super::given::{BLOCKS, USUAL, ended, freezing, options};
+use super::given::{BLOCKS, Seen, USUAL, ended, freezing, options};
 use super::report::Report;
 use super::shows::agrees_by;
 use super::sweeps::{ENOUGH, Limits, reader, run_within};
@@ -123,14 +123,15 @@ fn frozen_of(
     Ok(Some(text))
 }
 
-/// Reports a row.
-fn seen_of(
+/// Runs over a file from this frozen text, within a row's limits.
+fn run_from<'x>(
     rt: &(impl Abort + Alloc<A = Global>),
     row: &Failing,
+    text: &'x Option<Vec<u8>>,
+    file: &'x str,
     block: usize,
-) -> Result<Vec<u8>, AllocError> {
-    let text = frozen_of(rt, row.start, block)?;
-    let mut frozen = match &text {
+) -> Seen {
+    let mut frozen = match text {
         Some(text) => Some(reader(text.as_slice(), row.limits.frozen, block)),
         None => None,
     };
@@ -139,9 +140,23 @@ fn seen_of(
     } else {
         options(USUAL)
     };
-    let seen = run_within(rt, options, &mut frozen, row.file, row.limits, block);
-    let written = (seen.output.written(), seen.messages.written());
-    printed(rt.alloc(), written, seen.ending, seen.frozen_text.written())
+    run_within(rt, options, &mut frozen, file, row.limits, block)
+}
+
+/// Reports a row.
+fn seen_of(
+    rt: &(impl Abort + Alloc<A = Global>),
+    row: &Failing,
+    block: usize,
+) -> Result<Vec<u8>, AllocError> {
+    let text = frozen_of(rt, row.start, block)?;
+    let seen = run_from(rt, row, &text, row.file, block);
+    printed(
+        rt.alloc(),
+        (seen.output.written(), seen.messages.written()),
+        seen.ending,
+        seen.frozen_text.written(),
+    )
 }
 
 /// Returns the expected report on a row: no message is written.

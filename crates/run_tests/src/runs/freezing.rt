@@ -1,6 +1,8 @@
 //! Runs that start from a frozen file, and runs that freeze their state.
 
-use super::given::{AT_MOST, BLOCKS, ROOM, Seen, USUAL, ended, files, freezing, options, run_over};
+use super::given::{
+    AT_MOST, BLOCKS, ROOM, Seen, USUAL, ended, files, freezing, options, run_over, taken,
+};
 use super::report::Report;
 use super::shows::agrees_by;
 use m4_engine::ending::{Cause, Ending};
@@ -250,6 +252,31 @@ fn refused_frozen_files_leave_nothing(rt: HostRuntime) {
             let got = seen_from(&rt, row.frozen, row.fails, "x", block);
             let want = expected_of_refused(rt.alloc(), row);
             agrees_by(&rt, row.name, block, want, got);
+        }
+    }
+}
+
+/// Returns how many bytes of its file a run reads that starts from a frozen file.
+fn taken_after(rt: &(impl Abort + Alloc<A = Global>), row: &Refused, block: usize) -> usize {
+    let frozen = MemSource::new(row.frozen.as_bytes(), block.max(1), row.fails);
+    let mut sources = files(rt, &[(b"b.m4", b"x")], block);
+    let _seen = run_over(
+        rt,
+        freezing(USUAL),
+        &mut Some(frozen),
+        &mut sources,
+        ROOM,
+        AT_MOST,
+    );
+    taken(&sources)
+}
+
+#[test]
+fn refused_frozen_files_read_no_source(rt: HostRuntime) {
+    for row in &REFUSED {
+        for block in BLOCKS {
+            let read = taken_after(&rt, row, block);
+            assert_eq!(&rt; read, 0, "{}, read {block} bytes at a time", row.name);
         }
     }
 }

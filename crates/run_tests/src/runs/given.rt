@@ -96,6 +96,14 @@ pub fn files<'a>(
     sources
 }
 
+/// Returns how many bytes the reader of the first source returned.
+pub fn taken(sources: &[Source<MemSource<'_>>]) -> usize {
+    match sources.first() {
+        Some(Source::Opened { reader, .. }) => reader.taken(),
+        _ => 0,
+    }
+}
+
 /// The outputs of a run, and how it ended.
 pub struct Seen {
     pub output: MemSink,

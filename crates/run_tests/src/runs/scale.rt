@@ -1,13 +1,11 @@
 //! Runs over large inputs: long texts, results and delimiters, many arguments, many names.
 
 use super::given::{
-    AT_MOST, ROOM as SMALL, USUAL, ended, files, options, printed_seen, run_file, run_over,
+    AT_MOST, ROOM as SMALL, USUAL, ended, files, options, printed_seen, run_file, run_over, taken,
 };
 use super::report::{Report, printed_run};
 use super::shows::agrees;
 use m4_engine::ending::Cause;
-use m4_engine::source::Source;
-use m4_state::memory::MemSource;
 use std::alloc::{AllocError, Global};
 use std::process::Abort;
 
@@ -148,14 +146,6 @@ fn calls_within_calls(rt: HostRuntime) {
 // Returns a file that ends the run before 1,000,000 bytes.
 fn early_exit(alloc: Global) -> Result<Vec<u8>, AllocError> {
     made(alloc, ("m4exit\n", "x", 1_000_000, ""))
-}
-
-// Returns how many bytes the reader of the first source returned.
-fn taken(sources: &[Source<MemSource<'_>>]) -> usize {
-    match sources.first() {
-        Some(Source::Opened { reader, .. }) => reader.taken(),
-        _ => 0,
-    }
 }
 
 // How many bytes a reader returns at a time, and how many it returned in all: the newline after the name, which is
