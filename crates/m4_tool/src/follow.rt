@@ -58,7 +58,7 @@ pub fn follow<W: World, O: Shows, M: Shows>(
         → mode_of line.now ≡ None → W.appends_whole ≡ true → Knows W.making W.files W.input world files input
         → MayGive (request_of line.now) files input r
         → FreezesOrTears (freeze_name (request_of line.now)) r.frozen (W.files world) (W.files result.world) }
-    // line in a world: a mode on the file of its name
+    // line in a world: a mode is followed on the file of its name
     ensures mode { IfSome (mode_of line.now) (λ found. (files : Files)
         → KnowsFiles W.making W.files world files
         → ModeFollows found.0 found.1 (files found.1) result.status

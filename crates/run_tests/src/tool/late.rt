@@ -76,21 +76,33 @@ fn has_text(rt: &(impl Files + Alloc), text: &str) -> bool {
     }
 }
 
+// Makes a late file and drops it, with no byte written.
+fn drop_late<R: Files + Alloc<A = Global> + Abort>(rt: &R) {
+    let _dropped = late_of(rt);
+}
+
+// Writes these bytes to a late file. Returns whether they were written and flushed.
+fn are_written<W: World>(late: LateFile<W, Brand>, bytes: &[u8]) -> bool {
+    let mut late = late;
+    let written = write_all(&mut late, bytes).is_ok();
+    let finished = late.into_world().finish().is_ok();
+    written && finished
+}
+
+// Writes these bytes to a late file of the process, and returns the same.
+fn write_late<R: Files + Alloc<A = Global> + Abort>(rt: &R, bytes: &[u8]) -> bool {
+    are_written(late_of(rt), bytes)
+}
+
 #[test]
 fn old_file_stays_until_a_byte_is_written(rt: HostRuntime) {
     let written = fs::write(&rt, PATH, "old").is_ok();
     assert!(rt; written, "the file of the test can't be written");
-    drop(late_of(&rt));
-    let unwritten = has_text(&rt, "old");
-    let mut late = late_of(&rt);
-    let put = write_all(&mut late, b"new").is_ok();
-    let finished = late.into_world().finish().is_ok();
-    let rewritten = has_text(&rt, "new");
+    drop_late(&rt);
+    let unchanged = has_text(&rt, "old");
+    let rewritten = write_late(&rt, b"new") && has_text(&rt, "new");
     let removed = fs::remove_file(&rt, PATH).is_ok();
-    assert!(rt; unwritten, "a late file with no byte changed the old one");
-    assert!(rt;
-        put && finished && rewritten,
-        "the bytes of a late file are not in it"
-    );
+    assert!(rt; unchanged, "a late file with no byte changed the old one");
+    assert!(rt; rewritten, "the bytes of a late file are not in it");
     assert!(rt; removed, "the file of the test can't be removed");
 }
