@@ -5,7 +5,6 @@ use Rattle.m4_state.specs.State.{State, top_of}
 use Rattle.m4_state.specs.declared.delimiters.Delimiters.{Delimiters}
 use Rattle.m4_input.specs.declared.token.Token.{Token}
 use Rattle.m4_input.specs.declared.token.Token.TheVariants.{Name, Str, Comment, Byte}
-use Rattle.m4_input.specs.declared.front.Scan.{Scan}
 use Rattle.m4_input.specs.declared.front.Scan.TheVariants.{Found, NeedsMore}
 use Rattle.m4_input.specs.declared.front.Answer.TheVariants.{Unknown}
 use Rattle.m4_input.specs.Token.{scan}
@@ -13,8 +12,8 @@ use Rattle.m4_input.specs.Paren.{paren_in}
 use Rattle.m4_input.specs.Input.{answer_of}
 use Rattle.m4_input.proofs.OpenEnd.{scan_stays, scan_fits, paren_in_stays}
 use Rattle.m4_engine.specs.Expansion.{Call}
-use Rattle.m4_engine.specs.Plain.{IsPlain, ArePlain, total, IsPlainRun}
-use Rattle.m4_engine.specs.Lookahead.{IsMeaning, IsNamed, IsAhead, IsLookaheadOf, place_in}
+use Rattle.m4_engine.specs.Plain.{IsPlain, ArePlain, IsPlainRun}
+use Rattle.m4_engine.specs.Lookahead.{IsMeaning, IsAhead, IsLookaheadOf, place_in}
 use Rattle.m4_engine.specs.declared.lookahead.Lookahead.{Lookahead}
 use Rattle.m4_engine.specs.declared.lookahead.Lookahead.TheVariants as aheads
 use Rattle.m4_builtins.specs.declared.place.Place.{Place}

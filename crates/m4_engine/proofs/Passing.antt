@@ -1,5 +1,5 @@
 -- Passing: tokens that are text are put where they go at once as turns would put them there.
-use Rattle.std.specs.Prelude.{Result, Ok, Err, OnOk, if◌then◌else◌}
+use Rattle.std.specs.Prelude.{if◌then◌else◌}
 use Rattle.std.specs.Cmp.{int_cmp_total, tied_itself}
 use Rattle.std.specs.Ordering.{int_cmp}
 use Rattle.std.specs.FinMap.{put}
@@ -11,12 +11,11 @@ use Rattle.m4_state.specs.declared.definition.Def.{Def}
 use Rattle.m4_input.specs.declared.token.Token.TheVariants.{Name, Str, Comment, Byte}
 use Rattle.m4_input.specs.Pending.{Pending, text_of, counted, consumed, newlines_in}
 use Rattle.m4_engine.specs.Plain.{IsPlain, total, ArePlain, IsPlainRun}
-use Rattle.m4_engine.specs.Collected.{IsText, IsListToken, AreListTokens, bytes_in, IsListRun}
+use Rattle.m4_engine.specs.Collected.{IsText, IsListToken, AreListTokens, bytes_in}
 use Rattle.m4_input.specs.Input.{Held, longer}
 use Rattle.m4_input.proofs.Consumed.{consumed_twice}
 use Rattle.m4_input.proofs.Parts.{drop_parts, counted_none}
 use Rattle.m4_engine.specs.declared.lookahead.Lookahead.{Lookahead}
-use Rattle.m4_engine.specs.declared.turned.TurnFault.{TurnFault}
 use Rattle.m4_engine.specs.declared.turned.Turned.TheVariants as turns
 use Rattle.m4_engine.specs.Nesting.{Turn, GoOn}
 use Rattle.m4_engine.specs.OpenCalls.{take_turn, Goes}

@@ -1,4 +1,4 @@
-use Rattle.std.proofs.Common.{rules, arith}
+use Rattle.std.proofs.Common.{rules}
 use Rattle.m4_engine.proofs.PlainRuns.{plain_word, plain_byte, plain_comment}
 use Rattle.m4_engine.proofs.front.plain_run.Goals as goal
 

@@ -1,4 +1,4 @@
-use Rattle.std.proofs.Common.{◌≡◌, ◌++◌, [], List, ℕ, ap, ◌∙◌, subst, rules}
+use Rattle.std.proofs.Common.{◌≡◌, List, ℕ, subst, rules}
 use Rattle.std.specs.Prelude.{IfOk}
 use Rattle.m4_state.specs.declared.definition.Def.TheVariants.{Text}
 use Rattle.m4_input.specs.DelimsView.{pair_of}

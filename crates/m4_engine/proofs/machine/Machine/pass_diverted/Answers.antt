@@ -1,12 +1,10 @@
-use Rattle.std.proofs.Common.{◌≡◌, Bool, List, ℕ, ◌∷◌, inr, Option, take, drop, length, refl, sym, ap, ◌∙◌, subst, rules}
-use Rattle.std.specs.Prelude.{reverse}
+use Rattle.std.proofs.Common.{◌≡◌, List, ℕ, take, drop, refl, sym, ap, ◌∙◌, subst, rules}
 use Rattle.m4_state.specs.State.{State, appended}
-use Rattle.m4_engine.specs.Expansion.{Call}
 use Rattle.m4_engine.specs.Engine.{Engine, PassesBy}
 use Rattle.m4_engine.specs.Plain.{IsFirst}
-use Rattle.m4_engine.specs.MachineView.{innermost_first, engine_view}
+use Rattle.m4_engine.specs.MachineView.{engine_view}
 use Rattle.m4_engine.proofs.Seen.{ahead_by}
-use Rattle.m4_engine.proofs.Passing.{text_output, text_diverted}
+use Rattle.m4_engine.proofs.Passing.{text_diverted}
 use Rattle.m4_engine.proofs.machine.Machine.pass_diverted.Goals as goal
 
 pub returns : goal.returns

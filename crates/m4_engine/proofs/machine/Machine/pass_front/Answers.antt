@@ -1,7 +1,5 @@
-use Rattle.std.proofs.Common.{◌≡◌, Bool, List, ℕ, sym, subst, rules}
+use Rattle.std.proofs.Common.{Bool, sym, subst, rules}
 use Rattle.m4_input.specs.Blocks.{IsInFront}
-use Rattle.m4_engine.specs.Engine.{Engine, PassesFront}
-use Rattle.m4_engine.specs.MachineView.{engine_view}
 use Rattle.m4_engine.proofs.Passing.{front_passed}
 use Rattle.m4_engine.proofs.machine.Machine.pass_front.Goals as goal
 

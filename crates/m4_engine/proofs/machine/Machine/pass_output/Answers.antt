@@ -1,12 +1,9 @@
-use Rattle.std.proofs.Common.{◌≡◌, Bool, List, ℕ, ◌∷◌, inr, Option, take, drop, length, refl, sym, ap, ◌∙◌, subst, rules}
-use Rattle.std.specs.Prelude.{reverse}
-use Rattle.m4_state.specs.State.{State, appended}
-use Rattle.m4_engine.specs.Expansion.{Call}
+use Rattle.std.proofs.Common.{List, ℕ, drop, refl, sym, ◌∙◌, subst, rules}
 use Rattle.m4_engine.specs.Engine.{Engine, PassesBy}
 use Rattle.m4_engine.specs.Plain.{IsFirst}
-use Rattle.m4_engine.specs.MachineView.{innermost_first, engine_view}
+use Rattle.m4_engine.specs.MachineView.{engine_view}
 use Rattle.m4_engine.proofs.Seen.{ahead_by}
-use Rattle.m4_engine.proofs.Passing.{text_output, text_diverted}
+use Rattle.m4_engine.proofs.Passing.{text_output}
 use Rattle.m4_engine.proofs.machine.Machine.pass_output.Goals as goal
 
 pub returns : goal.returns

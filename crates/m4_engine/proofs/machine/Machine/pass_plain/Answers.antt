@@ -1,4 +1,4 @@
-use Rattle.std.proofs.Common.{refl, ◌∙◌, sym, rules}
+use Rattle.std.proofs.Common.{refl}
 use Rattle.m4_engine.proofs.Passing.{passed_front, ahead_is}
 use Rattle.m4_engine.proofs.machine.Machine.pass_plain.Goals.{in-Open+in_ok-lookahead-2, in_default}
 use Rattle.m4_engine.proofs.machine.Machine.pass_plain.Goals as goal

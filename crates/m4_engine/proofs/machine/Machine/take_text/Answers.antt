@@ -1,6 +1,4 @@
-use Rattle.std.proofs.Common.{List, ℕ, Some, subst, rules}
-use Rattle.m4_input.specs.declared.pushed.Pushed.TheVariants as pushes
-use Rattle.m4_engine.specs.Engine.{Pushes}
+use Rattle.std.proofs.Common.{rules}
 use Rattle.m4_engine.proofs.Bare.{text_goes}
 use Rattle.m4_engine.proofs.machine.Machine.take_text.Goals as goal
 
