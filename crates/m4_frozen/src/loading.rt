@@ -388,7 +388,8 @@ impl Loading {
                 let len = both.len() - *middle;
                 let from = block.len() - (after + 1 + len);
                 let text = block.part(alloc, from, len)?;
-                self.state.push_borrowed(both.split_at(*middle).0, Def::Text(text))
+                self.state
+                    .push_borrowed(both.split_at(*middle).0, Def::Text(text))
             }
             Directive::Text(both, middle) => self.state.push_text(both, *middle),
             Directive::Builtin(name, builtin) => {

@@ -46,7 +46,10 @@ static NUMBERS: [Row; 8] = [
 
 // Texts that are no numbers, each with its name.
 static NO_NUMBERS: [(&str, Step); 11] = [
-    ("one above the greatest", Step::Call("incr", &["2147483648"])),
+    (
+        "one above the greatest",
+        Step::Call("incr", &["2147483648"]),
+    ),
     ("one below the least", Step::Call("incr", &["-2147483649"])),
     (
         "30 digits",

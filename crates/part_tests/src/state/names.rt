@@ -169,22 +169,12 @@ fn list_definitions(state: &State, report: &mut Report) {
 }
 
 // Pushes a definition on those of a name.
-fn push(
-    alloc: Global,
-    state: &mut State,
-    name: &[u8],
-    given: Given,
-) -> Result<(), StateFault> {
+fn push(alloc: Global, state: &mut State, name: &[u8], given: Given) -> Result<(), StateFault> {
     state.push(Bytes::from_slice(alloc, name)?, made(alloc, given)?)
 }
 
 // Sets the top definition of a name.
-fn define(
-    alloc: Global,
-    state: &mut State,
-    name: &[u8],
-    given: Given,
-) -> Result<(), StateFault> {
+fn define(alloc: Global, state: &mut State, name: &[u8], given: Given) -> Result<(), StateFault> {
     state.define(Bytes::from_slice(alloc, name)?, made(alloc, given)?)
 }
 
