@@ -18,6 +18,8 @@ mod given;
 #[cfg(test)]
 mod input;
 #[cfg(test)]
+mod refused;
+#[cfg(test)]
 mod report;
 #[cfg(test)]
 mod shows;

@@ -9,6 +9,7 @@ mod freezing;
 pub mod given;
 mod limits;
 mod prefixed;
+mod refused;
 pub mod report;
 mod rows;
 mod scale;

@@ -6,6 +6,7 @@ mod following;
 mod late;
 mod lines;
 mod modes;
+mod refused;
 mod shows;
 mod texts;
 mod worlds;

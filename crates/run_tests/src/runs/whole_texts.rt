@@ -9,26 +9,34 @@ use m4_engine::options::Options;
 use std::alloc::{AllocError, Global};
 use std::process::Abort;
 
-const BEGIN: &str = "# m4 frozen state\nV1\n";
+/// The first two lines of a frozen text.
+pub const BEGIN: &str = "# m4 frozen state\nV1\n";
 
-const END: &str = "# End of frozen state file\n";
+/// Its last line.
+pub const END: &str = "# End of frozen state file\n";
 
-const UNDERSCORES: &str =
+/// The directives of the fresh state, in the order of their names, in parts: those that begin with an underscore.
+pub const UNDERSCORES: &str =
     "F8,8\n__file____file__\nT7,0\n__gnu__\nF8,8\n__line____line__\nT8,0\n__unix__\n";
 
-const BUILTIN: &str = "F7,7\nbuiltinbuiltin\n";
+/// The one of `builtin`.
+pub const BUILTIN: &str = "F7,7\nbuiltinbuiltin\n";
 
-const CHANGES: &str = "F9,9\nchangecomchangecom\nF11,11\nchangequotechangequote\n";
+/// Those of the delimiters.
+pub const CHANGES: &str = "F9,9\nchangecomchangecom\nF11,11\nchangequotechangequote\n";
 
-const DECR_TO_PUSHDEF: &str =
+/// Those from `decr` to `pushdef`.
+pub const DECR_TO_PUSHDEF: &str =
     "F4,4\ndecrdecr\nF6,6\ndefinedefine\nF4,4\ndefndefn\nF6,6\ndivertdivert\nF6,6\ndivnumdivnum\n\
     F3,3\ndnldnl\nF7,7\ndumpdefdumpdef\nF8,8\nerrprinterrprint\nF4,4\nevaleval\nF5,5\nifdefifdef\n\
     F6,6\nifelseifelse\nF4,4\nincrincr\nF5,5\nindexindex\nF5,5\nindirindir\nF3,3\nlenlen\n\
     F6,6\nm4exitm4exit\nF6,6\nm4wrapm4wrap\nF6,6\npopdefpopdef\nF7,7\npushdefpushdef\n";
 
-const SHIFT: &str = "F5,5\nshiftshift\n";
+/// The one of `shift`.
+pub const SHIFT: &str = "F5,5\nshiftshift\n";
 
-const SUBSTR_ON: &str =
+/// Those from `substr` on.
+pub const SUBSTR_ON: &str =
     "F6,6\nsubstrsubstr\nF8,8\ntranslittranslit\nF8,8\nundefineundefine\nF8,8\nundivertundivert\n";
 
 /// The directives of the fresh state if its builtins have prefixes.
