@@ -13,7 +13,7 @@ use m4_state::transfer::{write_all, write_pieces};
 
 /// Why a mode did not do its work.
 #[derive(Clone, Copy)]
-pub enum ModeFault {
+pub(crate) enum ModeFault {
     /// The file is refused, or could not be read.
     Frozen(FrozenFault),
     /// Loading the file would issue text, which canonical text cannot contain.
@@ -51,7 +51,7 @@ impl ModeFault {
     ghost use Rattle.m4_tool.specs.ModeFault.{status_of_fault};
 
     /// Returns the exit status: 63 for a newer format, otherwise 1.
-    pub fn status(self) -> u8
+    pub(crate) fn status(self) -> u8
         ensures { result ≡ status_of_fault self }
     {
         match self {
@@ -61,7 +61,11 @@ impl ModeFault {
     }
 
     /// Writes the line that reports the fault of this file.
-    pub fn report<M: ByteSink>(self, file: &[u8], messages: &mut M) -> Result<(), DeviceFault>
+    pub(crate) fn report<M: ByteSink>(
+        self,
+        file: &[u8],
+        messages: &mut M,
+    ) -> Result<(), DeviceFault>
         ensures puts { Puts result (M.contents messages.old) (M.contents messages.new) (line_of file.now self) }
         ensures counted { M.failures messages.new ≡ count_after result (M.failures messages.old) }
     {

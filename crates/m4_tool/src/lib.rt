@@ -6,7 +6,7 @@
 #![tactic(auto)]
 
 mod endings;
-pub mod fault;
+mod fault;
 pub mod follow;
 pub mod followed;
 pub mod given;

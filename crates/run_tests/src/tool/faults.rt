@@ -1,75 +1,108 @@
-//! The line for each fault of a mode. It has the number and the name that the kind displays.
+//! The line for each fault of a frozen file. It has the number and the name that the kind displays.
 
 use crate::runs::given::sink;
 use crate::runs::report::Report;
 use crate::runs::shows::shows;
-use m4_frozen::fault::{FrozenFault, FrozenKind};
-use m4_tool::fault::ModeFault;
+use m4_frozen::fault::FrozenKind;
+use m4_state::memory::MemSource;
+use m4_tool::modes::canon;
 use std::alloc::{AllocError, Global};
 use std::process::Abort;
 
-// A kind of fault at byte 12 of the file F, and its line. The kinds are in docs/FROZEN_FILE.md.
-static KINDS: [(FrozenKind, &str); 11] = [
-    (FrozenKind::NoVersion, "m4: F: F1 NoVersion at byte 12\n"),
-    (FrozenKind::Newer, "m4: F: F2 Newer at byte 12\n"),
+// A kind, a file F with that fault, whether its reader fails at the end, and the line. The files are those of
+// docs/FROZEN_FILE.md.
+static KINDS: [(FrozenKind, &[u8], bool, &str); 10] = [
+    (
+        FrozenKind::NoVersion,
+        b"",
+        false,
+        "m4: F: F1 NoVersion at byte 0\n",
+    ),
+    (
+        FrozenKind::Newer,
+        b"V2x",
+        false,
+        "m4: F: F2 Newer at byte 1\n",
+    ),
     (
         FrozenKind::VersionZero,
-        "m4: F: F3 VersionZero at byte 12\n",
+        b"V0",
+        false,
+        "m4: F: F3 VersionZero at byte 1\n",
     ),
     (
         FrozenKind::SecondVersion,
-        "m4: F: F4 SecondVersion at byte 12\n",
+        b"V1\nV1\n",
+        false,
+        "m4: F: F4 SecondVersion at byte 3\n",
     ),
     (
         FrozenKind::UnknownDirective,
-        "m4: F: F5 UnknownDirective at byte 12\n",
+        b"V1\nX",
+        false,
+        "m4: F: F5 UnknownDirective at byte 3\n",
     ),
     (
         FrozenKind::DigitExpected,
-        "m4: F: F6 DigitExpected at byte 12\n",
+        b"V1\nT-1,0\n\n",
+        false,
+        "m4: F: F6 DigitExpected at byte 4\n",
     ),
     (
         FrozenKind::NumberTooLarge,
-        "m4: F: F7 NumberTooLarge at byte 12\n",
+        b"V1\nT1,18446744073709551616\na",
+        false,
+        "m4: F: F7 NumberTooLarge at byte 6\n",
     ),
     (
         FrozenKind::SeparatorExpected,
-        "m4: F: F8 SeparatorExpected at byte 12\n",
+        b"V1 \n",
+        false,
+        "m4: F: F8 SeparatorExpected at byte 2\n",
     ),
     (
         FrozenKind::PrematureEnd,
-        "m4: F: F9 PrematureEnd at byte 12\n",
+        b"V1",
+        false,
+        "m4: F: F9 PrematureEnd at byte 2\n",
     ),
-    (FrozenKind::Read, "m4: F: F10 Read\n"),
-    (FrozenKind::OutOfMemory, "m4: F: F11 OutOfMemory\n"),
+    (FrozenKind::Read, b"V1\nT1", true, "m4: F: F10 Read\n"),
 ];
 
-// Returns the line for a kind, and a mark before it if it was not written.
-fn line_of(rt: &(impl Abort + Alloc<A = Global>), kind: FrozenKind) -> Result<Vec<u8>, AllocError> {
+// Returns the line for a file, and a mark before it if there was output.
+fn line_of(
+    rt: &(impl Abort + Alloc<A = Global>),
+    file: &[u8],
+    fails: bool,
+) -> Result<Vec<u8>, AllocError> {
     let mut report = Report::new(rt.alloc());
+    let mut output = sink(rt, 100, 100);
     let mut line = sink(rt, 100, 100);
-    let fault = ModeFault::Frozen(FrozenFault { kind, offset: 12 });
-    if fault.report(b"F", &mut line).is_err() {
-        report.add(b"not written: ");
+    let mut reader = MemSource::new(file, 4096, fails);
+    let _status = canon(rt.alloc(), b"F", &mut reader, &mut output, &mut line);
+    if !output.written().is_empty() {
+        report.add(b"output: ");
     }
     report.add(line.written());
     report.text()
 }
 
-// Compares the line for a kind with its row, and finds in it the text that the kind displays.
-fn check_kind(rt: &(impl Abort + Alloc<A = Global>), kind: FrozenKind, want: &str) {
+// Finds in a line the text that a kind displays.
+fn check_kind(rt: &(impl Abort + Alloc<A = Global>), kind: FrozenKind, line: &str) {
     match format!(in rt.alloc(); "{kind}") {
         Ok(shown) => {
-            shows(rt, shown.as_str(), want.as_bytes(), line_of(rt, kind));
-            assert!(rt; want.contains(shown.as_str()), "{want} lacks {shown}");
+            assert!(rt; line.contains(shown.as_str()), "{line} lacks {shown}");
         }
-        Err(AllocError) => panic!(rt; "{want}: out of memory"),
+        Err(AllocError) => panic!(rt; "{line}: out of memory"),
     }
 }
 
 #[test]
 fn kinds_have_their_line(rt: HostRuntime) {
-    for &(kind, want) in &KINDS {
+    for &(kind, file, fails, want) in &KINDS {
+        shows(&rt, want, want.as_bytes(), line_of(&rt, file, fails));
         check_kind(&rt, kind, want);
     }
+    // The line for want of memory is compared where memory is refused.
+    check_kind(&rt, FrozenKind::OutOfMemory, "m4: F: F11 OutOfMemory\n");
 }
