@@ -73,8 +73,8 @@ impl<'a, R: RuntimeFiles + Alloc<A = Global>> LateFile<StdFiles<'a, R>, Brand> {
 }
 
 impl<W: World, K: LateStart> LateFile<W, K> {
-    /// Returns a sink over the file of this name in a world, which is not created yet. `K` is where it starts: a generic
-    /// caller hands it on, and the caller of that one picks it by `Brand`.
+    /// Returns a sink over the file of this name in a world, which is not created yet. `K` is where it starts: a
+    /// generic caller hands it on, and the caller of that one picks it by `Brand`.
     pub fn over(world: W, name: Bytes) -> LateFile<W, K>
         requires before { W.files world ≡ K.before }
         requires name { ForSome K.before (λ _. name ≡ K.name) }

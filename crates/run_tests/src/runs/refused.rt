@@ -232,7 +232,8 @@ fn is_whole(row: &Row, left: &Left) -> bool {
         && are_joined(left.frozen_text.written(), row.frozen_text)
 }
 
-/// Returns whether a row's run may end by this cause if memory is refused: while a frozen file is read, that is its fault.
+/// Returns whether a row's run may end by this cause if memory is refused: while a frozen file is read, that is the
+/// file's fault.
 fn wants_memory(row: &Row, cause: Cause) -> bool {
     match cause {
         Cause::OutOfMemory => true,

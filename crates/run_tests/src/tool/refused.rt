@@ -1,7 +1,7 @@
 //! The modes, where a request for memory is refused: nothing is written, and one line says why.
 //!
-//! The devices are made first; where that is refused, the mode is passed over. `tests/refused_growths` refuses each request
-//! in turn.
+//! The devices are made first; where that is refused, the mode is passed over. `tests/refused_growths` refuses each
+//! request in turn.
 
 use m4_state::memory::{MemSink, MemSource};
 use m4_tool::modes::{Mode, canon, inspect};
