@@ -10,7 +10,6 @@ pub mod EvalRows
 pub mod ReadsOn
 pub mod EvalReads
 pub mod FirstPlace
-pub mod HeldNumbers
 pub mod Joins
 pub mod NumbersFit
 pub mod Replaced

@@ -3,8 +3,8 @@
 use Rattle.std.specs.Prelude.{◌≡◌, ℕ, ℤ, pos, Bool, true, List, [], ◌∷◌, ◌++◌, length, map, codes, decimal, Option}
 use Rattle.std.specs.Prelude.{Result, Ok, Err, ◌⊎◌}
 use Rattle.std.specs.Fmt.{signed_decimal}
-use Rattle.std.specs.List.{flat_map, filter}
-use Rattle.std.specs.Prelude.{if◌then◌else◌, int_lt}
+use Rattle.std.specs.List.{flat_map}
+use Rattle.std.specs.Prelude.{if◌then◌else◌}
 use Rattle.std.specs.Ordering.{int_eq}
 use Rattle.m4_state.specs.declared.definition.Def.{Def}
 use Rattle.m4_state.specs.declared.delimiters.Delimiters.{Delimiters}
@@ -46,11 +46,7 @@ stack_directives name stack = map (definition name) stack
 abbrev pub names_directives : Pairs → List Directive
 names_directives pairs = flat_map (λ p. stack_directives p.0 p.1) pairs
 
--- the diversions above a number
-abbrev pub above : ℤ → List NumberedText → List NumberedText
-above number diversions = filter (λ d. int_lt number d.0) diversions
-
--- their directives
+-- the directives of diversions
 abbrev pub texts_directives : List NumberedText → List Directive
 texts_directives diversions = map diversion diversions
 

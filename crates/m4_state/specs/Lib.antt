@@ -8,10 +8,10 @@ pub mod Entries
 pub mod Fresh
 pub mod State
 pub mod NameHash
-pub mod NameView
 pub mod StackView
 pub mod StateView
 pub mod Table
 pub mod Memory
 pub mod Standard
 pub mod BytesView
+pub mod NumbersAbove

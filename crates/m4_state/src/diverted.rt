@@ -31,10 +31,12 @@ pub fn append_in(
     ensures err { OnErr result (texts_of texts.new.entries ≡ texts_of texts.old.entries) }
     ensures sized { OnOk result (length (text_at (texts_of texts.old.entries) number ++ text.now) < 2 ^ 64) }
 {
+    // For the proof alone: a length has 64 bits.
     let _len = text.len();
     match texts.get_mut(&number) {
         Some(held) => {
             held.extend_from_slice(text)?;
+            // For the proof alone: a length has 64 bits.
             let _held = held.len();
         }
         None => {
@@ -157,6 +159,7 @@ fn place_in(
     texts.insert(to, place)?;
     match take_in(texts, from) {
         Some(text) => {
+            // For the proof alone: a length has 64 bits.
             let _len = text.len();
             texts.insert(to, text)?;
         }

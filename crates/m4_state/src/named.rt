@@ -8,7 +8,7 @@ ghost use Rattle.m4_state.specs.ByteWords.{word, filled, AreBytes};
 ghost use Rattle.m4_state.specs.Table.{byte_order};
 
 use crate::definition::Def;
-use crate::name::Name;
+use crate::bytes::Bytes;
 use crate::stack::Stack;
 use std::cmp::Ordering;
 use std::marker::Model;
@@ -21,7 +21,7 @@ const RANKED: usize = 16;
 pub struct Named<'a> {
     first: u64,
     second: u64,
-    name: &'a Name,
+    name: &'a Bytes,
     stack: &'a Stack,
 }
 
@@ -38,7 +38,7 @@ impl<'a> Model for Named<'a> {
 
 impl<'a> Named<'a> {
     /// Takes a name and its definitions.
-    pub(crate) fn new(name: &'a Name, stack: &'a Stack) -> Named<'a>
+    pub(crate) fn new(name: &'a Bytes, stack: &'a Stack) -> Named<'a>
         ensures { result ≡ (name.now, stack.now) }
     {
         let bytes = filled(name.as_slice());
@@ -55,6 +55,13 @@ impl<'a> Named<'a> {
         ensures { result.now ≡ self.now.0 }
     {
         self.name.as_slice()
+    }
+
+    /// Returns the name, as the table has it.
+    pub(crate) fn key(&self) -> &'a Bytes
+        ensures { result.now ≡ self.now.0 }
+    {
+        self.name
     }
 
     /// Returns the definitions, the oldest first.

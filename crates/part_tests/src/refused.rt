@@ -141,6 +141,55 @@ fn appended(alloc: Global) -> Outcome {
     Some(judged(refused, none, state.diversion(1) == FIRST))
 }
 
+// Undiverts text where it is output.
+fn issued(alloc: Global) -> Outcome {
+    let mut state = State::empty(alloc).ok()?;
+    state.divert(1);
+    state.append(FIRST).ok()?;
+    state.divert(0);
+    let answer = state.undivert(1);
+    let refused = answer.is_err();
+    let before = state.diversion(1) == FIRST;
+    let after = match answer {
+        Ok(Some(text)) => state.diversion(1).is_empty() && text.as_slice() == FIRST,
+        _ => false,
+    };
+    Some(judged(refused, before, after))
+}
+
+// Sets quotes that are too long to be held in place, or comment delimiters.
+fn delimited(alloc: Global, quotes: bool) -> Outcome {
+    let mut state = State::empty(alloc).ok()?;
+    let begin = Bytes::from_slice(alloc, FIRST).ok()?;
+    let end = Bytes::from_slice(alloc, SECOND).ok()?;
+    let given: (&[u8], &[u8]) = (FIRST, SECOND);
+    if quotes {
+        let refused = state.set_quotes(begin, end).is_err();
+        let before = state.quotes() == (b"`", b"'");
+        return Some(judged(refused, before, state.quotes() == given));
+    }
+    let refused = state.set_comments(begin, end).is_err();
+    let before = state.comments() == (b"#", b"\n");
+    Some(judged(refused, before, state.comments() == given))
+}
+
+// Lists the names. A refusal changes no state, and leaves no list.
+fn named(alloc: Global) -> Outcome {
+    let mut state = State::empty(alloc).ok()?;
+    let name = Bytes::from_slice(alloc, NAME).ok()?;
+    let text = Def::Text(Bytes::from_slice(alloc, FIRST).ok()?);
+    state.define(name, text).ok()?;
+    let names = state.names();
+    let stays = has_one(&state, FIRST);
+    match names {
+        Ok(found) => match found.as_slice() {
+            [only] => Some(judged(false, false, stays && only.as_slice() == NAME)),
+            _ => Some(Left::Wrong),
+        },
+        Err(_) => Some(judged(true, stays, false)),
+    }
+}
+
 #[test]
 fn states_stay(rt: HostRuntime) {
     let alloc = rt.alloc();
@@ -150,7 +199,11 @@ fn states_stay(rt: HostRuntime) {
             ("define", defined(alloc)),
             ("push", pushed(alloc)),
             ("undivert", moved(alloc)),
+            ("undivert to the output", issued(alloc)),
             ("append", appended(alloc)),
+            ("set_quotes", delimited(alloc, true)),
+            ("set_comments", delimited(alloc, false)),
+            ("names", named(alloc)),
         ],
     );
 }
@@ -231,6 +284,20 @@ fn put_in_front(alloc: Global) -> Outcome {
     Some(judged(refused, refused && found, !refused && found))
 }
 
+// Returns whether each call that can fail returns want of memory.
+fn has_stopped(input: &mut Input, reader: &mut MemSource<'_>) -> bool {
+    matches!(input.next(reader, &DELIMS), Err(InputFault::OutOfMemory))
+        && matches!(
+            input.sees_paren(reader, &DELIMS),
+            Err(InputFault::OutOfMemory)
+        )
+        && matches!(input.skip_line(reader), Err(InputFault::OutOfMemory))
+        && matches!(
+            input.push_front(Pushed::Text(Bytes::empty())),
+            Err(InputFault::OutOfMemory)
+        )
+}
+
 // Takes a long name. If that is refused, each later call is.
 fn taken(alloc: Global) -> Outcome {
     let mut input = Input::file(alloc, Bytes::from_slice(alloc, b"a.m4").ok()?);
@@ -238,11 +305,41 @@ fn taken(alloc: Global) -> Outcome {
     match input.next(&mut reader, &DELIMS) {
         Ok(Token::Name(found)) => Some(judged(false, false, found.as_slice() == NAME)),
         Err(InputFault::OutOfMemory) => {
-            let again = input.next(&mut reader, &DELIMS);
-            let lasts = matches!(again, Err(InputFault::OutOfMemory));
+            let lasts = has_stopped(&mut input, &mut reader);
             Some(judged(true, lasts, false))
         }
         _ => Some(Left::Wrong),
+    }
+}
+
+// Skips a line, for which a block is read. If that is refused, each later call is.
+fn skipped(alloc: Global) -> Outcome {
+    let mut input = Input::file(alloc, Bytes::from_slice(alloc, b"a.m4").ok()?);
+    let mut reader = MemSource::new(b"line\n(", 4096, false);
+    match input.skip_line(&mut reader) {
+        Ok(()) => {
+            let listed = input.sees_paren(&mut reader, &DELIMS);
+            Some(judged(false, false, matches!(listed, Ok(true))))
+        }
+        Err(InputFault::OutOfMemory) => {
+            let lasts = has_stopped(&mut input, &mut reader);
+            Some(judged(true, lasts, false))
+        }
+        Err(_) => Some(Left::Wrong),
+    }
+}
+
+// Looks for a list, for which a block is read. If that is refused, each later call is.
+fn seen(alloc: Global) -> Outcome {
+    let mut input = Input::file(alloc, Bytes::from_slice(alloc, b"a.m4").ok()?);
+    let mut reader = MemSource::new(b"(", 4096, false);
+    match input.sees_paren(&mut reader, &DELIMS) {
+        Ok(listed) => Some(judged(false, false, listed)),
+        Err(InputFault::OutOfMemory) => {
+            let lasts = has_stopped(&mut input, &mut reader);
+            Some(judged(true, lasts, false))
+        }
+        Err(_) => Some(Left::Wrong),
     }
 }
 
@@ -251,7 +348,12 @@ fn inputs_stay_or_stop(rt: HostRuntime) {
     let alloc = rt.alloc();
     count(
         &rt,
-        &[("push_front", put_in_front(alloc)), ("next", taken(alloc))],
+        &[
+            ("push_front", put_in_front(alloc)),
+            ("next", taken(alloc)),
+            ("skip_line", skipped(alloc)),
+            ("sees_paren", seen(alloc)),
+        ],
     );
 }
 

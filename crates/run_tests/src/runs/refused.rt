@@ -1,13 +1,14 @@
 //! Runs in which a request for memory is refused.
 //!
-//! The devices and the name of a row are made first; where that is refused, the row is passed over. Its run then leaves
-//! what it leaves with ample memory, or breaks off: with status 1, beginnings of its output and messages, and no frozen
-//! text. Comparing needs no memory. `tests/refused_growths` refuses each request in turn, and reads how many rows broke
-//! off. Manual: "Fast loading of frozen state".
+//! The devices and the name of a run are made first; where that is refused, the run is passed over. It then leaves what
+//! it leaves with ample memory, or breaks off: with status 1, beginnings of its output and messages, and no frozen text.
+//! A run that freezes is followed by one that starts from what it froze. Comparing needs no memory.
+//! `tests/refused_growths` refuses each request in turn, and reads how many runs broke off. Manual: "Fast loading of frozen
+//! state".
 
-use super::given::{AT_MOST, ROOM, USUAL, freezing, options};
+use super::given::{AT_MOST, ROOM, USUAL, freezing, options, taken};
 use super::whole_texts::{
-    BEGIN, BUILTIN, CHANGES, DECR_TO_PUSHDEF, END, SHIFT, SUBSTR_ON, UNDERSCORES,
+    BEGIN, BUILTIN, CHANGES, DECR_TO_EVAL, END, IFDEF_TO_PUSHDEF, SHIFT, SUBSTR_ON, UNDERSCORES,
 };
 use m4_engine::ending::{Cause, Ending};
 use m4_engine::run::run;
@@ -18,146 +19,180 @@ use m4_state::memory::{MemSink, MemSource};
 use std::alloc::Global;
 use std::process::Abort;
 
-/// A run from a frozen file, or from the fresh state, and what it leaves. It freezes if it has a frozen text.
-struct Row {
-    name: &'static str,
-    start: Option<&'static str>,
+/// A run over one file, and what it leaves. It freezes its state if it has a frozen text.
+struct Part {
     file: &'static str,
     output: &'static str,
     messages: &'static str,
     frozen_text: &'static [&'static str],
 }
 
-/// A run from the fresh state that leaves nothing.
-const NOTHING: Row = Row {
-    name: "",
-    start: None,
+/// A run that leaves nothing.
+const NOTHING: Part = Part {
     file: "",
     output: "",
     messages: "",
     frozen_text: &[],
 };
 
-static FREEZING: [Row; 6] = [
-    Row {
-        name: "a greeting is frozen",
-        start: Some("V1\nF6,6\ndefinedefine\nF3,3\ndnldnl\n"),
-        file: "define(`hi',`Hello $1.')dnl\n",
-        frozen_text: &[
-            BEGIN,
-            "F6,6\ndefinedefine\nF3,3\ndnldnl\nT2,9\nhiHello $1.\n",
-            END,
-        ],
-        ..NOTHING
-    },
-    Row {
-        name: "a stack is frozen",
-        file: "define(`x',`1')pushdef(`x',`2')dnl\n",
-        frozen_text: &[
-            BEGIN,
-            UNDERSCORES,
-            BUILTIN,
-            CHANGES,
-            DECR_TO_PUSHDEF,
-            SHIFT,
-            SUBSTR_ON,
-            "T1,1\nx1\nT1,1\nx2\n",
-            END,
-        ],
-        ..NOTHING
-    },
-    Row {
-        name: "a builtin is frozen under another name",
-        file: "define(`cut',defn(`shift'))undefine(`shift')dnl\n",
-        frozen_text: &[
-            BEGIN,
-            UNDERSCORES,
-            BUILTIN,
-            CHANGES,
-            "F3,5\ncutshift\n",
-            DECR_TO_PUSHDEF,
-            SUBSTR_ON,
-            END,
-        ],
-        ..NOTHING
-    },
-    Row {
-        name: "diversions are frozen",
-        file: "divert(2)two\ndivert(1)one\ndivert(2)dnl\n",
-        frozen_text: &[
-            BEGIN,
-            UNDERSCORES,
-            BUILTIN,
-            CHANGES,
-            DECR_TO_PUSHDEF,
-            SHIFT,
-            SUBSTR_ON,
-            "D1,4\none\n\nD2,4\ntwo\n\n",
-            END,
-        ],
-        ..NOTHING
-    },
-    Row {
-        name: "a placeholder is frozen again",
-        start: Some("V1\nF6,6\nregexpregexp\n"),
-        file: "regexp(`a',`b')!\n",
-        output: "!\n",
-        messages: "m4:a.m4:1: Warning: builtin `regexp' requested by frozen file is not supported\n",
-        frozen_text: &[BEGIN, "F6,6\nregexpregexp\n", END],
-    },
-    Row {
-        name: "a state is frozen again",
-        start: Some("V1\nF6,6\ndefinedefine\nT1,1\nab\n"),
-        file: "a define(`c',`d$1')a\n",
-        output: "b b\n",
-        frozen_text: &[BEGIN, "T1,1\nab\nT1,3\ncd$1\nF6,6\ndefinedefine\n", END],
-        ..NOTHING
-    },
-];
+/// A run from a frozen file, or from the fresh state, and one from the text that the first froze.
+struct Row {
+    name: &'static str,
+    start: Option<&'static str>,
+    first: Part,
+    second: Option<Part>,
+}
 
-static WRITING: [Row; 6] = [
+static SPLITS: [Row; 4] = [
     Row {
         name: "a greeting",
-        start: Some("V1\nT2,9\nhiHello $1.\n"),
-        file: "hi(`you')\n",
-        output: "Hello you.\n",
-        ..NOTHING
+        start: None,
+        first: Part {
+            file: "define(`hi',`Hello $1.')dnl\n",
+            frozen_text: &[
+                BEGIN,
+                UNDERSCORES,
+                BUILTIN,
+                CHANGES,
+                DECR_TO_EVAL,
+                "T2,9\nhiHello $1.\n",
+                IFDEF_TO_PUSHDEF,
+                SHIFT,
+                SUBSTR_ON,
+                END,
+            ],
+            ..NOTHING
+        },
+        second: Some(Part {
+            file: "hi(`you')\n",
+            output: "Hello you.\n",
+            ..NOTHING
+        }),
     },
     Row {
         name: "a stack",
-        start: Some("V1\nF6,6\npopdefpopdef\nT1,1\nx1\nT1,1\nx2\n"),
-        file: "x popdef(`x')x popdef(`x')x\n",
-        output: "2 1 x\n",
-        ..NOTHING
+        start: None,
+        first: Part {
+            file: "define(`x',`1')pushdef(`x',`2')dnl\n",
+            frozen_text: &[
+                BEGIN,
+                UNDERSCORES,
+                BUILTIN,
+                CHANGES,
+                DECR_TO_EVAL,
+                IFDEF_TO_PUSHDEF,
+                SHIFT,
+                SUBSTR_ON,
+                "T1,1\nx1\nT1,1\nx2\n",
+                END,
+            ],
+            ..NOTHING
+        },
+        second: Some(Part {
+            file: "x popdef(`x')x popdef(`x')x\n",
+            output: "2 1 x\n",
+            ..NOTHING
+        }),
     },
     Row {
         name: "a builtin under another name",
-        start: Some("V1\nF3,5\ncutshift\n"),
-        file: "cut(1,2,3) shift(1)\n",
-        output: "2,3 shift(1)\n",
-        ..NOTHING
+        start: None,
+        first: Part {
+            file: "define(`cut',defn(`shift'))undefine(`shift')dnl\n",
+            frozen_text: &[
+                BEGIN,
+                UNDERSCORES,
+                BUILTIN,
+                CHANGES,
+                "F3,5\ncutshift\n",
+                DECR_TO_EVAL,
+                IFDEF_TO_PUSHDEF,
+                SUBSTR_ON,
+                END,
+            ],
+            ..NOTHING
+        },
+        second: Some(Part {
+            file: "cut(1,2,3) shift(1)\n",
+            output: "2,3 shift(1)\n",
+            ..NOTHING
+        }),
     },
     Row {
         name: "diversions",
-        start: Some("V1\nD1,4\none\n\nD2,4\ntwo\n\n"),
-        file: "more\n",
-        output: "one\ntwo\nmore\n",
-        ..NOTHING
+        start: None,
+        first: Part {
+            file: "divert(2)two\ndivert(1)one\ndivert(2)dnl\n",
+            frozen_text: &[
+                BEGIN,
+                UNDERSCORES,
+                BUILTIN,
+                CHANGES,
+                DECR_TO_EVAL,
+                IFDEF_TO_PUSHDEF,
+                SHIFT,
+                SUBSTR_ON,
+                "D1,4\none\n\nD2,4\ntwo\n\n",
+                END,
+            ],
+            ..NOTHING
+        },
+        second: Some(Part {
+            file: "more\n",
+            output: "one\ntwo\nmore\n",
+            ..NOTHING
+        }),
+    },
+];
+
+static RUNS: [Row; 4] = [
+    Row {
+        name: "a placeholder",
+        start: Some("V1\nF6,6\nregexpregexp\n"),
+        first: Part {
+            file: "regexp(`a',`b')!\n",
+            output: "!\n",
+            messages: "m4:a.m4:1: Warning: builtin `regexp' requested by frozen file is not supported\n",
+            frozen_text: &[BEGIN, "F6,6\nregexpregexp\n", END],
+        },
+        second: None,
+    },
+    Row {
+        name: "a state that is frozen again",
+        start: Some("V1\nF6,6\ndefinedefine\nT1,1\nab\n"),
+        first: Part {
+            file: "a define(`c',`d$1')a\n",
+            output: "b b\n",
+            frozen_text: &[BEGIN, "T1,1\nab\nT1,3\ncd$1\nF6,6\ndefinedefine\n", END],
+            ..NOTHING
+        },
+        second: None,
     },
     Row {
         name: "definitions that are shown",
-        file: "define(`b',`2')define(`a',`1')dumpdef(`b',`a',`dnl',`z')\n",
-        output: "\n",
-        messages: "m4:a.m4:1: Warning: undefined macro `z'\na:\t`1'\nb:\t`2'\ndnl:\t<dnl>\n",
-        ..NOTHING
+        start: None,
+        first: Part {
+            file: "define(`b',`2')define(`a',`1')dumpdef(`b',`a',`dnl',`z')\n",
+            output: "\n",
+            messages: "m4:a.m4:1: Warning: undefined macro `z'\na:\t`1'\nb:\t`2'\ndnl:\t<dnl>\n",
+            ..NOTHING
+        },
+        second: None,
     },
     Row {
         name: "dollars",
-        file: "define(`g',`[$#|$*|$2$11|$x]')g(a,`b',)\n",
-        output: "[3|a,b,|b|$x]\n",
-        ..NOTHING
+        start: None,
+        first: Part {
+            file: "define(`g',`[$#|$*|$2$11|$x]')g(a,`b',)\n",
+            output: "[3|a,b,|b|$x]\n",
+            ..NOTHING
+        },
+        second: None,
     },
 ];
+
+/// How many bytes a reader returns at a time, so that a refusal may come before a frozen file is read to its end.
+const BLOCK: usize = 16;
 
 /// The writers of a run, and how it ended.
 struct Left {
@@ -165,6 +200,10 @@ struct Left {
     messages: MemSink,
     frozen_text: MemSink,
     ending: Ending,
+    /// Whether the frozen file that it started from was read to its end.
+    is_loaded: bool,
+    /// How many bytes of its file it read.
+    taken: usize,
 }
 
 // Written out, so that a caller's proof sees one call and not the drop of each field.
@@ -175,21 +214,22 @@ impl Drop for Left {
             messages: _messages,
             frozen_text: _frozen_text,
             ending: _ending,
+            is_loaded: _is_loaded,
+            taken: _taken,
         } = self;
     }
 }
 
-/// Runs over a row's file; none if its devices could not be made.
-fn left_by(alloc: Global, row: &Row) -> Option<Left> {
+/// Makes a run; none if its devices could not be made.
+fn left_by(alloc: Global, start: Option<&[u8]>, part: &Part) -> Option<Left> {
     let name = Bytes::from_slice(alloc, b"a.m4").ok()?;
     let mut output = MemSink::new(alloc, ROOM.0, AT_MOST).ok()?;
     let mut messages = MemSink::new(alloc, ROOM.1, AT_MOST).ok()?;
     let mut frozen_text = MemSink::new(alloc, ROOM.0, AT_MOST).ok()?;
-    let reader = MemSource::new(row.file.as_bytes(), 4096, false);
-    let mut start = row
-        .start
-        .map(|text| MemSource::new(text.as_bytes(), 4096, false));
-    let options = if row.frozen_text.is_empty() {
+    let reader = MemSource::new(part.file.as_bytes(), BLOCK, false);
+    let mut sources = [Source::Opened { name, reader }];
+    let mut frozen = start.map(|text| MemSource::new(text, BLOCK, false));
+    let options = if part.frozen_text.is_empty() {
         options(USUAL)
     } else {
         freezing(USUAL)
@@ -197,21 +237,27 @@ fn left_by(alloc: Global, row: &Row) -> Option<Left> {
     let ending = run(
         alloc,
         options,
-        &mut start,
-        &mut [Source::Opened { name, reader }],
+        &mut frozen,
+        &mut sources,
         &mut output,
         &mut messages,
         &mut frozen_text,
     );
+    let is_loaded = match (start, &frozen) {
+        (Some(text), Some(reader)) => reader.taken() == text.len(),
+        _ => true,
+    };
     Some(Left {
         output,
         messages,
         frozen_text,
         ending,
+        is_loaded,
+        taken: taken(&sources),
     })
 }
 
-/// Returns whether these bytes are the pieces, one after the other.
+/// Returns whether bytes are the pieces, one after the other.
 fn are_joined(bytes: &[u8], pieces: &[&str]) -> bool {
     let mut rest = bytes;
     for piece in pieces {
@@ -223,58 +269,87 @@ fn are_joined(bytes: &[u8], pieces: &[&str]) -> bool {
     rest.is_empty()
 }
 
-/// Returns whether a run left all of its row.
-fn is_whole(row: &Row, left: &Left) -> bool {
+/// Returns whether a run left all of its part.
+fn is_whole(part: &Part, left: &Left) -> bool {
     left.ending.status == 0
         && left.ending.cause == Cause::Done
-        && left.output.written() == row.output.as_bytes()
-        && left.messages.written() == row.messages.as_bytes()
-        && are_joined(left.frozen_text.written(), row.frozen_text)
+        && !left.ending.wrapped
+        && left.output.written() == part.output.as_bytes()
+        && left.messages.written() == part.messages.as_bytes()
+        && are_joined(left.frozen_text.written(), part.frozen_text)
 }
 
-/// Returns whether a row's run may end by this cause if memory is refused: while a frozen file is read, that is the
-/// file's fault.
-fn wants_memory(row: &Row, cause: Cause) -> bool {
-    match cause {
-        Cause::OutOfMemory => true,
-        Cause::Frozen(fault) => row.start.is_some() && fault.kind == FrozenKind::OutOfMemory,
+/// Returns whether a run read and wrote nothing.
+fn did_not_begin(left: &Left) -> bool {
+    left.taken == 0 && left.output.written().is_empty() && left.messages.written().is_empty()
+}
+
+/// Returns whether a run ended by want of memory. Before it has its frozen file, that is the fault of the file.
+fn wanted_memory(is_reloading: bool, left: &Left) -> bool {
+    match left.ending.cause {
+        Cause::OutOfMemory => left.is_loaded,
+        Cause::Frozen(fault) => {
+            is_reloading
+                && fault.kind == FrozenKind::OutOfMemory
+                && fault.offset == 0
+                && did_not_begin(left)
+        }
         _ => false,
     }
 }
 
 /// Returns whether a run broke off by want of memory.
-fn broke_off(row: &Row, left: &Left) -> bool {
+fn broke_off(part: &Part, is_reloading: bool, left: &Left) -> bool {
     left.ending.status == 1
-        && wants_memory(row, left.ending.cause)
-        && row.output.as_bytes().starts_with(left.output.written())
-        && row.messages.as_bytes().starts_with(left.messages.written())
+        && wanted_memory(is_reloading, left)
+        && part.output.as_bytes().starts_with(left.output.written())
+        && part
+            .messages
+            .as_bytes()
+            .starts_with(left.messages.written())
         && left.frozen_text.written().is_empty()
 }
 
-/// Runs each row, and prints how many broke off.
+/// Makes a run of a row. Returns what it left, if that is all of its part; counts it if it broke off.
+fn followed(
+    rt: &(impl Abort + Alloc<A = Global>),
+    name: &str,
+    start: Option<&[u8]>,
+    part: &Part,
+    broken: &mut u32,
+) -> Option<Left> {
+    let left = left_by(rt.alloc(), start, part)?;
+    if is_whole(part, &left) {
+        return Some(left);
+    }
+    assert!(rt;
+        broke_off(part, start.is_some(), &left),
+        "{name}: neither its result nor what it leaves where it breaks off"
+    );
+    *broken = broken.saturating_add(1);
+    None
+}
+
+/// Makes the runs of each row, and prints how many broke off.
 fn count(rt: &(impl Abort + Alloc<A = Global> + Print), rows: &[Row]) {
     let mut broken = 0u32;
     for row in rows {
-        if let Some(left) = left_by(rt.alloc(), row) {
-            if !is_whole(row, &left) {
-                assert!(rt;
-                    broke_off(row, &left),
-                    "{} is not as it is and did not break off",
-                    row.name
-                );
-                broken = broken.saturating_add(1);
-            }
+        let start = row.start.map(|text| text.as_bytes());
+        let first = followed(rt, row.name, start, &row.first, &mut broken);
+        if let (Some(left), Some(second)) = (first, &row.second) {
+            let start = Some(left.frozen_text.written());
+            let _second = followed(rt, row.name, start, second, &mut broken);
         }
     }
     let _printed = println!(rt; "{broken} broke off");
 }
 
 #[test]
-fn runs_that_freeze(rt: HostRuntime) {
-    count(&rt, &FREEZING);
+fn runs_that_are_split(rt: HostRuntime) {
+    count(&rt, &SPLITS);
 }
 
 #[test]
-fn runs_that_write(rt: HostRuntime) {
-    count(&rt, &WRITING);
+fn single_runs(rt: HostRuntime) {
+    count(&rt, &RUNS);
 }

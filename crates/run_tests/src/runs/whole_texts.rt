@@ -25,12 +25,15 @@ pub const BUILTIN: &str = "F7,7\nbuiltinbuiltin\n";
 /// Those of the delimiters.
 pub const CHANGES: &str = "F9,9\nchangecomchangecom\nF11,11\nchangequotechangequote\n";
 
-/// Those from `decr` to `pushdef`.
-pub const DECR_TO_PUSHDEF: &str =
+/// Those from `decr` to `eval`.
+pub const DECR_TO_EVAL: &str =
     "F4,4\ndecrdecr\nF6,6\ndefinedefine\nF4,4\ndefndefn\nF6,6\ndivertdivert\nF6,6\ndivnumdivnum\n\
-    F3,3\ndnldnl\nF7,7\ndumpdefdumpdef\nF8,8\nerrprinterrprint\nF4,4\nevaleval\nF5,5\nifdefifdef\n\
-    F6,6\nifelseifelse\nF4,4\nincrincr\nF5,5\nindexindex\nF5,5\nindirindir\nF3,3\nlenlen\n\
-    F6,6\nm4exitm4exit\nF6,6\nm4wrapm4wrap\nF6,6\npopdefpopdef\nF7,7\npushdefpushdef\n";
+    F3,3\ndnldnl\nF7,7\ndumpdefdumpdef\nF8,8\nerrprinterrprint\nF4,4\nevaleval\n";
+
+/// Those from `ifdef` to `pushdef`.
+pub const IFDEF_TO_PUSHDEF: &str =
+    "F5,5\nifdefifdef\nF6,6\nifelseifelse\nF4,4\nincrincr\nF5,5\nindexindex\nF5,5\nindirindir\n\
+    F3,3\nlenlen\nF6,6\nm4exitm4exit\nF6,6\nm4wrapm4wrap\nF6,6\npopdefpopdef\nF7,7\npushdefpushdef\n";
 
 /// The one of `shift`.
 pub const SHIFT: &str = "F5,5\nshiftshift\n";
@@ -75,7 +78,8 @@ const FRESH: Frozen = Frozen {
         UNDERSCORES,
         BUILTIN,
         CHANGES,
-        DECR_TO_PUSHDEF,
+        DECR_TO_EVAL,
+        IFDEF_TO_PUSHDEF,
         SHIFT,
         SUBSTR_ON,
         END,
@@ -101,7 +105,8 @@ static NAMES: [Frozen; 5] = [
             UNDERSCORES,
             BUILTIN,
             CHANGES,
-            DECR_TO_PUSHDEF,
+            DECR_TO_EVAL,
+            IFDEF_TO_PUSHDEF,
             SHIFT,
             SUBSTR_ON,
             "T1,1\nx1\nT1,1\nx2\n",
@@ -119,7 +124,8 @@ static NAMES: [Frozen; 5] = [
             BUILTIN,
             CHANGES,
             "F3,5\ncutshift\n",
-            DECR_TO_PUSHDEF,
+            DECR_TO_EVAL,
+            IFDEF_TO_PUSHDEF,
             SUBSTR_ON,
             END,
         ],
@@ -135,7 +141,8 @@ static NAMES: [Frozen; 5] = [
             BUILTIN,
             "T1,1\nc3\n",
             CHANGES,
-            DECR_TO_PUSHDEF,
+            DECR_TO_EVAL,
+            IFDEF_TO_PUSHDEF,
             SHIFT,
             SUBSTR_ON,
             END,
@@ -154,7 +161,8 @@ static SETTINGS: [Frozen; 5] = [
             UNDERSCORES,
             BUILTIN,
             CHANGES,
-            DECR_TO_PUSHDEF,
+            DECR_TO_EVAL,
+            IFDEF_TO_PUSHDEF,
             SHIFT,
             SUBSTR_ON,
             END,
@@ -169,7 +177,8 @@ static SETTINGS: [Frozen; 5] = [
             UNDERSCORES,
             BUILTIN,
             CHANGES,
-            DECR_TO_PUSHDEF,
+            DECR_TO_EVAL,
+            IFDEF_TO_PUSHDEF,
             SHIFT,
             SUBSTR_ON,
             "D1,4\none\n\nD2,4\ntwo\n\n",
@@ -185,7 +194,8 @@ static SETTINGS: [Frozen; 5] = [
             UNDERSCORES,
             BUILTIN,
             CHANGES,
-            DECR_TO_PUSHDEF,
+            DECR_TO_EVAL,
+            IFDEF_TO_PUSHDEF,
             SHIFT,
             SUBSTR_ON,
             "D-1,0\n\n",
@@ -201,7 +211,8 @@ static SETTINGS: [Frozen; 5] = [
             UNDERSCORES,
             BUILTIN,
             CHANGES,
-            DECR_TO_PUSHDEF,
+            DECR_TO_EVAL,
+            IFDEF_TO_PUSHDEF,
             SHIFT,
             SUBSTR_ON,
             "D3,0\n\n",

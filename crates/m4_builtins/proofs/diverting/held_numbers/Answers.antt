@@ -3,7 +3,8 @@ use Rattle.std.specs.Int.{w32}
 use Rattle.std.proofs.lemmas.Int.{to_z-of_z}
 use mir.Val.{to_z}
 use Rattle.m4_state.specs.State.{Diversion}
-use Rattle.m4_builtins.proofs.HeldNumbers.{above, numbers_above, above-next, above-last, above-all, next_fits}
+use Rattle.m4_state.specs.NumbersAbove.{above, numbers_above}
+use Rattle.m4_state.proofs.NumbersAbove.{above-next, above-last, above-all, next_fits}
 use Rattle.m4_builtins.proofs.diverting.held_numbers.Goals as goal
 
 -- all diversions lie above 0

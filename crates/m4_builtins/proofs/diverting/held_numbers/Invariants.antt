@@ -1,7 +1,7 @@
 use Rattle.std.proofs.Common.{◌≡◌, ◌++◌, length}
 use Rattle.m4_state.specs.State.{AreDiversions}
 use Rattle.m4_builtins.specs.Diverting.{held_numbers}
-use Rattle.m4_builtins.proofs.HeldNumbers.{above, numbers_above}
+use Rattle.m4_state.specs.NumbersAbove.{above, numbers_above}
 use Rattle.m4_builtins.proofs.diverting.held_numbers.Given as goal
 
 -- of a state that is valid, the numbers so far and those above the last one are all

@@ -2,7 +2,7 @@ use Rattle.std.proofs.Common.{◌≡◌, length}
 use Rattle.m4_state.specs.Device.{HasPut}
 use Rattle.m4_state.specs.State.{AreDiversions}
 use Rattle.m4_frozen.specs.InspectorSteps.{texts_lines}
-use Rattle.m4_frozen.specs.WriterSteps.{above}
+use Rattle.m4_state.specs.NumbersAbove.{above}
 use Rattle.m4_frozen.proofs.inspector.put_texts.Given as goal
 
 -- of a state that is valid, the diversions above the last number are the rest of the lines

@@ -3,8 +3,8 @@ use Rattle.std.specs.Int.{w32}
 use Rattle.std.proofs.lemmas.Int.{to_z-of_z}
 use mir.Val.{to_z}
 use Rattle.m4_frozen.proofs.Lates.{HasPutAll-start, HasPutAll-one, HasPutAll-cut, HasPutAll-all, PutsAll-refused}
-use Rattle.m4_frozen.specs.WriterSteps.{above}
-use Rattle.m4_frozen.proofs.FreezeParts.{above-next, above-last, above-all, next_fits}
+use Rattle.m4_state.specs.NumbersAbove.{above}
+use Rattle.m4_state.proofs.NumbersAbove.{above-next, above-last, above-all, next_fits}
 use Rattle.m4_frozen.proofs.writer.put_texts.Goals as goal
 
 -- all diversions lie above 0

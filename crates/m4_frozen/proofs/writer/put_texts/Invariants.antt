@@ -1,7 +1,8 @@
 use Rattle.std.proofs.Common.{◌≡◌, length, pos}
 use Rattle.m4_state.specs.State.{AreDiversions}
 use Rattle.m4_frozen.specs.Freeze.{last_number}
-use Rattle.m4_frozen.specs.WriterSteps.{texts_directives, above, HasPutAll}
+use Rattle.m4_state.specs.NumbersAbove.{above}
+use Rattle.m4_frozen.specs.WriterSteps.{texts_directives, HasPutAll}
 use Rattle.m4_frozen.proofs.writer.put_texts.Given as goal
 
 -- of a state that is valid, the diversions above the last number are the rest of the text

@@ -1,23 +1,16 @@
--- HeldNumbers: the numbers of the diversions that hold text are met one by one by `next_after`.
-use Rattle.std.proofs.Common.{◌≡◌, ℤ, pos, Bool, true, false, cond, List, [], ◌∷◌, map, Some, None, refl, ap, subst, Ordering, Less, Equal, Greater}
+-- NumbersAbove: the numbers of the diversions that hold text are met one by one by `next_after`.
+use Rattle.std.proofs.Common.{◌≡◌, ℤ, pos, Bool, true, false, cond, List, [], ◌∷◌, Some, None, refl, ap, subst, Ordering, Less, Equal, Greater}
 use Rattle.std.specs.Prelude.{IsTrue, int_lt, FitsSigned}
 use Rattle.std.specs.Int.{w32}
-use Rattle.std.specs.List.{filter, AllByRecursion}
+use Rattle.std.specs.List.{AllByRecursion}
 use Rattle.std.specs.Ordering.{int_cmp, is_lt, is_eq}
 use Rattle.std.specs.FinMap.{is_sorted, int_cmp-IsAntisymmetric}
 use Rattle.std.specs.Cmp.{int_cmp_total, tied_itself}
 use Rattle.std.proofs.lemmas.Option.{same_Some}
 use Rattle.std.specs.FinMap.Entries.{below_all}
 use Rattle.m4_state.specs.State.{IsDiversion, text_at, next_after, Diversion}
+use Rattle.m4_state.specs.NumbersAbove.{above}
 use Rattle.m4_state.proofs.Pairs.{both}
-
--- the diversions above a number
-abbrev pub above : ℤ → List Diversion → List Diversion
-above number diversions = filter (λ d. int_lt number d.0) diversions
-
--- their numbers
-abbrev pub numbers_above : ℤ → List Diversion → List ℤ
-numbers_above number diversions = map (λ d. d.0) (above number diversions)
 
 -- whether int_cmp says Less is int_lt
 int_lt-less : (x y : ℤ) → IsTrue (is_lt (int_cmp x y)) → int_lt x y ≡ true

@@ -1,7 +1,7 @@
 use Rattle.std.proofs.Common.{◌≡◌, length}
 use Rattle.std.specs.List.{fold}
 use Rattle.m4_state.specs.NameHash.{pieces}
-use Rattle.m4_state.proofs.name.feed.Given as goal
+use Rattle.m4_state.proofs.key.feed.Given as goal
 
 -- what is fed, and what the rest will feed, are what the name feeds
 abbrev pub invariant-loop-rest : goal.invariant-loop-rest
