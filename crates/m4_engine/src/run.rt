@@ -114,7 +114,7 @@ pub struct Ran {
 }
 
 /// Runs as [`run`] does, and returns the session with the ending: a program that ends now leaves it to the end of the
-/// process, and frees none of its definitions. That is a quarter of a short run from a large frozen file.
+/// process, and frees none of its definitions.
 #[doc(hidden)]
 pub fn run_keeping<R: ByteSource, O: ByteSink, M: ByteSink, Z: ByteSink>(
     alloc: Global,

@@ -284,18 +284,23 @@ fn put_in_front(alloc: Global) -> Outcome {
     Some(judged(refused, refused && found, !refused && found))
 }
 
-// Returns whether each call that can fail returns want of memory.
+// Returns whether a call failed by want of memory.
+fn is_refused<T: Drop>(answer: Result<T, InputFault>) -> bool {
+    match answer {
+        Err(InputFault::OutOfMemory) => true,
+        Err(_) => false,
+        Ok(_) => false,
+    }
+}
+
+// Returns whether each call that can fail does so by want of memory.
 fn has_stopped(input: &mut Input, reader: &mut MemSource<'_>) -> bool {
-    matches!(input.next(reader, &DELIMS), Err(InputFault::OutOfMemory))
-        && matches!(
-            input.sees_paren(reader, &DELIMS),
-            Err(InputFault::OutOfMemory)
-        )
-        && matches!(input.skip_line(reader), Err(InputFault::OutOfMemory))
-        && matches!(
-            input.push_front(Pushed::Text(Bytes::empty())),
-            Err(InputFault::OutOfMemory)
-        )
+    let next = is_refused(input.next(reader, &DELIMS));
+    let listed = is_refused(input.sees_paren(reader, &DELIMS));
+    let skipped = is_refused(input.skip_line(reader));
+    let _no_definition = input.take_definition();
+    let pushed = is_refused(input.push_front(Pushed::Text(Bytes::empty())));
+    next && listed && skipped && pushed
 }
 
 // Takes a long name. If that is refused, each later call is.
