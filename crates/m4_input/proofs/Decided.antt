@@ -1,5 +1,5 @@
 -- Decided: all bytes of a closed input decide its token, whether a list follows, and the rest of its line.
-use Rattle.std.proofs.Common.{◌≡◌, ℕ, Bool, true, false, List, [], ◌∷◌, Option, Some, None, refl, subst}
+use Rattle.std.proofs.Common.{◌≡◌, ◌<◌, ◌≤◌, ◌&&◌, ◌||◌, ℕ, Bool, true, false, List, [], ◌∷◌, Option, Some, None, refl, sym, ap, ◌∙◌, subst, arith, length}
 use Rattle.m4_state.specs.declared.delimiters.Delimiters.{Delimiters}
 use Rattle.m4_input.specs.declared.front.Answer.TheVariants.{Unknown}
 use Rattle.m4_input.specs.declared.front.Kind.{Kind}
@@ -7,9 +7,10 @@ use Rattle.m4_input.specs.declared.front.Kind.TheVariants.{CommentHere, NameHere
 use Rattle.m4_input.specs.declared.front.Scan.{Scan}
 use Rattle.m4_input.specs.declared.front.Scan.TheVariants.{Found, Broken, NeedsMore}
 use Rattle.m4_input.specs.Pending.{Pending, text_of, line_length}
-use Rattle.m4_input.specs.Token.{comment_found, string_found, name_unless, run_length, kind_by, kind_of, scan_kind, scan}
+use Rattle.m4_input.specs.Token.{is_enabled, may_start, comment_found, string_found, name_unless, run_length, kind_by, kind_of, scan_kind, scan}
 use Rattle.m4_input.specs.Ascii.{is_name_byte}
 use Rattle.m4_input.specs.Paren.{answer_by, paren_in}
+use Rattle.m4_input.proofs.OpenEnd.{long_not_cut}
 use Rattle.m4_input.specs.Input.{all_read_if_ended, after_line_of, after_line}
 
 unfoldable IsDecided : Scan → Type 0
@@ -64,6 +65,19 @@ pub paren_open : (q c : Delimiters) (m : Bool) (x : List ℕ) → paren_in q c m
 paren_open q c true x e = refl
 paren_open q c false [] e = cc
 paren_open q c false (b ∷ y) e = absurd (answer_known _ _ e)
+
+-- nor do bytes that are as long as each delimiter leave it open
+pub paren_known : (q c : Delimiters) (x : List ℕ) → 0 < length x → length q.begin ≤ length x → length c.begin ≤ length x → paren_in q c true x ≡ Unknown → ⊥
+paren_known q c [] l a b e = absurd (omega (arith, l))
+paren_known q c (d ∷ y) l a b e =
+    let whole : (may_start c true (d ∷ y) || may_start q true (d ∷ y)) ≡ false =
+    ap (λ v. v || may_start q true (d ∷ y)) (ap (λ v. is_enabled c && v) (long_not_cut (d ∷ y) c.begin b) ∙ none (is_enabled c))
+    ∙ ap (λ v. is_enabled q && v) (long_not_cut (d ∷ y) q.begin a) ∙ none (is_enabled q) in
+    answer_known _ _ (ap (answer_by _ _) (sym whole) ∙ e)
+  where
+    none : (v : Bool) → (v && false) ≡ false
+    none true = refl
+    none false = refl
 
 line_open_by : (o : Option ℕ) (p : Pending) (v : Bool) → p.may_follow ≡ v → after_line_of o p ≡ None → v ≡ true
 line_open_by (Some n) p v m e = cc

@@ -1,5 +1,6 @@
 -- Lines: the rest of a line is found by its newline.
-use Rattle.std.proofs.Common.{◌≡◌, ℕ, suc, ◌+◌, ◌-◌, Bool, true, false, List, [], ◌∷◌, ◌++◌, length, take, drop, Option, Some, None, refl, sym, ap, ◌∙◌, arith, add-one, length-append}
+use Rattle.std.proofs.Common.{◌≡◌, ℕ, suc, ◌+◌, ◌-◌, ◌<◌, ◌≤◌, Bool, true, false, List, [], ◌∷◌, ◌++◌, length, take, drop, Option, Some, None, refl, sym, ap, ◌∙◌, arith, add-one, length-append}
+use Rattle.std.proofs.lemmas.List.{take-append-drop}
 use Rattle.std.proofs.Math.ListN.{drop_of_length-le}
 use Rattle.std.specs.Prelude.{◌==◌, not}
 use Rattle.std.proofs.lemmas.Bool.Decides.{nat_tests}
@@ -7,9 +8,11 @@ use Rattle.m4_input.specs.Ascii.{newline}
 use Rattle.m4_input.specs.Pending.{Pending, text_of, counted, newlines_in, consumed, one_more, line_length}
 use Rattle.m4_input.specs.Input.{Held, longer, all_read, all_read_if_ended, after_line_of, after_line}
 use Rattle.m4_input.specs.Blocks.{LineGives}
-use Rattle.m4_input.proofs.Consumed.{text_longer, consumed_longer, consumed_twice}
-use Rattle.m4_input.proofs.Parts.{take_long}
-use Rattle.m4_input.proofs.Scans.{further}
+use Rattle.m4_input.specs.declared.fault.InputFault.{InputFault}
+use Rattle.m4_input.proofs.Consumed.{text_longer, consumed_longer, consumed_twice, text-consumed}
+use Rattle.m4_input.proofs.OpenEnd.{one_more_is}
+use Rattle.m4_input.proofs.Parts.{drop_parts, take_long}
+use Rattle.m4_input.specs.OpenToken.{further}
 use Rattle.m4_input.specs.Token.{begins, before}
 
 abbrev line_on : Bool → Option ℕ → Option ℕ
@@ -126,3 +129,90 @@ line_after_block y b p e =
     ∙ ap (λ (o : Option ℕ). after_line_of o (longer y b p)) (line_goes_on (text_of p) y e)
     ∙ line_by y b p (line_length y) b refl
     ∙ ap (λ (x : List ℕ). after_line_of (line_length x) (longer y b (all_read p))) (sym (text_dropped y b p))
+
+-- a line that ends in the first bytes
+line_in_front : (x y : List ℕ) (n : ℕ) → line_length x ≡ Some n → line_length (x ++ y) ≡ Some n
+line_in_front [] y n e = cc
+line_in_front (b ∷ x) y n e = line_is b (x ++ y) ∙ by (b == newline) (λ m. line_in_front x y m) (sym (line_is b x) ∙ e)
+  where
+    by : (v : Bool) → ((m : ℕ) → line_length x ≡ Some m → line_length (x ++ y) ≡ Some m) → line_on v (line_length x) ≡ Some n → line_on v (line_length (x ++ y)) ≡ Some n
+    by true h f = f
+    by false h f = let k = one_more_is (line_length x) n f in ap one_more (h k.0 k.1) ∙ sym (ap Some k.2)
+
+-- a line is dropped front by front: the rest of it is the same from what is left
+pub record IsLeft (old h : Held) : Type 0 where
+  pub line : after_line h.pending ≡ after_line old.pending
+  pub rest : all_read h.pending ≡ all_read old.pending
+  pub fault : h.fault ≡ old.fault
+
+pub none_left : (h : Held) → IsLeft h h
+none_left h = record { line = refl; rest = refl; fault = refl }
+
+left_gives : (old h new : Held) (v : Bool) → IsLeft old h → LineGives h new v → LineGives old new v
+left_gives old h new true s g = (sym s.line ∙ g.0, g.1 ∙ s.fault)
+left_gives old h new false s g = (
+  sym s.line ∙ g.0,
+  g.1 ∙ ap (λ (p : Pending). let k : Held = record h { pending = p } in k) s.rest
+      ∙ ap (λ (f : Option InputFault). let k : Held = record { pending = all_read old.pending; fault = f } in k) s.fault,
+)
+
+-- the first bytes, x, are consumed
+module _ (old h new : Held) (x : List ℕ) (s : IsLeft old h) (begins : x ≡ take (length x) (text_of h.pending)) where
+  whole : x ++ drop (length x) (text_of h.pending) ≡ text_of h.pending
+  whole = ap (λ (y : List ℕ). y ++ drop (length x) (text_of h.pending)) begins ∙ take-append-drop (length x) (text_of h.pending)
+
+  pub front_fits : length x ≤ length (text_of h.pending)
+  front_fits = let all : length x + length (drop (length x) (text_of h.pending)) ≡ length (text_of h.pending) = sym (length-append x (drop (length x) (text_of h.pending))) ∙ ap length whole in omega arith
+
+  -- the line ends in them
+  pub left_ends : (m : ℕ) → Some m ≡ line_length x → new ≡ record h { pending = consumed m h.pending } → LineGives old new true
+  left_ends m e f =
+      let there : line_length (text_of h.pending) ≡ Some m = ap line_length (sym whole) ∙ line_in_front x (drop (length x) (text_of h.pending)) m (sym e) in
+      left_gives old h new true s (line_dropped h new m there f)
+
+  module _ (none : None ≡ line_length x) (f : new ≡ record h { pending = consumed (length x) h.pending }) where
+    -- they are all
+    pub left_all : x ≡ text_of h.pending → LineGives old new (not (new.pending).may_follow)
+    left_all same =
+        let there : line_length (text_of h.pending) ≡ None = ap line_length (sym same) ∙ sym none in
+        let all : new ≡ record h { pending = all_read h.pending } = f ∙ ap (λ (y : List ℕ). let k : Held = record h { pending = consumed (length y) h.pending } in k) same in
+        let may : (h.pending).may_follow ≡ (new.pending).may_follow = sym (ap (λ (k : Held). (k.pending).may_follow) f) in
+        left_gives old h new (not (new.pending).may_follow) s (all_dropped h new (new.pending).may_follow may there all)
+
+    -- others come after them
+    text_left : text_of (consumed (length x) h.pending) ≡ drop (length x) (text_of h.pending)
+    text_left = sym (drop_parts (length x) (h.pending).pushed (h.pending).unread)
+
+    all_left : all_read (consumed (length x) h.pending) ≡ all_read h.pending
+    all_left =
+        let len : length (text_of (consumed (length x) h.pending)) ≡ length (text_of h.pending) - length x = text-consumed (length x) h.pending in
+        let fits : length x ≤ length (text_of h.pending) = front_fits in
+        let sum : length x + length (text_of (consumed (length x) h.pending)) ≡ length (text_of h.pending) = omega arith in
+        consumed_twice (length x) (length (text_of (consumed (length x) h.pending))) h.pending ∙ ap (λ (k : ℕ). consumed k h.pending) sum
+
+    same_line : (o : Option ℕ) → after_line_of o (consumed (length x) h.pending) ≡ after_line_of (further (length x) o) h.pending
+    same_line (Some m) = ap Some (consumed_twice (length x) m h.pending)
+    same_line None = by (h.pending).may_follow
+      where
+        by : (v : Bool) → all_read_if_ended v (consumed (length x) h.pending) ≡ all_read_if_ended v h.pending
+        by true = refl
+        by false = ap Some all_left
+
+    line_left : after_line (consumed (length x) h.pending) ≡ after_line h.pending
+    line_left =
+        ap (λ (y : List ℕ). after_line_of (line_length y) (consumed (length x) h.pending)) text_left
+        ∙ same_line (line_length (drop (length x) (text_of h.pending)))
+        ∙ ap (λ (o : Option ℕ). after_line_of o h.pending) (sym (line_goes_on x (drop (length x) (text_of h.pending)) (sym none)) ∙ ap line_length whole)
+
+    pub left_more : IsLeft old new
+    left_more = record {
+      line = ap (λ (k : Held). after_line k.pending) f ∙ line_left ∙ s.line;
+      rest = ap (λ (k : Held). all_read k.pending) f ∙ all_left ∙ s.rest;
+      fault = ap (λ (k : Held). k.fault) f ∙ s.fault;
+    }
+
+    pub left_fewer : 0 < length x → length (text_of new.pending) < length (text_of h.pending)
+    left_fewer some =
+        let len : length (text_of new.pending) ≡ length (text_of h.pending) - length x = ap (λ (k : Held). length (text_of k.pending)) f ∙ text-consumed (length x) h.pending in
+        let fits : length x ≤ length (text_of h.pending) = front_fits in
+        omega arith

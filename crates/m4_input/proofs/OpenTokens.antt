@@ -1,7 +1,7 @@
--- OpenTokens: a token that goes on over blocks is looked at once.
-use Rattle.std.proofs.Common.{◌≡◌, ◌⊎◌, inl, inr, ⊎_elim, ℕ, zero, suc, ◌+◌, ◌-◌, ◌<◌, ◌≤◌, Bool, true, false, eqb, eq-eqb, List, [], ◌∷◌, ◌++◌, length, drop, Option, Some, None, refl, sym, ap, ◌∙◌, subst, arith, append_assoc, length-append, length-drop}
+-- OpenTokens: a string is followed from mark to mark, and a token that goes on over blocks is looked at once.
+use Rattle.std.proofs.Common.{◌≡◌, ◌⊎◌, inl, inr, ⊎_elim, ℕ, zero, suc, ◌+◌, ◌-◌, ◌<◌, ◌≤◌, Bool, true, false, eqb, eq-eqb, List, [], ◌∷◌, ◌++◌, length, drop, Option, Some, None, refl, sym, ap, ◌∙◌, subst, arith, append_assoc, length-append, length-drop, max, get_or}
 use Rattle.std.specs.Prelude.{nat_lt}
-use Rattle.std.proofs.lemmas.List.{append-nil, drop-append-le, drop-drop, drop_all}
+use Rattle.std.proofs.lemmas.List.{append-nil, drop-append-le, drop-drop, drop_all, drop_more}
 use Rattle.std.proofs.lemmas.Bool.Decides.{nat_tests}
 use Rattle.m4_state.specs.declared.delimiters.Delimiters.{Delimiters}
 use Rattle.m4_input.specs.declared.front.Kind.{Kind}
@@ -11,13 +11,14 @@ use Rattle.m4_input.specs.declared.front.Mark.TheVariants.{EndQuote, BeginQuote,
 use Rattle.m4_input.specs.declared.front.Scan.TheVariants.{NeedsMore}
 use Rattle.m4_input.specs.declared.open_token.OpenToken.{OpenToken}
 use Rattle.m4_input.specs.declared.open_token.OpenToken.TheVariants as opens
+use Rattle.m4_input.specs.declared.strings.Reached.TheVariants as reached
 use Rattle.m4_input.specs.Ascii.{is_name_byte}
 use Rattle.m4_input.specs.Pending.{one_more}
 use Rattle.m4_input.specs.Token.{begins, run_length, before, mark_at, level, comment_found, comment_at, name_unless, name_at, string_found, string_at, scan_kind, scan}
-use Rattle.m4_input.specs.OpenToken.{kind_in, HasPassed, NameIsOpen, CommentIsOpen, StringIsOpen, IsOpenAt, StaysOpen, NameGoesOn, CommentGoesOn, StringGoesOn}
-use Rattle.m4_input.proofs.Scans.{further, level_at, passed_mark, further_further, one_further, before_step, begins_length, mark_down, mark_up}
+use Rattle.m4_input.specs.OpenToken.{further, kind_in, MayCome, HasPassed, Reaches, NameIsOpen, CommentIsOpen, StringIsOpen, IsOpenAt, StaysOpen, CommentGoesOn}
+use Rattle.m4_input.proofs.Scans.{on_mark, level_at, passed_mark, further_further, one_further, before_step, begins_length, mark_down, mark_up}
 use Rattle.m4_input.proofs.OpenEnd.{mark_stays, front_stays, begins_none, long_not_cut}
-use Rattle.m4_input.proofs.ShortQuotes.{short, same_mark}
+use Rattle.m4_input.proofs.ShortQuotes.{short, same_mark, short_level}
 
 further_none : (k : ℕ) (o : Option ℕ) → o ≡ None → further k o ≡ None
 further_none k o e = ap (further k) e
@@ -28,23 +29,28 @@ no_further (Some m) = ap Some (omega arith)
 
 -- ---- strings
 
-pub none_passed : (q : Delimiters) (n : ℕ) (x : List ℕ) → HasPassed q n x n 0
-none_passed q n x = record {
+-- whatever comes after a text, none may
+come : (o : Bool) → MayCome o o []
+come true = tt
+come false = (refl, refl)
+
+pub none_passed : (q : Delimiters) (o : Bool) (n : ℕ) (x : List ℕ) → HasPassed q o n x n 0
+none_passed q o n x = record {
   within = omega arith;
   low = omega arith;
-  same = λ p z. sym (no_further (level q p n 0 (x ++ z)));
+  same = λ p z c. sym (no_further (level q p n 0 (x ++ z)));
 }
 
 -- a mark of d bytes is passed
-passed_on : (q : Delimiters) (n : ℕ) (x : List ℕ) (m k b i d : ℕ) → HasPassed q n x m k → drop k x ≡ b ∷ drop (k + 1) x → 0 < d → d ≤ length (drop k x) → i ≤ suc m → ((p : Bool) (z : List ℕ) → level q p m 0 (b ∷ (drop (k + 1) x ++ z)) ≡ one_more (level q p i (d - 1) (drop (k + 1) x ++ z))) → HasPassed q n x i (k + d)
-passed_on q n x m k b i d s e pos fits low is =
+passed_on : (q : Delimiters) (o : Bool) (n : ℕ) (x : List ℕ) (m k b i d : ℕ) → HasPassed q o n x m k → drop k x ≡ b ∷ drop (k + 1) x → 0 < d → d ≤ length (drop k x) → i ≤ suc m → ((p : Bool) (z : List ℕ) → MayCome o p z → level q p m 0 (b ∷ (drop (k + 1) x ++ z)) ≡ one_more (level q p i (d - 1) (drop (k + 1) x ++ z))) → HasPassed q o n x i (k + d)
+passed_on q o n x m k b i d s e pos fits low is =
     let len : length (drop k x) ≡ length x - k = length-drop k x in
     let w : k ≤ length x = s.within in
     let l : m ≤ n + k = s.low in
     record {
       within = omega arith;
       low = omega arith;
-      same = λ p z.
+      same = λ p z c.
           let rest : List ℕ = drop (k + 1) x ++ z in
           let whole : drop k x ++ z ≡ b ∷ rest = ap (λ (y : List ℕ). y ++ z) e in
           let long : length (drop k x ++ z) ≡ length (drop k x) + length z = length-append (drop k x) z in
@@ -52,170 +58,160 @@ passed_on q n x m k b i d s e pos fits low is =
           let fits_all : d ≤ length (b ∷ rest) = omega arith in
           let after : drop d (b ∷ rest) ≡ drop (k + d) x ++ z =
           ap (drop d) (sym whole) ∙ drop-append-le d (drop k x) z fits ∙ ap (λ (y : List ℕ). y ++ z) (drop-drop d k x) in
-          s.same p z
-          ∙ ap (further k) (ap (level q p m 0) whole ∙ is p z ∙ passed_mark q p i d b rest pos fits_all ∙ ap (λ (y : List ℕ). further d (level q p i 0 y)) after)
+          s.same p z c
+          ∙ ap (further k) (ap (level q p m 0) whole ∙ is p z c ∙ passed_mark q p i d b rest pos fits_all ∙ ap (λ (y : List ℕ). further d (level q p i 0 y)) after)
           ∙ further_further k d (k + d) (level q p i 0 (drop (k + d) x ++ z)) refl;
     }
 
--- the mark at a place, whatever follows
-abbrev pub Marked : Delimiters → ℕ → List ℕ → Mark → Type 0
-Marked q b y v = (p : Bool) (z : List ℕ) → mark_at q p (b ∷ (y ++ z)) ≡ v
+-- the mark at a place, whatever may come
+abbrev Marked : Delimiters → Bool → ℕ → List ℕ → Mark → Type 0
+Marked q o b y v = (p : Bool) (z : List ℕ) → MayCome o p z → mark_at q p (b ∷ (y ++ z)) ≡ v
 
-pub passed_past : (q : Delimiters) (n : ℕ) (x : List ℕ) (m k b : ℕ) → HasPassed q n x m k → drop k x ≡ b ∷ drop (k + 1) x → Marked q b (drop (k + 1) x) PlainByte → HasPassed q n x m (k + 1)
-passed_past q n x m k b s e h =
+passed_past : (q : Delimiters) (o : Bool) (n : ℕ) (x : List ℕ) (m k b : ℕ) → HasPassed q o n x m k → drop k x ≡ b ∷ drop (k + 1) x → Marked q o b (drop (k + 1) x) PlainByte → HasPassed q o n x m (k + 1)
+passed_past q o n x m k b s e h =
     let fits : 1 ≤ length (drop k x) = subst (λ (y : List ℕ). 1 ≤ length y) (sym e) (omega arith) in
-    passed_on q n x m k b m 1 s e (omega arith) fits (omega arith) (λ p z. level_at q p m b (drop (k + 1) x ++ z) PlainByte (h p z))
+    passed_on q o n x m k b m 1 s e (omega arith) fits (omega arith) (λ p z c. level_at q p m b (drop (k + 1) x ++ z) PlainByte (h p z c))
 
-pub passed_up : (q : Delimiters) (n : ℕ) (x : List ℕ) (m k b : ℕ) → HasPassed q n x m k → drop k x ≡ b ∷ drop (k + 1) x → 0 < length q.begin → length q.begin ≤ length (drop k x) → Marked q b (drop (k + 1) x) BeginQuote → HasPassed q n x (m + 1) (k + length q.begin)
-passed_up q n x m k b s e pos fits h =
+passed_up : (q : Delimiters) (o : Bool) (n : ℕ) (x : List ℕ) (m k b : ℕ) → HasPassed q o n x m k → drop k x ≡ b ∷ drop (k + 1) x → 0 < length q.begin → length q.begin ≤ length (drop k x) → Marked q o b (drop (k + 1) x) BeginQuote → HasPassed q o n x (m + 1) (k + length q.begin)
+passed_up q o n x m k b s e pos fits h =
     let one : m + 1 ≡ suc m = omega arith in
-    subst (λ i. HasPassed q n x i (k + length q.begin)) (sym one)
-    (passed_on q n x m k b (suc m) (length q.begin) s e pos fits (omega arith) (λ p z. level_at q p m b (drop (k + 1) x ++ z) BeginQuote (h p z)))
+    subst (λ i. HasPassed q o n x i (k + length q.begin)) (sym one)
+    (passed_on q o n x m k b (suc m) (length q.begin) s e pos fits (omega arith) (λ p z c. level_at q p m b (drop (k + 1) x ++ z) BeginQuote (h p z c)))
 
-pub passed_down : (q : Delimiters) (n : ℕ) (x : List ℕ) (m k b : ℕ) → HasPassed q n x m k → drop k x ≡ b ∷ drop (k + 1) x → 0 < length q.end → length q.end ≤ length (drop k x) → Marked q b (drop (k + 1) x) EndQuote → (m ≡ 0 → ⊥) → HasPassed q n x (m - 1) (k + length q.end)
-passed_down q n x zero k b s e pos fits h ne = absurd (ne refl)
-passed_down q n x (suc m) k b s e pos fits h ne =
+-- an end-quote takes at least a byte
+passed_down : (q : Delimiters) (o : Bool) (n : ℕ) (x : List ℕ) (m k b d : ℕ) → HasPassed q o n x m k → drop k x ≡ b ∷ drop (k + 1) x → 0 < d → length q.end - 1 ≡ d - 1 → d ≤ length (drop k x) → Marked q o b (drop (k + 1) x) EndQuote → (m ≡ 0 → ⊥) → HasPassed q o n x (m - 1) (k + d)
+passed_down q o n x zero k b d s e pos as_long fits h ne = absurd (ne refl)
+passed_down q o n x (suc m) k b d s e pos as_long fits h ne =
     let one : suc m - 1 ≡ m = omega arith in
-    subst (λ i. HasPassed q n x i (k + length q.end)) (sym one)
-    (passed_on q n x (suc m) k b m (length q.end) s e pos fits (omega arith) (λ p z. level_at q p (suc m) b (drop (k + 1) x ++ z) EndQuote (h p z)))
+    subst (λ i. HasPassed q o n x i (k + d)) (sym one)
+    (passed_on q o n x (suc m) k b m d s e pos fits (omega arith)
+    (λ p z c. level_at q p (suc m) b (drop (k + 1) x ++ z) EndQuote (h p z c) ∙ ap (λ (i : ℕ). one_more (level q p m i (drop (k + 1) x ++ z))) as_long))
 
--- a mark that is not cut stays, whatever follows
-pub marked : (q : Delimiters) (x : List ℕ) (k b : ℕ) (v : Mark) → drop k x ≡ b ∷ drop (k + 1) x → v ≡ mark_at q true (drop k x) → (v ≡ CutQuote → ⊥) → Marked q b (drop (k + 1) x) v
-marked q x k b v e h n p z =
-    let here : mark_at q true (b ∷ drop (k + 1) x) ≡ v = ap (mark_at q true) (sym e) ∙ sym h in
-    ⊎_elim (λ c. absurd (n (sym here ∙ c))) (λ g. g ∙ here) (mark_stays q p (b ∷ drop (k + 1) x) z)
+-- a mark that is not cut stays, whatever may come
+marked : (q : Delimiters) (o : Bool) (b : ℕ) (y : List ℕ) (v : Mark) → mark_at q o (b ∷ y) ≡ v → (v ≡ CutQuote → ⊥) → Marked q o b y v
+marked q true b y v here n p z c = ⊎_elim (λ e. absurd (n (sym here ∙ e))) (λ g. g ∙ here) (mark_stays q p (b ∷ y) z)
+marked q false b y v here n p z c =
+    ap (λ (r : Bool). mark_at q r (b ∷ (y ++ z))) c.0 ∙ ap (λ (t : List ℕ). mark_at q false (b ∷ (y ++ t))) c.1
+    ∙ ap (λ (t : List ℕ). mark_at q false (b ∷ t)) (append-nil y) ∙ here
 
-pub end_fits : (q : Delimiters) (p : Bool) (y : List ℕ) → EndQuote ≡ mark_at q p y → length q.end ≤ length y
-end_fits q p y h = begins_length q.end y (mark_down _ _ _ h)
-
-pub begin_fits : (q : Delimiters) (p : Bool) (y : List ℕ) → BeginQuote ≡ mark_at q p y → length q.begin ≤ length y
-begin_fits q p y h = begins_length q.begin y (mark_up _ _ _ h)
-
-all_dropped : (x : List ℕ) (k : ℕ) → k ≡ length x → drop k x ≡ []
-all_dropped x k e = ap (λ (i : ℕ). drop i x) e ∙ drop_all (length x) x (omega arith)
+all_dropped : (x : List ℕ) (k : ℕ) → length x ≤ k → drop k x ≡ []
+all_dropped x k h = drop_all k x h
 
 -- the level before a text by the level at a place of it
-pub passed_level : (q : Delimiters) (p : Bool) (n : ℕ) (x : List ℕ) (m k : ℕ) → HasPassed q n x m k → level q p n 0 x ≡ further k (level q p m 0 (drop k x))
-passed_level q p n x m k s =
-    ap (level q p n 0) (sym (append-nil x)) ∙ s.same p []
-    ∙ ap (λ (y : List ℕ). further k (level q p m 0 y)) (append-nil (drop k x))
+passed_level : (q : Delimiters) (o : Bool) (n : ℕ) (x : List ℕ) (m k : ℕ) → HasPassed q o n x m k → level q o n 0 x ≡ further k (level q o m 0 (drop k x))
+passed_level q o n x m k s =
+    ap (level q o n 0) (sym (append-nil x)) ∙ s.same o [] (come o)
+    ∙ ap (λ (y : List ℕ). further k (level q o m 0 y)) (append-nil (drop k x))
+
+-- what is so whatever comes is so where nothing may come
+pub passed_so : (q : Delimiters) (o : Bool) (n : ℕ) (x : List ℕ) (m k : ℕ) → HasPassed q true n x m k → HasPassed q o n x m k
+passed_so q o n x m k s = record { within = s.within; low = s.low; same = λ p z c. s.same p z tt }
 
 -- the string goes on: nothing is left, or a quote is cut
-unended_so : (q : Delimiters) (x : List ℕ) (m k : ℕ) → HasPassed q 0 x m k → level q true m 0 (drop k x) ≡ None → StringGoesOn q m k x
-unended_so q x m k s h = record {
-  passed = s;
-  unended = passed_level q true 0 x m k s ∙ further_none k (level q true m 0 (drop k x)) h;
-}
+pub all_reached : (q : Delimiters) (o : Bool) (n : ℕ) (x : List ℕ) (m k : ℕ) → HasPassed q o n x m k → length x ≤ k → Reaches q o n x (reached.Open k m)
+all_reached q o n x m k s h = (s, passed_level q o n x m k s ∙ ap (λ (y : List ℕ). further k (level q o m 0 y)) (all_dropped x k h))
 
-pub all_passed : (q : Delimiters) (x : List ℕ) (m k : ℕ) → HasPassed q 0 x m k → drop k x ≡ [] → StringGoesOn q m k x
-all_passed q x m k s e = unended_so q x m k s (ap (level q true m 0) e)
+-- a mark of any length at a place
+module _ (q : Delimiters) (o : Bool) (n : ℕ) (x : List ℕ) (m k : ℕ) (s : HasPassed q o n x m k) (inside : k < length x) where
+  abbrev byte : ℕ
+  byte = get_or x k 0
 
-pub cut_there : (q : Delimiters) (x : List ℕ) (m k b : ℕ) → HasPassed q 0 x m k → drop k x ≡ b ∷ drop (k + 1) x → CutQuote ≡ mark_at q true (drop k x) → StringGoesOn q m k x
-cut_there q x m k b s e h =
-    unended_so q x m k s (ap (level q true m 0) e ∙ level_at q true m b (drop (k + 1) x) CutQuote (ap (mark_at q true) (sym e) ∙ sym h))
+  there : drop k x ≡ byte ∷ drop (k + 1) x
+  there = drop_more x k 0 inside
+
+  seen : (v : Mark) → v ≡ mark_at q o (drop k x) → mark_at q o (byte ∷ drop (k + 1) x) ≡ v
+  seen v h = ap (mark_at q o) (sym there) ∙ sym h
+
+  some_left : 1 ≤ length (drop k x)
+  some_left = let len : length (drop k x) ≡ length x - k = length-drop k x in omega arith
+
+  pub reached_down : (d : ℕ) → d ≡ max (length q.end) 1 → EndQuote ≡ mark_at q o (drop k x) → (m ≡ 0 → ⊥) → HasPassed q o n x (m - 1) (k + d)
+  reached_down d is h ne =
+      let fits : length q.end ≤ length (drop k x) = begins_length q.end (drop k x) (mark_down _ _ _ h) in
+      let some : 1 ≤ length (drop k x) = some_left in
+      passed_down q o n x m k byte d s there (omega arith) (omega arith) (omega arith) (marked q o byte (drop (k + 1) x) EndQuote (seen EndQuote h) (λ f. cc)) ne
+
+  pub reached_up : 0 < length q.begin → BeginQuote ≡ mark_at q o (drop k x) → HasPassed q o n x (m + 1) (k + length q.begin)
+  reached_up pos h =
+      passed_up q o n x m k byte s there pos (begins_length q.begin (drop k x) (mark_up _ _ _ h)) (marked q o byte (drop (k + 1) x) BeginQuote (seen BeginQuote h) (λ f. cc))
+
+  pub reached_past : PlainByte ≡ mark_at q o (drop k x) → HasPassed q o n x m (k + 1)
+  reached_past h = passed_past q o n x m k byte s there (marked q o byte (drop (k + 1) x) PlainByte (seen PlainByte h) (λ f. cc))
+
+  level_there : (v : Mark) → v ≡ mark_at q o (drop k x) → level q o n 0 x ≡ further k (on_mark q o m (drop (k + 1) x) v)
+  level_there v h = passed_level q o n x m k s ∙ ap (further k) (ap (level q o m 0) there ∙ level_at q o m byte (drop (k + 1) x) v (seen v h))
+
+  pub reached_cut : CutQuote ≡ mark_at q o (drop k x) → Reaches q o n x (reached.Open k m)
+  reached_cut h = (s, level_there CutQuote h)
+
+  pub reached_end : EndQuote ≡ mark_at q o (drop k x) → m ≡ 0 → Reaches q o n x (reached.Ends k)
+  reached_end h none =
+      let len : length (drop k x) ≡ length x - k = length-drop k x in
+      let fits : length q.end ≤ length (drop k x) = begins_length q.end (drop k x) (mark_down _ _ _ h) in
+      let far : k + 0 ≡ k = omega arith in
+      (level_there EndQuote h ∙ ap (λ (i : ℕ). further k (on_mark q o i (drop (k + 1) x) EndQuote)) none ∙ ap Some far, omega arith)
 
 -- the rest of a text is passed too
-pub passed_both : (q : Delimiters) (d : ℕ) (x y : List ℕ) (n m k : ℕ) → HasPassed q d x n k → y ≡ drop k x → HasPassed q n y m (length y) → HasPassed q d x m (k + length y)
-passed_both q d x y n m k s e r =
+passed_both : (q : Delimiters) (d : ℕ) (x y : List ℕ) (n m k j : ℕ) → HasPassed q true d x n k → y ≡ drop k x → HasPassed q true n y m j → HasPassed q true d x m (k + j)
+passed_both q d x y n m k j s e r =
     let len : length (drop k x) ≡ length x - k = length-drop k x in
     let same_len : length y ≡ length (drop k x) = ap length e in
     let w : k ≤ length x = s.within in
+    let v : j ≤ length y = r.within in
     let l : n ≤ d + k = s.low in
-    let l' : m ≤ n + length y = r.low in
-    let full : k + length y ≡ length x = omega arith in
-    let gone : drop (k + length y) x ≡ [] = all_dropped x (k + length y) full in
-    let none : drop (length y) y ≡ [] = all_dropped y (length y) refl in
+    let l' : m ≤ n + j = r.low in
     record {
       within = omega arith;
       low = omega arith;
-      same = λ p z.
-          s.same p z
+      same = λ p z c.
+          s.same p z c
           ∙ ap (λ (t : List ℕ). further k (level q p n 0 (t ++ z))) (sym e)
-          ∙ ap (further k) (r.same p z)
-          ∙ further_further k (length y) (k + length y) (level q p m 0 (drop (length y) y ++ z)) refl
-          ∙ ap (λ (t : List ℕ). further (k + length y) (level q p m 0 (t ++ z))) (none ∙ sym gone);
+          ∙ ap (further k) (r.same p z c)
+          ∙ further_further k j (k + j) (level q p m 0 (drop j y ++ z)) refl
+          ∙ ap (λ (t : List ℕ). further (k + j) (level q p m 0 (t ++ z))) (ap (drop j) e ∙ drop-drop j k x);
     }
-
--- the rest of a text was followed
-pub followed_on : (q : Delimiters) (x y : List ℕ) (n m k : ℕ) → HasPassed q 0 x n k → y ≡ drop k x → HasPassed q n y m (length y) → StringGoesOn q m (k + length y) x
-followed_on q x y n m k s e r =
-    let len : length (drop k x) ≡ length x - k = length-drop k x in
-    let same_len : length y ≡ length (drop k x) = ap length e in
-    let w : k ≤ length x = s.within in
-    all_passed q x m (k + length y) (passed_both q 0 x y n m k s e r) (all_dropped x (k + length y) (omega arith))
-
--- the same in a text whose first `from` bytes are the begin-quote
-module _ (q : Delimiters) (x : List ℕ) (from m k b : ℕ) (s : HasPassed q 0 (drop from x) m k) where
-  there : drop k (drop from x) ≡ drop (from + k) x
-  there = drop-drop k from x
-
-  at_byte : drop (from + k) x ≡ b ∷ drop (from + k + 1) x → drop k (drop from x) ≡ b ∷ drop (k + 1) (drop from x)
-  at_byte e =
-      let n : from + k + 1 ≡ from + (k + 1) = omega arith in
-      there ∙ e ∙ ap (λ (i : ℕ). b ∷ drop i x) n ∙ ap (λ (y : List ℕ). b ∷ y) (sym (drop-drop (k + 1) from x))
-
-  module _ (e : drop (from + k) x ≡ b ∷ drop (from + k + 1) x) where
-    same_mark_here : (v : Mark) → v ≡ mark_at q true (drop (from + k) x) → v ≡ mark_at q true (drop k (drop from x))
-    same_mark_here v h = h ∙ ap (mark_at q true) (sym there)
-
-    pub down_after : 0 < length q.end → EndQuote ≡ mark_at q true (drop (from + k) x) → (m ≡ 0 → ⊥) → HasPassed q 0 (drop from x) (m - 1) (k + length q.end)
-    down_after pos h ne =
-        let i = same_mark_here EndQuote h in
-        passed_down q 0 (drop from x) m k b s (at_byte e) pos (end_fits q true (drop k (drop from x)) i) (marked q (drop from x) k b EndQuote (at_byte e) i (λ f. cc)) ne
-
-    pub up_after : 0 < length q.begin → BeginQuote ≡ mark_at q true (drop (from + k) x) → HasPassed q 0 (drop from x) (m + 1) (k + length q.begin)
-    up_after pos h =
-        let i = same_mark_here BeginQuote h in
-        passed_up q 0 (drop from x) m k b s (at_byte e) pos (begin_fits q true (drop k (drop from x)) i) (marked q (drop from x) k b BeginQuote (at_byte e) i (λ f. cc))
-
-    pub past_after : PlainByte ≡ mark_at q true (drop (from + k) x) → HasPassed q 0 (drop from x) m (k + 1)
-    past_after h = passed_past q 0 (drop from x) m k b s (at_byte e) (marked q (drop from x) k b PlainByte (at_byte e) (same_mark_here PlainByte h) (λ f. cc))
-
-    pub cut_after : CutQuote ≡ mark_at q true (drop (from + k) x) → StringGoesOn q m k (drop from x)
-    cut_after h = cut_there q (drop from x) m k b s (at_byte e) (same_mark_here CutQuote h)
-
-pub none_after : (q : Delimiters) (x : List ℕ) (from m k : ℕ) → HasPassed q 0 (drop from x) m k → drop (from + k) x ≡ [] → StringGoesOn q m k (drop from x)
-none_after q x from m k s e = all_passed q (drop from x) m k s (drop-drop k from x ∙ e)
-
-pub followed_after : (q : Delimiters) (x y : List ℕ) (from n m k : ℕ) → HasPassed q 0 (drop from x) n k → y ≡ drop (from + k) x → HasPassed q n y m (length y) → StringGoesOn q m (k + length y) (drop from x)
-followed_after q x y from n m k s e r = followed_on q (drop from x) y n m k s (e ∙ sym (drop-drop k from x)) r
 
 -- quotes of one byte each: a mark is the same whatever follows
 module _ (b e : ℕ) where
-  any_mark : (a : ℕ) (y : List ℕ) (v : Mark) → ((y : List ℕ) → v ≡ mark_at (short b e) false (a ∷ y)) → Marked (short b e) a y v
-  any_mark a y v h p z = same_mark b e p a (y ++ z) ∙ sym (h (y ++ z))
+  any_mark : (a : ℕ) (y : List ℕ) (v : Mark) → ((y : List ℕ) → v ≡ mark_at (short b e) false (a ∷ y)) → Marked (short b e) true a y v
+  any_mark a y v h p z c = same_mark b e p a (y ++ z) ∙ sym (h (y ++ z))
 
   one_left : (x : List ℕ) (k a : ℕ) → drop k x ≡ a ∷ drop (k + 1) x → 1 ≤ length (drop k x)
   one_left x k a f = subst (λ (y : List ℕ). 1 ≤ length y) (sym f) (omega arith)
 
-  pub short_past : (n : ℕ) (x : List ℕ) (m k a : ℕ) → HasPassed (short b e) n x m k → drop k x ≡ a ∷ drop (k + 1) x → ((y : List ℕ) → PlainByte ≡ mark_at (short b e) false (a ∷ y)) → HasPassed (short b e) n x m (k + 1)
-  short_past n x m k a s f h = passed_past (short b e) n x m k a s f (any_mark a (drop (k + 1) x) PlainByte h)
+  pub short_past : (n : ℕ) (x : List ℕ) (m k a : ℕ) → HasPassed (short b e) true n x m k → drop k x ≡ a ∷ drop (k + 1) x → ((y : List ℕ) → PlainByte ≡ mark_at (short b e) false (a ∷ y)) → HasPassed (short b e) true n x m (k + 1)
+  short_past n x m k a s f h = passed_past (short b e) true n x m k a s f (any_mark a (drop (k + 1) x) PlainByte h)
 
-  pub short_up : (n : ℕ) (x : List ℕ) (m k a : ℕ) → HasPassed (short b e) n x m k → drop k x ≡ a ∷ drop (k + 1) x → ((y : List ℕ) → BeginQuote ≡ mark_at (short b e) false (a ∷ y)) → HasPassed (short b e) n x (m + 1) (k + 1)
-  short_up n x m k a s f h = passed_up (short b e) n x m k a s f (omega arith) (one_left x k a f) (any_mark a (drop (k + 1) x) BeginQuote h)
+  pub short_up : (n : ℕ) (x : List ℕ) (m k a : ℕ) → HasPassed (short b e) true n x m k → drop k x ≡ a ∷ drop (k + 1) x → ((y : List ℕ) → BeginQuote ≡ mark_at (short b e) false (a ∷ y)) → HasPassed (short b e) true n x (m + 1) (k + 1)
+  short_up n x m k a s f h = passed_up (short b e) true n x m k a s f (omega arith) (one_left x k a f) (any_mark a (drop (k + 1) x) BeginQuote h)
 
-  pub short_down : (n : ℕ) (x : List ℕ) (m k a : ℕ) → HasPassed (short b e) n x m k → drop k x ≡ a ∷ drop (k + 1) x → ((y : List ℕ) → EndQuote ≡ mark_at (short b e) false (a ∷ y)) → (m ≡ 0 → ⊥) → HasPassed (short b e) n x (m - 1) (k + 1)
-  short_down n x m k a s f h ne = passed_down (short b e) n x m k a s f (omega arith) (one_left x k a f) (any_mark a (drop (k + 1) x) EndQuote h) ne
+  pub short_down : (n : ℕ) (x : List ℕ) (m k a : ℕ) → HasPassed (short b e) true n x m k → drop k x ≡ a ∷ drop (k + 1) x → ((y : List ℕ) → EndQuote ≡ mark_at (short b e) false (a ∷ y)) → (m ≡ 0 → ⊥) → HasPassed (short b e) true n x (m - 1) (k + 1)
+  short_down n x m k a s f h ne = passed_down (short b e) true n x m k a 1 s f (omega arith) refl (one_left x k a f) (any_mark a (drop (k + 1) x) EndQuote h) ne
 
-  pub short_end : (n : ℕ) (x : List ℕ) (k a : ℕ) → HasPassed (short b e) n x 0 k → drop k x ≡ a ∷ drop (k + 1) x → ((y : List ℕ) → EndQuote ≡ mark_at (short b e) false (a ∷ y)) → level (short b e) false n 0 x ≡ Some k
+  pub short_end : (n : ℕ) (x : List ℕ) (k a : ℕ) → HasPassed (short b e) true n x 0 k → drop k x ≡ a ∷ drop (k + 1) x → ((y : List ℕ) → EndQuote ≡ mark_at (short b e) false (a ∷ y)) → level (short b e) false n 0 x ≡ Some k
   short_end n x k a s f h =
       let here : level (short b e) false 0 0 (drop k x) ≡ Some 0 = ap (level (short b e) false 0 0) f ∙ level_at (short b e) false 0 a (drop (k + 1) x) EndQuote (sym (h (drop (k + 1) x))) in
       let there : k + 0 ≡ k = omega arith in
-      passed_level (short b e) false n x 0 k s ∙ ap (further k) here ∙ ap Some there
+      passed_level (short b e) false n x 0 k (passed_so (short b e) false n x 0 k s) ∙ ap (further k) here ∙ ap Some there
 
 -- the same, if the quotes have a name
-pub short_passed : (q : Delimiters) (b e : ℕ) (n : ℕ) (x : List ℕ) (m k : ℕ) → q.begin ≡ b ∷ [] → q.end ≡ e ∷ [] → HasPassed (record { begin = b ∷ []; end = e ∷ [] }) n x m k → HasPassed q n x m k
-short_passed q b e n x m k h g s =
-    subst (λ (y : List ℕ). HasPassed (record { begin = q.begin; end = y }) n x m k) (sym g)
-    (subst (λ (y : List ℕ). HasPassed (record { begin = y; end = e ∷ [] }) n x m k) (sym h) s)
+pub short_reached : (q : Delimiters) (b e : ℕ) (o : Bool) (n : ℕ) (x : List ℕ) (m : ℕ) → q.begin ≡ b ∷ [] → q.end ≡ e ∷ [] → HasPassed (record { begin = b ∷ []; end = e ∷ [] }) true n x m (length x) → Reaches q o n x (reached.Open (length x) m)
+short_reached q b e o n x m h g s =
+    all_reached q o n x m (length x) (passed_so q o n x m (length x)
+    (subst (λ (y : List ℕ). HasPassed (record { begin = q.begin; end = y }) true n x m (length x)) (sym g)
+    (subst (λ (y : List ℕ). HasPassed (record { begin = y; end = e ∷ [] }) true n x m (length x)) (sym h) s))) (omega arith)
+
+pub short_ended : (q : Delimiters) (b e : ℕ) (o : Bool) (n : ℕ) (x : List ℕ) (k : ℕ) → q.begin ≡ b ∷ [] → q.end ≡ e ∷ [] → level (record { begin = b ∷ []; end = e ∷ [] }) false n 0 x ≡ Some k → k + 1 ≤ length x → Reaches q o n x (reached.Ends k)
+short_ended q b e o n x k h g l w =
+    let one : length q.end ≡ 1 = ap length g in
+    (sym (short_level q b e o n x h g) ∙ l, omega arith)
 
 -- a string that was followed to the end of a text
-pub unended_all : (q : Delimiters) (n : ℕ) (x : List ℕ) (m : ℕ) → HasPassed q n x m (length x) → level q false n 0 x ≡ None
-unended_all q n x m s =
-    passed_level q false n x m (length x) s ∙ ap (λ (y : List ℕ). further (length x) (level q false m 0 y)) (all_dropped x (length x) refl)
+pub unended_all : (q : Delimiters) (n : ℕ) (x : List ℕ) (m : ℕ) → HasPassed q true n x m (length x) → level q false n 0 x ≡ None
+unended_all q n x m s = (all_reached q false n x m (length x) (passed_so q false n x m (length x) s) (omega arith)).1
 
-pub all_followed : (q : Delimiters) (n : ℕ) (x : List ℕ) (m k : ℕ) → HasPassed q n x m k → length x ≤ k → HasPassed q n x m (length x)
-all_followed q n x m k s h = let w : k ≤ length x = s.within in let e : k ≡ length x = omega arith in subst (HasPassed q n x m) e s
+pub all_followed : (q : Delimiters) (n : ℕ) (x : List ℕ) (m k : ℕ) → HasPassed q true n x m k → length x ≤ k → HasPassed q true n x m (length x)
+all_followed q n x m k s h = let w : k ≤ length x = s.within in let e : k ≡ length x = omega arith in subst (HasPassed q true n x m) e s
 
 -- ---- comments
 
@@ -244,38 +240,16 @@ before_on e (b ∷ w) (suc j) h f z =
     ∙ ap one_more (before_on e w j k.1 (inr rest) z)
     ∙ one_further j (suc j) (before e (drop j w ++ z)) refl) f
 
-pub comment_on : (e x : List ℕ) (at n : ℕ) → at ≤ length x → None ≡ before e (drop at x) → (n ≡ at) ⊎ ((at ≤ n) × (n + (length e - 1) ≤ length x)) → CommentGoesOn e at n x
-comment_on e x at n w h f =
-    let len : length (drop at x) ≡ length x - at = length-drop at x in
-    let range : (at ≤ n) × (n ≤ length x) = ⊎_elim (λ i. (let j : n ≡ at = i in (omega arith, omega arith))) (λ i. (let a : at ≤ n = i.0 in let b : n + (length e - 1) ≤ length x = i.1 in (a, omega arith))) f in
-    let low : at ≤ n = range.0 in
-    let up : n ≤ length x = range.1 in
-    let room : (n - at ≡ 0) ⊎ ((n - at) + (length e - 1) ≤ length (drop at x)) =
-    ⊎_elim (λ i. inl (let j : n ≡ at = i in omega arith)) (λ i. inr (let b : n + (length e - 1) ≤ length x = i.1 in omega arith)) f in
-    let there : at + (n - at) ≡ n = omega arith in
-    record {
-      within = range;
-      none = sym h;
-      same = λ z.
-          before_on e (drop at x) (n - at) (sym h) room z
-          ∙ ap (λ (y : List ℕ). further (n - at) (before e (y ++ z))) (drop-drop (n - at) at x ∙ ap (λ (i : ℕ). drop i x) there);
-    }
-
-split_room : (left may at len : ℕ) → left ≡ len - at → at ≤ len → (at + (left - may) ≡ at) ⊎ ((at ≤ at + (left - may)) × (at + (left - may) + may ≤ len))
-split_room left may at len e w = go (nat_lt left may) refl
+pub comment_on : (e x : List ℕ) (n : ℕ) → None ≡ before e x → n ≡ length x - (length e - 1) → CommentGoesOn e n x
+comment_on e x n h is = record {
+  within = omega arith;
+  none = sym h;
+  same = before_on e x n (sym h) (room (nat_lt (length x) (length e - 1)) refl);
+}
   where
-    go : (v : Bool) → nat_lt left may ≡ v → (at + (left - may) ≡ at) ⊎ ((at ≤ at + (left - may)) × (at + (left - may) + may ≤ len))
-    go true f = let l : left < may = grind (arith, nat_tests) in inl (omega arith)
-    go false f = let l : may ≤ left = grind (arith, nat_tests) in inr (omega arith, omega arith)
-
--- the same in a text whose first `from` bytes are the begin of the comment
-pub comment_after : (e x : List ℕ) (from at left n : ℕ) → from + at ≤ length x → None ≡ before e (drop (from + at) x) → left ≡ length x - (from + at) → n ≡ at + (left - (length e - 1)) → CommentGoesOn e at n (drop from x)
-comment_after e x from at left n w h l f =
-    let len : length (drop from x) ≡ length x - from = length-drop from x in
-    let inside : at ≤ length (drop from x) = omega arith in
-    let rest : left ≡ length (drop from x) - at = omega arith in
-    subst (λ (i : ℕ). CommentGoesOn e at i (drop from x)) (sym f)
-    (comment_on e (drop from x) at (at + (left - (length e - 1))) inside (h ∙ ap (before e) (sym (drop-drop at from x))) (split_room left (length e - 1) at (length (drop from x)) rest inside))
+    room : (v : Bool) → nat_lt (length x) (length e - 1) ≡ v → (n ≡ 0) ⊎ (n + (length e - 1) ≤ length x)
+    room true f = let l : length x < length e - 1 = grind (arith, nat_tests) in inl (omega arith)
+    room false f = let l : length e - 1 ≤ length x = grind (arith, nat_tests) in inr (omega arith)
 
 -- ---- names
 
@@ -297,15 +271,15 @@ kind_known q c (b ∷ x) y k e n = ⊎_elim (λ u. absurd (n (sym e ∙ u))) (λ
 grown : (k : ℕ) (x y z : List ℕ) → k ≤ length x → drop k (x ++ y) ++ z ≡ drop k x ++ (y ++ z)
 grown k x y z w = ap (λ (t : List ℕ). t ++ z) (drop-append-le k x y w) ∙ append_assoc (drop k x) y z
 
-pub longer_passed : (q : Delimiters) (n : ℕ) (x y : List ℕ) (m k : ℕ) → HasPassed q n x m k → HasPassed q n (x ++ y) m k
+longer_passed : (q : Delimiters) (n : ℕ) (x y : List ℕ) (m k : ℕ) → HasPassed q true n x m k → HasPassed q true n (x ++ y) m k
 longer_passed q n x y m k s =
     let w : k ≤ length x = s.within in
     let len : length (x ++ y) ≡ length x + length y = length-append x y in
     record {
       within = omega arith;
       low = s.low;
-      same = λ p z.
-          ap (level q p n 0) (append_assoc x y z) ∙ s.same p (y ++ z)
+      same = λ p z c.
+          ap (level q p n 0) (append_assoc x y z) ∙ s.same p (y ++ z) c
           ∙ ap (λ (t : List ℕ). further k (level q p m 0 t)) (sym (grown k x y z w));
     }
 
@@ -343,7 +317,7 @@ longer_open q c (opens.Quoted k m) x y h =
     record {
       kind = kind_known q c x y StringHere h.kind (λ e. cc);
       long = omega arith;
-      passed = subst (λ (t : List ℕ). HasPassed q 0 t m k) (sym (drop-append-le (length q.begin) x y l)) (longer_passed q 0 (drop (length q.begin) x) y m k h.passed);
+      passed = subst (λ (t : List ℕ). HasPassed q true 0 t m k) (sym (drop-append-le (length q.begin) x y l)) (longer_passed q 0 (drop (length q.begin) x) y m k h.passed);
     }
 
 -- the token of a text whose kind is known
@@ -359,54 +333,61 @@ pub comment_begins : (q c : Delimiters) (x : List ℕ) → kind_in q c x ≡ Com
 comment_begins q c x e l = record { kind = e; long = l; within = omega arith; same = λ z. sym (no_further (before c.end (drop (length c.begin) x ++ z))) }
 
 pub string_begins : (q c : Delimiters) (x : List ℕ) → kind_in q c x ≡ StringHere → length q.begin ≤ length x → StringIsOpen q c 0 0 x
-string_begins q c x e l = record { kind = e; long = l; passed = none_passed q 0 (drop (length q.begin) x) }
+string_begins q c x e l = record { kind = e; long = l; passed = none_passed q true 0 (drop (length q.begin) x) }
 
 -- ---- what is open stays so
 
 name_more : (n : ℕ) (x : List ℕ) → n ≡ length x → name_unless (eqb n (length x)) n x ≡ NeedsMore
 name_more n x e = ap (λ v. name_unless v n x) (eq-eqb n (length x) e)
 
-pub name_stays_open : (q c : Delimiters) (at n : ℕ) (x : List ℕ) → NameIsOpen q c at x → NameGoesOn at n x → StaysOpen q c (opens.Name n) x
-name_stays_open q c at n x h g =
-    let all : at + run_length is_name_byte (drop at x) ≡ length x = g.run in
+pub name_stays_open : (q c : Delimiters) (at : ℕ) (x y : List ℕ) → NameIsOpen q c at x → y ≡ drop at x → run_length is_name_byte y ≡ length y → StaysOpen q c (opens.Name (at + length y)) x
+name_stays_open q c at x y h e r =
     let len : length (drop at x) ≡ length x - at = length-drop at x in
+    let same_len : length y ≡ length (drop at x) = ap length e in
     let w : at ≤ length x = h.within in
-    let rest : run_length is_name_byte (drop at x) ≡ length (drop at x) = omega arith in
-    let gone : drop (length x) x ≡ [] = drop_all (length x) x (omega arith) in
-    let full : at + length (drop at x) ≡ length x = omega arith in
-    let run_is : (z : List ℕ) → run_length is_name_byte (x ++ z) ≡ length x + run_length is_name_byte z = λ z.
+    let rest : run_length is_name_byte (drop at x) ≡ length (drop at x) = subst (λ (t : List ℕ). run_length is_name_byte t ≡ length t) e r in
+    let end : at + length y ≡ length x = omega arith in
+    let gone : drop (at + length y) x ≡ [] = all_dropped x (at + length y) (omega arith) in
+    let run_is : (z : List ℕ) → run_length is_name_byte (x ++ z) ≡ (at + length y) + run_length is_name_byte z = λ z.
     (let m : ℕ = run_length is_name_byte z in
-    let i : at + (length (drop at x) + m) ≡ length x + m = omega arith in
+    let i : at + (length (drop at x) + m) ≡ (at + length y) + m = omega arith in
     h.same z ∙ ap (λ (j : ℕ). at + j) (run_all is_name_byte (drop at x) z rest) ∙ i) in
     let whole : run_length is_name_byte x ≡ length x =
-    (let i : length x + 0 ≡ length x = omega arith in ap (run_length is_name_byte) (sym (append-nil x)) ∙ run_is [] ∙ i) in
-    let k = scan_so q c x NameHere h.kind (λ e. cc) in
-    let end : n ≡ length x = g.all in (
+    (let i : (at + length y) + 0 ≡ length x = omega arith in ap (run_length is_name_byte) (sym (append-nil x)) ∙ run_is [] ∙ i) in
+    let k = scan_so q c x NameHere h.kind (λ e. cc) in (
       record {
         kind = h.kind;
         within = omega arith;
-        same = λ z. run_is z ∙ ap (λ (j : ℕ). j + run_length is_name_byte z) (sym end) ∙ ap (λ (y : List ℕ). n + run_length is_name_byte (y ++ z)) (sym (ap (λ (j : ℕ). drop j x) end ∙ gone));
+        same = λ z. run_is z ∙ ap (λ (t : List ℕ). (at + length y) + run_length is_name_byte (t ++ z)) (sym gone);
       },
-      k.3 ∙ ap (λ (y : List ℕ). name_at true y) (sym k.2) ∙ name_more (run_length is_name_byte x) x whole,
+      k.3 ∙ ap (λ (t : List ℕ). name_at true t) (sym k.2) ∙ name_more (run_length is_name_byte x) x whole,
     )
 
-pub comment_stays_open : (q c : Delimiters) (at n : ℕ) (x : List ℕ) → CommentIsOpen q c at x → CommentGoesOn c.end at n (drop (length c.begin) x) → StaysOpen q c (opens.Comment n) x
-comment_stays_open q c at n x h g =
-    let y : List ℕ = drop (length c.begin) x in
+pub comment_stays_open : (q c : Delimiters) (at n : ℕ) (x y : List ℕ) → CommentIsOpen q c at x → y ≡ drop (length c.begin + at) x → CommentGoesOn c.end n y → StaysOpen q c (opens.Comment (at + n)) x
+comment_stays_open q c at n x y h e g =
+    let w : List ℕ = drop (length c.begin) x in
     let k = scan_so q c x CommentHere h.kind (λ e. cc) in
-    let low : at ≤ n = g.within.0 in
-    let sum : n ≡ at + (n - at) = omega arith in
-    let same : (z : List ℕ) → before c.end (y ++ z) ≡ further n (before c.end (drop n y ++ z)) = λ z.
-    h.same z ∙ ap (further at) (g.same z) ∙ further_further at (n - at) n (before c.end (drop n y ++ z)) sum in
-    let none : before c.end y ≡ None =
-    ap (before c.end) (sym (append-nil y)) ∙ h.same [] ∙ ap (λ (t : List ℕ). further at (before c.end t)) (append-nil (drop at y)) ∙ further_none at (before c.end (drop at y)) g.none in (
-      record { kind = h.kind; long = h.long; within = g.within.1; same = same },
+    let rest : y ≡ drop at w = e ∙ sym (drop-drop at (length c.begin) x) in
+    let len : length (drop at w) ≡ length w - at = length-drop at w in
+    let same_len : length y ≡ length (drop at w) = ap length rest in
+    let inside : at ≤ length w = h.within in
+    let further_in : n ≤ length y = g.within in
+    let same : (z : List ℕ) → before c.end (w ++ z) ≡ further (at + n) (before c.end (drop (at + n) w ++ z)) = λ z.
+    h.same z ∙ ap (λ (t : List ℕ). further at (before c.end (t ++ z))) (sym rest) ∙ ap (further at) (g.same z)
+    ∙ further_further at n (at + n) (before c.end (drop n y ++ z)) refl
+    ∙ ap (λ (t : List ℕ). further (at + n) (before c.end (t ++ z))) (ap (drop n) rest ∙ drop-drop n at w) in
+    let none : before c.end w ≡ None =
+    ap (before c.end) (sym (append-nil w)) ∙ h.same [] ∙ ap (λ (t : List ℕ). further at (before c.end t)) (append-nil (drop at w) ∙ sym rest) ∙ further_none at (before c.end y) g.none in (
+      record { kind = h.kind; long = h.long; within = omega arith; same = same },
       k.3 ∙ ap (λ (t : List ℕ). comment_at c true t) (sym k.2) ∙ ap (comment_found c true x) none,
     )
 
-pub string_stays_open : (q c : Delimiters) (at depth n m : ℕ) (x : List ℕ) → StringIsOpen q c at depth x → StringGoesOn q m n (drop (length q.begin) x) → StaysOpen q c (opens.Quoted n m) x
-string_stays_open q c at depth n m x h g =
-    let k = scan_so q c x StringHere h.kind (λ e. cc) in (
-      record { kind = h.kind; long = h.long; passed = g.passed },
-      k.3 ∙ ap (λ (t : List ℕ). string_at q true t) (sym k.2) ∙ ap (string_found q true (drop (length q.begin) x)) g.unended,
+pub string_stays_open : (q c : Delimiters) (at depth n m : ℕ) (x y : List ℕ) → StringIsOpen q c at depth x → y ≡ drop (length q.begin + at) x → Reaches q true depth y (reached.Open n m) → StaysOpen q c (opens.Quoted (at + n) m) x
+string_stays_open q c at depth n m x y h e g =
+    let w : List ℕ = drop (length q.begin) x in
+    let rest : y ≡ drop at w = e ∙ sym (drop-drop at (length q.begin) x) in
+    let k = scan_so q c x StringHere h.kind (λ e. cc) in
+    let none : level q true 0 0 w ≡ None = passed_level q true 0 w depth at h.passed ∙ further_none at (level q true depth 0 (drop at w)) (ap (level q true depth 0) (sym rest) ∙ g.1) in (
+      record { kind = h.kind; long = h.long; passed = passed_both q 0 w y depth m at n h.passed rest g.0 },
+      k.3 ∙ ap (λ (t : List ℕ). string_at q true t) (sym k.2) ∙ ap (string_found q true w) none,
     )

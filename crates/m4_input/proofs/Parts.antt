@@ -1,11 +1,11 @@
 -- Parts: a text of two parts, of which the first is kept with its last byte first.
-use Rattle.std.proofs.Common.{◌≡◌, ℕ, zero, suc, ◌+◌, ◌-◌, ◌<◌, ◌≤◌, List, [], ◌∷◌, ◌++◌, length, take, drop, refl, sym, ap, ◌∙◌, arith, length-drop, length-append, min}
+use Rattle.std.proofs.Common.{◌≡◌, ℕ, zero, suc, ◌+◌, ◌-◌, ◌<◌, ◌≤◌, List, [], ◌∷◌, ◌++◌, length, take, drop, refl, sym, ap, ◌∙◌, arith, length-append, min}
 use Rattle.std.proofs.Math.ListN.{drop_of_length-le}
-use Rattle.std.proofs.Math.Seq.{drop-append_seam, take-append_seam, take-add, drop-nil}
+use Rattle.std.proofs.Math.Seq.{take-add, drop-nil}
 use Rattle.m4_input.specs.Pending.{counted, newlines_in}
-use Rattle.std.proofs.lemmas.List.{take-append-drop, reverse-append, length-reverse, append-nil}
+use Rattle.std.proofs.lemmas.List.{append-nil}
 use Rattle.std.proofs.lemmas.List.Sums.{sum_by-append}
-use Rattle.std.specs.Prelude.{reverse, cond, ◌==◌, ◌^◌}
+use Rattle.std.specs.Prelude.{cond, ◌==◌, ◌^◌}
 use Rattle.m4_input.specs.Ascii.{newline}
 use Rattle.m4_input.specs.Text.{HeldText, text_after}
 

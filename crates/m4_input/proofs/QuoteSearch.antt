@@ -27,16 +27,16 @@ module _ (b e : ℕ) where
       (eqb-true a b (sym (or-false (eqb a b)) ∙ ap (λ (v : Bool). eqb a b || v) (sym (ne_eqb a e ne)) ∙ is_one)) ne
 
   -- bytes none of which is a quote
-  many_past : (n : ℕ) (x : List ℕ) (m k : ℕ) → HasPassed (short b e) n x m k → (j : ℕ) → j ≤ length (drop k x) → ((i : ℕ) → i < j → is_quote (drop k x) i → ⊥) → HasPassed (short b e) n x m (k + j)
-  many_past n x m k s zero l h = let none : k ≡ k + 0 = omega arith in subst (HasPassed (short b e) n x m) none s
+  many_past : (n : ℕ) (x : List ℕ) (m k : ℕ) → HasPassed (short b e) true n x m k → (j : ℕ) → j ≤ length (drop k x) → ((i : ℕ) → i < j → is_quote (drop k x) i → ⊥) → HasPassed (short b e) true n x m (k + j)
+  many_past n x m k s zero l h = let none : k ≡ k + 0 = omega arith in subst (HasPassed (short b e) true n x m) none s
   many_past n x m k s (suc j) l h =
-      let r : HasPassed (short b e) n x m (k + j) = many_past n x m k s j (omega arith) (λ i less. h i (omega arith)) in
+      let r : HasPassed (short b e) true n x m (k + j) = many_past n x m k s j (omega arith) (λ i less. h i (omega arith)) in
       let len : length (drop k x) ≡ length x - k = length-drop k x in
       let inside : k + j < length x = omega arith in
       let same : get_or (drop k x) j 0 ≡ get_or x (k + j) 0 = get_or-drop k x j 0 in
       let not_one : is_byte2 b e (get_or x (k + j) 0) ≡ true → ⊥ = subst (λ (v : ℕ). is_byte2 b e v ≡ true → ⊥) same (h j (omega arith)) in
       let on : k + j + 1 ≡ k + suc j = omega arith in
-      subst (HasPassed (short b e) n x m) on
+      subst (HasPassed (short b e) true n x m) on
       (short_past b e n x m (k + j) (get_or x (k + j) 0) r (drop_more x (k + j) 0 inside) (plain_byte (get_or x (k + j) 0) not_one))
 
   -- the rest, as a slice from k on
@@ -50,23 +50,23 @@ module _ (b e : ℕ) where
   Missed y = Nowhere (Passes (is_byte2 b e) y) 0 (length y)
 
   -- no quote in the rest
-  pub none_found : (n : ℕ) (x : List ℕ) (m k : ℕ) → HasPassed (short b e) n x m k → Missed (take (length x - k) (drop k x)) → HasPassed (short b e) n x m (length x)
+  pub none_found : (n : ℕ) (x : List ℕ) (m k : ℕ) → HasPassed (short b e) true n x m k → Missed (take (length x - k) (drop k x)) → HasPassed (short b e) true n x m (length x)
   none_found n x m k s missed =
       let h : Missed (drop k x) = subst Missed (rest_is x k) missed in
-      let r : HasPassed (short b e) n x m (k + length (drop k x)) = many_past n x m k s (length (drop k x)) (omega arith) (λ i less. h i (omega arith) less) in
+      let r : HasPassed (short b e) true n x m (k + length (drop k x)) = many_past n x m k s (length (drop k x)) (omega arith) (λ i less. h i (omega arith) less) in
       let len : length (drop k x) ≡ length x - k = length-drop k x in
       let all : length x ≤ k + length (drop k x) = omega arith in
       all_followed (short b e) n x m (k + length (drop k x)) r all
 
   -- a quote after j plain bytes
-  module _ (n : ℕ) (x : List ℕ) (m k j : ℕ) (s : HasPassed (short b e) n x m k) (here : Found (take (length x - k) (drop k x)) j) where
+  module _ (n : ℕ) (x : List ℕ) (m k j : ℕ) (s : HasPassed (short b e) true n x m k) (here : Found (take (length x - k) (drop k x)) j) where
     found : Found (drop k x) j
     found = subst (λ (y : List ℕ). Found y j) (rest_is x k) here
 
     abbrev byte : ℕ
     byte = get_or x (k + j) 0
 
-    before_it : HasPassed (short b e) n x m (k + j)
+    before_it : HasPassed (short b e) true n x m (k + j)
     before_it =
         let high : j < length (drop k x) = found.0.high in
         many_past n x m k s j (omega arith) (λ i less. found.0.before i (omega arith) less)
@@ -83,16 +83,16 @@ module _ (b e : ℕ) where
     one_of_both : is_byte2 b e byte ≡ true
     one_of_both = subst (λ (v : ℕ). is_byte2 b e v ≡ true) (get_or-drop k x j 0) found.1
 
-    pub found_begin : (byte ≡ e → ⊥) → HasPassed (short b e) n x (m + 1) (k + j + 1)
+    pub found_begin : (byte ≡ e → ⊥) → HasPassed (short b e) true n x (m + 1) (k + j + 1)
     found_begin ne = short_up b e n x m (k + j) byte before_it there (begin_byte byte one_of_both ne)
 
-    pub found_end : byte ≡ e → (m ≡ 0 → ⊥) → HasPassed (short b e) n x (m - 1) (k + j + 1)
+    pub found_end : byte ≡ e → (m ≡ 0 → ⊥) → HasPassed (short b e) true n x (m - 1) (k + j + 1)
     found_end is ne = short_down b e n x m (k + j) byte before_it there (end_mark b e byte is) ne
 
     pub found_close : byte ≡ e → m ≡ 0 → (level (short b e) false n 0 x ≡ Some (k + j)) × (k + j + 1 ≤ length x)
     found_close is none =
         let within : k + j < length x = is_within in
-        (short_end b e n x (k + j) byte (subst (λ (i : ℕ). HasPassed (short b e) n x i (k + j)) none before_it) there (end_mark b e byte is), omega arith)
+        (short_end b e n x (k + j) byte (subst (λ (i : ℕ). HasPassed (short b e) true n x i (k + j)) none before_it) there (end_mark b e byte is), omega arith)
 
   -- bytes that were looked at have no quote, and the rest is searched
   module _ (x : List ℕ) (k : ℕ) (within : k ≤ length x) (near : Nowhere (is_quote x) 0 k) where

@@ -1,9 +1,9 @@
 -- ShortQuotes: quotes of one byte each are never cut, so a string ends where it does if no more bytes follow.
-use Rattle.std.proofs.Common.{◌≡◌, ◌≤◌, ◌+◌, ◌-◌, ℕ, zero, suc, Bool, true, false, ◌&&◌, List, [], ◌∷◌, length, drop, length-drop, Option, Some, None, refl, sym, ap, ◌∙◌, arith, eqb, eq-eqb}
+use Rattle.std.proofs.Common.{◌≡◌, ℕ, zero, suc, Bool, true, false, ◌&&◌, List, [], ◌∷◌, length, refl, sym, ap, ◌∙◌, arith, eqb, eq-eqb}
 use Rattle.std.proofs.Math.Bool.{and-true}
 use Rattle.std.proofs.lemmas.Bool.{ne_eqb}
 use Rattle.std.proofs.lemmas.Bool.Decides.{nat_tests}
-use Rattle.std.specs.Prelude.{nat_lt, ◌||◌, IfSome}
+use Rattle.std.specs.Prelude.{nat_lt, ◌||◌}
 use Rattle.m4_state.specs.declared.delimiters.Delimiters.{Delimiters}
 use Rattle.m4_input.specs.declared.front.Mark.{Mark}
 use Rattle.m4_input.specs.declared.front.Mark.TheVariants.{EndQuote, BeginQuote, PlainByte, CutQuote}
@@ -71,17 +71,8 @@ module _ (b e : ℕ) (m : Bool) where
       ∙ sym (level_at q false k c y (mark_at q false (c ∷ y)) refl)
 
 -- the same, if the quotes have a name
-pub short_level : (q : Delimiters) (b e : ℕ) (m : Bool) (x : List ℕ) → q.begin ≡ b ∷ [] → q.end ≡ e ∷ [] → level (record { begin = b ∷ []; end = e ∷ [] }) false 0 0 x ≡ level q m 0 0 x
-short_level q b e m x h g =
-    sym (same_level b e m 0 0 x)
-    ∙ ap (λ (y : List ℕ). let d : Delimiters = record { begin = y; end = e ∷ [] } in level d m 0 0 x) (sym h)
-    ∙ ap (λ (y : List ℕ). let d : Delimiters = record { begin = q.begin; end = y } in level d m 0 0 x) (sym g)
-
--- a string that ends in the bytes from a place on
-pub short_within : (o : Option ℕ) (y x d : List ℕ) (e at : ℕ) → y ≡ drop at x → d ≡ e ∷ [] → at ≤ length x → IfSome o (λ n. n + 1 ≤ length y) → IfSome o (λ n. at + (n + length d) ≤ length x)
-short_within None y x d e at h g l i = tt
-short_within (Some n) y x d e at h g l i =
-    let r : length (drop at x) ≡ length x - at = length-drop at x in
-    let s : length y ≡ length x - at = ap length h ∙ r in
-    let t : length d ≡ 1 = ap length g in
-    omega arith
+pub short_level : (q : Delimiters) (b e : ℕ) (m : Bool) (n : ℕ) (x : List ℕ) → q.begin ≡ b ∷ [] → q.end ≡ e ∷ [] → level (record { begin = b ∷ []; end = e ∷ [] }) false n 0 x ≡ level q m n 0 x
+short_level q b e m n x h g =
+    sym (same_level b e m n 0 x)
+    ∙ ap (λ (y : List ℕ). let d : Delimiters = record { begin = y; end = e ∷ [] } in level d m n 0 x) (sym h)
+    ∙ ap (λ (y : List ℕ). let d : Delimiters = record { begin = q.begin; end = y } in level d m n 0 x) (sym g)

@@ -1,15 +1,17 @@
 -- OpenToken: a token that a text begins and does not end, as far as it was looked at.
 -- Not believed: it connects `more_of_token` with `scan`, so that a token over many blocks is looked at once.
--- Words: further, kind_in, HasPassed, Follows, NameIsOpen, CommentIsOpen, StringIsOpen, IsOpenAt, StaysOpen,
--- NameGoesOn, CommentGoesOn, StringGoesOn.
-use Rattle.std.specs.Prelude.{◌≡◌, ◌≤◌, ◌+◌, ◌-◌, ℕ, Bool, true, false, List, [], ◌∷◌, ◌++◌, Option, Some, None, length}
+-- Words: further, kind_in, MayCome, HasPassed, Follows, Reaches, NameIsOpen, CommentIsOpen, StringIsOpen, IsOpenAt,
+-- StaysOpen, CommentGoesOn.
+use Rattle.std.specs.Prelude.{◌≡◌, ◌≤◌, ◌+◌, ℕ, Bool, true, false, List, [], ◌∷◌, ◌++◌, Option, Some, None, length}
 use Rattle.std.specs.Prelude.{drop}
 use Rattle.m4_state.specs.declared.delimiters.Delimiters.{Delimiters}
 use Rattle.m4_input.specs.declared.front.Kind.{Kind}
 use Rattle.m4_input.specs.declared.front.Kind.TheVariants.{CommentHere, NameHere, StringHere, Undecided}
 use Rattle.m4_input.specs.declared.front.Scan.TheVariants.{NeedsMore}
-use Rattle.m4_input.specs.declared.quoted.Followed.{Followed}
-use Rattle.m4_input.specs.declared.quoted.Followed.TheVariants as followed
+use Rattle.m4_input.specs.declared.strings.Followed.{Followed}
+use Rattle.m4_input.specs.declared.strings.Followed.TheVariants as followed
+use Rattle.m4_input.specs.declared.strings.Reached.{Reached}
+use Rattle.m4_input.specs.declared.strings.Reached.TheVariants as reached
 use Rattle.m4_input.specs.declared.open_token.OpenToken.{OpenToken}
 use Rattle.m4_input.specs.declared.open_token.OpenToken.TheVariants as opens
 use Rattle.m4_input.specs.Ascii.{is_name_byte}
@@ -25,17 +27,28 @@ abbrev pub kind_in : Delimiters → Delimiters → List ℕ → Kind
 kind_in q c [] = Undecided
 kind_in q c (b ∷ y) = kind_of q c true b y
 
+-- what may come after a text: any bytes if its end is open, and otherwise none, with none after them
+abbrev pub MayCome : Bool → Bool → List ℕ → Type 0
+MayCome true p z = Unit {0}
+MayCome false p z = (p ≡ false) × (z ≡ [])
+
 -- x is inside a string, with n nested strings open before it; after its first k bytes m are open, and whatever
--- follows x, the string goes on from there
-pub record HasPassed (q : Delimiters) (n : ℕ) (x : List ℕ) (m k : ℕ) : Type 0 where
+-- may come after x, the string goes on from there
+pub record HasPassed (q : Delimiters) (may_follow : Bool) (n : ℕ) (x : List ℕ) (m k : ℕ) : Type 0 where
   pub within : k ≤ length x
   pub low : m ≤ n + k
-  pub same : (p : Bool) (z : List ℕ) → level q p n 0 (x ++ z) ≡ further k (level q p m 0 (drop k x ++ z))
+  pub same : (p : Bool) (z : List ℕ) → MayCome may_follow p z
+      → level q p n 0 (x ++ z) ≡ further k (level q p m 0 (drop k x ++ z))
 
--- where a string with n nested strings open is after x
+-- where a string with n nested strings open is after x, whatever comes after x
 abbrev pub Follows : Delimiters → ℕ → List ℕ → Followed → Type 0
 Follows q n x (followed.Ends k) = (level q false n 0 x ≡ Some k) × (k + 1 ≤ length x)
-Follows q n x (followed.Open m) = HasPassed q n x m (length x)
+Follows q n x (followed.Open m) = HasPassed q true n x m (length x)
+
+-- the same where the end of x may cut a quote
+abbrev pub Reaches : Delimiters → Bool → ℕ → List ℕ → Reached → Type 0
+Reaches q may_follow n x (reached.Ends k) = (level q may_follow n 0 x ≡ Some k) × (k + length q.end ≤ length x)
+Reaches q may_follow n x (reached.Open k m) = HasPassed q may_follow n x m k × (level q may_follow n 0 x ≡ None)
 
 -- a name: its first k bytes were looked at
 pub record NameIsOpen (q c : Delimiters) (k : ℕ) (x : List ℕ) : Type 0 where
@@ -55,7 +68,7 @@ pub record CommentIsOpen (q c : Delimiters) (k : ℕ) (x : List ℕ) : Type 0 wh
 pub record StringIsOpen (q c : Delimiters) (k n : ℕ) (x : List ℕ) : Type 0 where
   pub kind : kind_in q c x ≡ StringHere
   pub long : length q.begin ≤ length x
-  pub passed : HasPassed q 0 (drop (length q.begin) x) n k
+  pub passed : HasPassed q true 0 (drop (length q.begin) x) n k
 
 abbrev pub IsOpenAt : Delimiters → Delimiters → OpenToken → List ℕ → Type 0
 IsOpenAt q c (opens.Name k) x = NameIsOpen q c k x
@@ -66,18 +79,8 @@ IsOpenAt q c (opens.Quoted k n) x = StringIsOpen q c k n x
 abbrev pub StaysOpen : Delimiters → Delimiters → OpenToken → List ℕ → Type 0
 StaysOpen q c token x = IsOpenAt q c token x × (scan q c true x ≡ NeedsMore)
 
--- of a name that was looked at up to a place: all bytes from there on belong to it, up to n, where the text ends
-pub record NameGoesOn (at n : ℕ) (x : List ℕ) : Type 0 where
-  pub all : n ≡ length x
-  pub run : at + run_length is_name_byte (drop at x) ≡ length x
-
--- of a comment: none of the bytes from a place on begins its end, and none of those before n, whatever follows
-pub record CommentGoesOn (end : List ℕ) (at n : ℕ) (x : List ℕ) : Type 0 where
-  pub within : at ≤ n × n ≤ length x
-  pub none : before end (drop at x) ≡ None
-  pub same : (z : List ℕ) → before end (drop at x ++ z) ≡ further (n - at) (before end (drop n x ++ z))
-
--- of a string: it does not end, and after the first n bytes m nested strings are open
-pub record StringGoesOn (q : Delimiters) (m n : ℕ) (x : List ℕ) : Type 0 where
-  pub passed : HasPassed q 0 x m n
-  pub unended : level q true 0 0 x ≡ None
+-- the rest of a comment: its end begins nowhere in x, and at none of the first n bytes, whatever follows
+pub record CommentGoesOn (end : List ℕ) (n : ℕ) (x : List ℕ) : Type 0 where
+  pub within : n ≤ length x
+  pub none : before end x ≡ None
+  pub same : (z : List ℕ) → before end (x ++ z) ≡ further n (before end (drop n x ++ z))

@@ -4,6 +4,9 @@ ghost use Rattle.std.specs.Prelude.{◌≡◌};
 
 use m4_state::state::State;
 
+/// A begin and an end delimiter.
+pub type Pair<'a> = (&'a [u8], &'a [u8]);
+
 /// The begin and the end of quotes and of comments. Both are empty if they are disabled.
 #[derive(Clone, Copy)]
 pub struct Delims<'a> {

@@ -14,15 +14,17 @@ ghost use Rattle.m4_input.specs.DelimsView.{pair_of};
 ghost use Rattle.m4_input.specs.Pending.{consumed, line_of, name_of, newlines_in, text_of};
 ghost use Rattle.m4_input.specs.Look.{scan_of};
 ghost use Rattle.m4_input.specs.Token.{scan};
+ghost use Rattle.m4_input.specs.declared.front.Answer.TheVariants.{Unknown};
 ghost use Rattle.m4_input.specs.declared.front.Scan.TheVariants.{NeedsMore};
 
 use crate::delims::Delims;
 use crate::fault::InputFault;
 use crate::front::{Answer, Look, Scan, Unended};
-use crate::look::first_token;
+use crate::look::{first_token, list_follows};
 use crate::open_token::OpenToken;
 use crate::pushed::Pushed;
 use crate::scan::copied;
+use crate::slice::line_len;
 use crate::text::Text;
 use crate::token::Token;
 use m4_state::bytes::Bytes;
@@ -37,6 +39,16 @@ fn is_open(look: Look) -> bool
 {
     match look {
         Look::NeedsMore => true,
+        _ => false,
+    }
+}
+
+/// Returns whether the answer is open.
+fn is_unknown(answer: Answer) -> bool
+    ensures { result ≡ false → answer ≡ Unknown → ⊥ }
+{
+    match answer {
+        Answer::Unknown => true,
         _ => false,
     }
 }
@@ -319,11 +331,12 @@ impl Input {
         }
         'blocks: loop {
             match self.list_after(0, delims) {
-                Answer::Yes => return Ok(true),
-                Answer::No => return Ok(false),
-                Answer::Unknown => {
+                Ok(Answer::Yes) => return Ok(true),
+                Ok(Answer::No) => return Ok(false),
+                Ok(Answer::Unknown) => {
                     let _came = self.more(reader)?;
                 }
+                Err(AllocError) => return Err(self.stop(InputFault::OutOfMemory)),
             }
         }
     }
@@ -372,7 +385,8 @@ impl Input {
 
     /// Asks the reader for a block, and for further ones while they leave the first token open. Returns `Read` if
     /// the reader fails and `OutOfMemory` if an allocation fails; no byte is lost then, and each later call
-    /// returns the fault. Takes time in proportion to the bytes in hand and those that come.
+    /// returns the fault. Asks for no further block if there is no memory for a copy of bytes that were pushed. Takes
+    /// time in proportion to the bytes in hand and those that come.
     pub fn more_of_token<R: ByteSource>(
         &mut self,
         reader: &mut R,
@@ -399,14 +413,15 @@ impl Input {
             if !self.more(reader)? {
                 return Ok(());
             }
-            match self.text.window().still_open(token, delims) {
+            match self.text.still_open(self.alloc, token, delims) {
                 Some(longer) => token = longer,
                 None => return Ok(()),
             }
         }
     }
 
-    /// Returns the first token of the bytes in hand if it may go on in bytes that follow.
+    /// Returns the first token of the bytes in hand if it may go on in bytes that follow. Returns `None` too if an
+    /// allocation fails.
     fn open_token(&self, delims: &Delims<'_>) -> Option<OpenToken>
         ensures { IfSome result (λ o. (self.now.pending.definition ≡ None)
             × IsOpenAt (pair_of delims.now.quotes) (pair_of delims.now.comments) o (text_of self.now.pending)) }
@@ -414,7 +429,7 @@ impl Input {
         if self.definition.is_some() {
             return None;
         }
-        self.text.window().open_token(delims)
+        self.text.open_token(self.alloc, delims)
     }
 
     /// Removes the definition that comes before the bytes in hand, if there is one, and returns it.
@@ -467,29 +482,55 @@ impl Input {
             self.now.pending.may_follow (text_of self.now.pending)) }
         ensures within { IfOk result (λ s. LiesIn (length (text_of self.now.pending)) s) }
     {
-        let all = self.text.window().len();
+        let all = self.text.len();
         let mut len = all.min(fewer.max(64));
+        let mut front = Vec::new(self.alloc);
         'joins: while len < all {
-            let front = self.text.window().copy(self.alloc, 0, len)?;
+            let _others = self.text.copy_front(len, &mut front)?;
             let look = first_token(front.as_slice(), delims, true);
             if !is_open(look) {
                 return copied(self.alloc, look, front.as_slice());
             }
             len = all.min(len.saturating_add(len.max(64)));
         }
-        let front = self.text.window().copy(self.alloc, 0, all)?;
+        let _others = self.text.copy_front(all, &mut front)?;
         let look = first_token(front.as_slice(), delims, self.may_follow);
         copied(self.alloc, look, front.as_slice())
     }
 
     /// Returns whether an argument list follows the first n bytes in hand; `Unknown` if bytes that may follow
     /// decide it. Consumes nothing. Manual: "Macro invocation".
-    pub fn list_after(&self, n: usize, delims: &Delims<'_>) -> Answer
+    pub fn list_after(&self, n: usize, delims: &Delims<'_>) -> Result<Answer, AllocError>
         requires { n ≤ length (text_of self.now.pending) }
         // exact steps: whether a list follows, by the bytes in hand
-        ensures { ListGives (pair_of delims.now.quotes) (pair_of delims.now.comments) n self.now.pending result }
+        ensures { IfOk result (λ answer. ListGives (pair_of delims.now.quotes) (pair_of delims.now.comments) n
+            self.now.pending answer) }
     {
-        self.text.window().list_at(n, delims, self.may_follow)
+        let (text, more) = self.text.front();
+        if !more {
+            return Ok(list_follows(text.split_at(n).1, delims, self.may_follow));
+        }
+        if n < text.len() {
+            let answer = list_follows(text.split_at(n).1, delims, true);
+            if !is_unknown(answer) {
+                return Ok(answer);
+            }
+        }
+        self.list_across(n, delims)
+    }
+
+    /// Returns the same by a copy of so many bytes that no delimiter is cut.
+    fn list_across(&self, n: usize, delims: &Delims<'_>) -> Result<Answer, AllocError>
+        requires { n ≤ length (text_of self.now.pending) }
+        ensures { IfOk result (λ answer. ListGives (pair_of delims.now.quotes) (pair_of delims.now.comments) n
+            self.now.pending answer) }
+    {
+        let _small = self.text.len();
+        let longest = delims.quotes.0.len().max(delims.comments.0.len()).max(1);
+        let mut front = Vec::new(self.alloc);
+        let others = self.text.copy_front(n.saturating_add(longest), &mut front)?;
+        let rest = front.as_slice().split_at(n).1;
+        Ok(list_follows(rest, delims, others || self.may_follow))
     }
 
     /// Discards a definition and the rest of the line as far as it is in hand. Returns whether that was all of
@@ -499,14 +540,20 @@ impl Input {
         // exact steps: the rest after the line, or after all bytes in hand
         ensures { LineGives self.old self.new result }
     {
-        match self.text.window().line_len() {
-            Some(len) => {
-                self.consume(len);
-                true
-            }
-            None => {
-                self.drop_all();
-                !self.may_follow
+        'fronts: loop {
+            let (text, more) = self.text.front();
+            match line_len(text) {
+                Some(len) => {
+                    self.consume(len);
+                    return true;
+                }
+                None => {
+                    let len = text.len();
+                    self.consume(len);
+                    if !more {
+                        return !self.may_follow;
+                    }
+                }
             }
         }
     }
@@ -515,7 +562,7 @@ impl Input {
     fn drop_all(&mut self)
         ensures { self.new ≡ record self.old { pending = all_read self.old.pending } }
     {
-        let len = self.text.window().len();
+        let len = self.text.len();
         self.consume(len);
     }
 

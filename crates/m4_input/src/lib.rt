@@ -5,24 +5,23 @@
 //! list follows, and `specs/Input.antt` the effect of each call.
 //! Manual: "Lexical and syntactic conventions", "How m4 copies input to output".
 //!
-//! For users of the crate: `Input::file`, `wrapped`, `next`, `sees_paren`, `skip_line`, `push_front`, `line` and `name`, with
-//! [`delims`], [`token`], [`pushed`] and [`fault`]. For the engine, which takes many tokens at once: the calls of `Input` on
-//! the bytes in hand, with [`front`], [`look`] and [`lanes`].
+//! For users of the crate: `Input::file`, `wrapped`, `next`, `sees_paren`, `skip_line`, `push_front`, `line` and
+//! `name`, with [`delims`], [`token`], [`pushed`] and [`fault`]. For the engine, which takes many tokens at once: the
+//! calls of `Input` on the bytes in hand, with [`front`], [`look`] and [`lanes`].
 #![tactic(auto)]
 
 pub mod delims;
 pub mod fault;
 mod file;
-mod follows;
 pub mod front;
 pub mod input;
 pub mod lanes;
 pub mod look;
 mod open_token;
 pub mod pushed;
-mod quoted;
 mod scan;
 mod segment;
+mod slice;
+mod strings;
 mod text;
 pub mod token;
-mod window;

@@ -12,13 +12,11 @@ ghost use Rattle.m4_input.specs.Paren.{paren_in};
 ghost use Rattle.m4_input.specs.Token.{starts_with, may_start, run_length, unended, name_at, comment_at, string_at};
 ghost use Rattle.m4_input.specs.Token.{scan};
 
-use crate::delims::Delims;
+use crate::delims::{Delims, Pair};
 use crate::front::{Answer, Kind, Look, Unended};
-use crate::quoted::{quoted_len, single};
-use crate::window::{Window, is_letter_byte, word_len};
-
-/// A begin and an end delimiter.
-type Pair<'a> = (&'a [u8], &'a [u8]);
+use crate::scan::{kind, may_open, opens};
+use crate::slice::{find, is_letter_byte, single, word_len};
+use crate::strings::{Reached, follow, quoted_len};
 
 /// Returns the first token of a text, if no delimiter can begin with its first byte. This takes no search.
 #[inline(always)]
@@ -51,7 +49,7 @@ pub fn first_token(text: &[u8], delims: &Delims<'_>, may_follow: bool) -> Look
     }
     match quoted_token(text, delims, may_follow) {
         Some(look) => look,
-        None => token_by_kind(text, delims, may_follow),
+        None => look_by_kind(text, delims, may_follow),
     }
 }
 
@@ -89,12 +87,51 @@ fn quoted_token(text: &[u8], delims: &Delims<'_>, may_follow: bool) -> Option<Lo
 
 /// Returns the first token of a text, by its kind.
 #[inline(never)]
-fn token_by_kind(text: &[u8], delims: &Delims<'_>, may_follow: bool) -> Look
+fn look_by_kind(text: &[u8], delims: &Delims<'_>, may_follow: bool) -> Look
     ensures value { scan (pair_of delims.now.quotes) (pair_of delims.now.comments) may_follow text.now
         ≡ scan_of result text.now }
     ensures lies { LookLies text.now result }
 {
-    Window::of(text).look_by_kind(delims, may_follow)
+    let Some(first) = text.first() else {
+        return if may_follow {
+            Look::NeedsMore
+        } else {
+            Look::End
+        };
+    };
+    match kind(text, delims, may_follow, *first) {
+        Kind::CommentHere => look_at_comment(text, &delims.comments, may_follow),
+        Kind::NameHere => name_token(text, may_follow),
+        Kind::StringHere => look_at_string(text, &delims.quotes, may_follow),
+        Kind::ByteHere => Look::Byte(*first),
+        Kind::Undecided => Look::NeedsMore,
+    }
+}
+
+/// Returns the comment at the start of a text, with its delimiters.
+fn look_at_comment(text: &[u8], pair: &Pair<'_>, may_follow: bool) -> Look
+    requires { length pair.now.0.now ≤ length text.now }
+    ensures value { comment_at (pair_of pair.now) may_follow text.now ≡ scan_of result text.now }
+    ensures lies { LookLies text.now result }
+{
+    match find(text.split_at(pair.0.len()).1, pair.1) {
+        None => without_end(Unended::InComment, may_follow),
+        Some(n) => Look::Comment(pair.0.len() + (n + pair.1.len())),
+    }
+}
+
+/// Returns the string at the start of a text, without its outermost quotes.
+fn look_at_string(text: &[u8], pair: &Pair<'_>, may_follow: bool) -> Look
+    requires starts { length pair.now.0.now ≤ length text.now }
+    requires begin { 0 < length pair.now.0.now }
+    ensures value { string_at (pair_of pair.now) may_follow text.now ≡ scan_of result text.now }
+    ensures lies { LookLies text.now result }
+{
+    let begin = pair.0.len();
+    match follow(text.split_at(begin).1, 0, pair, may_follow) {
+        Reached::Open(_, _) => without_end(Unended::InString, may_follow),
+        Reached::Ends(n) => Look::Quoted(begin, n, begin + (n + pair.1.len())),
+    }
 }
 
 /// Returns whether the first token of a text is an opening parenthesis; `Unknown` if more bytes may follow
@@ -118,12 +155,21 @@ pub fn list_follows(text: &[u8], delims: &Delims<'_>, may_follow: bool) -> Answe
     }
 }
 
-/// Returns the same by a comparison with each delimiter.
+/// Returns whether the parenthesis at the start of a text is a token by itself, and begins no delimiter.
 #[inline(never)]
 fn list_by_delimiters(text: &[u8], delims: &Delims<'_>, may_follow: bool) -> Answer
+    requires { text.now ≡ 40 ∷ drop 1 text.now }
     ensures { paren_in (pair_of delims.now.quotes) (pair_of delims.now.comments) may_follow text.now ≡ result }
 {
-    Window::of(text).list_at(0, delims, may_follow)
+    let comments = &delims.comments;
+    let quotes = &delims.quotes;
+    if opens(text, comments) || opens(text, quotes) {
+        Answer::No
+    } else if may_open(text, comments, may_follow) || may_open(text, quotes, may_follow) {
+        Answer::Unknown
+    } else {
+        Answer::Yes
+    }
 }
 
 /// Returns whether the first of two delimiters begins with this byte.
@@ -135,86 +181,6 @@ pub fn may_begin(first: u8, pair: &Pair<'_>) -> bool
     match pair.0.first() {
         Some(byte) => *byte == first,
         None => false,
-    }
-}
-
-impl<'a> Window<'a> {
-    /// Returns the first token.
-    pub fn look(&self, delims: &Delims<'_>, may_follow: bool) -> Look
-        ensures value { scan (pair_of delims.now.quotes) (pair_of delims.now.comments) may_follow self.now
-            ≡ scan_of result self.now }
-        ensures lies { LookLies self.now result }
-    {
-        match self.tail(0) {
-            Some(text) => first_token(text, delims, may_follow),
-            None => self.look_by_kind(delims, may_follow),
-        }
-    }
-
-    /// Returns the first token, by its kind.
-    fn look_by_kind(&self, delims: &Delims<'_>, may_follow: bool) -> Look
-        ensures value { scan (pair_of delims.now.quotes) (pair_of delims.now.comments) may_follow self.now
-            ≡ scan_of result self.now }
-        ensures lies { LookLies self.now result }
-    {
-        let Some(first) = self.byte(0) else {
-            return if may_follow {
-                Look::NeedsMore
-            } else {
-                Look::End
-            };
-        };
-        match self.kind(delims, may_follow, first) {
-            Kind::CommentHere => self.look_at_comment(&delims.comments, may_follow),
-            Kind::NameHere => self.look_at_name(may_follow),
-            Kind::StringHere => self.look_at_string(&delims.quotes, may_follow),
-            Kind::ByteHere => Look::Byte(first),
-            Kind::Undecided => Look::NeedsMore,
-        }
-    }
-
-    /// Returns the name at the start.
-    #[inline(always)]
-    fn look_at_name(&self, may_follow: bool) -> Look
-        requires { 0 < run_length is_name_byte self.now }
-        ensures value { name_at may_follow self.now ≡ scan_of result self.now }
-        ensures lies { LookLies self.now result }
-    {
-        let len = self.word_len(0);
-        if may_follow && len == self.len() {
-            Look::NeedsMore
-        } else {
-            Look::Name(len)
-        }
-    }
-
-    /// Returns the comment at the start, with its delimiters.
-    fn look_at_comment(&self, pair: &Pair<'_>, may_follow: bool) -> Look
-        requires { length pair.now.0.now ≤ length self.now }
-        ensures value { comment_at (pair_of pair.now) may_follow self.now ≡ scan_of result self.now }
-        ensures lies { LookLies self.now result }
-    {
-        let _small = self.len();
-        match self.find(pair.0.len(), pair.1) {
-            None => without_end(Unended::InComment, may_follow),
-            Some(n) => Look::Comment(pair.0.len() + (n + pair.1.len())),
-        }
-    }
-
-    /// Returns the string at the start, without its outermost quotes.
-    #[inline(always)]
-    fn look_at_string(&self, pair: &Pair<'_>, may_follow: bool) -> Look
-        requires starts { length pair.now.0.now ≤ length self.now }
-        requires begin { 0 < length pair.now.0.now }
-        ensures value { string_at (pair_of pair.now) may_follow self.now ≡ scan_of result self.now }
-        ensures lies { LookLies self.now result }
-    {
-        let _small = self.len();
-        let begin = pair.0.len();
-        match self.string_len(begin, pair, may_follow) {
-            None => without_end(Unended::InString, may_follow),
-            Some(n) => Look::Quoted(begin, n, begin + (n + pair.1.len())),
-        }
     }
 }
 

@@ -1,131 +1,57 @@
-//! The first token of a text: its kind, its end, and a copy of it.
-//!
-//! Nested strings are counted, so that a string takes one pass. If more bytes may follow (`may_follow`),
-//! nothing is decided that they could change. Manual: "Quoted strings", "Comments", "Names".
+//! The first token of a text: its kind, and a copy of it. If more bytes may follow (`may_follow`), nothing is decided
+//! that they could change. Manual: "Quoted strings", "Comments", "Names".
 
 ghost use Rattle.std.specs.Prelude.{◌≡◌, ◌+◌, ◌<◌, ◌≤◌, ◌∷◌, IfSome, IfOk, IsTrue, length, take, drop};
 ghost use Rattle.m4_input.specs.DelimsView.{pair_of};
-ghost use Rattle.m4_input.specs.Token.{level, mark_at, starts_with, may_start, kind_of};
+ghost use Rattle.m4_input.specs.Token.{starts_with, may_start, kind_of};
 ghost use Rattle.m4_input.specs.Look.{scan_of, LookLies};
 ghost use Rattle.m4_input.specs.Text.{LiesIn};
 
-use crate::delims::Delims;
-use crate::front::{Kind, Look, Mark, Scan};
-use crate::quoted::{quoted_len, single};
+use crate::delims::{Delims, Pair};
+use crate::front::{Kind, Look, Scan};
+use crate::slice::{cut, is_letter_byte, starts};
 use crate::token::Token;
-use crate::window::{Window, is_letter_byte};
 use m4_state::bytes::Bytes;
 use std::alloc::{AllocError, Global};
 
-/// A begin and an end delimiter.
-type Pair<'a> = (&'a [u8], &'a [u8]);
+/// Returns whether a text begins with a pair that is enabled.
+pub fn opens(text: &[u8], pair: &Pair<'_>) -> bool
+    ensures value { result ≡ starts_with (pair_of pair.now) text.now }
+    ensures within { IsTrue result
+        → (0 < length pair.now.0.now) × (length pair.now.0.now ≤ length text.now) }
+{
+    !pair.0.is_empty() && starts(text, pair.0)
+}
 
-impl<'a> Window<'a> {
-    /// Returns the mark at a place in a string.
-    pub fn mark(&self, at: usize, quotes: &Pair<'_>, may_follow: bool) -> Mark
-        requires { at ≤ length self.now }
-        ensures value { result ≡ mark_at (pair_of quotes.now) may_follow (drop at self.now) }
-        ensures ends { result ≡ Mark.EndQuote → at + length quotes.now.1.now ≤ length self.now }
-        ensures begins { result ≡ Mark.BeginQuote → at + length quotes.now.0.now ≤ length self.now }
-    {
-        if self.starts(at, quotes.1) {
-            Mark::EndQuote
-        } else if may_follow && (self.cut(at, quotes.1) || self.cut(at, quotes.0)) {
-            Mark::CutQuote
-        } else if self.starts(at, quotes.0) {
-            Mark::BeginQuote
-        } else {
-            Mark::PlainByte
-        }
-    }
+/// Returns whether, with more bytes, it may turn out to begin so.
+pub fn may_open(text: &[u8], pair: &Pair<'_>, may_follow: bool) -> bool
+    ensures { result ≡ may_start (pair_of pair.now) may_follow text.now }
+{
+    may_follow && !pair.0.is_empty() && cut(text, pair.0)
+}
 
-    /// Counts the bytes before the end-quote that closes the string. An empty end-quote is found at each
-    /// byte.
-    pub fn string_len(&self, at: usize, quotes: &Pair<'_>, may_follow: bool) -> Option<usize>
-        requires within { at ≤ length self.now }
-        requires begin { 0 < length quotes.now.0.now }
-        ensures value { result ≡ level (pair_of quotes.now) may_follow 0 0 (drop at self.now) }
-        ensures closed { IfSome result (λ n. at + (n + length quotes.now.1.now) ≤ length self.now) }
-    {
-        let shorts = (single(quotes.0), single(quotes.1));
-        match (shorts, self.tail(at)) {
-            // Quotes of one byte are never cut.
-            ((Some(begin), Some(end)), Some(tail)) => quoted_len(tail, begin, end),
-            _ => self.string_len_by_steps(at, quotes, may_follow),
-        }
-    }
-
-    /// The same, byte by byte.
-    fn string_len_by_steps(&self, at: usize, quotes: &Pair<'_>, may_follow: bool) -> Option<usize>
-        requires within { at ≤ length self.now }
-        requires begin { 0 < length quotes.now.0.now }
-        ensures value { result ≡ level (pair_of quotes.now) may_follow 0 0 (drop at self.now) }
-        ensures closed { IfSome result (λ n. at + (n + length quotes.now.1.now) ≤ length self.now) }
-    {
-        if quotes.1.is_empty() {
-            return self.byte(at).map(|_| 0);
-        }
-        let mut open = 0usize;
-        let mut k = at;
-        'places: while let Some(_) = self.byte(k) {
-            match self.mark(k, quotes, may_follow) {
-                Mark::EndQuote => {
-                    if open == 0 {
-                        return Some(k - at);
-                    }
-                    open -= 1;
-                    k += quotes.1.len();
-                }
-                Mark::BeginQuote => {
-                    open += 1;
-                    k += quotes.0.len();
-                }
-                Mark::PlainByte => k += 1,
-                Mark::CutQuote => return None,
-            }
-        }
-        None
-    }
-
-    /// Returns whether a pair that is enabled begins here.
-    pub fn opens(&self, pair: &Pair<'_>) -> bool
-        ensures value { result ≡ starts_with (pair_of pair.now) self.now }
-        ensures within { IsTrue result
-            → (0 < length pair.now.0.now) × (length pair.now.0.now ≤ length self.now) }
-    {
-        !pair.0.is_empty() && self.starts(0, pair.0)
-    }
-
-    /// Returns whether, with more bytes, it may turn out to begin here.
-    fn may_open(&self, pair: &Pair<'_>, may_follow: bool) -> bool
-        ensures { result ≡ may_start (pair_of pair.now) may_follow self.now }
-    {
-        may_follow && !pair.0.is_empty() && self.cut(0, pair.0)
-    }
-
-    /// Returns the kind of token that begins here.
-    pub fn kind(&self, delims: &Delims<'_>, may_follow: bool, first: u8) -> Kind
-        requires { self.now ≡ first ∷ drop 1 self.now }
-        ensures value { result ≡ kind_of (pair_of delims.now.quotes) (pair_of delims.now.comments)
-            may_follow first (drop 1 self.now) }
-        ensures comment { result ≡ Kind.CommentHere
-            → length delims.now.comments.0.now ≤ length self.now }
-        ensures string { result ≡ Kind.StringHere → (0 < length delims.now.quotes.0.now)
-            × (length delims.now.quotes.0.now ≤ length self.now) }
-    {
-        if self.opens(&delims.comments) {
-            Kind::CommentHere
-        } else if self.may_open(&delims.comments, may_follow) {
-            Kind::Undecided
-        } else if is_letter_byte(first) {
-            Kind::NameHere
-        } else if self.opens(&delims.quotes) {
-            Kind::StringHere
-        } else if self.may_open(&delims.quotes, may_follow) {
-            Kind::Undecided
-        } else {
-            Kind::ByteHere
-        }
+/// Returns the kind of token with which a text begins.
+pub fn kind(text: &[u8], delims: &Delims<'_>, may_follow: bool, first: u8) -> Kind
+    requires { text.now ≡ first ∷ drop 1 text.now }
+    ensures value { result ≡ kind_of (pair_of delims.now.quotes) (pair_of delims.now.comments)
+        may_follow first (drop 1 text.now) }
+    ensures comment { result ≡ Kind.CommentHere
+        → length delims.now.comments.0.now ≤ length text.now }
+    ensures string { result ≡ Kind.StringHere → (0 < length delims.now.quotes.0.now)
+        × (length delims.now.quotes.0.now ≤ length text.now) }
+{
+    if opens(text, &delims.comments) {
+        Kind::CommentHere
+    } else if may_open(text, &delims.comments, may_follow) {
+        Kind::Undecided
+    } else if is_letter_byte(first) {
+        Kind::NameHere
+    } else if opens(text, &delims.quotes) {
+        Kind::StringHere
+    } else if may_open(text, &delims.quotes, may_follow) {
+        Kind::Undecided
+    } else {
+        Kind::ByteHere
     }
 }
 

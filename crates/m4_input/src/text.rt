@@ -4,14 +4,13 @@
 //! takes its place, and so does a text that is pushed. To push a text takes no copy, and to consume bytes takes
 //! time in proportion to the segments that they end.
 
-ghost use Rattle.std.specs.Prelude.{◌≡◌, ◌≢◌, ◌<◌, ◌≤◌, ◌^◌, ◌++◌, ◌+◌, [], IfOk, OnOk, OnErr, Ok, true, false, length};
-ghost use Rattle.std.specs.Prelude.{take, nat_lt};
+ghost use Rattle.std.specs.Prelude.{◌≡◌, ◌≢◌, ◌<◌, ◌≤◌, ◌^◌, ◌++◌, ◌+◌, [], IfSome, IfOk, OnOk, OnErr, Ok, true, false};
+ghost use Rattle.std.specs.Prelude.{length, take, drop, nat_lt};
 ghost use Rattle.m4_input.specs.Pending.{newlines_in};
 
 use crate::fault::InputFault;
 use crate::file::File;
 use crate::segment::Segment;
-use crate::window::Window;
 use m4_state::bytes::Bytes;
 use m4_state::device::ByteSource;
 use std::alloc::{AllocError, AllocFailed, Global};
@@ -103,11 +102,12 @@ impl Text {
         self.file.newlines()
     }
 
-    /// Returns the bytes in reading order.
-    pub fn window(&self) -> Window<'_>
-        ensures { result ≡ text_in self.now }
+    /// Returns the number of bytes.
+    pub fn len(&self) -> usize
+        ensures len { result ≡ length (text_in self.now) }
+        ensures small { result < 2 ^ 64 }
     {
-        Window::new(self.top.rest(), &self.below, self.held, self.file.rest())
+        self.top.len() + self.held + self.file.rest().len()
     }
 
     /// Returns the bytes at the start that are contiguous, and whether others in hand come after them.
@@ -137,7 +137,23 @@ impl Text {
             rest = others;
         }
         append_most(copy, self.file.rest(), most)?;
-        Ok(most < self.window().len())
+        Ok(most < self.len())
+    }
+
+    /// Returns the bytes from a place on: those of the file, or of a copy of all bytes if some of them were pushed.
+    /// Returns `None` if an allocation fails.
+    pub fn rest<'a>(&'a self, at: usize, copy: &'a mut Vec<u8>) -> Option<&'a [u8]>
+        requires { at ≤ length (text_in self.now) }
+        ensures { IfSome result (λ x. x.now ≡ drop at (text_in self.now)) }
+    {
+        let pushed = self.top.len() + self.held;
+        if at >= pushed {
+            return Some(self.file.rest().split_at(at - pushed).1);
+        }
+        match self.copy_front(self.len(), copy) {
+            Ok(_) => Some(copy.as_slice().split_at(at).1),
+            Err(AllocError) => None,
+        }
     }
 
     /// Inserts a text at the start, without a copy. If an allocation fails, nothing changes.

@@ -137,7 +137,8 @@ impl Machine {
             self.put_text(name.as_slice())?;
             return Ok(Turned::GoesOn);
         };
-        let listed = match input.list_after(len, &Delims::of(&self.state)) {
+        let follows = input.list_after(len, &Delims::of(&self.state))?;
+        let listed = match follows {
             Answer::Yes => true,
             Answer::No => false,
             Answer::Unknown => return Ok(Turned::NeedsMore),

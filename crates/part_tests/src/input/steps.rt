@@ -278,7 +278,7 @@ fn list_after(
     if n > hand.len() {
         return Ok(b"too few bytes\n");
     }
-    match input.list_after(n, delims) {
+    match input.list_after(n, delims)? {
         Answer::Yes => Ok(b"list\n"),
         Answer::No => Ok(b"no list\n"),
         Answer::Unknown => Ok(b"unknown\n"),

@@ -20,7 +20,7 @@ pub returns-in-Unknown : goal.returns-in-Unknown
 returns-in-Unknown c = list_turn c.args.self.now c.args.input.now c.in-Some.definition.now c.args.name c.args.len c.requires.ready c.requires.first c.requires.scanned (search rules) (search rules)
 
 pub take_named-requires-clause-list : goal.take_named-requires-clause-list
-take_named-requires-clause-list c = elim c.match-list_after.branch [
+take_named-requires-clause-list c = elim c.match-follows.branch [
   | in-Yes w ↦ list_there c.self.inside.state.quotes c.self.inside.state.comments c.args.input.now.pending c.consume-2.new.self.pending c.args.len _ (search rules) (search rules)
   | in-No w ↦ list_there c.self.inside.state.quotes c.self.inside.state.comments c.args.input.now.pending c.consume-2.new.self.pending c.args.len _ (search rules) (search rules)
 ]
@@ -30,7 +30,7 @@ returns c =
     let e = c.args.self.now in
     let p = c.args.input.now.pending in
     let q = c.consume-2.new.self.pending in
-    let l = c.match-list_after.listed in
+    let l = c.match-follows.listed in
     let m = c.set_place.new.self in
     let set : m ≡ placed (place_in p) c.in_ok-meaning.meaning = search rules in
     let moves = subst (λ (x : Engine). NameMoves q.may_follow x c.take_named.new.self q c.take_named.new.input.pending c.take_named.result m (is_bare l x)) c.self.view_is c.take_named.ensures.moves in

@@ -1,5 +1,10 @@
-use Rattle.std.proofs.Common.{rules}
+use Rattle.std.proofs.Common.{rules, arith}
+use Rattle.m4_input.specs.DelimsView.{pair_of}
+use Rattle.m4_input.specs.Pending.{text_of}
+use Rattle.m4_input.proofs.Fronts.{list_decided}
 use Rattle.m4_input.proofs.input.Input.list_after.Goals as goal
 
-pub returns : goal.returns
-returns c = search rules
+pub returns-then-not-is_unknown : goal.returns-then-not-is_unknown
+returns-then-not-is_unknown c =
+    list_decided (pair_of c.args.delims.now.quotes) (pair_of c.args.delims.now.comments) c.args.self.now.pending.may_follow c.args.n c.front-more.result.0.now
+    (text_of c.args.self.now.pending) c.list_follows-answer.result (search rules) (omega (arith, c.if-n-text.true)) (search rules) (c.is_unknown.ensures (search rules))

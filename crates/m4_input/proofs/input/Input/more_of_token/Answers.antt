@@ -1,6 +1,7 @@
 use Rattle.std.proofs.Common.{◌≡◌, ◌<◌, ◌≤◌, ℕ, Bool, true, None, Ok, sym, ap, ◌∙◌, subst, arith}
 use Rattle.m4_input.specs.DelimsView.{pair_of}
 use Rattle.m4_input.specs.Pending.{text_of}
+use Rattle.m4_input.specs.Text.{text_in}
 use Rattle.m4_input.specs.Token.{scan}
 use Rattle.m4_input.specs.Input.{Held, failures_after}
 use Rattle.m4_input.specs.OpenToken.{IsOpenAt}
@@ -16,7 +17,7 @@ still_open-requires g c =
     let o : IsOpenAt q d c.blocks-2.token (text_of c.more-in-blocks-2.new.self.pending) =
     open_then q d (g.R.ByteSource.script c.args.reader.now) (g.R.ByteSource.script c.blocks-2.reader) (g.R.ByteSource.script c.more-in-blocks-2.new.reader)
     c.args.self.now c.blocks-2.self c.more-in-blocks-2.new.self i.0.0 c.in_ok-more.field-0 i.0.1 i.1 c.in_ok-more.ensures.gives c.blocks-2.token i.2 in
-    subst (IsOpenAt q d c.blocks-2.token) (sym (c.window.ensures ∙ ap (λ (h : Held). text_of h.pending) c.self.view_is)) o
+    subst (IsOpenAt q d c.blocks-2.token) (sym (ap (λ (h : Held). text_of h.pending) c.self.view_is)) o
 
 pub blocks-2-preserved : goal.blocks-2-preserved
 blocks-2-preserved g c =
@@ -25,7 +26,7 @@ blocks-2-preserved g c =
     let i = c.blocks-2.invariant in
     let n : ℕ = g.R.ByteSource.failures c.blocks-2.reader in
     let new : Held = c.more-in-blocks-2.new.self in
-    let text : c.window.result ≡ text_of new.pending = c.window.ensures ∙ ap (λ (h : Held). text_of h.pending) c.self.view_is in
+    let text : text_in c.self.inside.text ≡ text_of new.pending = ap (λ (h : Held). text_of h.pending) c.self.view_is in
     let k = come_open q d (g.R.ByteSource.script c.args.reader.now) (g.R.ByteSource.script c.blocks-2.reader) (g.R.ByteSource.script c.more-in-blocks-2.new.reader)
     c.args.self.now c.blocks-2.self new i.0.0 c.in_ok-more.field-0 i.0.1 i.1 c.in_ok-more.ensures.gives c.if-not-branch.false
     (ap (scan q d true) (sym text) ∙ c.in-Some-still_open.ensures.1) in

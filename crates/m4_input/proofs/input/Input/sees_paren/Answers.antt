@@ -30,13 +30,13 @@ blocks-2-preserved g c =
     let a = g.R.ByteSource.script c.blocks-2.reader in
     let b = g.R.ByteSource.script c.more.new.reader in
     let n : ℕ = g.R.ByteSource.failures c.blocks-2.reader in
-    let came = c.in_ok-_came-in-Unknown._came in
-    let seen : paren_in q r (h.pending).may_follow (text_of h.pending) ≡ Unknown = c.list_after.ensures ∙ c.in-Unknown.is in
+    let came = c.in_ok-_came-in-Ok-Unknown._came in
+    let seen : paren_in q r (h.pending).may_follow (text_of h.pending) ≡ Unknown = c.in-Ok-Unknown.ensures ∙ c.in-Ok-Unknown.field-0-is in
     let w : wants_list q r h.pending = ap (λ (o : Option Def). paren_from o q r h.pending) i.1 ∙ seen in
-    let m = asked_more (wants_list q r) s a b c.args.self.now h new i.0.0 h.pending came i.0.1 (paren_open q r (h.pending).may_follow (text_of h.pending) seen) w c.in_ok-_came-in-Unknown.ensures.gives in (
+    let m = asked_more (wants_list q r) s a b c.args.self.now h new i.0.0 h.pending came i.0.1 (paren_open q r (h.pending).may_follow (text_of h.pending) seen) w c.in_ok-_came-in-Ok-Unknown.ensures.gives in (
       (i.0.0 ++ m.0, subst (HasAsked (wants_list q r) s b c.args.self.now new (i.0.0 ++ m.0)) (sym m.2) m.1),
       ap (λ (p : Pending). p.definition) m.2 ∙ i.1,
-      c.in_ok-_came-in-Unknown.ensures.counted
+      c.in_ok-_came-in-Ok-Unknown.ensures.counted
           ∙ ap (λ (o : Option InputFault). failures_after o new.fault n) i.0.1.sound
           ∙ ap (λ (o : Option InputFault). failures_after None o n) m.1.sound
           ∙ i.2,

@@ -1,4 +1,4 @@
-use Rattle.std.proofs.Common.{◌≡◌, ◌<◌, ◌≤◌, ◌-◌, length, drop, arith, ◌∙◌, sym, ap}
+use Rattle.std.proofs.Common.{◌≡◌, ◌<◌, ◌≤◌, ◌-◌, length, arith, ◌∙◌, sym, ap}
 use Rattle.std.proofs.lemmas.List.{length-drop}
 use Rattle.m4_input.proofs.Joins.{some_left}
 use Rattle.m4_input.proofs.text.Text.consume.Goals as goal

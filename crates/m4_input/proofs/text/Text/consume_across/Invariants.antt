@@ -1,5 +1,5 @@
-use Rattle.std.proofs.Common.{◌≡◌, ◌≤◌, ◌++◌, length}
-use Rattle.m4_input.specs.Text.{HeldText, text_in, text_after, joined}
+use Rattle.std.proofs.Common.{◌≡◌, ◌≤◌, length}
+use Rattle.m4_input.specs.Text.{text_in, text_after}
 use Rattle.m4_input.specs.TextView.{view_of, IsCounted}
 use Rattle.m4_input.proofs.text.Text.consume_across.Given as goal
 

@@ -1,6 +1,6 @@
-use Rattle.std.proofs.Common.{rules, ◌≡◌, ◌<◌, ◌≤◌, ◌++◌, ◌+◌, ◌∷◌, [], List, ℕ, length, take, arith, ap, ◌∙◌, sym, subst, append_assoc, append-nil, length-append}
+use Rattle.std.proofs.Common.{rules, ◌≡◌, ◌≤◌, ◌++◌, ◌∷◌, [], List, ℕ, length, take, arith, ap, ◌∙◌, sym, append_assoc, append-nil, length-append}
 use Rattle.std.proofs.lemmas.List.{nil_from_length, length-take}
-use Rattle.m4_input.specs.Text.{HeldText, joined, text_in}
+use Rattle.m4_input.specs.Text.{HeldText, joined}
 use Rattle.m4_input.proofs.Joins.{joined_push, take_more}
 use Rattle.m4_input.proofs.text.Text.copy_front.Goals as goal
 

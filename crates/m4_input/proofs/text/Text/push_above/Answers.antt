@@ -1,4 +1,4 @@
-use Rattle.std.proofs.Common.{◌≡◌, ◌≤◌, ◌+◌, ◌++◌, ◌∷◌, [], List, ℕ, length, ap, ◌∙◌, sym, arith, append_assoc}
+use Rattle.std.proofs.Common.{◌≡◌, ◌+◌, ◌++◌, ◌∷◌, [], List, ℕ, length, ap, ◌∙◌, sym, arith}
 use Rattle.m4_input.specs.Text.{HeldText, joined}
 use Rattle.m4_input.proofs.Joins.{joined_push, joined_length}
 use Rattle.m4_input.proofs.text.Text.push_above.Goals as goal

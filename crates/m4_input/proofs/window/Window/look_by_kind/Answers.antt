@@ -1,9 +1,0 @@
-use Rattle.std.proofs.Common.{rules}
-use Rattle.m4_input.specs.DelimsView.{pair_of}
-use Rattle.m4_input.proofs.Looks.{name_begins}
-use Rattle.m4_input.proofs.window.Window.look_by_kind.Goals as goal
-
-pub look_at_name-requires : goal.look_at_name-requires
-look_at_name-requires c =
-    name_begins (pair_of c.args.delims.now.quotes) (pair_of c.args.delims.now.comments) c.args.may_follow c.in-Some.first c.args.self.now c.kind.result
-    (search rules) c.kind.ensures.value (search rules)

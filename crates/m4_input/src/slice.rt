@@ -1,0 +1,128 @@
+//! Tests on the bytes of one slice: how long is its name or line, and where is a delimiter?
+
+ghost use Rattle.std.specs.Prelude.{◌≡◌, ◌≢◌, ◌+◌, ◌<◌, ◌≤◌, ◌∷◌, [], List, ℕ, IfSome, IfNone, IsTrue, length};
+ghost use Rattle.m4_input.specs.Ascii.{is_letter, is_name_byte};
+ghost use Rattle.m4_input.specs.Pending.{line_length};
+ghost use Rattle.m4_input.specs.Token.{begins, is_cut, run_length, before};
+
+use crate::lanes::{LANES, short_word_len};
+use memchr::memchr;
+
+// Each byte of a name is at its own place, and a comma at every other place: to look a byte up takes half of what the
+// comparisons with letters, digits and the underscore do.
+static NAME_BYTES: [u8; 256] = *b"\
+    ,,,,,,,,,,,,,,,,,,,,,,,,,,,,,,,,\
+    ,,,,,,,,,,,,,,,,0123456789,,,,,,\
+    ,ABCDEFGHIJKLMNOPQRSTUVWXYZ,,,,_\
+    ,abcdefghijklmnopqrstuvwxyz,,,,,\
+    ,,,,,,,,,,,,,,,,,,,,,,,,,,,,,,,,\
+    ,,,,,,,,,,,,,,,,,,,,,,,,,,,,,,,,\
+    ,,,,,,,,,,,,,,,,,,,,,,,,,,,,,,,,\
+    ,,,,,,,,,,,,,,,,,,,,,,,,,,,,,,,,";
+
+/// Returns whether a byte is an ASCII letter or an underscore; a name begins with one.
+pub fn is_letter_byte(b: u8) -> bool
+    ensures { result ≡ is_letter b }
+{
+    b.is_ascii_alphabetic() || b == b'_'
+}
+
+/// Returns whether a byte may occur in a name.
+pub fn is_word_byte(b: u8) -> bool
+    ensures { result ≡ is_name_byte b }
+{
+    NAME_BYTES[b as usize] != b','
+}
+
+/// Counts the bytes of the name at the start.
+pub fn word_len(bytes: &[u8]) -> usize
+    ensures value { result ≡ run_length is_name_byte bytes.now }
+    ensures within { result ≤ length bytes.now }
+{
+    if bytes.len() >= LANES {
+        let len = short_word_len(bytes);
+        if len < LANES {
+            return len;
+        }
+    }
+    let mut k = 0;
+    while k < bytes.len() && is_word_byte(bytes[k]) {
+        k += 1;
+    }
+    k
+}
+
+/// Returns the byte of a delimiter that has only one.
+pub fn single(delimiter: &[u8]) -> Option<u8>
+    ensures some { IfSome result (λ b. delimiter.now ≡ b ∷ []) }
+    ensures none { IfNone result ((b : ℕ) → delimiter.now ≢ b ∷ []) }
+{
+    let (first, rest) = delimiter.split_first()?;
+    if rest.is_empty() { Some(*first) } else { None }
+}
+
+/// Counts the bytes before the first such byte.
+pub fn len_before(text: &[u8], byte: u8) -> Option<usize>
+    ensures value { result ≡ before (byte ∷ []) text.now }
+    ensures within { IfSome result (λ n. n + 1 ≤ length text.now) }
+{
+    let first = text.first()?;
+    // The rest of a line is often its newline alone, which takes less than a search takes to start.
+    if *first == byte {
+        Some(0)
+    } else {
+        memchr(byte, text)
+    }
+}
+
+/// Returns whether a text begins with a delimiter.
+pub fn starts(text: &[u8], delimiter: &[u8]) -> bool
+    ensures value { result ≡ begins delimiter.now text.now }
+    ensures within { IsTrue result → length delimiter.now ≤ length text.now }
+{
+    text.starts_with(delimiter)
+}
+
+/// Returns whether a text is a prefix of a delimiter, and not all of it.
+pub fn cut(text: &[u8], delimiter: &[u8]) -> bool
+    ensures { result ≡ is_cut text.now delimiter.now }
+{
+    starts(delimiter, text) && text.len() < delimiter.len()
+}
+
+/// Counts the bytes before the first such delimiter. An empty one is found at each byte.
+pub fn find(text: &[u8], delimiter: &[u8]) -> Option<usize>
+    ensures value { result ≡ before delimiter.now text.now }
+    ensures within { IfSome result (λ n. n + length delimiter.now ≤ length text.now) }
+{
+    match single(delimiter) {
+        Some(byte) => len_before(text, byte),
+        None => find_long(text, delimiter),
+    }
+}
+
+/// The same by a comparison at each byte.
+fn find_long(text: &[u8], delimiter: &[u8]) -> Option<usize>
+    ensures value { result ≡ before delimiter.now text.now }
+    ensures within { IfSome result (λ n. n + length delimiter.now ≤ length text.now) }
+{
+    let mut k = 0usize;
+    while k < text.len() {
+        if starts(text.split_at(k).1, delimiter) {
+            return Some(k);
+        }
+        k += 1;
+    }
+    None
+}
+
+/// Counts the bytes of the rest of the line, with its newline; `None` if no newline is left.
+pub fn line_len(text: &[u8]) -> Option<usize>
+    ensures value { result ≡ line_length text.now }
+    ensures within { IfSome result (λ n. n ≤ length text.now) }
+{
+    match len_before(text, b'\n') {
+        Some(n) => Some(n + 1),
+        None => None,
+    }
+}

@@ -1,0 +1,171 @@
+//! Where a string ends, with the strings that are nested in it counted, so that it takes one pass.
+//! Manual: "Quoted strings".
+
+ghost use Rattle.std.specs.Prelude.{◌≡◌, ◌+◌, ◌^◌, ◌<◌, ◌≤◌, ◌∷◌, [], false, IfSome, length};
+ghost use Rattle.m4_input.specs.DelimsView.{pair_of};
+ghost use Rattle.m4_input.specs.OpenToken.{Follows, Reaches};
+ghost use Rattle.m4_input.specs.Token.{level, mark_at};
+ghost use Rattle.memchr.specs.Find.{IsFirstByte, is_byte2};
+
+use crate::delims::Pair;
+use crate::front::Mark;
+use crate::lanes::{LANES, len_before_either};
+use crate::slice::{cut, single, starts};
+use memchr::memchr2;
+
+/// Where a string is after a text.
+#[derive(Clone, Copy)]
+pub enum Followed {
+    /// It ends in the text: so many bytes come before the end-quote that closes it.
+    Ends(usize),
+    /// It goes on: so many nested strings are open after the text.
+    Open(usize),
+}
+
+/// Where a string is after a text whose end may cut a quote.
+#[derive(Clone, Copy)]
+pub enum Reached {
+    /// It ends in the text: so many bytes come before the end-quote that closes it.
+    Ends(usize),
+    /// It goes on: so many bytes are decided, and so many nested strings are open after them.
+    Open(usize, usize),
+}
+
+/// So many bytes from each place in a string on are looked at, sixteen at a time, before a search begins, which takes
+/// longer to start.
+const NEAR: usize = 64;
+
+/// Follows a string through a text, before which `depth` nested strings are open: from quote to quote.
+pub fn follow_quoted(text: &[u8], depth: usize, begin: u8, end: u8) -> Followed
+    requires { depth + length text.now < 2 ^ 64 }
+    ensures { Follows (record { begin = begin ∷ []; end = end ∷ [] }) depth text.now result }
+{
+    let mut nested = depth;
+    let mut k = 0usize;
+    'quotes: while let Some(plain) = first_of_two(begin, end, &text[k..]) {
+        k += plain;
+        if text[k] != end {
+            nested += 1;
+        } else if nested == 0 {
+            return Followed::Ends(k);
+        } else {
+            nested -= 1;
+        }
+        k += 1;
+    }
+    Followed::Open(nested)
+}
+
+/// Returns how many bytes of a text are looked at sixteen at a time: none if it has fewer.
+#[inline(always)]
+fn near_len(text: &[u8]) -> usize
+    ensures within { result ≤ length text.now }
+    ensures long { 0 < result → 16 ≤ length text.now }
+{
+    if text.len() < LANES {
+        0
+    } else {
+        text.len().min(NEAR)
+    }
+}
+
+/// Returns the place of the first of these two bytes: a search for it, after a look at the bytes that are near.
+#[inline(always)]
+fn first_of_two(one: u8, other: u8, text: &[u8]) -> Option<usize>
+    ensures { IsFirstByte (is_byte2 one other) text.now result }
+{
+    let near = near_len(text);
+    let mut k = 0usize;
+    'lanes: while k < near {
+        // The last sixteen bytes of a text may overlap those before them.
+        let at = k.min(text.len() - LANES);
+        let plain = len_before_either(one, other, text, at);
+        if plain < LANES {
+            return Some(at + plain);
+        }
+        k = at + LANES;
+    }
+    let found = first_far(one, other, &text[k..])?;
+    Some(k + found)
+}
+
+/// Returns the same by a search. Not inlined, so that a short string waits for nothing that a search prepares.
+#[inline(never)]
+fn first_far(one: u8, other: u8, text: &[u8]) -> Option<usize>
+    ensures { IsFirstByte (is_byte2 one other) text.now result }
+{
+    memchr2(one, other, text)
+}
+
+/// Counts the bytes before the end-quote that closes the string.
+pub fn quoted_len(text: &[u8], begin: u8, end: u8) -> Option<usize>
+    ensures value { result ≡ level (record { begin = begin ∷ []; end = end ∷ [] }) false 0 0 text.now }
+    ensures within { IfSome result (λ n. n + 1 ≤ length text.now) }
+{
+    match follow_quoted(text, 0, begin, end) {
+        Followed::Ends(len) => Some(len),
+        Followed::Open(_) => None,
+    }
+}
+
+/// Follows a string through a text, before which `depth` nested strings are open.
+pub fn follow(text: &[u8], depth: usize, quotes: &Pair<'_>, may_follow: bool) -> Reached
+    requires begin { 0 < length quotes.now.0.now }
+    requires small { depth + length text.now < 2 ^ 64 }
+    ensures { Reaches (pair_of quotes.now) may_follow depth text.now result }
+{
+    match (single(quotes.0), single(quotes.1)) {
+        // Quotes of one byte are never cut.
+        (Some(begin), Some(end)) => match follow_quoted(text, depth, begin, end) {
+            Followed::Ends(len) => Reached::Ends(len),
+            Followed::Open(nested) => Reached::Open(text.len(), nested),
+        },
+        _ => follow_by_marks(text, depth, quotes, may_follow),
+    }
+}
+
+/// The same for quotes of any length: from mark to mark.
+fn follow_by_marks(text: &[u8], depth: usize, quotes: &Pair<'_>, may_follow: bool) -> Reached
+    requires begin { 0 < length quotes.now.0.now }
+    requires small { depth + length text.now < 2 ^ 64 }
+    ensures { Reaches (pair_of quotes.now) may_follow depth text.now result }
+{
+    let mut open = depth;
+    let mut k = 0usize;
+    'places: while k < text.len() {
+        match mark(text.split_at(k).1, quotes, may_follow) {
+            Mark::EndQuote => {
+                if open == 0 {
+                    return Reached::Ends(k);
+                }
+                open -= 1;
+                // An empty end-quote is found at each byte, and takes it.
+                k += quotes.1.len().max(1);
+            }
+            Mark::BeginQuote => {
+                open += 1;
+                k += quotes.0.len();
+            }
+            Mark::PlainByte => k += 1,
+            Mark::CutQuote => return Reached::Open(k, open),
+        }
+    }
+    Reached::Open(k, open)
+}
+
+/// Returns the mark with which a text in a string begins.
+fn mark(text: &[u8], quotes: &Pair<'_>, may_follow: bool) -> Mark
+    ensures value { result ≡ mark_at (pair_of quotes.now) may_follow text.now }
+    ensures ends { result ≡ Mark.EndQuote → length quotes.now.1.now ≤ length text.now }
+    ensures begins { result ≡ Mark.BeginQuote → length quotes.now.0.now ≤ length text.now }
+{
+    if starts(text, quotes.1) {
+        Mark::EndQuote
+    } else if may_follow && (cut(text, quotes.1) || cut(text, quotes.0)) {
+        Mark::CutQuote
+    } else if starts(text, quotes.0) {
+        Mark::BeginQuote
+    } else {
+        Mark::PlainByte
+    }
+}
