@@ -3,7 +3,7 @@
 use Rattle.std.proofs.Common.{Some, None, ◌≡◌, ℕ, List, [], ◌∷◌, Option, Bool, false, refl}
 use Rattle.std.specs.Prelude.{codes, pos, negsuc}
 use Rattle.std.specs.Fmt.{digits}
-use Rattle.m4_state.specs.declared.builtin.Builtin.TheVariants.{Define, Defn, Dumpdef, Ifdef, Ifelse, Indir, IndirBuiltin, Len, Popdef, Pushdef, Shift, Undefine}
+use Rattle.m4_state.specs.declared.builtin.Builtin.TheVariants.{Define, Defn, Dnl, Dumpdef, Ifdef, Ifelse, Indir, IndirBuiltin, Len, Popdef, Pushdef, Shift, Undefine}
 use Rattle.m4_state.specs.declared.definition.Def.{Def}
 use Rattle.m4_state.specs.declared.definition.Def.TheVariants as defs
 use Rattle.m4_state.specs.Delimiters.{default_quotes, default_comments}
@@ -224,6 +224,12 @@ define_without_arguments : seen (act (defs.Builtin Define) [] ([]) here bare)
     ≡ record (still bare) { messages = codes "m4:a.m4:1: Warning: too few arguments to builtin `define'\n" }
 unfolding digits
 define_without_arguments = refl
+
+-- define cannot name a builtin, and has one argument too many
+define_cannot_name_a_builtin : seen (act (defs.Builtin Define) [] ((args.Definition (defs.Builtin Dnl)) ∷ args.Text (codes "x") ∷ args.Text (codes "y") ∷ []) wrapped bare)
+    ≡ record (still bare) { messages = codes "m4: Warning: excess arguments to builtin `define' ignored\nm4: Warning: invalid macro name ignored in builtin `define'\n" }
+unfolding digits
+define_cannot_name_a_builtin = refl
 
 -- popdef takes the top one
 popdef_takes_the_top_one : seen (act (defs.Builtin Popdef) [] (args.Text (codes "b") ∷ []) here named)

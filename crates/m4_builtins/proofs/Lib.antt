@@ -15,5 +15,6 @@ pub mod NumbersFit
 pub mod Replaced
 pub mod RowsTaken
 pub mod SortedTexts
+pub mod TableRows
 pub mod TextRows
 pub mod WithNumber

@@ -14,6 +14,9 @@ pub mod Rows
 pub mod RowsBuiltins
 pub mod RowsFrozen
 pub mod RowsChain
+pub mod RowsArguments
+pub mod RowsDelimiters
+pub mod RowsEndings
 pub mod Shifts
 pub mod RunsAfter
 pub mod Split

@@ -109,6 +109,11 @@ lines_counted : over_a usual (codes "__line__\n__line__ indir(`nope'\n,x)\n`a\nb
 unfolding digits
 lines_counted = refl
 
+-- and only those of the file: the line within a definition's text is that of its call
+lines_of_the_file : over_a usual (codes "define(`where',\n`__line__\n__line__')where\n\nwhere\n") ≡ done (codes "3\n3\n\n5\n5\n") [] 7
+unfolding digits
+lines_of_the_file = refl
+
 -- expressions, with their precedence, in a radix and a width
 expressions : over_a usual (codes "eval(`-666',`6',`10') eval(`2+3*4') eval(`1||1/0')\n") ≡ done (codes "-0000003030 14 1\n") [] 3
 unfolding digits int_wrap
@@ -141,3 +146,8 @@ names_with_prefixes = refl
 own_names_with_prefixes : over_a prefixed (codes "m4_builtin(`incr',`x')m4_builtin(`m4_incr',`4')\n") ≡ done (codes "\n") (codes "m4:a.m4:1: Warning: non-numeric argument to builtin `incr'\nm4:a.m4:1: Warning: undefined builtin `m4_incr'\n") 2
 unfolding digits
 own_names_with_prefixes = refl
+
+-- the platform's names have no prefix, and the names of the place have one
+platform_without_prefix : over_a prefixed (codes "m4_ifdef(`__unix__',`y',`n') m4_ifdef(`m4___unix__',`y',`n') m4___line__\n") ≡ done (codes "y n 1\n") [] 3
+unfolding digits
+platform_without_prefix = refl

@@ -91,6 +91,11 @@ placeholder : run freezing (from (codes "V1\nF6,6\nregexpregexp\n")) (Opened (co
 unfolding digits steps.file_at steps.version_at steps.directives_at steps.directive_at steps.pair_at steps.diversion_at steps.length_at steps.string_at
 placeholder = refl
 
+-- without a list it is called too
+placeholder_alone : run freezing (from (codes "V1\nF6,6\nregexpregexp\n")) (Opened (codes "b.m4") (codes "regexp!\n") ∷ []) ≡ record (done (codes "!\n") (codes "m4:b.m4:1: Warning: builtin `regexp' requested by frozen file is not supported\n") 1) { frozen = Some (codes "# m4 frozen state\nV1\nF6,6\nregexpregexp\n# End of frozen state file\n") }
+unfolding digits steps.file_at steps.version_at steps.directives_at steps.directive_at steps.pair_at steps.diversion_at steps.length_at steps.string_at
+placeholder_alone = refl
+
 -- an older file that names a builtin which m4r has gained
 older_file : run freezing (from (codes "V1\nF4,4\nevaleval\n")) (Opened (codes "b.m4") (codes "eval(`1+1')\n") ∷ []) ≡ record (done (codes "2\n") [] 1) { frozen = Some (codes "# m4 frozen state\nV1\nF4,4\nevaleval\n# End of frozen state file\n") }
 unfolding digits int_wrap steps.file_at steps.version_at steps.directives_at steps.directive_at steps.pair_at steps.diversion_at steps.length_at steps.string_at

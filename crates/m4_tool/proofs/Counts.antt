@@ -88,6 +88,19 @@ then_any o o1 o2 m m1 m2 w w1 w2 g (inl h) = inl (then_rose o o1 o2 g.0 h)
 then_any o o1 o2 m m1 m2 w w1 w2 g (inr (inl h)) = inr (inl (then_rose m m1 m2 g.1 h))
 then_any o o1 o2 m m1 m2 w w1 w2 g (inr (inr h)) = inr (inr (then_rose w w1 w2 g.2 h))
 
+-- a flush that was not done
+pub not_flushed : (r : Bool) (c : Counts) → FlushedAs r c → r ≡ false → FlushedAs false c
+not_flushed r c h e = subst (λ (x : Bool). FlushedAs x c) e h
+
+-- messages that were written after the last flushes
+pub flushed_then : (o o1 m m1 m2 w w1 : ℕ) → FlushedAs false (counts o o1 m m1 w w1) → Grew m1 m2 → FlushedAs false (counts o o1 m m2 w w1)
+flushed_then o o1 m m1 m2 w w1 h g =
+    ((h.0.0, grew_then m m1 m2 h.0.1 g, h.0.2), any_then o o1 o1 m m1 m2 w w1 w1 h.1 (grew_none o1 o1 refl, g, grew_none w1 w1 refl))
+
+-- what is answered of a flush
+pub flush_failed : (failure : Option Failure) (c : Counts) → FailedAs failure c → failure ≡ Some failures.Write → AnyRose c
+flush_failed failure c h e = subst (λ (f : Option Failure). FailedAs f c) e h
+
 -- a run that ended by no write fault
 by_none : (c : Cause) (P Q : Type 0) → c ≢ causes.Write → ByCause c P Q → P
 by_none causes.Write P Q n h = absurd (n refl)

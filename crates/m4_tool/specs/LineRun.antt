@@ -103,8 +103,9 @@ pub record Closes (file : List ℕ) (e : Ending) (status : ℕ) (failure : Optio
 
 -- a mode that ended with this status was reported
 pub record ModeCloses (old new : ℕ) (out out' messages messages' : Option (List ℕ))
-    (failures failures' : ℕ) : Type 0 where
+    (failures failures' : ℕ) (c : Counts) : Type 0 where
   pub flushed : Bool
   pub is_status : new ≡ closed_status old flushed
   pub output : out' ≡ out
   pub reports : Reports (closed_lines old flushed) messages messages' failures failures'
+  pub counted : FlushedAs flushed c

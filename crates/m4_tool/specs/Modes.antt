@@ -55,14 +55,15 @@ ReportsFault (Err fault) file old new failures failures' =
     (put : Result (Unit {0}) DeviceFault) × Puts put old new (line_of file fault)
     × (failures' ≡ count_after put failures)
 
--- a fault of a device occurs only if that device failed in this call, by its count of failures
+-- a fault of a device occurs only if that device failed in this call, by its count of failures; a file that is
+-- loaded was read without a failure, and the output failed only where its fault is returned
 abbrev pub IsOfDevice : Result (Unit {0}) ModeFault → ℕ → ℕ → ℕ → ℕ → Type 0
-IsOfDevice (Ok done) reads reads' writes writes' = Unit {0}
+IsOfDevice (Ok done) reads reads' writes writes' = (reads' ≡ reads) × (writes' ≡ writes)
 IsOfDevice (Err (faults.Frozen f)) reads reads' writes writes' =
-    f.kind ≡ kinds.Read → reads' ≡ one_more reads
-IsOfDevice (Err faults.Issues) reads reads' writes writes' = Unit {0}
-IsOfDevice (Err faults.Write) reads reads' writes writes' = writes' ≡ one_more writes
-IsOfDevice (Err faults.OutOfMemory) reads reads' writes writes' = Unit {0}
+    (f.kind ≡ kinds.Read → reads' ≡ one_more reads) × (writes' ≡ writes)
+IsOfDevice (Err faults.Issues) reads reads' writes writes' = (reads' ≡ reads) × (writes' ≡ writes)
+IsOfDevice (Err faults.Write) reads reads' writes writes' = (reads' ≡ reads) × (writes' ≡ one_more writes)
+IsOfDevice (Err faults.OutOfMemory) reads reads' writes writes' = (reads' ≡ reads) × (writes' ≡ writes)
 
 -- a reader over a call: its script, if the proofs know it, and its count of failures before and after
 pub record Reading : Type 0 where

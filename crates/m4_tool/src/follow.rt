@@ -1,7 +1,7 @@
 //! A line that is followed in a world: a mode, or a run over the files of the line, which starts from a
 //! frozen file and freezes to one. Manual: "Invoking m4".
 
-ghost use Rattle.std.specs.Prelude.{◌≡◌, List, Option, None, IfSome, true, option_map};
+ghost use Rattle.std.specs.Prelude.{◌≡◌, List, Option, None, Some, IfSome, true, option_map};
 ghost use Rattle.m4_state.specs.Device.{Script};
 ghost use Rattle.m4_engine.specs.RunSources.{DescribesFrozen};
 ghost use Rattle.m4_engine.specs.File.{Source as Said};
@@ -9,7 +9,8 @@ ghost use Rattle.m4_engine.specs.Run.{run as defined};
 ghost use Rattle.m4_tool.specs.World.{Files};
 ghost use Rattle.m4_tool.specs.Line.{LineResult, freeze_name, line as line_result, request_of, result_of_run};
 ghost use Rattle.m4_tool.specs.Line.{words_of};
-ghost use Rattle.m4_tool.specs.FailureCounts.{FailedAs, counts_of};
+ghost use Rattle.m4_tool.specs.FailureCounts.{AnyRose, FailedAs, counts_of};
+ghost use Rattle.m4_tool.specs.declared.followed.Failure.TheVariants as failures;
 ghost use Rattle.m4_tool.specs.Known.{ExtendFiles, Knows, KnowsFiles, MayGive};
 ghost use Rattle.m4_tool.specs.LineEnd.{AllShown, EndsBy, Follows, seen};
 ghost use Rattle.m4_tool.specs.LineMode.{ModeFollows, ends_of, mode_of};
@@ -62,9 +63,13 @@ pub fn follow<W: World, O: Shows, M: Shows>(
     ensures mode { IfSome (mode_of line.now) (λ found. (files : Files)
         → KnowsFiles W.making W.files world files
         → ModeFollows found.0 found.1 (files found.1) result.status
-        (seen O.contents M.contents M.failures W.files out.old out.new messages.old messages.new world result.world)) }
+        (seen O.contents M.contents M.failures W.files out.old out.new messages.old messages.new world result.world)
+        (counts_of O.failures M.failures W.failures out.old out.new messages.old messages.new world result.world)) }
     // safe and total: a failed write or flush is reported only if one failed in this call
     ensures counted { mode_of line.now ≡ None → FailedAs result.failure (counts_of O.failures M.failures W.failures
+        out.old out.new messages.old messages.new world result.world) }
+    // safe and total: in a mode too, a flush that failed is reported only if one failed in this call
+    ensures flushed { result.failure ≡ Some failures.Write → AnyRose (counts_of O.failures M.failures W.failures
         out.old out.new messages.old messages.new world result.world) }
     // line in a world: if nothing failed, all that was written is flushed: the output, the messages and the file
     // that was made
@@ -99,7 +104,10 @@ fn follow_mode<W: World, O: Shows, M: Shows>(
 ) -> Followed<W>
     ensures follows { (files : Files) → KnowsFiles W.making W.files world files
         → ModeFollows mode file.now (files file.now) result.status
-        (seen O.contents M.contents M.failures W.files out.old out.new messages.old messages.new world result.world) }
+        (seen O.contents M.contents M.failures W.files out.old out.new messages.old messages.new world result.world)
+        (counts_of O.failures M.failures W.failures out.old out.new messages.old messages.new world result.world) }
+    ensures flushed { result.failure ≡ Some failures.Write → AnyRose (counts_of O.failures M.failures W.failures
+        out.old out.new messages.old messages.new world result.world) }
     ensures shown { result.failure ≡ None
         → AllShown O.shown O.contents M.shown M.contents W.kept W.files out.new messages.new result.world }
 {

@@ -157,7 +157,10 @@ pub fn close_mode<W: World, O: Shows, M: Shows>(
     messages: &mut M,
 ) -> Followed<W>
     ensures closes { ModeCloses status result.status (O.contents out.old) (O.contents out.new)
-        (M.contents messages.old) (M.contents messages.new) (M.failures messages.old) (M.failures messages.new) }
+        (M.contents messages.old) (M.contents messages.new) (M.failures messages.old) (M.failures messages.new)
+        (counts_of O.failures M.failures W.failures out.old out.new messages.old messages.new world result.world) }
+    ensures counted { FailedAs result.failure (counts_of O.failures M.failures W.failures
+        out.old out.new messages.old messages.new world result.world) }
     ensures files { W.files result.world ≡ W.files world }
     ensures shown { result.failure ≡ None
         → AllShown O.shown O.contents M.shown M.contents W.kept W.files out.new messages.new result.world }

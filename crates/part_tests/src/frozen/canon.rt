@@ -12,7 +12,7 @@ use std::test::Fail;
 // that is issued.
 type Row = (&'static str, &'static [u8], &'static [u8], &'static [u8]);
 
-static ROWS: [Row; 13] = [
+static ROWS: [Row; 14] = [
     ("no directives", b"V1\n", b"", b""),
     (
         "names in byte order, the oldest definition first",
@@ -41,6 +41,12 @@ static ROWS: [Row; 13] = [
     (
         "blanks and zeros in a length",
         b"V1\nT1 , 01\nab\n",
+        b"T1,1\nab\n",
+        b"",
+    ),
+    (
+        "tabs before numbers and before a comma",
+        b"V\t1\nT1\t,\t1\nab\n",
         b"T1,1\nab\n",
         b"",
     ),

@@ -47,7 +47,7 @@ static VERSIONS: [Row; 6] = [
 ];
 
 // What is wrong in a directive or after it.
-static DIRECTIVES: [Row; 13] = [
+static DIRECTIVES: [Row; 14] = [
     (
         "a letter that begins no directive",
         "V1\nX",
@@ -124,6 +124,13 @@ static DIRECTIVES: [Row; 13] = [
         false,
         FrozenKind::SeparatorExpected,
         2,
+    ),
+    (
+        "a newline before a comma",
+        "V1\nT1\n,1\nab\n",
+        false,
+        FrozenKind::SeparatorExpected,
+        5,
     ),
     (
         "a text longer than its length",

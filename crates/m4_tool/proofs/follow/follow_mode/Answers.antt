@@ -8,8 +8,9 @@ returns-in-Some-clause-follows g c = λ files k.
     (g.W.Reader.ByteSource.failures c.in-Some.reader) (g.W.Reader.ByteSource.failures c.run_mode-status.new.reader)
     (g.O.ByteSink.contents c.args.out.now) (g.O.ByteSink.contents c.run_mode-status.new.out) (g.O.ByteSink.contents c.close_mode.new.out)
     (g.M.ByteSink.contents c.args.messages.now) (g.M.ByteSink.contents c.run_mode-status.new.messages) (g.M.ByteSink.contents c.close_mode.new.messages)
-    (g.O.ByteSink.failures c.args.out.now) (g.O.ByteSink.failures c.run_mode-status.new.out)
+    (g.O.ByteSink.failures c.args.out.now) (g.O.ByteSink.failures c.run_mode-status.new.out) (g.O.ByteSink.failures c.close_mode.new.out)
     (g.M.ByteSink.failures c.args.messages.now) (g.M.ByteSink.failures c.run_mode-status.new.messages) (g.M.ByteSink.failures c.close_mode.new.messages)
+    (g.W.World.failures c.args.world) (g.W.World.failures c.close_mode.result.world)
     c.run_mode-status.result c.close_mode.result.status (g.W.World.files c.args.world) (g.W.World.files c.close_mode.result.world)
     (rw k.1 at (c.in-Some.ensures k.0)) c.run_mode-status.ensures c.close_mode.ensures.closes c.close_mode.ensures.files
 
@@ -19,5 +20,5 @@ returns-in-None-clause-follows g c = λ files k.
     (g.O.ByteSink.contents c.args.out.now) (g.O.ByteSink.contents c.close_mode-in-None.new.out)
     (g.M.ByteSink.contents c.args.messages.now) (g.M.ByteSink.contents c.put_unopened-put.new.messages) (g.M.ByteSink.contents c.close_mode-in-None.new.messages)
     (g.M.ByteSink.failures c.args.messages.now) (g.M.ByteSink.failures c.put_unopened-put.new.messages) (g.M.ByteSink.failures c.close_mode-in-None.new.messages)
-    c.close_mode-in-None.result.status (g.W.World.files c.args.world) (g.W.World.files c.close_mode-in-None.result.world)
+    c.close_mode-in-None.result.status (g.W.World.files c.args.world) (g.W.World.files c.close_mode-in-None.result.world) _ _
     (rw k.1 at (c.in-None.ensures k.0)) c.put_unopened-put.ensures.puts c.put_unopened-put.ensures.counted c.close_mode-in-None.ensures.closes c.close_mode-in-None.ensures.files
