@@ -14,8 +14,8 @@ use std::alloc::{AllocError, Global};
 use std::marker::Model;
 
 /// An [`Effect`] that the engine keeps. Calls fill it in turn, so that most of them ask for no memory: a text that is
-/// made has the memory of `buffer`, which the run gives back when that text was read. Most calls leave nothing to do but
-/// to insert a value, which `has_more` says in one test. A definition that is inserted is valid.
+/// made has the memory of `buffer`, which the run gives back when that text was read. `has_more` is false if inserting
+/// a value is all that is left to do, as after most calls. A definition that is inserted is valid.
 pub struct EffectBuffer {
     push: Option<Pushed>,
     buffer: Vec<u8>,

@@ -6,9 +6,9 @@
 //! chapter; `specs/Subst.antt` the expansion of a text; `specs/Messages.antt` the messages.
 //! Manual: "Definitions", "Conditionals", "Input control", and the chapters of the builtins.
 //!
-//! For users of the crate: `act::act` and `substitute::substitute`, with [`args`], [`place`], [`effect`] and [`fault`]. For
-//! the engine: `act::act_on` and [`effect_buffer`], by which calls fill one effect in turn, `act::needs_list`, and the two
-//! messages of [`messages`] that it writes itself.
+//! For users of the crate: `act::act` and `substitute::substitute`, with [`args`], [`place`], [`effect`] and
+//! [`fault`]. For the engine: `act::act_on` and [`effect_buffer`], by which calls fill one effect in turn,
+//! `act::needs_list`, and the two messages of [`messages`] that it writes itself.
 #![tactic(auto)]
 
 pub mod act;

@@ -1,6 +1,6 @@
 -- RowsDelimiters: worked runs of names, quotes and comments, and of the calls that change their delimiters,
 -- computed from the definitions.
-use Rattle.std.proofs.Common.{◌≡◌, [], ◌∷◌, refl}
+use Rattle.std.proofs.Common.{◌≡◌, [], refl}
 use Rattle.std.specs.Prelude.{codes}
 use Rattle.std.specs.Fmt.{digits}
 use Rattle.m4_engine.proofs.Rows.{usual, over_a, done}

@@ -7,8 +7,8 @@ ghost use Rattle.std.specs.Prelude.{◌≡◌, ◌+◌, ◌≤◌, length, take,
 ghost use Rattle.m4_state.specs.ByteWords.{word, filled, AreBytes};
 ghost use Rattle.m4_state.specs.Table.{byte_order};
 
-use crate::definition::Def;
 use crate::bytes::Bytes;
+use crate::definition::Def;
 use crate::stack::Stack;
 use std::cmp::Ordering;
 use std::marker::Model;

@@ -12,7 +12,7 @@ use Rattle.m4_tool.specs.declared.fault.ModeFault.TheVariants as faults
 use Rattle.m4_tool.specs.Modes.{IsOfDevice, ModeRuns, ReportsFault}
 use Rattle.m4_tool.specs.FailureCounts.{Counts, Grew, counts}
 use Rattle.m4_tool.specs.LineEnd.{Reports}
-use Rattle.m4_tool.specs.LineRun.{AllGrew, FlushedAs, ModeCloses}
+use Rattle.m4_tool.specs.LineRun.{FlushedAs, ModeCloses}
 use Rattle.m4_tool.proofs.Counts.{flushed_grew, grew_after, grew_by, grew_none, rose_one, rose_then, then_any}
 use Rattle.m4_tool.specs.LineMode.{FlushedOr, ModeFailedAs, ModeFollows, OnlyMessagesRose, closed_lines, closed_status, ends_of, fault_lines}
 use Rattle.m4_tool.proofs.LineEnds.{reports-append, reports-before, seen_from}
