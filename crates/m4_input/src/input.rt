@@ -525,6 +525,7 @@ impl Input {
         ensures { IfOk result (λ answer. ListGives (pair_of delims.now.quotes) (pair_of delims.now.comments) n
             self.now.pending answer) }
     {
+        // For the proof alone: a length has 64 bits.
         let _small = self.text.len();
         let longest = delims.quotes.0.len().max(delims.comments.0.len()).max(1);
         let mut front = Vec::new(self.alloc);

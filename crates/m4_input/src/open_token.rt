@@ -72,6 +72,7 @@ impl Text {
         ensures { IfSome result (λ o. StaysOpen (pair_of delims.now.quotes) (pair_of delims.now.comments) o
             (text_in self.now)) }
     {
+        // For the proof alone: a length has 64 bits.
         let _small = self.len();
         let mut copy = Vec::new(alloc);
         match token {
