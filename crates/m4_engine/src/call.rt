@@ -68,7 +68,7 @@ impl Drop for OpenCall {
 
 /// A longer text has memory that it shares. It is dropped when its call was made. A shorter one has a buffer of its
 /// own, which the next argument takes: to copy so few bytes takes less than the memory that sharing them needs.
-const LARGEST: usize = 256;
+const LARGEST_COPIED: usize = 256;
 
 /// Returns an argument that needs no memory.
 #[inline(always)]
@@ -82,7 +82,7 @@ fn blank() -> Arg
 fn drop_large(args: &mut [Arg]) {
     for arg in args.iter_mut() {
         let is_large = match arg {
-            Arg::Text(text) => text.as_slice().len() > LARGEST,
+            Arg::Text(text) => text.as_slice().len() > LARGEST_COPIED,
             Arg::Definition(_) => true,
         };
         if is_large {
@@ -142,7 +142,7 @@ fn argument(bytes: Vec<u8>, tokens: Vec<Def>) -> Result<Arg, AllocError>
             return Ok(Arg::Definition(definition));
         }
     }
-    let text = if bytes.len() > LARGEST {
+    let text = if bytes.len() > LARGEST_COPIED {
         Bytes::from_vec(bytes)?
     } else {
         Bytes::from(bytes)
@@ -209,7 +209,7 @@ impl OpenCall {
     #[inline(always)]
     pub fn shed(&mut self, most: usize) {
         let is_long = self.parts.args.len() > most;
-        if is_long || self.parts.is_large || self.parts.definition.len() > LARGEST {
+        if is_long || self.parts.is_large || self.parts.definition.len() > LARGEST_COPIED {
             self.shed_memory(most);
         }
     }
@@ -394,7 +394,7 @@ impl OpenCall {
             ≡ warning_if_dropped drops self.old.place)) }
     {
         let parts = &mut *self.parts;
-        let is_large = parts.bytes.len() > LARGEST;
+        let is_large = parts.bytes.len() > LARGEST_COPIED;
         parts.is_large |= is_large;
         // Most arguments are short texts, and most find the memory of an earlier one.
         if !is_large

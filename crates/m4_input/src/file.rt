@@ -14,7 +14,7 @@ use std::alloc::AllocError;
 use std::marker::Model;
 
 /// How many bytes a reader is asked for at a time.
-const BLOCK: usize = 4096;
+const SOURCE_BLOCK: usize = 4096;
 
 /// Bytes of a file, how many of them were read, and how many newlines of the file were.
 #[derive(Drop)]
@@ -112,12 +112,12 @@ fn make_room(bytes: &mut Vec<u8>, at: usize) -> Result<usize, AllocError>
     ensures err { OnErr result (bytes.new.items ≡ bytes.old.items) }
 {
     let len = bytes.len();
-    let is_full = bytes.capacity() < len.saturating_add(BLOCK);
-    if is_full && at >= (len - at).saturating_add(BLOCK) {
+    let is_full = bytes.capacity() < len.saturating_add(SOURCE_BLOCK);
+    if is_full && at >= (len - at).saturating_add(SOURCE_BLOCK) {
         move_to_front(bytes, at);
         return Ok(0);
     }
-    bytes.reserve(BLOCK)?;
+    bytes.reserve(SOURCE_BLOCK)?;
     Ok(at)
 }
 
@@ -146,7 +146,7 @@ impl File {
             Ok(at) => self.at = at,
             Err(AllocError) => return Err(InputFault::OutOfMemory),
         }
-        let mut block = [0u8; BLOCK];
+        let mut block = [0u8; SOURCE_BLOCK];
         match reader.take(&mut block) {
             Ok(n) => {
                 append(&mut self.bytes, &block[..n]);

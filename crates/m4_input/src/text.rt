@@ -20,7 +20,7 @@ use std::marker::Model;
 const MOST: usize = 1 << 62;
 
 /// How many bytes a buffer that is kept has room for at most.
-const LARGEST: usize = 65536;
+const LARGEST_KEPT: usize = 65536;
 
 /// Pending bytes, and how many newlines of the file were read.
 #[derive(Drop)]
@@ -47,7 +47,7 @@ impl Model for Text {
 #[inline(always)]
 fn keep(buffer: &mut Vec<u8>, spent: Segment) {
     if let Some(kept) = spent.buffer() {
-        if kept.capacity() <= LARGEST {
+        if kept.capacity() <= LARGEST_KEPT {
             *buffer = kept;
         }
     }
@@ -124,7 +124,9 @@ impl Text {
         }
     }
 
-    /// Copies the first bytes, at most so many. Returns whether others come after them.
+    /// Copies the first bytes, at most so many. Returns whether others come after them. Inlined, since a pass calls it
+    /// for each short result.
+    #[inline(always)]
     pub fn copy_front(&self, most: usize, copy: &mut Vec<u8>) -> Result<bool, AllocError>
         ensures bytes { OnOk result (copy.new.items ≡ take most (text_in self.now)) }
         ensures others { IfOk result (λ b. b ≡ nat_lt most (length (text_in self.now))) }

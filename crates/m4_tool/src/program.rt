@@ -10,7 +10,7 @@ use crate::follow::follow;
 use crate::followed::{FAILED, Failure};
 use crate::line::{Line, LineFault, read_line};
 use crate::reports::{report, report_failure};
-use crate::shared::{BLOCK, MESSAGES, SharedOutputs};
+use crate::shared::{MESSAGES, OUTPUT_BUFFER, SharedOutputs};
 use crate::std_world::{StdShown, StdWorld};
 use crate::streams::occupy_closed;
 use std::alloc::{AllocError, Global};
@@ -103,7 +103,7 @@ fn follow_line<R: Files + Alloc<A = Global> + Print + Eprint, I: Read + Copy, E:
     line: &Line,
     spare: Option<<R as Files>::File>,
 ) -> io::Result<u8> {
-    let output = BufWriter::with_capacity(rt.alloc(), BLOCK, io::writer(rt))?;
+    let output = BufWriter::with_capacity(rt.alloc(), OUTPUT_BUFFER, io::writer(rt))?;
     let messages = BufWriter::with_capacity(rt.alloc(), MESSAGES, errors)?;
     let shared = SharedOutputs::new(output, messages);
     let world = StdWorld::new(rt, input, &shared, spare)?;

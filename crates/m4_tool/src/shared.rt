@@ -6,7 +6,7 @@ use std::cell::RefCell;
 use std::io::{self, ErrorKind, Read, Write};
 
 /// How many bytes of the output are buffered, at most.
-pub const BLOCK: usize = 65536;
+pub const OUTPUT_BUFFER: usize = 65536;
 
 /// How many bytes of messages are buffered, at most. Few runs have more, and a longer one is written with no copy.
 pub const MESSAGES: usize = 1024;

@@ -23,7 +23,7 @@ const TOO_MANY: [i32; 2] = [23, 24];
 
 /// How many bytes of a made file are buffered, at most. A text that is as long is written with no copy, and a small
 /// file touches little memory.
-const BLOCK: usize = 32768;
+const FROZEN_BUFFER: usize = 32768;
 
 /// A writer to the file that was made. If none was, each write fails, and a flush has nothing to do.
 #[derive(Drop)]
@@ -91,7 +91,7 @@ impl<'a, R: Files + Alloc<A = Global>, I, W, E> StdWorld<'a, R, I, W, E> {
         ensures out_of_memory { IfErr result (λ error. error_kind error ≡ ErrorKind.OutOfMemory) }
         ensures failures { IfOk result (λ world. world.failures ≡ 0) }
     {
-        let made = BufWriter::with_capacity(rt.alloc(), BLOCK, Made { file: None })?;
+        let made = BufWriter::with_capacity(rt.alloc(), FROZEN_BUFFER, Made { file: None })?;
         Ok(StdWorld {
             rt,
             input,

@@ -22,7 +22,7 @@ use m4_state::transfer::write_all;
 use std::alloc::AllocError;
 
 /// Output is flushed once this many bytes are buffered. One turn may add more before that.
-pub(crate) const BLOCK: usize = 65536;
+pub(crate) const OUTPUT_BLOCK: usize = 65536;
 
 /// Returns the cause that ends an expansion whose next block is missing.
 fn cause_of_fault(fault: InputFault) -> Cause
@@ -91,7 +91,7 @@ impl Machine {
         ensures less_than_a_block { OnOk result (length self.new.output < 65536) }
         ensures counted { FailsOnce result (both O.failures M.failures out.old out.new messages.old messages.new) }
     {
-        if !self.messages.is_empty() || self.output.len() >= BLOCK {
+        if !self.messages.is_empty() || self.output.len() >= OUTPUT_BLOCK {
             self.flush(earlier, out, messages)?;
         }
         Ok(())

@@ -8,7 +8,7 @@ ghost use Rattle.std.specs.Prelude.{◌≡◌, ◌≢◌, ◌<◌, ◌||◌, [],
 ghost use Rattle.m4_input.specs.Pending.{text_of};
 ghost use Rattle.m4_engine.specs.Engine.{IsReady, IsLookahead, PassesBy, PassesFront, Passes, allows_call};
 
-use super::driver::BLOCK;
+use super::driver::OUTPUT_BLOCK;
 use crate::collect::collect;
 use crate::front::{first_plain, plain_run};
 use crate::lookahead::Lookahead;
@@ -136,7 +136,7 @@ impl Machine {
         ensures { IfOk result (λ r. PassesBy r.0 r.1 text.now others more self.old self.new) }
     {
         let room = self.allows_call();
-        let (len, first) = plain_run(text, &self.state, more, BLOCK);
+        let (len, first) = plain_run(text, &self.state, more, OUTPUT_BLOCK);
         let (passed, rest) = text.split_at(len);
         append(&mut self.output, passed)?;
         let lookahead = Lookahead::of(
@@ -164,7 +164,7 @@ impl Machine {
         requires diverted { self.old.state.current ≢ pos 0 }
         ensures { IfOk result (λ r. PassesBy r.0 r.1 text.now others more self.old self.new) }
     {
-        let (len, _) = plain_run(text, &self.state, more, BLOCK);
+        let (len, _) = plain_run(text, &self.state, more, OUTPUT_BLOCK);
         let (passed, rest) = text.split_at(len);
         self.state.append(passed)?;
         let room = self.allows_call();
