@@ -144,6 +144,120 @@ static CALLS: [Row; 12] = [
     ),
 ];
 
+// Arguments: what is dropped in front of them, and what stays.
+static ARGUMENTS: [Row; 5] = [
+    (
+        "white space of each kind in front of an argument is dropped",
+        "define(`f',`<$1|$2|$3>')f(\n\ta,\r b,\x0b\x0cc)\n",
+        "<a|b|c>\n",
+        2,
+    ),
+    (
+        "white space after a call stays",
+        "define(`g',`')define(`f',`<$1>')f(g() y)f(g y)\n",
+        "< y>< y>\n",
+        6,
+    ),
+    (
+        "and after a parenthesis, and after an empty string",
+        "define(`f',`<$1>')f(( a))f(`' x)\n",
+        "<( a)>< x>\n",
+        3,
+    ),
+    (
+        "commas and parentheses in strings",
+        "define(`f',`$#')f(`a,b',c)f(`(',`)')\n",
+        "22\n",
+        3,
+    ),
+    (
+        "a dollar at the end of a text",
+        "define(`f',`a$')f()\n",
+        "a$\n",
+        2,
+    ),
+];
+
+// Comments with their delimiters.
+static COMMENTS: [Row; 7] = [
+    (
+        "changecom with two arguments",
+        "define(`f',`x')changecom(<,>)<f>f#f\n",
+        "<f>x#x\n",
+        4,
+    ),
+    (
+        "changecom with one",
+        "define(`f',`x')changecom(<)<f>\nf#f\n",
+        "<f>\nx#x\n",
+        4,
+    ),
+    (
+        "changecom with an empty begin",
+        "define(`f',`x')changecom(,>)#f>changecom()#f\n",
+        "#x>#x\n",
+        5,
+    ),
+    (
+        "changecom without a list, and with the usual begin",
+        "define(`f',`x')changecom#f changecom(`#')#f\n",
+        "#x #f\n",
+        4,
+    ),
+    (
+        "a comment's end belongs to it",
+        "define(`f',`x')changecom(`<',`f')<a f f\n",
+        "<a f x\n",
+        3,
+    ),
+    (
+        "a comment comes before a name",
+        "define(`rem',`x')changecom(`rem')rem rem\nremark\n",
+        "rem rem\nremark\n",
+        2,
+    ),
+    (
+        "a parenthesis that begins a comment",
+        "define(`f',`<$#>')changecom(`(',`)')f(a)f\n",
+        "<0>(a)<0>\n",
+        4,
+    ),
+];
+
+// Names, and strings with their quotes.
+static QUOTES: [Row; 5] = [
+    (
+        "changequote with an empty begin",
+        "changequote(,])`b']changequote()`b'\n",
+        "`b']`b'\n",
+        2,
+    ),
+    (
+        "quotes of two bytes nest",
+        "changequote(<<,>>)<<a<<b>>c>>|\n",
+        "a<<b>>c|\n",
+        1,
+    ),
+    (
+        "a name comes before a string",
+        "changequote(`q',`Q')qaQ q\n",
+        "qaQ q\n",
+        1,
+    ),
+    (
+        "a parenthesis that begins a string",
+        "define(`f',`<$#>')changequote(`(',`)')f(a)f\n",
+        "<0>a<0>\n",
+        4,
+    ),
+    (
+        "the first and the last letter and digit, and an underscore",
+        "define(`azAZ_09',`x')azAZ_09 zazAZ_09 azAZ_090 define(`_',`y')_ _0 0_\n",
+        "x zazAZ_09 azAZ_090 y _0 0y\n",
+        5,
+    ),
+];
+
 // The builtins, with and without their lists.
 static BUILTINS: [Row; 10] = [
     ("dnl", "a dnl b\nc\n", "a c\n", 1),
@@ -238,6 +352,21 @@ fn calls_are_read_again(rt: HostRuntime) {
 #[test]
 fn later_calls_are_their_own(rt: HostRuntime) {
     compare(&rt, &LATER);
+}
+
+#[test]
+fn arguments_begin_at_a_token(rt: HostRuntime) {
+    compare(&rt, &ARGUMENTS);
+}
+
+#[test]
+fn comments_have_delimiters(rt: HostRuntime) {
+    compare(&rt, &COMMENTS);
+}
+
+#[test]
+fn strings_and_names_have_theirs(rt: HostRuntime) {
+    compare(&rt, &QUOTES);
 }
 
 #[test]

@@ -22,7 +22,7 @@ struct Loaded {
     frozen_text: &'static str,
 }
 
-static LOADED: [Loaded; 10] = [
+static LOADED: [Loaded; 11] = [
     Loaded {
         name: "a frozen file without names",
         frozen: "V1\n",
@@ -83,6 +83,14 @@ static LOADED: [Loaded; 10] = [
         name: "a builtin of another m4",
         frozen: "V1\nF6,6\nregexpregexp\n",
         file: "regexp(`a',`b')!\n",
+        output: "!\n",
+        messages: "m4:b.m4:1: Warning: builtin `regexp' requested by frozen file is not supported\n",
+        frozen_text: "# m4 frozen state\nV1\nF6,6\nregexpregexp\n# End of frozen state file\n",
+    },
+    Loaded {
+        name: "its name without a list",
+        frozen: "V1\nF6,6\nregexpregexp\n",
+        file: "regexp!\n",
         output: "!\n",
         messages: "m4:b.m4:1: Warning: builtin `regexp' requested by frozen file is not supported\n",
         frozen_text: "# m4 frozen state\nV1\nF6,6\nregexpregexp\n# End of frozen state file\n",

@@ -70,7 +70,7 @@ static FILES: [Row; 4] = [
 ];
 
 // Files that are not opened, and runs that a macro ends.
-static NOT_OPENED: [Row; 5] = [
+static NOT_OPENED: [Row; 6] = [
     (
         "a file that isn't opened",
         &[Given::Missing("nofile"), Given::File("z\n")],
@@ -94,6 +94,14 @@ static NOT_OPENED: [Row; 5] = [
         "x ",
         "m4: cannot open `nofile'\n\
          m4:b.m4:1: Warning: empty string treated as 0 in builtin `m4exit'\n",
+        (1, Cause::Exited(0)),
+    ),
+    (
+        "the same code, written out",
+        &[Given::Missing("nofile"), Given::File("x m4exit(`0')y\n")],
+        ROOM,
+        "x ",
+        "m4: cannot open `nofile'\n",
         (1, Cause::Exited(0)),
     ),
     (

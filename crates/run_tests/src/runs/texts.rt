@@ -63,7 +63,7 @@ static TEXTS: [Row; 7] = [
     ),
 ];
 
-static PARTS_AND_NUMBERS: [Row; 7] = [
+static PARTS_AND_NUMBERS: [Row; 8] = [
     (
         "excess arguments",
         "len(`a',`b') incr(`1',`2') translit(`a',`a',`b',`c')\n",
@@ -107,6 +107,13 @@ static PARTS_AND_NUMBERS: [Row; 7] = [
         "a builtin beside text is dropped",
         "define(`x',a`'defn(`len'))x\n",
         "a\n",
+        "m4:a.m4:1: Warning: builtin dropped from text\n",
+        DONE,
+    ),
+    (
+        "and so are two that are beside one another",
+        "define(`x',defn(`len')defn(`incr'))x|x(`abc')\n",
+        "|\n",
         "m4:a.m4:1: Warning: builtin dropped from text\n",
         DONE,
     ),
