@@ -3,14 +3,20 @@ use Rattle.std.proofs.Common.{◌≡◌, ℕ, Bool, true, false, List, [], ◌�
 use Rattle.std.specs.Prelude.{nat_lt, nat_le, ℤ, pos, negsuc, filter_map, slice_get, if◌then◌else◌}
 use Rattle.std.specs.List.{AllByRecursion, list_all}
 use Rattle.m4_state.specs.declared.builtin.Builtin.{Builtin}
-use Rattle.m4_state.specs.declared.builtin.Builtin.TheVariants.{Define, Undefine, Pushdef, Popdef, Defn, Indir, IndirBuiltin, Ifdef, Ifelse, Shift, Dumpdef, Dnl, Changequote, Changecom, Divert, Undivert, Divnum, Len, Index, Substr, Translit, Incr, Decr, Eval, Errprint, M4wrap, M4exit, File, Line}
+use Rattle.m4_state.specs.declared.builtin.Builtin.TheVariants.{Define, Undefine, Pushdef, Popdef, Defn, Indir}
+use Rattle.m4_state.specs.declared.builtin.Builtin.TheVariants.{IndirBuiltin, Ifdef, Ifelse, Shift, Dumpdef, Dnl}
+use Rattle.m4_state.specs.declared.builtin.Builtin.TheVariants.{Changequote, Changecom, Divert, Undivert, Divnum, Len}
+use Rattle.m4_state.specs.declared.builtin.Builtin.TheVariants.{Index, Substr, Translit, Incr, Decr, Eval, Errprint}
+use Rattle.m4_state.specs.declared.builtin.Builtin.TheVariants.{M4wrap, M4exit, File, Line}
 use Rattle.m4_state.specs.declared.definition.Def.{Def}
 use Rattle.m4_state.specs.declared.definition.Def.TheVariants as defs
 use Rattle.m4_state.specs.declared.delimiters.Delimiters.{Delimiters}
 use Rattle.m4_state.specs.Definition.{IsDefinition}
 use Rattle.m4_state.specs.Builtin.{takes_tokens, least_of, builtin_named}
 use Rattle.m4_state.specs.State.{State, top_of, popped, undefined, undiverted, IsState}
-use Rattle.m4_state.proofs.StaysInOrder.{IsState-defined, IsState-pushed, IsState-popped, IsState-undefined, IsState-with_quotes, IsState-with_comments, IsState-default_quotes, IsState-diverted, IsState-undiverted, top_definition}
+use Rattle.m4_state.proofs.StaysInOrder.{IsState-defined, IsState-pushed, IsState-popped, IsState-undefined}
+use Rattle.m4_state.proofs.StaysInOrder.{IsState-with_quotes, IsState-with_comments, IsState-default_quotes}
+use Rattle.m4_state.proofs.StaysInOrder.{IsState-diverted, IsState-undiverted, top_definition}
 use Rattle.m4_input.specs.Ascii.{is_space}
 use Rattle.m4_eval.specs.declared.evaluate.Evaluated.{Evaluated}
 use Rattle.m4_eval.specs.declared.evaluate.Evaluated.TheVariants.{Value, DivideByZero, BadExpression}

@@ -3,7 +3,8 @@
 use Rattle.std.proofs.Common.{Some, None, ◌≡◌, ℕ, List, [], ◌∷◌, Option, Bool, false, refl}
 use Rattle.std.specs.Prelude.{codes, pos, negsuc}
 use Rattle.std.specs.Fmt.{digits}
-use Rattle.m4_state.specs.declared.builtin.Builtin.TheVariants.{Define, Defn, Dnl, Dumpdef, Ifdef, Ifelse, Indir, IndirBuiltin, Len, Popdef, Pushdef, Shift, Undefine}
+use Rattle.m4_state.specs.declared.builtin.Builtin.TheVariants.{Define, Defn, Dnl, Dumpdef, Ifdef, Ifelse, Indir}
+use Rattle.m4_state.specs.declared.builtin.Builtin.TheVariants.{IndirBuiltin, Len, Popdef, Pushdef, Shift, Undefine}
 use Rattle.m4_state.specs.declared.definition.Def.{Def}
 use Rattle.m4_state.specs.declared.definition.Def.TheVariants as defs
 use Rattle.m4_state.specs.Delimiters.{default_quotes, default_comments}

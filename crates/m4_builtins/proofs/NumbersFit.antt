@@ -1,12 +1,14 @@
 -- NumbersFit: a number that was read of an argument has 32 bits with its sign.
-use Rattle.std.proofs.Common.{◌≡◌, ℕ, zero, suc, ◌≤◌, Bool, true, false, List, [], ◌∷◌, T, refl, sym, subst, leb→le, arith}
+use Rattle.std.proofs.Common.{◌≡◌, ℕ, zero, suc, ◌≤◌, Bool, true, false, List, [], ◌∷◌, T, refl, sym, subst, leb→le}
+use Rattle.std.proofs.Common.{arith}
 use Rattle.std.specs.Prelude.{◌==◌, nat_le, FitsSigned, drop, if◌then◌else◌}
 use Rattle.std.specs.Int.{w32}
 use Rattle.m4_input.specs.Ascii.{is_space}
 use Rattle.m4_input.specs.Token.{run_length}
 use Rattle.m4_builtins.specs.declared.number.Reading.{Reading}
 use Rattle.m4_builtins.specs.declared.number.Reading.TheVariants.{Number, Empty, NotNumeric}
-use Rattle.m4_builtins.specs.Numeric.{plus, minus, signed, greatest, if_it_fits, are_digits, read_digits, read_signed, reading_of}
+use Rattle.m4_builtins.specs.Numeric.{plus, minus, signed, greatest, if_it_fits, are_digits, read_digits, read_signed}
+use Rattle.m4_builtins.specs.Numeric.{reading_of}
 use Rattle.m4_builtins.specs.Subst.{number_of}
 
 -- the number of a reading fits

@@ -1,5 +1,6 @@
 -- Acts: what a call leaves is what the definitions' move leaves.
-use Rattle.std.proofs.Common.{◌≡◌, Bool, true, false, Some, None, ◌++◌, length, ℕ, List, [], ◌∷◌, refl, sym, ap, ◌∙◌, append-nil, append_assoc}
+use Rattle.std.proofs.Common.{◌≡◌, Bool, true, false, Some, None, ◌++◌, length, ℕ, List, [], ◌∷◌, refl, sym, ap, ◌∙◌}
+use Rattle.std.proofs.Common.{append-nil, append_assoc}
 use Rattle.m4_state.specs.declared.definition.Def.{Def}
 use Rattle.m4_state.specs.State.{State}
 use Rattle.m4_input.specs.Pending.{Pending, text_of, line_length}
@@ -16,8 +17,13 @@ use Rattle.m4_engine.specs.Expansion.{RunSoFar, Ends}
 use Rattle.m4_engine.specs.Nesting.{Halted, Close, Outcome, Closed}
 use Rattle.m4_engine.specs.OpenCalls.{Stops, Stacked, Move, Goes, pop}
 use Rattle.m4_engine.specs.Expansion.{Call, Limits, Expansion, Kept, Ended, reading}
-use Rattle.m4_engine.specs.Expand.{turn, join, effected, skip_line, skip_or_push, with_saved, with_value, with_acted, mode_after_call}
-use Rattle.m4_engine.specs.Engine.{Engine, so_far_of, mode_of, kept_in, outer_of, here_of, configuration, begun_in, with_made, called_within, ending_in, ending_argument, with_open_call, close_in, step, moved, put_in, put_token_in, IsReady, Makes, IsMade, StaysBy, Steps, IsTurned, Turns, MayFollow, Moving, Extended, line_move, Moves}
+use Rattle.m4_engine.specs.Expand.{turn, join, effected, skip_line, skip_or_push, with_saved, with_value, with_acted}
+use Rattle.m4_engine.specs.Expand.{mode_after_call}
+use Rattle.m4_engine.specs.Engine.{Engine, so_far_of, mode_of, kept_in, outer_of, here_of, configuration, begun_in}
+use Rattle.m4_engine.specs.Engine.{with_made, ending_in, ending_argument, with_open_call, put_in, put_token_in}
+use Rattle.m4_engine.specs.Engine.{IsReady}
+use Rattle.m4_engine.specs.Turns.{called_within, close_in, step, moved, Makes, IsMade, StaysBy, Steps, IsTurned}
+use Rattle.m4_engine.specs.Turns.{Turns, MayFollow, Moving, Extended, line_move, Moves}
 
 -- the state of an expansion after a call with these effects
 abbrev after : Acted → List ℕ → List ℕ → Engine → Pending → Expansion
@@ -33,7 +39,11 @@ abbrev popped : List Call → Outcome Expansion Ended → Move Expansion Kept En
 popped cs v = pop Expansion Kept Ended turn join (outer_of cs) v
 
 -- the call is a token of the argument around it
-around : (a : Acted) (o m : List ℕ) (limits : Limits) (s : State) (saved : List (List ℕ)) (n : ℕ) (cs : List Call) (output messages : List ℕ) (p p' : Pending) → let e : Engine = record { limits = limits; state = s; saved = saved; calls = n; open_calls = cs; output = output; messages = messages } in let c : Stacked Expansion Kept = record { outer = outer_of cs; here = reading p' (after a o m e p) } in c ≡ configuration o m (with_made (a.effect).messages (a.effect).output (a.effect).wrap (record e { state = a.state })) p'
+around : (a : Acted) (o m : List ℕ) (limits : Limits) (s : State) (saved : List (List ℕ)) (n : ℕ) (cs : List Call)
+    (output messages : List ℕ) (p p' : Pending)
+    → let e : Engine = record { limits = limits; state = s; saved = saved; calls = n; open_calls = cs; output = output; messages = messages } in let c : Stacked Expansion Kept = record { outer = outer_of cs; here = reading p' (after a o m e p) } in c
+      ≡ configuration o m
+        (with_made (a.effect).messages (a.effect).output (a.effect).wrap (record e { state = a.state })) p'
 around a o m limits s saved n [] output messages p p' = rw (append_assoc o output (a.effect).output, append_assoc m messages (a.effect).messages) refl
 around a o m limits s saved n (c ∷ cs) output messages p p' = rw (append_assoc o output (a.effect).output, append_assoc m messages (a.effect).messages) refl
 
@@ -44,14 +54,21 @@ called_is : (e : Engine) (c : Call) (a : Acted) (p : Pending) (o m : List ℕ) �
 called_is e c a p o m h = ap (λ (a : Acted). popped e.open_calls (effect_at a o m e p)) h
 
 -- what a call made was added, and then the argument around it begun
-pub made_and_begun : (e : Engine) (s : State) (v : Effect) (messages output : List ℕ) (saved : List (List ℕ)) → messages ≡ e.messages ++ v.messages → output ≡ e.output ++ v.output → saved ≡ with_saved v.wrap e.saved → with_made [] [] None (record e { state = s; messages = messages; output = output; saved = saved }) ≡ with_made v.messages v.output v.wrap (record e { state = s })
+pub made_and_begun : (e : Engine) (s : State) (v : Effect) (messages output : List ℕ) (saved : List (List ℕ))
+    → messages ≡ e.messages ++ v.messages → output ≡ e.output ++ v.output → saved ≡ with_saved v.wrap e.saved
+    → with_made [] [] None (record e { state = s; messages = messages; output = output; saved = saved })
+      ≡ with_made v.messages v.output v.wrap (record e { state = s })
 made_and_begun e s v messages output saved h i j =
     ap (λ (x : List ℕ). let d : Engine = record e { state = s; output = x; messages = messages ++ []; saved = saved; open_calls = begun_in e.open_calls } in d) (append-nil output ∙ i)
     ∙ ap (λ (x : List ℕ). let d : Engine = record e { state = s; output = e.output ++ v.output; messages = x; saved = saved; open_calls = begun_in e.open_calls } in d) (append-nil messages ∙ h)
     ∙ ap (λ (x : List (List ℕ)). let d : Engine = record e { state = s; output = e.output ++ v.output; messages = e.messages ++ v.messages; saved = x; open_calls = begun_in e.open_calls } in d) j
 
 -- a call after which the expansion continues
-pub called_goes : (e e1 : Engine) (c : Call) (a : Acted) (p p' : Pending) → act c.definition c.name c.done c.place e.state ≡ a → (a.effect).exit ≡ None → (a.effect).skip ≡ false → e1 ≡ with_made (a.effect).messages (a.effect).output (a.effect).wrap (record e { state = a.state }) → with_value (a.effect).push p ≡ p' → (o m : List ℕ) → called_within e.open_calls c (here_of o m e p) ≡ Goes (configuration o m e1 p')
+pub called_goes : (e e1 : Engine) (c : Call) (a : Acted) (p p' : Pending)
+    → act c.definition c.name c.done c.place e.state ≡ a → (a.effect).exit ≡ None → (a.effect).skip ≡ false
+    → e1 ≡ with_made (a.effect).messages (a.effect).output (a.effect).wrap (record e { state = a.state })
+    → with_value (a.effect).push p ≡ p' → (o m : List ℕ)
+    → called_within e.open_calls c (here_of o m e p) ≡ Goes (configuration o m e1 p')
 called_goes e e1 c a p p' h x k i r o m =
     called_is e c a p o m h
     ∙ ap (λ v. popped e.open_calls (effected v (a.effect).skip (a.effect).push (after a o m e p))) x
@@ -60,7 +77,10 @@ called_goes e e1 c a p p' h x k i r o m =
     ∙ ap Goes (around a o m e.limits e.state e.saved e.calls e.open_calls e.output e.messages p p' ∙ ap (λ (d : Engine). configuration o m d p') (sym i))
 
 -- a call that discards the rest of the line
-pub called_skips : (e e1 : Engine) (c : Call) (a : Acted) (p : Pending) → act c.definition c.name c.done c.place e.state ≡ a → (a.effect).exit ≡ None → (a.effect).skip ≡ true → e1 ≡ with_made (a.effect).messages (a.effect).output (a.effect).wrap (record e { state = a.state }) → (o m : List ℕ) → called_within e.open_calls c (here_of o m e p) ≡ line_move e1.open_calls (here_of o m e1 p)
+pub called_skips : (e e1 : Engine) (c : Call) (a : Acted) (p : Pending)
+    → act c.definition c.name c.done c.place e.state ≡ a → (a.effect).exit ≡ None → (a.effect).skip ≡ true
+    → e1 ≡ with_made (a.effect).messages (a.effect).output (a.effect).wrap (record e { state = a.state })
+    → (o m : List ℕ) → called_within e.open_calls c (here_of o m e p) ≡ line_move e1.open_calls (here_of o m e1 p)
 called_skips e e1 c a p h x k i o m =
     called_is e c a p o m h
     ∙ ap (λ v. popped e.open_calls (effected v (a.effect).skip (a.effect).push (after a o m e p))) x
@@ -70,7 +90,12 @@ called_skips e e1 c a p h x k i o m =
     ∙ ap (λ (d : Engine). line_move d.open_calls (here_of o m d p)) (sym i)
 
 -- a call that ends the run
-pub called_exits : (e e1 : Engine) (c : Call) (a : Acted) (p : Pending) (code : ℕ) → act c.definition c.name c.done c.place e.state ≡ a → (a.effect).exit ≡ Some code → e1 ≡ with_made (a.effect).messages (a.effect).output (a.effect).wrap (record e { state = a.state }) → (o m : List ℕ) → called_within e.open_calls c (here_of o m e p) ≡ Stops (Halted (record { so_far = so_far_of o m e1; reason = Ends (causes.Exited code) }))
+pub called_exits : (e e1 : Engine) (c : Call) (a : Acted) (p : Pending) (code : ℕ)
+    → act c.definition c.name c.done c.place e.state ≡ a → (a.effect).exit ≡ Some code
+    → e1 ≡ with_made (a.effect).messages (a.effect).output (a.effect).wrap (record e { state = a.state })
+    → (o m : List ℕ)
+    → called_within e.open_calls c (here_of o m e p)
+      ≡ Stops (Halted (record { so_far = so_far_of o m e1; reason = Ends (causes.Exited code) }))
 called_exits e e1 c a p code h x i o m =
     called_is e c a p o m h
     ∙ ap (λ v. popped e.open_calls (effected v (a.effect).skip (a.effect).push (after a o m e p))) x
@@ -89,7 +114,12 @@ abbrev without_innermost : Engine → Engine
 without_innermost e = record e { open_calls = tail_of e.open_calls }
 
 -- the innermost call is made where its list is closed
-joined_is : (d : Call) (ds : List Call) (o m : List ℕ) (e : Engine) (p : Pending) (s : Expansion) → s ≡ here_of o m e p → step (kept_in ds ∷ outer_of ds) (Close (end_argument d s)) ≡ called_within ds (with_argument d) (here_of o m (record e { messages = e.messages ++ dropped_if_any d.place d.bytes d.tokens; open_calls = ds }) p)
+joined_is : (d : Call) (ds : List Call) (o m : List ℕ) (e : Engine) (p : Pending) (s : Expansion)
+    → s ≡ here_of o m e p
+    → step (kept_in ds ∷ outer_of ds) (Close (end_argument d s))
+      ≡ called_within ds (with_argument d)
+        (here_of o m (record e { messages = e.messages ++ dropped_if_any d.place d.bytes d.tokens; open_calls = ds })
+          p)
 joined_is d ds o m e p s h = ap (λ (s : Expansion). step (kept_in ds ∷ outer_of ds) (Close (end_argument d s))) h ∙ (rw (append_assoc m e.messages (dropped_if_any d.place d.bytes d.tokens)) refl)
 
 closing_in : (cs : List Call) (e e2 : Engine) (c : Call) (p : Pending) → ending_in cs e ≡ with_open_call c e2 → e.open_calls ≡ cs → (o m : List ℕ) → step (outer_of cs) (close_in cs (here_of o m e p)) ≡ called_within e2.open_calls c (here_of o m e2 p)
@@ -115,7 +145,11 @@ pub result_by : (may : Bool) (e : Engine) (p : Pending) (r : Result Turned TurnF
 result_by may e p (Ok t) f g h k = moves_by may e p t f g h k
 result_by may e p (Err x) f g h k = tt
 
-pub closing_result : (may : Bool) (e e2 e3 : Engine) (c : Call) (p : Extended) (p' : Pending) (r : Result Turned TurnFault) → ending_argument e ≡ with_open_call c e2 → IfOk r (λ t. Moves may e3 p' t (λ z more o m. called_within e2.open_calls c (here_of o m e2 (p z more)))) → IfOk r (λ t. Moves may e3 p' t (λ z more o m. step (outer_of e.open_calls) (close_in e.open_calls (here_of o m e (p z more)))))
+pub closing_result : (may : Bool) (e e2 e3 : Engine) (c : Call) (p : Extended) (p' : Pending)
+    (r : Result Turned TurnFault) → ending_argument e ≡ with_open_call c e2
+    → IfOk r (λ t. Moves may e3 p' t (λ z more o m. called_within e2.open_calls c (here_of o m e2 (p z more))))
+    → IfOk r (λ t. Moves may e3 p' t
+      (λ z more o m. step (outer_of e.open_calls) (close_in e.open_calls (here_of o m e (p z more)))))
 closing_result may e e2 e3 c p p' r h k = result_by may e3 p' r _ _ (λ z more w o m. closing_in e.open_calls e e2 c (p z more) h refl o m) k
 
 -- a step is a turn, if the token before it was consumed
@@ -131,7 +165,11 @@ made_turn e e1 i j turns.SkipsLine h = h
 made_turn e e1 i j turns.NeedsMore h = absurd h
 made_turn e e1 i j (turns.Ends cause) h = h
 
-pub turned_steps : (e e1 : Engine) (i k j : Held) (r : Result Turned TurnFault) → (k.pending).may_follow ≡ (i.pending).may_follow → (k.pending).file ≡ (i.pending).file → IfOk r (λ t. Moves (i.pending).may_follow e1 j.pending t (λ z more o m. moved (configuration o m e (longer z more i.pending)))) → {to : Turned → Type 0} {old : Engine} → old.limits ≡ e.limits → Steps r old e1 k j to → Turns r e e1 i j
+pub turned_steps : (e e1 : Engine) (i k j : Held) (r : Result Turned TurnFault)
+    → (k.pending).may_follow ≡ (i.pending).may_follow → (k.pending).file ≡ (i.pending).file
+    → IfOk r (λ t. Moves (i.pending).may_follow e1 j.pending t
+      (λ z more o m. moved (configuration o m e (longer z more i.pending)))) → {to : Turned → Type 0} {old : Engine}
+    → old.limits ≡ e.limits → Steps r old e1 k j to → Turns r e e1 i j
 turned_steps e e1 i k j (Ok t) f g h l s = record {
   moves = h;
   ready = stays_back i k j t f g s.ready;

@@ -15,7 +15,8 @@ use Rattle.m4_engine.specs.declared.turned.TurnFault.{TurnFault}
 use Rattle.m4_engine.specs.declared.turned.Turned.TheVariants as turns
 use Rattle.m4_engine.specs.Expansion.{Call}
 use Rattle.m4_engine.specs.Expand.{call}
-use Rattle.m4_engine.specs.Engine.{Engine, outer_of, here_of, with_one_call, with_made, is_deep_in, is_bare, called_within, step, Extended, Pushes, Moves}
+use Rattle.m4_engine.specs.Engine.{Engine, outer_of, here_of, with_one_call, with_made, is_deep_in, is_bare}
+use Rattle.m4_engine.specs.Turns.{called_within, step, Extended, Pushes, Moves}
 use Rattle.m4_engine.proofs.Acts.{called_goes}
 use Rattle.m4_engine.proofs.Calling.{bare_made}
 
@@ -25,11 +26,19 @@ acted_text c t x e d h =
     ∙ ap (λ (y : List ℕ). leaves e.state (expands y)) (sym h)
 
 -- what a text gives is read again
-pub text_goes : (may : Bool) (e e1 : Engine) (c : Call) (t x : List ℕ) (p p' : Pending) → c.definition ≡ Text t → x ≡ substituted t c.name c.done (e.state).quotes → e1 ≡ with_made [] [] None e → Pushes p p' (Some (pushes.Text x)) → Moves may e1 p' turns.GoesOn (λ z more o m. called_within e.open_calls c (here_of o m e (longer z more p)))
+pub text_goes : (may : Bool) (e e1 : Engine) (c : Call) (t x : List ℕ) (p p' : Pending) → c.definition ≡ Text t
+    → x ≡ substituted t c.name c.done (e.state).quotes → e1 ≡ with_made [] [] None e
+    → Pushes p p' (Some (pushes.Text x))
+    → Moves may e1 p' turns.GoesOn (λ z more o m. called_within e.open_calls c (here_of o m e (longer z more p)))
 text_goes may e e1 c t x p p' d h m r = λ z more w o n. called_goes e e1 c (leaves e.state (expands x)) (longer z more p) (longer z more p') (acted_text c t x e d h) refl refl m (r z more) o n
 
 -- the same of a call with no list
-pub bare_goes : (may : Bool) (e e2 e1 : Engine) (c : Call) (p : Extended) (p' : Pending) (r : Result Turned TurnFault) → nat_lt e.calls (e.limits).calls ≡ true → is_deep_in e ≡ false → e2 ≡ with_one_call e → IfOk r (λ t. Moves may e1 p' t (λ z more o m. called_within e2.open_calls c (here_of o m e2 (p z more)))) → IfOk r (λ t. (before : Extended) → Moves may e1 p' t (λ z more o m. step (outer_of e.open_calls) (call false c (p z more) (here_of o m e (before z more)))))
+pub bare_goes : (may : Bool) (e e2 e1 : Engine) (c : Call) (p : Extended) (p' : Pending) (r : Result Turned TurnFault)
+    → nat_lt e.calls (e.limits).calls ≡ true → is_deep_in e ≡ false → e2 ≡ with_one_call e
+    → IfOk r (λ t. Moves may e1 p' t (λ z more o m. called_within e2.open_calls c (here_of o m e2 (p z more))))
+    → IfOk r (λ t. (before : Extended)
+      → Moves may e1 p' t (λ z more o m. step (outer_of e.open_calls)
+        (call false c (p z more) (here_of o m e (before z more)))))
 bare_goes may e e2 e1 c p p' r room shallow k h = bare_made may e e2 e1 c false p p' r refl room k (ap is_deep_in k ∙ shallow) h
 
 -- a text with the same arguments put in
@@ -42,12 +51,25 @@ substituted_by t x n name l list q r h i j f g =
     ∙ ap (λ (y : List ℕ). let d : Delimiters = record { begin = r.begin; end = y } in substituted t name list d) g
 
 -- a text that some calls give is what one of them gives
-pub called_as : (may : Bool) (e e1 : Engine) (x y : List ℕ) (c : Call) (p : Extended) (p' : Pending) (r : Result Turned TurnFault) → IfOk r (λ t. (k : Call) (z : List ℕ) → k.definition ≡ Text z → x ≡ substituted z k.name k.done (e.state).quotes → Moves may e1 p' t (λ z more o m. called_within e.open_calls k (here_of o m e (p z more)))) → c.definition ≡ Text y → x ≡ substituted y c.name c.done (e.state).quotes → IfOk r (λ t. Moves may e1 p' t (λ z more o m. called_within e.open_calls c (here_of o m e (p z more))))
+pub called_as : (may : Bool) (e e1 : Engine) (x y : List ℕ) (c : Call) (p : Extended) (p' : Pending)
+    (r : Result Turned TurnFault)
+    → IfOk r (λ t. (k : Call) (z : List ℕ) → k.definition ≡ Text z → x ≡ substituted z k.name k.done (e.state).quotes
+      → Moves may e1 p' t (λ z more o m. called_within e.open_calls k (here_of o m e (p z more))))
+    → c.definition ≡ Text y → x ≡ substituted y c.name c.done (e.state).quotes
+    → IfOk r (λ t. Moves may e1 p' t (λ z more o m. called_within e.open_calls c (here_of o m e (p z more))))
 called_as may e e1 x y c p p' (Ok t) h d s = h c y d s
 called_as may e e1 x y c p p' (Err f) h d s = tt
 
 -- the same after a call with no list, within the limits
-pub expanded_goes : (may : Bool) (e e2 e1 : Engine) (x : List ℕ) (p : Extended) (p' : Pending) (r : Result Turned TurnFault) → nat_lt e.calls (e.limits).calls ≡ true → is_deep_in e ≡ false → e2 ≡ with_one_call e → IfOk r (λ t. (k : Call) (z : List ℕ) → k.definition ≡ Text z → x ≡ substituted z k.name k.done (e2.state).quotes → Moves may e1 p' t (λ z more o m. called_within e2.open_calls k (here_of o m e2 (p z more)))) → IfOk r (λ t. (k : Call) (z : List ℕ) → k.definition ≡ Text z → x ≡ substituted z k.name k.done (e.state).quotes → (before : Extended) → Moves may e1 p' t (λ z more o m. step (outer_of e.open_calls) (call false k (p z more) (here_of o m e (before z more)))))
+pub expanded_goes : (may : Bool) (e e2 e1 : Engine) (x : List ℕ) (p : Extended) (p' : Pending)
+    (r : Result Turned TurnFault) → nat_lt e.calls (e.limits).calls ≡ true → is_deep_in e ≡ false
+    → e2 ≡ with_one_call e
+    → IfOk r (λ t. (k : Call) (z : List ℕ) → k.definition ≡ Text z → x ≡ substituted z k.name k.done (e2.state).quotes
+      → Moves may e1 p' t (λ z more o m. called_within e2.open_calls k (here_of o m e2 (p z more))))
+    → IfOk r (λ t. (k : Call) (z : List ℕ) → k.definition ≡ Text z → x ≡ substituted z k.name k.done (e.state).quotes
+      → (before : Extended)
+      → Moves may e1 p' t (λ z more o m. step (outer_of e.open_calls)
+        (call false k (p z more) (here_of o m e (before z more)))))
 expanded_goes may e e2 e1 x p p' (Ok t) room shallow k h = λ c y d s.
     bare_goes may e e2 e1 c p p' (Ok t) room shallow k (h c y d (s ∙ sym (ap (λ (d : Engine). substituted y c.name c.done (d.state).quotes) k)))
 expanded_goes may e e2 e1 x p p' (Err f) room shallow k h = tt

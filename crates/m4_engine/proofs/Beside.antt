@@ -1,6 +1,7 @@
 -- Beside: one expansion goes beside another, turn by turn.
 use Rattle.std.proofs.Common.{◌≡◌, ℕ, zero, suc, ◌<◌, ◌≤◌, refl, sym, ap, ◌∙◌, subst, arith}
-use Rattle.m4_engine.specs.Nesting.{Turn, Halt, Close, GoOn, Bare, Opens, Outcome, Halted, Closed, then_on, after, level, nested, expansion, Falls}
+use Rattle.m4_engine.specs.Nesting.{Turn, Halt, Close, GoOn, Bare, Opens, Outcome, Halted, Closed, then_on, after}
+use Rattle.m4_engine.specs.Nesting.{level, nested, expansion, Falls}
 use Rattle.m4_engine.proofs.Bounds.{expansion_is, nests_keeps}
 
 -- s's expansion and t's go side by side from related starts, until s's ends
@@ -20,7 +21,9 @@ abbrev pub Fits : (S D : Type 0) → (S → S → Type 0) → (D → Outcome S D
 Fits S D R Q (Halted d) o = Q d o
 Fits S D R Q (Closed s) o = (t : S) × (o ≡ Closed t) × R s t
 
-module _ (S F D : Type 0) (turn : S → Turn S F D) (join : F → S → Outcome S D) (spent : S → D) (size left : S → ℕ) (falls : Falls S F D turn join size left) (R : S → S → Type 0) (K : F → F → Type 0) (Q : D → Outcome S D → Type 0) (follows : Follows S F D turn join (expansion S F D turn join spent size left) R K Q) where
+module _ (S F D : Type 0) (turn : S → Turn S F D) (join : F → S → Outcome S D) (spent : S → D) (size left : S → ℕ)
+    (falls : Falls S F D turn join size left) (R : S → S → Type 0) (K : F → F → Type 0) (Q : D → Outcome S D → Type 0)
+    (follows : Follows S F D turn join (expansion S F D turn join spent size left) R K Q) where
   abbrev whole : S → Outcome S D
   whole = expansion S F D turn join spent size left
 
@@ -35,7 +38,10 @@ module _ (S F D : Type 0) (turn : S → Turn S F D) (join : F → S → Outcome 
   moved p o o' e f = subst (Fits' p) (sym e) f
 
   -- after a list: f and g are what is kept of the levels that opened it
-  list_fits : (fewer : S → Outcome S D) (l : ℕ) → ((a b : S) → R a b → left a < l → Fits' (fewer a) (whole b)) → ((a b : S) → fewer a ≡ Closed b → left b ≤ left a) → (f g : F) (s' : S) → K f g → left s' < l → (p o : Outcome S D) → fewer s' ≡ p → Fits' p o → Fits' (then_on (then_on p (join f)) fewer) (then_on (then_on o (join g)) whole)
+  list_fits : (fewer : S → Outcome S D) (l : ℕ) → ((a b : S) → R a b → left a < l → Fits' (fewer a) (whole b))
+      → ((a b : S) → fewer a ≡ Closed b → left b ≤ left a) → (f g : F) (s' : S) → K f g → left s' < l
+      → (p o : Outcome S D) → fewer s' ≡ p → Fits' p o
+      → Fits' (then_on (then_on p (join f)) fewer) (then_on (then_on o (join g)) whole)
   list_fits fewer l h keeps f g s' r i (Halted d) o e x = follows.later d o g x
   list_fits fewer l h keeps f g s' r i (Closed u) o e x =
       moved _ _ _ (ap (λ y. then_on (then_on y (join g)) whole) x.1)

@@ -1,5 +1,6 @@
 -- Blockwise: an input that is expanded block by block is expanded as it is defined, whatever follows.
-use Rattle.std.proofs.Common.{◌≡◌, ◌⊎◌, inl, inr, ◌≤◌, ℕ, Bool, true, false, List, [], ◌++◌, length, Option, None, refl, sym, ap, ◌∙◌, subst, append-nil, append_assoc, arith}
+use Rattle.std.proofs.Common.{◌≡◌, ◌⊎◌, inl, inr, ◌≤◌, ℕ, Bool, true, false, List, [], ◌++◌, length, Option, None}
+use Rattle.std.proofs.Common.{refl, sym, ap, ◌∙◌, subst, append-nil, append_assoc, arith}
 use Rattle.std.specs.Prelude.{Err}
 use Rattle.m4_state.proofs.CallerLaws.{after_bytes-append, with_bytes-append, with_bytes-nil}
 use Rattle.m4_state.specs.Device.{Script, after_bytes, with_bytes, HasBegun, IsAtFault, one_more}
@@ -18,9 +19,12 @@ use Rattle.m4_engine.specs.Nesting.{Outcome, Halted, Closed}
 use Rattle.m4_engine.specs.OpenCalls.{resume}
 use Rattle.m4_engine.specs.Expansion.{RunSoFar, Call, Expansion, Kept, Ended, Ends, NeedsInput}
 use Rattle.m4_engine.specs.Expand.{turn, join, expand, ended_of, expansion_of}
-use Rattle.m4_engine.specs.Engine.{Engine, MayFollow, so_far_of, outer_of, here_of, configuration, IsReady, IsFront}
-use Rattle.m4_engine.specs.Expands.{made_before, input_expansion, Expanded, LastAsked, ReadSo, Fell, Expands, ReadsBy, IsIdle}
-use Rattle.m4_engine.specs.Continued.{comes_to, Leads, IsFlushed, HandNeeds, HandEnds, HandBreaks, HandGives, HasMade, so_far_in, fault_cause}
+use Rattle.m4_engine.specs.Engine.{Engine, so_far_of, outer_of, here_of, configuration, IsReady, IsFront}
+use Rattle.m4_engine.specs.Turns.{MayFollow}
+use Rattle.m4_engine.specs.Expands.{made_before, input_expansion, Expanded, LastAsked, ReadSo, Fell, Expands, ReadsBy}
+use Rattle.m4_engine.specs.Expands.{IsIdle}
+use Rattle.m4_engine.specs.Continued.{comes_to, Leads, IsFlushed, HandNeeds, HandEnds, HandBreaks, HandGives, HasMade}
+use Rattle.m4_engine.specs.Continued.{so_far_in, fault_cause}
 use Rattle.m4_engine.specs.ReadsOn.{IsWantedAfter, HasReadOn, HasStopped, ReadsOn}
 use Rattle.m4_engine.specs.Writers.{Contents, Failures, NoneFailed, FailsBy, writers, Broken, HasWritten}
 use Rattle.m4_engine.proofs.ReadingOn.{stays_open}
@@ -45,7 +49,11 @@ more_after old mid new made x y e f =
     f ∙ ap (λ (o : Option (List ℕ)). with_bytes o y) e ∙ with_bytes-append old (made ++ x) y ∙ ap (with_bytes old) (append_assoc made x y)
 
 -- the same bytes were asked for, and more was written since
-pub asked_since : (e0 : Engine) (p0 : Pending) (x o m : List ℕ) (out0 reported0 out reported out' reported' : Option (List ℕ)) → (x ≡ []) ⊎ LastAsked e0 p0 x (writers out0 out reported0 reported) → HasWritten o m (writers out out' reported reported') → (x ≡ []) ⊎ LastAsked e0 p0 x (writers out0 out' reported0 reported')
+pub asked_since : (e0 : Engine) (p0 : Pending) (x o m : List ℕ)
+    (out0 reported0 out reported out' reported' : Option (List ℕ))
+    → (x ≡ []) ⊎ LastAsked e0 p0 x (writers out0 out reported0 reported)
+    → HasWritten o m (writers out out' reported reported')
+    → (x ≡ []) ⊎ LastAsked e0 p0 x (writers out0 out' reported0 reported')
 asked_since e0 p0 x o m out0 reported0 out reported out' reported' (inl n) h = inl n
 asked_since e0 p0 x o m out0 reported0 out reported out' reported' (inr a) h = inr (record {
   asked = a.asked;
@@ -76,7 +84,11 @@ takes_nothing e i s out reported d r = record {
 }
 
 -- the bytes in hand were expanded
-abbrev pub needs_more : (e0 e e' : Engine) (p0 : Pending) (i j : Held) (before after : Option Script) (out0 reported0 out reported out' reported' : Option (List ℕ)) (w v : Wanted) → Taking e0 p0 before after out0 reported0 w e i out reported → HandNeeds w e i v e' j (writers out out' reported reported') → Taking e0 p0 before after out0 reported0 v e' j out' reported'
+abbrev pub needs_more : (e0 e e' : Engine) (p0 : Pending) (i j : Held) (before after : Option Script)
+    (out0 reported0 out reported out' reported' : Option (List ℕ)) (w v : Wanted)
+    → Taking e0 p0 before after out0 reported0 w e i out reported
+    → HandNeeds w e i v e' j (writers out out' reported reported')
+    → Taking e0 p0 before after out0 reported0 v e' j out' reported'
 needs_more e0 e e' p0 i j before after out0 reported0 out reported out' reported' w v t h = record {
   x = t.x;
   q = t.q;
@@ -136,7 +148,12 @@ comes_is e p d =
     ∙ ap expand (idle_here e p d)
 
 -- what follows the bytes in hand follows all that was taken
-from_start : (e0 e : Engine) (p0 : Pending) (i : Held) (before after : Option Script) (out0 reported0 out reported : Option (List ℕ)) (w : Wanted) → IsIdle e0 → (t : Taking e0 p0 before after out0 reported0 w e i out reported) → (z : List ℕ) (more : Bool) → MayFollow (t.q).may_follow z more → comes_to w (configuration t.o t.m e (longer z more i.pending)) ≡ expand (expansion_of e0.limits (made_before e0) (longer z more t.q))
+from_start : (e0 e : Engine) (p0 : Pending) (i : Held) (before after : Option Script)
+    (out0 reported0 out reported : Option (List ℕ)) (w : Wanted) → IsIdle e0
+    → (t : Taking e0 p0 before after out0 reported0 w e i out reported) → (z : List ℕ) (more : Bool)
+    → MayFollow (t.q).may_follow z more
+    → comes_to w (configuration t.o t.m e (longer z more i.pending))
+      ≡ expand (expansion_of e0.limits (made_before e0) (longer z more t.q))
 from_start e0 e p0 i before after out0 reported0 out reported w d t z more c = (t.leads).means z more c [] [] ∙ comes_is e0 (longer z more t.q) d
 
 so_far_is : (v : Outcome Expansion Ended) → so_far_in v ≡ (ended_of v).so_far
@@ -144,7 +161,13 @@ so_far_is (Halted d) = refl
 so_far_is (Closed s) = refl
 
 -- the expansion stops after these bytes: nothing was made since the last flush
-pub stops_at : (e0 e e' : Engine) (p0 : Pending) (i j : Held) (before after : Option Script) (out0 reported0 out reported out' reported' : Option (List ℕ)) (w v : Wanted) → IsIdle e0 → (t : Taking e0 p0 before after out0 reported0 w e i out reported) → (h : HandNeeds w e i v e' j (writers out out' reported reported')) → (y : List ℕ) → IsWantedAfter v e' j.pending y → input_expansion e0 (longer (t.x ++ y) true p0) ≡ record { so_far = so_far_of (t.o ++ h.o) (t.m ++ h.m) e'; reason = NeedsInput }
+pub stops_at : (e0 e e' : Engine) (p0 : Pending) (i j : Held) (before after : Option Script)
+    (out0 reported0 out reported out' reported' : Option (List ℕ)) (w v : Wanted) → IsIdle e0
+    → (t : Taking e0 p0 before after out0 reported0 w e i out reported)
+    → (h : HandNeeds w e i v e' j (writers out out' reported reported')) → (y : List ℕ)
+    → IsWantedAfter v e' j.pending y
+    → input_expansion e0 (longer (t.x ++ y) true p0)
+      ≡ record { so_far = so_far_of (t.o ++ h.o) (t.m ++ h.m) e'; reason = NeedsInput }
 stops_at e0 e e' p0 i j before after out0 reported0 out reported out' reported' w v d t h y u =
     let still : (t.q).may_follow ≡ true = sym (t.leads).follows ∙ h.opened in
     let opened : (j.pending).may_follow ≡ true = is_open i j e e' w v _ h in
@@ -159,7 +182,12 @@ written_all : (old new : Option (List ℕ)) (made held all : List ℕ) → new �
 written_all old new made held all e f g = e ∙ ap (with_bytes old) (sym (g ∙ ap (λ (n : List ℕ). made ++ n) f ∙ append-nil made))
 
 -- there the reader was asked for the bytes that follow
-pub asked_here : (e0 e e' : Engine) (p0 : Pending) (i j : Held) (before after : Option Script) (out0 reported0 out reported out' reported' : Option (List ℕ)) (w v : Wanted) → IsIdle e0 → (t : Taking e0 p0 before after out0 reported0 w e i out reported) → HandNeeds w e i v e' j (writers out out' reported reported') → (x y last : List ℕ) → IsWantedAfter v e' j.pending y → x ≡ y ++ last → length last ≤ block → LastAsked e0 p0 (t.x ++ x) (writers out0 out' reported0 reported')
+pub asked_here : (e0 e e' : Engine) (p0 : Pending) (i j : Held) (before after : Option Script)
+    (out0 reported0 out reported out' reported' : Option (List ℕ)) (w v : Wanted) → IsIdle e0
+    → (t : Taking e0 p0 before after out0 reported0 w e i out reported)
+    → HandNeeds w e i v e' j (writers out out' reported reported') → (x y last : List ℕ)
+    → IsWantedAfter v e' j.pending y → x ≡ y ++ last → length last ≤ block
+    → LastAsked e0 p0 (t.x ++ x) (writers out0 out' reported0 reported')
 asked_here e0 e e' p0 i j before after out0 reported0 out reported out' reported' w v d t h x y last u p l =
     let all = more_written t.o t.m h.o h.m out0 out out' reported0 reported reported' t.written (h.written).output (h.written).messages in
     let end : Ended = record { so_far = so_far_of (t.o ++ h.o) (t.m ++ h.m) e'; reason = NeedsInput } in
@@ -179,7 +207,11 @@ asked_here e0 e e' p0 i j before after out0 reported0 out reported out' reported
     }
 
 -- more came
-pub blocks_came : (e0 e e' : Engine) (p0 : Pending) (i j k : Held) (before a b : Option Script) (out0 reported0 out reported out' reported' : Option (List ℕ)) (w v : Wanted) → IsIdle e0 → Taking e0 p0 before a out0 reported0 w e i out reported → HandNeeds w e i v e' j (writers out out' reported reported') → HasReadOn v e' a b j k → Taking e0 p0 before b out0 reported0 v e' k out' reported'
+pub blocks_came : (e0 e e' : Engine) (p0 : Pending) (i j k : Held) (before a b : Option Script)
+    (out0 reported0 out reported out' reported' : Option (List ℕ)) (w v : Wanted) → IsIdle e0
+    → Taking e0 p0 before a out0 reported0 w e i out reported
+    → HandNeeds w e i v e' j (writers out out' reported reported') → HasReadOn v e' a b j k
+    → Taking e0 p0 before b out0 reported0 v e' k out' reported'
 blocks_came e0 e e' p0 i j k before a b out0 reported0 out reported out' reported' w v d t h g =
     let s : Taking e0 p0 before a out0 reported0 v e' j out' reported' = needs_more e0 e e' p0 i j before a out0 reported0 out reported out' reported' w v t h in
     let opened : (j.pending).may_follow ≡ true = is_open i j e e' w v _ h in
@@ -199,7 +231,12 @@ blocks_came e0 e e' p0 i j k before a b out0 reported0 out reported out' reporte
     }
 
 -- an expansion that ended
-pub ended_all : (e0 e e' : Engine) (p0 : Pending) (i : Held) (before after : Option Script) (out0 reported0 out reported out' reported' : Option (List ℕ)) (w : Wanted) (cause : Cause) → IsIdle e0 → Taking e0 p0 before after out0 reported0 w e i out reported → HandEnds w e i.pending cause e' (writers out out' reported reported') → ReadSo e0 p0 before after (writers out0 out' reported0 reported') (λ d. Expanded e0 e' d cause (writers out0 out' reported0 reported'))
+pub ended_all : (e0 e e' : Engine) (p0 : Pending) (i : Held) (before after : Option Script)
+    (out0 reported0 out reported out' reported' : Option (List ℕ)) (w : Wanted) (cause : Cause) → IsIdle e0
+    → Taking e0 p0 before after out0 reported0 w e i out reported
+    → HandEnds w e i.pending cause e' (writers out out' reported reported')
+    → ReadSo e0 p0 before after (writers out0 out' reported0 reported')
+      (λ d. Expanded e0 e' d cause (writers out0 out' reported0 reported'))
 ended_all e0 e e' p0 i before after out0 reported0 out reported out' reported' w cause d t h = record {
   x = t.x;
   q = t.q;
@@ -233,7 +270,12 @@ broken_by o m d out0 out reported0 reported w h = record {
 }
 
 -- one that was interrupted
-pub broke_all : (e0 e : Engine) (p0 : Pending) (i : Held) (before after : Option Script) (out0 reported0 out reported out' reported' : Option (List ℕ)) (w : Wanted) → IsIdle e0 → Taking e0 p0 before after out0 reported0 w e i out reported → HandBreaks w e i.pending (writers out out' reported reported') → ReadSo e0 p0 before after (writers out0 out' reported0 reported') (λ d. Broken d (writers out0 out' reported0 reported'))
+pub broke_all : (e0 e : Engine) (p0 : Pending) (i : Held) (before after : Option Script)
+    (out0 reported0 out reported out' reported' : Option (List ℕ)) (w : Wanted) → IsIdle e0
+    → Taking e0 p0 before after out0 reported0 w e i out reported
+    → HandBreaks w e i.pending (writers out out' reported reported')
+    → ReadSo e0 p0 before after (writers out0 out' reported0 reported')
+      (λ d. Broken d (writers out0 out' reported0 reported'))
 broke_all e0 e p0 i before after out0 reported0 out reported out' reported' w d t h = record {
   x = t.x;
   q = t.q;
@@ -249,7 +291,10 @@ broke_all e0 e p0 i before after out0 reported0 out reported out' reported' w d 
 }
 
 -- the questions for more stopped by a fault, after some blocks came: these are in hand
-module _ (e0 e e' : Engine) (p0 : Pending) (i j k : Held) (before a b : Option Script) (out0 reported0 out reported out' reported' : Option (List ℕ)) (w v : Wanted) (f : InputFault) (d : IsIdle e0) (t : Taking e0 p0 before a out0 reported0 w e i out reported) (h : HandNeeds w e i v e' j (writers out out' reported reported')) (g : HasStopped v e' a b j k f) where
+module _ (e0 e e' : Engine) (p0 : Pending) (i j k : Held) (before a b : Option Script)
+    (out0 reported0 out reported out' reported' : Option (List ℕ)) (w v : Wanted) (f : InputFault) (d : IsIdle e0)
+    (t : Taking e0 p0 before a out0 reported0 w e i out reported)
+    (h : HandNeeds w e i v e' j (writers out out' reported reported')) (g : HasStopped v e' a b j k f) where
   abbrev made : Ended
   made = record { so_far = so_far_of (t.o ++ h.o) (t.m ++ h.m) e'; reason = NeedsInput }
 
@@ -312,7 +357,11 @@ module _ (e0 e e' : Engine) (p0 : Pending) (i j k : Held) (before a b : Option S
   }
 
 -- by the cause
-pub ends_by_cause : (e0 e e' : Engine) (p0 : Pending) (i j : Held) (before after : Option Script) (out0 reported0 out reported out' reported' : Option (List ℕ)) (w : Wanted) (cause : Cause) → IsIdle e0 → Taking e0 p0 before after out0 reported0 w e i out reported → HandGives w e e' i j (writers out out' reported reported') (hands.Ends cause) → Expands e0 e' p0 before after (writers out0 out' reported0 reported') cause
+pub ends_by_cause : (e0 e e' : Engine) (p0 : Pending) (i j : Held) (before after : Option Script)
+    (out0 reported0 out reported out' reported' : Option (List ℕ)) (w : Wanted) (cause : Cause) → IsIdle e0
+    → Taking e0 p0 before after out0 reported0 w e i out reported
+    → HandGives w e e' i j (writers out out' reported reported') (hands.Ends cause)
+    → Expands e0 e' p0 before after (writers out0 out' reported0 reported') cause
 ends_by_cause e0 e e' p0 i j before after out0 reported0 out reported out' reported' w causes.Done d t h = ended_all e0 e e' p0 i before after out0 reported0 out reported out' reported' w causes.Done d t h
 ends_by_cause e0 e e' p0 i j before after out0 reported0 out reported out' reported' w (causes.Exited n) d t h = ended_all e0 e e' p0 i before after out0 reported0 out reported out' reported' w (causes.Exited n) d t h
 ends_by_cause e0 e e' p0 i j before after out0 reported0 out reported out' reported' w causes.EndInString d t h = ended_all e0 e e' p0 i before after out0 reported0 out reported out' reported' w causes.EndInString d t h
@@ -325,7 +374,11 @@ ends_by_cause e0 e e' p0 i j before after out0 reported0 out reported out' repor
 ends_by_cause e0 e e' p0 i j before after out0 reported0 out reported out' reported' w causes.Write d t h = broke_all e0 e p0 i before after out0 reported0 out reported out' reported' w d t h
 ends_by_cause e0 e e' p0 i j before after out0 reported0 out reported out' reported' w causes.OutOfMemory d t h = broke_all e0 e p0 i before after out0 reported0 out reported out' reported' w d t h
 
-pub ends_so : (e0 e e' : Engine) (p0 : Pending) (i j : Held) (before after : Option Script) (out0 reported0 out reported out' reported' : Option (List ℕ)) (w : Wanted) (cause : Cause) (r : InHand) → r ≡ hands.Ends cause → IsIdle e0 → Taking e0 p0 before after out0 reported0 w e i out reported → HandGives w e e' i j (writers out out' reported reported') r → Expands e0 e' p0 before after (writers out0 out' reported0 reported') cause
+pub ends_so : (e0 e e' : Engine) (p0 : Pending) (i j : Held) (before after : Option Script)
+    (out0 reported0 out reported out' reported' : Option (List ℕ)) (w : Wanted) (cause : Cause) (r : InHand)
+    → r ≡ hands.Ends cause → IsIdle e0 → Taking e0 p0 before after out0 reported0 w e i out reported
+    → HandGives w e e' i j (writers out out' reported reported') r
+    → Expands e0 e' p0 before after (writers out0 out' reported0 reported') cause
 ends_so e0 e e' p0 i j before after out0 reported0 out reported out' reported' w cause r f d t h =
     ends_by_cause e0 e e' p0 i j before after out0 reported0 out reported out' reported' w cause d t (subst (HandGives w e e' i j (writers out out' reported reported')) f h)
 
@@ -336,13 +389,21 @@ pub needs_open : (i j : Held) (e e' : Engine) (w v : Wanted) (c : Contents) → 
 needs_open i j e e' w v c h = is_open i j e e' w v c h
 
 -- the next block is missing
-pub stopped_by : (e0 e e' : Engine) (p0 : Pending) (i j k : Held) (before after later : Option Script) (out0 reported0 out reported out' reported' : Option (List ℕ)) (w v : Wanted) (f : InputFault) → IsIdle e0 → Taking e0 p0 before after out0 reported0 w e i out reported → HandNeeds w e i v e' j (writers out out' reported reported') → ReadsOn v e' after later j k (Err f) → Expands e0 e' p0 before later (writers out0 out' reported0 reported') (fault_cause f)
+pub stopped_by : (e0 e e' : Engine) (p0 : Pending) (i j k : Held) (before after later : Option Script)
+    (out0 reported0 out reported out' reported' : Option (List ℕ)) (w v : Wanted) (f : InputFault) → IsIdle e0
+    → Taking e0 p0 before after out0 reported0 w e i out reported
+    → HandNeeds w e i v e' j (writers out out' reported reported') → ReadsOn v e' after later j k (Err f)
+    → Expands e0 e' p0 before later (writers out0 out' reported0 reported') (fault_cause f)
 stopped_by e0 e e' p0 i j k before after later out0 reported0 out reported out' reported' w v faults.Read d t h g = fell_all e0 e e' p0 i j k before after later out0 reported0 out reported out' reported' w v faults.Read d t h g.0 g.1
 stopped_by e0 e e' p0 i j k before after later out0 reported0 out reported out' reported' w v faults.OutOfMemory d t h g = lacked_all e0 e e' p0 i j k before after later out0 reported0 out reported out' reported' w v faults.OutOfMemory d t h g
 stopped_by e0 e e' p0 i j k before after later out0 reported0 out reported out' reported' w v (faults.EndInString n) d t h g = absurd g
 stopped_by e0 e e' p0 i j k before after later out0 reported0 out reported out' reported' w v (faults.EndInComment n) d t h g = absurd g
 
-pub stopped_so : (e0 e e' : Engine) (p0 : Pending) (i j k : Held) (before after later : Option Script) (out0 reported0 out reported out' reported' : Option (List ℕ)) (w v : Wanted) (f : InputFault) (cause : Cause) → cause ≡ fault_cause f → IsIdle e0 → Taking e0 p0 before after out0 reported0 w e i out reported → HandNeeds w e i v e' j (writers out out' reported reported') → ReadsOn v e' after later j k (Err f) → Expands e0 e' p0 before later (writers out0 out' reported0 reported') cause
+pub stopped_so : (e0 e e' : Engine) (p0 : Pending) (i j k : Held) (before after later : Option Script)
+    (out0 reported0 out reported out' reported' : Option (List ℕ)) (w v : Wanted) (f : InputFault) (cause : Cause)
+    → cause ≡ fault_cause f → IsIdle e0 → Taking e0 p0 before after out0 reported0 w e i out reported
+    → HandNeeds w e i v e' j (writers out out' reported reported') → ReadsOn v e' after later j k (Err f)
+    → Expands e0 e' p0 before later (writers out0 out' reported0 reported') cause
 stopped_so e0 e e' p0 i j k before after later out0 reported0 out reported out' reported' w v f cause c d t h g =
     subst (Expands e0 e' p0 before later (writers out0 out' reported0 reported')) (sym c) (stopped_by e0 e e' p0 i j k before after later out0 reported0 out reported out' reported' w v f d t h g)
 

@@ -1,6 +1,7 @@
 -- Bounds: an expansion doesn't depend on the bounds on its turns, if they are enough.
 use Rattle.std.proofs.Common.{◌≡◌, ℕ, zero, suc, ◌<◌, ◌≤◌, refl, ap, ◌∙◌, subst, arith}
-use Rattle.m4_engine.specs.Nesting.{Turn, Halt, Close, GoOn, Bare, Opens, Outcome, Halted, Closed, then_on, after, level, nested, expansion, Falls}
+use Rattle.m4_engine.specs.Nesting.{Turn, Halt, Close, GoOn, Bare, Opens, Outcome, Halted, Closed, then_on, after}
+use Rattle.m4_engine.specs.Nesting.{level, nested, expansion, Falls}
 
 module _ (S F D : Type 0) (turn : S → Turn S F D) (join : F → S → Outcome S D) (spent : S → D) (size : S → ℕ) where
   abbrev pub level' : (S → Outcome S D) → ℕ → S → Outcome S D

@@ -1,6 +1,7 @@
 -- ByRules: what each rule of an expansion keeps holds of the whole expansion.
 use Rattle.std.proofs.Common.{◌≡◌, ℕ, zero, suc, ◌<◌, ◌≤◌, refl, arith}
-use Rattle.m4_engine.specs.Nesting.{Turn, Halt, Close, GoOn, Bare, Opens, Outcome, Halted, Closed, then_on, after, level, nested, expansion, Falls}
+use Rattle.m4_engine.specs.Nesting.{Turn, Halt, Close, GoOn, Bare, Opens, Outcome, Halted, Closed, then_on, after}
+use Rattle.m4_engine.specs.Nesting.{level, nested, expansion, Falls}
 use Rattle.m4_engine.proofs.Bounds.{nests_keeps}
 
 -- Post says what a start has to do with what it comes to; one field a rule

@@ -1,5 +1,6 @@
 -- Chains: a chain of runs is one run, from the last run to the first, by the law `split`.
-use Rattle.std.proofs.Common.{◌≡◌, ◌≢◌, ℕ, ◌+◌, Bool, true, List, [], ◌∷◌, ◌++◌, Option, Some, refl, sym, ap, ◌∙◌, subst, arith, append-nil}
+use Rattle.std.proofs.Common.{◌≡◌, ◌≢◌, ℕ, ◌+◌, Bool, true, List, [], ◌∷◌, ◌++◌, Option, Some, refl, sym, ap, ◌∙◌}
+use Rattle.std.proofs.Common.{subst, arith, append-nil}
 use Rattle.std.specs.Prelude.{option_map}
 use Rattle.m4_state.specs.Device.{Script}
 use Rattle.m4_engine.specs.declared.options.Options.{Options}
@@ -8,7 +9,8 @@ use Rattle.m4_engine.specs.Expansion.{Ends}
 use Rattle.m4_engine.specs.File.{Source}
 use Rattle.m4_engine.specs.Start.{frozen_file}
 use Rattle.m4_engine.specs.Run.{RunResult, run}
-use Rattle.m4_engine.specs.Joined.{freezing, prefixed, Joins, Link, reloads, chain as the_chain, AllCarry, all_sources, JoinsAll, EndsAs}
+use Rattle.m4_engine.specs.Joined.{freezing, prefixed, Joins, Link, reloads, chain as the_chain, AllCarry}
+use Rattle.m4_engine.specs.Joined.{all_sources, JoinsAll, EndsAs}
 use Rattle.m4_engine.proofs.Reloads.{split}
 
 -- one run is a chain
@@ -42,7 +44,11 @@ one_more first second joint rest two all =
       calls = two.calls ∙ ap (λ n. first.calls + n) all.calls;
     }
 
-pub chain : (o : Options) (freezes : Bool) (frozen : Option Script) (sources : List Source) (links : List Link) → AllCarry o frozen sources links → (run (freezing freezes o) frozen (all_sources sources links)).reason ≢ Ends causes.ExpansionLimit → JoinsAll (the_chain o freezes frozen sources links) (run (freezing freezes o) frozen (all_sources sources links))
+pub chain : (o : Options) (freezes : Bool) (frozen : Option Script) (sources : List Source) (links : List Link)
+    → AllCarry o frozen sources links
+    → (run (freezing freezes o) frozen (all_sources sources links)).reason ≢ Ends causes.ExpansionLimit
+    → JoinsAll (the_chain o freezes frozen sources links)
+      (run (freezing freezes o) frozen (all_sources sources links))
 chain o freezes frozen sources [] carry limit =
     subst (λ (x : List Source). JoinsAll (run (freezing freezes o) frozen sources ∷ []) (run (freezing freezes o) frozen x)) (sym (append-nil sources))
     (alone (run (freezing freezes o) frozen sources))

@@ -1,5 +1,6 @@
 -- Continues: an expansion with an open end goes on as far as its bytes decide, whatever follows them.
-use Rattle.std.proofs.Common.{◌≡◌, ◌≢◌, ◌⊎◌, inl, inr, ⊎_elim, Option, ℕ, zero, suc, ◌<◌, ◌≤◌, Bool, true, false, List, [], ◌∷◌, ◌++◌, length, Some, None, refl, sym, ap, ◌∙◌, subst, arith}
+use Rattle.std.proofs.Common.{◌≡◌, ◌≢◌, ◌⊎◌, inl, inr, ⊎_elim, Option, ℕ, zero, suc, ◌<◌, ◌≤◌, Bool, true, false}
+use Rattle.std.proofs.Common.{List, [], ◌∷◌, ◌++◌, length, Some, None, refl, sym, ap, ◌∙◌, subst, arith}
 use Rattle.std.specs.Prelude.{nat_lt, ◌==◌}
 use Rattle.m4_state.specs.declared.definition.Def.{Def}
 use Rattle.m4_state.specs.declared.delimiters.Delimiters.{Delimiters}
@@ -20,18 +21,24 @@ use Rattle.m4_input.specs.Input.{longer}
 use Rattle.m4_builtins.specs.Act.{needs_list}
 use Rattle.m4_engine.specs.declared.ending.Cause.TheVariants as causes
 use Rattle.m4_engine.specs.Nesting.{Turn, Halt, Close, GoOn, Bare, Opens, Outcome, Halted, Closed, then_on, after}
-use Rattle.m4_engine.specs.Expansion.{Call, Mode, Outside, Collecting, Expansion, Kept, Ends, NeedsInput, Ended, place_at, with_call, reading}
+use Rattle.m4_engine.specs.Expansion.{Call, Mode, Outside, Collecting, Expansion, Kept, Ends, NeedsInput, Ended}
+use Rattle.m4_engine.specs.Expansion.{place_at, with_call, reading}
 use Rattle.m4_engine.specs.declared.role.Role.{Role}
 use Rattle.m4_engine.specs.declared.role.Role.TheVariants.{Opening, Closing, Separator, Blank, Other}
 use Rattle.m4_engine.specs.Args.{role_of, take_closing, take_byte}
-use Rattle.m4_engine.specs.Expand.{with_value, skip_all, skip_line, skip_or_push, effected, acted_at, kept_of, after_call, called, join_by, join, call_of, bare, collect, call_unless_deep, is_deep, call_if_room, call_without_list, take_call, take_name, take_other, take_token, take_front, unended_cause, turn, size_of, calls_left, out_of_bound_at, expand}
+use Rattle.m4_engine.specs.Expand.{with_value, skip_all, skip_line, skip_or_push, effected, acted_at, kept_of}
+use Rattle.m4_engine.specs.Expand.{after_call, called, join_by, join, call_of, bare, collect, call_unless_deep}
+use Rattle.m4_engine.specs.Expand.{is_deep, call_if_room, call_without_list, take_call, take_name, take_other}
+use Rattle.m4_engine.specs.Expand.{take_token, take_front, unended_cause, turn, size_of, calls_left, out_of_bound_at}
+use Rattle.m4_engine.specs.Expand.{expand}
 use Rattle.m4_engine.proofs.Growth.{Extends, made_out, longer_level, Continues, Begins}
 use Rattle.m4_input.specs.declared.front.Unended.TheVariants.{InString, InComment}
 use Rattle.m4_input.proofs.Consumed.{text_longer, consumed_longer}
 use Rattle.m4_input.proofs.OpenEnd.{NoEnd, scan_no_end, scan_stays, scan_fits, paren_in_stays, one_more_is}
 use Rattle.m4_engine.proofs.Beside.{Follows, Fits, expansion_fits}
 use Rattle.m4_engine.proofs.CallsFall.{falls, expand_is}
-use Rattle.m4_engine.proofs.OnlyGrows.{extends_more, made, bare_made, skipped_keeps, on_answer_keeps, on_seen_keeps, whole_keeps, then_keeps, list_keeps, turn_goes}
+use Rattle.m4_engine.proofs.OnlyGrows.{extends_more, made, bare_made, skipped_keeps, on_answer_keeps, on_seen_keeps}
+use Rattle.m4_engine.proofs.OnlyGrows.{whole_keeps, then_keeps, list_keeps, turn_goes}
 
 module _ (z : List ℕ) (b : Bool) where
   longer_seen : Front → Front

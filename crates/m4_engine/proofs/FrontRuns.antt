@@ -1,5 +1,6 @@
 -- FrontRuns: tokens that are found in the bytes at the front are found in all bytes in hand.
-use Rattle.std.proofs.Common.{◌≡◌, ⊎_elim, inl, inr, ℕ, ◌+◌, ◌-◌, ◌≤◌, Bool, true, false, List, [], ◌∷◌, ◌++◌, None, append-nil, refl, sym, ap, ◌∙◌, subst, take, drop, length, length-append, arith}
+use Rattle.std.proofs.Common.{◌≡◌, ⊎_elim, inl, inr, ℕ, ◌+◌, ◌-◌, ◌≤◌, Bool, true, false, List, [], ◌∷◌, ◌++◌, None}
+use Rattle.std.proofs.Common.{append-nil, refl, sym, ap, ◌∙◌, subst, take, drop, length, length-append, arith}
 use Rattle.std.proofs.lemmas.List.{take-append-le, drop-append-le, length-drop}
 use Rattle.m4_state.specs.State.{State, top_of}
 use Rattle.m4_state.specs.declared.delimiters.Delimiters.{Delimiters}
@@ -23,7 +24,7 @@ use Rattle.m4_engine.specs.Collected.{IsText, IsListToken, AreListTokens, IsList
 use Rattle.std.proofs.lemmas.List.{take-append-drop}
 use Rattle.m4_input.specs.Pending.{Pending, text_of, consumed}
 use Rattle.m4_input.specs.Blocks.{IsInFront}
-use Rattle.m4_engine.specs.Engine.{MayFollow}
+use Rattle.m4_engine.specs.Turns.{MayFollow}
 
 -- a token that is decided, with more bytes after it
 found_on : (q c : Delimiters) (more : Bool) (x z : List ℕ) (t : Token) (n : ℕ) → scan q c true x ≡ Found t n → scan q c more (x ++ z) ≡ Found t n

@@ -1,5 +1,6 @@
 -- GoingOn: a run that goes on from what was written of it, step by step.
-use Rattle.std.proofs.Common.{◌≡◌, inl, inr, ◌<◌, ℕ, suc, ◌+◌, List, ◌++◌, Option, Some, refl, sym, ap, ◌∙◌, subst, arith, append-nil, append_assoc}
+use Rattle.std.proofs.Common.{◌≡◌, inl, inr, ◌<◌, ℕ, suc, ◌+◌, List, ◌++◌, Option, Some, refl, sym, ap, ◌∙◌, subst}
+use Rattle.std.proofs.Common.{arith, append-nil, append_assoc}
 use Rattle.std.specs.Prelude.{Ok, Err}
 use Rattle.m4_state.proofs.CallerLaws.{with_bytes-append}
 use Rattle.m4_state.specs.Device.{with_bytes}

@@ -1,5 +1,6 @@
 -- InOrder: an expansion leaves a state in order, and so does a run.
-use Rattle.std.proofs.Common.{◌≡◌, ◌≢◌, inl, inr, Option, ℕ, zero, suc, Bool, true, false, List, [], ◌∷◌, Some, None, refl, sym, subst, fold}
+use Rattle.std.proofs.Common.{◌≡◌, ◌≢◌, inl, inr, Option, ℕ, zero, suc, Bool, true, false, List, [], ◌∷◌, Some, None}
+use Rattle.std.proofs.Common.{refl, sym, subst, fold}
 use Rattle.std.specs.Prelude.{nat_lt, FitsSigned}
 use Rattle.std.specs.Int.{w32}
 use Rattle.std.specs.List.{AllByRecursion}
@@ -18,18 +19,24 @@ use Rattle.m4_state.specs.State.{State, top_of}
 use Rattle.m4_input.specs.declared.pushed.Pushed.{Pushed}
 use Rattle.m4_input.specs.declared.pushed.Pushed.TheVariants as pushes
 use Rattle.m4_engine.specs.Nesting.{Turn, Halt, Close, GoOn, Bare, Opens, Outcome, Halted, Closed}
-use Rattle.m4_engine.specs.Expansion.{RunSoFar, Limits, Call, Mode, Outside, Collecting, Expansion, Kept, EndReason, Ended, place_at, with_call, reading, put_text}
+use Rattle.m4_engine.specs.Expansion.{RunSoFar, Limits, Call, Mode, Outside, Collecting, Expansion, Kept, EndReason}
+use Rattle.m4_engine.specs.Expansion.{Ended, place_at, with_call, reading, put_text}
 use Rattle.m4_engine.specs.declared.role.Role.{Role}
 use Rattle.m4_engine.specs.declared.role.Role.TheVariants.{Opening, Closing, Separator, Blank, Other}
 use Rattle.m4_engine.specs.Args.{end_argument, with_parenthesis, role_of, take_closing, take_byte}
-use Rattle.m4_engine.specs.Expand.{with_value, skip_all, skip_line, skip_or_push, effected, acted_at, kept_of, after_call, called, join_by, join, call_of, bare, collect, call_unless_deep, is_deep, call_if_room, call_without_list, take_call, take_name, take_other, take_end, take_token, take_front, turn, size_of, calls_left, out_of_bound_at, expand}
+use Rattle.m4_engine.specs.Expand.{with_value, skip_all, skip_line, skip_or_push, effected, acted_at, kept_of}
+use Rattle.m4_engine.specs.Expand.{after_call, called, join_by, join, call_of, bare, collect, call_unless_deep}
+use Rattle.m4_engine.specs.Expand.{is_deep, call_if_room, call_without_list, take_call, take_name, take_other}
+use Rattle.m4_engine.specs.Expand.{take_end, take_token, take_front, turn, size_of, calls_left, out_of_bound_at}
+use Rattle.m4_engine.specs.Expand.{expand}
 use Rattle.m4_state.specs.declared.definition.Def.TheVariants as defs
 use Rattle.m4_state.specs.declared.builtin.Builtin.{Builtin}
 use Rattle.m4_state.specs.Builtin.{builtin_named}
 use Rattle.m4_state.specs.Definition.{IsDefinition}
 use Rattle.m4_state.specs.State.{IsState, empty}
 use Rattle.m4_state.proofs.Tables.{AllByRecursion-push}
-use Rattle.m4_state.proofs.StaysInOrder.{IsState-appended, IsState-pushed, IsState-with_quotes, IsState-with_comments, IsState-diverted, IsState-empty, IsState-fresh, top_definition}
+use Rattle.m4_state.proofs.StaysInOrder.{IsState-appended, IsState-pushed, IsState-with_quotes, IsState-with_comments}
+use Rattle.m4_state.proofs.StaysInOrder.{IsState-diverted, IsState-empty, IsState-fresh, top_definition}
 use Rattle.m4_input.proofs.Consumed.{NoDefinition, scan_plain}
 use Rattle.m4_builtins.specs.Args.{IsArg}
 use Rattle.m4_builtins.specs.Act.{IsPushed, needs_list}
@@ -41,7 +48,8 @@ use Rattle.m4_frozen.specs.Denote.{with_directive, definition_named, builtin_or_
 use Rattle.m4_engine.specs.Expansion.{diverted_in, mode_with_text, mode_with_token}
 use Rattle.m4_engine.specs.Args.{argument_of}
 use Rattle.m4_engine.specs.Expand.{mode_after_call, expansion_of, ended_of, expand_input}
-use Rattle.m4_engine.specs.File.{Source, Opened, Unopened, Progress, file_pending, unless_over, read_source, after_source, after_sources}
+use Rattle.m4_engine.specs.File.{Source, Opened, Unopened, Progress, file_pending, unless_over, read_source}
+use Rattle.m4_engine.specs.File.{after_source, after_sources}
 use Rattle.m4_engine.specs.Wraps.{read_saved, next_round, rounds, after_wraps, wrapped_pending, joined_back}
 use Rattle.m4_state.specs.Device.{Script}
 use Rattle.m4_engine.specs.Start.{Start, IsStart, begun}

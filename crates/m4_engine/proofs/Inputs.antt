@@ -6,7 +6,8 @@ use Rattle.m4_input.specs.declared.pushed.Pushed.TheVariants as pushes
 use Rattle.m4_input.specs.Pending.{Pending}
 use Rattle.m4_input.specs.Input.{Held, longer, with_pushed}
 use Rattle.m4_builtins.specs.Act.{IsPushed}
-use Rattle.m4_engine.specs.Engine.{IsFront, IsReady, IsTaken, Stays, Pushes}
+use Rattle.m4_engine.specs.Engine.{IsFront, IsReady}
+use Rattle.m4_engine.specs.Turns.{IsTaken, Stays, Pushes}
 
 pub none_is_front : (o : Option Def) → o ≡ None → IsFront o
 none_is_front o e = subst IsFront (sym e) tt

@@ -1,5 +1,6 @@
 -- Limits: a run that doesn't end by a limit is the same under a larger one.
-use Rattle.std.proofs.Common.{◌≡◌, ◌≢◌, ◌⊎◌, inl, inr, ⊎_elim, Option, ℕ, suc, ◌+◌, ◌<◌, ◌≤◌, Bool, true, false, ◌&&◌, List, [], Some, None, refl, sym, ap, ◌∙◌, subst, arith}
+use Rattle.std.proofs.Common.{◌≡◌, ◌≢◌, ◌⊎◌, inl, inr, ⊎_elim, Option, ℕ, suc, ◌+◌, ◌<◌, ◌≤◌, Bool, true, false, ◌&&◌}
+use Rattle.std.proofs.Common.{List, [], Some, None, refl, sym, ap, ◌∙◌, subst, arith}
 use Rattle.std.specs.Prelude.{nat_lt}
 use Rattle.std.proofs.lemmas.Bool.Decides.{nat_tests}
 use Rattle.m4_engine.specs.declared.options.Options.{Options}
@@ -28,7 +29,12 @@ pub over_how : (v : Option EndReason) (h : EndReason) (freezes : Bool) (saved : 
 over_how None h freezes saved r any_missing e = cc
 over_how (Some x) h freezes saved r any_missing e = cc
 
-module _ (calls calls' nesting nesting' : ℕ) (room : (k : ℕ) → 0 + k < calls → k < calls') (depth : (k : ℕ) → (nat_lt 0 nesting && nat_lt nesting k) ≡ false → (nat_lt 0 nesting' && nat_lt nesting' k) ≡ false) (Limit : EndReason → Type 0) (at_calls : Limit (Ends causes.ExpansionLimit) ⊎ ((◌≡◌ {A = ℕ} 0 0) × (calls ≡ calls'))) (at_nesting : Limit (Ends causes.NestingLimit) ⊎ (nesting ≡ nesting')) (ends : (h : EndReason) → Limit h → over_of h ≡ Some h) (fewer : calls ≤ calls') where
+module _ (calls calls' nesting nesting' : ℕ) (room : (k : ℕ) → 0 + k < calls → k < calls')
+    (depth : (k : ℕ) → (nat_lt 0 nesting && nat_lt nesting k) ≡ false → (nat_lt 0 nesting' && nat_lt nesting' k)
+      ≡ false) (Limit : EndReason → Type 0)
+    (at_calls : Limit (Ends causes.ExpansionLimit) ⊎ ((◌≡◌ {A = ℕ} 0 0) × (calls ≡ calls')))
+    (at_nesting : Limit (Ends causes.NestingLimit) ⊎ (nesting ≡ nesting'))
+    (ends : (h : EndReason) → Limit h → over_of h ≡ Some h) (fewer : calls ≤ calls') where
   abbrev small : TheLimits
   small = record { calls = calls; nesting = nesting }
 
@@ -58,7 +64,11 @@ module _ (calls calls' nesting nesting' : ℕ) (room : (k : ℕ) → 0 + k < cal
       (λ e. inr (wraps_grow p (after_wraps small p) e (wraps_complete small p)))
       (beside_same (after_wraps small p) (rounds (suc calls) large p) (rounds_after [] [] 0 calls calls' nesting nesting' room depth Limit at_calls at_nesting ends (suc calls) p p (inr (sym (nothing_before p)))))
 
-  finish_same : (freezes : Bool) (sources : List Source) (p q : Progress) → ((h : EndReason) → Limit h → (result_of freezes (saved_after sources p) (after_wraps small p)).reason ≢ h) → ((h : EndReason) × (p.over ≡ Some h) × Limit h) ⊎ (p ≡ q) → result_of freezes (saved_after sources q) (after_wraps large q) ≡ result_of freezes (saved_after sources p) (after_wraps small p)
+  finish_same : (freezes : Bool) (sources : List Source) (p q : Progress)
+      → ((h : EndReason) → Limit h → (result_of freezes (saved_after sources p) (after_wraps small p)).reason ≢ h)
+      → ((h : EndReason) × (p.over ≡ Some h) × Limit h) ⊎ (p ≡ q)
+      → result_of freezes (saved_after sources q) (after_wraps large q)
+        ≡ result_of freezes (saved_after sources p) (after_wraps small p)
   finish_same freezes sources p q n (inl h) =
       absurd (n h.0 h.2 (ap (λ (x : Progress). (result_of freezes (saved_after sources p) x).reason) (over_wraps small p h.0 h.1) ∙ over_how p.over h.0 freezes (saved_after sources p) p.so_far p.any_missing h.1))
   finish_same freezes sources p q n (inr e) =
@@ -68,7 +78,13 @@ module _ (calls calls' nesting nesting' : ℕ) (room : (k : ℕ) → 0 + k < cal
       (λ f. ap (result_of freezes (saved_after sources p)) (sym f))
       (wraps_same p)
 
-  pub runs_same : (freezes : Bool) (start : Start) (sources : List Source) → ((h : EndReason) → Limit h → (result_of freezes (saved_after sources (after_sources small sources (begun start))) (after_wraps small (after_sources small sources (begun start)))).reason ≢ h) → result_of freezes (saved_after sources (after_sources large sources (begun start))) (after_wraps large (after_sources large sources (begun start))) ≡ result_of freezes (saved_after sources (after_sources small sources (begun start))) (after_wraps small (after_sources small sources (begun start)))
+  pub runs_same : (freezes : Bool) (start : Start) (sources : List Source)
+      → ((h : EndReason) → Limit h
+        → (result_of freezes (saved_after sources (after_sources small sources (begun start)))
+          (after_wraps small (after_sources small sources (begun start)))).reason ≢ h)
+      → result_of freezes (saved_after sources (after_sources large sources (begun start))) (after_wraps large (after_sources large sources (begun start)))
+        ≡ result_of freezes (saved_after sources (after_sources small sources (begun start)))
+          (after_wraps small (after_sources small sources (begun start)))
   runs_same freezes start sources n = finish_same freezes sources _ _ n (sources_same start sources)
 
 -- ---- the laws

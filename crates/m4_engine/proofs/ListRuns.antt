@@ -1,5 +1,6 @@
 -- ListRuns: tokens of a list in order.
-use Rattle.std.proofs.Common.{◌≡◌, inr, Bool, ℕ, suc, ◌+◌, ◌≤◌, true, false, List, [], ◌∷◌, ◌++◌, take, drop, length, refl, sym, ap, ◌∙◌, subst, arith, append-nil, append_assoc}
+use Rattle.std.proofs.Common.{◌≡◌, inr, Bool, ℕ, suc, ◌+◌, ◌≤◌, true, false, List, [], ◌∷◌, ◌++◌, take, drop, length}
+use Rattle.std.proofs.Common.{refl, sym, ap, ◌∙◌, subst, arith, append-nil, append_assoc}
 use Rattle.std.proofs.lemmas.List.{drop-drop, length-take-le, take-append-drop}
 use Rattle.m4_state.specs.declared.delimiters.Delimiters.{Delimiters}
 use Rattle.m4_state.specs.State.{State}
@@ -9,10 +10,12 @@ use Rattle.m4_input.specs.declared.token.Token.TheVariants.{Byte}
 use Rattle.m4_engine.specs.declared.role.Role.{Role}
 use Rattle.m4_engine.specs.declared.role.Role.TheVariants.{Blank, Other}
 use Rattle.m4_engine.specs.Nesting.{Turn, GoOn}
-use Rattle.m4_engine.specs.Expansion.{Call, Mode, Collecting, Expansion, Kept, Ended, issued_in, diverted_in, mode_with_text, put_text}
+use Rattle.m4_engine.specs.Expansion.{Call, Mode, Collecting, Expansion, Kept, Ended, issued_in, diverted_in}
+use Rattle.m4_engine.specs.Expansion.{mode_with_text, put_text}
 use Rattle.m4_engine.specs.Args.{role_of, take_byte}
 use Rattle.m4_input.proofs.Scanned.{byte_first}
-use Rattle.m4_engine.specs.Collected.{TakesByte, IsTextByte, AreTextBytes, IsBlankByte, AreBlankBytes, IsListToken, AreListTokens, bytes_in, IsListRun}
+use Rattle.m4_engine.specs.Collected.{TakesByte, IsTextByte, AreTextBytes, IsBlankByte, AreBlankBytes, IsListToken}
+use Rattle.m4_engine.specs.Collected.{AreListTokens, bytes_in, IsListRun}
 
 -- no token
 pub list_none : (s : State) (m : Bool) (c : Call) (x : List ℕ) → IsListRun s m 0 c c x

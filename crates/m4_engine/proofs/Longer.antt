@@ -12,7 +12,7 @@ use Rattle.m4_input.specs.Paren.{paren_in, paren_from, paren_at}
 use Rattle.m4_input.specs.Input.{longer, answer_of}
 use Rattle.m4_input.proofs.Consumed.{text_longer, consumed_longer}
 use Rattle.m4_input.proofs.OpenEnd.{scan_stays, scan_fits, paren_in_stays}
-use Rattle.m4_engine.specs.Engine.{MayFollow}
+use Rattle.m4_engine.specs.Turns.{MayFollow}
 
 -- the bytes in hand, with nothing after them
 pub nothing_more : (p : Pending) → longer [] p.may_follow p ≡ p

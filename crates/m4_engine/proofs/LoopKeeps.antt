@@ -1,5 +1,6 @@
 -- LoopKeeps: what the machine's loop keeps, and what falls at each of its turns.
-use Rattle.std.proofs.Common.{◌≡◌, Bool, inl, inr, ℕ, ◌+◌, ◌<◌, List, [], ◌++◌, refl, sym, ap, ◌∙◌, subst, arith, append-nil, append_assoc}
+use Rattle.std.proofs.Common.{◌≡◌, Bool, inl, inr, ℕ, ◌+◌, ◌<◌, List, [], ◌++◌, refl, sym, ap, ◌∙◌, subst, arith}
+use Rattle.std.proofs.Common.{append-nil, append_assoc}
 use Rattle.m4_input.specs.Pending.{Pending}
 use Rattle.m4_input.specs.Input.{longer}
 use Rattle.m4_engine.specs.declared.turned.Turned.TheVariants as turns
@@ -8,7 +9,8 @@ use Rattle.m4_engine.specs.Nesting.{Turn, Halt, Close, GoOn, Bare, Opens, Outcom
 use Rattle.m4_engine.specs.OpenCalls.{Goes, meaning, moved_meaning}
 use Rattle.m4_engine.specs.Expansion.{Expansion, Kept, Ended, Ends}
 use Rattle.m4_engine.specs.Expand.{turn, join, out_of_bound_at, size_of, calls_left, expand}
-use Rattle.m4_engine.specs.Engine.{Engine, so_far_of, outer_of, here_of, configuration, after_flush, moved, MayFollow, Moves, cause_of_end}
+use Rattle.m4_engine.specs.Engine.{Engine, so_far_of, outer_of, here_of, configuration, after_flush}
+use Rattle.m4_engine.specs.Turns.{moved, MayFollow, Moves, cause_of_end}
 use Rattle.m4_engine.proofs.Longer.{nothing_more, nothing_follows}
 use Rattle.m4_engine.proofs.CallsFall.{falls}
 use Rattle.m4_engine.proofs.MachineIsNesting.{move_keeps}
@@ -97,7 +99,10 @@ turn_falls e e' p p' k h =
     let f : turns_of e' p' + 1 ≡ turns_of e p = turns_fall Expansion Kept Ended turn join out_of_bound_at size_of calls_left falls (configuration [] [] e p) (configuration [] [] e' p') (move_alone e e' p p' k h [] []) in
     omega arith
 
-pub move_falls : (e e' e2 : Engine) (p p' : Pending) (x y : List ℕ) → p'.may_follow ≡ p.may_follow → e' ≡ record e2 { output = x ++ e2.output; messages = y ++ e2.messages } → Moves p.may_follow e' p' turns.GoesOn (λ z more o m. moved (configuration o m e (longer z more p))) → turns_of e2 p' < turns_of e p
+pub move_falls : (e e' e2 : Engine) (p p' : Pending) (x y : List ℕ) → p'.may_follow ≡ p.may_follow
+    → e' ≡ record e2 { output = x ++ e2.output; messages = y ++ e2.messages }
+    → Moves p.may_follow e' p' turns.GoesOn (λ z more o m. moved (configuration o m e (longer z more p)))
+    → turns_of e2 p' < turns_of e p
 move_falls e e' e2 p p' x y k d h = subst (λ n. n < turns_of e p) (sym (some_left e' e2 p' x y d)) (turn_falls e e' p p' k h)
 
 -- what a machine comes to, where so much was handed on
@@ -117,7 +122,11 @@ moved_on e e' p p' z more o m c h =
     ∙ move_keeps Expansion Kept Ended turn join out_of_bound_at size_of calls_left falls (configuration o m e (longer z more p))
 
 -- the end is what it came to
-pub end_means : (e e' : Engine) (p p' : Pending) (z : List ℕ) (more : Bool) (o m : List ℕ) (end : TurnEnd) → MayFollow p.may_follow z more → Moves p.may_follow e' p' (turns.Ends end) (λ z more o m. moved (configuration o m e (longer z more p))) → meaning_of o m e (longer z more p) ≡ Halted (record { so_far = so_far_of o m e'; reason = Ends (cause_of_end end) })
+pub end_means : (e e' : Engine) (p p' : Pending) (z : List ℕ) (more : Bool) (o m : List ℕ) (end : TurnEnd)
+    → MayFollow p.may_follow z more
+    → Moves p.may_follow e' p' (turns.Ends end) (λ z more o m. moved (configuration o m e (longer z more p)))
+    → meaning_of o m e (longer z more p)
+      ≡ Halted (record { so_far = so_far_of o m e'; reason = Ends (cause_of_end end) })
 end_means e e' p p' z more o m end c h =
     sym (move_keeps Expansion Kept Ended turn join out_of_bound_at size_of calls_left falls (configuration o m e (longer z more p)))
     ∙ ap (moved_meaning Expansion Kept Ended turn join expand) (h z more c o m)

@@ -1,6 +1,7 @@
 -- MachineIsNesting: a stack of open calls comes to the same as the nested expansion.
 use Rattle.std.proofs.Common.{◌≡◌, ℕ, List, [], ◌∷◌, refl, sym, ap, ◌∙◌}
-use Rattle.m4_engine.specs.Nesting.{Turn, Halt, Close, GoOn, Bare, Opens, Outcome, Halted, Closed, then_on, after, expansion, Falls}
+use Rattle.m4_engine.specs.Nesting.{Turn, Halt, Close, GoOn, Bare, Opens, Outcome, Halted, Closed, then_on, after}
+use Rattle.m4_engine.specs.Nesting.{expansion, Falls}
 use Rattle.m4_engine.specs.OpenCalls.{Stacked, pop, close, take_turn, move, resume, meaning, moved_meaning}
 use Rattle.m4_engine.proofs.Bounds.{expansion_is}
 

@@ -1,5 +1,6 @@
 -- Missed: whether a source wasn't opened, of those that a run began with.
-use Rattle.std.proofs.Common.{◌≡◌, ◌<◌, ℕ, zero, suc, ◌+◌, Bool, true, false, List, [], ◌∷◌, ◌++◌, length, take, drop, drop-cons, Option, Some, refl, sym, ap, ◌∙◌, subst, inl, inr, arith}
+use Rattle.std.proofs.Common.{◌≡◌, ◌<◌, ℕ, zero, suc, ◌+◌, Bool, true, false, List, [], ◌∷◌, ◌++◌, length, take, drop}
+use Rattle.std.proofs.Common.{drop-cons, Option, Some, refl, sym, ap, ◌∙◌, subst, inl, inr, arith}
 use Rattle.std.specs.Prelude.{◌||◌, Result, Ok, Err, slice_set, slice_index_or}
 use Rattle.std.proofs.lemmas.List.{drop-drop, take-append-drop}
 use Rattle.m4_engine.specs.declared.ending.Cause.{Cause}
@@ -108,7 +109,9 @@ never_exited o st e n d code i j h c =
     let k : (ending_by n (Err e)).cause ≡ causes.Exited code = sym (ap (λ (y : Ending). y.cause) j) ∙ c in
     absurd (subst (λ (y : Stop). IsBegun o (Err y)) (exits_by n e code k) (subst (IsBegun o) i h))
 
-pub left_exited : {R : Type 0} (xs ys : List (RunSource R)) (new : SessionState) (r : Result Bool Stop) (d : Ending) (code : ℕ) → IsLeft new r → d ≡ ending_by (status_at new) r → d.cause ≡ causes.Exited code → (r ≡ Err (stops.Ended (causes.Exited code)) → MissedBy xs ys new.any_missing) → ExitedWith code xs ys d
+pub left_exited : {R : Type 0} (xs ys : List (RunSource R)) (new : SessionState) (r : Result Bool Stop) (d : Ending)
+    (code : ℕ) → IsLeft new r → d ≡ ending_by (status_at new) r → d.cause ≡ causes.Exited code
+    → (r ≡ Err (stops.Ended (causes.Exited code)) → MissedBy xs ys new.any_missing) → ExitedWith code xs ys d
 left_exited xs ys new (Ok wrapped) d code l j c h =
     let k : causes.Done ≡ causes.Exited code = sym (ap (λ (y : Ending). y.cause) j) ∙ c in
     absurd cc

@@ -11,7 +11,8 @@ use Rattle.m4_builtins.specs.Args.{or_empty}
 use Rattle.m4_builtins.specs.Act.{needs_list}
 use Rattle.m4_engine.specs.Expansion.{Expansion, Kept, place_at}
 use Rattle.m4_engine.specs.Expand.{call, call_of, take_call, take_name, call_without_list}
-use Rattle.m4_engine.specs.Engine.{Engine, outer_of, here_of, step}
+use Rattle.m4_engine.specs.Engine.{Engine, outer_of, here_of}
+use Rattle.m4_engine.specs.Turns.{step}
 
 -- the file of a place, as two definitions give it
 file_is : (o : Option (List ℕ)) → or_empty o ≡ unwrap_or o []
@@ -31,7 +32,11 @@ recognised : (listed : Bool) (fs : List Kept) (d : Def) (name : List ℕ) (at : 
 recognised true fs d name at p s h = refl
 recognised false fs d name at p s h = ap (λ v. step fs (call_without_list v (call_of d name at) p s)) (h refl)
 
-pub named : (e : Engine) (d : Def) (name : List ℕ) (listed : Bool) (p before : Pending) (at : Place) (o m : List ℕ) → Some d ≡ top_of e.state name → paren_at (e.state).quotes (e.state).comments p ≡ answer_of listed → (listed ≡ false → needs_list d ≡ false) → at ≡ place_at before → step (outer_of e.open_calls) (take_name (top_of e.state name) name p (here_of o m e before)) ≡ step (outer_of e.open_calls) (call listed (call_of d name at) p (here_of o m e before))
+pub named : (e : Engine) (d : Def) (name : List ℕ) (listed : Bool) (p before : Pending) (at : Place) (o m : List ℕ)
+    → Some d ≡ top_of e.state name → paren_at (e.state).quotes (e.state).comments p ≡ answer_of listed
+    → (listed ≡ false → needs_list d ≡ false) → at ≡ place_at before
+    → step (outer_of e.open_calls) (take_name (top_of e.state name) name p (here_of o m e before))
+      ≡ step (outer_of e.open_calls) (call listed (call_of d name at) p (here_of o m e before))
 named e d name listed p before at o m h k i j =
     ap (λ v. step (outer_of e.open_calls) (take_name v name p (here_of o m e before))) (sym h)
     ∙ ap (λ v. step (outer_of e.open_calls) (take_call v (call_of d name (place_at before)) p (here_of o m e before))) k

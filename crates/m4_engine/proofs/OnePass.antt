@@ -1,12 +1,15 @@
 -- OnePass: the part that a prefix of an input settles is the same whatever follows it.
-use Rattle.std.proofs.Common.{◌≡◌, ◌≢◌, ◌⊎◌, inl, inr, ℕ, zero, suc, Bool, true, false, List, [], ◌∷◌, ◌++◌, Option, Some, None, refl, sym, ap, ◌∙◌, subst, append_assoc, append-nil}
+use Rattle.std.proofs.Common.{◌≡◌, ◌≢◌, ◌⊎◌, inl, inr, ℕ, zero, suc, Bool, true, false, List, [], ◌∷◌, ◌++◌, Option}
+use Rattle.std.proofs.Common.{Some, None, refl, sym, ap, ◌∙◌, subst, append_assoc, append-nil}
 use Rattle.m4_engine.specs.declared.options.Options.{Options}
 use Rattle.m4_engine.specs.declared.ending.Cause.{Cause}
 use Rattle.m4_engine.specs.declared.ending.Cause.TheVariants as causes
 use Rattle.m4_engine.specs.Nesting.{Outcome, Halted, Closed}
-use Rattle.m4_engine.specs.Expansion.{RunSoFar, Limits, Expansion, EndReason, Ends, NeedsInput, OutOfBound, Ended, with_message}
+use Rattle.m4_engine.specs.Expansion.{RunSoFar, Limits, Expansion, EndReason, Ends, NeedsInput, OutOfBound, Ended}
+use Rattle.m4_engine.specs.Expansion.{with_message}
 use Rattle.m4_engine.specs.Expand.{expand, expansion_of, ended_of, expand_input, out_of_bound_at}
-use Rattle.m4_engine.specs.File.{Source, Opened, Unopened, Progress, file, file_pending, over_by, over_of, after_input, read_source, unless_over, after_source, after_sources, cannot_open}
+use Rattle.m4_engine.specs.File.{Source, Opened, Unopened, Progress, file, file_pending, over_by, over_of}
+use Rattle.m4_engine.specs.File.{after_input, read_source, unless_over, after_source, after_sources, cannot_open}
 use Rattle.m4_engine.specs.Wraps.{read_saved, next_round, rounds, after_wraps, joined_back, wrapped_pending, close}
 use Rattle.m4_engine.specs.Start.{Start, begun}
 use Rattle.m4_engine.specs.Run.{limits_of, result_by, result_of, saved_after, run_from}
@@ -142,7 +145,11 @@ file_settled freezes any_missing saved limits later e d (inr h) =
     (over_settled freezes saved limits (after_input d any_missing) e.reason f))
 
 -- in a run after the sources before
-settled_here : (freezes : Bool) (saved : List (List ℕ)) (limits : Limits) (p : Progress) (name w more : List ℕ) (later : List Source) (o : Option EndReason) → p.over ≡ o → AreSettled (settled_by o limits p.so_far name w) (result_of freezes saved (after_wraps limits (after_sources limits later (after_source limits (Opened name (w ++ more)) p))))
+settled_here : (freezes : Bool) (saved : List (List ℕ)) (limits : Limits) (p : Progress) (name w more : List ℕ)
+    (later : List Source) (o : Option EndReason) → p.over ≡ o
+    → AreSettled (settled_by o limits p.so_far name w)
+      (result_of freezes saved
+        (after_wraps limits (after_sources limits later (after_source limits (Opened name (w ++ more)) p))))
 settled_here freezes saved limits p name w more later (Some h) e =
     let g : after_sources limits later (after_source limits (Opened name (w ++ more)) p) ≡ p = over_sources limits (Opened name (w ++ more) ∷ later) p h e in
     subst (λ q. AreSettled (settled_of p.so_far h) (result_of freezes saved (after_wraps limits q))) (sym g) (over_settled freezes saved limits p h e)

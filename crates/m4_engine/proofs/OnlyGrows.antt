@@ -1,5 +1,6 @@
 -- OnlyGrows: what an expansion has written stays.
-use Rattle.std.proofs.Common.{◌≡◌, Option, ℕ, ◌+◌, ◌≤◌, zero, suc, Bool, true, false, List, [], ◌∷◌, ◌++◌, length, Some, None, refl, sym, ap, ◌∙◌, subst, append_assoc, append-nil, arith}
+use Rattle.std.proofs.Common.{◌≡◌, Option, ℕ, ◌+◌, ◌≤◌, zero, suc, Bool, true, false, List, [], ◌∷◌, ◌++◌, length}
+use Rattle.std.proofs.Common.{Some, None, refl, sym, ap, ◌∙◌, subst, append_assoc, append-nil, arith}
 use Rattle.std.proofs.lemmas.List.{length-append}
 use Rattle.std.specs.Prelude.{nat_lt}
 use Rattle.m4_state.specs.declared.definition.Def.{Def}
@@ -15,16 +16,21 @@ use Rattle.m4_input.specs.declared.pushed.Pushed.{Pushed}
 use Rattle.m4_builtins.specs.Act.{needs_list}
 use Rattle.m4_engine.specs.Nesting.{Turn, Halt, Close, GoOn, Bare, Opens, Outcome, Halted, Closed, then_on, after}
 use Rattle.m4_engine.specs.OpenCalls.{Stacked, Move, Stops, Goes, pop, close, take_turn}
-use Rattle.m4_engine.specs.Engine.{Engine, so_far_of, outer_of, here_of, configuration, moved, Moves, IsTurned}
+use Rattle.m4_engine.specs.Engine.{Engine, so_far_of, outer_of, here_of, configuration}
+use Rattle.m4_engine.specs.Turns.{moved, Moves, IsTurned}
 use Rattle.m4_input.specs.Input.{Held, longer}
 use Rattle.m4_engine.proofs.Longer.{nothing_follows}
 use Rattle.m4_engine.specs.declared.turned.Turned.{Turned}
 use Rattle.m4_engine.specs.declared.turned.Turned.TheVariants as turns
-use Rattle.m4_engine.specs.Expansion.{RunSoFar, Limits, Call, Mode, Outside, Collecting, Expansion, Kept, Ended, place_at, with_call, reading}
+use Rattle.m4_engine.specs.Expansion.{RunSoFar, Limits, Call, Mode, Outside, Collecting, Expansion, Kept, Ended}
+use Rattle.m4_engine.specs.Expansion.{place_at, with_call, reading}
 use Rattle.m4_engine.specs.declared.role.Role.{Role}
 use Rattle.m4_engine.specs.declared.role.Role.TheVariants.{Opening, Closing, Separator, Blank, Other}
 use Rattle.m4_engine.specs.Args.{role_of, take_closing, take_byte}
-use Rattle.m4_engine.specs.Expand.{skip_all, skip_line, skip_or_push, effected, acted_at, kept_of, after_call, called, join_by, join, call_of, bare, collect, call_unless_deep, is_deep, call_if_room, call, call_without_list, take_call, take_name, take_other, take_end, take_token, take_front, turn, size_of, calls_left, out_of_bound_at, expand}
+use Rattle.m4_engine.specs.Expand.{skip_all, skip_line, skip_or_push, effected, acted_at, kept_of, after_call, called}
+use Rattle.m4_engine.specs.Expand.{join_by, join, call_of, bare, collect, call_unless_deep, is_deep, call_if_room}
+use Rattle.m4_engine.specs.Expand.{call, call_without_list, take_call, take_name, take_other, take_end, take_token}
+use Rattle.m4_engine.specs.Expand.{take_front, turn, size_of, calls_left, out_of_bound_at, expand}
 use Rattle.m4_engine.specs.Expand.{expansion_of, ended_of, expand_input}
 use Rattle.m4_engine.proofs.Growth.{Extends, made_out}
 use Rattle.m4_engine.proofs.ByRules.{Rules, holds}

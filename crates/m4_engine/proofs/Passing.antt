@@ -5,7 +5,9 @@ use Rattle.std.specs.Ordering.{int_cmp}
 use Rattle.std.specs.FinMap.{put}
 use Rattle.std.specs.FinMap.Entries.{by_order, find-put}
 use Rattle.m4_state.specs.State.{State, Diversion, appended, with_text, text_at, holds_text}
-use Rattle.std.proofs.Common.{◌≡◌, inl, inr, Bool, true, false, cond, ℕ, zero, suc, ℤ, pos, negsuc, Ordering, Less, Equal, Greater, unwrap_or, ◌+◌, ◌-◌, ◌<◌, ◌≤◌, List, [], ◌∷◌, ◌++◌, Option, None, take, drop, length, refl, sym, ap, ◌∙◌, subst, arith, append-nil, append_assoc}
+use Rattle.std.proofs.Common.{◌≡◌, inl, inr, Bool, true, false, cond, ℕ, zero, suc, ℤ, pos, negsuc, Ordering, Less}
+use Rattle.std.proofs.Common.{Equal, Greater, unwrap_or, ◌+◌, ◌-◌, ◌<◌, ◌≤◌, List, [], ◌∷◌, ◌++◌, Option, None, take}
+use Rattle.std.proofs.Common.{drop, length, refl, sym, ap, ◌∙◌, subst, arith, append-nil, append_assoc}
 use Rattle.std.proofs.Math.Seq.{take-add}
 use Rattle.m4_state.specs.declared.definition.Def.{Def}
 use Rattle.m4_input.specs.declared.token.Token.TheVariants.{Name, Str, Comment, Byte}
@@ -21,7 +23,10 @@ use Rattle.m4_engine.specs.Nesting.{Turn, GoOn}
 use Rattle.m4_engine.specs.OpenCalls.{take_turn, Goes}
 use Rattle.m4_engine.specs.Expansion.{Call, Expansion, Kept, Ended, reading, put_text, issued}
 use Rattle.m4_engine.specs.Expand.{turn, join, take_front, take_name}
-use Rattle.m4_engine.specs.Engine.{Engine, put_in, here_of, outer_of, configuration, moved, MayFollow, IsReady, Moves, PassesPlain, PassesInner, PassesOnce, ArePasses, Passes, PassesText, PassesBy, PassesFront, IsLookahead, allows_call}
+use Rattle.m4_engine.specs.Engine.{Engine, put_in, here_of, outer_of, configuration, IsReady, allows_call}
+use Rattle.m4_engine.specs.Turns.{moved, MayFollow, Moves}
+use Rattle.m4_engine.specs.Passes.{PassesPlain, PassesInner, PassesOnce, ArePasses, Passes, PassesText, PassesBy}
+use Rattle.m4_engine.specs.Passes.{PassesFront, IsLookahead}
 use Rattle.m4_input.specs.Blocks.{IsInFront}
 use Rattle.m4_builtins.specs.declared.place.Place.{Place}
 use Rattle.m4_engine.specs.declared.lookahead.Lookahead.TheVariants as aheads
@@ -38,7 +43,11 @@ abbrev with_output : List ℕ → Engine → Engine
 with_output x e = put_in [] x e
 
 -- a turn puts such a token where text goes
-plain_turn : (e : Engine) (p : Pending) (n : ℕ) → p.definition ≡ None → IsPlain e.state p.may_follow n (text_of p) → (z : List ℕ) (more : Bool) → MayFollow p.may_follow z more → (o m : List ℕ) → turn (here_of o m (at_top e) (longer z more p)) ≡ GoOn (put_text (take n (text_of p)) (reading (longer z more (consumed n p)) (here_of o m (at_top e) (longer z more p))))
+plain_turn : (e : Engine) (p : Pending) (n : ℕ) → p.definition ≡ None → IsPlain e.state p.may_follow n (text_of p)
+    → (z : List ℕ) (more : Bool) → MayFollow p.may_follow z more → (o m : List ℕ)
+    → turn (here_of o m (at_top e) (longer z more p))
+      ≡ GoOn (put_text (take n (text_of p))
+        (reading (longer z more (consumed n p)) (here_of o m (at_top e) (longer z more p))))
 plain_turn e p n d (inl h) z more c o m =
     ap (λ v. take_front v (here_of o m (at_top e) (longer z more p))) (found_longer (e.state).quotes (e.state).comments p (Name (take n (text_of p))) n z more d h.0 c)
     ∙ ap (λ v. take_name v (take n (text_of p)) (longer z more (consumed n p)) (here_of o m (at_top e) (longer z more p))) h.1
@@ -222,13 +231,21 @@ abbrev at_call : Call → List Call → Engine → Engine
 at_call c cs e = record e { open_calls = c ∷ cs }
 
 -- a turn takes such a token into the call
-list_turn : (c d : Call) (cs : List Call) (e : Engine) (p : Pending) (n : ℕ) → p.definition ≡ None → IsListToken e.state p.may_follow n c d (text_of p) → (z : List ℕ) (more : Bool) → MayFollow p.may_follow z more → (o m : List ℕ) → take_turn Expansion Kept Ended turn join (outer_of (c ∷ cs)) (turn (here_of o m (at_call c cs e) (longer z more p))) ≡ Goes (configuration o m (at_call d cs e) (longer z more (consumed n p)))
+list_turn : (c d : Call) (cs : List Call) (e : Engine) (p : Pending) (n : ℕ) → p.definition ≡ None
+    → IsListToken e.state p.may_follow n c d (text_of p) → (z : List ℕ) (more : Bool) → MayFollow p.may_follow z more
+    → (o m : List ℕ)
+    → take_turn Expansion Kept Ended turn join (outer_of (c ∷ cs)) (turn (here_of o m (at_call c cs e) (longer z more p)))
+      ≡ Goes (configuration o m (at_call d cs e) (longer z more (consumed n p)))
 list_turn c d cs e p n f (inl h) z more k o m =
     ap (λ v. take_turn Expansion Kept Ended turn join (outer_of (c ∷ cs)) v) (text_turn h.1 z more k o m)
     ∙ (rw (append-nil (o ++ e.output)) refl)
     ∙ ap (λ (a : Call). Goes (configuration o m (at_call a cs e) (longer z more (consumed n p)))) (sym h.2)
   where
-    text_turn : IsText e.state p.may_follow n h.0 (text_of p) → (z : List ℕ) (more : Bool) → MayFollow p.may_follow z more → (o m : List ℕ) → turn (here_of o m (at_call c cs e) (longer z more p)) ≡ GoOn (put_text h.0 (reading (longer z more (consumed n p)) (here_of o m (at_call c cs e) (longer z more p))))
+    text_turn : IsText e.state p.may_follow n h.0 (text_of p) → (z : List ℕ) (more : Bool)
+        → MayFollow p.may_follow z more → (o m : List ℕ)
+        → turn (here_of o m (at_call c cs e) (longer z more p))
+          ≡ GoOn (put_text h.0
+            (reading (longer z more (consumed n p)) (here_of o m (at_call c cs e) (longer z more p))))
     text_turn (inl g) z more k o m =
         ap (λ v. take_front v (here_of o m (at_call c cs e) (longer z more p))) (found_longer (e.state).quotes (e.state).comments p (Str h.0) n z more f g k)
     text_turn (inr g) z more k o m =

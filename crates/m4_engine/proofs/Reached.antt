@@ -1,5 +1,7 @@
 -- Reached: what a session says of a file is what the run says of its current source.
-use Rattle.std.proofs.Common.{◌≡◌, ◌⊎◌, inl, inr, ◌<◌, ◌≤◌, true, zero, suc, ℕ, ◌+◌, List, [], ◌∷◌, ◌++◌, length, drop, drop-cons, Option, Some, None, refl, sym, ap, ◌∙◌, subst, arith, append_assoc, append-nil}
+use Rattle.std.proofs.Common.{◌≡◌, ◌⊎◌, inl, inr, ◌<◌, ◌≤◌, true, zero, suc, ℕ, ◌+◌, List, [], ◌∷◌, ◌++◌, length}
+use Rattle.std.proofs.Common.{drop, drop-cons, Option, Some, None, refl, sym, ap, ◌∙◌, subst, arith, append_assoc}
+use Rattle.std.proofs.Common.{append-nil}
 use Rattle.std.specs.Prelude.{Result, Ok, Err, slice_set, slice_index_or}
 use Rattle.m4_state.proofs.CallerLaws.{with_bytes-append, with_bytes-nil}
 use Rattle.m4_state.specs.Device.{Script, after_bytes, with_bytes}
@@ -15,7 +17,8 @@ use Rattle.m4_engine.specs.Expansion.{RunSoFar, Limits, EndReason}
 use Rattle.m4_engine.specs.Expand.{expand_input}
 use Rattle.m4_engine.specs.File.{Source, Opened, Unopened, Progress, file_pending, after_source, after_sources}
 use Rattle.m4_engine.specs.Settled.{SettledSoFar, settled_ended, settled_by, settled_in}
-use Rattle.m4_engine.specs.Session.{SessionState, progress_of, how_over, IsOpen, settled_part, FileAsked, FileFell, FileGives, MissingGives}
+use Rattle.m4_engine.specs.Session.{SessionState, progress_of, how_over, IsOpen, settled_part, FileAsked, FileFell}
+use Rattle.m4_engine.specs.Session.{FileGives, MissingGives}
 use Rattle.m4_engine.specs.Writers.{Contents, writers, HasWritten, WroteAtLeast}
 use Rattle.m4_engine.specs.OnePass.{IsRead, IsCurrent, Reaches, AreRead, settled_after, ExactAtFault, AskedAt, Reached}
 use Rattle.m4_engine.specs.SourcesRead.{EndsWithin, SourceGives, SourcesGive}
@@ -150,7 +153,10 @@ fell_so s s' name before after' w l f =
     })
 
 -- a file, by the answer
-pub file_source : {R : Type 0} (script : R → Option Script) (name : List ℕ) (before after' : R) (old new : SessionState) (w : Contents) (r : Result Unit Stop) → IsOpen old → FileGives name (script before) (script after') old new w r → SourceGives script (sources.Opened name before) (sources.Opened name after') old new w r
+pub file_source : {R : Type 0} (script : R → Option Script) (name : List ℕ) (before after' : R)
+    (old new : SessionState) (w : Contents) (r : Result Unit Stop) → IsOpen old
+    → FileGives name (script before) (script after') old new w r
+    → SourceGives script (sources.Opened name before) (sources.Opened name after') old new w r
 file_source script name before after' old new w (Ok done) l h = (Opened name h.0, (refl, refl, h.1, h.2), h.3)
 file_source script name before after' old new w (Err stops.Finished) l h = absurd ((h.0).closed l)
 file_source script name before after' old new w (Err (stops.Ended causes.Read)) l h = (name, h.x, (refl, refl, h.given), fell_so old new name (script before) (script after') w l h)
@@ -165,13 +171,19 @@ file_source script name before after' old new w (Err (stops.Ended causes.EndInAr
 file_source script name before after' old new w (Err (stops.Ended causes.ExpansionLimit)) l h = (name, (h.0).x, (refl, refl, (h.0).given), asked_so old name (h.0).x w causes.ExpansionLimit l tt (h.0).asked)
 file_source script name before after' old new w (Err (stops.Ended causes.NestingLimit)) l h = (name, (h.0).x, (refl, refl, (h.0).given), asked_so old name (h.0).x w causes.NestingLimit l tt (h.0).asked)
 
-pub file_so : {R : Type 0} (script : R → Option Script) (name : List ℕ) (before later : R) (first last : RunSource R) (old new : SessionState) (w : Contents) (r : Result Unit Stop) → first ≡ sources.Opened name before → last ≡ sources.Opened name later → IsOpen old → FileGives name (script before) (script later) old new w r → SourceGives script first last old new w r
+pub file_so : {R : Type 0} (script : R → Option Script) (name : List ℕ) (before later : R) (first last : RunSource R)
+    (old new : SessionState) (w : Contents) (r : Result Unit Stop) → first ≡ sources.Opened name before
+    → last ≡ sources.Opened name later → IsOpen old → FileGives name (script before) (script later) old new w r
+    → SourceGives script first last old new w r
 file_so script name before later first last old new w r f b l h =
     subst (λ x. SourceGives script x last old new w r) (sym f)
     (subst (λ x. SourceGives script (sources.Opened name before) x old new w r) (sym b) (file_source script name before later old new w r l h))
 
 -- a source that wasn't opened
-missing_source : {R : Type 0} (script : R → Option Script) (name : List ℕ) (old new : SessionState) (w : Contents) (r : Result Unit Stop) → IsOpen old → w.out_new ≡ w.out_old → MissingGives name old new w.messages_old w.messages_new r → SourceGives script (sources.Unopened name) (sources.Unopened name) old new w r
+missing_source : {R : Type 0} (script : R → Option Script) (name : List ℕ) (old new : SessionState) (w : Contents)
+    (r : Result Unit Stop) → IsOpen old → w.out_new ≡ w.out_old
+    → MissingGives name old new w.messages_old w.messages_new r
+    → SourceGives script (sources.Unopened name) (sources.Unopened name) old new w r
 missing_source script name old new w (Ok done) l o h = (Unopened name, (refl, refl), (missing_goes old new name w (Ok done) l o h).0)
 missing_source script name old new w (Err stops.Finished) l o h = absurd (h.0 l)
 missing_source script name old new w (Err (stops.Ended causes.Write)) l o h =
@@ -187,7 +199,10 @@ missing_source script name old new w (Err (stops.Ended causes.ExpansionLimit)) l
 missing_source script name old new w (Err (stops.Ended causes.NestingLimit)) l o h = absurd h
 missing_source script name old new w (Err (stops.Ended (causes.Frozen f))) l o h = absurd h
 
-pub missing_so : {R : Type 0} (script : R → Option Script) (name : List ℕ) (x y : RunSource R) (old new : SessionState) (w : Contents) (r : Result Unit Stop) → x ≡ sources.Unopened name → y ≡ sources.Unopened name → IsOpen old → w.out_new ≡ w.out_old → MissingGives name old new w.messages_old w.messages_new r → SourceGives script x y old new w r
+pub missing_so : {R : Type 0} (script : R → Option Script) (name : List ℕ) (x y : RunSource R)
+    (old new : SessionState) (w : Contents) (r : Result Unit Stop) → x ≡ sources.Unopened name
+    → y ≡ sources.Unopened name → IsOpen old → w.out_new ≡ w.out_old
+    → MissingGives name old new w.messages_old w.messages_new r → SourceGives script x y old new w r
 missing_so script name x y old new w r e f l o h =
     subst (λ z. SourceGives script z y old new w r) (sym e)
     (subst (λ z. SourceGives script (sources.Unopened name) z old new w r) (sym f) (missing_source script name old new w r l o h))
@@ -214,7 +229,10 @@ FirstRead script (suc i) (x ∷ xs) (y ∷ ys) (s ∷ ss) = IsRead script x y s 
 FirstRead script i before after' ss = ⊥
 
 -- the next source was read too
-next_read : {R : Type 0} (script : R → Option Script) (i : ℕ) (xs ys : List (RunSource R)) (x v : RunSource R) (ss : List Source) (t : Source) → drop i xs ≡ drop i ys → drop i xs ≡ x ∷ drop (suc i) xs → FirstRead script i ys xs ss → IsRead script x v t → FirstRead script (suc i) ys (slice_set xs i v) (ss ++ t ∷ [])
+next_read : {R : Type 0} (script : R → Option Script) (i : ℕ) (xs ys : List (RunSource R)) (x v : RunSource R)
+    (ss : List Source) (t : Source) → drop i xs ≡ drop i ys → drop i xs ≡ x ∷ drop (suc i) xs
+    → FirstRead script i ys xs ss → IsRead script x v t
+    → FirstRead script (suc i) ys (slice_set xs i v) (ss ++ t ∷ [])
 next_read script zero [] ys x v ss t e d f h = cc
 next_read script zero (a ∷ xs) [] x v ss t e d f h = cc
 next_read script zero (a ∷ xs) (b ∷ ys) x v [] t e d f h =
@@ -227,7 +245,10 @@ next_read script (suc i) (a ∷ xs) (b ∷ ys) x v [] t e d f h = absurd f
 next_read script (suc i) (a ∷ xs) (b ∷ ys) x v (s ∷ ss) t e d f h = (f.0, next_read script i xs ys x v ss t e d f.1 h)
 
 -- the next source is the current one
-next_reached : {R : Type 0} (script : R → Option Script) (i : ℕ) (xs ys : List (RunSource R)) (x v : RunSource R) (ss : List Source) (name taken : List ℕ) → drop i xs ≡ drop i ys → drop i xs ≡ x ∷ drop (suc i) xs → FirstRead script i ys xs ss → IsCurrent script x v name taken → Reaches script ys (slice_set xs i v) ss name taken
+next_reached : {R : Type 0} (script : R → Option Script) (i : ℕ) (xs ys : List (RunSource R)) (x v : RunSource R)
+    (ss : List Source) (name taken : List ℕ) → drop i xs ≡ drop i ys → drop i xs ≡ x ∷ drop (suc i) xs
+    → FirstRead script i ys xs ss → IsCurrent script x v name taken
+    → Reaches script ys (slice_set xs i v) ss name taken
 next_reached script zero [] ys x v ss name taken e d f h = cc
 next_reached script zero (a ∷ xs) [] x v ss name taken e d f h = cc
 next_reached script zero (a ∷ xs) (b ∷ ys) x v [] name taken e d f h =
@@ -266,7 +287,10 @@ pub record ReadSoFar {R : Type 0} (script : R → Option Script) (i : ℕ) (befo
 pub none_yet : {R : Type 0} (script : R → Option Script) (xs : List (RunSource R)) (s : SessionState) (out reported : Option (List ℕ)) → ReadSoFar script 0 xs xs s s (writers out out reported reported)
 none_yet script xs s out reported = record { ss = []; first = tt; o = []; m = []; written = record { output = with_bytes-nil out; messages = with_bytes-nil reported }; limits = refl; here = refl }
 
-module _ {R : Type 0} (script : R → Option Script) (i : ℕ) (xs ys : List (RunSource R)) (x v : RunSource R) (s0 s s' : SessionState) (out0 out out' reported0 reported reported' : Option (List ℕ)) (e : drop i xs ≡ drop i ys) (n : i < length xs) (b : ReadSoFar script i ys xs s0 s (writers out0 out reported0 reported)) where
+module _ {R : Type 0} (script : R → Option Script) (i : ℕ) (xs ys : List (RunSource R)) (x v : RunSource R)
+    (s0 s s' : SessionState) (out0 out out' reported0 reported reported' : Option (List ℕ))
+    (e : drop i xs ≡ drop i ys) (n : i < length xs)
+    (b : ReadSoFar script i ys xs s0 s (writers out0 out reported0 reported)) where
   item_is : slice_index_or xs i x ∷ drop (suc i) xs ≡ drop i xs
   item_is = sym (drop-cons xs i x n)
 

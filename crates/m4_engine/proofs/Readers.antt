@@ -1,6 +1,7 @@
 -- Readers: what a run does to its sources' readers, one source at a time: what was taken of them, and
 -- whether one failed or wasn't opened.
-use Rattle.std.proofs.Common.{◌≡◌, inl, inr, ◌<◌, ◌≤◌, ℕ, zero, suc, ◌+◌, Bool, true, false, List, [], ◌∷◌, length, drop, drop-cons, Option, refl, sym, ap, ◌∙◌, subst, arith}
+use Rattle.std.proofs.Common.{◌≡◌, inl, inr, ◌<◌, ◌≤◌, ℕ, zero, suc, ◌+◌, Bool, true, false, List, [], ◌∷◌, length}
+use Rattle.std.proofs.Common.{drop, drop-cons, Option, refl, sym, ap, ◌∙◌, subst, arith}
 use Rattle.std.specs.Prelude.{◌||◌, Result, Ok, Err, slice_set, slice_index_or}
 use Rattle.std.proofs.lemmas.List.{drop-drop, drop_all}
 use Rattle.m4_state.specs.Device.{Script}
@@ -10,8 +11,10 @@ use Rattle.m4_engine.specs.declared.source.Source.{Source as RunSource}
 use Rattle.m4_engine.specs.declared.source.Source.TheVariants as sources
 use Rattle.m4_engine.specs.declared.stop.Stop.{Stop}
 use Rattle.m4_engine.specs.declared.stop.Stop.TheVariants as stops
-use Rattle.m4_engine.specs.RunSources.{AllPairs, is_unopened, any_unopened, HasFailed, is_sound, AnyFailed, ReadersFailBy, ConsumesOnly, AllConsumeOnly}
-use Rattle.m4_engine.specs.Session.{SessionState, ReadFails, SourceFails, SourcesFail, EndGives, CloseGives}
+use Rattle.m4_engine.specs.RunSources.{AllPairs, is_unopened, any_unopened, HasFailed, is_sound, AnyFailed}
+use Rattle.m4_engine.specs.RunSources.{ReadersFailBy, ConsumesOnly, AllConsumeOnly}
+use Rattle.m4_engine.specs.Session.{SessionState, EndGives, CloseGives}
+use Rattle.m4_engine.specs.SessionFailures.{ReadFails, SourceFails, SourcesFail}
 use Rattle.m4_engine.specs.WholeRun.{ending_by}
 use Rattle.m4_engine.specs.Writers.{Contents, Three}
 use Rattle.m4_engine.proofs.Sessions.{close_ends}
@@ -72,11 +75,16 @@ pub all_sound : {R : Type 0} (failures : R → ℕ) (xs : List (RunSource R)) �
 all_sound failures xs = pairs_same (is_sound failures) (sound_same failures) xs
 
 -- the sources' readers after a call that ended the run
-failed_by : {R : Type 0} (failures : R → ℕ) (i : ℕ) (xs ys : List (RunSource R)) (x v : RunSource R) (e : Stop) → AllPairs (is_sound failures) ys xs → drop i xs ≡ drop i ys → i < length xs → SourceFails {A = Unit} failures (Err e) (slice_index_or xs i x) v → SourcesFail {A = Unit} failures (Err e) ys (slice_set xs i v)
+failed_by : {R : Type 0} (failures : R → ℕ) (i : ℕ) (xs ys : List (RunSource R)) (x v : RunSource R) (e : Stop)
+    → AllPairs (is_sound failures) ys xs → drop i xs ≡ drop i ys → i < length xs
+    → SourceFails {A = Unit} failures (Err e) (slice_index_or xs i x) v
+    → SourcesFail {A = Unit} failures (Err e) ys (slice_set xs i v)
 failed_by failures i xs ys x v (stops.Ended causes.Read) a d l h = item_failed failures i xs ys x v d l h
 failed_by failures i xs ys x v e a d l h = pair_item (is_sound failures) i xs ys x v a d l h
 
-pub sources_fail : {R : Type 0} (failures : R → ℕ) (i : ℕ) (xs ys : List (RunSource R)) (x v : RunSource R) (e : Stop) (q r : Result Unit Stop) → q ≡ Err e → r ≡ Err e → AllPairs (is_sound failures) ys xs → drop i xs ≡ drop i ys → i < length xs → SourceFails failures q (slice_index_or xs i x) v → SourcesFail failures r ys (slice_set xs i v)
+pub sources_fail : {R : Type 0} (failures : R → ℕ) (i : ℕ) (xs ys : List (RunSource R)) (x v : RunSource R) (e : Stop)
+    (q r : Result Unit Stop) → q ≡ Err e → r ≡ Err e → AllPairs (is_sound failures) ys xs → drop i xs ≡ drop i ys
+    → i < length xs → SourceFails failures q (slice_index_or xs i x) v → SourcesFail failures r ys (slice_set xs i v)
 sources_fail failures i xs ys x v e q r f g a d l h =
     subst (λ (z : Result Unit Stop). SourcesFail failures z ys (slice_set xs i v)) (sym g)
     (failed_by failures i xs ys x v e a d l (subst (λ (z : Result Unit Stop). SourceFails failures z (slice_index_or xs i x) v) f h))
@@ -86,7 +94,10 @@ ends_sound : {R : Type 0} (failures : R → ℕ) (xs ys : List (RunSource R)) (f
 ends_sound failures xs ys freezes old new w (stops.Ended causes.Read) h a = absurd h
 ends_sound failures xs ys freezes old new w e h a = a
 
-pub close_sound : {R : Type 0} (failures : R → ℕ) (xs ys : List (RunSource R)) (freezes : Bool) (old new : SessionState) (w : Three (Option (List ℕ))) (e : Stop) (q : Result Unit Stop) (r : Result Bool Stop) → q ≡ Err e → r ≡ Err e → CloseGives freezes old new w q → AllPairs (is_sound failures) xs ys → SourcesFail failures r xs ys
+pub close_sound : {R : Type 0} (failures : R → ℕ) (xs ys : List (RunSource R)) (freezes : Bool)
+    (old new : SessionState) (w : Three (Option (List ℕ))) (e : Stop) (q : Result Unit Stop) (r : Result Bool Stop)
+    → q ≡ Err e → r ≡ Err e → CloseGives freezes old new w q → AllPairs (is_sound failures) xs ys
+    → SourcesFail failures r xs ys
 close_sound failures xs ys freezes old new w e q r f g h a =
     subst (λ (z : Result Bool Stop). SourcesFail failures z xs ys) (sym g)
     (ends_sound failures xs ys freezes old new w.two e (subst (EndGives freezes old new w.two) f (close_ends freezes old new w q h)) a)

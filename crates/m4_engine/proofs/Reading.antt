@@ -1,5 +1,6 @@
 -- Reading: sources read in order are the definitions' sources.
-use Rattle.std.proofs.Common.{◌≡◌, ◌⊎◌, inl, inr, ◌<◌, ◌≤◌, ℕ, zero, suc, ◌+◌, List, [], ◌∷◌, ◌++◌, length, drop, drop-cons, map, Option, Some, refl, sym, ap, ◌∙◌, subst, arith}
+use Rattle.std.proofs.Common.{◌≡◌, ◌⊎◌, inl, inr, ◌<◌, ◌≤◌, ℕ, zero, suc, ◌+◌, List, [], ◌∷◌, ◌++◌, length, drop}
+use Rattle.std.proofs.Common.{drop-cons, map, Option, Some, refl, sym, ap, ◌∙◌, subst, arith}
 use Rattle.std.specs.Prelude.{Result, Ok, Err, slice_set, slice_index_or}
 use Rattle.std.proofs.lemmas.List.{drop-set-lt, drop-drop}
 use Rattle.m4_state.proofs.CallerLaws.{with_bytes-append, with_bytes-nil}
@@ -33,7 +34,11 @@ source_after s0 s o m t ts l =
     ap (after_sources s0.limits ts)
     (sources_after o m s0.limits (t ∷ []) (progress_of s) ∙ ap (λ (x : Limits). after o m (after_source x t (progress_of s))) (sym l))
 
-pub one_read : (ss : List Source) (i j : ℕ) (s0 s s' : SessionState) (t : Source) (out0 out out' reported0 reported reported' : Option (List ℕ)) → Between ss i s0 s (writers out0 out reported0 reported) → drop i ss ≡ t ∷ drop j ss → Completed s s' (after_source s.limits t (progress_of s)) (writers out out' reported reported') → Between ss j s0 s' (writers out0 out' reported0 reported')
+pub one_read : (ss : List Source) (i j : ℕ) (s0 s s' : SessionState) (t : Source)
+    (out0 out out' reported0 reported reported' : Option (List ℕ))
+    → Between ss i s0 s (writers out0 out reported0 reported) → drop i ss ≡ t ∷ drop j ss
+    → Completed s s' (after_source s.limits t (progress_of s)) (writers out out' reported reported')
+    → Between ss j s0 s' (writers out0 out' reported0 reported')
 one_read ss i j s0 s s' t out0 out out' reported0 reported reported' b d f =
     let p : Progress = after_source s.limits t (progress_of s) in
     record {
@@ -66,7 +71,11 @@ within ss i j s0 s t w b d =
     }
 
 -- by the answer
-stopped : (ss : List Source) (i j : ℕ) (s0 s s' : SessionState) (t : Source) (out0 out out' reported0 reported reported' : Option (List ℕ)) (e : Stop) → IsOpen s0 → Between ss i s0 s (writers out0 out reported0 reported) → drop i ss ≡ t ∷ drop j ss → GoesTo (after_source s.limits t (progress_of s)) s s' (writers out out' reported reported') (Err e) → GoesTo (after_sources s0.limits ss (progress_of s0)) s0 s' (writers out0 out' reported0 reported') (Err e)
+stopped : (ss : List Source) (i j : ℕ) (s0 s s' : SessionState) (t : Source)
+    (out0 out out' reported0 reported reported' : Option (List ℕ)) (e : Stop) → IsOpen s0
+    → Between ss i s0 s (writers out0 out reported0 reported) → drop i ss ≡ t ∷ drop j ss
+    → GoesTo (after_source s.limits t (progress_of s)) s s' (writers out out' reported reported') (Err e)
+    → GoesTo (after_sources s0.limits ss (progress_of s0)) s0 s' (writers out0 out' reported0 reported') (Err e)
 stopped ss i j s0 s s' t out0 out out' reported0 reported reported' e l b d h =
     step_stops b.o b.m _ _ (within ss i j s0 s t _ b d) s0 s s' out0 out out' reported0 reported reported' b.output b.messages l b.limits e h
 
@@ -176,7 +185,11 @@ item script i xs ys x v ss d l (inr m) =
     let k = item_may script i xs ys (slice_index_or xs i x) v ss d (drop-cons xs i x l) (subst (λ (j : ℕ). may_first script j ys (slice_set xs i v) ss) n m) in
     record { first = inr k.first; source = k.source; describes = inr k.may; there = k.there ∙ ap (λ (j : ℕ). k.source ∷ drop j ss) (sym n) }
 
-pub stopped_so : (ss : List Source) (i j : ℕ) (s0 s s' : SessionState) (t : Source) (out0 out out' reported0 reported reported' : Option (List ℕ)) (e : Stop) (q r : Result Unit Stop) → q ≡ Err e → r ≡ Err e → IsOpen s0 → Between ss i s0 s (writers out0 out reported0 reported) → drop i ss ≡ t ∷ drop j ss → GoesTo (after_source s.limits t (progress_of s)) s s' (writers out out' reported reported') q → GoesTo (after_sources s0.limits ss (progress_of s0)) s0 s' (writers out0 out' reported0 reported') r
+pub stopped_so : (ss : List Source) (i j : ℕ) (s0 s s' : SessionState) (t : Source)
+    (out0 out out' reported0 reported reported' : Option (List ℕ)) (e : Stop) (q r : Result Unit Stop) → q ≡ Err e
+    → r ≡ Err e → IsOpen s0 → Between ss i s0 s (writers out0 out reported0 reported) → drop i ss ≡ t ∷ drop j ss
+    → GoesTo (after_source s.limits t (progress_of s)) s s' (writers out out' reported reported') q
+    → GoesTo (after_sources s0.limits ss (progress_of s0)) s0 s' (writers out0 out' reported0 reported') r
 stopped_so ss i j s0 s s' t out0 out out' reported0 reported reported' e q r f g l b d h =
     subst (GoesTo (after_sources s0.limits ss (progress_of s0)) s0 s' (writers out0 out' reported0 reported')) (sym g)
     (stopped ss i j s0 s s' t out0 out out' reported0 reported reported' e l b d (subst (GoesTo (after_source s.limits t (progress_of s)) s s' (writers out out' reported reported')) f h))

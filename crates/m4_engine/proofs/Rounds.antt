@@ -1,5 +1,6 @@
 -- Rounds: the rounds of saved texts have no bound that is ever reached.
-use Rattle.std.proofs.Common.{◌≡◌, ◌⊎◌, inl, inr, ⊎_elim, ℕ, zero, suc, ◌-◌, ◌<◌, ◌≤◌, List, [], ◌∷◌, Option, Some, None, refl, sym, ap, subst, arith}
+use Rattle.std.proofs.Common.{◌≡◌, ◌⊎◌, inl, inr, ⊎_elim, ℕ, zero, suc, ◌-◌, ◌<◌, ◌≤◌, List, [], ◌∷◌, Option, Some}
+use Rattle.std.proofs.Common.{None, refl, sym, ap, subst, arith}
 use Rattle.m4_engine.specs.Expansion.{Limits as TheLimits, EndReason}
 use Rattle.m4_engine.specs.File.{Progress}
 use Rattle.m4_engine.specs.Wraps.{read_saved, next_round, rounds, after_wraps, joined_back, wrapped_pending}
@@ -28,7 +29,11 @@ complete_after n limits p h = subst Complete (sym (complete_stays n limits p h))
 pub round_saves : (limits : TheLimits) (saved : List (List ℕ)) (p : Progress) → ((read_saved limits saved p).so_far.saved ≡ []) ⊎ (limits.calls - (read_saved limits saved p).so_far.calls < limits.calls - (p.so_far).calls)
 round_saves limits saved p = (input_saves limits (record p.so_far { saved = [] }) (wrapped_pending (joined_back saved))).1
 
-next_complete : (go : Progress → Progress) (limits : TheLimits) (l : ℕ) → ((q : Progress) → Complete q → Complete (go q)) → ((q : Progress) → limits.calls - (q.so_far).calls < l → Complete (go q)) → (v : Option EndReason) (saved : List (List ℕ)) (p : Progress) → p.over ≡ v → (p.so_far).saved ≡ saved → limits.calls - (p.so_far).calls ≤ l → Complete (next_round go limits v saved p)
+next_complete : (go : Progress → Progress) (limits : TheLimits) (l : ℕ)
+    → ((q : Progress) → Complete q → Complete (go q))
+    → ((q : Progress) → limits.calls - (q.so_far).calls < l → Complete (go q))
+    → (v : Option EndReason) (saved : List (List ℕ)) (p : Progress) → p.over ≡ v → (p.so_far).saved ≡ saved
+    → limits.calls - (p.so_far).calls ≤ l → Complete (next_round go limits v saved p)
 next_complete go limits l h g (Some x) saved p e f k = inl (x, e)
 next_complete go limits l h g None [] p e f k = inr f
 next_complete go limits l h g None (x ∷ xs) p e f k =

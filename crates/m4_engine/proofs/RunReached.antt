@@ -1,5 +1,6 @@
 -- RunReached: after all sources the last one is the current one; and what a run says of its sources as it ends.
-use Rattle.std.proofs.Common.{◌≡◌, ◌≢◌, inl, inr, ℕ, Bool, true, false, List, [], ◌∷◌, ◌++◌, Option, Some, None, refl, sym, ap, ◌∙◌, subst, arith, append-nil}
+use Rattle.std.proofs.Common.{◌≡◌, ◌≢◌, inl, inr, ℕ, Bool, true, false, List, [], ◌∷◌, ◌++◌, Option, Some, None, refl}
+use Rattle.std.proofs.Common.{sym, ap, ◌∙◌, subst, arith, append-nil}
 use Rattle.std.specs.Prelude.{Result, Ok, Err}
 use Rattle.m4_state.proofs.CallerLaws.{with_bytes-nil}
 use Rattle.m4_state.specs.Device.{Script, with_bytes}
@@ -15,12 +16,14 @@ use Rattle.m4_engine.specs.declared.source.Source.TheVariants as sources
 use Rattle.m4_engine.specs.Nesting.{Outcome, Halted, Closed}
 use Rattle.m4_engine.specs.Expansion.{RunSoFar, Limits, Expansion, EndReason, Ends, NeedsInput, OutOfBound, Ended}
 use Rattle.m4_engine.specs.Expand.{expand, expansion_of, ended_of, expand_input}
-use Rattle.m4_engine.specs.File.{Source, Opened, Unopened, Progress, file, file_pending, over_of, after_source, after_sources, cannot_open}
+use Rattle.m4_engine.specs.File.{Source, Opened, Unopened, Progress, file, file_pending, over_of, after_source}
+use Rattle.m4_engine.specs.File.{after_sources, cannot_open}
 use Rattle.m4_engine.specs.Start.{Start, From, begun}
 use Rattle.m4_engine.specs.Run.{limits_of}
 use Rattle.m4_engine.specs.Settled.{SettledSoFar, settled_in}
 use Rattle.m4_engine.specs.Laws.{IsBeginning}
-use Rattle.m4_engine.specs.Session.{SessionState, progress_of, how_over, session_from, IsOpen, EndGives, CloseGives, BeginGives, IsBegun, IsLeft}
+use Rattle.m4_engine.specs.Session.{SessionState, progress_of, how_over, session_from, IsOpen, EndGives, CloseGives}
+use Rattle.m4_engine.specs.Session.{BeginGives, IsBegun, IsLeft}
 use Rattle.m4_engine.specs.Writers.{Contents, Three, writers, HasWritten}
 use Rattle.m4_engine.specs.WholeRun.{ending_by}
 use Rattle.m4_engine.specs.OnePass.{IsRead, Reaches, AreRead, settled_after, ExactAtFault, Reached, OnePassBy, OnePass}
@@ -156,7 +159,9 @@ more_than : (old mid new : Option (List ℕ)) (x y z : List ℕ) → (b : IsBegi
 more_than old mid new x y z b e f = more_after old mid new x b.0 z (e ∙ ap (with_bytes old) b.1) f
 
 -- the sources were read, and then the run was closed
-module _ {R : Type 0} (script : R → Option Script) (old new : List (RunSource R)) (freezes : Bool) (s s1 s2 : SessionState) (out0 out out' reported0 reported reported' : Option (List ℕ)) (n : old ≢ []) (l : IsOpen s1) (h : SourcesGive script old new s s1 (writers out0 out reported0 reported) (Ok tt)) where
+module _ {R : Type 0} (script : R → Option Script) (old new : List (RunSource R)) (freezes : Bool)
+    (s s1 s2 : SessionState) (out0 out out' reported0 reported reported' : Option (List ℕ)) (n : old ≢ [])
+    (l : IsOpen s1) (h : SourcesGive script old new s s1 (writers out0 out reported0 reported) (Ok tt)) where
   goes_on : (after_sources s.limits h.0 (progress_of s)).over ≡ None
   goes_on = sym (ap (λ (p : Progress). p.over) (h.2).progress) ∙ ap how_over l.over
 
@@ -271,7 +276,10 @@ module _ {R : Type 0} (script : R → Option Script) (old new : List (RunSource 
     name = r.name;
     taken = r.taken;
     place = r.place;
-    at = asked_further issued [] out0 out out' reported reported reported' e (with_bytes-nil reported) (settled_after (limits_of o) (progress_of (session_from o k)) r.before r.name) (settled_after (limits_of o) (begun (From k issued)) r.before r.name) cause r.taken (start_settled r.before r.name) r.at;
+    at = asked_further issued [] out0 out out' reported reported reported' e (with_bytes-nil reported)
+        (settled_after (limits_of o) (progress_of (session_from o k)) r.before r.name)
+        (settled_after (limits_of o) (begun (From k issued)) r.before r.name) cause r.taken
+        (start_settled r.before r.name) r.at;
   }
 
   passed_by : (status : ℕ) (r : Result Bool Stop) → RunReached script old new (session_from o k) (writers out out' reported reported') r → OnePassBy script old new o (From k issued) (ending_by status r).cause (writers out0 out' reported reported')
@@ -290,7 +298,12 @@ module _ {R : Type 0} (script : R → Option Script) (old new : List (RunSource 
   passed_by status (Err (stops.Ended causes.OutOfMemory)) h = inr (from_start causes.OutOfMemory h)
   passed_by status (Err (stops.Ended (causes.Frozen f))) h = absurd h
 
-pub passed : {R : Type 0} (script : R → Option Script) (old new : List (RunSource R)) (o : Options) (start : Start) (s : SessionState) (st : Result SessionState Stop) (status : ℕ) (r : Result Bool Stop) (d : Ending) (out0 out out' reported reported' : Option (List ℕ)) → st ≡ Ok s → d ≡ ending_by status r → BeginGives start o out0 out st → (old ≢ [] → RunReached script old new s (writers out out' reported reported') r) → OnePass script old new o start d.cause (writers out0 out' reported reported')
+pub passed : {R : Type 0} (script : R → Option Script) (old new : List (RunSource R)) (o : Options) (start : Start)
+    (s : SessionState) (st : Result SessionState Stop) (status : ℕ) (r : Result Bool Stop) (d : Ending)
+    (out0 out out' reported reported' : Option (List ℕ)) → st ≡ Ok s → d ≡ ending_by status r
+    → BeginGives start o out0 out st
+    → (old ≢ [] → RunReached script old new s (writers out out' reported reported') r)
+    → OnePass script old new o start d.cause (writers out0 out' reported reported')
 passed script old new o start s st status r d out0 out out' reported reported' f g b h = λ n.
     let k : BeginGives start o out0 out (Ok s) = subst (BeginGives start o out0 out) f b in
     subst (λ (x : Ending). OnePassBy script old new o start x.cause (writers out0 out' reported reported')) (sym g)

@@ -1,5 +1,6 @@
 -- Running: the state of the loop over the turns of the bytes in hand, and what its ends say.
-use Rattle.std.proofs.Common.{◌≡◌, ◌<◌, ◌≤◌, ℕ, Bool, true, false, List, [], ◌∷◌, ◌++◌, Option, Some, None, refl, sym, ap, ◌∙◌, subst, append-nil, append_assoc, arith, length, take, inl, inr}
+use Rattle.std.proofs.Common.{◌≡◌, ◌<◌, ◌≤◌, ℕ, Bool, true, false, List, [], ◌∷◌, ◌++◌, Option, Some, None, refl, sym}
+use Rattle.std.proofs.Common.{ap, ◌∙◌, subst, append-nil, append_assoc, arith, length, take, inl, inr}
 use Rattle.std.proofs.lemmas.List.{take_at}
 use Rattle.m4_state.proofs.CallerLaws.{with_bytes-append, with_bytes-nil}
 use Rattle.m4_state.specs.Device.{with_bytes, HasBegun}
@@ -19,9 +20,12 @@ use Rattle.m4_engine.specs.Nesting.{Outcome, Halted, Closed, then_on}
 use Rattle.m4_engine.specs.OpenCalls.{pop, resume, moved_meaning}
 use Rattle.m4_engine.specs.Expansion.{RunSoFar, Expansion, Kept, Ended, Ends, NeedsInput}
 use Rattle.m4_engine.specs.Expand.{turn, join, expand, skip_line, skip_all, out_of_bound_at, size_of, calls_left}
-use Rattle.m4_engine.specs.Engine.{Engine, MayFollow, Moving, so_far_of, outer_of, here_of, configuration, after_flush, moved, IsReady, Moves, Needs, IsTurned, StaysBy, Passes, cause_of_end}
+use Rattle.m4_engine.specs.Engine.{Engine, so_far_of, outer_of, here_of, configuration, after_flush, IsReady}
+use Rattle.m4_engine.specs.Turns.{MayFollow, Moving, moved, Moves, Needs, IsTurned, StaysBy, cause_of_end}
+use Rattle.m4_engine.specs.Passes.{Passes}
 use Rattle.m4_engine.specs.Expands.{IsInOrder, FlushesPrefix, FlushesSome}
-use Rattle.m4_engine.specs.Continued.{BreaksInOrder, OrderBy, skipped_first, comes_to, Leads, IsFlushed, HandNeeds, HandEnds, HandBreaks, HandGives, HasMade, so_far_in}
+use Rattle.m4_engine.specs.Continued.{BreaksInOrder, OrderBy, skipped_first, comes_to, Leads, IsFlushed, HandNeeds}
+use Rattle.m4_engine.specs.Continued.{HandEnds, HandBreaks, HandGives, HasMade, so_far_in}
 use Rattle.m4_engine.specs.Writers.{Contents, writers, HasWritten}
 use Rattle.m4_engine.proofs.Begins.{some_all}
 use Rattle.m4_engine.proofs.CallsFall.{falls}
@@ -54,7 +58,10 @@ leads_on w v u e0 e e2 p0 p q o m f g =
     (subst (λ (y : List ℕ). Leads w e0 p0 u e2 q (o ++ []) y) (append-nil m) (leads_then w v u e0 e e2 p0 p q o m [] [] f g))
 
 -- a step that leads on, with what was written so far in front
-step_leads : (w v : Wanted) (e e2 : Engine) (p q : Pending) → ((z : List ℕ) (more : Bool) → MayFollow p.may_follow z more → (a b : List ℕ) → comes_to v (configuration a b e2 (longer z more q)) ≡ comes_to w (configuration a b e (longer z more p))) → q.may_follow ≡ p.may_follow → e2.limits ≡ e.limits → Leads w e p v e2 q [] []
+step_leads : (w v : Wanted) (e e2 : Engine) (p q : Pending)
+    → ((z : List ℕ) (more : Bool) → MayFollow p.may_follow z more → (a b : List ℕ)
+      → comes_to v (configuration a b e2 (longer z more q)) ≡ comes_to w (configuration a b e (longer z more p)))
+    → q.may_follow ≡ p.may_follow → e2.limits ≡ e.limits → Leads w e p v e2 q [] []
 step_leads w v e e2 p q h f l = record {
   means = λ z more c a b.
       ap (λ (n : List ℕ). comes_to v (configuration n (b ++ []) e2 (longer z more q))) (append-nil a)
@@ -148,7 +155,12 @@ line_goes may e' p' q f g h k = λ z more c o m.
     ∙ ap (pop Expansion Kept Ended turn join (outer_of e'.open_calls)) (line_done (here_of o m e' p') p' q z more (subst (λ v. MayFollow v z more) g c) h)
 
 -- a turn after which it goes on, and a flush
-goes_on : (w : Wanted) (e0 e e' e2 : Engine) (p0 p' : Pending) (i i' : Held) (out0 reported0 out reported out' reported' : Option (List ℕ)) → Running w e0 p0 out0 reported0 e i out reported → Moves (i.pending).may_follow e' p' turns.GoesOn (λ z more o m. moved (configuration o m e (longer z more i.pending))) → p'.may_follow ≡ (i.pending).may_follow → i'.pending ≡ p' → IsReady i' → e'.limits ≡ e.limits → FlushesSome e' e2 (writers out out' reported reported') → Running w e0 p0 out0 reported0 e2 i' out' reported'
+goes_on : (w : Wanted) (e0 e e' e2 : Engine) (p0 p' : Pending) (i i' : Held)
+    (out0 reported0 out reported out' reported' : Option (List ℕ)) → Running w e0 p0 out0 reported0 e i out reported
+    → Moves (i.pending).may_follow e' p' turns.GoesOn
+      (λ z more o m. moved (configuration o m e (longer z more i.pending))) → p'.may_follow ≡ (i.pending).may_follow
+    → i'.pending ≡ p' → IsReady i' → e'.limits ≡ e.limits → FlushesSome e' e2 (writers out out' reported reported')
+    → Running w e0 p0 out0 reported0 e2 i' out' reported'
 goes_on w e0 e e' e2 p0 p' i i' out0 reported0 out reported out' reported' r h g s q l f = record {
   o = r.o ++ f.front;
   m = r.m ++ f.reported;
@@ -160,13 +172,25 @@ goes_on w e0 e e' e2 p0 p' i i' out0 reported0 out reported out' reported' r h g
   ready = q;
 }
 
-pub went_on : (w : Wanted) (e0 e e' e2 : Engine) (p0 : Pending) (i i' : Held) (out0 reported0 out reported out' reported' : Option (List ℕ)) (t : Turned) → Running w e0 p0 out0 reported0 e i out reported → Moves (i.pending).may_follow e' i'.pending t (λ z more o m. moved (configuration o m e (longer z more i.pending))) → StaysBy i i' t → t ≡ turns.GoesOn → e'.limits ≡ e.limits → FlushesSome e' e2 (writers out out' reported reported') → Running w e0 p0 out0 reported0 e2 i' out' reported'
+pub went_on : (w : Wanted) (e0 e e' e2 : Engine) (p0 : Pending) (i i' : Held)
+    (out0 reported0 out reported out' reported' : Option (List ℕ)) (t : Turned)
+    → Running w e0 p0 out0 reported0 e i out reported
+    → Moves (i.pending).may_follow e' i'.pending t
+      (λ z more o m. moved (configuration o m e (longer z more i.pending))) → StaysBy i i' t → t ≡ turns.GoesOn
+    → e'.limits ≡ e.limits → FlushesSome e' e2 (writers out out' reported reported')
+    → Running w e0 p0 out0 reported0 e2 i' out' reported'
 went_on w e0 e e' e2 p0 i i' out0 reported0 out reported out' reported' t r h y k l f =
     let s = subst (StaysBy i i') k y in
     goes_on w e0 e e' e2 p0 i'.pending i i' out0 reported0 out reported out' reported' r (subst (λ (x : Turned). Moves (i.pending).may_follow e' i'.pending x (λ z more o m. moved (configuration o m e (longer z more i.pending)))) k h) s.follows refl s.ready l f
 
 -- the same after a line that was in hand
-pub went_past_line : (w : Wanted) (e0 e e' e2 : Engine) (p0 : Pending) (i k i' : Held) (out0 reported0 out reported out' reported' : Option (List ℕ)) (t : Turned) → Running w e0 p0 out0 reported0 e i out reported → Moves (i.pending).may_follow e' k.pending t (λ z more o m. moved (configuration o m e (longer z more i.pending))) → StaysBy i k t → t ≡ turns.SkipsLine → e'.limits ≡ e.limits → FlushesSome e' e2 (writers out out' reported reported') → LineGives k i' true → Running w e0 p0 out0 reported0 e2 i' out' reported'
+pub went_past_line : (w : Wanted) (e0 e e' e2 : Engine) (p0 : Pending) (i k i' : Held)
+    (out0 reported0 out reported out' reported' : Option (List ℕ)) (t : Turned)
+    → Running w e0 p0 out0 reported0 e i out reported
+    → Moves (i.pending).may_follow e' k.pending t
+      (λ z more o m. moved (configuration o m e (longer z more i.pending))) → StaysBy i k t → t ≡ turns.SkipsLine
+    → e'.limits ≡ e.limits → FlushesSome e' e2 (writers out out' reported reported') → LineGives k i' true
+    → Running w e0 p0 out0 reported0 e2 i' out' reported'
 went_past_line w e0 e e' e2 p0 i k i' out0 reported0 out reported out' reported' t r h y g l f d =
     let s = subst (StaysBy i k) g y in
     goes_on w e0 e e' e2 p0 i'.pending i i' out0 reported0 out reported out' reported' r
@@ -174,14 +198,23 @@ went_past_line w e0 e e' e2 p0 i k i' out0 reported0 out reported out' reported'
     (line_keeps k.pending i'.pending d.0 ∙ s.follows) refl (ready_after_line k i' s.ready d) l f
 
 -- the measure falls at both
-pub fell : (e e1 e' e2 : Engine) (i i1 i' : Held) (out out' reported reported' : Option (List ℕ)) (t : Turned) → Passes e e1 i i1 → Moves (i1.pending).may_follow e' i'.pending t (λ z more o m. moved (configuration o m e1 (longer z more i1.pending))) → StaysBy i1 i' t → t ≡ turns.GoesOn → FlushesSome e' e2 (writers out out' reported reported') → turns_of e2 i'.pending < turns_of e i.pending
+pub fell : (e e1 e' e2 : Engine) (i i1 i' : Held) (out out' reported reported' : Option (List ℕ)) (t : Turned)
+    → Passes e e1 i i1
+    → Moves (i1.pending).may_follow e' i'.pending t
+      (λ z more o m. moved (configuration o m e1 (longer z more i1.pending))) → StaysBy i1 i' t → t ≡ turns.GoesOn
+    → FlushesSome e' e2 (writers out out' reported reported') → turns_of e2 i'.pending < turns_of e i.pending
 fell e e1 e' e2 i i1 i' out out' reported reported' t w h y k f =
     let s = subst (StaysBy i1 i') k y in
     let a : turns_of e2 i'.pending < turns_of e1 i1.pending = move_falls e1 e' e2 i1.pending i'.pending f.front f.reported s.follows f.held (subst (λ (x : Turned). Moves (i1.pending).may_follow e' i'.pending x (λ z more o m. moved (configuration o m e1 (longer z more i1.pending)))) k h) in
     let b : turns_of e1 i1.pending ≤ turns_of e i.pending = (passes_reaches e e1 i i1 w).turns in
     omega arith
 
-pub fell_past_line : (e e1 e' e2 : Engine) (i i1 k i' : Held) (out out' reported reported' : Option (List ℕ)) (t : Turned) → Passes e e1 i i1 → Moves (i1.pending).may_follow e' k.pending t (λ z more o m. moved (configuration o m e1 (longer z more i1.pending))) → StaysBy i1 k t → t ≡ turns.SkipsLine → FlushesSome e' e2 (writers out out' reported reported') → LineGives k i' true → turns_of e2 i'.pending < turns_of e i.pending
+pub fell_past_line : (e e1 e' e2 : Engine) (i i1 k i' : Held) (out out' reported reported' : Option (List ℕ))
+    (t : Turned) → Passes e e1 i i1
+    → Moves (i1.pending).may_follow e' k.pending t
+      (λ z more o m. moved (configuration o m e1 (longer z more i1.pending))) → StaysBy i1 k t → t ≡ turns.SkipsLine
+    → FlushesSome e' e2 (writers out out' reported reported') → LineGives k i' true
+    → turns_of e2 i'.pending < turns_of e i.pending
 fell_past_line e e1 e' e2 i i1 k i' out out' reported reported' t w h y g f d =
     let s = subst (StaysBy i1 k) g y in
     let a : turns_of e2 i'.pending < turns_of e1 i1.pending = move_falls e1 e' e2 i1.pending i'.pending f.front f.reported (line_keeps k.pending i'.pending d.0 ∙ s.follows) f.held
@@ -204,7 +237,13 @@ same_so_far : (a b : List ℕ) (e : Engine) → so_far_of (a ++ e.output) (b ++ 
 same_so_far a b e = rw (append-nil (a ++ e.output), append-nil (b ++ e.messages)) refl
 
 -- a turn after which the expansion ends
-pub ended : (w : Wanted) (e0 e e' e2 : Engine) (p0 p' : Pending) (i : Held) (out0 reported0 out reported out' reported' : Option (List ℕ)) (t : Turned) (end : TurnEnd) → Running w e0 p0 out0 reported0 e i out reported → Moves (i.pending).may_follow e' p' t (λ z more o m. moved (configuration o m e (longer z more i.pending))) → t ≡ turns.Ends end → e2 ≡ after_flush e' → e'.limits ≡ e.limits → out' ≡ with_bytes out e'.output → reported' ≡ with_bytes reported e'.messages → HandEnds w e0 p0 (cause_of_end end) e2 (writers out0 out' reported0 reported')
+pub ended : (w : Wanted) (e0 e e' e2 : Engine) (p0 p' : Pending) (i : Held)
+    (out0 reported0 out reported out' reported' : Option (List ℕ)) (t : Turned) (end : TurnEnd)
+    → Running w e0 p0 out0 reported0 e i out reported
+    → Moves (i.pending).may_follow e' p' t (λ z more o m. moved (configuration o m e (longer z more i.pending)))
+    → t ≡ turns.Ends end → e2 ≡ after_flush e' → e'.limits ≡ e.limits → out' ≡ with_bytes out e'.output
+    → reported' ≡ with_bytes reported e'.messages
+    → HandEnds w e0 p0 (cause_of_end end) e2 (writers out0 out' reported0 reported')
 ended w e0 e e' e2 p0 p' i out0 reported0 out reported out' reported' t end r h k j l f g =
     subst (λ (x : Engine). HandEnds w e0 p0 (cause_of_end end) x (writers out0 out' reported0 reported')) (sym j)
     (record {
@@ -224,7 +263,11 @@ ended w e0 e e' e2 p0 p' i out0 reported0 out reported out' reported' t end r h 
     })
 
 -- the bytes in hand don't decide the next token
-pub needed : (w : Wanted) (e0 e e' e2 : Engine) (p0 : Pending) (i0 i i' : Held) (out0 reported0 out reported out' reported' : Option (List ℕ)) (t : Turned) → p0 ≡ i0.pending → Running w e0 p0 out0 reported0 e i out reported → IsTurned e e' i i' t → t ≡ turns.NeedsMore → e2 ≡ after_flush e' → out' ≡ with_bytes out e'.output → reported' ≡ with_bytes reported e'.messages → HandNeeds w e0 i0 wanted.Token e2 i' (writers out0 out' reported0 reported')
+pub needed : (w : Wanted) (e0 e e' e2 : Engine) (p0 : Pending) (i0 i i' : Held)
+    (out0 reported0 out reported out' reported' : Option (List ℕ)) (t : Turned) → p0 ≡ i0.pending
+    → Running w e0 p0 out0 reported0 e i out reported → IsTurned e e' i i' t → t ≡ turns.NeedsMore
+    → e2 ≡ after_flush e' → out' ≡ with_bytes out e'.output → reported' ≡ with_bytes reported e'.messages
+    → HandNeeds w e0 i0 wanted.Token e2 i' (writers out0 out' reported0 reported')
 needed w e0 e e' e2 p0 i0 i i' out0 reported0 out reported out' reported' t p r y k j f g =
     let n : Needs e e' i i' = subst (IsTurned e e' i i') k y in
     let flushed : e2 ≡ after_flush e = j ∙ ap after_flush n.engine in
@@ -279,7 +322,14 @@ needs_line e i j w out reported g r f d =
     (line_needs wanted.Line e e i i j [] [] (writers out out reported reported) (none_written out reported) (leads_nowhere wanted.Line e i.pending) r f d)
 
 -- after a turn
-pub needs_line_after : (w : Wanted) (e0 e e' e2 : Engine) (p0 : Pending) (i0 i k j : Held) (out0 reported0 out reported out' reported' : Option (List ℕ)) (t : Turned) → p0 ≡ i0.pending → Running w e0 p0 out0 reported0 e i out reported → Moves (i.pending).may_follow e' k.pending t (λ z more o m. moved (configuration o m e (longer z more i.pending))) → StaysBy i k t → t ≡ turns.SkipsLine → e'.limits ≡ e.limits → e2 ≡ after_flush e' → out' ≡ with_bytes out e'.output → reported' ≡ with_bytes reported e'.messages → LineGives k j false → HandNeeds w e0 i0 wanted.Line e2 j (writers out0 out' reported0 reported')
+pub needs_line_after : (w : Wanted) (e0 e e' e2 : Engine) (p0 : Pending) (i0 i k j : Held)
+    (out0 reported0 out reported out' reported' : Option (List ℕ)) (t : Turned) → p0 ≡ i0.pending
+    → Running w e0 p0 out0 reported0 e i out reported
+    → Moves (i.pending).may_follow e' k.pending t
+      (λ z more o m. moved (configuration o m e (longer z more i.pending))) → StaysBy i k t → t ≡ turns.SkipsLine
+    → e'.limits ≡ e.limits → e2 ≡ after_flush e' → out' ≡ with_bytes out e'.output
+    → reported' ≡ with_bytes reported e'.messages → LineGives k j false
+    → HandNeeds w e0 i0 wanted.Line e2 j (writers out0 out' reported0 reported')
 needs_line_after w e0 e e' e2 p0 i0 i k j out0 reported0 out reported out' reported' t p r h y g l n f q d =
     let s = subst (StaysBy i k) g y in
     subst (λ (x : Engine). HandNeeds w e0 i0 wanted.Line x j (writers out0 out' reported0 reported')) (sym n)
@@ -348,7 +398,11 @@ breaks w e0 e p0 i out0 reported0 out reported r = record {
 }
 
 -- what a turn has made is a part of what the expansion comes to
-turn_made : (e e' : Engine) (i j : Held) (z : List ℕ) (more : Bool) (o m : List ℕ) (t : Turned) → MayFollow (i.pending).may_follow z more → Moves (i.pending).may_follow e' j.pending t (λ z more o m. moved (configuration o m e (longer z more i.pending))) → IsTurned e e' i j t → Extends (so_far_of o m e') (made_out (meaning_of o m e (longer z more i.pending)))
+turn_made : (e e' : Engine) (i j : Held) (z : List ℕ) (more : Bool) (o m : List ℕ) (t : Turned)
+    → MayFollow (i.pending).may_follow z more
+    → Moves (i.pending).may_follow e' j.pending t
+      (λ z more o m. moved (configuration o m e (longer z more i.pending))) → IsTurned e e' i j t
+    → Extends (so_far_of o m e') (made_out (meaning_of o m e (longer z more i.pending)))
 turn_made e e' i j z more o m turns.GoesOn c h k =
     subst (λ v. Extends (so_far_of o m e') (made_out v)) (moved_on e e' i.pending j.pending z more o m c h) (meaning_keeps o m e' (longer z more j.pending))
 turn_made e e' i j z more o m turns.SkipsLine c h k =
@@ -363,7 +417,12 @@ turn_made e e' i j z more o m (turns.Ends cause) c h k =
     subst (λ v. Extends (so_far_of o m e') (made_out v)) (sym (end_means e e' i.pending j.pending z more o m cause c h)) (extends_same (so_far_of o m e'))
 
 -- it can't be flushed: a part of it was
-pub write_breaks : (w : Wanted) (e0 e e' : Engine) (p0 : Pending) (i j : Held) (t : Turned) (out0 reported0 out reported out' reported' : Option (List ℕ)) → Running w e0 p0 out0 reported0 e i out reported → Moves (i.pending).may_follow e' j.pending t (λ z more o m. moved (configuration o m e (longer z more i.pending))) → IsTurned e e' i j t → FlushesPrefix e'.output e'.messages (writers out out' reported reported') → HandBreaks w e0 p0 (writers out0 out' reported0 reported')
+pub write_breaks : (w : Wanted) (e0 e e' : Engine) (p0 : Pending) (i j : Held) (t : Turned)
+    (out0 reported0 out reported out' reported' : Option (List ℕ)) → Running w e0 p0 out0 reported0 e i out reported
+    → Moves (i.pending).may_follow e' j.pending t
+      (λ z more o m. moved (configuration o m e (longer z more i.pending))) → IsTurned e e' i j t
+    → FlushesPrefix e'.output e'.messages (writers out out' reported reported')
+    → HandBreaks w e0 p0 (writers out0 out' reported0 reported')
 write_breaks w e0 e e' p0 i j t out0 reported0 out reported out' reported' r h k b = record {
   o = r.o ++ ((b.0).1).front;
   m = r.m ++ ((b.1).1).front;
@@ -394,7 +453,10 @@ taken_after old mid new o a f more k e h =
     h ∙ ap (λ (v : List ℕ). with_bytes mid (v ++ more)) k ∙ ap (λ (v : Option (List ℕ)). with_bytes v (a ++ more)) e ∙ with_bytes-append old o (a ++ more) ∙ ap (with_bytes old) (sym (append_assoc o a more))
 
 -- messages are written after the output before them
-pub breaks_in_order : (w : Wanted) (e0 e e' : Engine) (p0 : Pending) (i j : Held) (t : Turned) (earlier : ℕ) (out0 reported0 out reported out' reported' : Option (List ℕ)) → Running w e0 p0 out0 reported0 e i out reported → Moves (i.pending).may_follow e' j.pending t (λ z more o m. moved (configuration o m e (longer z more i.pending))) → IsTurned e e' i j t
+pub breaks_in_order : (w : Wanted) (e0 e e' : Engine) (p0 : Pending) (i j : Held) (t : Turned) (earlier : ℕ)
+    (out0 reported0 out reported out' reported' : Option (List ℕ)) → Running w e0 p0 out0 reported0 e i out reported
+    → Moves (i.pending).may_follow e' j.pending t
+      (λ z more o m. moved (configuration o m e (longer z more i.pending))) → IsTurned e e' i j t
     → e.messages ≡ [] → earlier ≡ length e.output → IsInOrder (take earlier e'.output) e'.messages (writers out out' reported reported') → FlushesPrefix e'.output e'.messages (writers out out' reported reported') → BreaksInOrder w e0 p0 (writers out0 out' reported0 reported')
 breaks_in_order w e0 e e' p0 i j t earlier out0 reported0 out reported out' reported' r h k quiet is order b =
     let f = output_front e e' i j t h k in

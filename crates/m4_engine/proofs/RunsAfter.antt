@@ -1,12 +1,14 @@
 -- RunsAfter: a run that goes on from what was made before does what the run from nothing does.
-use Rattle.std.proofs.Common.{◌≡◌, ◌⊎◌, inl, inr, Option, ℕ, zero, suc, ◌+◌, ◌<◌, Bool, true, false, ◌&&◌, List, [], ◌∷◌, Some, None, refl, sym, ap, ◌∙◌, subst, append_assoc}
+use Rattle.std.proofs.Common.{◌≡◌, ◌⊎◌, inl, inr, Option, ℕ, zero, suc, ◌+◌, ◌<◌, Bool, true, false, ◌&&◌, List, []}
+use Rattle.std.proofs.Common.{◌∷◌, Some, None, refl, sym, ap, ◌∙◌, subst, append_assoc}
 use Rattle.std.specs.Prelude.{nat_lt}
 use Rattle.m4_input.specs.Pending.{Pending}
 use Rattle.m4_engine.specs.declared.ending.Cause.TheVariants as causes
 use Rattle.m4_engine.specs.Nesting.{Outcome, Halted, Closed}
 use Rattle.m4_engine.specs.Expansion.{RunSoFar, Limits, Expansion, EndReason, Ends, Ended}
 use Rattle.m4_engine.specs.Expand.{expand, expansion_of, ended_of, expand_input, out_of_bound_at}
-use Rattle.m4_engine.specs.File.{Source, Opened, Unopened, Progress, file_pending, over_of, after_input, read_source, unless_over, after_source, after_sources, cannot_open}
+use Rattle.m4_engine.specs.File.{Source, Opened, Unopened, Progress, file_pending, over_of, after_input, read_source}
+use Rattle.m4_engine.specs.File.{unless_over, after_source, after_sources, cannot_open}
 use Rattle.m4_engine.specs.Wraps.{read_saved, next_round, rounds, wrapped_pending, joined_back}
 use Rattle.m4_engine.proofs.Beside.{Fits}
 use Rattle.m4_engine.proofs.Shifts.{after_record, same_after}
@@ -18,7 +20,12 @@ over_rounds zero limits p h e = refl
 over_rounds (suc n) limits p h e = ap (λ o. next_round (rounds n limits) limits o (p.so_far).saved p) e
 
 -- the parameters of `Shifts`, and that an end at which nothing is claimed ends the run
-module _ (o m : List ℕ) (c calls calls' nesting nesting' : ℕ) (room : (k : ℕ) → c + k < calls → k < calls') (depth : (k : ℕ) → (nat_lt 0 nesting && nat_lt nesting k) ≡ false → (nat_lt 0 nesting' && nat_lt nesting' k) ≡ false) (Limit : EndReason → Type 0) (at_calls : Limit (Ends causes.ExpansionLimit) ⊎ ((c ≡ 0) × (calls ≡ calls'))) (at_nesting : Limit (Ends causes.NestingLimit) ⊎ (nesting ≡ nesting')) (ends : (h : EndReason) → Limit h → over_of h ≡ Some h) where
+module _ (o m : List ℕ) (c calls calls' nesting nesting' : ℕ) (room : (k : ℕ) → c + k < calls → k < calls')
+    (depth : (k : ℕ) → (nat_lt 0 nesting && nat_lt nesting k) ≡ false → (nat_lt 0 nesting' && nat_lt nesting' k)
+      ≡ false) (Limit : EndReason → Type 0)
+    (at_calls : Limit (Ends causes.ExpansionLimit) ⊎ ((c ≡ 0) × (calls ≡ calls')))
+    (at_nesting : Limit (Ends causes.NestingLimit) ⊎ (nesting ≡ nesting'))
+    (ends : (h : EndReason) → Limit h → over_of h ≡ Some h) where
   abbrev pub first : Limits
   first = record { calls = calls; nesting = nesting }
 

@@ -1,5 +1,6 @@
 -- RunsEnd: an expansion outside of calls ends by a cause, and never for want of a bound.
-use Rattle.std.proofs.Common.{◌≡◌, ◌≢◌, Option, ℕ, zero, suc, Bool, true, false, List, [], ◌∷◌, Some, None, refl, sym, ap, ◌∙◌, subst}
+use Rattle.std.proofs.Common.{◌≡◌, ◌≢◌, Option, ℕ, zero, suc, Bool, true, false, List, [], ◌∷◌, Some, None, refl, sym}
+use Rattle.std.proofs.Common.{ap, ◌∙◌, subst}
 use Rattle.std.specs.Prelude.{nat_lt}
 use Rattle.m4_state.specs.declared.definition.Def.{Def}
 use Rattle.m4_state.specs.declared.delimiters.Delimiters.{Delimiters}
@@ -11,7 +12,8 @@ use Rattle.m4_input.specs.declared.front.Answer.{Answer}
 use Rattle.m4_input.specs.declared.front.Answer.TheVariants.{Yes, No, Unknown}
 use Rattle.m4_input.specs.Ascii.{is_letter}
 use Rattle.m4_input.specs.Pending.{Pending, text_of, line_length}
-use Rattle.m4_input.specs.Token.{starts_with, comment_found, string_found, kind_by, scan_kind, scan, Front, Taken, Refused, More, front_by, front_from, token_at}
+use Rattle.m4_input.specs.Token.{starts_with, comment_found, string_found, kind_by, scan_kind, scan, Front, Taken}
+use Rattle.m4_input.specs.Token.{Refused, More, front_by, front_from, token_at}
 use Rattle.m4_input.specs.Paren.{answer_by, paren_in, paren_from, paren_at}
 use Rattle.m4_state.specs.State.{top_of}
 use Rattle.m4_input.specs.declared.pushed.Pushed.{Pushed}
@@ -20,14 +22,20 @@ use Rattle.m4_builtins.specs.Act.{needs_list}
 use Rattle.m4_engine.specs.declared.ending.Cause.{Cause}
 use Rattle.m4_engine.specs.declared.ending.Cause.TheVariants as causes
 use Rattle.m4_engine.specs.Nesting.{Turn, Halt, Close, GoOn, Bare, Opens, Outcome, Halted, Closed}
-use Rattle.m4_engine.specs.Expansion.{RunSoFar, Limits, Call, Mode, Outside, Collecting, Expansion, Kept, EndReason, Ends, Ended, place_at, with_call, reading}
+use Rattle.m4_engine.specs.Expansion.{RunSoFar, Limits, Call, Mode, Outside, Collecting, Expansion, Kept, EndReason}
+use Rattle.m4_engine.specs.Expansion.{Ends, Ended, place_at, with_call, reading}
 use Rattle.m4_engine.specs.declared.role.Role.{Role}
 use Rattle.m4_engine.specs.declared.role.Role.TheVariants.{Opening, Closing, Separator, Blank, Other}
 use Rattle.m4_engine.specs.Args.{role_of, take_closing, take_byte}
-use Rattle.m4_engine.specs.Expand.{with_value, skip_all, skip_line, skip_or_push, effected, kept_of, after_call, called, join_by, join, call_of, bare, collect, call_unless_deep, is_deep, call_if_room, call_without_list, take_call, take_name, take_other, take_end, take_token, take_front, unended_cause, turn, size_of, calls_left, out_of_bound_at, expand}
+use Rattle.m4_engine.specs.Expand.{with_value, skip_all, skip_line, skip_or_push, effected, kept_of, after_call}
+use Rattle.m4_engine.specs.Expand.{called, join_by, join, call_of, bare, collect, call_unless_deep, is_deep}
+use Rattle.m4_engine.specs.Expand.{call_if_room, call_without_list, take_call, take_name, take_other, take_end}
+use Rattle.m4_engine.specs.Expand.{take_token, take_front, unended_cause, turn, size_of, calls_left, out_of_bound_at}
+use Rattle.m4_engine.specs.Expand.{expand}
 use Rattle.m4_engine.specs.Expand.{mode_after_call, expansion_of, ended_of, expand_input}
 use Rattle.m4_engine.specs.declared.options.Options.{Options}
-use Rattle.m4_engine.specs.File.{Source, Opened, Unopened, Progress, file_pending, over_by, over_of, unless_over, read_source, after_source, after_sources}
+use Rattle.m4_engine.specs.File.{Source, Opened, Unopened, Progress, file_pending, over_by, over_of, unless_over}
+use Rattle.m4_engine.specs.File.{read_source, after_source, after_sources}
 use Rattle.m4_engine.specs.Wraps.{read_saved, next_round, rounds, after_wraps, wrapped_pending, joined_back}
 use Rattle.m4_engine.specs.Start.{Start, From, Faulty, begun}
 use Rattle.m4_engine.specs.Run.{limits_of, result_by, saved_after, run_from}

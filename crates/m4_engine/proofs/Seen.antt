@@ -1,5 +1,6 @@
 -- Seen: what was seen of the first token of a text, as a turn takes it.
-use Rattle.std.proofs.Common.{◌≡◌, None, ℕ, Bool, true, false, List, [], ◌∷◌, ◌++◌, append-nil, append_assoc, refl, sym, ap, ◌∙◌, subst, take, drop}
+use Rattle.std.proofs.Common.{◌≡◌, None, ℕ, Bool, true, false, List, [], ◌∷◌, ◌++◌, append-nil, append_assoc, refl}
+use Rattle.std.proofs.Common.{sym, ap, ◌∙◌, subst, take, drop}
 use Rattle.std.specs.Prelude.{suc, nat_lt, not, ◌&&◌, length, Result, Ok, Err, IfOk}
 use Rattle.m4_state.specs.State.{State}
 use Rattle.m4_engine.specs.declared.front.First.{First}
@@ -23,7 +24,10 @@ use Rattle.m4_engine.specs.declared.turned.TurnFault.{TurnFault}
 use Rattle.m4_engine.specs.Expansion.{Call, Limits, place_at, issued, reading, put_text}
 use Rattle.m4_engine.specs.Expand.{call, call_of, take_call, call_without_list, take_name}
 use Rattle.m4_engine.specs.Lookahead.{IsMeaning, IsAhead, IsLookaheadOf, placed_ahead}
-use Rattle.m4_engine.specs.Engine.{Engine, outer_of, here_of, allows_call, is_bare, configuration, put_in, with_text, with_one_call, with_made, is_deep_in, step, MayFollow, Extended, IsAt, Moves, IsLookahead}
+use Rattle.m4_engine.specs.Engine.{Engine, outer_of, here_of, allows_call, is_bare, configuration, put_in, with_text}
+use Rattle.m4_engine.specs.Engine.{with_one_call, with_made, is_deep_in}
+use Rattle.m4_engine.specs.Turns.{step, MayFollow, Extended, IsAt, Moves}
+use Rattle.m4_engine.specs.Passes.{IsLookahead}
 use Rattle.m4_state.specs.State.{top_of}
 use Rattle.m4_builtins.specs.Subst.{subst as substituted}
 use Rattle.m4_state.specs.declared.builtin.Builtin.TheVariants.{Dnl}
@@ -56,7 +60,10 @@ seen_same a e e1 room p r s h i j k =
     (subst (λ (v : Bool). IsLookaheadOf a e.state v p) (r ∙ leaves_same e e1 h i j) k)
 
 -- what was seen after some bytes of a text, if the limits allow as many calls as before
-pub ahead_by : (a : Lookahead) (e e1 : Engine) (room m : Bool) (x y : List ℕ) (f : First) → room ≡ allows_call e → e1.calls ≡ e.calls → e1.limits ≡ e.limits → length e1.open_calls ≡ length e.open_calls → y ≡ x → IsFirst e1.state m x f → ((m : Bool) (at : Place) → IsFirst e1.state m y f → IsAhead (placed_ahead at a) e1.state room m y at)
+pub ahead_by : (a : Lookahead) (e e1 : Engine) (room m : Bool) (x y : List ℕ) (f : First) → room ≡ allows_call e
+    → e1.calls ≡ e.calls → e1.limits ≡ e.limits → length e1.open_calls ≡ length e.open_calls → y ≡ x
+    → IsFirst e1.state m x f
+    → ((m : Bool) (at : Place) → IsFirst e1.state m y f → IsAhead (placed_ahead at a) e1.state room m y at)
     → (at : Place) → IsAhead (placed_ahead at a) e1.state (allows_call e1) m x at
 ahead_by a e e1 room m x y f r h i j t g k = λ at.
     subst (λ (v : Bool). IsAhead (placed_ahead at a) e1.state v m x at) (r ∙ leaves_same e e1 h i j)
@@ -82,7 +89,10 @@ byte_front a e p q b h g k z more m =
     ∙ ap (λ (x : Pending). Taken (Byte b) (longer z more x)) (sym g)
 
 -- and so is a name
-pub name_front : (a : Lookahead) (e : Engine) (p q : Pending) (n : Named) → a ≡ aheads.Named n → q ≡ consumed n.len p → IsLookahead a e p → (z : List ℕ) (more : Bool) → MayFollow p.may_follow z more → token_at (e.state).quotes (e.state).comments (longer z more p) ≡ Taken (Name (take n.len (text_of p))) (longer z more q)
+pub name_front : (a : Lookahead) (e : Engine) (p q : Pending) (n : Named) → a ≡ aheads.Named n → q ≡ consumed n.len p
+    → IsLookahead a e p → (z : List ℕ) (more : Bool) → MayFollow p.may_follow z more
+    → token_at (e.state).quotes (e.state).comments (longer z more p)
+      ≡ Taken (Name (take n.len (text_of p))) (longer z more q)
 name_front a e p q n h g k z more m =
     let r = subst (λ (v : Lookahead). IsLookahead v e p) h k in
     found_longer (e.state).quotes (e.state).comments p (Name (take n.len (text_of p))) n.len z more r.0 r.1.scanned m
@@ -119,7 +129,12 @@ module _ (may : Bool) (e e1 : Engine) (p p' : Pending) (r : Result Turned TurnFa
   NameMoves m bare = IfOk r (λ u. (name : List ℕ) (at : Place) (before : Extended) → IsAt at before → IsMeaning m bare e.state name at → Moves may e1 p' u (λ z more o l. step (outer_of e.open_calls) (take_name (top_of e.state name) name (longer z more p) (here_of o l e (before z more)))))
 
 -- the same at the name's place
-pub named_at : (e e1 : Engine) (p q p' : Pending) (r : Result Turned TurnFault) (m : Meaning) (bare : Bool) (name : List ℕ) → q.may_follow ≡ p.may_follow → NameMoves q.may_follow e e1 q p' r m bare → IsMeaning m bare e.state name (place_at p) → IfOk r (λ u. Moves p.may_follow e1 p' u (λ z more o l. step (outer_of e.open_calls) (take_name (top_of e.state name) name (longer z more q) (here_of o l e (longer z more p)))))
+pub named_at : (e e1 : Engine) (p q p' : Pending) (r : Result Turned TurnFault) (m : Meaning) (bare : Bool)
+    (name : List ℕ) → q.may_follow ≡ p.may_follow → NameMoves q.may_follow e e1 q p' r m bare
+    → IsMeaning m bare e.state name (place_at p)
+    → IfOk r (λ u. Moves p.may_follow e1 p' u
+      (λ z more o l. step (outer_of e.open_calls)
+        (take_name (top_of e.state name) name (longer z more q) (here_of o l e (longer z more p)))))
 named_at e e1 p q p' (Ok u) m bare name f h w =
     subst (λ (v : Bool). Moves v e1 p' u (λ z more o l. step (outer_of e.open_calls) (take_name (top_of e.state name) name (longer z more q) (here_of o l e (longer z more p))))) f
     (h name (place_at p) (λ z more. longer z more p) (λ z more. refl) w)
@@ -133,7 +148,14 @@ meaning_at m bare s name file line p f g h =
     (subst (λ (x : List ℕ). IsMeaning m bare s name (record { file = x; line = line })) f h))
 
 -- a text that is called with no list
-pub expansion_moves : (e e1 : Engine) (m : Meaning) (x : List ℕ) (bare listed : Bool) (p p' : Pending) (r : Result Turned TurnFault) → m ≡ meanings.Expansion x → p.definition ≡ None → paren_at (e.state).quotes (e.state).comments p ≡ answer_of listed → listed ≡ false → IfOk r (λ u. (c : Call) (t : List ℕ) → c.definition ≡ Text t → x ≡ substituted t c.name c.done (e.state).quotes → (before : Extended) → Moves p.may_follow e1 p' u (λ z more o l. step (outer_of e.open_calls) (call false c (longer z more p) (here_of o l e (before z more))))) → NameMoves p.may_follow e e1 p p' r m bare
+pub expansion_moves : (e e1 : Engine) (m : Meaning) (x : List ℕ) (bare listed : Bool) (p p' : Pending)
+    (r : Result Turned TurnFault) → m ≡ meanings.Expansion x → p.definition ≡ None
+    → paren_at (e.state).quotes (e.state).comments p ≡ answer_of listed → listed ≡ false
+    → IfOk r (λ u. (c : Call) (t : List ℕ) → c.definition ≡ Text t → x ≡ substituted t c.name c.done (e.state).quotes
+      → (before : Extended)
+      → Moves p.may_follow e1 p' u
+        (λ z more o l. step (outer_of e.open_calls) (call false c (longer z more p) (here_of o l e (before z more)))))
+    → NameMoves p.may_follow e e1 p p' r m bare
 expansion_moves e e1 m x bare listed p p' (Ok u) h d i j k = λ name at before f w.
     let v = subst (λ (n : Meaning). IsMeaning n bare e.state name at) h w in
     let c : Call = call_of (Text v.1) name at in
@@ -141,7 +163,13 @@ expansion_moves e e1 m x bare listed p p' (Ok u) h d i j k = λ name at before f
 expansion_moves e e1 m x bare listed p p' (Err y) h d i j k = tt
 
 -- a builtin that skips the line, called with no list
-pub line_skips : (e e1 : Engine) (m : Meaning) (bare listed : Bool) (p : Pending) → m ≡ meanings.LineSkip → p.definition ≡ None → paren_at (e.state).quotes (e.state).comments p ≡ answer_of listed → listed ≡ false → nat_lt e.calls (e.limits).calls ≡ true → is_deep_in e ≡ false → e1 ≡ with_made [] [] None (with_one_call e) → (name : List ℕ) (at : Place) (before : Extended) → IsAt at before → IsMeaning m bare e.state name at → Moves p.may_follow e1 p turns.SkipsLine (λ z more o l. step (outer_of e.open_calls) (take_name (top_of e.state name) name (longer z more p) (here_of o l e (before z more))))
+pub line_skips : (e e1 : Engine) (m : Meaning) (bare listed : Bool) (p : Pending) → m ≡ meanings.LineSkip
+    → p.definition ≡ None → paren_at (e.state).quotes (e.state).comments p ≡ answer_of listed → listed ≡ false
+    → nat_lt e.calls (e.limits).calls ≡ true → is_deep_in e ≡ false → e1 ≡ with_made [] [] None (with_one_call e)
+    → (name : List ℕ) (at : Place) (before : Extended) → IsAt at before → IsMeaning m bare e.state name at
+    → Moves p.may_follow e1 p turns.SkipsLine
+      (λ z more o l. step (outer_of e.open_calls)
+        (take_name (top_of e.state name) name (longer z more p) (here_of o l e (before z more))))
 line_skips e e1 m bare listed p h d i j room shallow g name at before f w =
     let v = subst (λ (n : Meaning). IsMeaning n bare e.state name at) h w in
     let c : Call = call_of (Builtin Dnl) name at in
@@ -151,7 +179,15 @@ line_skips e e1 m bare listed p h d i j room shallow g name at before f w =
     (λ z more t o l. called_skips (with_one_call e) e1 c a (longer z more p) refl refl refl g o l) before)
 
 -- a call that is made
-pub made_moves : (e e1 : Engine) (m : Meaning) (c : Call) (bare listed : Bool) (p p' : Pending) (r : Result Turned TurnFault) → m ≡ meanings.Call c → c ≡ call_of c.definition c.name c.place → p.definition ≡ None → paren_at (e.state).quotes (e.state).comments p ≡ answer_of listed → (listed ≡ false → needs_list c.definition ≡ false) → IfOk r (λ u. (before : Extended) → Moves p.may_follow e1 p' u (λ z more o l. step (outer_of e.open_calls) (call listed c (longer z more p) (here_of o l e (before z more))))) → NameMoves p.may_follow e e1 p p' r m bare
+pub made_moves : (e e1 : Engine) (m : Meaning) (c : Call) (bare listed : Bool) (p p' : Pending)
+    (r : Result Turned TurnFault) → m ≡ meanings.Call c → c ≡ call_of c.definition c.name c.place
+    → p.definition ≡ None → paren_at (e.state).quotes (e.state).comments p ≡ answer_of listed
+    → (listed ≡ false → needs_list c.definition ≡ false)
+    → IfOk r (λ u. (before : Extended)
+      → Moves p.may_follow e1 p' u
+        (λ z more o l. step (outer_of e.open_calls)
+          (call listed c (longer z more p) (here_of o l e (before z more)))))
+    → NameMoves p.may_follow e e1 p p' r m bare
 made_moves e e1 m c bare listed p p' (Ok u) f g q i j k = λ name at before b w.
     let v = subst (λ (n : Meaning). IsMeaning n bare e.state name at) f w in
     let d = c.definition in
@@ -166,7 +202,13 @@ text_goes [] x e p before o m h = rw (append_assoc o e.output (issued (e.state).
 text_goes (c ∷ cs) x e p before o m h = rw (append-nil (o ++ e.output)) refl
 
 -- a name that needs a list and has none is text
-pub bare_moves : (e e1 : Engine) (m : Meaning) (h : Call) (bare listed : Bool) (p : Pending) → m ≡ meanings.Call h → p.definition ≡ None → paren_at (e.state).quotes (e.state).comments p ≡ answer_of listed → listed ≡ false → needs_list h.definition ≡ true → e1 ≡ with_text h.name e → (name : List ℕ) (at : Place) (before : Extended) → IsAt at before → IsMeaning m bare e.state name at → Moves p.may_follow e1 p turns.GoesOn (λ z more o l. step (outer_of e.open_calls) (take_name (top_of e.state name) name (longer z more p) (here_of o l e (before z more))))
+pub bare_moves : (e e1 : Engine) (m : Meaning) (h : Call) (bare listed : Bool) (p : Pending) → m ≡ meanings.Call h
+    → p.definition ≡ None → paren_at (e.state).quotes (e.state).comments p ≡ answer_of listed → listed ≡ false
+    → needs_list h.definition ≡ true → e1 ≡ with_text h.name e → (name : List ℕ) (at : Place) (before : Extended)
+    → IsAt at before → IsMeaning m bare e.state name at
+    → Moves p.may_follow e1 p turns.GoesOn
+      (λ z more o l. step (outer_of e.open_calls)
+        (take_name (top_of e.state name) name (longer z more p) (here_of o l e (before z more))))
 bare_moves e e1 m h bare listed p f q i j n g name at before b w = λ z more t o l.
     let v = subst (λ (k : Meaning). IsMeaning k bare e.state name at) f w in
     let s = here_of o l e (before z more) in
@@ -180,7 +222,11 @@ bare_moves e e1 m h bare listed p f q i j n g name at before b w = λ z more t o
     ∙ ap (λ (x : Engine). Goes (configuration o l x (longer z more p))) (sym g)
 
 -- a name without a definition is text
-pub word_moves : (e e1 : Engine) (name : List ℕ) (p : Pending) → top_of e.state name ≡ None → e1 ≡ with_text name e → (before : Extended) → Moves p.may_follow e1 p turns.GoesOn (λ z more o l. step (outer_of e.open_calls) (take_name (top_of e.state name) name (longer z more p) (here_of o l e (before z more))))
+pub word_moves : (e e1 : Engine) (name : List ℕ) (p : Pending) → top_of e.state name ≡ None → e1 ≡ with_text name e
+    → (before : Extended)
+    → Moves p.may_follow e1 p turns.GoesOn
+      (λ z more o l. step (outer_of e.open_calls)
+        (take_name (top_of e.state name) name (longer z more p) (here_of o l e (before z more))))
 word_moves e e1 name p n g before = λ z more t o l.
     ap (λ t. step (outer_of e.open_calls) (take_name t name (longer z more p) (here_of o l e (before z more)))) n
     ∙ text_goes e.open_calls name e (longer z more p) (before z more) o l refl

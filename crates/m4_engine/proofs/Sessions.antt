@@ -1,5 +1,6 @@
 -- Sessions: what a session's calls make of what the machine leaves.
-use Rattle.std.proofs.Common.{◌≡◌, ◌⊎◌, arith, inl, inr, ℕ, Bool, true, false, List, [], ◌++◌, Option, Some, None, refl, sym, ap, ◌∙◌, subst}
+use Rattle.std.proofs.Common.{◌≡◌, ◌⊎◌, arith, inl, inr, ℕ, Bool, true, false, List, [], ◌++◌, Option, Some, None}
+use Rattle.std.proofs.Common.{refl, sym, ap, ◌∙◌, subst}
 use Rattle.std.specs.Prelude.{Result, Ok, Err}
 use Rattle.m4_state.proofs.CallerLaws.{with_bytes-nil}
 use Rattle.m4_state.specs.State.{State, IsSized}
@@ -20,10 +21,16 @@ use Rattle.m4_engine.specs.File.{Progress, file_pending, over_of, over_by, after
 use Rattle.m4_engine.specs.Run.{closed_output, result_of}
 use Rattle.m4_engine.specs.Wraps.{joined_back, after_wraps, close}
 use Rattle.m4_engine.proofs.Begins.{nothing_begun}
-use Rattle.m4_engine.specs.Engine.{Engine, MayFollow}
+use Rattle.m4_engine.specs.Engine.{Engine}
+use Rattle.m4_engine.specs.Turns.{MayFollow}
 use Rattle.m4_engine.proofs.Longer.{closed_same, nothing_more, nothing_follows}
-use Rattle.m4_engine.specs.Expands.{made_before, input_expansion, Expanded, LastAsked, ReadSo, Fell, Expands, ReadsBy, at_rest}
-use Rattle.m4_engine.specs.Session.{SessionState, progress_of, written, how_over, IsOpen, Completed, FileDone, FileAsked, FileEnded, FileBroke, FileFell, FileGives, ReadFails, BrokeOff, WrapsGive, round_of, answer_by, over_after, session_after_wraps, last_state, Unfinished, EndGives, FinishGives, FreezeGives, CloseGives}
+use Rattle.m4_engine.specs.Expands.{made_before, input_expansion, Expanded, LastAsked, ReadSo, Fell, Expands, ReadsBy}
+use Rattle.m4_engine.specs.Expands.{at_rest}
+use Rattle.m4_engine.specs.Session.{SessionState, progress_of, written, how_over, IsOpen, Completed, FileDone}
+use Rattle.m4_engine.specs.Session.{FileAsked, FileEnded, FileBroke, FileFell, FileGives, BrokeOff, WrapsGive}
+use Rattle.m4_engine.specs.Session.{round_of, answer_by, over_after, session_after_wraps, last_state, Unfinished}
+use Rattle.m4_engine.specs.Session.{EndGives, FinishGives, FreezeGives, CloseGives}
+use Rattle.m4_engine.specs.SessionFailures.{ReadFails}
 use Rattle.m4_engine.specs.Writers.{Contents, Three, Broken, writers, HasWritten}
 
 -- the session as the machine and the rest of it give it
@@ -46,7 +53,10 @@ progress_with s saved calls over any_missing = record {
   any_missing = any_missing;
 }
 
-progress_after : (new : Engine) (any_missing : Bool) (over : Option Cause) (cause : Cause) (d : Ended) → d.reason ≡ Ends cause → new.state ≡ (d.so_far).state → new.saved ≡ (d.so_far).saved → new.calls ≡ (d.so_far).calls → how_over over ≡ over_by cause → progress_of (session_of new any_missing over false) ≡ written (after_input d any_missing)
+progress_after : (new : Engine) (any_missing : Bool) (over : Option Cause) (cause : Cause) (d : Ended)
+    → d.reason ≡ Ends cause → new.state ≡ (d.so_far).state → new.saved ≡ (d.so_far).saved
+    → new.calls ≡ (d.so_far).calls → how_over over ≡ over_by cause
+    → progress_of (session_of new any_missing over false) ≡ written (after_input d any_missing)
 progress_after new any_missing over cause d h s v n o =
     ap (λ (x : State). progress_with x new.saved new.calls (how_over over) any_missing) s
     ∙ ap (λ (x : List (List ℕ)). progress_with (d.so_far).state x new.calls (how_over over) any_missing) v
@@ -54,7 +64,10 @@ progress_after new any_missing over cause d h s v n o =
     ∙ ap (λ (x : Option EndReason). progress_with (d.so_far).state (d.so_far).saved (d.so_far).calls x any_missing) (o ∙ sym (ap over_of h))
 
 -- an input was read to an end
-input_done : (old : SessionState) (e0 e1 : Engine) (any_missing : Bool) (over : Option Cause) (cause : Cause) (d : Ended) (w : Contents) → IsOpen old → e0.limits ≡ old.limits → Expanded e0 e1 d cause w → how_over over ≡ over_by cause → Completed old (session_of (at_rest e1) any_missing over false) (after_input d any_missing) w
+input_done : (old : SessionState) (e0 e1 : Engine) (any_missing : Bool) (over : Option Cause) (cause : Cause)
+    (d : Ended) (w : Contents) → IsOpen old → e0.limits ≡ old.limits → Expanded e0 e1 d cause w
+    → how_over over ≡ over_by cause
+    → Completed old (session_of (at_rest e1) any_missing over false) (after_input d any_missing) w
 input_done old e0 e1 any_missing over cause d w l e k o = record {
   live = l;
   limits = k.limits ∙ e;
@@ -146,7 +159,10 @@ taken_file : (name x : List ℕ) (before after : Option Script) (q : Pending) (z
 taken_file name x before after q z more r = ap (longer z more) r.in_hand
 
 -- a file was read to an end
-file_done : (e0 e1 : Engine) (any_missing : Bool) (name : List ℕ) (before after : Option Script) (w : Contents) → ReadSo e0 (unread_file name).pending before after w (λ d. Expanded e0 e1 d causes.Done w) → FileDone name before after (session_of e0 any_missing None false) (session_of (at_rest e1) any_missing None false) w
+file_done : (e0 e1 : Engine) (any_missing : Bool) (name : List ℕ) (before after : Option Script) (w : Contents)
+    → ReadSo e0 (unread_file name).pending before after w (λ d. Expanded e0 e1 d causes.Done w)
+    → FileDone name before after (session_of e0 any_missing None false)
+      (session_of (at_rest e1) any_missing None false) w
 file_done e0 e1 any_missing name before after w r =
     let still : (r.q).may_follow ≡ false = by_flag (r.q).may_follow (λ f. never_done e0 r.q f
     (ap (λ (q : Pending). (input_expansion e0 q).reason) (sym (nothing_more r.q)) ∙ (r.so [] (r.q).may_follow (nothing_follows (r.q).may_follow)).reason)) in
@@ -184,7 +200,11 @@ file_asked e0 any_missing name x o m w h (inr a) = record {
 }
 
 -- what was read ended the run
-file_ended : (e0 e1 : Engine) (any_missing : Bool) (name : List ℕ) (cause : Cause) (before after : Option Script) (w : Contents) → how_over (Some cause) ≡ over_by cause → ReadSo e0 (unread_file name).pending before after w (λ d. Expanded e0 e1 d cause w) → FileEnded name before after (session_of e0 any_missing None false) (session_of (at_rest e1) any_missing (Some cause) false) w cause
+file_ended : (e0 e1 : Engine) (any_missing : Bool) (name : List ℕ) (cause : Cause) (before after : Option Script)
+    (w : Contents) → how_over (Some cause) ≡ over_by cause
+    → ReadSo e0 (unread_file name).pending before after w (λ d. Expanded e0 e1 d cause w)
+    → FileEnded name before after (session_of e0 any_missing None false)
+      (session_of (at_rest e1) any_missing (Some cause) false) w cause
 file_ended e0 e1 any_missing name cause before after w o r = (
   record {
     x = r.x;
@@ -201,7 +221,10 @@ file_ended e0 e1 any_missing name cause before after w o r = (
 )
 
 -- a file broke off
-file_broke : (e0 e1 : Engine) (any_missing : Bool) (name : List ℕ) (cause : Cause) (before after : Option Script) (w : Contents) → ReadSo e0 (unread_file name).pending before after w (λ d. Broken d w) → FileBroke name before after (session_of e0 any_missing None false) (session_of (at_rest e1) any_missing (Some cause) false) w cause
+file_broke : (e0 e1 : Engine) (any_missing : Bool) (name : List ℕ) (cause : Cause) (before after : Option Script)
+    (w : Contents) → ReadSo e0 (unread_file name).pending before after w (λ d. Broken d w)
+    → FileBroke name before after (session_of e0 any_missing None false)
+      (session_of (at_rest e1) any_missing (Some cause) false) w cause
 file_broke e0 e1 any_missing name cause before after w r = (
   record {
     x = r.x;
@@ -228,7 +251,10 @@ file_fell e0 e1 any_missing name before after w f = record {
   messages = f.messages;
 }
 
-by_cause : (e0 e1 : Engine) (any_missing : Bool) (name : List ℕ) (cause : Cause) (before after : Option Script) (w : Contents) → Expands e0 e1 (unread_file name).pending before after w cause → FileGives name before after (session_of e0 any_missing None false) (session_of (at_rest e1) any_missing (over_after cause None) false) w (answer_by cause)
+by_cause : (e0 e1 : Engine) (any_missing : Bool) (name : List ℕ) (cause : Cause) (before after : Option Script)
+    (w : Contents) → Expands e0 e1 (unread_file name).pending before after w cause
+    → FileGives name before after (session_of e0 any_missing None false)
+      (session_of (at_rest e1) any_missing (over_after cause None) false) w (answer_by cause)
 by_cause e0 e1 any_missing name causes.Done before after w d = file_done e0 e1 any_missing name before after w d
 by_cause e0 e1 any_missing name (causes.Exited n) before after w d = file_ended e0 e1 any_missing name (causes.Exited n) before after w refl d
 by_cause e0 e1 any_missing name causes.EndInString before after w d = file_ended e0 e1 any_missing name causes.EndInString before after w refl d
@@ -247,7 +273,10 @@ open_is old e0 any_missing over finished o l = (sym (ap (λ (s : SessionState). 
 
 -- a session before an input and after it, and the answer, as the clause of the call has them
 module _ (To : SessionState → SessionState → Result Unit Stop → Type 0) (old new : SessionState) (e0 e1 e2 : Engine) (any_missing : Bool) (over : Option Cause) (finished : Bool) (cause : Cause) (result : Result Unit Stop) where
-  unchanged_session : old ≡ session_of e0 any_missing over finished → IsOpen old → e2 ≡ at_rest e1 → new ≡ session_of e2 any_missing (over_after cause over) finished → result ≡ answer_by cause → To (session_of e0 any_missing None false) (session_of (at_rest e1) any_missing (over_after cause None) false) (answer_by cause) → To old new result
+  unchanged_session : old ≡ session_of e0 any_missing over finished → IsOpen old → e2 ≡ at_rest e1
+      → new ≡ session_of e2 any_missing (over_after cause over) finished → result ≡ answer_by cause
+      → To (session_of e0 any_missing None false) (session_of (at_rest e1) any_missing (over_after cause None) false)
+        (answer_by cause) → To old new result
   unchanged_session o l z v r g =
       let k = open_is old e0 any_missing over finished o l in
       let o' : old ≡ session_of e0 any_missing None false = o ∙ ap (λ x. session_of e0 any_missing x finished) k.0 ∙ ap (λ x. session_of e0 any_missing None x) k.1 in
@@ -257,7 +286,12 @@ module _ (To : SessionState → SessionState → Result Unit Stop → Type 0) (o
       (subst (λ (x : SessionState). To (session_of e0 any_missing None false) x result) (sym v')
       (subst (To (session_of e0 any_missing None false) (session_of (at_rest e1) any_missing (over_after cause None) false)) (sym r) g))
 
-pub file_gives : (old new : SessionState) (e0 e1 e2 : Engine) (any_missing : Bool) (over : Option Cause) (finished : Bool) (name : List ℕ) (i : Held) (before after : Option Script) (w : Contents) (cause : Cause) (result : Result Unit Stop) → old ≡ session_of e0 any_missing over finished → IsOpen old → i ≡ unread_file name → Expands e0 e1 i.pending before after w cause → e2 ≡ at_rest e1 → new ≡ session_of e2 any_missing (over_after cause over) finished → result ≡ answer_by cause → FileGives name before after old new w result
+pub file_gives : (old new : SessionState) (e0 e1 e2 : Engine) (any_missing : Bool) (over : Option Cause)
+    (finished : Bool) (name : List ℕ) (i : Held) (before after : Option Script) (w : Contents) (cause : Cause)
+    (result : Result Unit Stop) → old ≡ session_of e0 any_missing over finished → IsOpen old → i ≡ unread_file name
+    → Expands e0 e1 i.pending before after w cause → e2 ≡ at_rest e1
+    → new ≡ session_of e2 any_missing (over_after cause over) finished → result ≡ answer_by cause
+    → FileGives name before after old new w result
 file_gives old new e0 e1 e2 any_missing over finished name i before after w cause result o l n d z v r =
     unchanged_session (λ a b x. FileGives name before after a b w x) old new e0 e1 e2 any_missing over finished cause result o l z v r
     (by_cause e0 e1 any_missing name cause before after w (subst (λ (h : Held). Expands e0 e1 h.pending before after w cause) n d))
@@ -289,7 +323,13 @@ module _ (old : SessionState) (e0 e1 : Engine) (any_missing : Bool) (p : Pending
   round_by causes.Write k = (breaks_by causes.Write k, tt)
   round_by causes.OutOfMemory k = (breaks_by causes.OutOfMemory k, tt)
 
-pub round_gives : (old new : SessionState) (e0 ea e1 e2 : Engine) (any_missing : Bool) (over : Option Cause) (finished : Bool) (x : List ℕ) (i : Held) (before after : Option Script) (w : Contents) (cause : Cause) (result : Result Unit Stop) → old ≡ session_of e0 any_missing over finished → IsOpen old → ea ≡ record e0 { saved = [] } → x ≡ joined_back e0.saved → i ≡ wrapped_text x → Expands ea e1 i.pending before after w cause → e2 ≡ at_rest e1 → new ≡ session_of e2 any_missing (over_after cause over) finished → result ≡ answer_by cause → WrapsGive (round_of old) old new w result
+pub round_gives : (old new : SessionState) (e0 ea e1 e2 : Engine) (any_missing : Bool) (over : Option Cause)
+    (finished : Bool) (x : List ℕ) (i : Held) (before after : Option Script) (w : Contents) (cause : Cause)
+    (result : Result Unit Stop) → old ≡ session_of e0 any_missing over finished → IsOpen old
+    → ea ≡ record e0 { saved = [] } → x ≡ joined_back e0.saved → i ≡ wrapped_text x
+    → Expands ea e1 i.pending before after w cause → e2 ≡ at_rest e1
+    → new ≡ session_of e2 any_missing (over_after cause over) finished → result ≡ answer_by cause
+    → WrapsGive (round_of old) old new w result
 round_gives old new e0 ea e1 e2 any_missing over finished x i before after w cause result o l a j n d z v r =
     let taken : Engine = record e0 { saved = [] } in
     let p : Pending = wrapped_pending (joined_back e0.saved) in
@@ -338,7 +378,10 @@ pub finish_broke : (old new : SessionState) (w : Contents) (s : Stop) → IsOpen
 finish_broke old new w s l e i o m h = subst (λ (x : Stop). FinishGives old new w (Err x)) (sym i) (broke_off false old new w causes.Write l e o m h)
 
 -- the diversions were issued
-pub issued_all : (old new : SessionState) (out out' reported : Option (List ℕ)) → IsOpen old → old.saved ≡ [] → new.limits ≡ old.limits → new.finished ≡ true → new.over ≡ old.over → new.any_missing ≡ old.any_missing → new.saved ≡ old.saved → new.calls ≡ old.calls → out' ≡ with_bytes out (close old.state) → FinishGives old new (writers out out' reported reported) (Ok tt)
+pub issued_all : (old new : SessionState) (out out' reported : Option (List ℕ)) → IsOpen old → old.saved ≡ []
+    → new.limits ≡ old.limits → new.finished ≡ true → new.over ≡ old.over → new.any_missing ≡ old.any_missing
+    → new.saved ≡ old.saved → new.calls ≡ old.calls → out' ≡ with_bytes out (close old.state)
+    → FinishGives old new (writers out out' reported reported) (Ok tt)
 issued_all old new out out' reported l e d f v m s n o =
     let p : progress_of old ≡ session_after_wraps old = sym (after_is old l e) in
     record {
@@ -355,7 +398,11 @@ issued_all old new out out' reported l e d f v m s n o =
     }
 
 -- the state was frozen
-pub froze : (old new : SessionState) (s : State) (out reported frozen frozen' : Option (List ℕ)) → IsOpen old → old.saved ≡ [] → s ≡ old.state → new ≡ record old { finished = true } → frozen' ≡ with_bytes frozen (freeze s) → IsSized s → FreezeGives old new (record { two = writers out out reported reported; frozen_old = frozen; frozen_new = frozen' }) (Ok tt)
+pub froze : (old new : SessionState) (s : State) (out reported frozen frozen' : Option (List ℕ)) → IsOpen old
+    → old.saved ≡ [] → s ≡ old.state → new ≡ record old { finished = true } → frozen' ≡ with_bytes frozen (freeze s)
+    → IsSized s
+    → FreezeGives old new
+      (record { two = writers out out reported reported; frozen_old = frozen; frozen_new = frozen' }) (Ok tt)
 froze old new s out reported frozen frozen' l e i n f z =
     let p : progress_of old ≡ session_after_wraps old = sym (after_is old l e) in
     let t : s ≡ last_state old = i ∙ ap (λ (x : Progress). (x.so_far).state) p in (
@@ -375,7 +422,11 @@ froze old new s out reported frozen frozen' l e i n f z =
     )
 
 -- the frozen text broke off
-pub freeze_broke : (old new : SessionState) (s : State) (e : Stop) (out reported frozen frozen' : Option (List ℕ)) → IsOpen old → old.saved ≡ [] → s ≡ old.state → e ≡ stops.Ended causes.Write → new.over ≡ Some causes.Write → HasBegun frozen frozen' (freeze s) → FreezeGives old new (record { two = writers out out reported reported; frozen_old = frozen; frozen_new = frozen' }) (Err e)
+pub freeze_broke : (old new : SessionState) (s : State) (e : Stop) (out reported frozen frozen' : Option (List ℕ))
+    → IsOpen old → old.saved ≡ [] → s ≡ old.state → e ≡ stops.Ended causes.Write → new.over ≡ Some causes.Write
+    → HasBegun frozen frozen' (freeze s)
+    → FreezeGives old new
+      (record { two = writers out out reported reported; frozen_old = frozen; frozen_new = frozen' }) (Err e)
 freeze_broke old new s e out reported frozen frozen' l v i k o f =
     let p : progress_of old ≡ session_after_wraps old = sym (after_is old l v) in
     let t : s ≡ last_state old = i ∙ ap (λ (x : Progress). (x.so_far).state) p in
@@ -390,7 +441,10 @@ freeze_broke old new s e out reported frozen frozen' l v i k o f =
     )
 
 -- memory ran out before the frozen text was begun
-pub freeze_lacked : (old new : SessionState) (e : Stop) (out reported frozen frozen' : Option (List ℕ)) → IsOpen old → old.saved ≡ [] → e ≡ stops.Ended causes.OutOfMemory → new.over ≡ Some causes.OutOfMemory → frozen' ≡ frozen → FreezeGives old new (record { two = writers out out reported reported; frozen_old = frozen; frozen_new = frozen' }) (Err e)
+pub freeze_lacked : (old new : SessionState) (e : Stop) (out reported frozen frozen' : Option (List ℕ)) → IsOpen old
+    → old.saved ≡ [] → e ≡ stops.Ended causes.OutOfMemory → new.over ≡ Some causes.OutOfMemory → frozen' ≡ frozen
+    → FreezeGives old new
+      (record { two = writers out out reported reported; frozen_old = frozen; frozen_new = frozen' }) (Err e)
 freeze_lacked old new e out reported frozen frozen' l v k o f =
     subst (λ (x : Stop). FreezeGives old new (record { two = writers out out reported reported; frozen_old = frozen; frozen_new = frozen' }) (Err x)) (sym k)
     (broke_off true old new (writers out out reported reported) causes.OutOfMemory l v o refl (nothing_begun out _), f)

@@ -1,6 +1,7 @@
 -- Shifts: a run that goes on from a record does what the run from an empty record does, and larger
 -- limits change nothing.
-use Rattle.std.proofs.Common.{◌≡◌, ◌⊎◌, inl, inr, ⊎_elim, Option, ℕ, zero, suc, ◌+◌, ◌<◌, Bool, true, false, ◌&&◌, List, [], ◌∷◌, ◌++◌, Some, None, refl, sym, ap, ◌∙◌, subst, arith, append_assoc}
+use Rattle.std.proofs.Common.{◌≡◌, ◌⊎◌, inl, inr, ⊎_elim, Option, ℕ, zero, suc, ◌+◌, ◌<◌, Bool, true, false, ◌&&◌}
+use Rattle.std.proofs.Common.{List, [], ◌∷◌, ◌++◌, Some, None, refl, sym, ap, ◌∙◌, subst, arith, append_assoc}
 use Rattle.std.specs.Prelude.{nat_lt}
 use Rattle.std.proofs.lemmas.Bool.Decides.{nat_tests}
 use Rattle.m4_state.specs.declared.definition.Def.{Def}
@@ -17,11 +18,15 @@ use Rattle.m4_builtins.specs.Act.{needs_list}
 use Rattle.m4_engine.specs.declared.ending.Cause.{Cause}
 use Rattle.m4_engine.specs.declared.ending.Cause.TheVariants as causes
 use Rattle.m4_engine.specs.Nesting.{Turn, Halt, Close, GoOn, Bare, Opens, Outcome, Halted, Closed, then_on, after}
-use Rattle.m4_engine.specs.Expansion.{RunSoFar, Call, Mode, Outside, Collecting, Expansion, Kept, EndReason, Ends, Ended, place_at, with_message, with_call, reading, put_text}
+use Rattle.m4_engine.specs.Expansion.{RunSoFar, Call, Mode, Outside, Collecting, Expansion, Kept, EndReason, Ends}
+use Rattle.m4_engine.specs.Expansion.{Ended, place_at, with_message, with_call, reading, put_text}
 use Rattle.m4_engine.specs.declared.role.Role.{Role}
 use Rattle.m4_engine.specs.declared.role.Role.TheVariants.{Opening, Closing, Separator, Blank, Other}
 use Rattle.m4_engine.specs.Args.{with_argument, dropped_if_any, end_argument, role_of, take_closing, take_byte}
-use Rattle.m4_engine.specs.Expand.{skip_all, skip_line, skip_or_push, effected, acted_at, kept_of, after_call, called, join_by, join, call_of, bare, collect, call_unless_deep, is_deep, call_if_room, call, call_without_list, take_call, take_name, take_other, take_end, take_token, take_front, unended_cause, turn, size_of, calls_left, out_of_bound_at, expand}
+use Rattle.m4_engine.specs.Expand.{skip_all, skip_line, skip_or_push, effected, acted_at, kept_of, after_call, called}
+use Rattle.m4_engine.specs.Expand.{join_by, join, call_of, bare, collect, call_unless_deep, is_deep, call_if_room}
+use Rattle.m4_engine.specs.Expand.{call, call_without_list, take_call, take_name, take_other, take_end, take_token}
+use Rattle.m4_engine.specs.Expand.{take_front, unended_cause, turn, size_of, calls_left, out_of_bound_at, expand}
 use Rattle.std.specs.Prelude.{codes}
 use Rattle.std.specs.Fmt.{decimal}
 use Rattle.m4_builtins.specs.Messages.{error}
@@ -35,7 +40,11 @@ after_record o m c r = record r { output = o ++ r.output; messages = m ++ r.mess
 -- The first run goes on from output, messages and calls that were made before, and has the limits
 -- `calls` and `nesting`; the second starts with none, and its limits are as large or larger. `Limit`
 -- says at which ends nothing is claimed of the second: at those of a limit that is not the same.
-module _ (o m : List ℕ) (c calls calls' nesting nesting' : ℕ) (room : (k : ℕ) → c + k < calls → k < calls') (depth : (k : ℕ) → (nat_lt 0 nesting && nat_lt nesting k) ≡ false → (nat_lt 0 nesting' && nat_lt nesting' k) ≡ false) (Limit : EndReason → Type 0) (at_calls : Limit (Ends causes.ExpansionLimit) ⊎ ((c ≡ 0) × (calls ≡ calls'))) (at_nesting : Limit (Ends causes.NestingLimit) ⊎ (nesting ≡ nesting')) where
+module _ (o m : List ℕ) (c calls calls' nesting nesting' : ℕ) (room : (k : ℕ) → c + k < calls → k < calls')
+    (depth : (k : ℕ) → (nat_lt 0 nesting && nat_lt nesting k) ≡ false → (nat_lt 0 nesting' && nat_lt nesting' k)
+      ≡ false) (Limit : EndReason → Type 0)
+    (at_calls : Limit (Ends causes.ExpansionLimit) ⊎ ((c ≡ 0) × (calls ≡ calls')))
+    (at_nesting : Limit (Ends causes.NestingLimit) ⊎ (nesting ≡ nesting')) where
   abbrev pub B : Expansion → Expansion
   B s = record s { limits = record s.limits { calls = calls; nesting = nesting }; so_far = after_record o m c s.so_far }
 
@@ -129,7 +138,10 @@ module _ (o m : List ℕ) (c calls calls' nesting nesting' : ℕ) (room : (k : �
   unfolding Meets
   enter_meets true deep' listed k p s h g l =
       ⊎_elim (λ x. inl x)
-      (λ e. inr (let f = fails_after (codes "more than " ++ decimal nesting ++ codes " nested calls") (codes "more than " ++ decimal (s.limits).nesting ++ codes " nested calls") causes.NestingLimit k s.so_far (ap (λ n. codes "more than " ++ decimal n ++ codes " nested calls") (e ∙ sym l.1)) in (f.0, ap (λ d. call_unless_deep d listed k p s) (g refl e) ∙ f.1, f.2)))
+      (λ e. inr (let f = fails_after (codes "more than " ++ decimal nesting ++ codes " nested calls")
+          (codes "more than " ++ decimal (s.limits).nesting ++ codes " nested calls") causes.NestingLimit k s.so_far
+          (ap (λ n. codes "more than " ++ decimal n ++ codes " nested calls") (e ∙ sym l.1)) in
+          (f.0, ap (λ d. call_unless_deep d listed k p s) (g refl e) ∙ f.1, f.2)))
       at_nesting
   enter_meets false deep' listed k p s h g l = subst (λ d. Meets (call_unless_deep false listed k p (B s)) (call_unless_deep d listed k p s)) (sym (h refl)) (enter_list_meets listed k p s l)
 
@@ -143,7 +155,10 @@ module _ (o m : List ℕ) (c calls calls' nesting nesting' : ℕ) (room : (k : �
   unfolding Meets
   call_if_meets false r' listed k p s h g l =
       ⊎_elim (λ x. inl x)
-      (λ e. inr (let f = fails_after (codes "more than " ++ decimal calls ++ codes " calls") (codes "more than " ++ decimal (s.limits).calls ++ codes " calls") causes.ExpansionLimit k s.so_far (ap (λ n. codes "more than " ++ decimal n ++ codes " calls") (e.1 ∙ sym l.0)) in (f.0, ap (λ d. call_if_room d listed k p s) (g refl e.0 e.1) ∙ f.1, f.2)))
+      (λ e. inr (let f = fails_after (codes "more than " ++ decimal calls ++ codes " calls")
+          (codes "more than " ++ decimal (s.limits).calls ++ codes " calls") causes.ExpansionLimit k s.so_far
+          (ap (λ n. codes "more than " ++ decimal n ++ codes " calls") (e.1 ∙ sym l.0)) in
+          (f.0, ap (λ d. call_if_room d listed k p s) (g refl e.0 e.1) ∙ f.1, f.2)))
       at_calls
   call_if_meets true r' listed k p s h g l =
       subst (λ x. Meets (call_unless_deep (is_deep x) listed k p x) (call_if_room r' listed k p s)) (sym (count_follows s))

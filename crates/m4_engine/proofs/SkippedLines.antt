@@ -1,5 +1,6 @@
 -- SkippedLines: a line that is discarded in parts, as its bytes come.
-use Rattle.std.proofs.Common.{◌≡◌, ℕ, suc, ◌+◌, ◌-◌, Bool, true, false, List, [], ◌∷◌, ◌++◌, length, Option, Some, None, refl, sym, ap, ◌∙◌, subst, arith, length-append}
+use Rattle.std.proofs.Common.{◌≡◌, ℕ, suc, ◌+◌, ◌-◌, Bool, true, false, List, [], ◌∷◌, ◌++◌, length, Option, Some}
+use Rattle.std.proofs.Common.{None, refl, sym, ap, ◌∙◌, subst, arith, length-append}
 use Rattle.std.specs.Prelude.{◌==◌}
 use Rattle.m4_input.specs.Pending.{Pending, text_of, consumed, line_length, one_more}
 use Rattle.m4_input.specs.Input.{longer, all_read, all_read_if_ended, after_line_of, after_line}
@@ -7,7 +8,7 @@ use Rattle.m4_input.proofs.Consumed.{text-consumed, text_longer, consumed_longer
 use Rattle.m4_engine.specs.Nesting.{Closed}
 use Rattle.m4_engine.specs.Expansion.{Expansion, reading}
 use Rattle.m4_engine.specs.Expand.{skip_all, skip_line}
-use Rattle.m4_engine.specs.Engine.{MayFollow}
+use Rattle.m4_engine.specs.Turns.{MayFollow}
 use Rattle.m4_engine.proofs.Continues.{line_stays}
 use Rattle.m4_engine.proofs.Longer.{closed_same}
 

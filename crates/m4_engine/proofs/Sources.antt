@@ -1,5 +1,6 @@
 -- Sources: the effect of a session's call on a source, if its reader's bytes are known and the reader ends.
-use Rattle.std.proofs.Common.{◌≡◌, inl, inr, ℕ, Bool, true, false, List, [], ◌++◌, Option, Some, None, refl, sym, ap, ◌∙◌, subst, append-nil}
+use Rattle.std.proofs.Common.{◌≡◌, inl, inr, ℕ, Bool, true, false, List, [], ◌++◌, Option, Some, None, refl, sym, ap}
+use Rattle.std.proofs.Common.{◌∙◌, subst, append-nil}
 use Rattle.std.specs.Prelude.{Result, Ok, Err}
 use Rattle.m4_state.proofs.CallerLaws.{with_bytes-nil}
 use Rattle.m4_state.specs.Device.{Script, after_bytes, IsAtEnd, with_bytes, HasBegun}
@@ -16,8 +17,11 @@ use Rattle.m4_engine.proofs.Continues.{law}
 use Rattle.m4_engine.specs.File.{Source, Opened, Unopened, Progress, file, file_pending, after_source, cannot_open}
 use Rattle.m4_engine.specs.declared.source.Source.{Source as RunSource}
 use Rattle.m4_engine.specs.declared.source.Source.TheVariants as sources
-use Rattle.m4_engine.specs.RunSources.{whole, opened_source, ExtendsRead, ExtendsOpened, script_of, DescribesSource, ConsumesOnly}
-use Rattle.m4_engine.specs.Session.{SessionState, progress_of, IsOpen, Completed, Interrupted, how_over, FileDone, FileRead, FileEnded, FileBroke, FileFell, settled_part, FileGives, MissingGives, BrokeOff, GoesTo}
+use Rattle.m4_engine.specs.RunSources.{whole, opened_source, ExtendsRead, ExtendsOpened, script_of, DescribesSource}
+use Rattle.m4_engine.specs.RunSources.{ConsumesOnly}
+use Rattle.m4_engine.specs.Session.{SessionState, progress_of, IsOpen, Completed, Interrupted, how_over, FileDone}
+use Rattle.m4_engine.specs.Session.{FileRead, FileEnded, FileBroke, FileFell, settled_part, FileGives, MissingGives}
+use Rattle.m4_engine.specs.Session.{BrokeOff, GoesTo}
 use Rattle.m4_engine.specs.Writers.{Contents, Broken}
 use Rattle.std.proofs.lemmas.List.{append_cancel_right}
 use Rattle.m4_engine.proofs.Begins.{nothing_begun}
@@ -144,7 +148,11 @@ opened_goes old new name before after w (Err (stops.Ended causes.ExpansionLimit)
 opened_goes old new name before after w (Err (stops.Ended causes.NestingLimit)) s l t h = ended_goes old new name before after w s causes.NestingLimit t h
 opened_goes old new name before after w (Err (stops.Ended (causes.Frozen f))) s l t h = absurd h
 
-pub opened_described : {R : Type 0} (script : R → Option Script) (old new : SessionState) (name : List ℕ) (before later : R) (first after : RunSource R) (w : Contents) (r : Result Unit Stop) (s : Source) → first ≡ sources.Opened name before → after ≡ sources.Opened name later → IsOpen old → DescribesSource script first after s → FileGives name (script before) (script later) old new w r → GoesTo (after_source old.limits s (progress_of old)) old new w r
+pub opened_described : {R : Type 0} (script : R → Option Script) (old new : SessionState) (name : List ℕ)
+    (before later : R) (first after : RunSource R) (w : Contents) (r : Result Unit Stop) (s : Source)
+    → first ≡ sources.Opened name before → after ≡ sources.Opened name later → IsOpen old
+    → DescribesSource script first after s → FileGives name (script before) (script later) old new w r
+    → GoesTo (after_source old.limits s (progress_of old)) old new w r
 opened_described script old new name before later first after w r s f b l t h =
     let k : DescribesSource script (sources.Opened name before) (sources.Opened name later) s = subst (λ x. DescribesSource script x (sources.Opened name later) s) f (subst (λ x. DescribesSource script first x s) b t) in
     opened_goes old new name (script before) (script later) w r s l (described_suit script name before (sources.Opened name later) s k) h
@@ -192,7 +200,11 @@ unopened_is : {R : Type 0} (script : R → Option Script) (name : List ℕ) (aft
 unopened_is script name after s (inl t) = let e : Unopened name ≡ s = cc in e
 unopened_is script name after s (inr m) = sym m
 
-pub unopened_described : {R : Type 0} (script : R → Option Script) (old new : SessionState) (name : List ℕ) (first after : RunSource R) (w : Contents) (r : Result Unit Stop) (s : Source) → first ≡ sources.Unopened name → IsOpen old → DescribesSource script first after s → w.out_new ≡ w.out_old → MissingGives name old new w.messages_old w.messages_new r → GoesTo (after_source old.limits s (progress_of old)) old new w r
+pub unopened_described : {R : Type 0} (script : R → Option Script) (old new : SessionState) (name : List ℕ)
+    (first after : RunSource R) (w : Contents) (r : Result Unit Stop) (s : Source) → first ≡ sources.Unopened name
+    → IsOpen old → DescribesSource script first after s → w.out_new ≡ w.out_old
+    → MissingGives name old new w.messages_old w.messages_new r
+    → GoesTo (after_source old.limits s (progress_of old)) old new w r
 unopened_described script old new name first after w r s f l t o h =
     let k : DescribesSource script (sources.Unopened name) after s = subst (λ x. DescribesSource script x after s) f t in
     subst (λ (s : Source). GoesTo (after_source old.limits s (progress_of old)) old new w r) (unopened_is script name after s k) (missing_goes old new name w r l o h)

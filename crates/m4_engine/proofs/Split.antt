@@ -1,5 +1,6 @@
 -- Split: a run that stops at a frozen file, and the one that goes on from it, are one run.
-use Rattle.std.proofs.Common.{◌≡◌, ◌≢◌, inl, inr, Option, ℕ, suc, ◌+◌, ◌<◌, Bool, true, false, List, [], ◌∷◌, ◌++◌, Some, None, refl, sym, ap, ◌∙◌, subst, arith, append_assoc, append-nil}
+use Rattle.std.proofs.Common.{◌≡◌, ◌≢◌, inl, inr, Option, ℕ, suc, ◌+◌, ◌<◌, Bool, true, false, List, [], ◌∷◌, ◌++◌}
+use Rattle.std.proofs.Common.{Some, None, refl, sym, ap, ◌∙◌, subst, arith, append_assoc, append-nil}
 use Rattle.m4_state.specs.State.{State}
 use Rattle.m4_frozen.specs.Freeze.{freeze}
 use Rattle.m4_engine.specs.declared.options.Options.{Options}
@@ -8,7 +9,8 @@ use Rattle.m4_engine.specs.Expansion.{RunSoFar, Limits, EndReason, Ends}
 use Rattle.m4_engine.specs.File.{Source, Progress, over_of, after_sources}
 use Rattle.m4_engine.specs.Wraps.{next_round, rounds, after_wraps, close}
 use Rattle.m4_engine.specs.Start.{Start, From, Faulty, begun}
-use Rattle.m4_engine.specs.Run.{RunResult, limits_of, closed_output, result_by, result_of, saved_unless_over, saved_after, run_from}
+use Rattle.m4_engine.specs.Run.{RunResult, limits_of, closed_output, result_by, result_of, saved_unless_over}
+use Rattle.m4_engine.specs.Run.{saved_after, run_from}
 use Rattle.m4_engine.specs.Carries.{Carries, frozen_state}
 use Rattle.m4_engine.specs.Joined.{freezing, Joins}
 use Rattle.m4_engine.proofs.OnePass.{over_wraps, sources_append}
@@ -119,7 +121,11 @@ saved_of_both limits r None q = refl
 saved_of_both limits r (Some h) q = refl
 
 -- a joint run's are those of the run that goes on
-same_saved : (limits : Limits) (freezes : Bool) (as' bs : List Source) (saved : List (List ℕ)) (r : RunSoFar) (p q : Progress) → saved_after as' p ≡ [] → PrefixedRun limits r (after_sources limits bs p) (after_sources limits bs q) → (result_of freezes saved (after_wraps limits (after_sources limits bs p))).reason ≢ Ends causes.ExpansionLimit → saved_after (as' ++ bs) (after_sources limits bs p) ≡ saved_after bs (after_sources limits bs q)
+same_saved : (limits : Limits) (freezes : Bool) (as' bs : List Source) (saved : List (List ℕ)) (r : RunSoFar)
+    (p q : Progress) → saved_after as' p ≡ []
+    → PrefixedRun limits r (after_sources limits bs p) (after_sources limits bs q)
+    → (result_of freezes saved (after_wraps limits (after_sources limits bs p))).reason ≢ Ends causes.ExpansionLimit
+    → saved_after (as' ++ bs) (after_sources limits bs p) ≡ saved_after bs (after_sources limits bs q)
 same_saved limits freezes as' [] saved r p q nothing after n = ap (λ (x : List Source). saved_after x p) (append-nil as') ∙ nothing
 same_saved limits freezes as' (b ∷ bs) saved r p q nothing (inl h) n =
     let j : Progress = after_sources limits (b ∷ bs) p in
@@ -132,18 +138,31 @@ same_saved limits freezes as' (b ∷ bs) saved r p q nothing (inr e) n =
     ∙ saved_of_both limits r k.over k.so_far
 
 -- the results of the three runs
-results_join : (freezes : Bool) (saved saved' saved'' : List (List ℕ)) (r : RunSoFar) (v : Option EndReason) (q : RunSoFar) (any_missing : Bool) → saved'' ≡ saved' → Joins (first_result saved r) (result_by v freezes saved' q any_missing) (result_by v freezes saved'' (record q { output = r.output ++ q.output; messages = r.messages ++ q.messages; calls = r.calls + q.calls }) any_missing)
+results_join : (freezes : Bool) (saved saved' saved'' : List (List ℕ)) (r : RunSoFar) (v : Option EndReason)
+    (q : RunSoFar) (any_missing : Bool) → saved'' ≡ saved'
+    → Joins (first_result saved r) (result_by v freezes saved' q any_missing)
+      (result_by v freezes saved''
+        (record q { output = r.output ++ q.output; messages = r.messages ++ q.messages; calls = r.calls + q.calls })
+        any_missing)
 unfolding first_result
 results_join freezes saved saved' saved'' r None q any_missing same = record { output = output_joins freezes r q; messages = refl; reason = refl; status = refl; frozen = refl; calls = refl; saved = same }
 results_join freezes saved saved' saved'' r (Some h) q any_missing same = record { output = refl; messages = refl; reason = refl; status = refl; frozen = refl; calls = refl; saved = same }
 
-joined_results : (limits : Limits) (freezes : Bool) (saved saved' saved'' : List (List ℕ)) (r : RunSoFar) (j b : Progress) → PrefixedRun limits r j b → saved'' ≡ saved' → (result_of freezes saved'' j).reason ≢ Ends causes.ExpansionLimit → Joins (first_result saved r) (result_of freezes saved' b) (result_of freezes saved'' j)
+joined_results : (limits : Limits) (freezes : Bool) (saved saved' saved'' : List (List ℕ)) (r : RunSoFar)
+    (j b : Progress) → PrefixedRun limits r j b → saved'' ≡ saved'
+    → (result_of freezes saved'' j).reason ≢ Ends causes.ExpansionLimit
+    → Joins (first_result saved r) (result_of freezes saved' b) (result_of freezes saved'' j)
 joined_results limits freezes saved saved' saved'' r j b (inl h) same n = absurd (n (over_how j.over h.0 freezes saved'' j.so_far j.any_missing h.1 ∙ opened limits h.0 h.2))
 joined_results limits freezes saved saved' saved'' r j b (inr e) same n =
     subst (λ (x : Progress). Joins (first_result saved r) (result_of freezes saved' b) (result_of freezes saved'' x)) (sym e)
     (results_join freezes saved saved' saved'' r b.over b.so_far b.any_missing same)
 
-pub split_states : (o : Options) (freezes : Bool) (start : Start) (as' bs : List Source) (text : List ℕ) → Carries (freezing true o) start as' → (run_from (freezing true o) start as').frozen ≡ Some text → (run_from (freezing freezes o) start (as' ++ bs)).reason ≢ Ends causes.ExpansionLimit → Joins (run_from (freezing true o) start as') (run_from (freezing freezes o) (From (frozen_state (freezing true o) start as') []) bs) (run_from (freezing freezes o) start (as' ++ bs))
+pub split_states : (o : Options) (freezes : Bool) (start : Start) (as' bs : List Source) (text : List ℕ)
+    → Carries (freezing true o) start as' → (run_from (freezing true o) start as').frozen ≡ Some text
+    → (run_from (freezing freezes o) start (as' ++ bs)).reason ≢ Ends causes.ExpansionLimit
+    → Joins (run_from (freezing true o) start as')
+      (run_from (freezing freezes o) (From (frozen_state (freezing true o) start as') []) bs)
+      (run_from (freezing freezes o) start (as' ++ bs))
 unfolding first_result
 split_states o freezes start as' bs text carries frozen joint =
     let limits : Limits = limits_of o in

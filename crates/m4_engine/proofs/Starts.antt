@@ -1,5 +1,6 @@
 -- Starts: a run after its start: what the start issues is written first.
-use Rattle.std.proofs.Common.{◌≡◌, ◌⊎◌, inl, inr, ℕ, Bool, false, List, [], ◌∷◌, ◌++◌, Option, Some, None, refl, sym, ap, ◌∙◌, subst, append-nil}
+use Rattle.std.proofs.Common.{◌≡◌, ◌⊎◌, inl, inr, ℕ, Bool, false, List, [], ◌∷◌, ◌++◌, Option, Some, None, refl, sym}
+use Rattle.std.proofs.Common.{ap, ◌∙◌, subst, append-nil}
 use Rattle.std.specs.Prelude.{◌≢◌, IfSome, IfOk, IfErr, OnOk, Result, Ok, Err}
 use Rattle.m4_state.proofs.CallerLaws.{with_bytes-append, with_bytes-nil}
 use Rattle.m4_state.specs.State.{State}
@@ -22,10 +23,15 @@ use Rattle.m4_engine.specs.Expansion.{Limits, EndReason, Ends, RunSoFar}
 use Rattle.m4_engine.specs.File.{Source, Progress, after_sources}
 use Rattle.m4_engine.specs.Start.{Start, From, Faulty, start_of, begun}
 use Rattle.m4_engine.specs.Wraps.{after_wraps}
-use Rattle.m4_engine.specs.Run.{RunResult, limits_of, result_by, result_of, saved_after, saved_unless_over, status_of, run_from}
-use Rattle.m4_engine.specs.Session.{SessionState, progress_of, session_from, fresh_session, AreReloaded, ReloadGives, BeginGives, IsBegun, IsOpen, IsLeft, EndGives, CloseGives, ReloadFails, BeginFails, ByAnswer, MessageWriteFails, SparesBy, status_after}
-use Rattle.m4_engine.specs.RunSources.{AllPairs, is_sound, ReadersFailBy, DescribesFrozen, frozen_fails, FrozenFailsBy, IsUnrefused}
-use Rattle.m4_engine.specs.WholeRun.{WroteAll, WrotePrefix, GivesBy, RefusedBy, HasFrozen, FrozenBegan, FrozenBy, RunGives, NothingIsDone, result_after, ending_by}
+use Rattle.m4_engine.specs.Run.{RunResult, limits_of, result_by, result_of, saved_after, saved_unless_over, status_of}
+use Rattle.m4_engine.specs.Run.{run_from}
+use Rattle.m4_engine.specs.Session.{SessionState, progress_of, session_from, fresh_session, AreReloaded, ReloadGives}
+use Rattle.m4_engine.specs.Session.{BeginGives, IsBegun, IsOpen, IsLeft, EndGives, CloseGives, status_after}
+use Rattle.m4_engine.specs.SessionFailures.{ReloadFails, BeginFails, ByAnswer, MessageWriteFails, SparesBy}
+use Rattle.m4_engine.specs.RunSources.{AllPairs, is_sound, ReadersFailBy, DescribesFrozen, frozen_fails}
+use Rattle.m4_engine.specs.RunSources.{FrozenFailsBy, IsUnrefused}
+use Rattle.m4_engine.specs.WholeRun.{WroteAll, WrotePrefix, GivesBy, RefusedBy, HasFrozen, FrozenBegan, FrozenBy}
+use Rattle.m4_engine.specs.WholeRun.{RunGives, NothingIsDone, result_after, ending_by}
 use Rattle.m4_engine.specs.Writers.{Contents, Three, writers, ByCause, NoneOfThree, OneOfThree, IsSpared, Spares}
 use Rattle.m4_engine.proofs.Begins.{nothing_begun, begun_after}
 use Rattle.m4_engine.proofs.OnePass.{over_sources, over_wraps}
@@ -151,7 +157,13 @@ module _ (x : List ℕ) (r : RunResult) (out0 out1 out2 reported reported' froze
   issued_gives d h = record { gives = gives d.cause d h.gives; frozen = froze d.cause h.frozen }
 
 -- a run that began
-pub begun_gives : (o : Options) (start : Start) (ss : List Source) (s : SessionState) (st : Result SessionState Stop) (d x : Ending) (out0 out1 out2 reported reported' frozen frozen' : Option (List ℕ)) → st ≡ Ok s → d ≡ x → BeginGives start o out0 out1 st → RunGives (result_after o.freeze s.limits ss (after_sources s.limits ss (progress_of s))) x (record { two = writers out1 out2 reported reported'; frozen_old = frozen; frozen_new = frozen' }) → RunGives (run_from o start ss) d (record { two = writers out0 out2 reported reported'; frozen_old = frozen; frozen_new = frozen' })
+pub begun_gives : (o : Options) (start : Start) (ss : List Source) (s : SessionState) (st : Result SessionState Stop)
+    (d x : Ending) (out0 out1 out2 reported reported' frozen frozen' : Option (List ℕ)) → st ≡ Ok s → d ≡ x
+    → BeginGives start o out0 out1 st
+    → RunGives (result_after o.freeze s.limits ss (after_sources s.limits ss (progress_of s))) x
+      (record { two = writers out1 out2 reported reported'; frozen_old = frozen; frozen_new = frozen' })
+    → RunGives (run_from o start ss) d
+      (record { two = writers out0 out2 reported reported'; frozen_old = frozen; frozen_new = frozen' })
 begun_gives o start ss s st d x out0 out1 out2 reported reported' frozen frozen' i j b h =
     let k = subst (BeginGives start o out0 out1) i b in
     let v : Three (Option (List ℕ)) = record { two = writers out1 out2 reported reported'; frozen_old = frozen; frozen_new = frozen' } in
@@ -164,7 +176,10 @@ begun_gives o start ss s st d x out0 out1 out2 reported reported' frozen frozen'
     (issued_gives k.1 r out0 out1 out2 reported reported' frozen frozen' k.4 x g))
 
 -- the state that such a run freezes
-pub begun_state : (P : State → Type 0) (o : Options) (start : Start) (ss : List Source) (s : SessionState) (st : Result SessionState Stop) (out0 out1 : Option (List ℕ)) → st ≡ Ok s → BeginGives start o out0 out1 st → P ((after_wraps s.limits (after_sources s.limits ss (progress_of s))).so_far).state → P (frozen_state o start ss)
+pub begun_state : (P : State → Type 0) (o : Options) (start : Start) (ss : List Source) (s : SessionState)
+    (st : Result SessionState Stop) (out0 out1 : Option (List ℕ)) → st ≡ Ok s → BeginGives start o out0 out1 st
+    → P ((after_wraps s.limits (after_sources s.limits ss (progress_of s))).so_far).state
+    → P (frozen_state o start ss)
 begun_state P o start ss s st out0 out1 i b h =
     let k = subst (BeginGives start o out0 out1) i b in
     let limits : Limits = limits_of o in
@@ -188,7 +203,11 @@ faulty_is o fault ss =
     ∙ ap (result_of o.freeze []) (over_wraps (limits_of o) p (Ends (causes.Frozen fault)) refl)
 
 -- it wrote nothing
-faulty_wrote : (o : Options) (start : Start) (fault : FrozenFault) (ss : List Source) (out out' reported : Option (List ℕ)) → out' ≡ out → start ≡ Faulty fault → WroteAll (run_from o start ss) (ending_by (status_after (stops.Ended (causes.Frozen fault))) (Err (stops.Ended (causes.Frozen fault)))) (writers out out' reported reported)
+faulty_wrote : (o : Options) (start : Start) (fault : FrozenFault) (ss : List Source)
+    (out out' reported : Option (List ℕ)) → out' ≡ out → start ≡ Faulty fault
+    → WroteAll (run_from o start ss)
+      (ending_by (status_after (stops.Ended (causes.Frozen fault))) (Err (stops.Ended (causes.Frozen fault))))
+      (writers out out' reported reported)
 faulty_wrote o start fault ss out out' reported i e =
     subst (λ (y : RunResult). WroteAll y (ending_by (status_after (stops.Ended (causes.Frozen fault))) (Err (stops.Ended (causes.Frozen fault)))) (writers out out' reported reported))
     (sym (ap (λ (y : Start). run_from o y ss) e ∙ faulty_is o fault ss)) (record {
@@ -216,7 +235,12 @@ fell_issuing o start ss d out out' reported s x w e h =
       messages = nothing_begun reported r.messages;
     })
 
-refused_gives : (k : FrozenKind) (o : Options) (start : Start) (fault : FrozenFault) (ss : List Source) (out out' reported : Option (List ℕ)) → fault.kind ≡ k → out' ≡ out → (fault.kind ≢ kinds.OutOfMemory → start ≡ Faulty fault) → RefusedBy k (run_from o start ss) (ending_by (status_after (stops.Ended (causes.Frozen fault))) (Err (stops.Ended (causes.Frozen fault)))) (writers out out' reported reported)
+refused_gives : (k : FrozenKind) (o : Options) (start : Start) (fault : FrozenFault) (ss : List Source)
+    (out out' reported : Option (List ℕ)) → fault.kind ≡ k → out' ≡ out
+    → (fault.kind ≢ kinds.OutOfMemory → start ≡ Faulty fault)
+    → RefusedBy k (run_from o start ss)
+      (ending_by (status_after (stops.Ended (causes.Frozen fault))) (Err (stops.Ended (causes.Frozen fault))))
+      (writers out out' reported reported)
 refused_gives kinds.NoVersion o start fault ss out out' reported e i h = faulty_wrote o start fault ss out out' reported i (h (λ x. cc))
 refused_gives kinds.Newer o start fault ss out out' reported e i h = faulty_wrote o start fault ss out out' reported i (h (λ x. cc))
 refused_gives kinds.VersionZero o start fault ss out out' reported e i h = faulty_wrote o start fault ss out out' reported i (h (λ x. cc))
@@ -230,7 +254,10 @@ refused_gives kinds.Read o start fault ss out out' reported e i h = faulty_wrote
 refused_gives kinds.OutOfMemory o start fault ss out out' reported e i h = fell_silent _ _ out out' reported refl i
 
 -- a run that did not begin
-never_by : (o : Options) (start : Start) (ss : List Source) (e : Stop) (out out' reported frozen : Option (List ℕ)) → BeginGives start o out out' (Err e) → RunGives (run_from o start ss) (ending_by (status_after e) (Err e)) (record { two = writers out out' reported reported; frozen_old = frozen; frozen_new = frozen })
+never_by : (o : Options) (start : Start) (ss : List Source) (e : Stop) (out out' reported frozen : Option (List ℕ))
+    → BeginGives start o out out' (Err e)
+    → RunGives (run_from o start ss) (ending_by (status_after e) (Err e))
+      (record { two = writers out out' reported reported; frozen_old = frozen; frozen_new = frozen })
 never_by o start ss stops.Finished out out' reported frozen h = absurd h
 never_by o start ss (stops.Ended causes.Done) out out' reported frozen h = absurd h
 never_by o start ss (stops.Ended (causes.Exited n)) out out' reported frozen h = absurd h
@@ -244,7 +271,11 @@ never_by o start ss (stops.Ended (causes.Frozen fault)) out out' reported frozen
 never_by o start ss (stops.Ended causes.Write) out out' reported frozen h = record { gives = fell_issuing o start ss _ out out' reported h.0 h.1 refl h.2 h.3; frozen = inl refl }
 never_by o start ss (stops.Ended causes.OutOfMemory) out out' reported frozen h = record { gives = fell_silent _ _ out out' reported refl h; frozen = refl }
 
-pub never_gives : (o : Options) (start : Start) (ss : List Source) (st : Result SessionState Stop) (e : Stop) (n : ℕ) (d : Ending) (out out' reported frozen : Option (List ℕ)) → st ≡ Err e → n ≡ status_after e → d ≡ ending_by n (Err e) → BeginGives start o out out' st → RunGives (run_from o start ss) d (record { two = writers out out' reported reported; frozen_old = frozen; frozen_new = frozen })
+pub never_gives : (o : Options) (start : Start) (ss : List Source) (st : Result SessionState Stop) (e : Stop) (n : ℕ)
+    (d : Ending) (out out' reported frozen : Option (List ℕ)) → st ≡ Err e → n ≡ status_after e
+    → d ≡ ending_by n (Err e) → BeginGives start o out out' st
+    → RunGives (run_from o start ss) d
+      (record { two = writers out out' reported reported; frozen_old = frozen; frozen_new = frozen })
 never_gives o start ss st e n d out out' reported frozen i m j h =
     subst (λ (y : Ending). RunGives (run_from o start ss) y (record { two = writers out out' reported reported; frozen_old = frozen; frozen_new = frozen }))
     (sym (j ∙ ap (λ (k : ℕ). ending_by k (Err e)) m))
@@ -265,7 +296,11 @@ begun_cause o (stops.Ended (causes.Frozen fault)) h = (causes.Frozen fault, refl
 begun_cause o (stops.Ended causes.Write) h = (causes.Write, refl, λ x. cc, λ x. cc)
 begun_cause o (stops.Ended causes.OutOfMemory) h = (causes.OutOfMemory, refl, λ x. cc, λ x. cc)
 
-never_is : (o : Options) (st : Result SessionState Stop) (e : Stop) (n : ℕ) (d : Ending) → st ≡ Err e → n ≡ status_after e → d ≡ ending_by n (Err e) → IsBegun o st → (cause : Cause) × (st ≡ Err (stops.Ended cause)) × (d ≡ record { status = status_of (Ends cause) false; cause = cause; wrapped = false }) × (cause ≢ causes.Done) × (cause ≢ causes.Read)
+never_is : (o : Options) (st : Result SessionState Stop) (e : Stop) (n : ℕ) (d : Ending) → st ≡ Err e
+    → n ≡ status_after e → d ≡ ending_by n (Err e) → IsBegun o st
+    → (cause : Cause) × (st ≡ Err (stops.Ended cause))
+      × (d ≡ record { status = status_of (Ends cause) false; cause = cause; wrapped = false }) × (cause ≢ causes.Done)
+      × (cause ≢ causes.Read)
 never_is o st e n d i m j h =
     let k = begun_cause o e (subst (IsBegun o) i h) in (
       k.0,
@@ -285,7 +320,10 @@ sound_by : {R : Type 0} (failures : R → ℕ) (xs ys : List (RunSource R)) (cau
 sound_by failures xs ys causes.Read n a = absurd (n refl)
 sound_by failures xs ys cause n a = a
 
-pub never_read : {R : Type 0} (failures : R → ℕ) (xs ys : List (RunSource R)) (o : Options) (st : Result SessionState Stop) (e : Stop) (n : ℕ) (d : Ending) → st ≡ Err e → n ≡ status_after e → d ≡ ending_by n (Err e) → IsBegun o st → AllPairs (is_sound failures) xs ys → ReadersFailBy failures d.cause xs ys
+pub never_read : {R : Type 0} (failures : R → ℕ) (xs ys : List (RunSource R)) (o : Options)
+    (st : Result SessionState Stop) (e : Stop) (n : ℕ) (d : Ending) → st ≡ Err e → n ≡ status_after e
+    → d ≡ ending_by n (Err e) → IsBegun o st → AllPairs (is_sound failures) xs ys
+    → ReadersFailBy failures d.cause xs ys
 never_read failures xs ys o st e n d i m j h a =
     let k = never_is o st e n d i m j h in
     subst (λ (y : Ending). ReadersFailBy failures y.cause xs ys) (sym k.2) (sound_by failures xs ys k.0 k.4 a)
@@ -308,7 +346,11 @@ never_frozen failures xs ys o st e n d i m j h a =
     (never_frozen_by failures xs ys k.0 (subst (λ (y : Result SessionState Stop). BeginFails failures y xs ys) k.1 a))
 
 -- the writers
-written_by : (cause : Cause) (old new reported frozen : ℕ) (w : Three (Option (List ℕ))) → IsSpared w → ByCause cause (new ≡ old) (new ≡ one_more old) → ByCause cause (NoneOfThree (record { two = writers old new reported reported; frozen_old = frozen; frozen_new = frozen })) (OneOfThree (record { two = writers old new reported reported; frozen_old = frozen; frozen_new = frozen }) w)
+written_by : (cause : Cause) (old new reported frozen : ℕ) (w : Three (Option (List ℕ))) → IsSpared w
+    → ByCause cause (new ≡ old) (new ≡ one_more old)
+    → ByCause cause
+      (NoneOfThree (record { two = writers old new reported reported; frozen_old = frozen; frozen_new = frozen }))
+      (OneOfThree (record { two = writers old new reported reported; frozen_old = frozen; frozen_new = frozen }) w)
 written_by causes.Write old new reported frozen w s h = inl (inl (h, refl), refl, s)
 written_by causes.Done old new reported frozen w s h = ((h, refl), refl)
 written_by (causes.Exited n) old new reported frozen w s h = ((h, refl), refl)
@@ -321,7 +363,12 @@ written_by (causes.Frozen f) old new reported frozen w s h = ((h, refl), refl)
 written_by causes.Read old new reported frozen w s h = ((h, refl), refl)
 written_by causes.OutOfMemory old new reported frozen w s h = ((h, refl), refl)
 
-pub never_wrote : (o : Options) (st : Result SessionState Stop) (e : Stop) (n : ℕ) (d : Ending) (old new reported frozen : ℕ) (w : Three (Option (List ℕ))) → st ≡ Err e → n ≡ status_after e → d ≡ ending_by n (Err e) → IsBegun o st → IsSpared w → MessageWriteFails st old new → ByCause d.cause (NoneOfThree (record { two = writers old new reported reported; frozen_old = frozen; frozen_new = frozen })) (OneOfThree (record { two = writers old new reported reported; frozen_old = frozen; frozen_new = frozen }) w)
+pub never_wrote : (o : Options) (st : Result SessionState Stop) (e : Stop) (n : ℕ) (d : Ending)
+    (old new reported frozen : ℕ) (w : Three (Option (List ℕ))) → st ≡ Err e → n ≡ status_after e
+    → d ≡ ending_by n (Err e) → IsBegun o st → IsSpared w → MessageWriteFails st old new
+    → ByCause d.cause
+      (NoneOfThree (record { two = writers old new reported reported; frozen_old = frozen; frozen_new = frozen }))
+      (OneOfThree (record { two = writers old new reported reported; frozen_old = frozen; frozen_new = frozen }) w)
 never_wrote o st e n d old new reported frozen w i m j h s t =
     let k = never_is o st e n d i m j h in
     let f : Three ℕ = record { two = writers old new reported reported; frozen_old = frozen; frozen_new = frozen } in
@@ -334,7 +381,12 @@ spares_any causes.Write w s = tt
 spares_any cause w s = s
 
 -- nothing was read or written where the frozen file was refused
-pub never_done : {S : Type 0} (sources : S) (o : Options) (st : Result SessionState Stop) (e : Stop) (n : ℕ) (d : Ending) (fault : FrozenFault) (out out' reported frozen : Option (List ℕ)) → st ≡ Err e → n ≡ status_after e → d ≡ ending_by n (Err e) → IsBegun o st → d.cause ≡ causes.Frozen fault → (st ≡ Err (stops.Ended (causes.Frozen fault)) → out' ≡ out) → NothingIsDone sources sources (record { two = writers out out' reported reported; frozen_old = frozen; frozen_new = frozen })
+pub never_done : {S : Type 0} (sources : S) (o : Options) (st : Result SessionState Stop) (e : Stop) (n : ℕ)
+    (d : Ending) (fault : FrozenFault) (out out' reported frozen : Option (List ℕ)) → st ≡ Err e → n ≡ status_after e
+    → d ≡ ending_by n (Err e) → IsBegun o st → d.cause ≡ causes.Frozen fault
+    → (st ≡ Err (stops.Ended (causes.Frozen fault)) → out' ≡ out)
+    → NothingIsDone sources sources
+      (record { two = writers out out' reported reported; frozen_old = frozen; frozen_new = frozen })
 never_done sources o st e n d fault out out' reported frozen i m j h c s =
     let k = never_is o st e n d i m j h in
     let f : k.0 ≡ causes.Frozen fault = sym (ap (λ (y : Ending). y.cause) k.2) ∙ c in
@@ -373,7 +425,9 @@ begun_frozen_by failures None (Some y) s cause n h = absurd h
 begun_frozen_by failures (Some x) None s cause n h = absurd h
 begun_frozen_by failures (Some x) (Some y) s cause n h = frozen_same cause (failures x) (failures y) n h
 
-pub begun_frozen : {R : Type 0} (failures : R → ℕ) (xs ys : Option R) (s : SessionState) (st : Result SessionState Stop) (new : SessionState) (n : ℕ) (r : Result Bool Stop) (d : Ending) → st ≡ Ok s → d ≡ ending_by n r → IsLeft new r → BeginFails failures st xs ys → FrozenFailsBy failures d.cause xs ys
+pub begun_frozen : {R : Type 0} (failures : R → ℕ) (xs ys : Option R) (s : SessionState)
+    (st : Result SessionState Stop) (new : SessionState) (n : ℕ) (r : Result Bool Stop) (d : Ending) → st ≡ Ok s
+    → d ≡ ending_by n r → IsLeft new r → BeginFails failures st xs ys → FrozenFailsBy failures d.cause xs ys
 begun_frozen failures xs ys s st new n r d i j l h =
     begun_frozen_by failures xs ys s d.cause (λ fault c. not_refused new n r d fault j l c) (subst (λ (y : Result SessionState Stop). BeginFails failures y xs ys) i h)
 
@@ -404,7 +458,10 @@ spared_by n (Ok wrapped) two two' frozen frozen' h = tt
 spared_by n (Err stops.Finished) two two' frozen frozen' h = tt
 spared_by n (Err (stops.Ended cause)) two two' frozen frozen' h = spared_answer cause two two' frozen frozen' h
 
-pub ended_spared : (n : ℕ) (r : Result Bool Stop) (d : Ending) (two two' : Contents) (frozen frozen' : Option (List ℕ)) → d ≡ ending_by n r → SparesBy r (record { two = two; frozen_old = frozen; frozen_new = frozen' }) → Spares d.cause (record { two = two'; frozen_old = frozen; frozen_new = frozen' })
+pub ended_spared : (n : ℕ) (r : Result Bool Stop) (d : Ending) (two two' : Contents)
+    (frozen frozen' : Option (List ℕ)) → d ≡ ending_by n r
+    → SparesBy r (record { two = two; frozen_old = frozen; frozen_new = frozen' })
+    → Spares d.cause (record { two = two'; frozen_old = frozen; frozen_new = frozen' })
 ended_spared n r d two two' frozen frozen' j h = subst (λ (y : Ending). Spares y.cause (record { two = two'; frozen_old = frozen; frozen_new = frozen' })) (sym j) (spared_by n r two two' frozen frozen' h)
 
 done_answer : (new : SessionState) (n : ℕ) (r : Result Bool Stop) → IsLeft new r → (ending_by n r).cause ≡ causes.Done → (b : Bool) × (r ≡ Ok b)
@@ -450,7 +507,10 @@ reload_by o script out out' (Err (stops.Ended (causes.Frozen fault))) h = (h.0, 
 reload_by o script out out' (Err (stops.Ended causes.Write)) h = (h.0, h.1, sym (is_start o.prefix (Some script) (From h.0 h.1) h.2), h.3)
 reload_by o script out out' (Err (stops.Ended causes.OutOfMemory)) h = absurd h
 
-pub reload_begins : {R : Type 0} (tells : R → Option Script) (reader : R) (frozen : Option R) (o : Options) (file : Option Script) (out out' : Option (List ℕ)) (st : Result SessionState Stop) → frozen ≡ Some reader → DescribesFrozen tells frozen file → ReloadGives o (tells reader) out out' st → BeginGives (start_of o.prefix file) o out out' st
+pub reload_begins : {R : Type 0} (tells : R → Option Script) (reader : R) (frozen : Option R) (o : Options)
+    (file : Option Script) (out out' : Option (List ℕ)) (st : Result SessionState Stop) → frozen ≡ Some reader
+    → DescribesFrozen tells frozen file → ReloadGives o (tells reader) out out' st
+    → BeginGives (start_of o.prefix file) o out out' st
 reload_begins tells reader frozen o file out out' st i t h =
     let k = subst (λ (y : Option _). DescribesFrozen tells y file) i t in
     subst (λ (y : Option Script). BeginGives (start_of o.prefix y) o out out' st) (sym k.2)
@@ -479,7 +539,10 @@ fresh_by : (o : Options) (out : Option (List ℕ)) (st : Result SessionState Sto
 fresh_by o out (Ok s) f e = (fresh o.prefix, [], refl, f, with_bytes-nil out)
 fresh_by o out (Err x) f e = subst (λ (y : Stop). BeginGives (start_of o.prefix None) o out out (Err y)) (sym e) refl
 
-pub fresh_begins : {R : Type 0} (tells : R → Option Script) (frozen : Option R) (o : Options) (file : Option Script) (out : Option (List ℕ)) (st : Result SessionState Stop) → frozen ≡ None → DescribesFrozen tells frozen file → IfOk st (λ s. s ≡ fresh_session o) → IfErr st (λ e. e ≡ stops.Ended causes.OutOfMemory) → BeginGives (start_of o.prefix file) o out out st
+pub fresh_begins : {R : Type 0} (tells : R → Option Script) (frozen : Option R) (o : Options) (file : Option Script)
+    (out : Option (List ℕ)) (st : Result SessionState Stop) → frozen ≡ None → DescribesFrozen tells frozen file
+    → IfOk st (λ s. s ≡ fresh_session o) → IfErr st (λ e. e ≡ stops.Ended causes.OutOfMemory)
+    → BeginGives (start_of o.prefix file) o out out st
 fresh_begins tells frozen o file out st i t f e =
     let k : file ≡ None = subst (λ (y : Option _). DescribesFrozen tells y file) i t in
     subst (λ (y : Option Script). BeginGives (start_of o.prefix y) o out out st) (sym k) (fresh_by o out st f e)

@@ -11,7 +11,8 @@ use Rattle.m4_engine.specs.declared.stop.Stop.TheVariants as stops
 use Rattle.m4_engine.specs.Expansion.{Limits}
 use Rattle.m4_engine.specs.File.{Progress}
 use Rattle.m4_engine.specs.Wraps.{after_wraps}
-use Rattle.m4_engine.specs.Session.{SessionState, progress_of, Completed, GoesTo, session_after_wraps, last_state, FreezeLeaves}
+use Rattle.m4_engine.specs.Session.{SessionState, progress_of, Completed, GoesTo, session_after_wraps, last_state}
+use Rattle.m4_engine.specs.Session.{FreezeLeaves}
 use Rattle.m4_engine.specs.WholeRun.{ending_by}
 use Rattle.m4_engine.specs.Writers.{Contents}
 use Rattle.m4_engine.proofs.GoingOn.{written_after, wraps_after}
@@ -43,7 +44,12 @@ same_stop_of_run : (e f : Stop) → ended_run e ≡ ended_run f → e ≡ f
 same_stop_of_run e f h = cc
 
 -- the run came to its end, and the writer failed there
-pub torn_so : (limits : Limits) (p : Progress) (old mid : SessionState) (w : Contents) (frozen frozen' : Option (List ℕ)) → old.limits ≡ limits → GoesTo p old mid w (Ok tt) → (e : Stop) (q : Result Unit Stop) (r : Result Bool Stop) → q ≡ Err e → r ≡ Err e → r ≡ Err (stops.Ended causes.Write) → (q ≡ Err (stops.Ended causes.Write) → FreezeLeaves (last_state mid) frozen frozen') → FreezeLeaves ((after_wraps limits p).so_far).state frozen frozen'
+pub torn_so : (limits : Limits) (p : Progress) (old mid : SessionState) (w : Contents)
+    (frozen frozen' : Option (List ℕ)) → old.limits ≡ limits → GoesTo p old mid w (Ok tt)
+    → (e : Stop) (q : Result Unit Stop) (r : Result Bool Stop) → q ≡ Err e → r ≡ Err e
+    → r ≡ Err (stops.Ended causes.Write)
+    → (q ≡ Err (stops.Ended causes.Write) → FreezeLeaves (last_state mid) frozen frozen')
+    → FreezeLeaves ((after_wraps limits p).so_far).state frozen frozen'
 torn_so limits p old mid w frozen frozen' l g e q r i j k h =
     let is : e ≡ stops.Ended causes.Write = same_stop_of_run e (stops.Ended causes.Write) (sym j ∙ k) in
     subst (λ (s : State). FreezeLeaves s frozen frozen') (state_there limits p old mid w l g.0) (h (i ∙ ap ended is))

@@ -30,7 +30,10 @@ no_space true = refl
 no_space false = refl
 
 -- such a byte is text in an argument that has begun, if no delimiter begins with it
-pub text_byte : (q k : Delimiters) (b : ℕ) → b < 256 → nat_lt 48 (get_or CLASSES b 0) ≡ true → ((y : List ℕ) → starts_with k (b ∷ y) ≡ false) → ((m : Bool) (y : List ℕ) → may_start k m (b ∷ y) ≡ false) → ((y : List ℕ) → starts_with q (b ∷ y) ≡ false) → ((m : Bool) (y : List ℕ) → may_start q m (b ∷ y) ≡ false) → IsTextByte q k b
+pub text_byte : (q k : Delimiters) (b : ℕ) → b < 256 → nat_lt 48 (get_or CLASSES b 0) ≡ true
+    → ((y : List ℕ) → starts_with k (b ∷ y) ≡ false) → ((m : Bool) (y : List ℕ) → may_start k m (b ∷ y) ≡ false)
+    → ((y : List ℕ) → starts_with q (b ∷ y) ≡ false) → ((m : Bool) (y : List ℕ) → may_start q m (b ∷ y) ≡ false)
+    → IsTextByte q k b
 text_byte q k b lt h sk mk sq mq =
     let t = text_class b lt h in
     record {

@@ -1,5 +1,6 @@
 -- Turning: a turn is what the token at the front makes of it, whatever follows the bytes in hand.
-use Rattle.std.proofs.Common.{◌≡◌, ◌⊎◌, inl, inr, ℕ, Bool, List, [], ◌∷◌, drop, Option, Some, None, refl, sym, ap, ◌∙◌, subst}
+use Rattle.std.proofs.Common.{◌≡◌, ◌⊎◌, inl, inr, ℕ, Bool, List, [], ◌∷◌, drop, Option, Some, None, refl, sym, ap}
+use Rattle.std.proofs.Common.{◌∙◌, subst}
 use Rattle.std.specs.Prelude.{Result, Ok, Err, IfOk}
 use Rattle.m4_state.specs.declared.definition.Def.{Def}
 use Rattle.m4_state.specs.declared.delimiters.Delimiters.{Delimiters}
@@ -24,8 +25,11 @@ use Rattle.m4_engine.specs.declared.turned.Turned.TheVariants as turns
 use Rattle.m4_engine.specs.Nesting.{GoOn, Halted}
 use Rattle.m4_engine.specs.OpenCalls.{Stops, Goes}
 use Rattle.m4_engine.specs.Expansion.{Call, Ends, place_at, put_token, reading}
-use Rattle.m4_engine.specs.Expand.{take_call, take_end, take_name, take_token, take_front, call_of, unended_text, unended_cause}
-use Rattle.m4_engine.specs.Engine.{Engine, so_far_of, mode_of, outer_of, here_of, configuration, with_engine_message, with_text, with_token, put_token_in, step, moved, MayFollow, Extended, IsReady, Stays, Moves, Makes, Steps, Turns, Needs}
+use Rattle.m4_engine.specs.Expand.{take_call, take_end, take_name, take_token, take_front, call_of, unended_text}
+use Rattle.m4_engine.specs.Expand.{unended_cause}
+use Rattle.m4_engine.specs.Engine.{Engine, so_far_of, mode_of, outer_of, here_of, configuration, with_engine_message}
+use Rattle.m4_engine.specs.Engine.{with_text, with_token, put_token_in, IsReady}
+use Rattle.m4_engine.specs.Turns.{step, moved, MayFollow, Extended, Stays, Moves, Makes, Steps, Turns, Needs}
 use Rattle.m4_engine.proofs.Acts.{result_by, turned_steps, turned_makes, text_limits, token_limits}
 use Rattle.m4_engine.proofs.Calling.{failed_at}
 use Rattle.m4_engine.proofs.Longer.{found_longer, broken_longer}
@@ -33,24 +37,45 @@ use Rattle.m4_engine.proofs.Named.{place_of_file}
 use Rattle.m4_engine.proofs.Seen.{list_there, word_moves, string_moves}
 
 -- what has no end
-pub unended_moves : (e e1 : Engine) (what w : Unended) (line : ℕ) (at : Place) (p before : Pending) (o m : List ℕ) → what ≡ w → at.file ≡ name_of p → at.line ≡ line → before.file ≡ p.file → e1 ≡ with_engine_message (error at (unended_text w)) e → step (outer_of e.open_calls) (take_front (Refused what line) (here_of o m e before)) ≡ Stops (Halted (record { so_far = so_far_of o m e1; reason = Ends (unended_cause w) }))
+pub unended_moves : (e e1 : Engine) (what w : Unended) (line : ℕ) (at : Place) (p before : Pending) (o m : List ℕ)
+    → what ≡ w → at.file ≡ name_of p → at.line ≡ line → before.file ≡ p.file
+    → e1 ≡ with_engine_message (error at (unended_text w)) e
+    → step (outer_of e.open_calls) (take_front (Refused what line) (here_of o m e before))
+      ≡ Stops (Halted (record { so_far = so_far_of o m e1; reason = Ends (unended_cause w) }))
 unended_moves e e1 what w line at p before o m h i l f g =
     let j : at ≡ record { file = or_empty before.file; line = line } = place_of_file at before p line i l f in
     ap (λ (x : Unended). step (outer_of e.open_calls) (take_front (Refused x line) (here_of o m e before))) h
     ∙ failed_at o m e e1 before (record { file = or_empty before.file; line = line }) (unended_text w) (unended_cause w) (outer_of e.open_calls) (g ∙ ap (λ (x : Place). with_engine_message (error x (unended_text w)) e) j)
 
 -- a turn that takes a token
-pub turn_taken : (e e1 : Engine) (t : Token) (p q p' : Pending) (r : Result Turned TurnFault) → ((z : List ℕ) (more : Bool) → MayFollow p.may_follow z more → token_at (e.state).quotes (e.state).comments (longer z more p) ≡ Taken t (longer z more q)) → IfOk r (λ u. Moves p.may_follow e1 p' u (λ z more o m. step (outer_of e.open_calls) (take_token t (longer z more q) (here_of o m e (longer z more p))))) → IfOk r (λ u. Moves p.may_follow e1 p' u (λ z more o m. moved (configuration o m e (longer z more p))))
+pub turn_taken : (e e1 : Engine) (t : Token) (p q p' : Pending) (r : Result Turned TurnFault)
+    → ((z : List ℕ) (more : Bool) → MayFollow p.may_follow z more
+      → token_at (e.state).quotes (e.state).comments (longer z more p) ≡ Taken t (longer z more q))
+    → IfOk r (λ u. Moves p.may_follow e1 p' u
+      (λ z more o m. step (outer_of e.open_calls) (take_token t (longer z more q) (here_of o m e (longer z more p)))))
+    → IfOk r (λ u. Moves p.may_follow e1 p' u (λ z more o m. moved (configuration o m e (longer z more p))))
 turn_taken e e1 t p q p' r front k =
     result_by p.may_follow e1 p' r _ _ (λ z more c o m. ap (λ v. step (outer_of e.open_calls) (take_front v (here_of o m e (longer z more p)))) (front z more c)) k
 
 -- a token of so many bytes
-pub turn_found : (e e1 : Engine) (t : Token) (n : ℕ) (p q p' : Pending) (r : Result Turned TurnFault) → p.definition ≡ None → scan (e.state).quotes (e.state).comments p.may_follow (text_of p) ≡ Found t n → q ≡ consumed n p → IfOk r (λ u. Moves p.may_follow e1 p' u (λ z more o m. step (outer_of e.open_calls) (take_token t (longer z more q) (here_of o m e (longer z more p))))) → IfOk r (λ u. Moves p.may_follow e1 p' u (λ z more o m. moved (configuration o m e (longer z more p))))
+pub turn_found : (e e1 : Engine) (t : Token) (n : ℕ) (p q p' : Pending) (r : Result Turned TurnFault)
+    → p.definition ≡ None → scan (e.state).quotes (e.state).comments p.may_follow (text_of p) ≡ Found t n
+    → q ≡ consumed n p
+    → IfOk r (λ u. Moves p.may_follow e1 p' u
+      (λ z more o m. step (outer_of e.open_calls) (take_token t (longer z more q) (here_of o m e (longer z more p)))))
+    → IfOk r (λ u. Moves p.may_follow e1 p' u (λ z more o m. moved (configuration o m e (longer z more p))))
 turn_found e e1 t n p q p' r d s g k =
     turn_taken e e1 t p q p' r (λ z more c. found_longer (e.state).quotes (e.state).comments p t n z more d s c ∙ ap (λ (x : Pending). Taken t (longer z more x)) (sym g)) k
 
 -- a turn that meets what has no end
-pub turn_unended : (e e1 : Engine) (what : Unended) (line : ℕ) (p p1 p' : Pending) (r : Result Turned TurnFault) → p.definition ≡ None → scan (e.state).quotes (e.state).comments p.may_follow (text_of p) ≡ Broken what → line ≡ line_of p → p1.file ≡ p.file → IfOk r (λ u. (may : Bool) (q : Pending) (before : Extended) → ((z : List ℕ) (more : Bool) → (before z more).file ≡ p1.file) → Moves may e1 q u (λ z more o m. step (outer_of e.open_calls) (take_front (Refused what line) (here_of o m e (before z more))))) → IfOk r (λ u. Moves p.may_follow e1 p' u (λ z more o m. moved (configuration o m e (longer z more p))))
+pub turn_unended : (e e1 : Engine) (what : Unended) (line : ℕ) (p p1 p' : Pending) (r : Result Turned TurnFault)
+    → p.definition ≡ None → scan (e.state).quotes (e.state).comments p.may_follow (text_of p) ≡ Broken what
+    → line ≡ line_of p → p1.file ≡ p.file
+    → IfOk r (λ u. (may : Bool) (q : Pending) (before : Extended)
+      → ((z : List ℕ) (more : Bool) → (before z more).file ≡ p1.file)
+      → Moves may e1 q u (λ z more o m. step (outer_of e.open_calls)
+        (take_front (Refused what line) (here_of o m e (before z more)))))
+    → IfOk r (λ u. Moves p.may_follow e1 p' u (λ z more o m. moved (configuration o m e (longer z more p))))
 turn_unended e e1 what line p p1 p' (Ok u) d s i g k =
     result_by p.may_follow e1 p' (Ok u) _ _ (λ z more c o m. ap (λ v. step (outer_of e.open_calls) (take_front v (here_of o m e (longer z more p))))
     (broken_longer (e.state).quotes (e.state).comments p what z more d s c ∙ ap (Refused what) (sym i)))
@@ -69,7 +94,11 @@ token_undecided e i d s = record {
 }
 
 -- they don't decide whether a list follows a name that has a definition
-pub list_undecided : (e : Engine) (i : Held) (d : Def) (name : List ℕ) (n : ℕ) → (i.pending).definition ≡ None → scan (e.state).quotes (e.state).comments (i.pending).may_follow (text_of i.pending) ≡ Found (Name name) n → top_of e.state name ≡ Some d → paren_in (e.state).quotes (e.state).comments (i.pending).may_follow (drop n (text_of i.pending)) ≡ Unknown → Needs e e i i
+pub list_undecided : (e : Engine) (i : Held) (d : Def) (name : List ℕ) (n : ℕ) → (i.pending).definition ≡ None
+    → scan (e.state).quotes (e.state).comments (i.pending).may_follow (text_of i.pending) ≡ Found (Name name) n
+    → top_of e.state name ≡ Some d
+    → paren_in (e.state).quotes (e.state).comments (i.pending).may_follow (drop n (text_of i.pending)) ≡ Unknown
+    → Needs e e i i
 list_undecided e i d name n f s t u = record {
   engine = refl;
   input = refl;
@@ -105,13 +134,27 @@ definition_moves e e1 d p p1 h g k = λ z more c o m.
 -- ---- whole turns
 
 -- a token of so many bytes was consumed, and a step acted on it
-pub found_steps : (e e1 : Engine) (t : Token) (n : ℕ) (i k j : Held) (r : Result Turned TurnFault) → (i.pending).definition ≡ None → scan (e.state).quotes (e.state).comments (i.pending).may_follow (text_of i.pending) ≡ Found t n → k ≡ record i { pending = consumed n i.pending } → IfOk r (λ u. Moves (i.pending).may_follow e1 j.pending u (λ z more o m. step (outer_of e.open_calls) (take_token t (longer z more k.pending) (here_of o m e (longer z more i.pending))))) → {to : Turned → Type 0} → Steps r e e1 k j to → Turns r e e1 i j
+pub found_steps : (e e1 : Engine) (t : Token) (n : ℕ) (i k j : Held) (r : Result Turned TurnFault)
+    → (i.pending).definition ≡ None
+    → scan (e.state).quotes (e.state).comments (i.pending).may_follow (text_of i.pending) ≡ Found t n
+    → k ≡ record i { pending = consumed n i.pending }
+    → IfOk r (λ u. Moves (i.pending).may_follow e1 j.pending u
+      (λ z more o m. step (outer_of e.open_calls)
+        (take_token t (longer z more k.pending) (here_of o m e (longer z more i.pending))))) → {to : Turned → Type 0}
+    → Steps r e e1 k j to → Turns r e e1 i j
 found_steps e e1 t n i k j r d s g m st =
     turned_steps e e1 i k j r (ap (λ (h : Held). (h.pending).may_follow) g) (ap (λ (h : Held). (h.pending).file) g)
     (turn_found e e1 t n i.pending k.pending j.pending r d s (ap (λ (h : Held). h.pending) g) m) refl st
 
 -- the same by the flag of the input after the token
-pub found_steps_at : (e e1 : Engine) (t : Token) (n : ℕ) (i k j : Held) (r : Result Turned TurnFault) → (i.pending).definition ≡ None → scan (e.state).quotes (e.state).comments (i.pending).may_follow (text_of i.pending) ≡ Found t n → k ≡ record i { pending = consumed n i.pending } → IfOk r (λ u. Moves (k.pending).may_follow e1 j.pending u (λ z more o m. step (outer_of e.open_calls) (take_token t (longer z more k.pending) (here_of o m e (longer z more i.pending))))) → {to : Turned → Type 0} → Steps r e e1 k j to → Turns r e e1 i j
+pub found_steps_at : (e e1 : Engine) (t : Token) (n : ℕ) (i k j : Held) (r : Result Turned TurnFault)
+    → (i.pending).definition ≡ None
+    → scan (e.state).quotes (e.state).comments (i.pending).may_follow (text_of i.pending) ≡ Found t n
+    → k ≡ record i { pending = consumed n i.pending }
+    → IfOk r (λ u. Moves (k.pending).may_follow e1 j.pending u
+      (λ z more o m. step (outer_of e.open_calls)
+        (take_token t (longer z more k.pending) (here_of o m e (longer z more i.pending))))) → {to : Turned → Type 0}
+    → Steps r e e1 k j to → Turns r e e1 i j
 found_steps_at e e1 t n i k j r d s g m st =
     found_steps e e1 t n i k j r d s g (subst (λ (v : Bool). IfOk r (λ u. Moves v e1 j.pending u (λ z more o m. step (outer_of e.open_calls) (take_token t (longer z more k.pending) (here_of o m e (longer z more i.pending)))))) (ap (λ (h : Held). (h.pending).may_follow) g) m) st
 
@@ -125,7 +168,13 @@ after_token : (i : Held) (n : ℕ) → IsReady i → Stays i (record i { pending
 after_token i n r = record { ready = record { sound = r.sound; front = tt }; follows = refl; file = refl }
 
 -- a token that is text
-text_turn : (e e1 : Engine) (t : Token) (n : ℕ) (x : List ℕ) (i : Held) → IsReady i → (i.pending).definition ≡ None → scan (e.state).quotes (e.state).comments (i.pending).may_follow (text_of i.pending) ≡ Found t n → e1 ≡ with_text x e → Moves (i.pending).may_follow e1 (consumed n i.pending) turns.GoesOn (λ z more o m. step (outer_of e.open_calls) (take_token t (longer z more (consumed n i.pending)) (here_of o m e (longer z more i.pending)))) → Turns (Ok turns.GoesOn) e e1 i (record i { pending = consumed n i.pending })
+text_turn : (e e1 : Engine) (t : Token) (n : ℕ) (x : List ℕ) (i : Held) → IsReady i → (i.pending).definition ≡ None
+    → scan (e.state).quotes (e.state).comments (i.pending).may_follow (text_of i.pending) ≡ Found t n
+    → e1 ≡ with_text x e
+    → Moves (i.pending).may_follow e1 (consumed n i.pending) turns.GoesOn
+      (λ z more o m. step (outer_of e.open_calls)
+        (take_token t (longer z more (consumed n i.pending)) (here_of o m e (longer z more i.pending))))
+    → Turns (Ok turns.GoesOn) e e1 i (record i { pending = consumed n i.pending })
 text_turn e e1 t n x i r d s k m = record {
   moves = turn_found e e1 t n i.pending (consumed n i.pending) (consumed n i.pending) (Ok turns.GoesOn) d s refl m;
   ready = after_token i n r;
@@ -134,13 +183,19 @@ text_turn e e1 t n x i r d s k m = record {
 }
 
 -- a name without a definition
-pub word_turn : (e e1 : Engine) (name : List ℕ) (n : ℕ) (i j : Held) → IsReady i → (i.pending).definition ≡ None → scan (e.state).quotes (e.state).comments (i.pending).may_follow (text_of i.pending) ≡ Found (Name name) n → top_of e.state name ≡ None → j ≡ record i { pending = consumed n i.pending } → e1 ≡ with_text name e → Turns (Ok turns.GoesOn) e e1 i j
+pub word_turn : (e e1 : Engine) (name : List ℕ) (n : ℕ) (i j : Held) → IsReady i → (i.pending).definition ≡ None
+    → scan (e.state).quotes (e.state).comments (i.pending).may_follow (text_of i.pending) ≡ Found (Name name) n
+    → top_of e.state name ≡ None → j ≡ record i { pending = consumed n i.pending } → e1 ≡ with_text name e
+    → Turns (Ok turns.GoesOn) e e1 i j
 word_turn e e1 name n i j r d s h g k =
     subst (λ (j : Held). Turns (Ok turns.GoesOn) e e1 i j) (sym g)
     (text_turn e e1 (Name name) n name i r d s k (word_moves e e1 name (consumed n i.pending) h k (λ z more. longer z more i.pending)))
 
 -- a string or a comment
-pub string_turn : (e e1 : Engine) (x : List ℕ) (t : Token) (n : ℕ) (i j : Held) → (t ≡ Str x) ⊎ (t ≡ Comment x) → IsReady i → (i.pending).definition ≡ None → scan (e.state).quotes (e.state).comments (i.pending).may_follow (text_of i.pending) ≡ Found t n → j ≡ record i { pending = consumed n i.pending } → e1 ≡ with_text x e → Turns (Ok turns.GoesOn) e e1 i j
+pub string_turn : (e e1 : Engine) (x : List ℕ) (t : Token) (n : ℕ) (i j : Held) → (t ≡ Str x) ⊎ (t ≡ Comment x)
+    → IsReady i → (i.pending).definition ≡ None
+    → scan (e.state).quotes (e.state).comments (i.pending).may_follow (text_of i.pending) ≡ Found t n
+    → j ≡ record i { pending = consumed n i.pending } → e1 ≡ with_text x e → Turns (Ok turns.GoesOn) e e1 i j
 string_turn e e1 x t n i j (inl a) r d s g k =
     subst (λ (j : Held). Turns (Ok turns.GoesOn) e e1 i j) (sym g)
     (text_turn e e1 (Str x) n x i r d (s ∙ ap (λ u. Found u n) a) k (string_moves e e1 x (consumed n i.pending) k (λ z more. longer z more i.pending)))
@@ -149,15 +204,33 @@ string_turn e e1 x t n i j (inr a) r d s g k =
     (text_turn e e1 (Comment x) n x i r d (s ∙ ap (λ u. Found u n) a) k (string_moves e e1 x (consumed n i.pending) k (λ z more. longer z more i.pending)))
 
 -- the end of the input
-pub end_turn : (e e1 : Engine) (n : ℕ) (i : Held) (r : Result Turned TurnFault) → IsReady i → (i.pending).definition ≡ None → scan (e.state).quotes (e.state).comments (i.pending).may_follow (text_of i.pending) ≡ Found End n → Makes r e e1 (λ t. (may : Bool) (p : Pending) (before : Extended) → Moves may e1 p t (λ z more o m. step (outer_of e.open_calls) (take_end (mode_of e.open_calls) (here_of o m e (before z more))))) → Turns r e e1 i i
+pub end_turn : (e e1 : Engine) (n : ℕ) (i : Held) (r : Result Turned TurnFault) → IsReady i
+    → (i.pending).definition ≡ None
+    → scan (e.state).quotes (e.state).comments (i.pending).may_follow (text_of i.pending) ≡ Found End n
+    → Makes r e e1 (λ t. (may : Bool) (p : Pending) (before : Extended)
+      → Moves may e1 p t (λ z more o m. step (outer_of e.open_calls)
+        (take_end (mode_of e.open_calls) (here_of o m e (before z more))))) → Turns r e e1 i i
 end_turn e e1 n i r q d s k = turned_makes e e1 i r q (turn_found e e1 End n i.pending (consumed n i.pending) i.pending r d s refl (at_it r k.moves)) k
   where
-    at_it : (r : Result Turned TurnFault) → IfOk r (λ t. (may : Bool) (p : Pending) (before : Extended) → Moves may e1 p t (λ z more o m. step (outer_of e.open_calls) (take_end (mode_of e.open_calls) (here_of o m e (before z more))))) → IfOk r (λ t. Moves (i.pending).may_follow e1 i.pending t (λ z more o m. step (outer_of e.open_calls) (take_token End (longer z more (consumed n i.pending)) (here_of o m e (longer z more i.pending)))))
+    at_it : (r : Result Turned TurnFault)
+        → IfOk r (λ t. (may : Bool) (p : Pending) (before : Extended)
+          → Moves may e1 p t (λ z more o m. step (outer_of e.open_calls)
+            (take_end (mode_of e.open_calls) (here_of o m e (before z more)))))
+        → IfOk r (λ t. Moves (i.pending).may_follow e1 i.pending t
+          (λ z more o m. step (outer_of e.open_calls)
+            (take_token End (longer z more (consumed n i.pending)) (here_of o m e (longer z more i.pending)))))
     at_it (Ok t) h = h (i.pending).may_follow i.pending (λ z more. longer z more i.pending)
     at_it (Err x) h = tt
 
 -- a string or a comment without an end
-pub broken_turn : (e e1 : Engine) (what : Unended) (line : ℕ) (i j : Held) (r : Result Turned TurnFault) → IsReady i → (i.pending).definition ≡ None → scan (e.state).quotes (e.state).comments (i.pending).may_follow (text_of i.pending) ≡ Broken what → line ≡ line_of i.pending → j ≡ i → Makes r e e1 (λ t. (may : Bool) (p : Pending) (before : Extended) → ((z : List ℕ) (more : Bool) → (before z more).file ≡ (j.pending).file) → Moves may e1 p t (λ z more o m. step (outer_of e.open_calls) (take_front (Refused what line) (here_of o m e (before z more))))) → Turns r e e1 i j
+pub broken_turn : (e e1 : Engine) (what : Unended) (line : ℕ) (i j : Held) (r : Result Turned TurnFault) → IsReady i
+    → (i.pending).definition ≡ None
+    → scan (e.state).quotes (e.state).comments (i.pending).may_follow (text_of i.pending) ≡ Broken what
+    → line ≡ line_of i.pending → j ≡ i
+    → Makes r e e1 (λ t. (may : Bool) (p : Pending) (before : Extended)
+      → ((z : List ℕ) (more : Bool) → (before z more).file ≡ (j.pending).file)
+      → Moves may e1 p t (λ z more o m. step (outer_of e.open_calls)
+        (take_front (Refused what line) (here_of o m e (before z more))))) → Turns r e e1 i j
 broken_turn e e1 what line i j r q d s l g k =
     subst (λ (j : Held). Turns r e e1 i j) (sym g)
     (turned_makes e e1 i r q (turn_unended e e1 what line i.pending j.pending i.pending r d s l (ap (λ (h : Held). (h.pending).file) g) k.moves) k)
@@ -169,7 +242,11 @@ needs_turn e i r n = record { moves = tt; ready = record { ready = r; follows = 
 pub token_turn : (e : Engine) (i j : Held) → IsReady i → (i.pending).definition ≡ None → scan (e.state).quotes (e.state).comments (i.pending).may_follow (text_of i.pending) ≡ NeedsMore → j ≡ i → Turns (Ok turns.NeedsMore) e e i j
 token_turn e i j r d s g = subst (λ (j : Held). Turns (Ok turns.NeedsMore) e e i j) (sym g) (needs_turn e i r (token_undecided e i d s))
 
-pub list_turn : (e : Engine) (i : Held) (d : Def) (name : List ℕ) (n : ℕ) → IsReady i → (i.pending).definition ≡ None → scan (e.state).quotes (e.state).comments (i.pending).may_follow (text_of i.pending) ≡ Found (Name name) n → top_of e.state name ≡ Some d → paren_in (e.state).quotes (e.state).comments (i.pending).may_follow (drop n (text_of i.pending)) ≡ Unknown → Turns (Ok turns.NeedsMore) e e i i
+pub list_turn : (e : Engine) (i : Held) (d : Def) (name : List ℕ) (n : ℕ) → IsReady i → (i.pending).definition ≡ None
+    → scan (e.state).quotes (e.state).comments (i.pending).may_follow (text_of i.pending) ≡ Found (Name name) n
+    → top_of e.state name ≡ Some d
+    → paren_in (e.state).quotes (e.state).comments (i.pending).may_follow (drop n (text_of i.pending)) ≡ Unknown
+    → Turns (Ok turns.NeedsMore) e e i i
 list_turn e i d name n r f s t u = needs_turn e i r (list_undecided e i d name n f s t u)
 
 -- a definition
@@ -191,7 +268,14 @@ pub turns_from : (e e1 : Engine) (i k j : Held) (r : Result Turned TurnFault) �
 turns_from e e1 i k j r g t = subst (λ (i : Held). Turns r e e1 i j) g t
 
 -- a token that was recognised was consumed, and a step acted on it
-pub seen_steps : (e e1 : Engine) (t : Token) (i k j : Held) (r : Result Turned TurnFault) → (k.pending).may_follow ≡ (i.pending).may_follow → (k.pending).file ≡ (i.pending).file → ((z : List ℕ) (more : Bool) → MayFollow (i.pending).may_follow z more → token_at (e.state).quotes (e.state).comments (longer z more i.pending) ≡ Taken t (longer z more k.pending)) → IfOk r (λ u. Moves (k.pending).may_follow e1 j.pending u (λ z more o m. step (outer_of e.open_calls) (take_token t (longer z more k.pending) (here_of o m e (longer z more i.pending))))) → {to : Turned → Type 0} → Steps r e e1 k j to → Turns r e e1 i j
+pub seen_steps : (e e1 : Engine) (t : Token) (i k j : Held) (r : Result Turned TurnFault)
+    → (k.pending).may_follow ≡ (i.pending).may_follow → (k.pending).file ≡ (i.pending).file
+    → ((z : List ℕ) (more : Bool) → MayFollow (i.pending).may_follow z more
+      → token_at (e.state).quotes (e.state).comments (longer z more i.pending) ≡ Taken t (longer z more k.pending))
+    → IfOk r (λ u. Moves (k.pending).may_follow e1 j.pending u
+      (λ z more o m. step (outer_of e.open_calls)
+        (take_token t (longer z more k.pending) (here_of o m e (longer z more i.pending))))) → {to : Turned → Type 0}
+    → Steps r e e1 k j to → Turns r e e1 i j
 seen_steps e e1 t i k j r f g front m st =
     turned_steps e e1 i k j r f g
     (turn_taken e e1 t i.pending k.pending j.pending r front

@@ -1,6 +1,7 @@
 -- TurnsCounted: how many turns a machine still has, which is what its loop is measured by.
 use Rattle.std.proofs.Common.{◌≡◌, ℕ, suc, ◌+◌, List, [], ◌∷◌, refl, sym, ap, ◌∙◌, subst, arith}
-use Rattle.m4_engine.specs.Nesting.{Turn, Halt, Close, GoOn, Bare, Opens, Outcome, Halted, Closed, then_on, after, expansion, Falls}
+use Rattle.m4_engine.specs.Nesting.{Turn, Halt, Close, GoOn, Bare, Opens, Outcome, Halted, Closed, then_on, after}
+use Rattle.m4_engine.specs.Nesting.{expansion, Falls}
 use Rattle.m4_engine.specs.OpenCalls.{Stacked, Move, Stops, Goes, pop, close, take_turn, move, resume, moved_meaning}
 use Rattle.m4_engine.proofs.Bounds.{expansion_is}
 use Rattle.m4_engine.proofs.Beside.{Follows, Fits, expansion_fits}

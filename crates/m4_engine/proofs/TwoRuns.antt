@@ -1,5 +1,6 @@
 -- TwoRuns: a run that freezes and one that starts from what it froze, by what is promised of each.
-use Rattle.std.proofs.Common.{◌≡◌, ◌≢◌, ℕ, zero, suc, Bool, true, false, List, [], ◌∷◌, ◌++◌, Option, Some, None, refl, sym, ap, ◌∙◌, subst}
+use Rattle.std.proofs.Common.{◌≡◌, ◌≢◌, ℕ, zero, suc, Bool, true, false, List, [], ◌∷◌, ◌++◌, Option, Some, None}
+use Rattle.std.proofs.Common.{refl, sym, ap, ◌∙◌, subst}
 use Rattle.m4_state.proofs.CallerLaws.{with_bytes-append}
 use Rattle.m4_state.specs.State.{IsSized}
 use Rattle.m4_state.specs.Device.{Script, with_bytes}
@@ -9,7 +10,8 @@ use Rattle.m4_engine.specs.declared.ending.Cause.{Cause}
 use Rattle.m4_engine.specs.declared.ending.Cause.TheVariants as causes
 use Rattle.m4_engine.specs.declared.ending.Ending.{Ending}
 use Rattle.m4_engine.specs.Expansion.{RunSoFar, Limits, EndReason, Ends, NeedsInput, OutOfBound}
-use Rattle.m4_engine.specs.File.{Source, Opened, Unopened, Progress, over_of, unless_over, read_source, after_source, after_sources}
+use Rattle.m4_engine.specs.File.{Source, Opened, Unopened, Progress, over_of, unless_over, read_source, after_source}
+use Rattle.m4_engine.specs.File.{after_sources}
 use Rattle.m4_engine.specs.Wraps.{read_saved, next_round, rounds, after_wraps}
 use Rattle.m4_engine.specs.Start.{Start, From, Faulty, frozen_file, start_of, begun}
 use Rattle.m4_engine.specs.Run.{RunResult, limits_of, result_by, saved_after, run, run_from}
@@ -111,7 +113,17 @@ has_same : (v : Option (List ℕ)) (two : Contents) (w : Three (Option (List ℕ
 has_same None two w h = h
 has_same (Some text) two w h = h
 
-pub two_runs : (o : Options) (freezes prefix : Bool) (file : Option Script) (as' bs : List Source) (text : List ℕ) (e f : Ending) (v w : Three (Option (List ℕ))) → RunGives (run (freezing true o) file as') e v → e.cause ≡ causes.Done → e.status ≡ 0 → e.wrapped ≡ false → IsSized (frozen_state (freezing true o) (start_of o.prefix file) as') → v.frozen_old ≡ Some [] → v.frozen_new ≡ Some text → RunGives (run (prefixed prefix (freezing freezes o)) (Some (frozen_file text)) bs) f w → IsDecided f.cause → (w.two).out_old ≡ (v.two).out_new → (w.two).messages_old ≡ (v.two).messages_new → (run (freezing freezes o) file (as' ++ bs)).reason ≢ Ends causes.ExpansionLimit → IsOneRun (run (freezing freezes o) file (as' ++ bs)) f (record { two = writers (v.two).out_old (w.two).out_new (v.two).messages_old (w.two).messages_new; frozen_old = w.frozen_old; frozen_new = w.frozen_new })
+pub two_runs : (o : Options) (freezes prefix : Bool) (file : Option Script) (as' bs : List Source) (text : List ℕ)
+    (e f : Ending) (v w : Three (Option (List ℕ))) → RunGives (run (freezing true o) file as') e v
+    → e.cause ≡ causes.Done → e.status ≡ 0 → e.wrapped ≡ false
+    → IsSized (frozen_state (freezing true o) (start_of o.prefix file) as') → v.frozen_old ≡ Some []
+    → v.frozen_new ≡ Some text
+    → RunGives (run (prefixed prefix (freezing freezes o)) (Some (frozen_file text)) bs) f w → IsDecided f.cause
+    → (w.two).out_old ≡ (v.two).out_new → (w.two).messages_old ≡ (v.two).messages_new
+    → (run (freezing freezes o) file (as' ++ bs)).reason ≢ Ends causes.ExpansionLimit
+    → IsOneRun (run (freezing freezes o) file (as' ++ bs)) f
+      (record { two = writers (v.two).out_old (w.two).out_new (v.two).messages_old (w.two).messages_new; frozen_old =
+        w.frozen_old; frozen_new = w.frozen_new })
 two_runs o freezes prefix file as' bs text e f v w g i s n z old new h d a b l =
     let r : RunResult = run (freezing true o) file as' in
     let t : RunResult = run (prefixed prefix (freezing freezes o)) (Some (frozen_file text)) bs in

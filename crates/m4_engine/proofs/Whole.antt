@@ -1,5 +1,6 @@
 -- Whole: the effect of a session's calls, in order, is the run.
-use Rattle.std.proofs.Common.{◌≡◌, ◌⊎◌, inl, inr, ℕ, zero, suc, Bool, true, false, List, [], ◌∷◌, ◌++◌, Option, Some, None, refl, sym, ap, ◌∙◌, subst, append-nil, append_assoc}
+use Rattle.std.proofs.Common.{◌≡◌, ◌⊎◌, inl, inr, ℕ, zero, suc, Bool, true, false, List, [], ◌∷◌, ◌++◌, Option, Some}
+use Rattle.std.proofs.Common.{None, refl, sym, ap, ◌∙◌, subst, append-nil, append_assoc}
 use Rattle.std.specs.Prelude.{OnOk, ◌||◌, Result, Ok, Err}
 use Rattle.m4_state.proofs.CallerLaws.{with_bytes-append}
 use Rattle.m4_state.specs.Device.{with_bytes, HasBegun}
@@ -13,9 +14,13 @@ use Rattle.m4_engine.specs.declared.stop.Stop.TheVariants as stops
 use Rattle.m4_engine.specs.Expansion.{RunSoFar, Limits, EndReason, Ends}
 use Rattle.m4_engine.specs.File.{Source, Progress, after_sources}
 use Rattle.m4_engine.specs.Wraps.{read_saved, next_round, rounds, after_wraps, close}
-use Rattle.m4_engine.specs.Run.{RunResult, closed_output, frozen_text, result_by, result_of, saved_after, saved_unless_over, status_of}
-use Rattle.m4_engine.specs.Session.{SessionState, progress_of, how_over, how_by, IsOpen, Completed, BrokeOff, GoesTo, session_after_wraps, Closed, Unfinished, EndGives, FreezeBegan, FrozenGives, CloseGives, is_saved, status_at, IsLeft}
-use Rattle.m4_engine.specs.WholeRun.{wrapped_by, WroteAll, WrotePrefix, GivesBy, HasFrozen, FrozenBegan, FrozenBy, RunGives, result_after, ending_by}
+use Rattle.m4_engine.specs.Run.{RunResult, closed_output, frozen_text, result_by, result_of, saved_after}
+use Rattle.m4_engine.specs.Run.{saved_unless_over, status_of}
+use Rattle.m4_engine.specs.Session.{SessionState, progress_of, how_over, how_by, IsOpen, Completed, BrokeOff, GoesTo}
+use Rattle.m4_engine.specs.Session.{session_after_wraps, Closed, Unfinished, EndGives, FreezeBegan, FrozenGives}
+use Rattle.m4_engine.specs.Session.{CloseGives, is_saved, status_at, IsLeft}
+use Rattle.m4_engine.specs.WholeRun.{wrapped_by, WroteAll, WrotePrefix, GivesBy, HasFrozen, FrozenBegan, FrozenBy}
+use Rattle.m4_engine.specs.WholeRun.{RunGives, result_after, ending_by}
 use Rattle.m4_engine.specs.Laws.{IsBeginning}
 use Rattle.m4_engine.specs.Writers.{Contents, Three, writers, IsSpared}
 use Rattle.m4_engine.proofs.OnlyGrows.{extends_same}
@@ -116,7 +121,10 @@ pub closed_after : (freezes : Bool) (o m : List ℕ) (r : RunSoFar) → closed_o
 closed_after true o m r = refl
 closed_after false o m r = append_assoc o r.output (close r.state)
 
-result_output : (freezes : Bool) (o m : List ℕ) (over : Option EndReason) (saved : List (List ℕ)) (r : RunSoFar) (any_missing : Bool) → (result_by over freezes saved (record r { output = o ++ r.output; messages = m ++ r.messages }) any_missing).output ≡ o ++ (result_by over freezes [] r any_missing).output
+result_output : (freezes : Bool) (o m : List ℕ) (over : Option EndReason) (saved : List (List ℕ)) (r : RunSoFar)
+    (any_missing : Bool)
+    → (result_by over freezes saved (record r { output = o ++ r.output; messages = m ++ r.messages }) any_missing).output
+      ≡ o ++ (result_by over freezes [] r any_missing).output
 result_output freezes o m None saved r any_missing = closed_after freezes o m r
 result_output freezes o m (Some h) saved r any_missing = refl
 
@@ -315,7 +323,10 @@ spared_early c status (stops.Ended causes.ExpansionLimit) w new l h = h
 spared_early c status (stops.Ended causes.NestingLimit) w new l h = h
 spared_early c status (stops.Ended (causes.Frozen x)) w new l h = h
 
-pub early_so : (freezes : Bool) (ss : List Source) (p : Progress) (old new : SessionState) (w : Three (Option (List ℕ))) (e : Stop) (q : Result Unit Stop) (r : Result Bool Stop) → q ≡ Err e → r ≡ Err e → IsLeft new q → IsSpared w → GoesTo p old new w.two q → RunGives (result_after freezes old.limits ss p) (ending_by (status_at new) r) w
+pub early_so : (freezes : Bool) (ss : List Source) (p : Progress) (old new : SessionState)
+    (w : Three (Option (List ℕ))) (e : Stop) (q : Result Unit Stop) (r : Result Bool Stop) → q ≡ Err e → r ≡ Err e
+    → IsLeft new q → IsSpared w → GoesTo p old new w.two q
+    → RunGives (result_after freezes old.limits ss p) (ending_by (status_at new) r) w
 early_so freezes ss p old new w e q r f g l k h =
     subst (λ (x : Result Bool Stop). RunGives (result_after freezes old.limits ss p) (ending_by (status_at new) x) w) (sym g)
     (record {
@@ -323,19 +334,39 @@ early_so freezes ss p old new w e q r f g l k h =
       frozen = spared_early (result_after freezes old.limits ss p) (status_at new) e w new (subst (IsLeft new) f l) k;
     })
 
-pub late_so : (freezes : Bool) (limits : Limits) (ss : List Source) (p : Progress) (old mid new : SessionState) (out0 out1 out2 reported0 reported1 reported2 frozen frozen' : Option (List ℕ)) → old.limits ≡ limits → GoesTo p old mid (writers out0 out1 reported0 reported1) (Ok tt) → (e : Stop) (q : Result Unit Stop) (r : Result Bool Stop) → q ≡ Err e → r ≡ Err e → IsOpen mid → CloseGives freezes mid new (record { two = writers out1 out2 reported1 reported2; frozen_old = frozen; frozen_new = frozen' }) q → RunGives (result_after freezes limits ss p) (ending_by (status_at new) r) (record { two = writers out0 out2 reported0 reported2; frozen_old = frozen; frozen_new = frozen' })
+pub late_so : (freezes : Bool) (limits : Limits) (ss : List Source) (p : Progress) (old mid new : SessionState)
+    (out0 out1 out2 reported0 reported1 reported2 frozen frozen' : Option (List ℕ)) → old.limits ≡ limits
+    → GoesTo p old mid (writers out0 out1 reported0 reported1) (Ok tt)
+    → (e : Stop) (q : Result Unit Stop) (r : Result Bool Stop) → q ≡ Err e → r ≡ Err e → IsOpen mid
+    → CloseGives freezes mid new
+      (record { two = writers out1 out2 reported1 reported2; frozen_old = frozen; frozen_new = frozen' }) q
+    → RunGives (result_after freezes limits ss p) (ending_by (status_at new) r)
+      (record { two = writers out0 out2 reported0 reported2; frozen_old = frozen; frozen_new = frozen' })
 late_so freezes limits ss p old mid new out0 out1 out2 reported0 reported1 reported2 frozen frozen' l f e q r i j o h =
     let v : Three (Option (List ℕ)) = record { two = writers out1 out2 reported1 reported2; frozen_old = frozen; frozen_new = frozen' } in
     subst (λ (x : Result Bool Stop). RunGives (result_after freezes limits ss p) (ending_by (status_at new) x) (record { two = writers out0 out2 reported0 reported2; frozen_old = frozen; frozen_new = frozen' })) (sym j)
     (late_by freezes limits ss p old mid new out0 out1 out2 reported0 reported1 reported2 l f.0 f.1 frozen frozen' freezes refl e o (subst (CloseGives freezes mid new v) i h))
 
-pub well_so : (freezes : Bool) (limits : Limits) (ss : List Source) (old mid new : SessionState) (out0 out1 out2 reported0 reported1 reported2 frozen frozen' : Option (List ℕ)) → old.limits ≡ limits → GoesTo (after_sources limits ss (progress_of old)) old mid (writers out0 out1 reported0 reported1) (Ok tt) → old.saved ≡ [] → (wrapped : Bool) → wrapped ≡ is_saved mid.saved → CloseGives freezes mid new (record { two = writers out1 out2 reported1 reported2; frozen_old = frozen; frozen_new = frozen' }) (Ok tt) → RunGives (result_after freezes limits ss (after_sources limits ss (progress_of old))) (ending_by (status_at new) (Ok wrapped)) (record { two = writers out0 out2 reported0 reported2; frozen_old = frozen; frozen_new = frozen' })
+pub well_so : (freezes : Bool) (limits : Limits) (ss : List Source) (old mid new : SessionState)
+    (out0 out1 out2 reported0 reported1 reported2 frozen frozen' : Option (List ℕ)) → old.limits ≡ limits
+    → GoesTo (after_sources limits ss (progress_of old)) old mid (writers out0 out1 reported0 reported1) (Ok tt)
+    → old.saved ≡ [] → (wrapped : Bool) → wrapped ≡ is_saved mid.saved
+    → CloseGives freezes mid new
+      (record { two = writers out1 out2 reported1 reported2; frozen_old = frozen; frozen_new = frozen' }) (Ok tt)
+    → RunGives (result_after freezes limits ss (after_sources limits ss (progress_of old)))
+      (ending_by (status_at new) (Ok wrapped))
+      (record { two = writers out0 out2 reported0 reported2; frozen_old = frozen; frozen_new = frozen' })
 well_so freezes limits ss old mid new out0 out1 out2 reported0 reported1 reported2 frozen frozen' l f e wrapped v c =
     let p : Progress = after_sources limits ss (progress_of old) in
     let o : p.over ≡ None = ap (λ (x : Progress). x.over) (sym (f.0).progress) ∙ ap how_over f.1 in
     well_by freezes limits ss p old mid new out0 out1 out2 reported0 reported1 reported2 l f.0 f.1 frozen frozen' freezes refl wrapped v (saved_there limits ss (progress_of old) e o) c
 
-pub sized_so : (freezes : Bool) (limits : Limits) (ss : List Source) (p : Progress) (old mid new : SessionState) (out0 out1 out2 reported0 reported1 reported2 frozen frozen' : Option (List ℕ)) → old.limits ≡ limits → GoesTo p old mid (writers out0 out1 reported0 reported1) (Ok tt) → CloseGives freezes mid new (record { two = writers out1 out2 reported1 reported2; frozen_old = frozen; frozen_new = frozen' }) (Ok tt) → freezes ≡ true → IsSized ((after_wraps limits p).so_far).state
+pub sized_so : (freezes : Bool) (limits : Limits) (ss : List Source) (p : Progress) (old mid new : SessionState)
+    (out0 out1 out2 reported0 reported1 reported2 frozen frozen' : Option (List ℕ)) → old.limits ≡ limits
+    → GoesTo p old mid (writers out0 out1 reported0 reported1) (Ok tt)
+    → CloseGives freezes mid new
+      (record { two = writers out1 out2 reported1 reported2; frozen_old = frozen; frozen_new = frozen' }) (Ok tt)
+    → freezes ≡ true → IsSized ((after_wraps limits p).so_far).state
 sized_so freezes limits ss p old mid new out0 out1 out2 reported0 reported1 reported2 frozen frozen' l f c t =
     sized_by freezes limits ss p old mid new out0 out1 out2 reported0 reported1 reported2 l f.0 f.1 frozen frozen' freezes c t
 

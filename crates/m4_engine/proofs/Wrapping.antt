@@ -1,6 +1,7 @@
 -- Wrapping: saved texts that are read round by round are the definitions' rounds; and the end of a run
 -- after them.
-use Rattle.std.proofs.Common.{◌≡◌, ◌⊎◌, inl, inr, ⊎_elim, ◌<◌, ℕ, suc, ◌-◌, Bool, true, false, List, [], ◌∷◌, ◌++◌, Option, Some, None, refl, sym, ap, ◌∙◌, subst, arith, append-nil}
+use Rattle.std.proofs.Common.{◌≡◌, ◌⊎◌, inl, inr, ⊎_elim, ◌<◌, ℕ, suc, ◌-◌, Bool, true, false, List, [], ◌∷◌, ◌++◌}
+use Rattle.std.proofs.Common.{Option, Some, None, refl, sym, ap, ◌∙◌, subst, arith, append-nil}
 use Rattle.std.specs.Prelude.{Result, Ok, Err}
 use Rattle.m4_state.proofs.CallerLaws.{with_bytes-append, with_bytes-nil}
 use Rattle.m4_state.specs.State.{State, IsSized}
@@ -13,7 +14,9 @@ use Rattle.m4_engine.specs.declared.stop.Stop.TheVariants as stops
 use Rattle.m4_engine.specs.Expansion.{RunSoFar, Limits, EndReason}
 use Rattle.m4_engine.specs.File.{Progress}
 use Rattle.m4_engine.specs.Run.{closed_output, result_by, result_of}
-use Rattle.m4_engine.specs.Session.{SessionState, progress_of, how_over, written, IsOpen, Completed, BrokeOff, GoesTo, WrapsGive, round_of, session_after_wraps, last_state, is_saved, Closed, Unfinished, EndGives, FinishGives, FreezeBegan, FrozenGives, FreezeGives}
+use Rattle.m4_engine.specs.Session.{SessionState, progress_of, how_over, written, IsOpen, Completed, BrokeOff, GoesTo}
+use Rattle.m4_engine.specs.Session.{WrapsGive, round_of, session_after_wraps, last_state, is_saved, Closed}
+use Rattle.m4_engine.specs.Session.{Unfinished, EndGives, FinishGives, FreezeBegan, FrozenGives, FreezeGives}
 use Rattle.m4_engine.specs.Wraps.{next_round, after_wraps, close}
 use Rattle.m4_engine.specs.Writers.{Contents, Three, writers}
 use Rattle.m4_engine.proofs.Begins.{begun_after}
@@ -59,7 +62,10 @@ went_round s s' w l e f =
     ∙ wraps_after (q.so_far).output (q.so_far).messages s.limits (progress_of s')
     ∙ ap (λ (x : Limits). after (q.so_far).output (q.so_far).messages (after_wraps x (progress_of s'))) (sym f.limits)
 
-pub one_round : (s0 s s' : SessionState) (out0 out out' reported0 reported reported' : Option (List ℕ)) → Rounding s0 s (writers out0 out reported0 reported) → IsOpen s → is_saved s.saved ≡ true → Completed s s' (round_of s) (writers out out' reported reported') → Rounding s0 s' (writers out0 out' reported0 reported')
+pub one_round : (s0 s s' : SessionState) (out0 out out' reported0 reported reported' : Option (List ℕ))
+    → Rounding s0 s (writers out0 out reported0 reported) → IsOpen s → is_saved s.saved ≡ true
+    → Completed s s' (round_of s) (writers out out' reported reported')
+    → Rounding s0 s' (writers out0 out' reported0 reported')
 one_round s0 s s' out0 out out' reported0 reported reported' b l e f =
     let q : Progress = round_of s in
     record {
@@ -94,7 +100,10 @@ round_within s0 s w b l e =
       over = λ h v. is ∙ ap (after b.o b.m) (over_wraps s.limits q h v);
     }
 
-pub round_stops : (s0 s s' : SessionState) (out0 out out' reported0 reported reported' : Option (List ℕ)) (e : Stop) (q r : Result Unit Stop) → q ≡ Err e → r ≡ Err e → IsOpen s0 → Rounding s0 s (writers out0 out reported0 reported) → IsOpen s → is_saved s.saved ≡ true → WrapsGive (round_of s) s s' (writers out out' reported reported') q → WrapsGive (session_after_wraps s0) s0 s' (writers out0 out' reported0 reported') r
+pub round_stops : (s0 s s' : SessionState) (out0 out out' reported0 reported reported' : Option (List ℕ)) (e : Stop)
+    (q r : Result Unit Stop) → q ≡ Err e → r ≡ Err e → IsOpen s0 → Rounding s0 s (writers out0 out reported0 reported)
+    → IsOpen s → is_saved s.saved ≡ true → WrapsGive (round_of s) s s' (writers out out' reported reported') q
+    → WrapsGive (session_after_wraps s0) s0 s' (writers out0 out' reported0 reported') r
 round_stops s0 s s' out0 out out' reported0 reported reported' e q r f g l0 b l v h =
     let k : WrapsGive (round_of s) s s' (writers out out' reported reported') (Err e) = subst (WrapsGive (round_of s) s s' (writers out out' reported reported')) f h in
     subst (WrapsGive (session_after_wraps s0) s0 s' (writers out0 out' reported0 reported')) (sym g)
@@ -137,7 +146,10 @@ result_open : (freezes : Bool) (p : Progress) → p.over ≡ None → (result_of
 result_open freezes p e = ap (λ (v : Option EndReason). (result_by v freezes [] p.so_far p.any_missing).output) e
 
 -- the run came to its last saved text
-module _ (freezes : Bool) (old mid new : SessionState) (out0 out1 out2 reported0 reported1 reported2 : Option (List ℕ)) (f : Completed old mid (session_after_wraps old) (writers out0 out1 reported0 reported1)) (v : mid.over ≡ None) (none : mid.saved ≡ []) (any_missing : mid.any_missing ≡ old.any_missing) where
+module _ (freezes : Bool) (old mid new : SessionState)
+    (out0 out1 out2 reported0 reported1 reported2 : Option (List ℕ))
+    (f : Completed old mid (session_after_wraps old) (writers out0 out1 reported0 reported1)) (v : mid.over ≡ None)
+    (none : mid.saved ≡ []) (any_missing : mid.any_missing ≡ old.any_missing) where
   abbrev P : Progress
   P = session_after_wraps old
 
@@ -246,13 +258,24 @@ module _ (freezes : Bool) (old mid new : SessionState) (out0 out1 out2 reported0
   frozen_then frozen frozen' (Err (stops.Ended causes.NestingLimit)) k = k
 
 -- a run's end that freezes, after the saved texts
-pub freeze_then : (old mid new : SessionState) (out0 out1 out2 reported0 reported1 reported2 frozen frozen' : Option (List ℕ)) → GoesTo (session_after_wraps old) old mid (writers out0 out1 reported0 reported1) (Ok tt) → mid.saved ≡ [] → mid.any_missing ≡ old.any_missing → (r : Result Unit Stop) → FreezeGives mid new (record { two = writers out1 out2 reported1 reported2; frozen_old = frozen; frozen_new = frozen' }) r → FreezeGives old new (record { two = writers out0 out2 reported0 reported2; frozen_old = frozen; frozen_new = frozen' }) r
+pub freeze_then : (old mid new : SessionState)
+    (out0 out1 out2 reported0 reported1 reported2 frozen frozen' : Option (List ℕ))
+    → GoesTo (session_after_wraps old) old mid (writers out0 out1 reported0 reported1) (Ok tt) → mid.saved ≡ []
+    → mid.any_missing ≡ old.any_missing → (r : Result Unit Stop)
+    → FreezeGives mid new
+      (record { two = writers out1 out2 reported1 reported2; frozen_old = frozen; frozen_new = frozen' }) r
+    → FreezeGives old new
+      (record { two = writers out0 out2 reported0 reported2; frozen_old = frozen; frozen_new = frozen' }) r
 freeze_then old mid new out0 out1 out2 reported0 reported1 reported2 frozen frozen' g none any_missing r k = (
   end_then true old mid new out0 out1 out2 reported0 reported1 reported2 g.0 g.1 none any_missing r k.0,
   frozen_then true old mid new out0 out1 out2 reported0 reported1 reported2 g.0 g.1 none any_missing frozen frozen' r k.1,
 )
 
-pub finish_then : (old mid new : SessionState) (out0 out1 out2 reported0 reported1 reported2 : Option (List ℕ)) → GoesTo (session_after_wraps old) old mid (writers out0 out1 reported0 reported1) (Ok tt) → mid.saved ≡ [] → mid.any_missing ≡ old.any_missing → (r : Result Unit Stop) → FinishGives mid new (writers out1 out2 reported1 reported2) r → FinishGives old new (writers out0 out2 reported0 reported2) r
+pub finish_then : (old mid new : SessionState) (out0 out1 out2 reported0 reported1 reported2 : Option (List ℕ))
+    → GoesTo (session_after_wraps old) old mid (writers out0 out1 reported0 reported1) (Ok tt) → mid.saved ≡ []
+    → mid.any_missing ≡ old.any_missing → (r : Result Unit Stop)
+    → FinishGives mid new (writers out1 out2 reported1 reported2) r
+    → FinishGives old new (writers out0 out2 reported0 reported2) r
 finish_then old mid new out0 out1 out2 reported0 reported1 reported2 g none any_missing r k =
     end_then false old mid new out0 out1 out2 reported0 reported1 reported2 g.0 g.1 none any_missing r k
 
@@ -316,7 +339,9 @@ pub finish_stops : (old new : SessionState) (w : Contents) (e : Stop) (q r : Res
 finish_stops old new w e q r f g l h =
     subst (FinishGives old new w) (sym g) (saved_ends false old new w e l (subst (WrapsGive (session_after_wraps old) old new w) f h))
 
-pub freeze_stops : (old new : SessionState) (two : Contents) (frozen : Option (List ℕ)) (e : Stop) (q r : Result Unit Stop) → q ≡ Err e → r ≡ Err e → IsOpen old → WrapsGive (session_after_wraps old) old new two q → FreezeGives old new (record { two = two; frozen_old = frozen; frozen_new = frozen }) r
+pub freeze_stops : (old new : SessionState) (two : Contents) (frozen : Option (List ℕ)) (e : Stop)
+    (q r : Result Unit Stop) → q ≡ Err e → r ≡ Err e → IsOpen old → WrapsGive (session_after_wraps old) old new two q
+    → FreezeGives old new (record { two = two; frozen_old = frozen; frozen_new = frozen }) r
 freeze_stops old new two frozen e q r f g l h =
     subst (FreezeGives old new (record { two = two; frozen_old = frozen; frozen_new = frozen })) (sym g)
     (saved_ends true old new two e l (subst (WrapsGive (session_after_wraps old) old new two) f h), spared old two frozen e)

@@ -19,7 +19,8 @@ use Rattle.m4_engine.specs.Expand.{turn, join, expand, skip_line}
 use Rattle.m4_state.specs.Device.{with_bytes, HasBegun}
 use Rattle.m4_engine.specs.declared.turned.Turned.{Turned}
 use Rattle.m4_engine.specs.Expands.{HasTaken}
-use Rattle.m4_engine.specs.Engine.{Engine, MayFollow, Moves, IsTurned, moved, so_far_of, configuration, IsReady}
+use Rattle.m4_engine.specs.Engine.{Engine, so_far_of, configuration, IsReady}
+use Rattle.m4_engine.specs.Turns.{MayFollow, Moves, IsTurned, moved}
 use Rattle.m4_engine.specs.Writers.{Contents, HasWritten}
 
 -- the rest of a line is to be skipped first, or nothing

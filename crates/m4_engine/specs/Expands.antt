@@ -11,7 +11,8 @@ use Rattle.m4_engine.specs.declared.ending.Cause.{Cause}
 use Rattle.m4_engine.specs.declared.ending.Cause.TheVariants as causes
 use Rattle.m4_engine.specs.Expansion.{RunSoFar, Ended, Ends, NeedsInput}
 use Rattle.m4_engine.specs.Expand.{expand_input}
-use Rattle.m4_engine.specs.Engine.{Engine, MayFollow}
+use Rattle.m4_engine.specs.Engine.{Engine}
+use Rattle.m4_engine.specs.Turns.{MayFollow}
 use Rattle.m4_engine.specs.Writers.{Contents, Broken, WroteAtLeast}
 
 -- a run so far, if its earlier output and messages were written

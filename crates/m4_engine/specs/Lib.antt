@@ -16,6 +16,8 @@ pub mod Collected
 pub mod Lookahead
 pub mod CallView
 pub mod Engine
+pub mod Turns
+pub mod Passes
 pub mod MachineView
 pub mod Writers
 pub mod Expands
@@ -24,6 +26,7 @@ pub mod ReadsOn
 pub mod RunKept
 pub mod RunSources
 pub mod Session
+pub mod SessionFailures
 pub mod SessionView
 pub mod WholeRun
 pub mod OnePass

@@ -8,7 +8,7 @@ use Rattle.std.specs.Prelude.{◌≡◌, ◌≢◌, ◌≤◌, length, IfSome, �
 use Rattle.std.specs.Prelude.{None, Result, Ok, Err, ◌⊎◌}
 use Rattle.m4_state.specs.State.{State, IsSized}
 use Rattle.m4_state.specs.Fresh.{fresh}
-use Rattle.m4_state.specs.Device.{Script, after_bytes, IsAtEnd, IsAtFault, with_bytes, HasBegun, one_more}
+use Rattle.m4_state.specs.Device.{Script, after_bytes, IsAtEnd, IsAtFault, with_bytes, HasBegun}
 use Rattle.m4_input.specs.Input.{block}
 use Rattle.m4_frozen.specs.declared.fault.FrozenKind.TheVariants as kinds
 use Rattle.m4_frozen.specs.Freeze.{freeze}
@@ -16,15 +16,12 @@ use Rattle.m4_frozen.specs.Torn.{LeavesTorn}
 use Rattle.m4_engine.specs.declared.ending.Cause.{Cause}
 use Rattle.m4_engine.specs.declared.ending.Cause.TheVariants as causes
 use Rattle.m4_engine.specs.declared.options.Options.{Options}
-use Rattle.m4_engine.specs.declared.source.Source.{Source as RunSource}
 use Rattle.m4_engine.specs.declared.stop.Stop.{Stop}
 use Rattle.m4_engine.specs.declared.stop.Stop.TheVariants as stops
 use Rattle.m4_engine.specs.Expansion.{Limits, EndReason, Ends, NeedsInput, Ended}
 use Rattle.m4_engine.specs.Expand.{expand_input}
-use Rattle.m4_engine.specs.RunSources.{AllPairs, IsFaultBy, IsUnrefused, HasFailed, is_sound, AnyFailed}
 use Rattle.m4_engine.specs.Start.{Start, From, Faulty, IsStart}
-use Rattle.m4_engine.specs.Writers.{Contents, Failures, Three, NoneFailed, OneFailed, ByCause, Broken, WroteAtLeast}
-use Rattle.m4_engine.specs.Writers.{IsSpared, NoneOfThree, OneOfThree, Spares}
+use Rattle.m4_engine.specs.Writers.{Contents, Three, Broken, WroteAtLeast, IsSpared}
 use Rattle.m4_engine.specs.File.{Opened, Unopened, Progress, file, file_pending, after_source, cannot_open}
 use Rattle.m4_engine.specs.Wraps.{read_saved, after_wraps}
 use Rattle.m4_engine.specs.Run.{limits_of, status_of, closed_output, result_of}
@@ -172,60 +169,6 @@ FileGives name before after old new w (Err (stops.Ended causes.OutOfMemory)) =
     FileBroke name before after old new w causes.OutOfMemory
 FileGives name before after old new w (Err (stops.Ended cause)) =
     FileEnded name before after old new w cause
-
--- by a result: one writer failed if the run ends by a write fault, and otherwise none did
-abbrev pub ByAnswer : {A : Type 0} → Result A Stop → Type 0 → Type 0 → Type 0
-ByAnswer (Ok done) none one = none
-ByAnswer (Err stops.Finished) none one = none
-ByAnswer (Err (stops.Ended cause)) none one = ByCause cause none one
-
--- a call ends the run by a write fault if a writer failed in it
-abbrev pub WriteFails : {A : Type 0} → Result A Stop → Failures → Type 0
-WriteFails answer f = ByAnswer answer (NoneFailed f) (OneFailed f)
-
--- the same of three writers
-abbrev pub ThreeFail : {A : Type 0} → Result A Stop → Three ℕ → Three (Option (List ℕ)) → Type 0
-ThreeFail answer f w = ByAnswer answer (NoneOfThree f) (OneOfThree f w)
-
--- a call ends the run by a read fault if its reader failed in it, once; otherwise it did not fail
-abbrev pub ReadFails : {A : Type 0} → Result A Stop → ℕ → ℕ → Type 0
-ReadFails (Err (stops.Ended causes.Read)) old new = new ≡ one_more old
-ReadFails result old new = new ≡ old
-
--- the same for one of a run's sources, and for all of them
-abbrev pub SourceFails : {A R : Type 0} → (R → ℕ) → Result A Stop → RunSource R → RunSource R → Type 0
-SourceFails failures (Err (stops.Ended causes.Read)) before after = HasFailed failures before after
-SourceFails failures result before after = is_sound failures before after
-
-abbrev pub SourcesFail : {A R : Type 0} → (R → ℕ) → Result A Stop → List (RunSource R) → List (RunSource R) → Type 0
-SourcesFail failures (Err (stops.Ended causes.Read)) before after = AnyFailed failures before after
-SourcesFail failures result before after = AllPairs (is_sound failures) before after
-
--- the same for a call with one writer, by its number of failures before and after
-abbrev pub MessageWriteFails : {A : Type 0} → Result A Stop → ℕ → ℕ → Type 0
-MessageWriteFails answer old new = ByAnswer answer (new ≡ old) (new ≡ one_more old)
-
--- the reader of a frozen file failed if the run ends by that; it did not fail if the run begins
-abbrev pub ReloadFails : {A : Type 0} → Result A Stop → ℕ → ℕ → Type 0
-ReloadFails (Err (stops.Ended (causes.Frozen fault))) old new = IsFaultBy fault old new
-ReloadFails answer old new = new ≡ old
-
--- an answer that is no fault of a frozen file
-abbrev pub NoneRefused : {A : Type 0} → Result A Stop → Type 0
-NoneRefused (Err (stops.Ended cause)) = IsUnrefused cause
-NoneRefused answer = Unit {0}
-
--- the same for a run's frozen file; if there is none, it is not refused
-abbrev pub BeginFails : {A R : Type 0} → (R → ℕ) → Result A Stop → Option R → Option R → Type 0
-BeginFails failures answer None None = NoneRefused answer
-BeginFails failures answer (Some before) (Some after) = ReloadFails answer (failures before) (failures after)
-BeginFails failures answer before after = ⊥
-
--- by a result: a call that ends the run by another cause than a write fault writes no frozen text
-abbrev pub SparesBy : {A : Type 0} → Result A Stop → Three (Option (List ℕ)) → Type 0
-SparesBy (Ok done) w = Unit {0}
-SparesBy (Err stops.Finished) w = IsSpared w
-SparesBy (Err (stops.Ended cause)) w = Spares cause w
 
 -- this state and this issued text are those that a frozen file gives
 abbrev pub AreReloaded : Options → Option Script → State → List ℕ → Type 0

@@ -4,9 +4,10 @@
 ghost use Rattle.std.specs.Prelude.{◌≡◌, true, false, Some, [], IfOk, IfErr, OnOk, Err};
 ghost use Rattle.m4_engine.specs.Writers.{all_three, both};
 ghost use Rattle.m4_engine.specs.Session.{SessionState, IsOpen, answer_by, over_after, session_from, fresh_session};
-ghost use Rattle.m4_engine.specs.Session.{ReloadGives, FileGives, MissingGives, FinishGives, FreezeGives, FreezeLeaves};
-ghost use Rattle.m4_engine.specs.Session.{last_state, ReadFails, ReloadFails, WriteFails, ThreeFail, MessageWriteFails};
-ghost use Rattle.m4_engine.specs.Session.{WrapsGive, session_after_wraps, round_of, is_saved, status_at};
+ghost use Rattle.m4_engine.specs.Session.{ReloadGives, FileGives, MissingGives, FinishGives, FreezeGives};
+ghost use Rattle.m4_engine.specs.Session.{FreezeLeaves, last_state, WrapsGive, session_after_wraps, round_of};
+ghost use Rattle.m4_engine.specs.Session.{is_saved, status_at};
+ghost use Rattle.m4_engine.specs.SessionFailures.{ReadFails, ReloadFails, WriteFails, ThreeFail, MessageWriteFails};
 
 use crate::ending::Cause;
 use crate::machine::Machine;

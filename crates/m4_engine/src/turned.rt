@@ -1,7 +1,7 @@
 //! The outcome of one turn.
 
 ghost use Rattle.std.specs.Prelude.{◌≡◌};
-ghost use Rattle.m4_engine.specs.Engine.{cause_of_end};
+ghost use Rattle.m4_engine.specs.Turns.{cause_of_end};
 
 use crate::ending::Cause;
 use m4_builtins::fault::BuiltinFault;

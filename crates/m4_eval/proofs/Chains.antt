@@ -1,5 +1,7 @@
 -- Chains: literals and operators, with white space around them, lead from one place to the next.
-use Rattle.std.proofs.Common.{◌≡◌, ◌<◌, ◌≤◌, ℕ, zero, suc, ℤ, pos, Bool, true, false, cond, List, [], ◌∷◌, Option, Some, None, option_map, option_and_then, drop, length, refl, sym, ap, ◌∙◌, arith, true≢false}
+use Rattle.std.proofs.Common.{◌≡◌, ◌<◌, ◌≤◌, ℕ, zero, suc, ℤ, pos, Bool, true, false, cond, List, [], ◌∷◌, Option}
+use Rattle.std.proofs.Common.{Some, None, option_map, option_and_then, drop, length, refl, sym, ap, ◌∙◌, arith}
+use Rattle.std.proofs.Common.{true≢false}
 use Rattle.std.specs.Prelude.{◌==◌, ◌||◌}
 use Rattle.std.proofs.lemmas.Bool.{ne_eqb, lt-ltb}
 use Rattle.std.proofs.lemmas.Option.{none-some}
@@ -7,8 +9,11 @@ use Rattle.m4_input.specs.Ascii.{open_parenthesis, close_parenthesis, digit_zero
 use Rattle.m4_input.specs.Token.{run_length}
 use Rattle.m4_eval.specs.declared.frame.Frame.{Frame}
 use Rattle.m4_eval.specs.declared.operator.Operator.{Operator}
-use Rattle.m4_eval.specs.ReadExpression.{literal_at, sign_at, operator_at, is_alphanumeric, run_of, is_either, number_of, of_length, in_marked_radix, in_stated_radix, in_radix_from, after_zero}
-use Rattle.m4_eval.specs.EvaluateSteps.{Place, with_signs, step_from, after_step, alone, closed_place, operated_place, joined_while, values_from}
+use Rattle.m4_eval.specs.ReadExpression.{literal_at, sign_at, operator_at, is_alphanumeric, run_of, is_either}
+use Rattle.m4_eval.specs.ReadExpression.{number_of, of_length, in_marked_radix, in_stated_radix, in_radix_from}
+use Rattle.m4_eval.specs.ReadExpression.{after_zero}
+use Rattle.m4_eval.specs.EvaluateSteps.{Place, with_signs, step_from, after_step, alone, closed_place, operated_place}
+use Rattle.m4_eval.specs.EvaluateSteps.{joined_while, values_from}
 use Rattle.m4_eval.specs.Expression.{level_of}
 use Rattle.m4_eval.specs.GrammarView.{place}
 use Rattle.m4_eval.specs.ChainView.{frames_of}

@@ -1,5 +1,7 @@
 -- Literals: a literal with no digit or letter after it is read to its end, as its number.
-use Rattle.std.proofs.Common.{◌≡◌, ℕ, suc, ◌≤◌, ◌+◌, Bool, true, false, cond, ◌&&◌, List, [], ◌∷◌, ◌++◌, length, drop, Some, None, option_and_then, refl, sym, ap, ◌∙◌, subst, arith, append_assoc, ◌⊎◌, inl, inr, true≢false, le-leb}
+use Rattle.std.proofs.Common.{◌≡◌, ℕ, suc, ◌≤◌, ◌+◌, Bool, true, false, cond, ◌&&◌, List, [], ◌∷◌, ◌++◌, length, drop}
+use Rattle.std.proofs.Common.{Some, None, option_and_then, refl, sym, ap, ◌∙◌, subst, arith, append_assoc, ◌⊎◌, inl}
+use Rattle.std.proofs.Common.{inr, true≢false, le-leb}
 use Rattle.std.specs.Prelude.{⊤, nat_le, codes}
 use Rattle.std.proofs.lemmas.Bool.{and_parts, ne_eqb, lt-ltb, ltb-true}
 use Rattle.std.proofs.lemmas.List.{length-append}
@@ -7,8 +9,10 @@ use Rattle.std.specs.List.{list_all}
 use Rattle.std.specs.Char.{digit_value, is_digit}
 use Rattle.m4_input.specs.Ascii.{digit_zero}
 use Rattle.m4_eval.specs.Literal.{colon}
-use Rattle.m4_eval.specs.Literal.{number_in, AreDigits, BeginsWithZero, SaysRadix, IsRadixPrefix, decimal, octal, hexadecimal, binary, stated, IsLiteral}
-use Rattle.m4_eval.specs.ReadExpression.{is_alphanumeric, run_of, number_of, of_length, after_radix, in_stated_radix, in_marked_radix, in_radix_from, is_either, after_zero, literal_at}
+use Rattle.m4_eval.specs.Literal.{number_in, AreDigits, BeginsWithZero, SaysRadix, IsRadixPrefix, decimal, octal}
+use Rattle.m4_eval.specs.Literal.{hexadecimal, binary, stated, IsLiteral}
+use Rattle.m4_eval.specs.ReadExpression.{is_alphanumeric, run_of, number_of, of_length, after_radix, in_stated_radix}
+use Rattle.m4_eval.specs.ReadExpression.{in_marked_radix, in_radix_from, is_either, after_zero, literal_at}
 
 -- the first byte is no digit or letter
 abbrev pub EndsRun : List ℕ → Type 0

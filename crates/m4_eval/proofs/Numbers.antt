@@ -1,5 +1,7 @@
 -- Numbers: the code reads digit by digit the number of the digits.
-use Rattle.std.proofs.Common.{◌≡◌, ℕ, suc, ◌+◌, ◌*◌, ◌<◌, ◌≤◌, min, ℤ, pos, Bool, true, false, cond, ◌&&◌, List, [], ◌∷◌, length, map, take, Option, Some, None, option_map, option_and_then, refl, sym, ap, ◌∙◌, subst, arith, w32, le-leb, ◌⊎◌, inl, inr, true≢false, drop, unwrap_or, to_z, of_z}
+use Rattle.std.proofs.Common.{◌≡◌, ℕ, suc, ◌+◌, ◌*◌, ◌<◌, ◌≤◌, min, ℤ, pos, Bool, true, false, cond, ◌&&◌, List, []}
+use Rattle.std.proofs.Common.{◌∷◌, length, map, take, Option, Some, None, option_map, option_and_then, refl, sym, ap}
+use Rattle.std.proofs.Common.{◌∙◌, subst, arith, w32, le-leb, ◌⊎◌, inl, inr, true≢false, drop, unwrap_or, to_z, of_z}
 use Rattle.std.proofs.Math.ListN.{drop_of_length-le}
 use Rattle.m4_eval.specs.ReadExpression.{in_radix_from, in_marked_radix, in_stated_radix, after_radix}
 use Rattle.m4_eval.proofs.Read.{run_front}
@@ -11,7 +13,8 @@ use Rattle.std.specs.Int.Digits.{number_from_digits_after}
 use Rattle.std.specs.List.{list_all}
 use Rattle.std.specs.Char.{digit_value, is_digit}
 use Rattle.m4_eval.specs.ReadExpression.{run_of, number_of, of_length}
-use Rattle.m4_eval.specs.LexerView.{number_after, bits_of, in_bits, radix_within, radix_said, next_bits, bits_after, capped_after}
+use Rattle.m4_eval.specs.LexerView.{number_after, bits_of, in_bits, radix_within, radix_said, next_bits, bits_after}
+use Rattle.m4_eval.specs.LexerView.{capped_after}
 
 abbrev after_case : ℕ → ℕ → ℕ → List ℕ → Bool → Option ℕ
 after_case radix n b x t =

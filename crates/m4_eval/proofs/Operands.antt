@@ -1,5 +1,6 @@
 -- Operands: a step at a byte before an operand, from the code's literals.
-use Rattle.std.proofs.Common.{◌≡◌, ℕ, zero, suc, ℤ, pos, Bool, true, false, cond, List, [], ◌∷◌, Option, Some, None, option_map, option_and_then, drop, refl, sym, ap, ◌∙◌}
+use Rattle.std.proofs.Common.{◌≡◌, ℕ, zero, suc, ℤ, pos, Bool, true, false, cond, List, [], ◌∷◌, Option, Some, None}
+use Rattle.std.proofs.Common.{option_map, option_and_then, drop, refl, sym, ap, ◌∙◌}
 use Rattle.std.specs.Prelude.{◌==◌}
 use Rattle.m4_input.specs.Ascii.{open_parenthesis, is_space}
 use Rattle.m4_eval.specs.declared.frame.Frame.{Frame}

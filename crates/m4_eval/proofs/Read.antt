@@ -1,5 +1,7 @@
 -- Read: what is read is spelled. The open parts and the operand spell the bytes that were read.
-use Rattle.std.proofs.Common.{◌≡◌, ℕ, zero, suc, ◌≤◌, ◌+◌, Bool, true, false, cond, ◌&&◌, List, [], ◌∷◌, ◌++◌, length, take, drop, Option, Some, None, unwrap_or, option_and_then, refl, sym, ap, ◌∙◌, subst, arith, append_assoc, append-nil, ◌⊎◌, inl, inr, le_refl, take-append-drop}
+use Rattle.std.proofs.Common.{◌≡◌, ℕ, zero, suc, ◌≤◌, ◌+◌, Bool, true, false, cond, ◌&&◌, List, [], ◌∷◌, ◌++◌, length}
+use Rattle.std.proofs.Common.{take, drop, Option, Some, None, unwrap_or, option_and_then, refl, sym, ap, ◌∙◌, subst}
+use Rattle.std.proofs.Common.{arith, append_assoc, append-nil, ◌⊎◌, inl, inr, le_refl, take-append-drop}
 use Rattle.std.specs.Prelude.{◌==◌, ⊤, nat_le, codes}
 use Rattle.std.proofs.lemmas.Bool.{and_parts, and_from, or_cases, eqb-true, eqb-false, leb-true, leb-false}
 use Rattle.std.specs.List.{list_all}
@@ -8,11 +10,19 @@ use Rattle.m4_input.specs.Ascii.{is_space, open_parenthesis, close_parenthesis, 
 use Rattle.m4_eval.specs.Literal.{colon}
 use Rattle.m4_eval.specs.declared.operator.Sign.{Sign}
 use Rattle.m4_eval.specs.declared.operator.Operator.{Operator}
-use Rattle.m4_eval.specs.declared.operator.Operator.TheVariants.{Multiply, Divide, Remainder, Add, Subtract, ShiftLeft, ShiftRight, Less, LessOrEqual, Greater, GreaterOrEqual, Equal, NotEqual, BitAnd, BitXor, BitOr, And, Or}
-use Rattle.m4_eval.specs.Expression.{Expression, Number, Group, Signed, Joined, byte_of, symbol_of, level_of, operand_level}
+use Rattle.m4_eval.specs.declared.operator.Operator.TheVariants.{Multiply, Divide, Remainder, Add, Subtract}
+use Rattle.m4_eval.specs.declared.operator.Operator.TheVariants.{ShiftLeft, ShiftRight, Less, LessOrEqual, Greater}
+use Rattle.m4_eval.specs.declared.operator.Operator.TheVariants.{GreaterOrEqual, Equal, NotEqual, BitAnd, BitXor}
+use Rattle.m4_eval.specs.declared.operator.Operator.TheVariants.{BitOr, And, Or}
+use Rattle.m4_eval.specs.Expression.{Expression, Number, Group, Signed, Joined, byte_of, symbol_of, level_of}
+use Rattle.m4_eval.specs.Expression.{operand_level}
 use Rattle.m4_eval.specs.Literal.{AreDigits, IsRadixPrefix, decimal, octal, hexadecimal, binary, stated, IsLiteral}
 use Rattle.m4_eval.specs.SpellsExpression.{AreSpaces, SpellsAt, SpellsExpression}
-use Rattle.m4_eval.specs.ReadExpression.{Frame, Opened, Prefixed, Left, Reading, Before, After, is_alphanumeric, run_of, number_of, of_length, after_radix, in_stated_radix, in_marked_radix, in_radix_from, is_either, after_zero, literal_at, sign_at, or_two, or_either, operator_at, operated, closed, whole, finished, step, step_before, step_after, read_from, completed, joined_above, expression_at}
+use Rattle.m4_eval.specs.ReadExpression.{Frame, Opened, Prefixed, Left, Reading, Before, After, is_alphanumeric}
+use Rattle.m4_eval.specs.ReadExpression.{run_of, number_of, of_length, after_radix, in_stated_radix, in_marked_radix}
+use Rattle.m4_eval.specs.ReadExpression.{in_radix_from, is_either, after_zero, literal_at, sign_at, or_two, or_either}
+use Rattle.m4_eval.specs.ReadExpression.{operator_at, operated, closed, whole, finished, step, step_before}
+use Rattle.m4_eval.specs.ReadExpression.{step_after, read_from, completed, joined_above, expression_at}
 use Rattle.m4_eval.proofs.Steps.{level_most, level_least, floor, HasNoSign, no_sign, looser}
 
 -- By cases on a result.

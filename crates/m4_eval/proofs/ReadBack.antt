@@ -1,5 +1,8 @@
 -- ReadBack: the digits that are written spell the number, with any zeros in front.
-use Rattle.std.proofs.Common.{◌≡◌, ◌≢◌, ◌≤◌, ◌<◌, ◌+◌, ◌-◌, ◌*◌, ◌/◌, ◌%◌, ◌^◌, ℕ, zero, suc, List, [], ◌∷◌, ◌++◌, map, refl, sym, ap, subst, ◌∙◌, Bool, true, false, cond, arith, ◌==◌, eqb-true, lt-ltb, IsTrue, replicate, length, unsigned_abs, mod-lt, mul-le-mul, pow-suc, div-lt_iff_lt-mul, div-add-mod'}
+use Rattle.std.proofs.Common.{◌≡◌, ◌≢◌, ◌≤◌, ◌<◌, ◌+◌, ◌-◌, ◌*◌, ◌/◌, ◌%◌, ◌^◌, ℕ, zero, suc, List, [], ◌∷◌, ◌++◌}
+use Rattle.std.proofs.Common.{map, refl, sym, ap, subst, ◌∙◌, Bool, true, false, cond, arith, ◌==◌, eqb-true, lt-ltb}
+use Rattle.std.proofs.Common.{IsTrue, replicate, length, unsigned_abs, mod-lt, mul-le-mul, pow-suc, div-lt_iff_lt-mul}
+use Rattle.std.proofs.Common.{div-add-mod'}
 use Rattle.std.proofs.Math.Nat.{pow-zero}
 use Rattle.std.proofs.lemmas.Str.{digit_value-digit_char}
 use Rattle.std.specs.List.{list_all}

@@ -1,5 +1,7 @@
 -- Spelled: what is spelled is read, and so a text spells one expression at most.
-use Rattle.std.proofs.Common.{◌≡◌, ℕ, zero, suc, ◌≤◌, Bool, true, false, cond, List, [], ◌∷◌, ◌++◌, length, Option, Some, None, option_and_then, refl, sym, ap, ◌∙◌, subst, arith, append_assoc, append-nil, le_refl}
+use Rattle.std.proofs.Common.{◌≡◌, ℕ, zero, suc, ◌≤◌, Bool, true, false, cond, List, [], ◌∷◌, ◌++◌, length, Option}
+use Rattle.std.proofs.Common.{Some, None, option_and_then, refl, sym, ap, ◌∙◌, subst, arith, append_assoc, append-nil}
+use Rattle.std.proofs.Common.{le_refl}
 use Rattle.std.specs.Prelude.{◌==◌, ⊤}
 use Rattle.std.proofs.lemmas.Bool.{and_parts, ne_eqb}
 use Rattle.std.specs.List.{list_all}
@@ -8,12 +10,16 @@ use Rattle.m4_input.specs.Ascii.{is_space, open_parenthesis, close_parenthesis}
 use Rattle.m4_eval.specs.declared.operator.Sign.{Sign}
 use Rattle.m4_eval.specs.declared.operator.Sign.TheVariants.{Positive, Negative, Complement, Not}
 use Rattle.m4_eval.specs.declared.operator.Operator.{Operator}
-use Rattle.m4_eval.specs.Expression.{Expression, Number, Group, Signed, Joined, byte_of, symbol_of, level_of, operand_level}
+use Rattle.m4_eval.specs.Expression.{Expression, Number, Group, Signed, Joined, byte_of, symbol_of, level_of}
+use Rattle.m4_eval.specs.Expression.{operand_level}
 use Rattle.m4_eval.specs.Literal.{IsLiteral}
 use Rattle.m4_eval.specs.SpellsExpression.{AreSpaces, SpellsAt, SpellsExpression}
-use Rattle.m4_eval.specs.ReadExpression.{Frame, Opened, Prefixed, Left, Reading, Before, After, literal_at, sign_at, operator_at, operated, closed, whole, step_after, read_from, completed, joined_above, expression_at, is_alphanumeric}
+use Rattle.m4_eval.specs.ReadExpression.{Frame, Opened, Prefixed, Left, Reading, Before, After, literal_at, sign_at}
+use Rattle.m4_eval.specs.ReadExpression.{operator_at, operated, closed, whole, step_after, read_from, completed}
+use Rattle.m4_eval.specs.ReadExpression.{joined_above, expression_at, is_alphanumeric}
 use Rattle.m4_eval.proofs.Steps.{spaces, at_token, level_most, level_least, floor, no_sign, completed_is, waits, joins}
-use Rattle.m4_eval.proofs.Symbols.{IsNoSecond, at_symbol, space_below, space_is_no_second, digit_bounds, digit_is_no_second, sign_is_no_second}
+use Rattle.m4_eval.proofs.Symbols.{IsNoSecond, at_symbol, space_below, space_is_no_second, digit_bounds}
+use Rattle.m4_eval.proofs.Symbols.{digit_is_no_second, sign_is_no_second}
 use Rattle.m4_eval.proofs.Literals.{EndsRun, literal_whole}
 
 -- an operator is not tighter than a level

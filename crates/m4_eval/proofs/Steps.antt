@@ -1,5 +1,6 @@
 -- How a text is read: byte by byte, after white space and after a token.
-use Rattle.std.proofs.Common.{◌≡◌, ℕ, zero, suc, ◌≤◌, ◌<◌, Bool, true, false, List, [], ◌∷◌, ◌++◌, length, Option, Some, option_and_then, refl, ap, ◌∙◌, arith, le-leb}
+use Rattle.std.proofs.Common.{◌≡◌, ℕ, zero, suc, ◌≤◌, ◌<◌, Bool, true, false, List, [], ◌∷◌, ◌++◌, length, Option}
+use Rattle.std.proofs.Common.{Some, option_and_then, refl, ap, ◌∙◌, arith, le-leb}
 use Rattle.std.specs.Prelude.{nat_le, ⊤}
 use Rattle.std.proofs.lemmas.Bool.{and_parts, lt-leb}
 use Rattle.std.specs.List.{list_all}
@@ -8,7 +9,8 @@ use Rattle.m4_eval.specs.declared.operator.Operator.{Operator}
 use Rattle.m4_eval.specs.declared.operator.Operator.TheVariants.{Multiply}
 use Rattle.m4_eval.specs.Expression.{Expression, Number, Group, Signed, Joined, level_of, operand_level}
 use Rattle.m4_eval.specs.SpellsExpression.{AreSpaces, SpellsAt}
-use Rattle.m4_eval.specs.ReadExpression.{Frame, Opened, Prefixed, Left, Reading, After, read_from, step, completed, joined_above}
+use Rattle.m4_eval.specs.ReadExpression.{Frame, Opened, Prefixed, Left, Reading, After, read_from, step, completed}
+use Rattle.m4_eval.specs.ReadExpression.{joined_above}
 
 -- the bytes after the first of a token
 pub skipped : (front : List ℕ) (r : Reading) (rest : List ℕ)

@@ -1,5 +1,6 @@
 -- Symbols: which bytes begin an operand, and that an operator before one of them is read whole.
-use Rattle.std.proofs.Common.{◌≡◌, ℕ, ◌≤◌, ◌<◌, true, false, List, [], ◌∷◌, ◌++◌, length, Some, refl, arith, ◌⊎◌, inl, inr}
+use Rattle.std.proofs.Common.{◌≡◌, ℕ, ◌≤◌, ◌<◌, true, false, List, [], ◌∷◌, ◌++◌, length, Some, refl, arith, ◌⊎◌, inl}
+use Rattle.std.proofs.Common.{inr}
 use Rattle.std.specs.Prelude.{◌==◌, nat_le}
 use Rattle.std.proofs.lemmas.Bool.{and_parts, ne_eqb, or_cases, eqb-true, leb-true}
 use Rattle.std.specs.Char.{is_digit}
@@ -7,7 +8,10 @@ use Rattle.m4_input.specs.Ascii.{is_space, in_range, close_parenthesis}
 use Rattle.m4_eval.specs.declared.operator.Sign.{Sign}
 use Rattle.m4_eval.specs.declared.operator.Sign.TheVariants.{Positive, Negative, Complement, Not}
 use Rattle.m4_eval.specs.declared.operator.Operator.{Operator}
-use Rattle.m4_eval.specs.declared.operator.Operator.TheVariants.{Multiply, Divide, Remainder, Add, Subtract, ShiftLeft, ShiftRight, Less, LessOrEqual, Greater, GreaterOrEqual, Equal, NotEqual, BitAnd, BitXor, BitOr, And, Or}
+use Rattle.m4_eval.specs.declared.operator.Operator.TheVariants.{Multiply, Divide, Remainder, Add, Subtract}
+use Rattle.m4_eval.specs.declared.operator.Operator.TheVariants.{ShiftLeft, ShiftRight, Less, LessOrEqual, Greater}
+use Rattle.m4_eval.specs.declared.operator.Operator.TheVariants.{GreaterOrEqual, Equal, NotEqual, BitAnd, BitXor}
+use Rattle.m4_eval.specs.declared.operator.Operator.TheVariants.{BitOr, And, Or}
 use Rattle.m4_eval.specs.Expression.{byte_of, symbol_of}
 use Rattle.m4_eval.specs.ReadExpression.{operator_at, is_alphanumeric}
 

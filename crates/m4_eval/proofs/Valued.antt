@@ -1,5 +1,6 @@
 -- Valued: values that are computed while a text is read are those of the expression that is read.
-use Rattle.std.proofs.Common.{◌≡◌, ℕ, zero, suc, ℤ, Bool, true, false, cond, List, [], ◌∷◌, Option, Some, None, option_map, option_and_then, refl, ap, ◌∙◌}
+use Rattle.std.proofs.Common.{◌≡◌, ℕ, zero, suc, ℤ, Bool, true, false, cond, List, [], ◌∷◌, Option, Some, None}
+use Rattle.std.proofs.Common.{option_map, option_and_then, refl, ap, ◌∙◌}
 use Rattle.std.specs.Prelude.{◌==◌, nat_le, pos}
 use Rattle.m4_input.specs.Ascii.{is_space, open_parenthesis, close_parenthesis}
 use Rattle.m4_eval.specs.declared.operator.Sign.{Sign}
@@ -9,8 +10,10 @@ use Rattle.m4_eval.specs.declared.frame.Frame.TheVariants as f
 use Rattle.m4_eval.specs.Expression.{Expression, Number, Group, Signed, Joined, level_of}
 use Rattle.m4_eval.specs.Value.{value, wrapped}
 use Rattle.m4_eval.specs.ReadExpression as r
-use Rattle.m4_eval.specs.ReadExpression.{Reading, Before, After, completed, joined_above, closed, whole, finished, step, read_from, expression_at, literal_at, sign_at, operator_at, operated}
-use Rattle.m4_eval.specs.EvaluateSteps.{Place, joined_values, with_signs, joined_while, closed_place, before_step, operated_place, after_step, step_from, alone, ended, values_from, value_at}
+use Rattle.m4_eval.specs.ReadExpression.{Reading, Before, After, completed, joined_above, closed, whole, finished}
+use Rattle.m4_eval.specs.ReadExpression.{step, read_from, expression_at, literal_at, sign_at, operator_at, operated}
+use Rattle.m4_eval.specs.EvaluateSteps.{Place, joined_values, with_signs, joined_while, closed_place, before_step}
+use Rattle.m4_eval.specs.EvaluateSteps.{operated_place, after_step, step_from, alone, ended, values_from, value_at}
 
 -- the open parts by their values
 abbrev frames : List r.Frame → List Frame

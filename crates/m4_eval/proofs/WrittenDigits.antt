@@ -1,5 +1,6 @@
 -- Digits are written from the last to the first.
-use Rattle.std.proofs.Common.{◌≡◌, ◌<◌, ◌-◌, ◌/◌, ◌%◌, ℕ, zero, suc, List, [], ◌∷◌, refl, ap, ◌∙◌, Bool, true, false, cond, arith, ◌==◌, eq-eqb, ne_eqb}
+use Rattle.std.proofs.Common.{◌≡◌, ◌<◌, ◌-◌, ◌/◌, ◌%◌, ℕ, zero, suc, List, [], ◌∷◌, refl, ap, ◌∙◌, Bool, true, false}
+use Rattle.std.proofs.Common.{cond, arith, ◌==◌, eq-eqb, ne_eqb}
 use Rattle.std.specs.Fmt.{digits_onto, digits, digit_glyph}
 
 -- nothing is written after the last digit

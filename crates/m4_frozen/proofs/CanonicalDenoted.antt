@@ -1,5 +1,6 @@
 -- The canonical directives of a state denote it, and issue nothing.
-use Rattle.std.proofs.Common.{◌≡◌, ◌≢◌, ℕ, zero, suc, ℤ, pos, negsuc, Bool, true, false, cond, List, [], ◌∷◌, ◌++◌, map, Option, unwrap_or, refl, sym, ap, ◌∙◌, append_assoc}
+use Rattle.std.proofs.Common.{◌≡◌, ◌≢◌, ℕ, zero, suc, ℤ, pos, negsuc, Bool, true, false, cond, List, [], ◌∷◌, ◌++◌}
+use Rattle.std.proofs.Common.{map, Option, unwrap_or, refl, sym, ap, ◌∙◌, append_assoc}
 use Rattle.std.specs.Prelude.{IsTrue, ◌↔◌, fold}
 use Rattle.std.specs.List.{flat_map, AllByRecursion}
 use Rattle.std.specs.Ordering.{int_cmp, int_eq}
@@ -19,14 +20,17 @@ use Rattle.m4_state.specs.Builtin.{name_of}
 use Rattle.m4_state.proofs.CallerLaws.{builtin_named-name_of}
 use Rattle.m4_state.specs.Definition.{IsDefinition}
 use Rattle.m4_state.specs.Delimiters.{default_quotes, default_comments, chosen, IsPaired}
-use Rattle.m4_state.specs.State.{State, Diversion as NumberedText, IsDiversion, IsState, empty, pushed, with_text, holds_text}
+use Rattle.m4_state.specs.State.{State, Diversion as NumberedText, IsDiversion, IsState, empty, pushed, with_text}
+use Rattle.m4_state.specs.State.{holds_text}
 use Rattle.m4_state.specs.Table.{Pairs, byte_order, with_push, IsStack}
 use Rattle.m4_state.proofs.Pairs.{both}
 use Rattle.m4_state.proofs.TextsByNumber.{with_text-some}
 use Rattle.m4_frozen.specs.Denote.{builtin_or_placeholder, with_directive, issued_by, denote}
 use Rattle.m4_frozen.specs.Directive.{Directive, Quotes, Comments, Diversion}
-use Rattle.m4_frozen.specs.Freeze.{same_delimiters, unless_default, definition, definitions, diversion, last_number, current_unless_last, canonical}
-use Rattle.m4_frozen.proofs.LastPlace.{AreBelow, AreBelowFirst, AreBelowFirst-next, find-missing, find-last, put-missing, put-last}
+use Rattle.m4_frozen.specs.Freeze.{same_delimiters, unless_default, definition, definitions, diversion, last_number}
+use Rattle.m4_frozen.specs.Freeze.{current_unless_last, canonical}
+use Rattle.m4_frozen.proofs.LastPlace.{AreBelow, AreBelowFirst, AreBelowFirst-next, find-missing, find-last}
+use Rattle.m4_frozen.proofs.LastPlace.{put-missing, put-last}
 
 -- ---- the delimiters
 

@@ -1,5 +1,6 @@
 -- The canonical text of a state spells its canonical directives, if the state is sized.
-use Rattle.std.proofs.Common.{◌≡◌, ℕ, suc, ◌<◌, ◌^◌, ℤ, pos, negsuc, Bool, true, false, cond, List, [], ◌∷◌, ◌++◌, map, length, refl, sym, ap, append_assoc, arith, rules, inl, inr}
+use Rattle.std.proofs.Common.{◌≡◌, ℕ, suc, ◌<◌, ◌^◌, ℤ, pos, negsuc, Bool, true, false, cond, List, [], ◌∷◌, ◌++◌}
+use Rattle.std.proofs.Common.{map, length, refl, sym, ap, append_assoc, arith, rules, inl, inr}
 use Rattle.std.specs.Prelude.{IsTrue, FitsSigned, codes, decimal, neg_ℤ}
 use Rattle.std.specs.Int.{w32}
 use Rattle.std.specs.Fmt.{signed_decimal}
@@ -16,12 +17,15 @@ use Rattle.m4_state.specs.declared.definition.Def.TheVariants as defs
 use Rattle.m4_state.specs.declared.delimiters.Delimiters.{Delimiters}
 use Rattle.m4_state.specs.Definition.{IsSizedDefinition}
 use Rattle.m4_state.specs.Delimiters.{default_quotes, default_comments}
-use Rattle.m4_state.specs.State.{State, IsState, IsSized, AreSizedDiversions, IsDiversion as IsDiversionOfState, Diversion as NumberedText}
+use Rattle.m4_state.specs.State.{State, IsState, IsSized, AreSizedDiversions, IsDiversion as IsDiversionOfState}
+use Rattle.m4_state.specs.State.{Diversion as NumberedText}
 use Rattle.m4_state.specs.Table.{Pairs, IsSizedStack}
 use Rattle.m4_frozen.specs.Ascii.{newline, letter_Q, letter_C, letter_T, letter_F}
 use Rattle.m4_frozen.specs.Directive.{Directive, Quotes, Comments, Text, Builtin, Diversion}
-use Rattle.m4_frozen.specs.Freeze.{same_delimiters, unless_default, definition, definitions, diversion, last_number, current_unless_last, canonical, two_strings, spelling, header, end_line, freeze}
-use Rattle.m4_frozen.specs.Spells.{AreDigits, value_from, value_of, IsNumber, IsSigned, IsPair, IsDiversion, SpellsOne, IsSkippedLine, AreSkippedLines, AreLines, SpellsAll, Spells}
+use Rattle.m4_frozen.specs.Freeze.{same_delimiters, unless_default, definition, definitions, diversion, last_number}
+use Rattle.m4_frozen.specs.Freeze.{current_unless_last, canonical, two_strings, spelling, header, end_line, freeze}
+use Rattle.m4_frozen.specs.Spells.{AreDigits, value_from, value_of, IsNumber, IsSigned, IsPair, IsDiversion}
+use Rattle.m4_frozen.specs.Spells.{SpellsOne, IsSkippedLine, AreSkippedLines, AreLines, SpellsAll, Spells}
 
 -- ---- numbers
 

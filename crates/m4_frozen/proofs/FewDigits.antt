@@ -1,5 +1,6 @@
 -- A length of one digit to three, with no blanks before it.
-use Rattle.std.proofs.Common.{◌≡◌, ℕ, ◌+◌, ◌*◌, ◌-◌, ◌<◌, ◌^◌, List, [], ◌∷◌, length, get_or, drop, ◌≤◌, true, false, cond, Ok, ap, ◌∙◌, arith}
+use Rattle.std.proofs.Common.{◌≡◌, ℕ, ◌+◌, ◌*◌, ◌-◌, ◌<◌, ◌^◌, List, [], ◌∷◌, length, get_or, drop, ◌≤◌, true, false}
+use Rattle.std.proofs.Common.{cond, Ok, ap, ◌∙◌, arith}
 use Rattle.std.proofs.lemmas.Bool.Decides.{nat_tests}
 use Rattle.std.specs.Char.{is_ascii_digit}
 use Rattle.m4_frozen.specs.Spells.{is_blank, value_of}

@@ -1,5 +1,7 @@
 -- A fault of the bytes is what the reader answers, so there is one at most.
-use Rattle.std.proofs.Common.{◌≡◌, ℕ, zero, suc, ◌+◌, ◌-◌, ◌<◌, Bool, true, false, not, eqb, List, [], ◌∷◌, ◌++◌, length, Option, Some, Result, Ok, Err, refl, sym, ap, ◌∙◌, append_assoc, arith, inl, inr}
+use Rattle.std.proofs.Common.{◌≡◌, ℕ, zero, suc, ◌+◌, ◌-◌, ◌<◌, Bool, true, false, not, eqb, List, [], ◌∷◌, ◌++◌}
+use Rattle.std.proofs.Common.{length, Option, Some, Result, Ok, Err, refl, sym, ap, ◌∙◌, append_assoc, arith, inl}
+use Rattle.std.proofs.Common.{inr}
 use Rattle.std.specs.Prelude.{IsTrue, codes}
 use Rattle.std.proofs.lemmas.Bool.{not-true}
 use Rattle.std.proofs.lemmas.List.{length-append, append-nil}
@@ -9,12 +11,14 @@ use Rattle.m4_frozen.specs.declared.fault.FrozenKind.{FrozenKind}
 use Rattle.m4_frozen.specs.declared.fault.FrozenKind.TheVariants as kinds
 use Rattle.m4_frozen.specs.Directive.{Directive, Quotes, Comments, Text, Builtin}
 use Rattle.m4_frozen.specs.Spells.{Spells, SpellsAll}
-use Rattle.m4_frozen.specs.ReaderSteps.{refused, directive_at, skip_lines, next_at, directives_at, after_version, file_at, fault_of}
+use Rattle.m4_frozen.specs.ReaderSteps.{refused, directive_at, skip_lines, next_at, directives_at, after_version}
+use Rattle.m4_frozen.specs.ReaderSteps.{file_at, fault_of}
 use Rattle.m4_frozen.specs.Layout.{Layout, layout_of, pair_layout, diversion_layout, version_layout, first_is}
 use Rattle.m4_frozen.specs.FaultAt.{ExactFault, RowFits, FitsWithin, IsFront, IsFault, is_none_of}
 use Rattle.m4_frozen.proofs.SkippedLines.{skip_lines-append, skip_lines-open}
 use Rattle.m4_frozen.proofs.ByteTests.{test, both_true, eq_of}
-use Rattle.m4_frozen.proofs.ReadBack.{one_is_read, next_at-spelled, length-SpellsAll, version_at-number, file_at-spelled}
+use Rattle.m4_frozen.proofs.ReadBack.{one_is_read, next_at-spelled, length-SpellsAll, version_at-number}
+use Rattle.m4_frozen.proofs.ReadBack.{file_at-spelled}
 use Rattle.m4_frozen.proofs.Parts.{layout_at}
 use Rattle.m4_frozen.proofs.Spelled.{pair_is_layout, diversion_is_layout, version_is_layout}
 use Rattle.m4_frozen.proofs.RowsRefused.{layout_refused}

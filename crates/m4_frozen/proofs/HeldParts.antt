@@ -1,5 +1,6 @@
 -- The bytes between two places of a room, to which more were appended.
-use Rattle.std.proofs.Common.{◌≡◌, ℕ, zero, suc, ◌+◌, ◌-◌, ◌≤◌, List, [], ◌∷◌, ◌++◌, length, take, drop, refl, sym, ap, ◌∙◌, arith}
+use Rattle.std.proofs.Common.{◌≡◌, ℕ, zero, suc, ◌+◌, ◌-◌, ◌≤◌, List, [], ◌∷◌, ◌++◌, length, take, drop, refl, sym}
+use Rattle.std.proofs.Common.{ap, ◌∙◌, arith}
 use Rattle.std.proofs.Math.Seq.{take-add, drop-nil}
 use Rattle.std.specs.Prelude.{Result, Ok}
 use Rattle.m4_state.specs.declared.device.DeviceFault.{DeviceFault}

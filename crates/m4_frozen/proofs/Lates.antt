@@ -1,5 +1,7 @@
 -- Directives are put with the byte before them and without their last: each put ends inside one.
-use Rattle.std.proofs.Common.{◌≡◌, ◌≢◌, ℕ, ◌+◌, ◌<◌, Bool, true, false, cond, List, [], ◌∷◌, ◌++◌, map, length, get_or, drop, drop-cons, add-one, Option, Result, Ok, Err, refl, sym, ap, subst, ◌∙◌, append_assoc, inl, inr, ◌⊎◌}
+use Rattle.std.proofs.Common.{◌≡◌, ◌≢◌, ℕ, ◌+◌, ◌<◌, Bool, true, false, cond, List, [], ◌∷◌, ◌++◌, map, length}
+use Rattle.std.proofs.Common.{get_or, drop, drop-cons, add-one, Option, Result, Ok, Err, refl, sym, ap, subst, ◌∙◌}
+use Rattle.std.proofs.Common.{append_assoc, inl, inr, ◌⊎◌}
 use Rattle.std.specs.Prelude.{decimal, IsErr, OnErr}
 use Rattle.std.specs.Fmt.{signed_decimal}
 use Rattle.std.specs.List.{flat_map}
@@ -13,7 +15,8 @@ use Rattle.m4_frozen.specs.Directive.{Directive, Quotes, Comments, Text, Builtin
 use Rattle.m4_frozen.specs.Freeze.{two_strings, spelling, header, same_delimiters, unless_default}
 use Rattle.m4_state.specs.declared.delimiters.Delimiters.{Delimiters}
 use Rattle.m4_frozen.specs.Torn.{IsTornHeader, IsTornDirective}
-use Rattle.m4_frozen.specs.WriterSteps.{late, late_pair, delimiters_text, header_start, IsStopInOne, StopsInOne, IsInside, IsStop, Stops, PutsAll, HasPutAll, StopsTorn}
+use Rattle.m4_frozen.specs.WriterSteps.{late, late_pair, delimiters_text, header_start, IsStopInOne, StopsInOne}
+use Rattle.m4_frozen.specs.WriterSteps.{IsInside, IsStop, Stops, PutsAll, HasPutAll, StopsTorn}
 
 -- ---- a directive with the byte before it, and without its last byte
 

@@ -1,5 +1,6 @@
 -- A name's text that is read as its bytes come.
-use Rattle.std.proofs.Common.{◌≡◌, ℕ, suc, ◌-◌, ◌≤◌, true, List, [], ◌∷◌, ◌++◌, length, Option, Some, None, Result, Ok, Err, refl, sym, ap, subst, ◌∙◌, append_assoc, inl, inr}
+use Rattle.std.proofs.Common.{◌≡◌, ℕ, suc, ◌-◌, ◌≤◌, true, List, [], ◌∷◌, ◌++◌, length, Option, Some, None, Result}
+use Rattle.std.proofs.Common.{Ok, Err, refl, sym, ap, subst, ◌∙◌, append_assoc, inl, inr}
 use Rattle.std.proofs.lemmas.List.{append-nil}
 use Rattle.m4_state.specs.State.{State, pushed}
 use Rattle.m4_state.specs.declared.definition.Def.TheVariants as defs
@@ -12,12 +13,15 @@ use Rattle.m4_frozen.specs.declared.loading.Loading.{Loading}
 use Rattle.m4_frozen.specs.Denote.{denote}
 use Rattle.m4_frozen.specs.Directive.{Directive, Text}
 use Rattle.m4_frozen.specs.Layout.{Length, Comma, NewLine, String, Layout, Done, Then}
-use Rattle.m4_frozen.specs.ReaderSteps.{◌>>=◌, string_at, expect_byte, pair_head_at, pair_at, directive_at, directives_at, file_at}
-use Rattle.m4_frozen.specs.Underway.{IsAtDirective, text_left, HasRead, HasReadNamed, HasReadText, ReadAs, IsRead, short}
+use Rattle.m4_frozen.specs.ReaderSteps.{◌>>=◌, string_at, expect_byte, pair_head_at, pair_at, directive_at}
+use Rattle.m4_frozen.specs.ReaderSteps.{directives_at, file_at}
+use Rattle.m4_frozen.specs.Underway.{IsAtDirective, text_left, HasRead, HasReadNamed, HasReadText, ReadAs, IsRead}
+use Rattle.m4_frozen.specs.Underway.{short}
 use Rattle.m4_frozen.proofs.ReadBack.{pair_head_at-spelled, comma_on}
 use Rattle.m4_frozen.proofs.Parts.{Step, layout_at, LayoutSays, layout_says}
 use Rattle.m4_frozen.proofs.Spelled.{bind_assoc}
-use Rattle.m4_frozen.proofs.TextRead.{then_all, then_text, as_next, after_next, within_opened, within_more, within_short, has_read_closed, text_ends}
+use Rattle.m4_frozen.proofs.TextRead.{then_all, then_text, as_next, after_next, within_opened, within_more}
+use Rattle.m4_frozen.proofs.TextRead.{within_short, has_read_closed, text_ends}
 
 -- the first string of a pair and the length of the second, by their parts
 abbrev head_layout : Layout (List ℕ × ℕ)

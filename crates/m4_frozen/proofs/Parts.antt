@@ -1,5 +1,7 @@
 -- A part is read, or a row of the table fits there.
-use Rattle.std.proofs.Common.{◌≡◌, ℕ, zero, suc, ◌+◌, ◌<◌, ◌^◌, Bool, true, false, cond, ◌&&◌, not, ltb, eqb, List, [], ◌∷◌, ◌++◌, length, take, Result, Ok, Err, refl, sym, ap, subst, ◌∙◌, append_assoc, arith, inl, inr, ◌⊎◌}
+use Rattle.std.proofs.Common.{◌≡◌, ℕ, zero, suc, ◌+◌, ◌<◌, ◌^◌, Bool, true, false, cond, ◌&&◌, not, ltb, eqb, List}
+use Rattle.std.proofs.Common.{[], ◌∷◌, ◌++◌, length, take, Result, Ok, Err, refl, sym, ap, subst, ◌∙◌, append_assoc}
+use Rattle.std.proofs.Common.{arith, inl, inr, ◌⊎◌}
 use Rattle.std.specs.Prelude.{IsTrue, FitsSigned, ℤ}
 use Rattle.std.specs.Int.{w32}
 use Rattle.std.specs.List.{list_all}
@@ -12,8 +14,10 @@ use Rattle.m4_frozen.specs.declared.fault.Refusal.{Refusal}
 use Rattle.m4_frozen.specs.declared.fault.FrozenKind.{FrozenKind}
 use Rattle.m4_frozen.specs.declared.fault.FrozenKind.TheVariants as kinds
 use Rattle.m4_frozen.specs.Spells.{is_blank, AreBlanks, AreDigits, value_of, signed, with_sign}
-use Rattle.m4_frozen.specs.ReaderSteps.{◌>>=◌, refused, skip_blanks, digits_at, some_digits_at, one_at_least, length_at, expect_byte, string_at, magnitude_at, signed_at, version_at}
-use Rattle.m4_frozen.specs.Layout.{Part, Version, Length, Number, Comma, NewLine, String, Value, Layout, Done, Then, IsPart, IsEnded, no_digit_first, first_is, IsWrong, IsWrongWithin}
+use Rattle.m4_frozen.specs.ReaderSteps.{◌>>=◌, refused, skip_blanks, digits_at, some_digits_at, one_at_least}
+use Rattle.m4_frozen.specs.ReaderSteps.{length_at, expect_byte, string_at, magnitude_at, signed_at, version_at}
+use Rattle.m4_frozen.specs.Layout.{Part, Version, Length, Number, Comma, NewLine, String, Value, Layout, Done, Then}
+use Rattle.m4_frozen.specs.Layout.{IsPart, IsEnded, no_digit_first, first_is, IsWrong, IsWrongWithin}
 use Rattle.m4_frozen.proofs.ByteTests.{by_test, test, eq_of, lt_of, ge_of}
 use Rattle.m4_frozen.proofs.Digits.{digits_are}
 use Rattle.m4_frozen.proofs.ReadBack.{magnitude_fits}

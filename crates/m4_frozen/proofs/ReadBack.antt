@@ -1,5 +1,6 @@
 -- What is spelled is read again.
-use Rattle.std.proofs.Common.{◌≡◌, ℕ, zero, suc, ◌+◌, ◌<◌, ◌≤◌, ◌^◌, Bool, true, false, cond, ltb, eqb, List, [], ◌∷◌, ◌++◌, length, Some, Result, Ok, refl, sym, ap, ◌∙◌, append_assoc, arith}
+use Rattle.std.proofs.Common.{◌≡◌, ℕ, zero, suc, ◌+◌, ◌<◌, ◌≤◌, ◌^◌, Bool, true, false, cond, ltb, eqb, List, [], ◌∷◌}
+use Rattle.std.proofs.Common.{◌++◌, length, Some, Result, Ok, refl, sym, ap, ◌∙◌, append_assoc, arith}
 use Rattle.std.specs.Prelude.{IsTrue}
 use Rattle.std.specs.Prelude.{FitsSigned, ℤ}
 use Rattle.std.specs.Int.{w32}
@@ -9,12 +10,17 @@ use Rattle.std.proofs.lemmas.Bool.{lt-ltb, le-ltb, not-true}
 use Rattle.std.proofs.lemmas.List.{take_at, drop_at, length-append}
 use Rattle.std.proofs.lemmas.Int.{ints}
 use Rattle.std.proofs.lemmas.Bool.Decides.{nat_tests}
-use Rattle.m4_frozen.specs.Ascii.{newline, comma, minus_sign, letter_C, letter_D, letter_F, letter_Q, letter_T, letter_V}
+use Rattle.m4_frozen.specs.Ascii.{newline, comma, minus_sign, letter_C, letter_D, letter_F, letter_Q, letter_T}
+use Rattle.m4_frozen.specs.Ascii.{letter_V}
 use Rattle.m4_frozen.specs.declared.fault.Refusal.{Refusal}
 use Rattle.m4_frozen.specs.Directive.{Directive, Quotes, Comments, Text, Builtin, Diversion}
-use Rattle.m4_frozen.specs.Spells.{is_blank, AreBlanks, AreDigits, value_of, IsNumber, IsPair, AreSkippedLines, SpellsAll, Spells, signed, IsSigned, with_sign, IsDiversion, SpellsOne}
+use Rattle.m4_frozen.specs.Spells.{is_blank, AreBlanks, AreDigits, value_of, IsNumber, IsPair, AreSkippedLines}
+use Rattle.m4_frozen.specs.Spells.{SpellsAll, Spells, signed, IsSigned, with_sign, IsDiversion, SpellsOne}
 use Rattle.m4_frozen.specs.Layout.{no_digit_first}
-use Rattle.m4_frozen.specs.ReaderSteps.{skip_blanks, digits_at, some_digits_at, one_at_least, length_at, string_at, pair_head_at, pair_at, with_pair, magnitude_at, signed_at, head_at, diversion_at, directive_at, skip_lines, next_at, directives_at, version_at, file_at}
+use Rattle.m4_frozen.specs.ReaderSteps.{skip_blanks, digits_at, some_digits_at, one_at_least, length_at, string_at}
+use Rattle.m4_frozen.specs.ReaderSteps.{pair_head_at, pair_at, with_pair, magnitude_at, signed_at, head_at}
+use Rattle.m4_frozen.specs.ReaderSteps.{diversion_at, directive_at, skip_lines, next_at, directives_at, version_at}
+use Rattle.m4_frozen.specs.ReaderSteps.{file_at}
 use Rattle.m4_frozen.proofs.SkippedLines.{skip_lines-append, skip_lines-last}
 use Rattle.m4_frozen.proofs.ByteTests.{both_true}
 

@@ -1,5 +1,7 @@
 -- A file that is read on: lines are skipped, the version or a directive is read, or it is refused.
-use Rattle.std.proofs.Common.{◌≡◌, ℕ, zero, suc, ◌+◌, ◌-◌, ◌<◌, ◌≤◌, Bool, true, false, eqb, List, [], ◌∷◌, ◌++◌, length, take, drop, Option, Some, None, Result, Ok, Err, refl, sym, ap, subst, ◌∙◌, append_assoc, arith, inl, inr}
+use Rattle.std.proofs.Common.{◌≡◌, ℕ, zero, suc, ◌+◌, ◌-◌, ◌<◌, ◌≤◌, Bool, true, false, eqb, List, [], ◌∷◌, ◌++◌}
+use Rattle.std.proofs.Common.{length, take, drop, Option, Some, None, Result, Ok, Err, refl, sym, ap, subst, ◌∙◌}
+use Rattle.std.proofs.Common.{append_assoc, arith, inl, inr}
 use Rattle.std.specs.Prelude.{fold}
 use Rattle.std.proofs.lemmas.List.{append-nil, length-append, drop_at, drop-drop, take-append-drop}
 use Rattle.std.proofs.lemmas.List.Elements.{All-nil}
@@ -19,13 +21,17 @@ use Rattle.m4_frozen.specs.declared.directive.Directive.{Directive as CodeDirect
 use Rattle.m4_frozen.specs.declared.directive.Directive.TheVariants as code
 use Rattle.m4_frozen.specs.Outcome.{Loads}
 use Rattle.m4_frozen.specs.Spells.{IsPair, IsSkippedLine, AreSkippedLines}
-use Rattle.m4_frozen.specs.ReaderSteps.{◌>>=◌, skip_lines, next_at, directive_at, directives_at, after_version, file_at, is_settled}
+use Rattle.m4_frozen.specs.ReaderSteps.{◌>>=◌, skip_lines, next_at, directive_at, directives_at, after_version}
+use Rattle.m4_frozen.specs.ReaderSteps.{file_at, is_settled}
 use Rattle.m4_frozen.proofs.ByteTests.{test}
-use Rattle.m4_frozen.specs.Underway.{EndsWith, IsPlaced, IsAtDirective, Skips, with_front, left_at, HasRead, ReadAs, IsRead, HasReadOne, HasAdvanced, HasPaused, Keeps, ReadsOne, IsWithin, PausesAt, Advances, EndsSo, stays}
+use Rattle.m4_frozen.specs.Underway.{EndsWith, IsPlaced, IsAtDirective, Skips, with_front, left_at, HasRead, ReadAs}
+use Rattle.m4_frozen.specs.Underway.{IsRead, HasReadOne, HasAdvanced, HasPaused, Keeps, ReadsOne, IsWithin, PausesAt}
+use Rattle.m4_frozen.specs.Underway.{Advances, EndsSo, stays}
 use Rattle.m4_frozen.proofs.SkippedLines.{skip_lines-append}
 use Rattle.m4_frozen.proofs.ReadBack.{one_is_read, next_at-spelled, version_at-number}
 use Rattle.m4_frozen.proofs.Parts.{Step}
-use Rattle.m4_frozen.proofs.Spelled.{DirectiveSays, directive_says, StartSays, start_says_of, has_lines, HasLines, and_nots}
+use Rattle.m4_frozen.proofs.Spelled.{DirectiveSays, directive_says, StartSays, start_says_of, has_lines, HasLines}
+use Rattle.m4_frozen.proofs.Spelled.{and_nots}
 use Rattle.m4_frozen.proofs.Answered.{read_is_spelled}
 
 -- the reading after no directives

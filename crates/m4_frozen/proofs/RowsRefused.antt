@@ -1,5 +1,6 @@
 -- Where a row of the table fits, the reader answers its fault.
-use Rattle.std.proofs.Common.{◌≡◌, ℕ, ◌+◌, ◌<◌, ◌^◌, Bool, true, false, cond, ◌&&◌, not, ltb, eqb, List, [], ◌∷◌, ◌++◌, length, Ok, refl, ap, ◌∙◌, append_assoc, inl, inr}
+use Rattle.std.proofs.Common.{◌≡◌, ℕ, ◌+◌, ◌<◌, ◌^◌, Bool, true, false, cond, ◌&&◌, not, ltb, eqb, List, [], ◌∷◌}
+use Rattle.std.proofs.Common.{◌++◌, length, Ok, refl, ap, ◌∙◌, append_assoc, inl, inr}
 use Rattle.std.specs.Prelude.{IsTrue, FitsSigned}
 use Rattle.std.specs.Int.{w32}
 use Rattle.std.specs.List.{list_all}
@@ -10,11 +11,15 @@ use Rattle.m4_frozen.specs.Ascii.{newline, comma, minus_sign}
 use Rattle.m4_frozen.specs.declared.fault.FrozenKind.{FrozenKind}
 use Rattle.m4_frozen.specs.declared.fault.FrozenKind.TheVariants as kinds
 use Rattle.m4_frozen.specs.Spells.{is_blank, AreBlanks, AreDigits, value_of, signed, with_sign}
-use Rattle.m4_frozen.specs.ReaderSteps.{refused, skip_blanks, some_digits_at, length_at, expect_byte, string_at, signed_at, version_at}
-use Rattle.m4_frozen.specs.Layout.{Part, Version, Length, Number, Comma, NewLine, String, Value, Layout, Done, Then, IsPart, IsEnded, no_digit_first, first_is, IsWrongVersion, LacksNumber, IsTooLarge, LacksSeparator, NeedsMore, IsMinus, IsWrong, IsWrongWithin}
+use Rattle.m4_frozen.specs.ReaderSteps.{refused, skip_blanks, some_digits_at, length_at, expect_byte, string_at}
+use Rattle.m4_frozen.specs.ReaderSteps.{signed_at, version_at}
+use Rattle.m4_frozen.specs.Layout.{Part, Version, Length, Number, Comma, NewLine, String, Value, Layout, Done, Then}
+use Rattle.m4_frozen.specs.Layout.{IsPart, IsEnded, no_digit_first, first_is, IsWrongVersion, LacksNumber, IsTooLarge}
+use Rattle.m4_frozen.specs.Layout.{LacksSeparator, NeedsMore, IsMinus, IsWrong, IsWrongWithin}
 use Rattle.m4_frozen.proofs.ByteTests.{test, both_true}
 use Rattle.m4_frozen.proofs.Parts.{part_at, layout_at, fits_of}
-use Rattle.m4_frozen.proofs.ReadBack.{skip_blanks-append, skip_blanks-digits, some_digits_at-digits, length_at-number, version_at-number, string_at-append, signed_at-digits, digit_is_no_sign}
+use Rattle.m4_frozen.proofs.ReadBack.{skip_blanks-append, skip_blanks-digits, some_digits_at-digits, length_at-number}
+use Rattle.m4_frozen.proofs.ReadBack.{version_at-number, string_at-append, signed_at-digits, digit_is_no_sign}
 
 -- a correct part is read
 pub part_described : (p : Part) (v : Value p) (one rest : List ℕ) → IsPart p v one → IsEnded p rest

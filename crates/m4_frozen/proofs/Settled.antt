@@ -1,5 +1,6 @@
 -- Which faults are settled by the bytes that have them.
-use Rattle.std.proofs.Common.{◌≡◌, ◌≢◌, ℕ, ◌+◌, ◌-◌, ◌*◌, ◌<◌, ◌≤◌, ◌^◌, Bool, true, false, cond, List, [], ◌∷◌, ◌++◌, refl, ap, append_assoc, arith, inl, inr}
+use Rattle.std.proofs.Common.{◌≡◌, ◌≢◌, ℕ, ◌+◌, ◌-◌, ◌*◌, ◌<◌, ◌≤◌, ◌^◌, Bool, true, false, cond, List, [], ◌∷◌, ◌++◌}
+use Rattle.std.proofs.Common.{refl, ap, append_assoc, arith, inl, inr}
 use Rattle.std.specs.Prelude.{IsTrue, FitsSigned}
 use Rattle.std.specs.Int.{w32}
 use Rattle.std.specs.List.{list_all}
@@ -10,7 +11,9 @@ use Rattle.m4_frozen.specs.declared.fault.FrozenKind.{FrozenKind}
 use Rattle.m4_frozen.specs.declared.fault.FrozenKind.TheVariants as kinds
 use Rattle.m4_frozen.specs.Spells.{AreDigits, value_of, value_from, signed, with_sign}
 use Rattle.m4_frozen.specs.ReaderSteps.{digits_at}
-use Rattle.m4_frozen.specs.Layout.{Part, Version, Length, Number, Comma, NewLine, String, Layout, Done, Then, version_layout, IsEnded, no_digit_first, first_is, HasDigits, HasSigned, IsWrong, IsWrongWithin}
+use Rattle.m4_frozen.specs.Layout.{Part, Version, Length, Number, Comma, NewLine, String, Layout, Done, Then}
+use Rattle.m4_frozen.specs.Layout.{version_layout, IsEnded, no_digit_first, first_is, HasDigits, HasSigned, IsWrong}
+use Rattle.m4_frozen.specs.Layout.{IsWrongWithin}
 use Rattle.m4_frozen.specs.FaultAt.{ExactFault, RowFits, FitsWithin, IsFault}
 use Rattle.m4_frozen.proofs.ByteTests.{both_true, lt_of}
 use Rattle.m4_frozen.proofs.Digits.{digits_are, value_from-ge}

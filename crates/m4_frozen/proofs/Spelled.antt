@@ -1,5 +1,7 @@
 -- What the reader answers for a whole file is what the definitions say.
-use Rattle.std.proofs.Common.{◌≡◌, ℕ, zero, suc, ◌+◌, ◌-◌, ◌<◌, Bool, true, false, ◌&&◌, not, eqb, List, [], ◌∷◌, ◌++◌, length, Option, Some, None, Result, Ok, Err, refl, sym, ap, subst, ◌∙◌, append_assoc, arith, inl, inr, ◌⊎◌}
+use Rattle.std.proofs.Common.{◌≡◌, ℕ, zero, suc, ◌+◌, ◌-◌, ◌<◌, Bool, true, false, ◌&&◌, not, eqb, List, [], ◌∷◌}
+use Rattle.std.proofs.Common.{◌++◌, length, Option, Some, None, Result, Ok, Err, refl, sym, ap, subst, ◌∙◌}
+use Rattle.std.proofs.Common.{append_assoc, arith, inl, inr, ◌⊎◌}
 use Rattle.std.specs.Prelude.{IsTrue}
 use Rattle.std.specs.List.{list_all}
 use Rattle.std.proofs.lemmas.List.{length-append, append-nil}
@@ -8,9 +10,12 @@ use Rattle.m4_frozen.specs.declared.fault.Refusal.{Refusal}
 use Rattle.m4_frozen.specs.declared.fault.FrozenKind.{FrozenKind}
 use Rattle.m4_frozen.specs.declared.fault.FrozenKind.TheVariants as kinds
 use Rattle.m4_frozen.specs.Directive.{Directive, Quotes, Comments, Text, Builtin, Diversion}
-use Rattle.m4_frozen.specs.Spells.{IsSkippedLine, IsNumber, IsPair, IsDiversion, SpellsOne, AreSkippedLines, SpellsAll, Spells}
-use Rattle.m4_frozen.specs.ReaderSteps.{◌>>=◌, with_pair, pair_at, diversion_at, directive_at, skip_lines, next_at, directives_at, version_at, expect_byte, after_version, file_at}
-use Rattle.m4_frozen.specs.Layout.{Part, Layout, Done, Then, IsWrong, pair_layout, diversion_layout, version_layout, layout_of, IsWrongWithin}
+use Rattle.m4_frozen.specs.Spells.{IsSkippedLine, IsNumber, IsPair, IsDiversion, SpellsOne, AreSkippedLines}
+use Rattle.m4_frozen.specs.Spells.{SpellsAll, Spells}
+use Rattle.m4_frozen.specs.ReaderSteps.{◌>>=◌, with_pair, pair_at, diversion_at, directive_at, skip_lines, next_at}
+use Rattle.m4_frozen.specs.ReaderSteps.{directives_at, version_at, expect_byte, after_version, file_at}
+use Rattle.m4_frozen.specs.Layout.{Part, Layout, Done, Then, IsWrong, pair_layout, diversion_layout, version_layout}
+use Rattle.m4_frozen.specs.Layout.{layout_of, IsWrongWithin}
 use Rattle.m4_frozen.specs.FaultAt.{RowFits, IsFault}
 use Rattle.m4_frozen.specs.ReaderSteps.{fault_of}
 use Rattle.m4_frozen.proofs.SkippedLines.{are_skipped, passed_skipped}

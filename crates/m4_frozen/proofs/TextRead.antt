@@ -1,5 +1,8 @@
 -- A text that is read as its bytes come: a diversion's or a name's.
-use Rattle.std.proofs.Common.{◌≡◌, ◌≢◌, ℕ, zero, suc, ◌+◌, ◌-◌, ◌≤◌, ℤ, pos, negsuc, Bool, true, false, cond, ltb, eqb, List, [], ◌∷◌, ◌++◌, length, take, drop, min, Option, Some, None, unwrap_or, Ordering, Less, Equal, Greater, Result, Ok, Err, refl, sym, ap, subst, ◌∙◌, append_assoc, arith, inl, inr}
+use Rattle.std.proofs.Common.{◌≡◌, ◌≢◌, ℕ, zero, suc, ◌+◌, ◌-◌, ◌≤◌, ℤ, pos, negsuc, Bool, true, false, cond, ltb}
+use Rattle.std.proofs.Common.{eqb, List, [], ◌∷◌, ◌++◌, length, take, drop, min, Option, Some, None, unwrap_or}
+use Rattle.std.proofs.Common.{Ordering, Less, Equal, Greater, Result, Ok, Err, refl, sym, ap, subst, ◌∙◌}
+use Rattle.std.proofs.Common.{append_assoc, arith, inl, inr}
 use Rattle.std.specs.Prelude.{FitsSigned, IfSome}
 use Rattle.std.specs.Int.{w32}
 use Rattle.std.specs.Cmp.{int_cmp_total, tied_itself}
@@ -9,7 +12,8 @@ use Rattle.std.specs.FinMap.Entries.{by_order, find-put}
 use Rattle.std.proofs.lemmas.Bool.{lt-ltb, le-ltb}
 use Rattle.std.proofs.lemmas.List.{append-nil, length-append, take-append-drop}
 use Rattle.std.proofs.lemmas.Grind.{flat_map-append}
-use Rattle.m4_state.specs.State.{State, Diversion as NumberedText, empty, diverted, appended, with_text, text_at, holds_text}
+use Rattle.m4_state.specs.State.{State, Diversion as NumberedText, empty, diverted, appended, with_text, text_at}
+use Rattle.m4_state.specs.State.{holds_text}
 use Rattle.m4_frozen.specs.Ascii.{newline, letter_D}
 use Rattle.m4_frozen.specs.declared.fault.FrozenKind.TheVariants as kinds
 use Rattle.m4_frozen.specs.declared.fault.Refusal.{Refusal}
@@ -22,9 +26,12 @@ use Rattle.m4_frozen.specs.declared.loading.Pause.{Pause}
 use Rattle.m4_frozen.specs.Denote.{issued_by, denote, with_directive}
 use Rattle.m4_frozen.specs.Directive.{Directive, Diversion}
 use Rattle.m4_frozen.specs.Layout.{Length, Number, Comma, NewLine, Layout, Done, Then}
-use Rattle.m4_frozen.specs.ReaderSteps.{◌>>=◌, string_at, expect_byte, head_at, diversion_at, directive_at, directives_at, file_at}
+use Rattle.m4_frozen.specs.ReaderSteps.{◌>>=◌, string_at, expect_byte, head_at, diversion_at, directive_at}
+use Rattle.m4_frozen.specs.ReaderSteps.{directives_at, file_at}
 use Rattle.std.specs.Borrow.{Bor}
-use Rattle.m4_frozen.specs.Underway.{IsAtDirective, with_front, text_left, HasRead, HasReadIn, IsWithinText, HasReadText, ReadsText, ReadsRest, ReadAs, IsRead, Advances, EndsSo, ReadsOn, short, stays}
+use Rattle.m4_frozen.specs.Underway.{IsAtDirective, with_front, text_left, HasRead, HasReadIn, IsWithinText}
+use Rattle.m4_frozen.specs.Underway.{HasReadText, ReadsText, ReadsRest, ReadAs, IsRead, Advances, EndsSo, ReadsOn}
+use Rattle.m4_frozen.specs.Underway.{short, stays}
 use Rattle.m4_frozen.proofs.ByteTests.{test, lt_of, ge_of, eq_of}
 use Rattle.m4_frozen.proofs.ReadBack.{head_at-spelled, comma_on}
 use Rattle.m4_frozen.proofs.Parts.{Step, layout_at, LayoutSays, layout_says}

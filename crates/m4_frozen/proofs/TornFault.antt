@@ -1,5 +1,6 @@
 -- The fault of a torn beginning lies at its end.
-use Rattle.std.proofs.Common.{◌≡◌, ◌≢◌, ℕ, Bool, true, false, eqb, List, [], ◌∷◌, ◌++◌, Option, Some, refl, sym, ap, subst, ◌∙◌, append_assoc, length, inl, inr, ◌⊎◌, arith}
+use Rattle.std.proofs.Common.{◌≡◌, ◌≢◌, ℕ, Bool, true, false, eqb, List, [], ◌∷◌, ◌++◌, Option, Some, refl, sym, ap}
+use Rattle.std.proofs.Common.{subst, ◌∙◌, append_assoc, length, inl, inr, ◌⊎◌, arith}
 use Rattle.std.specs.Prelude.{codes}
 use Rattle.std.specs.List.{flat_map}
 use Rattle.std.proofs.lemmas.List.{append-nil}
@@ -11,7 +12,8 @@ use Rattle.m4_frozen.specs.Directive.{Directive, Quotes, Comments, Text, Builtin
 use Rattle.m4_frozen.specs.Freeze.{spelling, canonical, header, end_line, freeze}
 use Rattle.m4_frozen.specs.Spells.{AreBlanks, AreSkippedLines, IsSkippedLine, Spells, value_from}
 use Rattle.m4_frozen.specs.ReaderSteps.{skip_lines}
-use Rattle.m4_frozen.specs.Layout.{Part, Version, Value, Layout, Done, Then, version_layout, pair_layout, diversion_layout, layout_of, HasDigits, IsWrongWithin}
+use Rattle.m4_frozen.specs.Layout.{Part, Version, Value, Layout, Done, Then, version_layout, pair_layout}
+use Rattle.m4_frozen.specs.Layout.{diversion_layout, layout_of, HasDigits, IsWrongWithin}
 use Rattle.m4_frozen.specs.FaultAt.{ExactFault, IsFront, RowFits, IsFault}
 use Rattle.m4_frozen.specs.Torn.{IsTornHeader, IsTornDirective, IsTorn}
 use Rattle.m4_frozen.specs.Laws.{TornFaults}

@@ -1,5 +1,6 @@
 -- A fault is settled by the bytes that have it just where it is firm.
-use Rattle.std.proofs.Common.{◌≡◌, ℕ, ◌<◌, ◌≤◌, ◌^◌, Bool, true, false, List, [], ◌∷◌, ◌++◌, length, drop, refl, sym, ap, ◌∙◌, append_assoc, arith, inl, inr, ◌⊎◌}
+use Rattle.std.proofs.Common.{◌≡◌, ℕ, ◌<◌, ◌≤◌, ◌^◌, Bool, true, false, List, [], ◌∷◌, ◌++◌, length, drop, refl, sym}
+use Rattle.std.proofs.Common.{ap, ◌∙◌, append_assoc, arith, inl, inr, ◌⊎◌}
 use Rattle.std.specs.Prelude.{IsTrue, ◌↔◌}
 use Rattle.std.specs.List.{list_all}
 use Rattle.std.specs.Char.{is_ascii_digit}
@@ -9,7 +10,8 @@ use Rattle.m4_frozen.specs.Ascii.{newline}
 use Rattle.m4_frozen.specs.declared.fault.FrozenKind.{FrozenKind}
 use Rattle.m4_frozen.specs.declared.fault.FrozenKind.TheVariants as kinds
 use Rattle.m4_frozen.specs.Spells.{IsSkippedLine, AreDigits, value_of, AreSkippedLines, with_sign}
-use Rattle.m4_frozen.specs.Layout.{Part, Version, Length, Number, Comma, NewLine, Layout, Done, Then, version_layout, no_digit_first, HasDigits, IsWrong, IsWrongWithin}
+use Rattle.m4_frozen.specs.Layout.{Part, Version, Length, Number, Comma, NewLine, Layout, Done, Then, version_layout}
+use Rattle.m4_frozen.specs.Layout.{no_digit_first, HasDigits, IsWrong, IsWrongWithin}
 use Rattle.m4_frozen.specs.FaultAt.{ExactFault, RowFits, FitsWithin, IsFault, IsSettledBy}
 use Rattle.m4_frozen.proofs.SkippedLines.{AreSkippedLines-push}
 use Rattle.m4_frozen.proofs.ByteTests.{test, both_true}

@@ -1,5 +1,6 @@
 -- A file that is read window by window: what goes on, and what is answered.
-use Rattle.std.proofs.Common.{◌≡◌, ◌≢◌, ℕ, ◌+◌, ◌-◌, ◌≤◌, subst, true, false, List, [], ◌++◌, length, drop, Option, Some, None, Result, Ok, Err, refl, sym, ap, ◌∙◌, append_assoc, arith, inl, inr}
+use Rattle.std.proofs.Common.{◌≡◌, ◌≢◌, ℕ, ◌+◌, ◌-◌, ◌≤◌, subst, true, false, List, [], ◌++◌, length, drop, Option}
+use Rattle.std.proofs.Common.{Some, None, Result, Ok, Err, refl, sym, ap, ◌∙◌, append_assoc, arith, inl, inr}
 use Rattle.std.specs.Prelude.{IfSome, IfOk, IfErr}
 use Rattle.std.proofs.lemmas.List.{length-append, drop_at}
 use Rattle.m4_state.specs.Device.{Script, after_bytes, IsAtEnd, IsAtFault}
@@ -18,7 +19,8 @@ use Rattle.m4_frozen.specs.Outcome.{IfFault, HasFault, IsFaultOf, Loads}
 use Rattle.m4_frozen.specs.Spells.{Spells}
 use Rattle.m4_frozen.specs.Underway.{EndsSo}
 use Rattle.m4_frozen.proofs.Answered.{read_is_spelled, not_read, fault_has_memory, failed_unless_stays, failed_if_read}
-use Rattle.m4_frozen.proofs.Remaining.{settled_of_reader, ended_of_reader, loaded_of_reader, failed_of_reader, refused_reported}
+use Rattle.m4_frozen.proofs.Remaining.{settled_of_reader, ended_of_reader, loaded_of_reader, failed_of_reader}
+use Rattle.m4_frozen.proofs.Remaining.{refused_reported}
 
 -- ---- offsets that stay at their greatest value
 

@@ -1,5 +1,6 @@
 -- Blocks: what several questions to a reader leave, one after another.
-use Rattle.std.proofs.Common.{◌≡◌, inr, ◌<◌, ℕ, suc, Bool, true, false, List, [], ◌∷◌, ◌++◌, length, Option, Some, None, refl, sym, ap, ◌∙◌, subst, arith, append_assoc}
+use Rattle.std.proofs.Common.{◌≡◌, inr, ◌<◌, ℕ, suc, Bool, true, false, List, [], ◌∷◌, ◌++◌, length, Option, Some}
+use Rattle.std.proofs.Common.{None, refl, sym, ap, ◌∙◌, subst, arith, append_assoc}
 use Rattle.std.specs.Prelude.{nat_lt, Ok, Err}
 use Rattle.std.proofs.lemmas.Bool.Decides.{nat_tests}
 use Rattle.m4_state.specs.Device.{Script, after_bytes, IsAtFault}
@@ -13,7 +14,8 @@ use Rattle.m4_input.specs.declared.front.Scan.TheVariants.{Found, NeedsMore}
 use Rattle.m4_input.specs.declared.token.Token.{Token}
 use Rattle.m4_input.specs.Pending.{Pending, text_of, consumed}
 use Rattle.m4_input.specs.Token.{Taken, front_by, front_from}
-use Rattle.m4_input.specs.Input.{Held, longer, all_read, after_line, Reads, Asks, wants_line, IsLasting, Stopped, StopAsks, IsLeft, wants_token, NextGives, SkipGives}
+use Rattle.m4_input.specs.Input.{Held, longer, all_read, after_line, Reads, Asks, wants_line, IsLasting, Stopped}
+use Rattle.m4_input.specs.Input.{StopAsks, IsLeft, wants_token, NextGives, SkipGives}
 use Rattle.m4_input.specs.Blocks.{BlockGives, LooksAt, LineGives}
 use Rattle.m4_input.proofs.Calls.{reads_nothing, asks_nothing}
 use Rattle.m4_input.proofs.Decided.{scan_open, line_open, no_newline}
@@ -94,7 +96,9 @@ module _ (wants : Pending → Type 0) where
   wanted : (s a : Option Script) (old h : Held) (x : List ℕ) (p : Pending) → HasAsked wants s a old h x p → p.may_follow ≡ true → wants p → wants (longer x true old.pending)
   wanted s a old h x p r m w = subst wants (r.reads.in_hand ∙ ap (λ (v : Bool). longer x v old.pending) m) w
 
-  pub asked_more : (s a b : Option Script) (old h new : Held) (x : List ℕ) (p : Pending) (came : Bool) → HasAsked wants s a old h x p → p.may_follow ≡ true → wants p → BlockGives a b h new (Ok came) → (y : List ℕ) × HasAsked wants s b old new (x ++ y) (longer y came p) × (new.pending ≡ longer y came h.pending)
+  pub asked_more : (s a b : Option Script) (old h new : Held) (x : List ℕ) (p : Pending) (came : Bool)
+      → HasAsked wants s a old h x p → p.may_follow ≡ true → wants p → BlockGives a b h new (Ok came)
+      → (y : List ℕ) × HasAsked wants s b old new (x ++ y) (longer y came p) × (new.pending ≡ longer y came h.pending)
   asked_more s a b old h new x p came r m w g =
       let y : List ℕ = g.0 in
       let was : (old.pending).may_follow ≡ true = r.reads.still m in
@@ -124,7 +128,10 @@ module _ (wants : Pending → Type 0) where
       )
 
   -- what is left where a call stopped
-  pub stopped_at : (f : InputFault) (s a b : Option Script) (old h new : Held) (x : List ℕ) (p : Pending) → IsLasting f → HasAsked wants s a old h x p → b ≡ a → new ≡ record h { fault = Some f } → (f ≡ faults.Read → IsAtFault b × wants (longer x true old.pending)) → Stopped f s b old new x p × StopAsks wants f old x p × (new.pending ≡ h.pending)
+  pub stopped_at : (f : InputFault) (s a b : Option Script) (old h new : Held) (x : List ℕ) (p : Pending)
+      → IsLasting f → HasAsked wants s a old h x p → b ≡ a → new ≡ record h { fault = Some f }
+      → (f ≡ faults.Read → IsAtFault b × wants (longer x true old.pending))
+      → Stopped f s b old new x p × StopAsks wants f old x p × (new.pending ≡ h.pending)
   stopped_at f s a b old h new x p l r e n w = (
     record {
       lasting = l;

@@ -1,5 +1,7 @@
 -- Consumed: a token takes at least a byte, and leaves less of the text.
-use Rattle.std.proofs.Common.{◌≡◌, ◌≢◌, Option, ℕ, ◌+◌, ◌-◌, ◌<◌, Bool, true, false, cond, ◌&&◌, List, [], ◌∷◌, ◌++◌, ◌≤◌, length, take, drop, Some, None, refl, sym, ap, ◌∙◌, arith, length-append, length-drop, append_assoc}
+use Rattle.std.proofs.Common.{◌≡◌, ◌≢◌, Option, ℕ, ◌+◌, ◌-◌, ◌<◌, Bool, true, false, cond, ◌&&◌, List, [], ◌∷◌, ◌++◌}
+use Rattle.std.proofs.Common.{◌≤◌, length, take, drop, Some, None, refl, sym, ap, ◌∙◌, arith, length-append}
+use Rattle.std.proofs.Common.{length-drop, append_assoc}
 use Rattle.std.proofs.lemmas.List.{take-append-le, drop-append-le, drop-drop}
 use Rattle.std.proofs.lemmas.Bool.Decides.{nat_tests}
 use Rattle.m4_state.specs.declared.definition.Def.{Def}
@@ -15,7 +17,8 @@ use Rattle.m4_input.specs.Ascii.{is_letter, is_name_byte}
 use Rattle.m4_input.specs.Pending.{Pending, text_of, counted, newlines_in, consumed}
 use Rattle.m4_input.specs.Input.{longer}
 use Rattle.m4_input.proofs.Parts.{counted_twice, newlines_further}
-use Rattle.m4_input.specs.Token.{begins, is_enabled, run_length, before, level, unended, comment_found, name_unless, string_found, kind_by, kind_of, scan_kind, scan}
+use Rattle.m4_input.specs.Token.{begins, is_enabled, run_length, before, level, unended, comment_found, name_unless}
+use Rattle.m4_input.specs.Token.{string_found, kind_by, kind_of, scan_kind, scan}
 
 pub text-consumed : (n : ℕ) (p : Pending) → length (text_of (consumed n p)) ≡ length (text_of p) - n
 text-consumed n p =

@@ -1,5 +1,6 @@
 -- Decided: all bytes of a closed input decide its token, whether a list follows, and the rest of its line.
-use Rattle.std.proofs.Common.{◌≡◌, ◌<◌, ◌≤◌, ◌&&◌, ◌||◌, ℕ, Bool, true, false, List, [], ◌∷◌, Option, Some, None, refl, sym, ap, ◌∙◌, subst, arith, length}
+use Rattle.std.proofs.Common.{◌≡◌, ◌<◌, ◌≤◌, ◌&&◌, ◌||◌, ℕ, Bool, true, false, List, [], ◌∷◌, Option, Some, None}
+use Rattle.std.proofs.Common.{refl, sym, ap, ◌∙◌, subst, arith, length}
 use Rattle.m4_state.specs.declared.delimiters.Delimiters.{Delimiters}
 use Rattle.m4_input.specs.declared.front.Answer.TheVariants.{Unknown}
 use Rattle.m4_input.specs.declared.front.Kind.{Kind}
@@ -7,7 +8,8 @@ use Rattle.m4_input.specs.declared.front.Kind.TheVariants.{CommentHere, NameHere
 use Rattle.m4_input.specs.declared.front.Scan.{Scan}
 use Rattle.m4_input.specs.declared.front.Scan.TheVariants.{Found, Broken, NeedsMore}
 use Rattle.m4_input.specs.Pending.{Pending, text_of, line_length}
-use Rattle.m4_input.specs.Token.{is_enabled, may_start, comment_found, string_found, name_unless, run_length, kind_by, kind_of, scan_kind, scan}
+use Rattle.m4_input.specs.Token.{is_enabled, may_start, comment_found, string_found, name_unless, run_length, kind_by}
+use Rattle.m4_input.specs.Token.{kind_of, scan_kind, scan}
 use Rattle.m4_input.specs.Ascii.{is_name_byte}
 use Rattle.m4_input.specs.Paren.{answer_by, paren_in}
 use Rattle.m4_input.proofs.OpenEnd.{long_not_cut}

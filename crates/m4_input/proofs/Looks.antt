@@ -1,12 +1,14 @@
 -- Looks: a token that begins with a letter is a name of at least one byte; one that begins with a begin-quote, if no
 -- token of another kind begins with this byte, is a string.
-use Rattle.std.proofs.Common.{◌≡◌, ◌<◌, ◌&&◌, ℕ, Bool, true, false, List, [], ◌∷◌, Option, drop, sym, ◌∙◌, subst, arith, ap, refl, eq-eqb}
+use Rattle.std.proofs.Common.{◌≡◌, ◌<◌, ◌&&◌, ℕ, Bool, true, false, List, [], ◌∷◌, Option, drop, sym, ◌∙◌, subst}
+use Rattle.std.proofs.Common.{arith, ap, refl, eq-eqb}
 use Rattle.std.specs.Prelude.{suc, ◌||◌}
 use Rattle.m4_state.specs.declared.delimiters.Delimiters.{Delimiters}
 use Rattle.m4_input.specs.declared.front.Kind.{Kind}
 use Rattle.m4_input.specs.declared.front.Kind.TheVariants.{NameHere, StringHere}
 use Rattle.m4_input.specs.Ascii.{is_letter, is_digit, is_name_byte}
-use Rattle.m4_input.specs.Token.{run_length, level, starts_with, may_start, kind_by, kind_of, string_found, string_at, scan_kind, scan}
+use Rattle.m4_input.specs.Token.{run_length, level, starts_with, may_start, kind_by, kind_of, string_found, string_at}
+use Rattle.m4_input.specs.Token.{scan_kind, scan}
 use Rattle.m4_input.proofs.ShortQuotes.{short, same_level}
 
 letter_of : (v w l x y : Bool) → kind_by v w l x y ≡ NameHere → l ≡ true

@@ -1,5 +1,7 @@
 -- OpenEnd: what an open end decides, more bytes don't change.
-use Rattle.std.proofs.Common.{◌≡◌, ◌≢◌, ◌⊎◌, inl, inr, ⊎_elim, Option, ℕ, zero, suc, ◌+◌, ◌-◌, ◌<◌, ◌≤◌, Bool, true, false, ◌&&◌, ◌||◌, eqb, eq-eqb, List, [], ◌∷◌, ◌++◌, length, take, drop, Some, None, refl, sym, ap, ◌∙◌, subst, arith, length-append, length-drop}
+use Rattle.std.proofs.Common.{◌≡◌, ◌≢◌, ◌⊎◌, inl, inr, ⊎_elim, Option, ℕ, zero, suc, ◌+◌, ◌-◌, ◌<◌, ◌≤◌, Bool, true}
+use Rattle.std.proofs.Common.{false, ◌&&◌, ◌||◌, eqb, eq-eqb, List, [], ◌∷◌, ◌++◌, length, take, drop, Some, None}
+use Rattle.std.proofs.Common.{refl, sym, ap, ◌∙◌, subst, arith, length-append, length-drop}
 use Rattle.std.specs.Prelude.{nat_lt}
 use Rattle.std.proofs.lemmas.Bool.Decides.{nat_tests}
 use Rattle.std.proofs.lemmas.Bool.{eqb-true}
@@ -16,7 +18,9 @@ use Rattle.m4_input.specs.declared.front.Kind.TheVariants.{CommentHere, NameHere
 use Rattle.m4_input.specs.declared.front.Answer.TheVariants.{Unknown}
 use Rattle.m4_input.specs.Ascii.{is_letter, is_name_byte}
 use Rattle.m4_input.specs.Pending.{one_more}
-use Rattle.m4_input.specs.Token.{begins, is_cut, is_enabled, starts_with, may_start, run_length, before, mark_by, mark_at, level, comment_found, name_unless, name_at, string_found, string_at, kind_by, kind_of, scan_kind, scan}
+use Rattle.m4_input.specs.Token.{begins, is_cut, is_enabled, starts_with, may_start, run_length, before, mark_by}
+use Rattle.m4_input.specs.Token.{mark_at, level, comment_found, name_unless, name_at, string_found, string_at}
+use Rattle.m4_input.specs.Token.{kind_by, kind_of, scan_kind, scan}
 use Rattle.m4_input.specs.Paren.{answer_by, paren_in}
 
 and_true : (a b : Bool) → (a && b) ≡ true → (a ≡ true) × (b ≡ true)
@@ -261,7 +265,9 @@ front_stays q c p b y z = go (starts_with c (b ∷ y)) (may_start c true (b ∷ 
         go' true false e = refl
         go' false v e = refl
 
-    go : (t u v w x : Bool) {t' u' w' x' : Bool} → ((t ≡ true → t' ≡ true) × (t ≡ false → u ≡ false → t' ≡ false)) → ((w ≡ true → w' ≡ true) × (w ≡ false → x ≡ false → w' ≡ false)) → (u ≡ false → u' ≡ false) → (x ≡ false → x' ≡ false) → (kind_by t u v w x ≡ Undecided) ⊎ (kind_by t' u' v w' x' ≡ kind_by t u v w x)
+    go : (t u v w x : Bool) {t' u' w' x' : Bool} → ((t ≡ true → t' ≡ true) × (t ≡ false → u ≡ false → t' ≡ false))
+        → ((w ≡ true → w' ≡ true) × (w ≡ false → x ≡ false → w' ≡ false)) → (u ≡ false → u' ≡ false)
+        → (x ≡ false → x' ≡ false) → (kind_by t u v w x ≡ Undecided) ⊎ (kind_by t' u' v w' x' ≡ kind_by t u v w x)
     go true u v w x f g h i = inr (rw (f.0 refl) refl)
     go false true v w x f g h i = inl refl
     go false false true w x f g h i = inr (rw (f.1 refl refl, h refl) refl)
@@ -288,7 +294,10 @@ scan_front_stays StringHere q c p b y z h g =
 scan_front_stays ByteHere q c p b y z h g = inr refl
 scan_front_stays Undecided q c p b y z h g = inl refl
 
-front_long : (q c : Delimiters) (b : ℕ) (y : List ℕ) (t u v w x : Bool) → (t ≡ true → length c.begin ≤ length (b ∷ y)) → (w ≡ true → length q.begin ≤ length (b ∷ y)) → (kind_by t u v w x ≡ CommentHere → length c.begin ≤ length (b ∷ y)) × (kind_by t u v w x ≡ StringHere → length q.begin ≤ length (b ∷ y))
+front_long : (q c : Delimiters) (b : ℕ) (y : List ℕ) (t u v w x : Bool) → (t ≡ true → length c.begin ≤ length (b ∷ y))
+    → (w ≡ true → length q.begin ≤ length (b ∷ y))
+    → (kind_by t u v w x ≡ CommentHere → length c.begin ≤ length (b ∷ y))
+      × (kind_by t u v w x ≡ StringHere → length q.begin ≤ length (b ∷ y))
 front_long q c b y true u v w x f g = ((λ _. f refl), (λ e. cc))
 front_long q c b y false true v w x f g = ((λ e. cc), (λ e. cc))
 front_long q c b y false false true w x f g = ((λ e. cc), (λ e. cc))

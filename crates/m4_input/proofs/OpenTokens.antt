@@ -1,5 +1,7 @@
 -- OpenTokens: a string is followed from mark to mark, and a token that goes on over blocks is looked at once.
-use Rattle.std.proofs.Common.{◌≡◌, ◌⊎◌, inl, inr, ⊎_elim, ℕ, zero, suc, ◌+◌, ◌-◌, ◌<◌, ◌≤◌, Bool, true, false, eqb, eq-eqb, List, [], ◌∷◌, ◌++◌, length, drop, Option, Some, None, refl, sym, ap, ◌∙◌, subst, arith, append_assoc, length-append, length-drop, max, get_or}
+use Rattle.std.proofs.Common.{◌≡◌, ◌⊎◌, inl, inr, ⊎_elim, ℕ, zero, suc, ◌+◌, ◌-◌, ◌<◌, ◌≤◌, Bool, true, false, eqb}
+use Rattle.std.proofs.Common.{eq-eqb, List, [], ◌∷◌, ◌++◌, length, drop, Option, Some, None, refl, sym, ap, ◌∙◌}
+use Rattle.std.proofs.Common.{subst, arith, append_assoc, length-append, length-drop, max, get_or}
 use Rattle.std.specs.Prelude.{nat_lt}
 use Rattle.std.proofs.lemmas.List.{append-nil, drop-append-le, drop-drop, drop_all, drop_more}
 use Rattle.std.proofs.lemmas.Bool.Decides.{nat_tests}
@@ -14,9 +16,12 @@ use Rattle.m4_input.specs.declared.open_token.OpenToken.TheVariants as opens
 use Rattle.m4_input.specs.declared.strings.Reached.TheVariants as reached
 use Rattle.m4_input.specs.Ascii.{is_name_byte}
 use Rattle.m4_input.specs.Pending.{one_more}
-use Rattle.m4_input.specs.Token.{begins, run_length, before, mark_at, level, comment_found, comment_at, name_unless, name_at, string_found, string_at, scan_kind, scan}
-use Rattle.m4_input.specs.OpenToken.{further, kind_in, MayCome, HasPassed, Reaches, NameIsOpen, CommentIsOpen, StringIsOpen, IsOpenAt, StaysOpen, CommentGoesOn}
-use Rattle.m4_input.proofs.Scans.{on_mark, level_at, passed_mark, further_further, one_further, before_step, begins_length, mark_down, mark_up}
+use Rattle.m4_input.specs.Token.{begins, run_length, before, mark_at, level, comment_found, comment_at, name_unless}
+use Rattle.m4_input.specs.Token.{name_at, string_found, string_at, scan_kind, scan}
+use Rattle.m4_input.specs.OpenToken.{further, kind_in, MayCome, HasPassed, Reaches, NameIsOpen, CommentIsOpen}
+use Rattle.m4_input.specs.OpenToken.{StringIsOpen, IsOpenAt, StaysOpen, CommentGoesOn}
+use Rattle.m4_input.proofs.Scans.{on_mark, level_at, passed_mark, further_further, one_further, before_step}
+use Rattle.m4_input.proofs.Scans.{begins_length, mark_down, mark_up}
 use Rattle.m4_input.proofs.OpenEnd.{mark_stays, front_stays, begins_none, long_not_cut}
 use Rattle.m4_input.proofs.ShortQuotes.{short, same_mark, short_level}
 
@@ -42,7 +47,10 @@ none_passed q o n x = record {
 }
 
 -- a mark of d bytes is passed
-passed_on : (q : Delimiters) (o : Bool) (n : ℕ) (x : List ℕ) (m k b i d : ℕ) → HasPassed q o n x m k → drop k x ≡ b ∷ drop (k + 1) x → 0 < d → d ≤ length (drop k x) → i ≤ suc m → ((p : Bool) (z : List ℕ) → MayCome o p z → level q p m 0 (b ∷ (drop (k + 1) x ++ z)) ≡ one_more (level q p i (d - 1) (drop (k + 1) x ++ z))) → HasPassed q o n x i (k + d)
+passed_on : (q : Delimiters) (o : Bool) (n : ℕ) (x : List ℕ) (m k b i d : ℕ) → HasPassed q o n x m k
+    → drop k x ≡ b ∷ drop (k + 1) x → 0 < d → d ≤ length (drop k x) → i ≤ suc m
+    → ((p : Bool) (z : List ℕ) → MayCome o p z → level q p m 0 (b ∷ (drop (k + 1) x ++ z))
+      ≡ one_more (level q p i (d - 1) (drop (k + 1) x ++ z))) → HasPassed q o n x i (k + d)
 passed_on q o n x m k b i d s e pos fits low is =
     let len : length (drop k x) ≡ length x - k = length-drop k x in
     let w : k ≤ length x = s.within in

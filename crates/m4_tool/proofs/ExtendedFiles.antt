@@ -1,12 +1,14 @@
 -- The sources of a run, by the files of its line: those that its files may have been extend what was read.
-use Rattle.std.proofs.Common.{◌≡◌, Bool, true, false, List, [], ◌∷◌, ◌++◌, ℕ, map, get_or, drop, Option, Some, None, refl, sym, ap, ◌∙◌, subst, append_assoc, append-nil}
+use Rattle.std.proofs.Common.{◌≡◌, Bool, true, false, List, [], ◌∷◌, ◌++◌, ℕ, map, get_or, drop, Option, Some, None}
+use Rattle.std.proofs.Common.{refl, sym, ap, ◌∙◌, subst, append_assoc, append-nil}
 use Rattle.std.specs.Prelude.{option_map, unwrap_or}
 use Rattle.m4_state.specs.Device.{Script, after_bytes}
 use Rattle.m4_engine.specs.declared.options.Options.{Options}
 use Rattle.m4_engine.specs.declared.source.Source.{Source as RunSource}
 use Rattle.m4_engine.specs.declared.source.Source.TheVariants as sources
 use Rattle.m4_engine.specs.File.{Source, Opened, Unopened}
-use Rattle.m4_engine.specs.RunSources.{AllConsumeOnly, ConsumesOnly, ExtendSources, ExtendsOpened, ExtendsRead, ExtendsSource, whole}
+use Rattle.m4_engine.specs.RunSources.{AllConsumeOnly, ConsumesOnly, ExtendSources, ExtendsOpened, ExtendsRead}
+use Rattle.m4_engine.specs.RunSources.{ExtendsSource, whole}
 use Rattle.m4_tool.specs.Line.{source_name, LineResult, Missing, Request, Starts, Thawed, all_of, file_source}
 use Rattle.m4_tool.specs.Line.{input_after, line, result_by, script_at, sources_in, thaw_in, words_of}
 use Rattle.m4_tool.specs.Known.{ExtendFiles, ExtendsFile, MayGive}

@@ -1,5 +1,6 @@
 -- A line that freezes and one that reloads are one line.
-use Rattle.std.proofs.Common.{◌≡◌, ℕ, Bool, true, false, List, [], ◌∷◌, ◌++◌, map, Option, Some, refl, sym, ap, ◌∙◌, subst}
+use Rattle.std.proofs.Common.{◌≡◌, ℕ, Bool, true, false, List, [], ◌∷◌, ◌++◌, map, Option, Some, refl, sym, ap, ◌∙◌}
+use Rattle.std.proofs.Common.{subst}
 use Rattle.std.specs.Prelude.{unwrap_or, is_some}
 use Rattle.std.specs.Str.{bytes_eq}
 use Rattle.std.proofs.lemmas.Slice.Eq.{bytes_eq-Decides}
@@ -17,7 +18,9 @@ use Rattle.m4_engine.specs.Joined.{Joins, freezing, prefixed}
 use Rattle.m4_engine.proofs.Reloads as engine
 use Rattle.m4_engine.proofs.Split.{frozen_by}
 use Rattle.m4_tool.specs.World.{Files, made_file, whole_file}
-use Rattle.m4_tool.specs.Line.{LineResult, Starts, Thawed, all_of, and_then, file_source, input_after, is_input, refusals_by, result_by as line_by, result_of_run, source_at, sources_in, thaw_in, thawed_by, words_of}
+use Rattle.m4_tool.specs.Line.{LineResult, Starts, Thawed, all_of, and_then, file_source, input_after, is_input}
+use Rattle.m4_tool.specs.Line.{refusals_by, result_by as line_by, result_of_run, source_at, sources_in, thaw_in}
+use Rattle.m4_tool.specs.Line.{thawed_by, words_of}
 use Rattle.m4_tool.specs.LineLaws.{AreOthers, FreezeThenReload, LineJoins}
 use Rattle.m4_tool.proofs.OpenedFiles.{all_there}
 

@@ -14,7 +14,8 @@ use Rattle.m4_tool.specs.FailureCounts.{Counts, Grew, counts}
 use Rattle.m4_tool.specs.LineEnd.{Reports}
 use Rattle.m4_tool.specs.LineRun.{FlushedAs, ModeCloses}
 use Rattle.m4_tool.proofs.Counts.{flushed_grew, grew_after, grew_by, grew_none, rose_one, rose_then, then_any}
-use Rattle.m4_tool.specs.LineMode.{FlushedOr, ModeFailedAs, ModeFollows, OnlyMessagesRose, closed_lines, closed_status, ends_of, fault_lines}
+use Rattle.m4_tool.specs.LineMode.{FlushedOr, ModeFailedAs, ModeFollows, OnlyMessagesRose, closed_lines}
+use Rattle.m4_tool.specs.LineMode.{closed_status, ends_of, fault_lines}
 use Rattle.m4_tool.proofs.LineEnds.{reports-append, reports-before, seen_from}
 
 fault_reported : (end : Result (Unit {0}) ModeFault) (file : List ℕ) (m m' : Option (List ℕ)) (f f' : ℕ) → ReportsFault end file m m' f f' → Reports (fault_lines file end) m m' f f'

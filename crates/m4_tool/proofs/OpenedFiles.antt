@@ -1,5 +1,6 @@
 -- The files of a line, opened in order, and the start of its run.
-use Rattle.std.proofs.Common.{◌≡◌, ◌<◌, ◌≤◌, ℕ, ◌+◌, List, [], ◌∷◌, ◌++◌, length, get_or, drop, map, Option, Some, None, refl, sym, ap, ◌∙◌, subst, append_assoc, append-nil}
+use Rattle.std.proofs.Common.{◌≡◌, ◌<◌, ◌≤◌, ℕ, ◌+◌, List, [], ◌∷◌, ◌++◌, length, get_or, drop, map, Option, Some}
+use Rattle.std.proofs.Common.{None, refl, sym, ap, ◌∙◌, subst, append_assoc, append-nil}
 use Rattle.std.specs.Prelude.{option_map, unwrap_or}
 use Rattle.std.proofs.lemmas.List.{map-append, drop_all}
 use Rattle.m4_state.specs.Device.{Script}
@@ -9,7 +10,8 @@ use Rattle.m4_engine.specs.File.{Source}
 use Rattle.m4_engine.specs.Run.{run}
 use Rattle.m4_engine.specs.RunSources.{DescribesFrozen}
 use Rattle.m4_tool.specs.World.{Files}
-use Rattle.m4_tool.specs.Line.{LineResult, all_of, and_then, input_after, result_by, result_of_run, thaw_in, thawed_by, unreloaded}
+use Rattle.m4_tool.specs.Line.{LineResult, all_of, and_then, input_after, result_by, result_of_run, thaw_in}
+use Rattle.m4_tool.specs.Line.{thawed_by, unreloaded}
 use Rattle.m4_tool.specs.LineRun.{Named, named_at, named_in, named_of}
 use Rattle.m4_tool.proofs.Places.{at_place}
 

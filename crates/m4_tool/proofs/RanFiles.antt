@@ -1,5 +1,6 @@
 -- The files and the messages after a run whose frozen text went to a late file.
-use Rattle.std.proofs.Common.{◌≡◌, ℕ, Bool, true, false, List, [], ◌∷◌, Option, Some, None, refl, sym, ap, ◌∙◌, subst, ◌⊎◌, inl, inr}
+use Rattle.std.proofs.Common.{◌≡◌, ℕ, Bool, true, false, List, [], ◌∷◌, Option, Some, None, refl, sym, ap, ◌∙◌, subst}
+use Rattle.std.proofs.Common.{◌⊎◌, inl, inr}
 use Rattle.std.specs.Prelude.{option_map, unwrap_or}
 use Rattle.m4_state.specs.Device.{with_bytes, HasBegun}
 use Rattle.m4_state.proofs.CallerLaws.{with_bytes-nil, HasPut-start}

@@ -1,5 +1,7 @@
 -- The rows of clap, and the line that is made from them.
-use Rattle.std.proofs.Common.{◌≡◌, ◌∙◌, ◌^◌, ◌<◌, ◌&&◌, ◌||◌, ℕ, Bool, List, [], ◌∷◌, Option, Some, None, Result, Ok, Err, IfOk, IsSome, ap, arith, codes, false, is_some, map, option_map, refl, string_bytes, true}
+use Rattle.std.proofs.Common.{◌≡◌, ◌∙◌, ◌^◌, ◌<◌, ◌&&◌, ◌||◌, ℕ, Bool, List, [], ◌∷◌, Option, Some, None, Result, Ok}
+use Rattle.std.proofs.Common.{Err, IfOk, IsSome, ap, arith, codes, false, is_some, map, option_map, refl}
+use Rattle.std.proofs.Common.{string_bytes, true}
 use Rattle.std.specs.Prelude.{find, option_and_then, slice_get, unwrap_or}
 use Rattle.std.specs.Str.{bytes_eq}
 use Rattle.std.specs.Str.Parse.{ParsesUnsigned, digits_value, without_leading_plus}
@@ -7,7 +9,8 @@ use Rattle.clap.proofs.WalkLemmas.{raw_values-rows}
 use Rattle.clap.specs.Matches.{ReadsOne}
 use Rattle.clap.specs.Words.{Row, Text, all_of, first_of, matched_of, raw_values, rows_of}
 use Rattle.clap.specs.declared.parser.matches.Found.{Found}
-use Rattle.m4_tool.specs.CommandLine.{HasNoFiles, HoldsFound, IsLimit, ModeIsAlone, files_in, mode_has_others, has_files, has_options, is_given}
+use Rattle.m4_tool.specs.CommandLine.{HasNoFiles, HoldsFound, IsLimit, ModeIsAlone, files_in, mode_has_others}
+use Rattle.m4_tool.specs.CommandLine.{has_files, has_options, is_given}
 use Rattle.m4_tool.specs.declared.line.Line.{Line}
 use Rattle.m4_tool.specs.declared.line.LineFault.{LineFault}
 

@@ -1,5 +1,6 @@
 -- The files after a run whose frozen text went to a late file, and a write of it failed.
-use Rattle.std.proofs.Common.{◌≡◌, inl, inr, ℕ, Bool, true, false, List, [], Option, Some, None, refl, sym, ap, ◌∙◌, subst, arith}
+use Rattle.std.proofs.Common.{◌≡◌, inl, inr, ℕ, Bool, true, false, List, [], Option, Some, None, refl, sym, ap, ◌∙◌}
+use Rattle.std.proofs.Common.{subst, arith}
 use Rattle.std.specs.Prelude.{unwrap_or}
 use Rattle.m4_state.specs.State.{State, IsState, IsSized, empty}
 use Rattle.m4_state.proofs.StaysInOrder.{IsState-empty}

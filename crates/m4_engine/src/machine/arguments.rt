@@ -2,7 +2,8 @@
 //! Manual: "Macro arguments".
 
 ghost use Rattle.std.specs.Prelude.{◌≡◌, ◌<◌, Some, Ok, OnOk};
-ghost use Rattle.m4_engine.specs.Engine.{IsTaken, StepsBy, ending_argument, IfHead, mode_of, close_in, step, outer_of};
+ghost use Rattle.m4_engine.specs.Engine.{ending_argument, IfHead, mode_of, outer_of};
+ghost use Rattle.m4_engine.specs.Turns.{IsTaken, StepsBy, close_in, step};
 ghost use Rattle.m4_engine.specs.Expand.{take_other};
 
 use crate::machine::Machine;

@@ -5,7 +5,8 @@
 ghost use Rattle.std.specs.Prelude.{◌≡◌, ◌<◌, Bool, List, ℕ, Some, Ok};
 ghost use Rattle.m4_input.specs.Token.{Refused};
 ghost use Rattle.m4_input.specs.Pending.{Pending};
-ghost use Rattle.m4_engine.specs.Engine.{Moves, Makes, Extended, mode_of, step, here_of, outer_of};
+ghost use Rattle.m4_engine.specs.Engine.{mode_of, here_of, outer_of};
+ghost use Rattle.m4_engine.specs.Turns.{Moves, Makes, Extended, step};
 ghost use Rattle.m4_engine.specs.Expand.{take_front, take_end};
 
 use crate::machine::Machine;

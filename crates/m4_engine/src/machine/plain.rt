@@ -6,7 +6,8 @@
 
 ghost use Rattle.std.specs.Prelude.{◌≡◌, ◌≢◌, ◌<◌, ◌||◌, [], Bool, pos, Some, None, IfOk, OnOk, length};
 ghost use Rattle.m4_input.specs.Pending.{text_of};
-ghost use Rattle.m4_engine.specs.Engine.{IsReady, IsLookahead, PassesBy, PassesFront, Passes, allows_call};
+ghost use Rattle.m4_engine.specs.Engine.{IsReady, allows_call};
+ghost use Rattle.m4_engine.specs.Passes.{IsLookahead, PassesBy, PassesFront, Passes};
 
 use super::driver::OUTPUT_BLOCK;
 use crate::collect::collect;

@@ -1,4 +1,5 @@
-use Rattle.std.proofs.Common.{◌≡◌, ◌++◌, ◌<◌, length, arith, sym, ap, ◌∙◌, ℕ, ℤ, pos, List, ◌∷◌, [], refl, subst, append_assoc, append-nil, rules}
+use Rattle.std.proofs.Common.{◌≡◌, ◌++◌, ◌<◌, length, arith, sym, ap, ◌∙◌, ℕ, ℤ, pos, List, ◌∷◌, [], refl, subst}
+use Rattle.std.proofs.Common.{append_assoc, append-nil, rules}
 use Rattle.std.specs.Int.{w32}
 use Rattle.std.proofs.lemmas.Int.{to_z-of_z}
 use mir.Val.{to_z}

@@ -10,7 +10,8 @@ use Rattle.m4_builtins.specs.Numeric.{reading_of, number_of_reading, reading_war
 use Rattle.m4_builtins.specs.ReadsAs.{ReadsAs}
 use Rattle.m4_builtins.proofs.EvalReads.{radix_of_number, radix_kept, radix_lost, radix_read}
 use Rattle.m4_builtins.proofs.eval.radix_in.Goals as goal
-use Rattle.m4_builtins.proofs.eval.radix_in.Goals.{then-is_none+in_ok-warning_message+in_ok-extend_from_slice, else-is_none}
+use Rattle.m4_builtins.proofs.eval.radix_in.Goals.{then-is_none+in_ok-warning_message+in_ok-extend_from_slice}
+use Rattle.m4_builtins.proofs.eval.radix_in.Goals.{else-is_none}
 
 pub returns : goal.returns
 returns c =

@@ -7,7 +7,8 @@ use Rattle.m4_builtins.specs.declared.effect.Effect.{Effect}
 use Rattle.m4_builtins.specs.Acted.{only_warning}
 use Rattle.m4_builtins.specs.Args.{text_of_arg}
 use Rattle.m4_builtins.specs.Texts.{from_place, at_most}
-use Rattle.m4_builtins.proofs.Cut.{pushed_with, number_of, warning_on, read_of, warned_of, substr-no_place, substr-no_count, substr-rest, substr-counted}
+use Rattle.m4_builtins.proofs.Cut.{pushed_with, number_of, warning_on, read_of, warned_of, substr-no_place}
+use Rattle.m4_builtins.proofs.Cut.{substr-no_count, substr-rest, substr-counted}
 use Rattle.m4_builtins.proofs.texts.substr.Goals as goal
 use Rattle.m4_builtins.proofs.texts.substr.Goals.{in_default-counts, in-len1-up+in_ok-number-2+in-Some-number}
 

@@ -21,7 +21,11 @@ returns-in-Err g c = record {
   torn = λ whole file t ss s e. inl refl;
   read = starts.never_read g.R.ByteSource.failures c.args.sources.now c.args.sources.now c.args.options c.begin.result c.in-Err.stop c.status.result c.ending.result (search rules) c.status.ensures c.ending.ensures c.begin.ensures.begun (all_sound g.R.ByteSource.failures c.args.sources.now);
   frozen_read = starts.never_frozen g.R.ByteSource.failures c.args.frozen.now c.begin.new.frozen c.args.options c.begin.result c.in-Err.stop c.status.result c.ending.result (search rules) c.status.ensures c.ending.ensures c.begin.ensures.begun c.begin.ensures.read;
-  write = starts.never_wrote c.args.options c.begin.result c.in-Err.stop c.status.result c.ending.result _ _ _ _ (three g.Z.ByteSink.contents (both g.O.ByteSink.contents g.M.ByteSink.contents c.args.out.now c.begin.new.out c.args.messages.now c.args.messages.now) c.args.freeze_to.now c.args.freeze_to.now) (search rules) c.status.ensures c.ending.ensures c.begin.ensures.begun refl c.begin.ensures.write;
+  write = starts.never_wrote c.args.options c.begin.result c.in-Err.stop c.status.result c.ending.result _ _ _ _
+      (three g.Z.ByteSink.contents
+        (both g.O.ByteSink.contents g.M.ByteSink.contents c.args.out.now c.begin.new.out c.args.messages.now
+          c.args.messages.now) c.args.freeze_to.now c.args.freeze_to.now) (search rules) c.status.ensures
+      c.ending.ensures c.begin.ensures.begun refl c.begin.ensures.write;
   taken = none_taken_yet g.R.ByteSource.script c.args.sources.now;
   one_pass = λ file t. never_passed g.R.ByteSource.script c.args.sources.now c.args.options (start_of c.args.options.prefix file) _ c.begin.result c.in-Err.stop c.status.result c.ending.result (search rules) c.ending.ensures c.begin.ensures.begun;
   refused = λ fault e. starts.never_done c.args.sources.now c.args.options c.begin.result c.in-Err.stop c.status.result c.ending.result fault _ _ _ _ (search rules) c.status.ensures c.ending.ensures c.begin.ensures.begun e (c.begin.ensures.refused fault);
@@ -48,7 +52,10 @@ returns g c = record {
   frozen_read = starts.begun_frozen g.R.ByteSource.failures c.args.frozen.now c.begin.new.frozen c.in-Ok.session c.begin.result c.read_to_end-answer.new.session _ c.read_to_end-answer.result c.ending-2.result (search rules) c.ending-2.ensures c.read_to_end-answer.ensures.left c.begin.ensures.read;
   write = search rules;
   taken = search rules;
-  one_pass = λ file t. passed g.R.ByteSource.script c.args.sources.now c.read_to_end-answer.new.sources c.args.options (start_of c.args.options.prefix file) c.in-Ok.session c.begin.result _ c.read_to_end-answer.result c.ending-2.result _ _ _ _ _ (search rules) c.ending-2.ensures (c.begin.ensures.begins file t) c.read_to_end-answer.ensures.reached;
+  one_pass = λ file t. passed g.R.ByteSource.script c.args.sources.now c.read_to_end-answer.new.sources c.args.options
+      (start_of c.args.options.prefix file) c.in-Ok.session c.begin.result _ c.read_to_end-answer.result
+      c.ending-2.result _ _ _ _ _ (search rules) c.ending-2.ensures (c.begin.ensures.begins file t)
+      c.read_to_end-answer.ensures.reached;
   refused = λ fault e. absurd (starts.not_refused c.read_to_end-answer.new.session _ c.read_to_end-answer.result c.ending-2.result fault c.ending-2.ensures c.read_to_end-answer.ensures.left e);
   spared = search rules;
   spared_by = starts.ended_spared _ c.read_to_end-answer.result c.ending-2.result

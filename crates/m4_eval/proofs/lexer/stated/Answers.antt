@@ -1,5 +1,6 @@
 -- A stated radix, a colon and its digits.
-use Rattle.std.proofs.Common.{rules, ◌+◌, length, Some, None, sym, ap, ◌∙◌, w32, SFits, to_z-of_z, option_map, drop, ◌∷◌}
+use Rattle.std.proofs.Common.{rules, ◌+◌, length, Some, None, sym, ap, ◌∙◌, w32, SFits, to_z-of_z, option_map, drop}
+use Rattle.std.proofs.Common.{◌∷◌}
 use Rattle.m4_eval.proofs.Numbers.{stated_is, no_radix, run_is}
 use Rattle.m4_eval.specs.LexerView.{in_bits}
 use Rattle.m4_eval.proofs.lexer.stated.Goals as goal

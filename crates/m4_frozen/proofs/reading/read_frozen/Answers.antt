@@ -1,7 +1,8 @@
 -- Each window is read on; what is answered for it is what the clauses say.
 use Rattle.std.proofs.Common.{◌∙◌, refl}
 use Rattle.std.proofs.lemmas.Result.{err_from_is_err_and}
-use Rattle.m4_frozen.proofs.WindowRead.{filled, left_within, dropped, window_refused, window_ended, window_failed, never_read}
+use Rattle.m4_frozen.proofs.WindowRead.{filled, left_within, dropped, window_refused, window_ended, window_failed}
+use Rattle.m4_frozen.proofs.WindowRead.{never_read}
 use Rattle.m4_frozen.proofs.reading.read_frozen.Goals as goal
 
 pub returns-in_err-pause-clause-accepts : goal.returns-in_err-pause-clause-accepts

@@ -2,7 +2,8 @@ use Rattle.std.proofs.Common.{refl}
 use Rattle.m4_state.specs.Delimiters.{default_quotes, default_comments}
 use Rattle.m4_frozen.specs.Ascii.{letter_C, letter_Q}
 use Rattle.m4_frozen.specs.Directive.{Quotes, Comments}
-use Rattle.m4_frozen.proofs.Lates.{HasPutAll-start, HasPutAll-put, HasPutAll-cut, HasPutAll-last, PutsAll-refused, PutsAll-unless, Begun-unless, put-unless}
+use Rattle.m4_frozen.proofs.Lates.{HasPutAll-start, HasPutAll-put, HasPutAll-cut, HasPutAll-last, PutsAll-refused}
+use Rattle.m4_frozen.proofs.Lates.{PutsAll-unless, Begun-unless, put-unless}
 use Rattle.m4_frozen.proofs.writer.put_settings.Goals as goal
 
 -- the quotes failed

@@ -1,5 +1,6 @@
 -- The marks agree with the definition at each of the 256 bytes, by computing.
-use Rattle.std.proofs.Common.{◌≡◌, ℕ, ◌+◌, ◌-◌, ◌%◌, ◌^◌, Bool, true, not, cond, eqb, leb, List, [], ◌∷◌, map, length, replicate, refl, ap, ap₂, ◌∙◌, arith, w8, Fits}
+use Rattle.std.proofs.Common.{◌≡◌, ℕ, ◌+◌, ◌-◌, ◌%◌, ◌^◌, Bool, true, not, cond, eqb, leb, List, [], ◌∷◌, map, length}
+use Rattle.std.proofs.Common.{replicate, refl, ap, ap₂, ◌∙◌, arith, w8, Fits}
 use Rattle.std.specs.Bool.{beq}
 use Rattle.std.proofs.lemmas.Simd.{zip2_splat, zip2_splat_left, map-map, mask_l-mod}
 use Rattle.std.proofs.lemmas.List.{length-map}

@@ -5,13 +5,22 @@ use Rattle.m4_input.proofs.OpenTokens.{reached_down, reached_up, reached_past, r
 use Rattle.m4_input.proofs.strings.follow_by_marks.Goals as goal
 
 pub returns-then-open-eq0 : goal.returns-then-open-eq0
-returns-then-open-eq0 c = reached_end (pair_of c.args.quotes.now) c.args.may_follow c.args.depth c.args.text.now c.places.open c.places.k c.places.invariant c.places-test.true (c.in-EndQuote.ensures.value ∙ ap (mark_at (pair_of c.args.quotes.now) c.args.may_follow) c.split_at.ensures.back) c.if-open-eq0.true
+returns-then-open-eq0 c = reached_end (pair_of c.args.quotes.now) c.args.may_follow c.args.depth c.args.text.now
+    c.places.open c.places.k c.places.invariant c.places-test.true
+    (c.in-EndQuote.ensures.value ∙ ap (mark_at (pair_of c.args.quotes.now) c.args.may_follow) c.split_at.ensures.back)
+    c.if-open-eq0.true
 
 pub places-preserved-in-EndQuote : goal.places-preserved-in-EndQuote
-places-preserved-in-EndQuote c = reached_down (pair_of c.args.quotes.now) c.args.may_follow c.args.depth c.args.text.now c.places.open c.places.k c.places.invariant c.places-test.true c.max-k.result c.max-k.ensures (c.in-EndQuote.ensures.value ∙ ap (mark_at (pair_of c.args.quotes.now) c.args.may_follow) c.split_at.ensures.back) c.if-open-eq0.false
+places-preserved-in-EndQuote c = reached_down (pair_of c.args.quotes.now) c.args.may_follow c.args.depth
+    c.args.text.now c.places.open c.places.k c.places.invariant c.places-test.true c.max-k.result c.max-k.ensures
+    (c.in-EndQuote.ensures.value ∙ ap (mark_at (pair_of c.args.quotes.now) c.args.may_follow) c.split_at.ensures.back)
+    c.if-open-eq0.false
 
 pub places-preserved-in-BeginQuote : goal.places-preserved-in-BeginQuote
-places-preserved-in-BeginQuote c = reached_up (pair_of c.args.quotes.now) c.args.may_follow c.args.depth c.args.text.now c.places.open c.places.k c.places.invariant c.places-test.true c.requires.begin (c.in-BeginQuote.ensures.value ∙ ap (mark_at (pair_of c.args.quotes.now) c.args.may_follow) c.split_at.ensures.back)
+places-preserved-in-BeginQuote c = reached_up (pair_of c.args.quotes.now) c.args.may_follow c.args.depth
+    c.args.text.now c.places.open c.places.k c.places.invariant c.places-test.true c.requires.begin
+    (c.in-BeginQuote.ensures.value ∙ ap (mark_at (pair_of c.args.quotes.now) c.args.may_follow)
+      c.split_at.ensures.back)
 
 pub places-preserved : goal.places-preserved
 places-preserved c = reached_past (pair_of c.args.quotes.now) c.args.may_follow c.args.depth c.args.text.now c.places.open c.places.k c.places.invariant c.places-test.true (c.in-PlainByte.ensures.value ∙ ap (mark_at (pair_of c.args.quotes.now) c.args.may_follow) c.split_at.ensures.back)

@@ -1,6 +1,7 @@
 use Rattle.std.proofs.Common.{subst}
 use Rattle.m4_input.specs.Input.{Held, longer}
-use Rattle.m4_engine.specs.Engine.{Engine, Steps, Moves, called_within, here_of}
+use Rattle.m4_engine.specs.Engine.{Engine, here_of}
+use Rattle.m4_engine.specs.Turns.{Steps, Moves, called_within}
 use Rattle.m4_engine.proofs.machine.Machine.call.Goals as goal
 
 pub returns : goal.returns

@@ -1,5 +1,6 @@
 use Rattle.std.proofs.Common.{refl, ◌∙◌}
-use Rattle.m4_engine.proofs.Blockwise.{takes_nothing, needs_so, blocks_came, stopped_so, fault_counted_so, lasting_so, none_failed, came_counted, ends_so}
+use Rattle.m4_engine.proofs.Blockwise.{takes_nothing, needs_so, blocks_came, stopped_so, fault_counted_so, lasting_so}
+use Rattle.m4_engine.proofs.Blockwise.{none_failed, came_counted, ends_so}
 use Rattle.m4_engine.proofs.machine.Machine.expand.Goals as goal
 
 pub blocks-2-init : goal.blocks-2-init
@@ -9,7 +10,10 @@ pub expand_in_hand-requires : goal.expand_in_hand-requires
 expand_in_hand-requires g c = record { ready = c.blocks-2.invariant.takes.ready; flushed = c.blocks-2.invariant.takes.flushed }
 
 pub returns-in-Ends-clause-expands : goal.returns-in-Ends-clause-expands
-returns-in-Ends-clause-expands g c = ends_so c.args.self.now c.blocks-2.self c.expand_in_hand.new.self c.args.input.now.pending c.blocks-2.input c.expand_in_hand.new.input _ _ _ _ _ _ _ _ c.blocks-2.wanted c.in-Ends.cause c.expand_in_hand.result c.in-Ends.is c.requires.idle c.blocks-2.invariant.takes c.expand_in_hand.ensures.gives
+returns-in-Ends-clause-expands g c = ends_so c.args.self.now c.blocks-2.self c.expand_in_hand.new.self
+    c.args.input.now.pending c.blocks-2.input c.expand_in_hand.new.input _ _ _ _ _ _ _ _ c.blocks-2.wanted
+    c.in-Ends.cause c.expand_in_hand.result c.in-Ends.is c.requires.idle c.blocks-2.invariant.takes
+    c.expand_in_hand.ensures.gives
 
 pub blocks-2-preserved : goal.blocks-2-preserved
 blocks-2-preserved g c =
@@ -28,7 +32,10 @@ pub returns-in-Err : goal.returns-in-Err
 returns-in-Err g c =
     let h = needs_so c.blocks-2.wanted c.in-Needs.more c.blocks-2.self c.expand_in_hand.new.self c.blocks-2.input c.expand_in_hand.new.input _ c.expand_in_hand.result c.in-Needs.is c.expand_in_hand.ensures.gives in
     record {
-      expands = stopped_so c.args.self.now c.blocks-2.self c.expand_in_hand.new.self c.args.input.now.pending c.blocks-2.input c.expand_in_hand.new.input c.read_on.new.input _ _ _ _ _ _ _ _ _ c.blocks-2.wanted c.in-Needs.more c.in-Err.fault c.cause_of_fault.result c.cause_of_fault.ensures c.requires.idle c.blocks-2.invariant.takes h c.in-Err.ensures.gives;
+      expands = stopped_so c.args.self.now c.blocks-2.self c.expand_in_hand.new.self c.args.input.now.pending
+          c.blocks-2.input c.expand_in_hand.new.input c.read_on.new.input _ _ _ _ _ _ _ _ _ c.blocks-2.wanted
+          c.in-Needs.more c.in-Err.fault c.cause_of_fault.result c.cause_of_fault.ensures c.requires.idle
+          c.blocks-2.invariant.takes h c.in-Err.ensures.gives;
       read = fault_counted_so c.in-Needs.more c.expand_in_hand.new.self _ _ c.expand_in_hand.new.input c.read_on.new.input c.in-Err.fault c.cause_of_fault.result _ _ _ c.cause_of_fault.ensures h.ready.sound c.in-Err.ensures.gives c.blocks-2.invariant.read c.in-Err.ensures.counted;
       counted = none_failed c.cause_of_fault.result c.in-Err.fault _ c.cause_of_fault.ensures (c.in-Needs.ensures.counted.0 ∙ c.blocks-2.invariant.out, c.in-Needs.ensures.counted.1 ∙ c.blocks-2.invariant.reported);
     }

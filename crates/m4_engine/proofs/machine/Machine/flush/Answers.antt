@@ -2,7 +2,8 @@ use Rattle.std.proofs.Common.{◌≡◌, ◌≤◌, ◌⊎◌, inl, inr, [], dro
 use Rattle.std.proofs.lemmas.List.{nil_from_length}
 use Rattle.std.proofs.lemmas.Grind.{common_steps}
 use Rattle.std.specs.Prelude.{Result, Ok, Err, OnErr}
-use Rattle.m4_engine.proofs.Begins.{begun_front, begun_parts, first_breaks, messages_break, own_breaks, nothing_begun, all_begun}
+use Rattle.m4_engine.proofs.Begins.{begun_front, begun_parts, first_breaks, messages_break, own_breaks, nothing_begun}
+use Rattle.m4_engine.proofs.Begins.{all_begun}
 use Rattle.m4_engine.proofs.machine.Machine.flush.Goals as goal
 use Rattle.m4_engine.proofs.machine.Machine.flush.Goals.{then-is_empty, else-is_empty}
 
@@ -30,7 +31,10 @@ returns-in_err-write_all-2-clause-begun g c = in_any c.from_residual-in_err-writ
 pub returns-in_err-write_all-3-clause-order : goal.returns-in_err-write_all-3-clause-order
 returns-in_err-write_all-3-clause-order g c =
     let no_less : c.args.earlier ≤ c.if-is_empty.first = elim c.if-is_empty.branch [ then-is_empty w ↦ search rules | else-is_empty w ↦ search rules ] in
-    in_any c.from_residual-in_err-write_all-3.result (own_breaks _ (g.O.ByteSink.contents c.write_all.new.writer) _ _ _ c.args.earlier c.if-is_empty.first c.args.self.now.output (drop c.if-is_empty.first c.args.self.now.output) c.args.self.now.messages no_less (search rules) (search rules) (search rules))
+    in_any c.from_residual-in_err-write_all-3.result
+        (own_breaks _ (g.O.ByteSink.contents c.write_all.new.writer) _ _ _ c.args.earlier c.if-is_empty.first
+          c.args.self.now.output (drop c.if-is_empty.first c.args.self.now.output) c.args.self.now.messages no_less
+          (search rules) (search rules) (search rules))
 
 pub returns-in_err-write_all-3-clause-begun : goal.returns-in_err-write_all-3-clause-begun
 returns-in_err-write_all-3-clause-begun g c = in_any c.from_residual-in_err-write_all-3.result (begun_parts _ (g.O.ByteSink.contents c.write_all.new.writer) _ c.if-is_empty.first c.args.self.now.output (search rules) (search rules), all_begun _ _ c.args.self.now.messages (search rules))

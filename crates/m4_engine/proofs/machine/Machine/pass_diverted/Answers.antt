@@ -1,6 +1,7 @@
 use Rattle.std.proofs.Common.{◌≡◌, List, ℕ, take, drop, refl, sym, ap, ◌∙◌, subst, rules}
 use Rattle.m4_state.specs.State.{State, appended}
-use Rattle.m4_engine.specs.Engine.{Engine, PassesBy}
+use Rattle.m4_engine.specs.Engine.{Engine}
+use Rattle.m4_engine.specs.Passes.{PassesBy}
 use Rattle.m4_engine.specs.Plain.{IsFirst}
 use Rattle.m4_engine.specs.MachineView.{engine_view}
 use Rattle.m4_engine.proofs.Seen.{ahead_by}

@@ -1,7 +1,8 @@
 use Rattle.std.proofs.Common.{◌≡◌, List, ℕ, ◌∷◌, inr, Option, drop, length, refl, sym, ap, ◌∙◌, subst, rules}
 use Rattle.std.specs.Prelude.{reverse}
 use Rattle.m4_engine.specs.Expansion.{Call}
-use Rattle.m4_engine.specs.Engine.{Engine, PassesBy}
+use Rattle.m4_engine.specs.Engine.{Engine}
+use Rattle.m4_engine.specs.Passes.{PassesBy}
 use Rattle.m4_engine.specs.Plain.{IsFirst}
 use Rattle.m4_engine.specs.MachineView.{innermost_first, engine_view}
 use Rattle.m4_engine.proofs.Seen.{ahead_by}

@@ -1,6 +1,7 @@
 use Rattle.std.proofs.Common.{◌≡◌, Bool, List, ℕ, sym, subst, rules}
 use Rattle.m4_input.specs.Blocks.{IsInFront}
-use Rattle.m4_engine.specs.Engine.{Engine, PassesBy}
+use Rattle.m4_engine.specs.Engine.{Engine}
+use Rattle.m4_engine.specs.Passes.{PassesBy}
 use Rattle.m4_engine.specs.MachineView.{engine_view}
 use Rattle.m4_engine.proofs.Passing.{front_passed}
 use Rattle.m4_engine.proofs.machine.Machine.pass_joined.Goals as goal

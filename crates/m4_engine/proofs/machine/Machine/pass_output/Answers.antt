@@ -1,5 +1,6 @@
 use Rattle.std.proofs.Common.{List, ℕ, drop, refl, sym, ◌∙◌, subst, rules}
-use Rattle.m4_engine.specs.Engine.{Engine, PassesBy}
+use Rattle.m4_engine.specs.Engine.{Engine}
+use Rattle.m4_engine.specs.Passes.{PassesBy}
 use Rattle.m4_engine.specs.Plain.{IsFirst}
 use Rattle.m4_engine.specs.MachineView.{engine_view}
 use Rattle.m4_engine.proofs.Seen.{ahead_by}

@@ -1,6 +1,7 @@
 use Rattle.std.proofs.Common.{length}
 use Rattle.m4_input.specs.Pending.{text_of}
-use Rattle.m4_engine.specs.Engine.{IsReady, Passes}
+use Rattle.m4_engine.specs.Engine.{IsReady}
+use Rattle.m4_engine.specs.Passes.{Passes}
 use Rattle.m4_engine.proofs.machine.Machine.pass_plain.Given as goal
 
 -- what was passed so far

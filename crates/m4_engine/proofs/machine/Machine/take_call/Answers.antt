@@ -21,7 +21,9 @@ returns-then-is_deep c = record {
 
 pub returns-then-not-listed : goal.returns-then-not-listed
 returns-then-not-listed c = record {
-  moves = bare_made c.args.input.now.pending.may_follow c.args.self.now c.count.new.self c.call.new.self c.args.call c.args.listed (λ z more. longer z more c.args.input.now.pending) c.call.new.input.pending c.call.result (search rules) (search rules) c.count.ensures (search rules) c.call.ensures.moves;
+  moves = bare_made c.args.input.now.pending.may_follow c.args.self.now c.count.new.self c.call.new.self c.args.call
+      c.args.listed (λ z more. longer z more c.args.input.now.pending) c.call.new.input.pending c.call.result
+      (search rules) (search rules) c.count.ensures (search rules) c.call.ensures.moves;
   ready = search rules;
   limits = search rules;
   made = search rules;
@@ -29,7 +31,10 @@ returns-then-not-listed c = record {
 
 pub returns : goal.returns
 returns c = record {
-  moves = λ before z more k o m. list_begins_so c.args.self.now c.count.new.self c.begin.new.self c.args.call c.args.listed c.args.input.now.pending c.take_parenthesis.new.input.pending (before z more) z more o m (search rules) (search rules) c.count.ensures (search rules) c.take_parenthesis.ensures.taken c.take_parenthesis.ensures.within c.in_ok-begin.ensures;
+  moves = λ before z more k o m. list_begins_so c.args.self.now c.count.new.self c.begin.new.self c.args.call
+      c.args.listed c.args.input.now.pending c.take_parenthesis.new.input.pending (before z more) z more o m
+      (search rules) (search rules) c.count.ensures (search rules) c.take_parenthesis.ensures.taken
+      c.take_parenthesis.ensures.within c.in_ok-begin.ensures;
   ready = search rules;
   limits = search rules;
   made = search rules;

@@ -2,7 +2,8 @@
 use Rattle.std.proofs.Common.{refl}
 use Rattle.std.proofs.lemmas.Result.{err_from_is_err_and}
 use Rattle.m4_frozen.specs.DirectiveView.{directive_of}
-use Rattle.m4_frozen.proofs.ReadOn.{has_read_directive, directive_left, directive_refused, directive_placed, nothing_left}
+use Rattle.m4_frozen.proofs.ReadOn.{has_read_directive, directive_left, directive_refused, directive_placed}
+use Rattle.m4_frozen.proofs.ReadOn.{nothing_left}
 use Rattle.m4_frozen.proofs.loading.Loading.read_directive.Goals as goal
 
 pub returns-in_err-next_directive-clause-reads : goal.returns-in_err-next_directive-clause-reads

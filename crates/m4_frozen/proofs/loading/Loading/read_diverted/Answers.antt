@@ -8,7 +8,8 @@ use Rattle.m4_frozen.specs.Directive.{Diversion}
 use Rattle.m4_frozen.specs.ReaderSteps.{file_at}
 use Rattle.m4_frozen.specs.Underway.{IsRead, short}
 use Rattle.m4_frozen.proofs.ByteTests.{eq_of}
-use Rattle.m4_frozen.proofs.TextRead.{has_read_more, all_bytes, has_read_text, text_refused, some_if, two_parts, all_came}
+use Rattle.m4_frozen.proofs.TextRead.{has_read_more, all_bytes, has_read_text, text_refused, some_if, two_parts}
+use Rattle.m4_frozen.proofs.TextRead.{all_came}
 use Rattle.m4_frozen.proofs.loading.Loading.read_diverted.Goals as goal
 
 pub returns-then-is_empty : goal.returns-then-is_empty

@@ -9,7 +9,8 @@ use Rattle.std.proofs.Common.{ℕ, [], refl, ◌∙◌, rules}
 use Rattle.std.specs.Prelude.{Err, IfSome}
 use Rattle.m4_input.specs.declared.fault.InputFault.{InputFault}
 use Rattle.m4_input.specs.Input.{IsLasting, wants_token, failures_after}
-use Rattle.m4_input.proofs.Blocks.{HasAsked, none_asked, token_open, token_found, token_more, token_stops, next_again, blocks_fall, came_is}
+use Rattle.m4_input.proofs.Blocks.{HasAsked, none_asked, token_open, token_found, token_more, token_stops, next_again}
+use Rattle.m4_input.proofs.Blocks.{blocks_fall, came_is}
 use Rattle.m4_input.proofs.input.Input.next.Goals as goal
 
 -- the first token was a definition

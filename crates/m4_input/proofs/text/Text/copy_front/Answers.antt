@@ -1,4 +1,5 @@
-use Rattle.std.proofs.Common.{rules, ◌≡◌, ◌≤◌, ◌++◌, ◌∷◌, [], List, ℕ, length, take, arith, ap, ◌∙◌, sym, append_assoc, append-nil, length-append}
+use Rattle.std.proofs.Common.{rules, ◌≡◌, ◌≤◌, ◌++◌, ◌∷◌, [], List, ℕ, length, take, arith, ap, ◌∙◌, sym}
+use Rattle.std.proofs.Common.{append_assoc, append-nil, length-append}
 use Rattle.std.proofs.lemmas.List.{nil_from_length, length-take}
 use Rattle.m4_input.specs.Text.{HeldText, joined}
 use Rattle.m4_input.proofs.Joins.{joined_push, take_more}

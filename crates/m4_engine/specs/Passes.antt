@@ -1,0 +1,74 @@
+-- Passes: tokens that call nothing, taken many at once, as the turns that they stand for.
+-- Not believed: it connects the engine's passes with its turns.
+use Rattle.std.specs.Prelude.{◌≡◌, None, ℕ, Bool, true, List, [], ◌∷◌, length, take, drop, ◌<◌, ◌≤◌, ◌⊎◌}
+use Rattle.m4_input.specs.Pending.{Pending, text_of, consumed}
+use Rattle.m4_engine.specs.Plain.{total, ArePlain, IsPlainRun}
+use Rattle.m4_engine.specs.Collected.{IsListRun}
+use Rattle.m4_builtins.specs.declared.place.Place.{Place}
+use Rattle.m4_engine.specs.Expansion.{Call}
+use Rattle.m4_input.specs.Input.{Held}
+use Rattle.m4_engine.specs.declared.lookahead.Lookahead.{Lookahead}
+use Rattle.m4_engine.specs.declared.lookahead.Lookahead.TheVariants as aheads
+use Rattle.m4_engine.specs.Lookahead.{IsLookaheadOf, IsAhead, placed_ahead}
+use Rattle.m4_engine.specs.Engine.{Engine, put_in, allows_call}
+
+-- outside of calls, with no definition before the text: its first tokens, which are plain text, were added where text
+-- goes: to the output, to a diversion, or nowhere
+pub record PassesPlain (old new : Engine) (i j : Held) : Type 0 where
+  pub lens : List ℕ
+  pub plain : ArePlain old.state (i.pending).may_follow lens (text_of i.pending)
+  pub outside : old.open_calls ≡ []
+  pub first : (i.pending).definition ≡ None
+  pub engine : new ≡ put_in [] (take (total lens) (text_of i.pending)) old
+  pub input : j ≡ record i { pending = consumed (total lens) i.pending }
+
+-- in a list, with no definition before the text: its first tokens change the innermost call alone, and were
+-- taken into it
+pub record PassesInner (old new : Engine) (i j : Held) : Type 0 where
+  pub innermost : Call
+  pub after : Call
+  pub around : List Call
+  pub len : ℕ
+  pub collected : IsListRun old.state (i.pending).may_follow len innermost after (text_of i.pending)
+  pub inside : old.open_calls ≡ innermost ∷ around
+  pub first : (i.pending).definition ≡ None
+  pub engine : new ≡ record old { open_calls = after ∷ around }
+  pub input : j ≡ record i { pending = consumed len i.pending }
+
+-- such tokens were added where they go, or nothing was done
+abbrev pub PassesOnce : Engine → Engine → Held → Held → Type 0
+PassesOnce old new i j = ((new ≡ old) × (j ≡ i)) ⊎ (PassesPlain old new i j ⊎ PassesInner old new i j)
+
+-- and so on: after each pass the engine and the input
+abbrev pub ArePasses : List (Engine × Held) → Engine → Engine → Held → Held → Type 0
+ArePasses [] old new i j = (new ≡ old) × (j ≡ i)
+ArePasses (s ∷ ss) old new i j = PassesOnce old s.0 i s.1 × ArePasses ss s.0 new s.1 j
+
+abbrev pub Passes : Engine → Engine → Held → Held → Type 0
+Passes old new i j = (ss : List (Engine × Held)) × ArePasses ss old new i j
+
+-- the lookahead is right for the next token
+abbrev pub IsLookahead : Lookahead → Engine → Pending → Type 0
+IsLookahead a e p = IsLookaheadOf a e.state (allows_call e) p
+
+-- the first n bytes of a text are such tokens, and were added where they go
+abbrev pub PassesText : Bool → ℕ → List ℕ → Engine → Engine → Type 0
+PassesText m n x old new =
+    (IsPlainRun old.state m n x × (old.open_calls ≡ []) × (new ≡ put_in [] (take n x) old))
+    ⊎ ((c : Call) × (d : Call) × (cs : List Call) × IsListRun old.state m n c d x × (old.open_calls ≡ c ∷ cs)
+    × (new ≡ record old { open_calls = d ∷ cs }))
+
+-- a pass over a text, which others in hand may follow, and more bytes may; the lookahead is right, once its place is
+-- set
+pub record PassesBy (n : ℕ) (a : Lookahead) (x : List ℕ) (others more : Bool) (old new : Engine) : Type 0 where
+  pub passes : PassesText more n x old new
+  pub within : n ≤ length x
+  pub ahead : (at : Place) → IsAhead (placed_ahead at a) new.state (allows_call new) more (drop n x) at
+  pub passed : a ≡ aheads.Passed → (others ≡ true) × (drop n x ≡ [])
+
+-- a pass over the front of an input; if all of it was passed, that was some
+pub record PassesFront (a : Lookahead) (old new : Engine) (i j : Held) : Type 0 where
+  pub passes : PassesOnce old new i j
+  pub ahead : IsLookahead a new j.pending
+  pub some : a ≡ aheads.Passed → length (text_of j.pending) < length (text_of i.pending)
+  pub first : a ≡ aheads.Open → (j.pending).definition ≡ None
