@@ -19,9 +19,7 @@ mod given;
 mod input;
 #[cfg(test)]
 mod refused;
-#[cfg(test)]
-mod report;
-#[cfg(test)]
-mod shows;
+pub mod report;
+pub mod shows;
 #[cfg(test)]
 mod state;

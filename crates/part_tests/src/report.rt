@@ -1,4 +1,4 @@
-//! The report on a row: text that is written piece by piece.
+//! The report on a row: text that is written piece by piece. `run_tests` reports its rows so too.
 
 use itoa::{Buffer, Integer};
 use std::alloc::{AllocError, Global};
@@ -43,6 +43,14 @@ impl Report {
     pub fn counted(&mut self, piece: &[u8], count: usize) {
         self.add(piece);
         self.number(count);
+    }
+
+    /// Adds a value as it is printed.
+    pub fn print(&mut self, value: &impl fmt::Debug) {
+        match format!(in *self.text.allocator(); "{value:?}") {
+            Ok(text) => self.add(text.as_bytes()),
+            Err(AllocError) => self.refuse(),
+        }
     }
 
     /// Records that an allocation failed.

@@ -1,4 +1,5 @@
-//! Prints a row that failed: its name, and below it the expected and the actual report.
+//! Prints a row that failed: its name, and below it the expected and the actual report. `run_tests` compares its rows
+//! so too.
 
 use std::alloc::AllocError;
 use std::fmt;

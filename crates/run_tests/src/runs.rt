@@ -15,7 +15,6 @@ mod rows;
 mod scale;
 mod seams;
 mod sessions;
-pub mod shows;
 mod sources;
 mod stacks;
 mod sweeps;

@@ -7,6 +7,5 @@ mod late;
 mod lines;
 mod modes;
 mod refused;
-mod shows;
 mod texts;
 mod worlds;

@@ -3,11 +3,12 @@
 use super::given::{
     AT_MOST, BLOCKS, ROOM, Seen, USUAL, ended, freezing, opened, options, run_over,
 };
-use super::report::Report;
-use super::shows::{agrees_by, shows};
+use super::report::add_run;
 use m4_engine::ending::Cause;
 use m4_engine::options::Options;
 use m4_state::memory::MemSource;
+use part_tests::report::Report;
+use part_tests::shows::{agrees_by, shows};
 use std::alloc::{AllocError, Global};
 use std::process::Abort;
 
@@ -93,12 +94,6 @@ fn next_run(
     Ok(run_over(rt, options, &mut frozen, &mut sources, ROOM, AT_MOST))
 }
 
-/// Adds the output and the messages of a run, and how it ended.
-fn add_seen(seen: &Seen, report: &mut Report) {
-    report.run(seen.output.written(), seen.messages.written(), seen.ending);
-    report.add(b"\n");
-}
-
 /// Reports the runs of a chain: each run but the last freezes.
 fn seen_of(
     rt: &(impl Abort + Alloc<A = Global>),
@@ -110,11 +105,13 @@ fn seen_of(
     if let Some((last, earlier)) = runs.split_last() {
         for texts in earlier {
             let seen = next_run(rt, freezing(USUAL), &before, texts, block)?;
-            add_seen(&seen, &mut report);
+            seen.add_to(&mut report);
+            report.add(b"\n");
             before = Some(seen);
         }
         let seen = next_run(rt, options(USUAL), &before, last, block)?;
-        add_seen(&seen, &mut report);
+        seen.add_to(&mut report);
+        report.add(b"\n");
     }
     report.text()
 }
@@ -124,7 +121,7 @@ fn expected_of(alloc: Global, written: &[(&str, &str)]) -> Result<Vec<u8>, Alloc
     let mut report = Report::new(alloc);
     for (output, messages) in written {
         let end = ended(0, Cause::Done);
-        report.run(output.as_bytes(), messages.as_bytes(), end);
+        add_run(&mut report, output.as_bytes(), messages.as_bytes(), end);
         report.add(b"\n");
     }
     report.text()

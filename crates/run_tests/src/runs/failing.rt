@@ -1,11 +1,11 @@
 //! Runs one of whose devices fails, and all that they leave. Manual: "Exiting from m4", "Fast loading of frozen state".
 
-use super::given::{BLOCKS, Seen, USUAL, ended, freezing, options};
-use super::report::Report;
-use super::shows::agrees_by;
+use super::given::{BLOCKS, Seen, USUAL, ended, freezing, options, printed_frozen};
+use super::report::printed_freezing;
 use super::sweeps::{ENOUGH, Limits, reader, run_within};
-use m4_engine::ending::{Cause, Ending};
+use m4_engine::ending::Cause;
 use m4_frozen::fault::{FrozenFault, FrozenKind};
+use part_tests::shows::agrees_by;
 use std::alloc::{AllocError, Global};
 use std::process::Abort;
 
@@ -92,20 +92,6 @@ static ROWS: [Failing; 4] = [
     },
 ];
 
-/// Returns the report on a run, and its frozen text.
-fn printed(
-    alloc: Global,
-    (output, messages): (&[u8], &[u8]),
-    ending: Ending,
-    frozen_text: &[u8],
-) -> Result<Vec<u8>, AllocError> {
-    let mut report = Report::new(alloc);
-    report.run(output, messages, ending);
-    report.add(b"|");
-    report.add(frozen_text);
-    report.text()
-}
-
 /// Returns the frozen text that a run starts from, if it does not start fresh.
 fn frozen_of(
     rt: &(impl Abort + Alloc<A = Global>),
@@ -151,19 +137,13 @@ fn seen_of(
 ) -> Result<Vec<u8>, AllocError> {
     let text = frozen_of(rt, row.start, block)?;
     let seen = run_from(rt, row, &text, row.file, block);
-    printed(
-        rt.alloc(),
-        (seen.output.written(), seen.messages.written()),
-        seen.ending,
-        seen.frozen_text.written(),
-    )
+    printed_frozen(rt.alloc(), &seen)
 }
 
 /// Returns the expected report on a row: no message is written.
 fn expected_of(alloc: Global, row: &Failing) -> Result<Vec<u8>, AllocError> {
     let end = ended(1, row.cause);
-    let written: (&[u8], &[u8]) = (row.output.as_bytes(), b"");
-    printed(alloc, written, end, row.frozen_text.as_bytes())
+    printed_freezing(alloc, (row.output, ""), end, &[row.frozen_text])
 }
 
 #[test]

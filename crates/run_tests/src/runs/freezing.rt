@@ -1,14 +1,16 @@
 //! Runs that start from a frozen file, and runs that freeze their state.
 
 use super::given::{
-    AT_MOST, BLOCKS, ROOM, Seen, USUAL, ended, files, freezing, options, run_over, taken,
+    AT_MOST, BLOCKS, ROOM, Seen, USUAL, ended, files, freezing, options, printed_frozen, run_over,
+    taken,
 };
-use super::report::Report;
-use super::shows::agrees_by;
-use m4_engine::ending::{Cause, Ending};
+use super::report::{add_run, printed_freezing};
+use m4_engine::ending::Cause;
 use m4_engine::options::Options;
 use m4_frozen::fault::{FrozenFault, FrozenKind};
 use m4_state::memory::MemSource;
+use part_tests::report::Report;
+use part_tests::shows::agrees_by;
 use std::alloc::{AllocError, Global};
 use std::process::Abort;
 
@@ -174,21 +176,6 @@ static REFUSED: [Refused; 6] = [
     },
 ];
 
-/// Returns the report on a run, and the frozen text.
-fn printed(
-    alloc: Global,
-    output: &[u8],
-    messages: &[u8],
-    ending: Ending,
-    frozen_text: &[u8],
-) -> Result<Vec<u8>, AllocError> {
-    let mut report = Report::new(alloc);
-    report.run(output, messages, ending);
-    report.add(b"|");
-    report.add(frozen_text);
-    report.text()
-}
-
 /// Runs over a file from a frozen file, with readers that return this many bytes at a time.
 fn run_from(
     rt: &(impl Abort + Alloc<A = Global>),
@@ -212,23 +199,16 @@ fn seen_from(
 ) -> Result<Vec<u8>, AllocError> {
     let frozen = (frozen.as_bytes(), fails);
     let seen = run_from(rt, freezing(USUAL), frozen, file, block);
-    printed(
-        rt.alloc(),
-        seen.output.written(),
-        seen.messages.written(),
-        seen.ending,
-        seen.frozen_text.written(),
-    )
+    printed_frozen(rt.alloc(), &seen)
 }
 
 /// Returns the expected report on a run from a frozen file that is loaded.
 fn expected_of(alloc: Global, row: &Loaded) -> Result<Vec<u8>, AllocError> {
-    printed(
+    printed_freezing(
         alloc,
-        row.output.as_bytes(),
-        row.messages.as_bytes(),
+        (row.output, row.messages),
         ended(0, Cause::Done),
-        row.frozen_text.as_bytes(),
+        &[row.frozen_text],
     )
 }
 
@@ -250,7 +230,7 @@ fn expected_of_refused(alloc: Global, row: &Refused) -> Result<Vec<u8>, AllocErr
         offset: row.offset,
     };
     let end = ended(row.status, Cause::Frozen(fault));
-    printed(alloc, b"", b"", end, b"")
+    printed_freezing(alloc, ("", ""), end, &[])
 }
 
 #[test]
@@ -292,12 +272,11 @@ fn refused_frozen_files_read_no_source(rt: HostRuntime) {
 #[test]
 fn a_run_that_breaks_off_freezes_nothing(rt: HostRuntime) {
     for block in BLOCKS {
-        let expected = printed(
+        let expected = printed_freezing(
             rt.alloc(),
-            b"hi\nx\n",
-            b"m4:b.m4:2: ERROR: end of input in string\n",
+            ("hi\nx\n", "m4:b.m4:2: ERROR: end of input in string\n"),
             ended(1, Cause::EndInString),
-            b"",
+            &[],
         );
         let got = seen_from(&rt, "V1\nD0,3\nhi\n\n", false, "x\n`abc", block);
         agrees_by(&rt, "a string without an end", block, expected, got);
@@ -493,12 +472,6 @@ fn frozen_alike(
     }
 }
 
-/// Adds the output and the messages of a run, and how it ended.
-fn add_seen(seen: &Seen, report: &mut Report) {
-    report.run(seen.output.written(), seen.messages.written(), seen.ending);
-    report.add(b"\n");
-}
-
 /// Reports two runs and a single run; the later ones undivert all diversions. Also reports whether they
 /// freeze the same text if they freeze.
 fn seen_split(
@@ -512,7 +485,8 @@ fn seen_split(
     let joint = joint_run(rt, options(USUAL), row, block);
     let mut report = Report::new(rt.alloc());
     for seen in [&first, &second, &joint] {
-        add_seen(seen, &mut report);
+        seen.add_to(&mut report);
+        report.add(b"\n");
     }
     report.add(frozen_alike(rt, frozen, row, block).as_bytes());
     report.text()
@@ -535,10 +509,10 @@ fn expected_split(alloc: Global, row: &Split) -> Result<Vec<u8>, AllocError> {
     let (before, after) = row.messages;
     let mut report = Report::new(alloc);
     let end = ended(0, Cause::Done);
-    report.run(first.as_bytes(), before.as_bytes(), end);
+    add_run(&mut report, first.as_bytes(), before.as_bytes(), end);
     report.add(b"\n");
     let end = ended(row.end.0, row.end.1);
-    report.run(second.as_bytes(), after.as_bytes(), end);
+    add_run(&mut report, second.as_bytes(), after.as_bytes(), end);
     report.add(b"\n");
     add_joint(row, &mut report);
     report.add(match row.end.1 {

@@ -1,12 +1,13 @@
 //! The devices and options of a run in a row, and the report on the run.
 
-use super::report::printed_run;
+use super::report::add_run;
 use m4_engine::ending::{Cause, Ending};
 use m4_engine::options::Options;
 use m4_engine::run::run;
 use m4_engine::source::Source;
 use m4_state::bytes::Bytes;
 use m4_state::memory::{MemSink, MemSource};
+use part_tests::report::Report;
 use std::alloc::{AllocError, Global};
 use std::process::Abort;
 
@@ -154,14 +155,27 @@ pub fn run_over<'a>(
     }
 }
 
-/// Returns the report on a run: its outputs, and how it ended.
+impl Seen {
+    /// Adds the output and the messages to a report, and how the run ended.
+    pub fn add_to(&self, report: &mut Report) {
+        let (output, messages) = (self.output.written(), self.messages.written());
+        add_run(report, output, messages, self.ending);
+    }
+}
+
+/// Returns the report on a run: its output and its messages, and how it ended.
 pub fn printed_seen(alloc: Global, seen: &Seen) -> Result<Vec<u8>, AllocError> {
-    printed_run(
-        alloc,
-        seen.output.written(),
-        seen.messages.written(),
-        seen.ending,
-    )
+    let mut report = Report::new(alloc);
+    seen.add_to(&mut report);
+    report.text()
+}
+
+/// Returns the report on a run that may freeze, with the text that it froze.
+pub fn printed_frozen(alloc: Global, seen: &Seen) -> Result<Vec<u8>, AllocError> {
+    let mut report = Report::new(alloc);
+    seen.add_to(&mut report);
+    report.pair(b"|", seen.frozen_text.written());
+    report.text()
 }
 
 /// Runs over one file, a.m4. The reader returns, and the writers accept, this many bytes at a time;

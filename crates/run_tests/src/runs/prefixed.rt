@@ -1,11 +1,13 @@
 //! Runs whose builtins have names with a prefix. Manual: "Invoking m4" (`--prefix-builtins`).
 
-use super::given::{AT_MOST, BLOCKS, ROOM, Seen, USUAL, ended, files, freezing, options, run_over};
+use super::given::{
+    AT_MOST, BLOCKS, ROOM, Seen, USUAL, ended, files, freezing, options, printed_seen, run_over,
+};
 use super::report::printed_run;
-use super::shows::agrees_by;
 use m4_engine::ending::Cause;
 use m4_engine::options::Options;
 use m4_state::memory::MemSource;
+use part_tests::shows::agrees_by;
 use std::alloc::{AllocError, Global};
 use std::process::Abort;
 
@@ -94,12 +96,7 @@ fn seen_of(
     block: usize,
 ) -> Result<Vec<u8>, AllocError> {
     let seen = run_of(rt, options(USUAL), frozen, file, block);
-    printed_run(
-        rt.alloc(),
-        seen.output.written(),
-        seen.messages.written(),
-        seen.ending,
-    )
+    printed_seen(rt.alloc(), &seen)
 }
 
 #[test]

@@ -1,69 +1,14 @@
 //! The report on a run, as text.
 
 use m4_engine::ending::Ending;
+use part_tests::report::Report;
 use std::alloc::{AllocError, Global};
-use std::fmt;
 
-/// A report. If an allocation fails while it is written, its end returns that, so that no row has to
-/// check after each piece.
-#[derive(Drop)]
-pub struct Report {
-    alloc: Global,
-    text: Vec<u8>,
-    refused: bool,
-}
-
-impl Report {
-    /// Returns an empty report.
-    pub fn new(alloc: Global) -> Report {
-        Report {
-            alloc,
-            text: Vec::new(alloc),
-            refused: false,
-        }
-    }
-
-    /// Adds a piece.
-    pub fn add(&mut self, piece: &[u8]) {
-        if self.text.extend_from_slice(piece).is_err() {
-            self.refused = true;
-        }
-    }
-
-    /// Adds a value as it is printed.
-    pub fn print(&mut self, value: &impl fmt::Debug) {
-        match format!(in self.alloc; "{value:?}") {
-            Ok(text) => self.add(text.as_bytes()),
-            Err(AllocError) => self.refused = true,
-        }
-    }
-
-    /// Adds the output and the messages of a run, and how it ended.
-    pub fn run(&mut self, output: &[u8], messages: &[u8], ending: Ending) {
-        self.add(output);
-        self.add(b"|");
-        self.add(messages);
-        self.add(b"|");
-        self.print(&ending);
-    }
-
-    /// Records that an allocation failed.
-    pub fn refuse(&mut self) {
-        self.refused = true;
-    }
-
-    /// Returns the complete text.
-    pub fn text(self) -> Result<Vec<u8>, AllocError> {
-        let Report {
-            alloc: _,
-            text,
-            refused,
-        } = self;
-        if refused {
-            return Err(AllocError);
-        }
-        Ok(text)
-    }
+/// Adds the output and the messages of a run, and how it ended.
+pub fn add_run(report: &mut Report, output: &[u8], messages: &[u8], ending: Ending) {
+    report.pair(output, b"|");
+    report.pair(messages, b"|");
+    report.print(&ending);
 }
 
 /// Returns the end of a run as it is printed.
@@ -81,6 +26,22 @@ pub fn printed_run(
     ending: Ending,
 ) -> Result<Vec<u8>, AllocError> {
     let mut report = Report::new(alloc);
-    report.run(output, messages, ending);
+    add_run(&mut report, output, messages, ending);
+    report.text()
+}
+
+/// Returns the same of a run that may freeze, with the parts of the text that it froze.
+pub fn printed_freezing(
+    alloc: Global,
+    (output, messages): (&str, &str),
+    ending: Ending,
+    frozen_text: &[&str],
+) -> Result<Vec<u8>, AllocError> {
+    let mut report = Report::new(alloc);
+    add_run(&mut report, output.as_bytes(), messages.as_bytes(), ending);
+    report.add(b"|");
+    for part in frozen_text {
+        report.add(part.as_bytes());
+    }
     report.text()
 }

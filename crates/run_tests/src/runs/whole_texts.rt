@@ -1,11 +1,13 @@
 //! Whole frozen texts of runs from the fresh state, byte for byte, with readers of several sizes. Manual: "Fast
 //! loading of frozen state", "Frozen file format".
 
-use super::given::{AT_MOST, BLOCKS, ROOM, USUAL, ended, files, freezing, run_over};
-use super::report::Report;
-use super::shows::agrees_by;
-use m4_engine::ending::{Cause, Ending};
+use super::given::{
+    AT_MOST, BLOCKS, ROOM, USUAL, ended, files, freezing, printed_frozen, run_over,
+};
+use super::report::printed_freezing;
+use m4_engine::ending::Cause;
 use m4_engine::options::Options;
+use part_tests::shows::agrees_by;
 use std::alloc::{AllocError, Global};
 use std::process::Abort;
 
@@ -54,6 +56,19 @@ const PREFIXED: &str =
     F9,6\nm4_substrsubstr\nF11,8\nm4_translittranslit\nF11,8\nm4_undefineundefine\n\
     F11,8\nm4_undivertundivert\n";
 
+/// The frozen text of the fresh state, in parts.
+pub const FRESH_TEXT: &[&str] = &[
+    BEGIN,
+    UNDERSCORES,
+    BUILTIN,
+    CHANGES,
+    DECR_TO_EVAL,
+    IFDEF_TO_PUSHDEF,
+    SHIFT,
+    SUBSTR_ON,
+    END,
+];
+
 /// A file, what a run over it writes and how it ends, and the parts of the frozen text.
 struct Frozen {
     name: &'static str,
@@ -73,17 +88,7 @@ const FRESH: Frozen = Frozen {
     output: "",
     messages: "",
     end: (0, Cause::Done),
-    frozen_text: &[
-        BEGIN,
-        UNDERSCORES,
-        BUILTIN,
-        CHANGES,
-        DECR_TO_EVAL,
-        IFDEF_TO_PUSHDEF,
-        SHIFT,
-        SUBSTR_ON,
-        END,
-    ],
+    frozen_text: FRESH_TEXT,
 };
 
 static NAMES: [Frozen; 5] = [
@@ -231,23 +236,6 @@ static SETTINGS: [Frozen; 5] = [
     },
 ];
 
-/// Returns the report on a run, with the parts of its frozen text.
-fn printed(
-    alloc: Global,
-    output: &[u8],
-    messages: &[u8],
-    ending: Ending,
-    frozen_text: &[&str],
-) -> Result<Vec<u8>, AllocError> {
-    let mut report = Report::new(alloc);
-    report.run(output, messages, ending);
-    report.add(b"|");
-    for part in frozen_text {
-        report.add(part.as_bytes());
-    }
-    report.text()
-}
-
 /// Runs over a row's file and reports the run.
 fn seen(
     rt: &(impl Abort + Alloc<A = Global>),
@@ -260,25 +248,16 @@ fn seen(
     };
     let mut sources = files(rt, &[(b"a.m4", row.file.as_bytes())], block);
     let seen = run_over(rt, options, &mut None, &mut sources, ROOM, AT_MOST);
-    let mut report = Report::new(rt.alloc());
-    report.run(seen.output.written(), seen.messages.written(), seen.ending);
-    report.add(b"|");
-    report.add(seen.frozen_text.written());
-    report.text()
+    printed_frozen(rt.alloc(), &seen)
 }
 
 /// Compares the report on each row, at each size of a block.
 fn compare(rt: &(impl Abort + Alloc<A = Global>), rows: &[Frozen]) {
     for row in rows {
         for block in BLOCKS {
-            let (output, messages) = (row.output.as_bytes(), row.messages.as_bytes());
-            let want = printed(
-                rt.alloc(),
-                output,
-                messages,
-                ended(row.end.0, row.end.1),
-                row.frozen_text,
-            );
+            let end = ended(row.end.0, row.end.1);
+            let written = (row.output, row.messages);
+            let want = printed_freezing(rt.alloc(), written, end, row.frozen_text);
             agrees_by(rt, row.name, block, want, seen(rt, row, block));
         }
     }

@@ -1,13 +1,17 @@
 //! Runs that save text for the end of the input, and runs that a macro ends. Manual: "Saving text until
 //! end of input", "Exiting from m4".
 
-use super::given::{AT_MOST, BLOCKS, ROOM, Seen, USUAL, files, freezing, options, run_over};
-use super::report::Report;
+use super::given::{
+    AT_MOST, BLOCKS, ROOM, Seen, USUAL, files, freezing, options, printed_frozen, run_over,
+};
+use super::report::{add_run, printed_freezing};
 use super::rows::{DONE, End, Row, compare, ending};
-use super::shows::agrees_by;
-use m4_engine::ending::{Cause, Ending};
+use super::whole_texts::FRESH_TEXT;
+use m4_engine::ending::Cause;
 use m4_engine::options::Options;
 use m4_state::memory::MemSource;
+use part_tests::report::Report;
+use part_tests::shows::agrees_by;
 use std::alloc::{AllocError, Global};
 use std::process::Abort;
 
@@ -332,100 +336,81 @@ fn a_macro_ends_the_run_within_a_text(rt: HostRuntime) {
     compare(&rt, &EXITS_WITHIN);
 }
 
-// A row's name, a file, output, the end, and whether a run that freezes writes the frozen text of a run
-// over nothing; otherwise it writes none.
-type Frozen = (&'static str, &'static str, &'static str, End, bool);
+// A file, what a run that freezes writes, how it ends, and whether it freezes the fresh state; otherwise it freezes
+// nothing.
+struct Frozen {
+    name: &'static str,
+    file: &'static str,
+    output: &'static str,
+    end: End,
+    freezes: bool,
+}
 
 static FREEZES: [Frozen; 7] = [
-    ("no text is saved", "x\n", "x\n", DONE, true),
-    (
-        "text is saved, and read before the state is frozen",
-        "m4wrap(`bye')x\n",
-        "x\nbye",
-        SAVED,
-        true,
-    ),
-    (
-        "text is saved in two rounds",
-        "m4wrap(`m4wrap(`c')b')a\n",
-        "a\nbc",
-        SAVED,
-        true,
-    ),
-    ("an empty text is saved", "m4wrap()x\n", "x\n", SAVED, true),
-    (
-        "a macro ends the run",
-        "x m4exit(`3')y\n",
-        "x ",
-        (3, Cause::Exited(3), false),
-        false,
-    ),
-    (
-        "a macro ends the run with code 0",
-        "m4wrap(`w')x m4exit y\n",
-        "x ",
-        (0, Cause::Exited(0), false),
-        false,
-    ),
-    (
-        "a macro within saved text ends the run",
-        "m4wrap(`w m4exit(`2')v')x\n",
-        "x\nw ",
-        (2, Cause::Exited(2), false),
-        false,
-    ),
+    Frozen {
+        name: "no text is saved",
+        file: "x\n",
+        output: "x\n",
+        end: DONE,
+        freezes: true,
+    },
+    Frozen {
+        name: "text is saved, and read before the state is frozen",
+        file: "m4wrap(`bye')x\n",
+        output: "x\nbye",
+        end: SAVED,
+        freezes: true,
+    },
+    Frozen {
+        name: "text is saved in two rounds",
+        file: "m4wrap(`m4wrap(`c')b')a\n",
+        output: "a\nbc",
+        end: SAVED,
+        freezes: true,
+    },
+    Frozen {
+        name: "an empty text is saved",
+        file: "m4wrap()x\n",
+        output: "x\n",
+        end: SAVED,
+        freezes: true,
+    },
+    Frozen {
+        name: "a macro ends the run",
+        file: "x m4exit(`3')y\n",
+        output: "x ",
+        end: (3, Cause::Exited(3), false),
+        freezes: false,
+    },
+    Frozen {
+        name: "a macro ends the run with code 0",
+        file: "m4wrap(`w')x m4exit y\n",
+        output: "x ",
+        end: (0, Cause::Exited(0), false),
+        freezes: false,
+    },
+    Frozen {
+        name: "a macro within saved text ends the run",
+        file: "m4wrap(`w m4exit(`2')v')x\n",
+        output: "x\nw ",
+        end: (2, Cause::Exited(2), false),
+        freezes: false,
+    },
 ];
 
-// Returns the report on a run, and its frozen text.
-fn printed_frozen(
-    alloc: Global,
-    (output, messages): (&[u8], &[u8]),
-    ending: Ending,
-    frozen_text: &[u8],
-) -> Result<Vec<u8>, AllocError> {
-    let mut report = Report::new(alloc);
-    report.run(output, messages, ending);
-    report.add(b"|");
-    report.add(frozen_text);
-    report.text()
-}
-
-// Returns the expected report on a run that freezes: no message, and the frozen text of a run over
-// nothing, or none.
-fn expected_frozen(
-    rt: &(impl Abort + Alloc<A = Global>),
-    (output, end, freezes): (&str, End, bool),
-    block: usize,
-) -> Result<Vec<u8>, AllocError> {
-    let (written, end): ((&[u8], &[u8]), Ending) = ((output.as_bytes(), b""), ending(end));
-    if !freezes {
-        return printed_frozen(rt.alloc(), written, end, b"");
-    }
-    let fresh = run_of(rt, freezing(USUAL), "", block);
-    printed_frozen(rt.alloc(), written, end, fresh.frozen_text.written())
-}
-
-// Reports a run that freezes.
-fn seen_frozen(
-    rt: &(impl Abort + Alloc<A = Global>),
-    file: &str,
-    block: usize,
-) -> Result<Vec<u8>, AllocError> {
-    let seen = run_of(rt, freezing(USUAL), file, block);
-    printed_frozen(
-        rt.alloc(),
-        (seen.output.written(), seen.messages.written()),
-        seen.ending,
-        seen.frozen_text.written(),
-    )
+// Returns the expected report on a run that freezes: no message, and the frozen text of the fresh state, or none.
+fn expected_frozen(alloc: Global, row: &Frozen) -> Result<Vec<u8>, AllocError> {
+    let frozen_text = if row.freezes { FRESH_TEXT } else { &[] };
+    printed_freezing(alloc, (row.output, ""), ending(row.end), frozen_text)
 }
 
 // Compares the report on each run that freezes, at each size of a block.
 fn compare_frozen(rt: &(impl Abort + Alloc<A = Global>), rows: &[Frozen]) {
-    for &(name, file, output, end, freezes) in rows {
+    for row in rows {
         for block in BLOCKS {
-            let want = expected_frozen(rt, (output, end, freezes), block);
-            agrees_by(rt, name, block, want, seen_frozen(rt, file, block));
+            let seen = run_of(rt, freezing(USUAL), row.file, block);
+            let want = expected_frozen(rt.alloc(), row);
+            agrees_by(rt, row.name, block, want, printed_frozen(rt.alloc(), &seen));
         }
     }
 }
@@ -498,15 +483,10 @@ fn expected_apart(
     joint: &str,
 ) -> Result<Vec<u8>, AllocError> {
     let mut report = Report::new(alloc);
-    report.run(first.as_bytes(), b"", ending(SAVED));
-    report.run(second.as_bytes(), b"", ending(DONE));
-    report.run(joint.as_bytes(), b"", ending(SAVED));
+    add_run(&mut report, first.as_bytes(), b"", ending(SAVED));
+    add_run(&mut report, second.as_bytes(), b"", ending(DONE));
+    add_run(&mut report, joint.as_bytes(), b"", ending(SAVED));
     report.text()
-}
-
-// Adds the output and the messages of a run, and how it ended.
-fn add_seen(seen: &Seen, report: &mut Report) {
-    report.run(seen.output.written(), seen.messages.written(), seen.ending);
 }
 
 // Reports the three runs of a row.
@@ -520,7 +500,7 @@ fn seen_apart(
     let joint = run_of_both(rt, files, block);
     let mut report = Report::new(rt.alloc());
     for seen in [&first, &second, &joint] {
-        add_seen(seen, &mut report);
+        seen.add_to(&mut report);
     }
     report.text()
 }

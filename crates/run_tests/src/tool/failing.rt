@@ -4,14 +4,14 @@
 
 ghost use Rattle.std.specs.Prelude.{None, false};
 
-use super::following::{AT_MOST, Around, USUAL, add_made, end_of, expected, seen_of};
+use super::following::{AT_MOST, Around, USUAL, end_of, expected, made_by, seen_of};
 use crate::runs::given::sink;
-use crate::runs::report::Report;
-use crate::runs::shows::agrees;
 use m4_state::device::{ByteSink, DeviceFault};
 use m4_state::memory::MemSink;
 use m4_tool::followed::Failure;
 use m4_tool::world::Shows;
+use part_tests::report::Report;
+use part_tests::shows::agrees;
 use std::alloc::{AllocError, Global};
 use std::process::Abort;
 
@@ -332,14 +332,8 @@ fn seen_between(
     around: Around,
     bounds: (&str, &str),
 ) -> Result<Vec<u8>, AllocError> {
-    let mut report = Report::new(rt.alloc());
-    let mut out = sink(rt, around.room, AT_MOST);
-    let mut messages = sink(rt, around.space, AT_MOST);
-    let end = end_of(rt, words, around, &mut out, &mut messages);
-    report.print(&end.status);
-    add_made(&end.world, &mut report);
-    report.add(b"|");
-    report.add(messages.written());
+    let (mut report, out, messages) = made_by(rt, words, around);
+    report.pair(b"|", messages.written());
     report.add(b"|");
     add_between(out.written(), bounds, &mut report);
     report.text()

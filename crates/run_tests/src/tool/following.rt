@@ -2,13 +2,13 @@
 
 use super::worlds::FILES;
 use crate::runs::given::sink;
-use crate::runs::report::Report;
 use m4_state::memory::MemSink;
 use m4_tool::follow::follow;
 use m4_tool::followed::Followed;
 use m4_tool::line::read_line;
 use m4_tool::mem_world::MemWorld;
 use m4_tool::world::Shows;
+use part_tests::report::Report;
 use std::alloc::{AllocError, Global};
 use std::process::Abort;
 
@@ -82,18 +82,29 @@ pub fn add_written(out: &MemSink, messages: &MemSink, report: &mut Report) {
     report.add(messages.written());
 }
 
+/// Follows a line. Returns the report on its status and on the file that was made, and the writers of the output and of
+/// the messages.
+pub fn made_by(
+    rt: &(impl Abort + Alloc<A = Global>),
+    words: &[&str],
+    around: Around,
+) -> (Report, MemSink, MemSink) {
+    let mut out = sink(rt, around.room, AT_MOST);
+    let mut messages = sink(rt, around.space, AT_MOST);
+    let end = end_of(rt, words, around, &mut out, &mut messages);
+    let mut report = Report::new(rt.alloc());
+    report.print(&end.status);
+    add_made(&end.world, &mut report);
+    (report, out, messages)
+}
+
 /// Reports the end of a line: the status, the file that was made, the output and the messages.
 pub fn seen_of(
     rt: &(impl Abort + Alloc<A = Global>),
     words: &[&str],
     around: Around,
 ) -> Result<Vec<u8>, AllocError> {
-    let mut report = Report::new(rt.alloc());
-    let mut out = sink(rt, around.room, AT_MOST);
-    let mut messages = sink(rt, around.space, AT_MOST);
-    let end = end_of(rt, words, around, &mut out, &mut messages);
-    report.print(&end.status);
-    add_made(&end.world, &mut report);
+    let (mut report, out, messages) = made_by(rt, words, around);
     add_written(&out, &messages, &mut report);
     report.text()
 }

@@ -4,12 +4,11 @@
 //! writers of several sizes, since no result may depend on them. Manual: "Frozen file format".
 
 use super::following::add_written;
-use super::shows::text_of;
 use crate::runs::given::sink;
-use crate::runs::report::Report;
-use crate::runs::shows::agrees_by;
 use m4_state::memory::MemSource;
 use m4_tool::modes::{canon, inspect};
+use part_tests::report::Report;
+use part_tests::shows::agrees_by;
 use std::alloc::{AllocError, Global};
 use std::process::Abort;
 
@@ -178,7 +177,7 @@ fn expected(alloc: Global, row: Row<'_>) -> Result<Vec<u8>, AllocError> {
 // Runs a row with these devices, and compares the reports.
 fn check_by(rt: &(impl Abort + Alloc<A = Global>), row: Row<'_>, devices: Devices) {
     let want = expected(rt.alloc(), row);
-    let name = text_of(row.file);
+    let name = std::str::from_utf8(row.file).unwrap_or("bytes that are no text");
     agrees_by(rt, name, devices.at_most, want, seen_by(rt, row, devices));
 }
 

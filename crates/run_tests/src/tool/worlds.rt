@@ -1,11 +1,10 @@
 //! Lines that are followed in a world in memory: the status, the output, the messages, and the file that is
 //! made. The files and the expected results were written by hand.
 
-use super::following::{AT_MOST, Around, USUAL, add_made, end_of, expected, seen_of};
-use crate::runs::given::sink;
-use crate::runs::report::Report;
-use crate::runs::shows::agrees;
+use super::following::{Around, USUAL, expected, made_by, seen_of};
 use m4_tool::given::Given;
+use part_tests::report::Report;
+use part_tests::shows::agrees;
 use std::alloc::{AllocError, Global};
 use std::process::Abort;
 
@@ -362,14 +361,8 @@ fn seen_frozen(
     words: &[&str],
     around: Around,
 ) -> Result<Vec<u8>, AllocError> {
-    let mut report = Report::new(rt.alloc());
-    let mut out = sink(rt, around.room, AT_MOST);
-    let mut messages = sink(rt, around.space, AT_MOST);
-    let end = end_of(rt, words, around, &mut out, &mut messages);
-    report.print(&end.status);
-    add_made(&end.world, &mut report);
-    report.add(b"|");
-    report.add(messages.written());
+    let (mut report, _out, messages) = made_by(rt, words, around);
+    report.pair(b"|", messages.written());
     report.text()
 }
 
