@@ -5,14 +5,12 @@
 //! length. So these builtins do not make the call themselves: they return a [`Step`], and
 //! [`crate::act::act`] continues in a loop.
 
-ghost use Rattle.std.specs.Prelude.{◌≡◌, ◌<◌, ℕ, IfOk, OnOk, length};
+ghost use Rattle.std.specs.Prelude.{◌≡◌, ◌<◌, ℕ, IfOk, length};
 ghost use Rattle.std.specs.List.{AllByRecursion};
-ghost use Rattle.m4_builtins.specs.Act.{act, goes_on, nothing, only_warning};
+ghost use Rattle.m4_builtins.specs.Act.{act, goes_on, nothing};
 ghost use Rattle.m4_builtins.specs.Args.{IsArg};
 ghost use Rattle.m4_builtins.specs.Indirect as spec;
 ghost use Rattle.m4_builtins.specs.Steps.{LeadsTo, IsShorter};
-ghost use Rattle.m4_builtins.specs.Warned.{warned_of};
-ghost use Rattle.m4_builtins.specs.declared.indirect.Step.TheVariants.{Done};
 
 use crate::args::Arg;
 use crate::effect_buffer::EffectBuffer;
@@ -56,22 +54,11 @@ pub(crate) fn start<'a>(
             Ok(Step::Done)
         }
         Def::Builtin(builtin) => Ok(Step::On(*builtin, list)),
-        Def::Placeholder(other) => refuse(effect, place, Warning::Unsupported(other.as_slice())),
+        Def::Placeholder(other) => {
+            warn(effect, place, Warning::Unsupported(other.as_slice()))?;
+            Ok(Step::Done)
+        }
     }
-}
-
-/// Finishes a call with a warning, which is all its effect.
-fn refuse<'a>(
-    effect: &mut EffectBuffer,
-    place: &Place,
-    about: Warning<'_>,
-) -> Result<Step<'a>, BuiltinFault>
-    requires { effect.old ≡ nothing }
-    ensures effect { OnOk result (effect.new ≡ only_warning (warned_of place.now about.entry)) }
-    ensures done { IfOk result (λ step. step ≡ Done) }
-{
-    warn(effect, place, about)?;
-    Ok(Step::Done)
 }
 
 /// Calls the macro that the first argument names. Manual: "Indirect call of macros".
@@ -87,14 +74,18 @@ pub(crate) fn indir<'a>(
         (goes_on list.now place.now state.now) list.now place.now state.now) place.now state.now effect.new step) }
     ensures shorter { IfOk result (λ step. IsShorter (length list.now) step) }
 {
-    match list {
-        [] => Ok(Step::Done),
-        [Arg::Definition(_), ..] => refuse(effect, place, Warning::BadName(Builtin::Indir)),
-        [Arg::Text(name), rest @ ..] => match state.top(name.as_slice()) {
-            Some(def) => start(effect, def, name.as_slice(), rest, place, state),
-            None => refuse(effect, place, Warning::UnknownMacro(name.as_slice())),
-        },
-    }
+    let Some((first, rest)) = list.split_first() else {
+        return Ok(Step::Done);
+    };
+    let Arg::Text(name) = first else {
+        warn(effect, place, Warning::BadName(Builtin::Indir))?;
+        return Ok(Step::Done);
+    };
+    let Some(def) = state.top(name.as_slice()) else {
+        warn(effect, place, Warning::UnknownMacro(name.as_slice()))?;
+        return Ok(Step::Done);
+    };
+    start(effect, def, name.as_slice(), rest, place, state)
 }
 
 /// Calls the builtin whose own name is the first argument. Manual: "Indirect call of builtins".
@@ -110,12 +101,16 @@ pub(crate) fn builtin<'a>(
         (goes_on list.now place.now state.now) list.now place.now state.now) place.now state.now effect.new step) }
     ensures shorter { IfOk result (λ step. IsShorter (length list.now) step) }
 {
-    match list {
-        [] => Ok(Step::Done),
-        [Arg::Definition(_), ..] => refuse(effect, place, Warning::BadName(Builtin::IndirBuiltin)),
-        [Arg::Text(name), rest @ ..] => match Builtin::by_name(name.as_slice()) {
-            Some(builtin) => Ok(Step::On(builtin, rest)),
-            None => refuse(effect, place, Warning::UnknownBuiltin(name.as_slice())),
-        },
-    }
+    let Some((first, rest)) = list.split_first() else {
+        return Ok(Step::Done);
+    };
+    let Arg::Text(name) = first else {
+        warn(effect, place, Warning::BadName(Builtin::IndirBuiltin))?;
+        return Ok(Step::Done);
+    };
+    let Some(builtin) = Builtin::by_name(name.as_slice()) else {
+        warn(effect, place, Warning::UnknownBuiltin(name.as_slice()))?;
+        return Ok(Step::Done);
+    };
+    Ok(Step::On(builtin, rest))
 }
