@@ -21,8 +21,8 @@ use crate::effect_buffer::EffectBuffer;
 use crate::ending::{m4exit, m4wrap};
 use crate::eval::eval;
 use crate::fault::BuiltinFault;
-use crate::indirect::{Step, begin, builtin, indir};
-use crate::messages::{Warning, warning_message};
+use crate::indirect::{Step, builtin, indir, start};
+use crate::messages::{Warning, warn, warning_message};
 use crate::naming::{define, defn, popdef, pushdef, undefine};
 use crate::place::Place;
 use crate::printing::{dumpdef, errprint, file, line};
@@ -78,7 +78,7 @@ pub fn act_on(
     ensures { OnOk result (spec.act def.now name.now list.now place.now state.old
         ≡ record { state = state.new; effect = effect.new }) }
 {
-    let mut step = begin(effect, def, name, list, place, state)?;
+    let mut step = start(effect, def, name, list, place, state)?;
     loop {
         match step {
             Step::Done => return Ok(()),
@@ -105,7 +105,7 @@ fn act_builtin<'a>(
     let Row { least, most, .. } = builtin.row();
     if list.len() < least {
         give_though_few(effect, builtin, list)?;
-        effect.warn(warning_message(effect.alloc(), place, Warning::TooFew(builtin))?);
+        warn(effect, place, Warning::TooFew(builtin))?;
         return Ok(Step::Done);
     }
     let step = row(effect, builtin, list, place, state)?;

@@ -8,7 +8,7 @@ ghost use Rattle.m4_builtins.specs.Branching as spec;
 
 use crate::args::{Arg, argument_at, text_at, text_of};
 use crate::effect_buffer::EffectBuffer;
-use crate::messages::{Warning, warning_message};
+use crate::messages::{Warning, warn};
 use crate::place::Place;
 use crate::substitute::push_quoted;
 use m4_state::builtin::Builtin;
@@ -44,19 +44,11 @@ pub(crate) fn ifelse(
 {
     match list {
         [] | [_] => {}
-        [_, _] => effect.warn(warning_message(
-            effect.alloc(),
-            place,
-            Warning::TooFew(Builtin::Ifelse),
-        )?),
+        [_, _] => warn(effect, place, Warning::TooFew(Builtin::Ifelse))?,
         [..] => {
             effect.give_argument(chosen(list))?;
             if has_extra(list.len()) {
-                effect.warn(warning_message(
-                    effect.alloc(),
-                    place,
-                    Warning::Excess(Builtin::Ifelse),
-                )?);
+                warn(effect, place, Warning::Excess(Builtin::Ifelse))?;
             }
         }
     }

@@ -15,7 +15,7 @@ ghost use Rattle.m4_builtins.specs.Steps.{LeadsTo, IsShorter};
 use crate::args::Arg;
 use crate::effect_buffer::EffectBuffer;
 use crate::fault::BuiltinFault;
-use crate::messages::{Warning, warning_message};
+use crate::messages::{Warning, warn};
 use crate::place::Place;
 use m4_state::builtin::Builtin;
 use m4_state::definition::Def;
@@ -33,7 +33,7 @@ pub(crate) enum Step<'a> {
 /// Starts a call of a definition under a name: a text or a placeholder is finished, a builtin is not. Inlined, so that
 /// a builtin's call moves no [`Step`].
 #[inline(always)]
-pub(crate) fn begin<'a>(
+pub(crate) fn start<'a>(
     effect: &mut EffectBuffer,
     def: &Def,
     name: &[u8],
@@ -55,11 +55,7 @@ pub(crate) fn begin<'a>(
         }
         Def::Builtin(builtin) => Ok(Step::On(*builtin, list)),
         Def::Placeholder(other) => {
-            effect.warn(warning_message(
-                effect.alloc(),
-                place,
-                Warning::Unsupported(other.as_slice()),
-            )?);
+            warn(effect, place, Warning::Unsupported(other.as_slice()))?;
             Ok(Step::Done)
         }
     }
@@ -82,20 +78,14 @@ pub(crate) fn indir<'a>(
         return Ok(Step::Done);
     };
     let Arg::Text(name) = first else {
-        effect.warn(warning_message(effect.alloc(), place, Warning::BadName(Builtin::Indir))?);
+        warn(effect, place, Warning::BadName(Builtin::Indir))?;
         return Ok(Step::Done);
     };
-    match state.top(name.as_slice()) {
-        Some(def) => begin(effect, def, name.as_slice(), rest, place, state),
-        None => {
-            effect.warn(warning_message(
-                effect.alloc(),
-                place,
-                Warning::UnknownMacro(name.as_slice()),
-            )?);
-            Ok(Step::Done)
-        }
-    }
+    let Some(def) = state.top(name.as_slice()) else {
+        warn(effect, place, Warning::UnknownMacro(name.as_slice()))?;
+        return Ok(Step::Done);
+    };
+    start(effect, def, name.as_slice(), rest, place, state)
 }
 
 /// Calls the builtin whose own name is the first argument. Manual: "Indirect call of builtins".
@@ -115,22 +105,12 @@ pub(crate) fn builtin<'a>(
         return Ok(Step::Done);
     };
     let Arg::Text(name) = first else {
-        effect.warn(warning_message(
-            effect.alloc(),
-            place,
-            Warning::BadName(Builtin::IndirBuiltin),
-        )?);
+        warn(effect, place, Warning::BadName(Builtin::IndirBuiltin))?;
         return Ok(Step::Done);
     };
-    match Builtin::by_name(name.as_slice()) {
-        Some(builtin) => Ok(Step::On(builtin, rest)),
-        None => {
-            effect.warn(warning_message(
-                effect.alloc(),
-                place,
-                Warning::UnknownBuiltin(name.as_slice()),
-            )?);
-            Ok(Step::Done)
-        }
-    }
+    let Some(builtin) = Builtin::by_name(name.as_slice()) else {
+        warn(effect, place, Warning::UnknownBuiltin(name.as_slice()))?;
+        return Ok(Step::Done);
+    };
+    Ok(Step::On(builtin, rest))
 }

@@ -4,6 +4,7 @@ ghost use Rattle.std.specs.Prelude.{◌≡◌, ◌++◌, IfOk, OnOk, codes};
 ghost use Rattle.m4_builtins.specs.Messages.{place_text, error, warning, dropped};
 ghost use Rattle.m4_builtins.specs.Warned.{warned_of};
 
+use crate::effect_buffer::EffectBuffer;
 use crate::fault::BuiltinFault;
 use crate::place::Place;
 use itoa::Buffer;
@@ -30,6 +31,19 @@ pub fn dropped_message(alloc: Global, place: &Place) -> Result<Bytes, BuiltinFau
     ensures { IfOk result (λ b. b ≡ dropped place.now) }
 {
     Ok(warning_message(alloc, place, Warning::Dropped)?)
+}
+
+/// Sets the messages of an effect to a warning.
+pub(crate) fn warn(
+    effect: &mut EffectBuffer,
+    place: &Place,
+    about: Warning<'_>,
+) -> Result<(), AllocError>
+    ensures { OnOk result (effect.new ≡ record effect.old { messages = warned_of place.now about.entry }) }
+{
+    let line = warning_message(effect.alloc(), place, about)?;
+    effect.warn(line);
+    Ok(())
 }
 
 /// What a warning is about: a builtin of the table, or a name that the input or a frozen file has.

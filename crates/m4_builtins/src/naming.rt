@@ -13,7 +13,7 @@ ghost use Rattle.m4_builtins.specs.Naming as spec;
 use crate::args::{Arg, text_of};
 use crate::effect_buffer::EffectBuffer;
 use crate::fault::BuiltinFault;
-use crate::messages::{Warning, dropped_message, warning_message};
+use crate::messages::{Warning, dropped_message, warn};
 use crate::place::Place;
 use crate::substitute::push_one_quoted;
 use m4_state::builtin::Builtin;
@@ -43,7 +43,7 @@ pub(crate) fn define(
             state.define_borrowed(name.as_slice(), def)?;
         }
         Arg::Definition(_) => {
-            effect.warn(warning_message(effect.alloc(), place, Warning::BadName(Builtin::Define))?);
+            warn(effect, place, Warning::BadName(Builtin::Define))?;
         }
     }
     Ok(())
@@ -71,11 +71,7 @@ pub(crate) fn pushdef(
             state.push_borrowed(name.as_slice(), def)?;
         }
         Arg::Definition(_) => {
-            effect.warn(warning_message(
-                effect.alloc(),
-                place,
-                Warning::BadName(Builtin::Pushdef),
-            )?);
+            warn(effect, place, Warning::BadName(Builtin::Pushdef))?;
         }
     }
     Ok(())
@@ -179,7 +175,7 @@ fn push_texts(
         ≡ warnings.old.items ++ flat_map (spec.left_out place.now) (spec.tops_of state.now list.now)) }
 {
     for arg in list {
-        push_text(
+        push_text_of(
             alloc,
             state.top(text_of(arg)),
             place,
@@ -192,7 +188,7 @@ fn push_texts(
 }
 
 /// Appends the text of a definition, or the warning that it is left out.
-fn push_text(
+fn push_text_of(
     alloc: Global,
     def: Option<&Def>,
     place: &Place,

@@ -297,7 +297,7 @@ scan_front_stays Undecided q c p b y z h g = inl refl
 front_long : (q c : Delimiters) (b : ℕ) (y : List ℕ) (t u v w x : Bool) → (t ≡ true → length c.begin ≤ length (b ∷ y))
     → (w ≡ true → length q.begin ≤ length (b ∷ y))
     → (kind_by t u v w x ≡ CommentHere → length c.begin ≤ length (b ∷ y))
-      × (kind_by t u v w x ≡ StringHere → length q.begin ≤ length (b ∷ y))
+    × (kind_by t u v w x ≡ StringHere → length q.begin ≤ length (b ∷ y))
 front_long q c b y true u v w x f g = ((λ _. f refl), (λ e. cc))
 front_long q c b y false true v w x f g = ((λ e. cc), (λ e. cc))
 front_long q c b y false false true w x f g = ((λ e. cc), (λ e. cc))

@@ -50,7 +50,7 @@ none_passed q o n x = record {
 passed_on : (q : Delimiters) (o : Bool) (n : ℕ) (x : List ℕ) (m k b i d : ℕ) → HasPassed q o n x m k
     → drop k x ≡ b ∷ drop (k + 1) x → 0 < d → d ≤ length (drop k x) → i ≤ suc m
     → ((p : Bool) (z : List ℕ) → MayCome o p z → level q p m 0 (b ∷ (drop (k + 1) x ++ z))
-      ≡ one_more (level q p i (d - 1) (drop (k + 1) x ++ z))) → HasPassed q o n x i (k + d)
+    ≡ one_more (level q p i (d - 1) (drop (k + 1) x ++ z))) → HasPassed q o n x i (k + d)
 passed_on q o n x m k b i d s e pos fits low is =
     let len : length (drop k x) ≡ length x - k = length-drop k x in
     let w : k ≤ length x = s.within in

@@ -10,9 +10,9 @@ ghost use Rattle.m4_state.specs.DiversionEntries.{texts_of};
 use std::alloc::{AllocError, Global};
 use std::collections::BTreeMap;
 
-/// A text with fewer bytes than this is short. A page of memory is as large, and one that is never
-/// written takes no time and no memory.
-const SHORT: usize = 4096;
+/// How many bytes a page of memory has. A page that is never written takes no time and no memory, so that further room
+/// after a text of a page costs nothing.
+const PAGE: usize = 4096;
 
 /// How much room a text begins with, at most, unless it is longer itself. A reader gives half as much at a
 /// time, so that a text of two pieces fits.
@@ -47,13 +47,13 @@ pub fn append_in(
     Ok(())
 }
 
-/// Copies the first piece of a text. After one that is not short more pieces may come: three times as many bytes have
+/// Copies the first piece of a text. After one of a page or more further pieces may come: three times as many bytes have
 /// room after it, up to `ROOM`, so that they are added without a copy of what is there.
 fn begun_with(alloc: Global, text: &[u8]) -> Result<Vec<u8>, AllocError>
     ensures items { IfOk result (λ held. held.items ≡ text.now) }
 {
     let len = text.len();
-    let room = if len < SHORT || len > ROOM {
+    let room = if len < PAGE || len > ROOM {
         len
     } else {
         (4 * len).min(ROOM)

@@ -11,8 +11,9 @@ use crate::followed::{FAILED, Failure};
 use crate::line::{Line, LineFault, read_line};
 use crate::reports::{report, report_failure};
 use crate::shared::{MESSAGES, OUTPUT_BUFFER, SharedOutputs};
-use crate::std_world::{StdShown, StdWorld};
+use crate::std_world::StdWorld;
 use crate::streams::occupy_closed;
+use m4_state::standard::StdSink;
 use std::alloc::{AllocError, Global};
 use std::env::Env;
 use std::io::{self, BufWriter, ErrorKind, Read, Write};
@@ -107,8 +108,8 @@ fn follow_line<R: Files + Alloc<A = Global> + Print + Eprint, I: Read + Copy, E:
     let messages = BufWriter::with_capacity(rt.alloc(), MESSAGES, errors)?;
     let shared = SharedOutputs::new(output, messages);
     let world = StdWorld::new(rt, input, &shared, spare)?;
-    let mut out = StdShown::new(shared.output());
-    let mut messages = StdShown::new(shared.messages());
+    let mut out = StdSink::new(shared.output());
+    let mut messages = StdSink::new(shared.messages());
     let followed = follow(rt.alloc(), line, world, &mut out, &mut messages);
     Ok(followed.status)
 }

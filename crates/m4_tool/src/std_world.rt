@@ -9,8 +9,8 @@ ghost use Rattle.std.specs.IoError.{error_kind};
 use crate::shared::{FlushBeforeRead, SharedOutputs};
 use crate::sources::FileOrInput;
 use crate::world::{Shows, World};
-use m4_state::device::{ByteSink, DeviceFault};
-use m4_state::standard::StdSource;
+use m4_state::device::DeviceFault;
+use m4_state::standard::{StdSink, StdSource};
 use std::alloc::Global;
 use std::cell::Cell;
 use std::fs::{self, OpenFile};
@@ -252,54 +252,10 @@ impl<'a, R: Files + Alloc<A = Global>, I: Read + Copy, W: Write, E: Write> World
     }
 }
 
-/// A writer of std that can be flushed. Each of its errors is a fault, and so is a write of 0 bytes.
-#[derive(Drop)]
-pub struct StdShown<W> {
-    writer: W,
-    failures: u64,
-}
-
-impl<W: Write> StdShown<W> {
-    /// Returns a sink over this writer, with no failure so far.
-    pub fn new(writer: W) -> StdShown<W>
-        ensures contents { ⟦<StdShown<W> as ByteSink>⟧.contents result ≡ None }
-        ensures failures { ⟦<StdShown<W> as ByteSink>⟧.failures result ≡ 0 }
-    {
-        StdShown {
-            writer,
-            failures: 0,
-        }
-    }
-}
-
-impl<W: Write> ByteSink for StdShown<W> {
-    ghost contents = { λ _. None };
-
-    ghost takes_whole = { false };
-
-    ghost failures = { λ s. s.failures };
-
-    fn put(&mut self, bytes: &[u8]) -> Result<usize, DeviceFault> {
-        match self.writer.write(bytes) {
-            Ok(n) if n > 0 => Ok(n),
-            _ => {
-                self.failures = self.failures.saturating_add(1);
-                Err(DeviceFault)
-            }
-        }
-    }
-}
-
-impl<W: Write> Shows for StdShown<W> {
+impl<W: Write> Shows for StdSink<W> {
     ghost shown = { λ _. None };
 
     fn flush(&mut self) -> Result<(), DeviceFault> {
-        match self.writer.flush() {
-            Ok(()) => Ok(()),
-            Err(_fault) => {
-                self.failures = self.failures.saturating_add(1);
-                Err(DeviceFault)
-            }
-        }
+        StdSink::flush(self)
     }
 }

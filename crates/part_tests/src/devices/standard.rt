@@ -74,8 +74,12 @@ impl Write for Scripted {
         }
     }
 
+    // Fails if nothing but a fault is left.
     fn flush(&mut self) -> io::Result<()> {
-        Ok(())
+        match self.script {
+            [Answer::Fails] => Err(broken()),
+            _ => Ok(()),
+        }
     }
 }
 
@@ -130,33 +134,33 @@ fn all_is_taken_of_a_reader(rt: HostRuntime) {
     }
 }
 
-// A row's name, the results of a writer, and the report on writing all of `abcdefgh` to it, and then
-// `ij` once: the bytes that arrived, whether the first was written, and the result of the second.
+// A row's name, the results of a writer, and the report on writing all of `abcdefgh` to it, then `ij` once, and on a
+// flush: the bytes that arrived, whether the first was written, the result of the second, and whether it was flushed.
 static WRITERS: [(&str, &[Answer], &[u8]); 5] = [
     (
         "a writer that takes all",
         &[Answer::Takes(4096)],
-        b"abcdefghij; put; 2",
+        b"abcdefghij; put; 2; flushed",
     ),
     (
         "a writer that takes 3 bytes at a time",
         &[Answer::Takes(3)],
-        b"abcdefghij; put; 2",
+        b"abcdefghij; put; 2; flushed",
     ),
     (
         "a writer that answers 0",
         &[Answer::Takes(3), Answer::Takes(0)],
-        b"abc; fault; fault",
+        b"abc; fault; fault; flushed",
     ),
     (
         "a writer that fails",
         &[Answer::Takes(3), Answer::Fails],
-        b"abc; fault; fault",
+        b"abc; fault; fault; fault",
     ),
     (
         "a writer that fails once",
         &[Answer::Takes(3), Answer::Fails, Answer::Takes(1)],
-        b"abci; fault; 1",
+        b"abci; fault; 1; flushed",
     ),
 ];
 
@@ -185,9 +189,14 @@ fn put_into(alloc: Global, script: &'static [Answer]) -> Result<Vec<u8>, AllocEr
     let mut writer = StdSink::new(&mut scripted);
     let first = write_all(&mut writer, b"abcdefgh");
     let second = writer.put(b"ij");
+    let flushed = writer.flush();
     let mut report = Report::new(alloc);
     report.add(&scripted.taken);
     describe_puts(first, second, &mut report);
+    report.add(match flushed {
+        Ok(()) => b"; flushed",
+        Err(DeviceFault) => b"; fault",
+    });
     report.text()
 }
 

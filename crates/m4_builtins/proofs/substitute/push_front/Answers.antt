@@ -12,8 +12,8 @@ returns-in-None-clause-pushed c =
 pub returns-in_ok-used-in-Some-clause-pushed : goal.returns-in_ok-used-in-Some-clause-pushed
 returns-in_ok-used-in-Some-clause-pushed c =
     front_dollar c.args.name.now (map text_of_arg c.args.list.now) (pair_of c.args.quotes) c.args.out.now.items
-        c.push_plain.new.out.items c.push_dollar.new.out.items c.args.text.now c.split_at.result.1.now
-        c.in-Some.after.now c.split_at-in-Some.result.1.now c.in_ok-plain.plain c.in-Some.field-0-0.now
-        c.in_ok-used-in-Some.used
+    c.push_plain.new.out.items c.push_dollar.new.out.items c.args.text.now c.split_at.result.1.now
+    c.in-Some.after.now c.split_at-in-Some.result.1.now c.in_ok-plain.plain c.in-Some.field-0-0.now
+    c.in_ok-used-in-Some.used
     c.in_ok-plain.ensures.count c.split_at.ensures.back c.in_ok-plain.ensures.pushed
     c.in-Some.ensures.cases.0 c.in_ok-used-in-Some.ensures.used c.in_ok-used-in-Some.ensures.text c.split_at-in-Some.ensures.back

@@ -18,8 +18,8 @@ returns-in-len3-up c =
 pub returns-in-len4-up : goal.returns-in-len4-up
 returns-in-len4-up c =
     three c.args.bytes.now c.in-len4-up.len_at_least
-        (sym c.is_ascii_digit-3.ensures.value ∙ c.if-is_ascii_digit-4.true)
-        (sym c.is_ascii_digit-then-is_ascii_digit-4.ensures.value ∙ c.if-is_ascii_digit-5.true)
-        (sym c.is_ascii_digit-then-is_ascii_digit-5.ensures.value ∙ c.if-is_ascii_digit-6.true)
-        (sym c.is_ascii_digit-then-is_ascii_digit-6.ensures.value ∙ c.if-not-is_ascii_digit-3.true)
+    (sym c.is_ascii_digit-3.ensures.value ∙ c.if-is_ascii_digit-4.true)
+    (sym c.is_ascii_digit-then-is_ascii_digit-4.ensures.value ∙ c.if-is_ascii_digit-5.true)
+    (sym c.is_ascii_digit-then-is_ascii_digit-5.ensures.value ∙ c.if-is_ascii_digit-6.true)
+    (sym c.is_ascii_digit-then-is_ascii_digit-6.ensures.value ∙ c.if-not-is_ascii_digit-3.true)
     ∙ (λ j. Ok (sym c.from-in-len4-up.ensures j * 100 + sym c.from-in-len4-up-2.ensures j * 10 + sym c.from-in-len4-up-3.ensures j, sym c.split_at-in-len4-up.ensures.back j))

@@ -20,7 +20,7 @@ pub places-preserved-in-BeginQuote : goal.places-preserved-in-BeginQuote
 places-preserved-in-BeginQuote c = reached_up (pair_of c.args.quotes.now) c.args.may_follow c.args.depth
     c.args.text.now c.places.open c.places.k c.places.invariant c.places-test.true c.requires.begin
     (c.in-BeginQuote.ensures.value ∙ ap (mark_at (pair_of c.args.quotes.now) c.args.may_follow)
-      c.split_at.ensures.back)
+    c.split_at.ensures.back)
 
 pub places-preserved : goal.places-preserved
 places-preserved c = reached_past (pair_of c.args.quotes.now) c.args.may_follow c.args.depth c.args.text.now c.places.open c.places.k c.places.invariant c.places-test.true (c.in-PlainByte.ensures.value ∙ ap (mark_at (pair_of c.args.quotes.now) c.args.may_follow) c.split_at.ensures.back)

@@ -14,9 +14,9 @@ returns-in_default-clause-ran g c = λ files input script ss k t e.
 pub returns-in_default-name_of-clause-ran : goal.returns-in_default-name_of-clause-ran
 returns-in_default-name_of-clause-ran g c = λ files input script ss k t e.
     not_begun (unwrap_or (option_map string_bytes c.args.line.now.freeze) [])
-        (defined c.args.line.now.options script ss) c.without_memory-in_default-name_of.result.ending _ _ _ _ _
-        c.without_memory-in_default-name_of.ensures.ending
-        (ap g.W.World.files c.without_memory-in_default-name_of.ensures.world ∙ c.sources_of.ensures.files)
+    (defined c.args.line.now.options script ss) c.without_memory-in_default-name_of.result.ending _ _ _ _ _
+    c.without_memory-in_default-name_of.ensures.ending
+    (ap g.W.World.files c.without_memory-in_default-name_of.ensures.world ∙ c.sources_of.ensures.files)
 
 pub returns-clause-ran : goal.returns-clause-ran
 returns-clause-ran g c = λ files input script ss k t e.
