@@ -23,8 +23,8 @@ returns-in-Err g c = record {
   frozen_read = starts.never_frozen g.R.ByteSource.failures c.args.frozen.now c.begin.new.frozen c.args.options c.begin.result c.in-Err.stop c.status.result c.ending.result (search rules) c.status.ensures c.ending.ensures c.begin.ensures.begun c.begin.ensures.read;
   write = starts.never_wrote c.args.options c.begin.result c.in-Err.stop c.status.result c.ending.result _ _ _ _
       (three g.Z.ByteSink.contents
-        (both g.O.ByteSink.contents g.M.ByteSink.contents c.args.out.now c.begin.new.out c.args.messages.now
-          c.args.messages.now) c.args.freeze_to.now c.args.freeze_to.now) (search rules) c.status.ensures
+      (both g.O.ByteSink.contents g.M.ByteSink.contents c.args.out.now c.begin.new.out c.args.messages.now
+      c.args.messages.now) c.args.freeze_to.now c.args.freeze_to.now) (search rules) c.status.ensures
       c.ending.ensures c.begin.ensures.begun refl c.begin.ensures.write;
   taken = none_taken_yet g.R.ByteSource.script c.args.sources.now;
   one_pass = λ file t. never_passed g.R.ByteSource.script c.args.sources.now c.args.options (start_of c.args.options.prefix file) _ c.begin.result c.in-Err.stop c.status.result c.ending.result (search rules) c.ending.ensures c.begin.ensures.begun;
