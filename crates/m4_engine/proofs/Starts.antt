@@ -316,17 +316,17 @@ never_status o st e n d unopened i m j h =
     subst (StatusIs unopened) (sym k.2) (false, refl, λ x. absurd (k.3 x))
 
 -- no source was read
-sound_by : {R : Type 0} (failures : R → ℕ) (xs ys : List (RunSource R)) (cause : Cause) → cause ≢ causes.Read → AllPairs (is_sound failures) xs ys → ReadersFailBy failures cause xs ys
-sound_by failures xs ys causes.Read n a = absurd (n refl)
-sound_by failures xs ys cause n a = a
+sound_by : {R : Type 0} (script : R → Option Script) (failures : R → ℕ) (xs ys : List (RunSource R)) (cause : Cause) → cause ≢ causes.Read → AllPairs (is_sound failures) xs ys → ReadersFailBy script failures cause xs ys
+sound_by script failures xs ys causes.Read n a = absurd (n refl)
+sound_by script failures xs ys cause n a = a
 
-pub never_read : {R : Type 0} (failures : R → ℕ) (xs ys : List (RunSource R)) (o : Options)
+pub never_read : {R : Type 0} (script : R → Option Script) (failures : R → ℕ) (xs ys : List (RunSource R)) (o : Options)
     (st : Result SessionState Stop) (e : Stop) (n : ℕ) (d : Ending) → st ≡ Err e → n ≡ status_after e
     → d ≡ ending_by n (Err e) → IsBegun o st → AllPairs (is_sound failures) xs ys
-    → ReadersFailBy failures d.cause xs ys
-never_read failures xs ys o st e n d i m j h a =
+    → ReadersFailBy script failures d.cause xs ys
+never_read script failures xs ys o st e n d i m j h a =
     let k = never_is o st e n d i m j h in
-    subst (λ (y : Ending). ReadersFailBy failures y.cause xs ys) (sym k.2) (sound_by failures xs ys k.0 k.4 a)
+    subst (λ (y : Ending). ReadersFailBy script failures y.cause xs ys) (sym k.2) (sound_by script failures xs ys k.0 k.4 a)
 
 -- the frozen file's reader
 frozen_by : (cause : Cause) (old new : ℕ) → ReloadFails {A = SessionState} (Err (stops.Ended cause)) old new → frozen_fails cause old new

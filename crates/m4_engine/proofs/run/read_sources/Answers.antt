@@ -51,7 +51,7 @@ returns-clause-goes g c = λ ss e.
     (search rules))
 
 pub returns-in_err-read-clause-read : goal.returns-in_err-read-clause-read
-returns-in_err-read-clause-read g c = sources_fail g.R.ByteSource.failures c.sources.source-index c.sources.sources
+returns-in_err-read-clause-read g c = sources_fail g.R.ByteSource.script g.R.ByteSource.failures c.sources.source-index c.sources.sources
     c.args.sources.now c.source-item.result c.read.new.source c.in_err-read.field-0.0 c.read.result
     c.from_residual.result (search rules) (search rules) c.sources.invariant.5 c.sources.invariant.1 (search rules)
     c.read.ensures.read

@@ -17,11 +17,11 @@ loop-file-preserved g c = (
       let t = c.in_ok-source.ensures.source fs o.left ((c.loop-file.invariant.1 ∙ m, c.loop-file.invariant.0 ∙ f), o.is) in
       let e = c.in_ok-source.ensures.input o.left o.is in
       rw c.in_ok-push.ensures.items
-          (one_opened g.W.Reader.ByteSource.script string_bytes fs input c.args.files.now c.loop-file.file-index
-            c.loop-file.sources.items _ _ c.in_ok-source.source c.file-item.result (search rules) o
-            (subst (λ (n : List ℕ). named_of g.W.Reader.ByteSource.script c.in_ok-source.source ≡ named_at fs o.left
-              n) is t)
-            (subst (λ (n : List ℕ). g.W.World.input c.opened.new.world ≡ Some (input_after o.left n)) is e)),
+      (one_opened g.W.Reader.ByteSource.script string_bytes fs input c.args.files.now c.loop-file.file-index
+      c.loop-file.sources.items _ _ c.in_ok-source.source c.file-item.result (search rules) o
+      (subst (λ (n : List ℕ). named_of g.W.Reader.ByteSource.script c.in_ok-source.source ≡ named_at fs o.left
+      n) is t)
+      (subst (λ (n : List ℕ). g.W.World.input c.opened.new.world ≡ Some (input_after o.left n)) is e)),
 )
 
 pub returns-clause-sources : goal.returns-clause-sources

@@ -9,7 +9,7 @@ returns-in-Ok-clause-appended c =
     let s = c.args.self.now in
     let le : length c.args.bytes.now ≤ length c.args.bytes.now = omega arith in
     ap (λ (f : Files). Some f)
-        (memory_longer s.name.items c.args.name.now c.in-Some.made.items c.extend_from_slice.new.self.items _ _
-          s.given.now (search rules) (search rules)
-          (c.in-Ok.ensures.items ∙ ap (λ (b : List ℕ). c.in-Some.made.items ++ b)
-            (sym (take_all (length c.args.bytes.now) c.args.bytes.now le))))
+    (memory_longer s.name.items c.args.name.now c.in-Some.made.items c.extend_from_slice.new.self.items _ _
+    s.given.now (search rules) (search rules)
+    (c.in-Ok.ensures.items ∙ ap (λ (b : List ℕ). c.in-Some.made.items ++ b)
+    (sym (take_all (length c.args.bytes.now) c.args.bytes.now le))))
