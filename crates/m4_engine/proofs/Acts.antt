@@ -42,8 +42,8 @@ popped cs v = pop Expansion Kept Ended turn join (outer_of cs) v
 around : (a : Acted) (o m : List ℕ) (limits : Limits) (s : State) (saved : List (List ℕ)) (n : ℕ) (cs : List Call)
     (output messages : List ℕ) (p p' : Pending)
     → let e : Engine = record { limits = limits; state = s; saved = saved; calls = n; open_calls = cs; output = output; messages = messages } in let c : Stacked Expansion Kept = record { outer = outer_of cs; here = reading p' (after a o m e p) } in c
-      ≡ configuration o m
-        (with_made (a.effect).messages (a.effect).output (a.effect).wrap (record e { state = a.state })) p'
+    ≡ configuration o m
+    (with_made (a.effect).messages (a.effect).output (a.effect).wrap (record e { state = a.state })) p'
 around a o m limits s saved n [] output messages p p' = rw (append_assoc o output (a.effect).output, append_assoc m messages (a.effect).messages) refl
 around a o m limits s saved n (c ∷ cs) output messages p p' = rw (append_assoc o output (a.effect).output, append_assoc m messages (a.effect).messages) refl
 
@@ -57,7 +57,7 @@ called_is e c a p o m h = ap (λ (a : Acted). popped e.open_calls (effect_at a o
 pub made_and_begun : (e : Engine) (s : State) (v : Effect) (messages output : List ℕ) (saved : List (List ℕ))
     → messages ≡ e.messages ++ v.messages → output ≡ e.output ++ v.output → saved ≡ with_saved v.wrap e.saved
     → with_made [] [] None (record e { state = s; messages = messages; output = output; saved = saved })
-      ≡ with_made v.messages v.output v.wrap (record e { state = s })
+    ≡ with_made v.messages v.output v.wrap (record e { state = s })
 made_and_begun e s v messages output saved h i j =
     ap (λ (x : List ℕ). let d : Engine = record e { state = s; output = x; messages = messages ++ []; saved = saved; open_calls = begun_in e.open_calls } in d) (append-nil output ∙ i)
     ∙ ap (λ (x : List ℕ). let d : Engine = record e { state = s; output = e.output ++ v.output; messages = x; saved = saved; open_calls = begun_in e.open_calls } in d) (append-nil messages ∙ h)
@@ -95,7 +95,7 @@ pub called_exits : (e e1 : Engine) (c : Call) (a : Acted) (p : Pending) (code : 
     → e1 ≡ with_made (a.effect).messages (a.effect).output (a.effect).wrap (record e { state = a.state })
     → (o m : List ℕ)
     → called_within e.open_calls c (here_of o m e p)
-      ≡ Stops (Halted (record { so_far = so_far_of o m e1; reason = Ends (causes.Exited code) }))
+    ≡ Stops (Halted (record { so_far = so_far_of o m e1; reason = Ends (causes.Exited code) }))
 called_exits e e1 c a p code h x i o m =
     called_is e c a p o m h
     ∙ ap (λ v. popped e.open_calls (effected v (a.effect).skip (a.effect).push (after a o m e p))) x
@@ -117,9 +117,9 @@ without_innermost e = record e { open_calls = tail_of e.open_calls }
 joined_is : (d : Call) (ds : List Call) (o m : List ℕ) (e : Engine) (p : Pending) (s : Expansion)
     → s ≡ here_of o m e p
     → step (kept_in ds ∷ outer_of ds) (Close (end_argument d s))
-      ≡ called_within ds (with_argument d)
-        (here_of o m (record e { messages = e.messages ++ dropped_if_any d.place d.bytes d.tokens; open_calls = ds })
-          p)
+    ≡ called_within ds (with_argument d)
+    (here_of o m (record e { messages = e.messages ++ dropped_if_any d.place d.bytes d.tokens; open_calls = ds })
+    p)
 joined_is d ds o m e p s h = ap (λ (s : Expansion). step (kept_in ds ∷ outer_of ds) (Close (end_argument d s))) h ∙ (rw (append_assoc m e.messages (dropped_if_any d.place d.bytes d.tokens)) refl)
 
 closing_in : (cs : List Call) (e e2 : Engine) (c : Call) (p : Pending) → ending_in cs e ≡ with_open_call c e2 → e.open_calls ≡ cs → (o m : List ℕ) → step (outer_of cs) (close_in cs (here_of o m e p)) ≡ called_within e2.open_calls c (here_of o m e2 p)
@@ -149,7 +149,7 @@ pub closing_result : (may : Bool) (e e2 e3 : Engine) (c : Call) (p : Extended) (
     (r : Result Turned TurnFault) → ending_argument e ≡ with_open_call c e2
     → IfOk r (λ t. Moves may e3 p' t (λ z more o m. called_within e2.open_calls c (here_of o m e2 (p z more))))
     → IfOk r (λ t. Moves may e3 p' t
-      (λ z more o m. step (outer_of e.open_calls) (close_in e.open_calls (here_of o m e (p z more)))))
+    (λ z more o m. step (outer_of e.open_calls) (close_in e.open_calls (here_of o m e (p z more)))))
 closing_result may e e2 e3 c p p' r h k = result_by may e3 p' r _ _ (λ z more w o m. closing_in e.open_calls e e2 c (p z more) h refl o m) k
 
 -- a step is a turn, if the token before it was consumed
@@ -168,7 +168,7 @@ made_turn e e1 i j (turns.Ends cause) h = h
 pub turned_steps : (e e1 : Engine) (i k j : Held) (r : Result Turned TurnFault)
     → (k.pending).may_follow ≡ (i.pending).may_follow → (k.pending).file ≡ (i.pending).file
     → IfOk r (λ t. Moves (i.pending).may_follow e1 j.pending t
-      (λ z more o m. moved (configuration o m e (longer z more i.pending)))) → {to : Turned → Type 0} {old : Engine}
+    (λ z more o m. moved (configuration o m e (longer z more i.pending)))) → {to : Turned → Type 0} {old : Engine}
     → old.limits ≡ e.limits → Steps r old e1 k j to → Turns r e e1 i j
 turned_steps e e1 i k j (Ok t) f g h l s = record {
   moves = h;

@@ -37,8 +37,8 @@ pub bare_goes : (may : Bool) (e e2 e1 : Engine) (c : Call) (p : Extended) (p' : 
     → nat_lt e.calls (e.limits).calls ≡ true → is_deep_in e ≡ false → e2 ≡ with_one_call e
     → IfOk r (λ t. Moves may e1 p' t (λ z more o m. called_within e2.open_calls c (here_of o m e2 (p z more))))
     → IfOk r (λ t. (before : Extended)
-      → Moves may e1 p' t (λ z more o m. step (outer_of e.open_calls)
-        (call false c (p z more) (here_of o m e (before z more)))))
+    → Moves may e1 p' t (λ z more o m. step (outer_of e.open_calls)
+    (call false c (p z more) (here_of o m e (before z more)))))
 bare_goes may e e2 e1 c p p' r room shallow k h = bare_made may e e2 e1 c false p p' r refl room k (ap is_deep_in k ∙ shallow) h
 
 -- a text with the same arguments put in
@@ -54,7 +54,7 @@ substituted_by t x n name l list q r h i j f g =
 pub called_as : (may : Bool) (e e1 : Engine) (x y : List ℕ) (c : Call) (p : Extended) (p' : Pending)
     (r : Result Turned TurnFault)
     → IfOk r (λ t. (k : Call) (z : List ℕ) → k.definition ≡ Text z → x ≡ substituted z k.name k.done (e.state).quotes
-      → Moves may e1 p' t (λ z more o m. called_within e.open_calls k (here_of o m e (p z more))))
+    → Moves may e1 p' t (λ z more o m. called_within e.open_calls k (here_of o m e (p z more))))
     → c.definition ≡ Text y → x ≡ substituted y c.name c.done (e.state).quotes
     → IfOk r (λ t. Moves may e1 p' t (λ z more o m. called_within e.open_calls c (here_of o m e (p z more))))
 called_as may e e1 x y c p p' (Ok t) h d s = h c y d s
@@ -65,11 +65,11 @@ pub expanded_goes : (may : Bool) (e e2 e1 : Engine) (x : List ℕ) (p : Extended
     (r : Result Turned TurnFault) → nat_lt e.calls (e.limits).calls ≡ true → is_deep_in e ≡ false
     → e2 ≡ with_one_call e
     → IfOk r (λ t. (k : Call) (z : List ℕ) → k.definition ≡ Text z → x ≡ substituted z k.name k.done (e2.state).quotes
-      → Moves may e1 p' t (λ z more o m. called_within e2.open_calls k (here_of o m e2 (p z more))))
+    → Moves may e1 p' t (λ z more o m. called_within e2.open_calls k (here_of o m e2 (p z more))))
     → IfOk r (λ t. (k : Call) (z : List ℕ) → k.definition ≡ Text z → x ≡ substituted z k.name k.done (e.state).quotes
-      → (before : Extended)
-      → Moves may e1 p' t (λ z more o m. step (outer_of e.open_calls)
-        (call false k (p z more) (here_of o m e (before z more)))))
+    → (before : Extended)
+    → Moves may e1 p' t (λ z more o m. step (outer_of e.open_calls)
+    (call false k (p z more) (here_of o m e (before z more)))))
 expanded_goes may e e2 e1 x p p' (Ok t) room shallow k h = λ c y d s.
     bare_goes may e e2 e1 c p p' (Ok t) room shallow k (h c y d (s ∙ sym (ap (λ (d : Engine). substituted y c.name c.done (d.state).quotes) k)))
 expanded_goes may e e2 e1 x p p' (Err f) room shallow k h = tt

@@ -153,7 +153,7 @@ from_start : (e0 e : Engine) (p0 : Pending) (i : Held) (before after : Option Sc
     → (t : Taking e0 p0 before after out0 reported0 w e i out reported) → (z : List ℕ) (more : Bool)
     → MayFollow (t.q).may_follow z more
     → comes_to w (configuration t.o t.m e (longer z more i.pending))
-      ≡ expand (expansion_of e0.limits (made_before e0) (longer z more t.q))
+    ≡ expand (expansion_of e0.limits (made_before e0) (longer z more t.q))
 from_start e0 e p0 i before after out0 reported0 out reported w d t z more c = (t.leads).means z more c [] [] ∙ comes_is e0 (longer z more t.q) d
 
 so_far_is : (v : Outcome Expansion Ended) → so_far_in v ≡ (ended_of v).so_far
@@ -167,7 +167,7 @@ pub stops_at : (e0 e e' : Engine) (p0 : Pending) (i j : Held) (before after : Op
     → (h : HandNeeds w e i v e' j (writers out out' reported reported')) → (y : List ℕ)
     → IsWantedAfter v e' j.pending y
     → input_expansion e0 (longer (t.x ++ y) true p0)
-      ≡ record { so_far = so_far_of (t.o ++ h.o) (t.m ++ h.m) e'; reason = NeedsInput }
+    ≡ record { so_far = so_far_of (t.o ++ h.o) (t.m ++ h.m) e'; reason = NeedsInput }
 stops_at e0 e e' p0 i j before after out0 reported0 out reported out' reported' w v d t h y u =
     let still : (t.q).may_follow ≡ true = sym (t.leads).follows ∙ h.opened in
     let opened : (j.pending).may_follow ≡ true = is_open i j e e' w v _ h in
@@ -236,7 +236,7 @@ pub ended_all : (e0 e e' : Engine) (p0 : Pending) (i : Held) (before after : Opt
     → Taking e0 p0 before after out0 reported0 w e i out reported
     → HandEnds w e i.pending cause e' (writers out out' reported reported')
     → ReadSo e0 p0 before after (writers out0 out' reported0 reported')
-      (λ d. Expanded e0 e' d cause (writers out0 out' reported0 reported'))
+    (λ d. Expanded e0 e' d cause (writers out0 out' reported0 reported'))
 ended_all e0 e e' p0 i before after out0 reported0 out reported out' reported' w cause d t h = record {
   x = t.x;
   q = t.q;
@@ -275,7 +275,7 @@ pub broke_all : (e0 e : Engine) (p0 : Pending) (i : Held) (before after : Option
     → Taking e0 p0 before after out0 reported0 w e i out reported
     → HandBreaks w e i.pending (writers out out' reported reported')
     → ReadSo e0 p0 before after (writers out0 out' reported0 reported')
-      (λ d. Broken d (writers out0 out' reported0 reported'))
+    (λ d. Broken d (writers out0 out' reported0 reported'))
 broke_all e0 e p0 i before after out0 reported0 out reported out' reported' w d t h = record {
   x = t.x;
   q = t.q;

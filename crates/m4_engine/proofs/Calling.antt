@@ -29,7 +29,7 @@ pub refused_calls : (e e1 : Engine) (c : Call) (listed : Bool) (p before : Pendi
     → nat_lt e.calls (e.limits).calls ≡ false
     → e1 ≡ with_engine_message (error c.place (calls_text (e.limits).calls)) e
     → step (outer_of e.open_calls) (call listed c p (here_of o m e before))
-      ≡ Stops (Halted (record { so_far = so_far_of o m e1; reason = Ends causes.ExpansionLimit }))
+    ≡ Stops (Halted (record { so_far = so_far_of o m e1; reason = Ends causes.ExpansionLimit }))
 refused_calls e e1 c listed p before o m f h =
     ap (λ v. step (outer_of e.open_calls) (call_if_room v listed c p (here_of o m e before))) f
     ∙ failed_at o m e e1 before c.place (calls_text (e.limits).calls) causes.ExpansionLimit (outer_of e.open_calls) h
@@ -38,7 +38,7 @@ refused_calls e e1 c listed p before o m f h =
 counted_is : (e : Engine) (c : Call) (listed : Bool) (p before : Pending) (o m : List ℕ) (v : Bool)
     → nat_lt e.calls (e.limits).calls ≡ true → is_deep_in (with_one_call e) ≡ v
     → step (outer_of e.open_calls) (call listed c p (here_of o m e before))
-      ≡ step (outer_of e.open_calls) (call_unless_deep v listed c p (here_of o m (with_one_call e) before))
+    ≡ step (outer_of e.open_calls) (call_unless_deep v listed c p (here_of o m (with_one_call e) before))
 counted_is e c listed p before o m v f h =
     ap (λ u. step (outer_of e.open_calls) (call_if_room u listed c p (here_of o m e before))) f
     ∙ ap (λ u. step (outer_of e.open_calls) (call_unless_deep u listed c p (here_of o m (with_one_call e) before))) h
@@ -47,7 +47,7 @@ pub refused_depth : (e e1 : Engine) (c : Call) (listed : Bool) (p before : Pendi
     → nat_lt e.calls (e.limits).calls ≡ true → is_deep_in (with_one_call e) ≡ true
     → e1 ≡ with_engine_message (error c.place (nested_text (e.limits).nesting)) (with_one_call e)
     → step (outer_of e.open_calls) (call listed c p (here_of o m e before))
-      ≡ Stops (Halted (record { so_far = so_far_of o m e1; reason = Ends causes.NestingLimit }))
+    ≡ Stops (Halted (record { so_far = so_far_of o m e1; reason = Ends causes.NestingLimit }))
 refused_depth e e1 c listed p before o m f h k =
     counted_is e c listed p before o m true f h
     ∙ failed_at o m (with_one_call e) e1 before c.place (nested_text (e.limits).nesting) causes.NestingLimit (outer_of e.open_calls) k
@@ -66,10 +66,10 @@ pub bare_result : (may : Bool) (e e1 : Engine) (c : Call) (listed : Bool) (p : E
     (r : Result Turned TurnFault) → listed ≡ false → nat_lt e.calls (e.limits).calls ≡ true
     → is_deep_in (with_one_call e) ≡ false
     → IfOk r (λ t. Moves may e1 p' t
-      (λ z more o m. called_within e.open_calls c (here_of o m (with_one_call e) (p z more))))
+    (λ z more o m. called_within e.open_calls c (here_of o m (with_one_call e) (p z more))))
     → IfOk r (λ t. (before : Extended)
-      → Moves may e1 p' t (λ z more o m. step (outer_of e.open_calls)
-        (call listed c (p z more) (here_of o m e (before z more)))))
+    → Moves may e1 p' t (λ z more o m. step (outer_of e.open_calls)
+    (call listed c (p z more) (here_of o m e (before z more)))))
 bare_result may e e1 c listed p p' (Ok t) b f h k = λ before. moves_by may e1 p' t _ _ (λ z more w o m. ap (λ v. step (outer_of e.open_calls) (call v c (p z more) (here_of o m e (before z more)))) b ∙ bare_called e c (p z more) (before z more) o m f h) k
 bare_result may e e1 c listed p p' (Err x) b f h k = tt
 
@@ -89,7 +89,7 @@ pub depth_refused : (e e2 e1 : Engine) (c : Call) (listed : Bool) (p before : Pe
     → nat_lt e.calls (e.limits).calls ≡ true → e2 ≡ with_one_call e → is_deep_in e2 ≡ true
     → e1 ≡ with_engine_message (error c.place (nested_text (e2.limits).nesting)) e2
     → step (outer_of e.open_calls) (call listed c p (here_of o m e before))
-      ≡ Stops (Halted (record { so_far = so_far_of o m e1; reason = Ends causes.NestingLimit }))
+    ≡ Stops (Halted (record { so_far = so_far_of o m e1; reason = Ends causes.NestingLimit }))
 depth_refused e e2 e1 c listed p before o m f i h k = refused_depth e e1 c listed p before o m f (sym (ap is_deep_in i) ∙ h) (k ∙ ap (λ (x : Engine). with_engine_message (error c.place (nested_text (x.limits).nesting)) x) i)
 
 pub bare_made : (may : Bool) (e e2 e1 : Engine) (c : Call) (listed : Bool) (p : Extended) (p' : Pending)
@@ -97,8 +97,8 @@ pub bare_made : (may : Bool) (e e2 e1 : Engine) (c : Call) (listed : Bool) (p : 
     → is_deep_in e2 ≡ false
     → IfOk r (λ t. Moves may e1 p' t (λ z more o m. called_within e2.open_calls c (here_of o m e2 (p z more))))
     → IfOk r (λ t. (before : Extended)
-      → Moves may e1 p' t (λ z more o m. step (outer_of e.open_calls)
-        (call listed c (p z more) (here_of o m e (before z more)))))
+    → Moves may e1 p' t (λ z more o m. step (outer_of e.open_calls)
+    (call listed c (p z more) (here_of o m e (before z more)))))
 bare_made may e e2 e1 c listed p p' r b f i h k = bare_result may e e1 c listed p p' r b f (sym (ap is_deep_in i) ∙ h) (subst (λ (x : Engine). IfOk r (λ t. Moves may e1 p' t (λ z more o m. called_within x.open_calls c (here_of o m x (p z more))))) i k)
 
 pub list_begins : (e e2 e1 : Engine) (c : Call) (listed : Bool) (p p' before : Pending) (o m : List ℕ) → listed ≡ true
@@ -112,5 +112,5 @@ pub list_begins_so : (e e2 e1 : Engine) (c : Call) (listed : Bool) (p p' before 
     (o m : List ℕ) → listed ≡ true → nat_lt e.calls (e.limits).calls ≡ true → e2 ≡ with_one_call e
     → is_deep_in e2 ≡ false → p' ≡ consumed 1 p → 1 ≤ length (text_of p) → e1 ≡ with_open_call c e2
     → step (outer_of e.open_calls) (call listed c (longer z more p) (here_of o m e before))
-      ≡ Goes (configuration o m e1 (longer z more p'))
+    ≡ Goes (configuration o m e1 (longer z more p'))
 list_begins_so e e2 e1 c listed p p' before z more o m b f i h k l j = list_begins e e2 e1 c listed (longer z more p) (longer z more p') before o m b f i h (ap (longer z more) k ∙ sym (consumed_longer z more 1 p l)) j

@@ -48,7 +48,7 @@ pub chain : (o : Options) (freezes : Bool) (frozen : Option Script) (sources : L
     → AllCarry o frozen sources links
     → (run (freezing freezes o) frozen (all_sources sources links)).reason ≢ Ends causes.ExpansionLimit
     → JoinsAll (the_chain o freezes frozen sources links)
-      (run (freezing freezes o) frozen (all_sources sources links))
+    (run (freezing freezes o) frozen (all_sources sources links))
 chain o freezes frozen sources [] carry limit =
     subst (λ (x : List Source). JoinsAll (run (freezing freezes o) frozen sources ∷ []) (run (freezing freezes o) frozen x)) (sym (append-nil sources))
     (alone (run (freezing freezes o) frozen sources))

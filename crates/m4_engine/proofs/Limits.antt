@@ -31,7 +31,7 @@ over_how (Some x) h freezes saved r any_missing e = cc
 
 module _ (calls calls' nesting nesting' : ℕ) (room : (k : ℕ) → 0 + k < calls → k < calls')
     (depth : (k : ℕ) → (nat_lt 0 nesting && nat_lt nesting k) ≡ false → (nat_lt 0 nesting' && nat_lt nesting' k)
-      ≡ false) (Limit : EndReason → Type 0)
+    ≡ false) (Limit : EndReason → Type 0)
     (at_calls : Limit (Ends causes.ExpansionLimit) ⊎ ((◌≡◌ {A = ℕ} 0 0) × (calls ≡ calls')))
     (at_nesting : Limit (Ends causes.NestingLimit) ⊎ (nesting ≡ nesting'))
     (ends : (h : EndReason) → Limit h → over_of h ≡ Some h) (fewer : calls ≤ calls') where
@@ -68,7 +68,7 @@ module _ (calls calls' nesting nesting' : ℕ) (room : (k : ℕ) → 0 + k < cal
       → ((h : EndReason) → Limit h → (result_of freezes (saved_after sources p) (after_wraps small p)).reason ≢ h)
       → ((h : EndReason) × (p.over ≡ Some h) × Limit h) ⊎ (p ≡ q)
       → result_of freezes (saved_after sources q) (after_wraps large q)
-        ≡ result_of freezes (saved_after sources p) (after_wraps small p)
+      ≡ result_of freezes (saved_after sources p) (after_wraps small p)
   finish_same freezes sources p q n (inl h) =
       absurd (n h.0 h.2 (ap (λ (x : Progress). (result_of freezes (saved_after sources p) x).reason) (over_wraps small p h.0 h.1) ∙ over_how p.over h.0 freezes (saved_after sources p) p.so_far p.any_missing h.1))
   finish_same freezes sources p q n (inr e) =
@@ -80,11 +80,11 @@ module _ (calls calls' nesting nesting' : ℕ) (room : (k : ℕ) → 0 + k < cal
 
   pub runs_same : (freezes : Bool) (start : Start) (sources : List Source)
       → ((h : EndReason) → Limit h
-        → (result_of freezes (saved_after sources (after_sources small sources (begun start)))
-          (after_wraps small (after_sources small sources (begun start)))).reason ≢ h)
+      → (result_of freezes (saved_after sources (after_sources small sources (begun start)))
+      (after_wraps small (after_sources small sources (begun start)))).reason ≢ h)
       → result_of freezes (saved_after sources (after_sources large sources (begun start))) (after_wraps large (after_sources large sources (begun start)))
-        ≡ result_of freezes (saved_after sources (after_sources small sources (begun start)))
-          (after_wraps small (after_sources small sources (begun start)))
+      ≡ result_of freezes (saved_after sources (after_sources small sources (begun start)))
+      (after_wraps small (after_sources small sources (begun start)))
   runs_same freezes start sources n = finish_same freezes sources _ _ n (sources_same start sources)
 
 -- ---- the laws

@@ -126,7 +126,7 @@ pub end_means : (e e' : Engine) (p p' : Pending) (z : List ℕ) (more : Bool) (o
     → MayFollow p.may_follow z more
     → Moves p.may_follow e' p' (turns.Ends end) (λ z more o m. moved (configuration o m e (longer z more p)))
     → meaning_of o m e (longer z more p)
-      ≡ Halted (record { so_far = so_far_of o m e'; reason = Ends (cause_of_end end) })
+    ≡ Halted (record { so_far = so_far_of o m e'; reason = Ends (cause_of_end end) })
 end_means e e' p p' z more o m end c h =
     sym (move_keeps Expansion Kept Ended turn join out_of_bound_at size_of calls_left falls (configuration o m e (longer z more p)))
     ∙ ap (moved_meaning Expansion Kept Ended turn join expand) (h z more c o m)

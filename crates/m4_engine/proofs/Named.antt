@@ -36,7 +36,7 @@ pub named : (e : Engine) (d : Def) (name : List ℕ) (listed : Bool) (p before :
     → Some d ≡ top_of e.state name → paren_at (e.state).quotes (e.state).comments p ≡ answer_of listed
     → (listed ≡ false → needs_list d ≡ false) → at ≡ place_at before
     → step (outer_of e.open_calls) (take_name (top_of e.state name) name p (here_of o m e before))
-      ≡ step (outer_of e.open_calls) (call listed (call_of d name at) p (here_of o m e before))
+    ≡ step (outer_of e.open_calls) (call listed (call_of d name at) p (here_of o m e before))
 named e d name listed p before at o m h k i j =
     ap (λ v. step (outer_of e.open_calls) (take_name v name p (here_of o m e before))) (sym h)
     ∙ ap (λ v. step (outer_of e.open_calls) (take_call v (call_of d name (place_at before)) p (here_of o m e before))) k

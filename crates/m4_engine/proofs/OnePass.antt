@@ -105,7 +105,7 @@ over_unless_done NeedsInput n = refl
 over_unless_done OutOfBound n = refl
 
 -- the ends of an expansion and of the one with more bytes
-abbrev Goes : Ended → Ended → Type 0
+abbrev pub Goes : Ended → Ended → Type 0
 Goes e d = ((e.reason ≡ NeedsInput) × Extends e.so_far d.so_far) ⊎ ((d ≡ e) × (e.reason ≢ Ends causes.Done))
 
 made_ended : (o : Outcome Expansion Ended) → made_out o ≡ (ended_of o).so_far
@@ -117,7 +117,7 @@ ended_goes more (Halted d) o' (inl h) = inl (h.0, subst (Extends d.so_far) (made
 ended_goes more (Halted d) o' (inr h) = inr (ap ended_of h.0, h.1)
 ended_goes more (Closed s) o' h = inr (ap ended_of h.1 ∙ ap out_of_bound_at h.3, λ e. cc)
 
-input_goes : (limits : Limits) (r : RunSoFar) (name w more : List ℕ) → Goes (expand_input limits r (file_pending name w true)) (file limits r name (w ++ more))
+pub input_goes : (limits : Limits) (r : RunSoFar) (name w more : List ℕ) → Goes (expand_input limits r (file_pending name w true)) (file limits r name (w ++ more))
 input_goes limits r name w more =
     let s : Expansion = expansion_of limits r (file_pending name w true) in
     ended_goes more (expand s) (expand (longer_level more false s)) (law more false s refl)
@@ -148,8 +148,8 @@ file_settled freezes any_missing saved limits later e d (inr h) =
 settled_here : (freezes : Bool) (saved : List (List ℕ)) (limits : Limits) (p : Progress) (name w more : List ℕ)
     (later : List Source) (o : Option EndReason) → p.over ≡ o
     → AreSettled (settled_by o limits p.so_far name w)
-      (result_of freezes saved
-        (after_wraps limits (after_sources limits later (after_source limits (Opened name (w ++ more)) p))))
+    (result_of freezes saved
+    (after_wraps limits (after_sources limits later (after_source limits (Opened name (w ++ more)) p))))
 settled_here freezes saved limits p name w more later (Some h) e =
     let g : after_sources limits later (after_source limits (Opened name (w ++ more)) p) ≡ p = over_sources limits (Opened name (w ++ more) ∷ later) p h e in
     subst (λ q. AreSettled (settled_of p.so_far h) (result_of freezes saved (after_wraps limits q))) (sym g) (over_settled freezes saved limits p h e)

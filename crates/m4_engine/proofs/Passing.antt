@@ -46,8 +46,8 @@ with_output x e = put_in [] x e
 plain_turn : (e : Engine) (p : Pending) (n : ℕ) → p.definition ≡ None → IsPlain e.state p.may_follow n (text_of p)
     → (z : List ℕ) (more : Bool) → MayFollow p.may_follow z more → (o m : List ℕ)
     → turn (here_of o m (at_top e) (longer z more p))
-      ≡ GoOn (put_text (take n (text_of p))
-        (reading (longer z more (consumed n p)) (here_of o m (at_top e) (longer z more p))))
+    ≡ GoOn (put_text (take n (text_of p))
+    (reading (longer z more (consumed n p)) (here_of o m (at_top e) (longer z more p))))
 plain_turn e p n d (inl h) z more c o m =
     ap (λ v. take_front v (here_of o m (at_top e) (longer z more p))) (found_longer (e.state).quotes (e.state).comments p (Name (take n (text_of p))) n z more d h.0 c)
     ∙ ap (λ v. take_name v (take n (text_of p)) (longer z more (consumed n p)) (here_of o m (at_top e) (longer z more p))) h.1
@@ -235,7 +235,7 @@ list_turn : (c d : Call) (cs : List Call) (e : Engine) (p : Pending) (n : ℕ) �
     → IsListToken e.state p.may_follow n c d (text_of p) → (z : List ℕ) (more : Bool) → MayFollow p.may_follow z more
     → (o m : List ℕ)
     → take_turn Expansion Kept Ended turn join (outer_of (c ∷ cs)) (turn (here_of o m (at_call c cs e) (longer z more p)))
-      ≡ Goes (configuration o m (at_call d cs e) (longer z more (consumed n p)))
+    ≡ Goes (configuration o m (at_call d cs e) (longer z more (consumed n p)))
 list_turn c d cs e p n f (inl h) z more k o m =
     ap (λ v. take_turn Expansion Kept Ended turn join (outer_of (c ∷ cs)) v) (text_turn h.1 z more k o m)
     ∙ (rw (append-nil (o ++ e.output)) refl)
@@ -244,8 +244,8 @@ list_turn c d cs e p n f (inl h) z more k o m =
     text_turn : IsText e.state p.may_follow n h.0 (text_of p) → (z : List ℕ) (more : Bool)
         → MayFollow p.may_follow z more → (o m : List ℕ)
         → turn (here_of o m (at_call c cs e) (longer z more p))
-          ≡ GoOn (put_text h.0
-            (reading (longer z more (consumed n p)) (here_of o m (at_call c cs e) (longer z more p))))
+        ≡ GoOn (put_text h.0
+        (reading (longer z more (consumed n p)) (here_of o m (at_call c cs e) (longer z more p))))
     text_turn (inl g) z more k o m =
         ap (λ v. take_front v (here_of o m (at_call c cs e) (longer z more p))) (found_longer (e.state).quotes (e.state).comments p (Str h.0) n z more f g k)
     text_turn (inr g) z more k o m =

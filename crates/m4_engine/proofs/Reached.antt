@@ -1,10 +1,10 @@
 -- Reached: what a session says of a file is what the run says of its current source.
-use Rattle.std.proofs.Common.{◌≡◌, ◌⊎◌, inl, inr, ◌<◌, ◌≤◌, true, zero, suc, ℕ, ◌+◌, List, [], ◌∷◌, ◌++◌, length}
+use Rattle.std.proofs.Common.{◌≡◌, ◌⊎◌, inl, inr, ◌<◌, ◌≤◌, Bool, true, false, zero, suc, ℕ, ◌+◌, List, [], ◌∷◌, ◌++◌, length}
 use Rattle.std.proofs.Common.{drop, drop-cons, Option, Some, None, refl, sym, ap, ◌∙◌, subst, arith, append_assoc}
 use Rattle.std.proofs.Common.{append-nil}
 use Rattle.std.specs.Prelude.{Result, Ok, Err, slice_set, slice_index_or}
 use Rattle.m4_state.proofs.CallerLaws.{with_bytes-append, with_bytes-nil}
-use Rattle.m4_state.specs.Device.{Script, after_bytes, with_bytes}
+use Rattle.m4_state.specs.Device.{Script, after_bytes, with_bytes, IsAtEnd, IsAtFault}
 use Rattle.m4_input.specs.Pending.{Pending}
 use Rattle.m4_input.proofs.Calls.{reads_nothing}
 use Rattle.m4_engine.specs.declared.ending.Cause.{Cause}
@@ -13,20 +13,23 @@ use Rattle.m4_engine.specs.declared.stop.Stop.{Stop}
 use Rattle.m4_engine.specs.declared.stop.Stop.TheVariants as stops
 use Rattle.m4_engine.specs.declared.source.Source.{Source as RunSource}
 use Rattle.m4_engine.specs.declared.source.Source.TheVariants as sources
-use Rattle.m4_engine.specs.Expansion.{RunSoFar, Limits, EndReason}
+use Rattle.m4_engine.specs.Expansion.{RunSoFar, Limits, EndReason, Ends, NeedsInput, OutOfBound, Ended}
 use Rattle.m4_engine.specs.Expand.{expand_input}
-use Rattle.m4_engine.specs.File.{Source, Opened, Unopened, Progress, file_pending, after_source, after_sources}
+use Rattle.m4_engine.specs.File.{Source, Opened, Unopened, Progress, file, file_pending, over_of, after_source}
+use Rattle.m4_engine.specs.File.{after_sources}
+use Rattle.m4_engine.specs.RunSources.{script_of}
 use Rattle.m4_engine.specs.Settled.{SettledSoFar, settled_ended, settled_by, settled_in}
 use Rattle.m4_engine.specs.Session.{SessionState, progress_of, how_over, IsOpen, settled_part, FileAsked, FileFell}
-use Rattle.m4_engine.specs.Session.{FileGives, MissingGives}
+use Rattle.m4_engine.specs.Session.{FileEnded, FileGives, MissingGives}
 use Rattle.m4_engine.specs.Writers.{Contents, writers, HasWritten, WroteAtLeast}
 use Rattle.m4_engine.specs.OnePass.{IsRead, IsCurrent, Reaches, AreRead, settled_after, ExactAtFault, AskedAt, Reached}
+use Rattle.m4_engine.specs.OnePass.{left_after, EndsOrIsLast, EndedBy}
 use Rattle.m4_engine.specs.SourcesRead.{EndsWithin, SourceGives, SourcesGive}
-use Rattle.m4_engine.proofs.OnePass.{sources_append}
-use Rattle.m4_engine.proofs.GoingOn.{after, written_after, all_made}
+use Rattle.m4_engine.proofs.OnePass.{sources_append, Goes, input_goes}
+use Rattle.m4_engine.proofs.GoingOn.{after, written_after, over_after_it, all_made}
 use Rattle.m4_engine.proofs.Reading.{source_after}
 use Rattle.m4_engine.proofs.RunsAfter.{input_after}
-use Rattle.m4_engine.proofs.Sources.{missing_goes}
+use Rattle.m4_engine.proofs.Sources.{missing_goes, source_is}
 
 -- ---- what was settled, after what was written before
 
@@ -111,7 +114,7 @@ module _ (o m : List ℕ) (out0 out out' reported0 reported reported' : Option (
 open_part : (s : SessionState) (name x : List ℕ) → IsOpen s → settled_in s.limits (progress_of s) name x ≡ settled_ended (settled_part s name x)
 open_part s name x l = ap (λ (v : Option Cause). settled_by (how_over v) s.limits (progress_of s).so_far name x) l.over
 
-asked_so : (s : SessionState) (name x : List ℕ) (w : Contents) (cause : Cause) → IsOpen s → ExactAtFault cause (settled_in s.limits (progress_of s) name x) w → FileAsked s name x w → AskedAt (settled_in s.limits (progress_of s) name) cause x w
+abbrev asked_so : (s : SessionState) (name x : List ℕ) (w : Contents) (cause : Cause) → IsOpen s → ExactAtFault cause (settled_in s.limits (progress_of s) name x) w → FileAsked s name x w → AskedAt (settled_in s.limits (progress_of s) name) cause x w
 asked_so s name x w cause l k a = record {
   asked = a.asked;
   last = a.last;
@@ -134,7 +137,7 @@ none_asked s name o m w cause l k h = asked_so s name [] w cause l k (record {
 })
 
 -- the reader failed
-fell_so : (s s' : SessionState) (name : List ℕ) (before after' : Option Script) (w : Contents) → IsOpen s → (f : FileFell name before after' s s' w) → AskedAt (settled_in s.limits (progress_of s) name) causes.Read f.x w
+abbrev fell_so : (s s' : SessionState) (name : List ℕ) (before after' : Option Script) (w : Contents) → IsOpen s → (f : FileFell name before after' s s' w) → AskedAt (settled_in s.limits (progress_of s) name) causes.Read f.x w
 fell_so s s' name before after' w l f =
     asked_so s name f.x w causes.Read l
     (subst (λ (y : SettledSoFar). ExactAtFault causes.Read y w) (sym (open_part s name f.x l)) (f.reason, record { output = f.output; messages = f.messages }))
@@ -152,6 +155,93 @@ fell_so s s' name before after' w l f =
       };
     })
 
+-- the end of a file that ended the run
+over_reason : (h : EndReason) (c : EndReason) → over_of h ≡ Some c → h ≡ c
+over_reason (Ends causes.Done) c e = absurd cc
+over_reason (Ends (causes.Exited n)) c e = cc
+over_reason (Ends causes.EndInString) c e = cc
+over_reason (Ends causes.EndInComment) c e = cc
+over_reason (Ends causes.EndInArguments) c e = cc
+over_reason (Ends causes.ExpansionLimit) c e = cc
+over_reason (Ends causes.NestingLimit) c e = cc
+over_reason (Ends (causes.Frozen f)) c e = cc
+over_reason (Ends causes.Read) c e = cc
+over_reason (Ends causes.Write) c e = cc
+over_reason (Ends causes.OutOfMemory) c e = cc
+over_reason NeedsInput c e = cc
+over_reason OutOfBound c e = cc
+
+over_is : (s : SessionState) (name x : List ℕ) → IsOpen s → (after_source s.limits (Opened name x) (progress_of s)).over ≡ over_of (file s.limits (progress_of s).so_far name x).reason
+over_is s name x l = ap (λ (o : Option Cause). (after_source s.limits (Opened name x) (record (progress_of s) { over = how_over o })).over) l.over
+
+-- the file ended the run, whatever the cause, unless a device or an allocation failed
+abbrev Sum : Cause → SettledSoFar → Type 0 → Option Script → Type 0 → Type 0
+Sum cause s all left closed = (s.reason ≡ Ends cause) ⊎ (all × IsAtEnd left × closed)
+
+module _ {R : Type 0} (script : R → Option Script) (name : List ℕ) (before later : R) (old new : SessionState)
+    (w : Contents) (cause : Cause) (l : IsOpen old)
+    (h : FileEnded name (script before) (script later) old new w cause) (k : (x : SettledSoFar) → ExactAtFault cause x w)
+    (j : (s : SettledSoFar) (all : Type 0) (left : Option Script) (closed : Type 0) → Sum cause s all left closed → EndedBy cause s all left closed) where
+  abbrev Within : Type 0
+  Within = EndsWithin script (sources.Opened name before) (sources.Opened name later) old w cause
+
+  abbrev x : List ℕ
+  x = (h.0).x
+
+  by_bytes : (settled_part old name x).reason ≡ Ends cause → Within
+  by_bytes e = (
+    name,
+    x,
+    (refl, refl, (h.0).given),
+    asked_so old name x w cause l (k _) (h.0).asked,
+    j _ _ _ _ (inl (ap (λ (y : SettledSoFar). y.reason) (open_part old name x l) ∙ e)),
+  )
+
+  closed_by : (after_source old.limits (Opened name (x ++ [])) (progress_of old)).over ≡ Some (Ends cause) → (after_source old.limits (Opened name x) (progress_of old)).over ≡ Some (Ends cause)
+  closed_by e = subst (λ (y : List ℕ). (after_source old.limits (Opened name y) (progress_of old)).over ≡ Some (Ends cause)) (append-nil x) e
+
+  at_its_end : IsAtEnd (script later) → Within
+  at_its_end a =
+      let c = (h.0).so [] (λ e. refl) in
+      let over : (after_source old.limits (Opened name (x ++ [])) (progress_of old)).over ≡ Some (Ends cause) = over_after_it new (after_source old.limits (Opened name (x ++ [])) (progress_of old)) cause c.progress h.1 in
+      let so_far = source_is old name (x ++ []) l in
+      by_end a over so_far c.output c.messages (input_goes old.limits (progress_of old).so_far name x [])
+    where
+      by_end : IsAtEnd (script later)
+          → (after_source old.limits (Opened name (x ++ [])) (progress_of old)).over ≡ Some (Ends cause)
+          → (after_source old.limits (Opened name (x ++ [])) (progress_of old)).so_far ≡ (file old.limits (progress_of old).so_far name (x ++ [])).so_far
+          → w.out_new ≡ with_bytes w.out_old ((after_source old.limits (Opened name (x ++ [])) (progress_of old)).so_far).output
+          → w.messages_new ≡ with_bytes w.messages_old ((after_source old.limits (Opened name (x ++ [])) (progress_of old)).so_far).messages
+          → Goes (settled_part old name x) (file old.limits (progress_of old).so_far name (x ++ [])) → Within
+      by_end a over same o m (inl g) = (
+        name,
+        x,
+        (refl, refl, (h.0).given),
+        asked_so old name x w cause l (k _) (record {
+          asked = x;
+          last = [];
+          parts = sym (append-nil x);
+          within = omega arith;
+          undecided = g.0;
+          written = record {
+            more = (g.1).more;
+            output = o ∙ ap (λ (r : RunSoFar). with_bytes w.out_old r.output) same ∙ ap (with_bytes w.out_old) (g.1).output;
+            more_messages = (g.1).reported;
+            messages = m ∙ ap (λ (r : RunSoFar). with_bytes w.messages_old r.messages) same ∙ ap (with_bytes w.messages_old) (g.1).messages;
+          };
+        }),
+        j _ _ _ _ (inr (refl, a, closed_by over)),
+      )
+      by_end a over same o m (inr g) =
+          by_bytes (ap (λ (d : Ended). d.reason) (sym g.0) ∙ over_reason _ (Ends cause) (sym (over_is old name (x ++ []) l) ∙ over))
+
+  by_flag : (b : Bool) → (h.0).may_follow ≡ b → Within
+  by_flag true e = by_bytes (h.2 e)
+  by_flag false e = at_its_end ((h.0).at_end e)
+
+  ended_within : Within
+  ended_within = by_flag (h.0).may_follow refl
+
 -- a file, by the answer
 pub file_source : {R : Type 0} (script : R → Option Script) (name : List ℕ) (before after' : R)
     (old new : SessionState) (w : Contents) (r : Result Unit Stop) → IsOpen old
@@ -159,17 +249,17 @@ pub file_source : {R : Type 0} (script : R → Option Script) (name : List ℕ) 
     → SourceGives script (sources.Opened name before) (sources.Opened name after') old new w r
 file_source script name before after' old new w (Ok done) l h = (Opened name h.0, (refl, refl, h.1, h.2), h.3)
 file_source script name before after' old new w (Err stops.Finished) l h = absurd ((h.0).closed l)
-file_source script name before after' old new w (Err (stops.Ended causes.Read)) l h = (name, h.x, (refl, refl, h.given), fell_so old new name (script before) (script after') w l h)
-file_source script name before after' old new w (Err (stops.Ended causes.Write)) l h = (name, (h.0).x, (refl, refl, (h.0).given), asked_so old name (h.0).x w causes.Write l tt (h.0).asked)
-file_source script name before after' old new w (Err (stops.Ended causes.OutOfMemory)) l h = (name, (h.0).x, (refl, refl, (h.0).given), asked_so old name (h.0).x w causes.OutOfMemory l tt (h.0).asked)
+file_source script name before after' old new w (Err (stops.Ended causes.Read)) l h = (name, h.x, (refl, refl, h.given), fell_so old new name (script before) (script after') w l h, (refl, h.at_fault))
+file_source script name before after' old new w (Err (stops.Ended causes.Write)) l h = (name, (h.0).x, (refl, refl, (h.0).given), asked_so old name (h.0).x w causes.Write l tt (h.0).asked, tt)
+file_source script name before after' old new w (Err (stops.Ended causes.OutOfMemory)) l h = (name, (h.0).x, (refl, refl, (h.0).given), asked_so old name (h.0).x w causes.OutOfMemory l tt (h.0).asked, tt)
 file_source script name before after' old new w (Err (stops.Ended causes.Done)) l h = absurd h
 file_source script name before after' old new w (Err (stops.Ended (causes.Frozen f))) l h = absurd h
-file_source script name before after' old new w (Err (stops.Ended (causes.Exited n))) l h = (name, (h.0).x, (refl, refl, (h.0).given), asked_so old name (h.0).x w (causes.Exited n) l tt (h.0).asked)
-file_source script name before after' old new w (Err (stops.Ended causes.EndInString)) l h = (name, (h.0).x, (refl, refl, (h.0).given), asked_so old name (h.0).x w causes.EndInString l tt (h.0).asked)
-file_source script name before after' old new w (Err (stops.Ended causes.EndInComment)) l h = (name, (h.0).x, (refl, refl, (h.0).given), asked_so old name (h.0).x w causes.EndInComment l tt (h.0).asked)
-file_source script name before after' old new w (Err (stops.Ended causes.EndInArguments)) l h = (name, (h.0).x, (refl, refl, (h.0).given), asked_so old name (h.0).x w causes.EndInArguments l tt (h.0).asked)
-file_source script name before after' old new w (Err (stops.Ended causes.ExpansionLimit)) l h = (name, (h.0).x, (refl, refl, (h.0).given), asked_so old name (h.0).x w causes.ExpansionLimit l tt (h.0).asked)
-file_source script name before after' old new w (Err (stops.Ended causes.NestingLimit)) l h = (name, (h.0).x, (refl, refl, (h.0).given), asked_so old name (h.0).x w causes.NestingLimit l tt (h.0).asked)
+file_source script name before after' old new w (Err (stops.Ended (causes.Exited n))) l h = ended_within script name before after' old new w (causes.Exited n) l h (λ x. tt) (λ s a l c e. e)
+file_source script name before after' old new w (Err (stops.Ended causes.EndInString)) l h = ended_within script name before after' old new w causes.EndInString l h (λ x. tt) (λ s a l c e. e)
+file_source script name before after' old new w (Err (stops.Ended causes.EndInComment)) l h = ended_within script name before after' old new w causes.EndInComment l h (λ x. tt) (λ s a l c e. e)
+file_source script name before after' old new w (Err (stops.Ended causes.EndInArguments)) l h = ended_within script name before after' old new w causes.EndInArguments l h (λ x. tt) (λ s a l c e. e)
+file_source script name before after' old new w (Err (stops.Ended causes.ExpansionLimit)) l h = ended_within script name before after' old new w causes.ExpansionLimit l h (λ x. tt) (λ s a l c e. e)
+file_source script name before after' old new w (Err (stops.Ended causes.NestingLimit)) l h = ended_within script name before after' old new w causes.NestingLimit l h (λ x. tt) (λ s a l c e. e)
 
 pub file_so : {R : Type 0} (script : R → Option Script) (name : List ℕ) (before later : R) (first last : RunSource R)
     (old new : SessionState) (w : Contents) (r : Result Unit Stop) → first ≡ sources.Opened name before
@@ -187,7 +277,7 @@ missing_source : {R : Type 0} (script : R → Option Script) (name : List ℕ) (
 missing_source script name old new w (Ok done) l o h = (Unopened name, (refl, refl), (missing_goes old new name w (Ok done) l o h).0)
 missing_source script name old new w (Err stops.Finished) l o h = absurd (h.0 l)
 missing_source script name old new w (Err (stops.Ended causes.Write)) l o h =
-    (name, [], (refl, refl, refl), none_asked old name [] _ w causes.Write l tt (record { output = o ∙ with_bytes-nil w.out_old; messages = ((h.1).1).holds }))
+    (name, [], (refl, refl, refl), none_asked old name [] _ w causes.Write l tt (record { output = o ∙ with_bytes-nil w.out_old; messages = ((h.1).1).holds }), tt)
 missing_source script name old new w (Err (stops.Ended causes.Read)) l o h = absurd h
 missing_source script name old new w (Err (stops.Ended causes.OutOfMemory)) l o h = absurd h
 missing_source script name old new w (Err (stops.Ended causes.Done)) l o h = absurd h
@@ -212,8 +302,8 @@ same_bytes : (s : Option Script) → s ≡ after_bytes [] s
 same_bytes s = (reads_nothing s (file_pending [] [] true)).given
 
 unread_within : {R : Type 0} (script : R → Option Script) (x : RunSource R) (old : SessionState) (out reported : Option (List ℕ)) → IsOpen old → EndsWithin script x x old (writers out out reported reported) causes.OutOfMemory
-unread_within script (sources.Opened name r) old out reported l = (name, [], (refl, refl, same_bytes (script r)), none_asked old name [] [] (writers out out reported reported) causes.OutOfMemory l tt (record { output = with_bytes-nil out; messages = with_bytes-nil reported }))
-unread_within script (sources.Unopened name) old out reported l = (name, [], (refl, refl, refl), none_asked old name [] [] (writers out out reported reported) causes.OutOfMemory l tt (record { output = with_bytes-nil out; messages = with_bytes-nil reported }))
+unread_within script (sources.Opened name r) old out reported l = (name, [], (refl, refl, same_bytes (script r)), none_asked old name [] [] (writers out out reported reported) causes.OutOfMemory l tt (record { output = with_bytes-nil out; messages = with_bytes-nil reported }), tt)
+unread_within script (sources.Unopened name) old out reported l = (name, [], (refl, refl, refl), none_asked old name [] [] (writers out out reported reported) causes.OutOfMemory l tt (record { output = with_bytes-nil out; messages = with_bytes-nil reported }), tt)
 
 pub unread_so : {R : Type 0} (script : R → Option Script) (x y : RunSource R) (old new : SessionState) (out reported : Option (List ℕ)) (e : Stop) → x ≡ y → e ≡ stops.Ended causes.OutOfMemory → IsOpen old → SourceGives script x y old new (writers out out reported reported) (Err e)
 unread_so script x y old new out reported e f i l =
@@ -260,6 +350,36 @@ next_reached script (suc i) [] ys x v ss name taken e d f h = cc
 next_reached script (suc i) (a ∷ xs) [] x v ss name taken e d f h = absurd f
 next_reached script (suc i) (a ∷ xs) (b ∷ ys) x v [] name taken e d f h = absurd f
 next_reached script (suc i) (a ∷ xs) (b ∷ ys) x v (s ∷ ss) name taken e d f h = (f.0, next_reached script i xs ys x v ss name taken e d f.1 h)
+
+-- what its reader was left with
+left_at : {R : Type 0} (script : R → Option Script) (i : ℕ) (xs ys : List (RunSource R)) (x v : RunSource R)
+    (ss : List Source) → drop i xs ≡ x ∷ drop (suc i) xs → FirstRead script i ys xs ss
+    → script_of script v ≡ left_after script (slice_set xs i v) ss
+left_at script zero [] ys x v ss d f = cc
+left_at script zero (a ∷ xs) ys x v [] d f = refl
+left_at script zero (a ∷ xs) ys x v (s ∷ ss) d f = absurd f
+left_at script (suc i) [] ys x v ss d f = cc
+left_at script (suc i) (a ∷ xs) [] x v ss d f = absurd f
+left_at script (suc i) (a ∷ xs) (b ∷ ys) x v [] d f = absurd f
+left_at script (suc i) (a ∷ xs) (b ∷ ys) x v (s ∷ ss) d f = left_at script i xs ys x v ss d f.1
+
+-- where it ended, after what came before
+sum_map : (cause : Cause) (s s' : SettledSoFar) (all : Type 0) (left left' : Option Script) (c c' : Type 0) → s'.reason ≡ s.reason → left ≡ left' → (c → c') → Sum cause s all left c → Sum cause s' all left' c'
+sum_map cause s s' all left left' c c' e f g (inl h) = inl (e ∙ h)
+sum_map cause s s' all left left' c c' e f g (inr h) = inr (h.0, subst IsAtEnd f h.1, g h.2)
+
+pub ended_map : (cause : Cause) (s s' : SettledSoFar) (all : Type 0) (left left' : Option Script) (c c' : Type 0) → s'.reason ≡ s.reason → left ≡ left' → (c → c') → EndedBy cause s all left c → EndedBy cause s' all left' c'
+ended_map causes.Write s s' all left left' c c' e f g h = tt
+ended_map causes.OutOfMemory s s' all left left' c c' e f g h = tt
+ended_map causes.Read s s' all left left' c c' e f g h = (h.0, subst IsAtFault f h.1)
+ended_map causes.Done s s' all left left' c c' e f g h = sum_map causes.Done s s' all left left' c c' e f g h
+ended_map (causes.Exited n) s s' all left left' c c' e f g h = sum_map (causes.Exited n) s s' all left left' c c' e f g h
+ended_map causes.EndInString s s' all left left' c c' e f g h = sum_map causes.EndInString s s' all left left' c c' e f g h
+ended_map causes.EndInComment s s' all left left' c c' e f g h = sum_map causes.EndInComment s s' all left left' c c' e f g h
+ended_map causes.EndInArguments s s' all left left' c c' e f g h = sum_map causes.EndInArguments s s' all left left' c c' e f g h
+ended_map causes.ExpansionLimit s s' all left left' c c' e f g h = sum_map causes.ExpansionLimit s s' all left left' c c' e f g h
+ended_map causes.NestingLimit s s' all left left' c c' e f g h = sum_map causes.NestingLimit s s' all left left' c c' e f g h
+ended_map (causes.Frozen f) s s' all left left' c c' e i g h = sum_map (causes.Frozen f) s s' all left left' c c' e i g h
 
 -- all were read
 were_read : {R : Type 0} (script : R → Option Script) (i : ℕ) (xs ys : List (RunSource R)) (ss : List Source) → drop i xs ≡ drop i ys → length xs ≤ i → FirstRead script i ys xs ss → AreRead script ys xs ss
@@ -322,6 +442,13 @@ module _ {R : Type 0} (script : R → Option Script) (i : ℕ) (xs ys : List (Ru
       ∙ in_front_is b.o b.m s0.limits (progress_of s) name y
       ∙ ap (λ (l : Limits). in_front b.o b.m (settled_in l (progress_of s) name y)) (sym b.limits)
 
+  -- the end of the next source ends the run
+  closed_here : (name y : List ℕ) (cause : Cause) → (after_source s.limits (Opened name y) (progress_of s)).over ≡ Some (Ends cause) → EndsOrIsLast ys s0.limits (progress_of s0) b.ss name y cause
+  closed_here name y cause h =
+      let all : after_sources s0.limits (b.ss ++ Opened name y ∷ []) (progress_of s0) ≡ after b.o b.m (after_source s.limits (Opened name y) (progress_of s)) =
+      sources_append s0.limits b.ss (Opened name y ∷ []) (progress_of s0) ∙ ap (after_sources s0.limits (Opened name y ∷ [])) b.here ∙ source_after s0 s b.o b.m (Opened name y) [] b.limits in
+      inl (ap (λ (p : Progress). p.over) all ∙ h)
+
   ends_here : (cause : Cause) → EndsWithin script (slice_index_or xs i x) v s (writers out out' reported reported') cause → Reached script ys (slice_set xs i v) s0.limits (progress_of s0) cause (writers out0 out' reported0 reported')
   ends_here cause h = record {
     before = b.ss;
@@ -329,6 +456,7 @@ module _ {R : Type 0} (script : R → Option Script) (i : ℕ) (xs ys : List (Ru
     taken = h.1;
     place = next_reached script i xs ys (slice_index_or xs i x) v b.ss h.0 h.1 e (sym item_is) b.first h.2;
     at = asked_further b.o b.m out0 out out' reported0 reported reported' (b.written).output (b.written).messages (settled_in s.limits (progress_of s) h.0) (settled_after s0.limits (progress_of s0) b.ss h.0) cause h.1 (settled_here h.0) h.3;
+    ended = ended_map cause _ _ _ _ _ _ _ (ap (λ (y : SettledSoFar). y.reason) (settled_here h.0 h.1)) (left_at script i xs ys (slice_index_or xs i x) v b.ss (sym item_is) b.first) (closed_here h.0 h.1 cause) h.4;
   }
 
   stops_here : (y : Stop) → SourceGives script (slice_index_or xs i x) v s s' (writers out out' reported reported') (Err y) → SourcesGive script ys (slice_set xs i v) s0 s' (writers out0 out' reported0 reported') (Err y)

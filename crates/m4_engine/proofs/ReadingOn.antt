@@ -31,7 +31,7 @@ token_open e p a b w =
 pub stays_open : (w v : Wanted) (e e' : Engine) (i j : Held) (c : Contents) (h : HandNeeds w e i v e' j c)
     → (j.pending).may_follow ≡ true → (y : List ℕ) → IsWantedAfter v e' j.pending y → (a b : List ℕ)
     → comes_to v (configuration (a ++ h.o) (b ++ h.m) e' (longer y true j.pending))
-      ≡ Halted (record { so_far = so_far_of (a ++ h.o) (b ++ h.m) e'; reason = NeedsInput })
+    ≡ Halted (record { so_far = so_far_of (a ++ h.o) (b ++ h.m) e'; reason = NeedsInput })
 stays_open w wanted.Token e e' i j c h f y (inr u) a b = token_open e' (longer y true j.pending) (a ++ h.o) (b ++ h.m) u
 stays_open w wanted.Token e e' i j c h f y (inl n) a b =
     ap (λ (x : List ℕ). comes_to wanted.Token (configuration (a ++ h.o) (b ++ h.m) e' (longer x true j.pending))) n

@@ -37,8 +37,8 @@ pub split : (o : Options) (freezes prefix : Bool) (frozen : Option Script) (as' 
     → Carries (freezing true o) (start_of o.prefix frozen) as' → (run (freezing true o) frozen as').frozen ≡ Some text
     → (run (freezing freezes o) frozen (as' ++ bs)).reason ≢ Ends causes.ExpansionLimit
     → Joins (run (freezing true o) frozen as')
-      (run (prefixed prefix (freezing freezes o)) (Some (frozen_file text)) bs)
-      (run (freezing freezes o) frozen (as' ++ bs))
+    (run (prefixed prefix (freezing freezes o)) (Some (frozen_file text)) bs)
+    (run (freezing freezes o) frozen (as' ++ bs))
 split o freezes prefix frozen as' bs text carries froze joint =
     let start : Start = start_of o.prefix frozen in
     let s : State = frozen_state (freezing true o) start as' in

@@ -1,9 +1,10 @@
 -- RunReached: after all sources the last one is the current one; and what a run says of its sources as it ends.
-use Rattle.std.proofs.Common.{◌≡◌, ◌≢◌, inl, inr, ℕ, Bool, true, false, List, [], ◌∷◌, ◌++◌, Option, Some, None, refl}
+use Rattle.std.proofs.Common.{◌≡◌, ◌≢◌, inl, inr, ℕ, suc, ◌+◌, Bool, true, false, List, [], ◌∷◌, ◌++◌}
+use Rattle.std.proofs.Common.{length, Option, Some, None, refl}
 use Rattle.std.proofs.Common.{sym, ap, ◌∙◌, subst, arith, append-nil}
 use Rattle.std.specs.Prelude.{Result, Ok, Err}
 use Rattle.m4_state.proofs.CallerLaws.{with_bytes-nil}
-use Rattle.m4_state.specs.Device.{Script, with_bytes}
+use Rattle.m4_state.specs.Device.{Script, with_bytes, IsAtEnd}
 use Rattle.m4_state.specs.State.{State}
 use Rattle.m4_engine.specs.declared.options.Options.{Options}
 use Rattle.m4_engine.specs.declared.ending.Cause.{Cause}
@@ -27,13 +28,14 @@ use Rattle.m4_engine.specs.Session.{BeginGives, IsBegun, IsLeft}
 use Rattle.m4_engine.specs.Writers.{Contents, Three, writers, HasWritten}
 use Rattle.m4_engine.specs.WholeRun.{ending_by}
 use Rattle.m4_engine.specs.OnePass.{IsRead, Reaches, AreRead, settled_after, ExactAtFault, Reached, OnePassBy, OnePass}
+use Rattle.m4_engine.specs.OnePass.{left_after, EndsOrIsLast, EndedBy}
 use Rattle.m4_engine.specs.SourcesRead.{SourcesGive, RunReached}
 use Rattle.m4_engine.proofs.Growth.{Extends, made_out, longer_level, Begins}
 use Rattle.m4_engine.proofs.Continues.{law}
 use Rattle.m4_engine.proofs.OnePass.{over_sources}
 use Rattle.m4_engine.proofs.Blockwise.{more_after}
 use Rattle.m4_engine.proofs.GoingOn.{sources_after}
-use Rattle.m4_engine.proofs.Reached.{in_front, in_front_is, asked_further}
+use Rattle.m4_engine.proofs.Reached.{in_front, in_front_is, asked_further, ended_map}
 use Rattle.m4_engine.proofs.Sessions.{close_ends}
 use Rattle.m4_engine.proofs.Starts.{begun_is}
 
@@ -114,12 +116,17 @@ record Last {R : Type 0} (script : R → Option Script) (old new : List (RunSour
   taken : List ℕ
   place : Reaches script old new before name taken
   settled : SettledBefore limits (after_sources limits before p) q name taken
+  at_end : IsAtEnd (left_after script new before)
+  last : length old ≡ length before + 1
+
+next_last : (m n : ℕ) → m ≡ n + 1 → suc m ≡ suc n + 1
+next_last m n e = omega (arith, e)
 
 one_last : {R : Type 0} (script : R → Option Script) (x y : RunSource R) (limits : Limits) (p : Progress) (s : Source) → IsRead script x y s → p.over ≡ None → (after_source limits s p).over ≡ None → Last script (x ∷ []) (y ∷ []) limits p (after_source limits s p)
 one_last script (sources.Opened name r) (sources.Opened n b) limits p (Opened m bytes) i e g =
-    record { before = []; name = m; taken = bytes; place = ((i.0, i.1, i.2), refl); settled = opened_before limits p m bytes p.over e g }
+    record { before = []; name = m; taken = bytes; place = ((i.0, i.1, i.2), refl); settled = opened_before limits p m bytes p.over e g; at_end = i.3; last = refl }
 one_last script (sources.Unopened name) (sources.Unopened n) limits p (Unopened m) i e g =
-    record { before = []; name = m; taken = []; place = ((i.0, i.1, refl), refl); settled = unopened_before limits p m p.over e }
+    record { before = []; name = m; taken = []; place = ((i.0, i.1, refl), refl); settled = unopened_before limits p m p.over e; at_end = tt; last = refl }
 one_last script (sources.Opened name r) (sources.Opened n b) limits p (Unopened m) i e g = absurd i
 one_last script (sources.Opened name r) (sources.Unopened n) limits p s i e g = absurd i
 one_last script (sources.Unopened name) (sources.Opened n b) limits p s i e g = absurd i
@@ -130,7 +137,7 @@ last_is script [] new ss limits p n h g = absurd (n refl)
 last_is script (x ∷ []) (y ∷ []) (s ∷ []) limits p n h g = one_last script x y limits p s h.0 (open_before limits s p p.over refl g) g
 last_is script (x ∷ x2 ∷ xs) (y ∷ ys) (s ∷ ss) limits p n h g =
     let k = last_is script (x2 ∷ xs) ys ss limits (after_source limits s p) (λ e. cc) h.1 g in
-    record { before = s ∷ k.before; name = k.name; taken = k.taken; place = (h.0, k.place); settled = k.settled }
+    record { before = s ∷ k.before; name = k.name; taken = k.taken; place = (h.0, k.place); settled = k.settled; at_end = k.at_end; last = next_last _ _ k.last }
 last_is script (x ∷ xs) [] ss limits p n h g = absurd h
 last_is script (x ∷ []) (y ∷ y2 ∷ ys) (s ∷ ss) limits p n h g = absurd h.1
 last_is script (x ∷ xs) (y ∷ ys) [] limits p n h g = absurd h
@@ -168,8 +175,12 @@ module _ {R : Type 0} (script : R → Option Script) (old new : List (RunSource 
   abbrev AllAsked : Cause → Type 0
   AllAsked cause = (r : Reached script old new s.limits (progress_of s) cause (writers out0 out' reported0 reported')) × ((r.at).asked ≡ r.taken)
 
-  past_end : (cause : Cause) → ((x : SettledSoFar) (w : Contents) → ExactAtFault cause x w) → (r : Result Unit Stop) → EndGives freezes s1 s2 (writers out out' reported reported') r → AllAsked cause
-  past_end cause k r g =
+  -- a cause by which a run may end after its sources
+  abbrev AtEnd : Cause → Type 1
+  AtEnd cause = (x : SettledSoFar) (all : Type 0) (left : Option Script) (closed : Type 0) → all × IsAtEnd left × closed → EndedBy cause x all left closed
+
+  past_end : (cause : Cause) → ((x : SettledSoFar) (w : Contents) → ExactAtFault cause x w) → AtEnd cause → (r : Result Unit Stop) → EndGives freezes s1 s2 (writers out out' reported reported') r → AllAsked cause
+  past_end cause k j r g =
       let q = end_wrote freezes s1 s2 (writers out out' reported reported') r l g in
       let p = last_is script old new h.0 s.limits (progress_of s) n h.1 goes_on in (
         record {
@@ -191,16 +202,17 @@ module _ {R : Type 0} (script : R → Option Script) (old new : List (RunSource 
             };
             exact = k _ _;
           };
+          ended = j _ _ _ _ (refl, p.at_end, inr p.last);
         },
         refl,
       )
 
-  reached_end : (cause : Cause) → ((x : SettledSoFar) (w : Contents) → ExactAtFault cause x w) → (r : Result Unit Stop) → EndGives freezes s1 s2 (writers out out' reported reported') r → Reached script old new s.limits (progress_of s) cause (writers out0 out' reported0 reported')
-  reached_end cause k r g = (past_end cause k r g).0
+  reached_end : (cause : Cause) → ((x : SettledSoFar) (w : Contents) → ExactAtFault cause x w) → AtEnd cause → (r : Result Unit Stop) → EndGives freezes s1 s2 (writers out out' reported reported') r → Reached script old new s.limits (progress_of s) cause (writers out0 out' reported0 reported')
+  reached_end cause k j r g = (past_end cause k j r g).0
 
   pub closed_reached : (wrapped : Bool) (w : Three (Option (List ℕ))) (r : Result Unit Stop) → w.two ≡ writers out out' reported reported' → r ≡ Ok tt → CloseGives freezes s1 s2 w r → RunReached script old new s (writers out0 out' reported0 reported') (Ok wrapped)
   closed_reached wrapped w r e f g =
-      let q = past_end causes.Done (λ x w. tt) r (subst (λ v. EndGives freezes s1 s2 v r) e (close_ends freezes s1 s2 w r g)) in
+      let q = past_end causes.Done (λ x w. tt) (λ x a l c h. inr h) r (subst (λ v. EndGives freezes s1 s2 v r) e (close_ends freezes s1 s2 w r g)) in
       record { sources = h.0; read = h.1; reached = q.0; all = q.1 }
 
   end_by : (e : Stop) → EndGives freezes s1 s2 (writers out out' reported reported') (Err e) → RunReached script old new s (writers out0 out' reported0 reported') (Err e)
@@ -208,14 +220,14 @@ module _ {R : Type 0} (script : R → Option Script) (old new : List (RunSource 
   end_by (stops.Ended causes.Done) g = absurd g
   end_by (stops.Ended (causes.Frozen f)) g = absurd g
   end_by (stops.Ended causes.Read) g = absurd g
-  end_by (stops.Ended causes.Write) g = reached_end causes.Write (λ x w. tt) (Err (stops.Ended causes.Write)) g
-  end_by (stops.Ended causes.OutOfMemory) g = reached_end causes.OutOfMemory (λ x w. tt) (Err (stops.Ended causes.OutOfMemory)) g
-  end_by (stops.Ended (causes.Exited c)) g = reached_end (causes.Exited c) (λ x w. tt) (Err (stops.Ended (causes.Exited c))) g
-  end_by (stops.Ended causes.EndInString) g = reached_end causes.EndInString (λ x w. tt) (Err (stops.Ended causes.EndInString)) g
-  end_by (stops.Ended causes.EndInComment) g = reached_end causes.EndInComment (λ x w. tt) (Err (stops.Ended causes.EndInComment)) g
-  end_by (stops.Ended causes.EndInArguments) g = reached_end causes.EndInArguments (λ x w. tt) (Err (stops.Ended causes.EndInArguments)) g
-  end_by (stops.Ended causes.ExpansionLimit) g = reached_end causes.ExpansionLimit (λ x w. tt) (Err (stops.Ended causes.ExpansionLimit)) g
-  end_by (stops.Ended causes.NestingLimit) g = reached_end causes.NestingLimit (λ x w. tt) (Err (stops.Ended causes.NestingLimit)) g
+  end_by (stops.Ended causes.Write) g = reached_end causes.Write (λ x w. tt) (λ x a l b h. tt) (Err (stops.Ended causes.Write)) g
+  end_by (stops.Ended causes.OutOfMemory) g = reached_end causes.OutOfMemory (λ x w. tt) (λ x a l b h. tt) (Err (stops.Ended causes.OutOfMemory)) g
+  end_by (stops.Ended (causes.Exited c)) g = reached_end (causes.Exited c) (λ x w. tt) (λ x a l b h. inr h) (Err (stops.Ended (causes.Exited c))) g
+  end_by (stops.Ended causes.EndInString) g = reached_end causes.EndInString (λ x w. tt) (λ x a l b h. inr h) (Err (stops.Ended causes.EndInString)) g
+  end_by (stops.Ended causes.EndInComment) g = reached_end causes.EndInComment (λ x w. tt) (λ x a l b h. inr h) (Err (stops.Ended causes.EndInComment)) g
+  end_by (stops.Ended causes.EndInArguments) g = reached_end causes.EndInArguments (λ x w. tt) (λ x a l b h. inr h) (Err (stops.Ended causes.EndInArguments)) g
+  end_by (stops.Ended causes.ExpansionLimit) g = reached_end causes.ExpansionLimit (λ x w. tt) (λ x a l b h. inr h) (Err (stops.Ended causes.ExpansionLimit)) g
+  end_by (stops.Ended causes.NestingLimit) g = reached_end causes.NestingLimit (λ x w. tt) (λ x a l b h. inr h) (Err (stops.Ended causes.NestingLimit)) g
 
   pub late_reached : (w : Three (Option (List ℕ))) (e : Stop) (q : Result Unit Stop) (r : Result Bool Stop) → w.two ≡ writers out out' reported reported' → q ≡ Err e → r ≡ Err e → CloseGives freezes s1 s2 w q → RunReached script old new s (writers out0 out' reported0 reported') r
   late_reached w e q r i f k g =
@@ -270,6 +282,13 @@ module _ {R : Type 0} (script : R → Option Script) (old new : List (RunSource 
       ∙ ap (λ (p : Progress). settled_in (limits_of o) p name x) (sources_after issued [] (limits_of o) before (progress_of (session_from o k)))
       ∙ in_front_is issued [] (limits_of o) (after_sources (limits_of o) before (progress_of (session_from o k))) name x
 
+  start_closed : (before : List Source) (name x : List ℕ) (cause : Cause) → EndsOrIsLast old (limits_of o) (progress_of (session_from o k)) before name x cause → EndsOrIsLast old (limits_of o) (begun (From k issued)) before name x cause
+  start_closed before name x cause (inr h) = inr h
+  start_closed before name x cause (inl h) =
+      let ss : List Source = before ++ Opened name x ∷ [] in
+      inl (ap (λ (p : Progress). (after_sources (limits_of o) ss p).over) (begun_is o k issued)
+      ∙ ap (λ (p : Progress). p.over) (sources_after issued [] (limits_of o) ss (progress_of (session_from o k))) ∙ h)
+
   abbrev from_start : (cause : Cause) → Reached script old new (limits_of o) (progress_of (session_from o k)) cause (writers out out' reported reported') → Reached script old new (limits_of o) (begun (From k issued)) cause (writers out0 out' reported reported')
   from_start cause r = record {
     before = r.before;
@@ -280,6 +299,7 @@ module _ {R : Type 0} (script : R → Option Script) (old new : List (RunSource 
         (settled_after (limits_of o) (progress_of (session_from o k)) r.before r.name)
         (settled_after (limits_of o) (begun (From k issued)) r.before r.name) cause r.taken
         (start_settled r.before r.name) r.at;
+    ended = ended_map cause _ _ _ _ _ _ _ (ap (λ (y : SettledSoFar). y.reason) (start_settled r.before r.name r.taken)) refl (start_closed r.before r.name r.taken cause) r.ended;
   }
 
   passed_by : (status : ℕ) (r : Result Bool Stop) → RunReached script old new (session_from o k) (writers out out' reported reported') r → OnePassBy script old new o (From k issued) (ending_by status r).cause (writers out0 out' reported reported')

@@ -60,7 +60,7 @@ leads_on w v u e0 e e2 p0 p q o m f g =
 -- a step that leads on, with what was written so far in front
 step_leads : (w v : Wanted) (e e2 : Engine) (p q : Pending)
     → ((z : List ℕ) (more : Bool) → MayFollow p.may_follow z more → (a b : List ℕ)
-      → comes_to v (configuration a b e2 (longer z more q)) ≡ comes_to w (configuration a b e (longer z more p)))
+    → comes_to v (configuration a b e2 (longer z more q)) ≡ comes_to w (configuration a b e (longer z more p)))
     → q.may_follow ≡ p.may_follow → e2.limits ≡ e.limits → Leads w e p v e2 q [] []
 step_leads w v e e2 p q h f l = record {
   means = λ z more c a b.
@@ -158,7 +158,7 @@ line_goes may e' p' q f g h k = λ z more c o m.
 goes_on : (w : Wanted) (e0 e e' e2 : Engine) (p0 p' : Pending) (i i' : Held)
     (out0 reported0 out reported out' reported' : Option (List ℕ)) → Running w e0 p0 out0 reported0 e i out reported
     → Moves (i.pending).may_follow e' p' turns.GoesOn
-      (λ z more o m. moved (configuration o m e (longer z more i.pending))) → p'.may_follow ≡ (i.pending).may_follow
+    (λ z more o m. moved (configuration o m e (longer z more i.pending))) → p'.may_follow ≡ (i.pending).may_follow
     → i'.pending ≡ p' → IsReady i' → e'.limits ≡ e.limits → FlushesSome e' e2 (writers out out' reported reported')
     → Running w e0 p0 out0 reported0 e2 i' out' reported'
 goes_on w e0 e e' e2 p0 p' i i' out0 reported0 out reported out' reported' r h g s q l f = record {
@@ -176,7 +176,7 @@ pub went_on : (w : Wanted) (e0 e e' e2 : Engine) (p0 : Pending) (i i' : Held)
     (out0 reported0 out reported out' reported' : Option (List ℕ)) (t : Turned)
     → Running w e0 p0 out0 reported0 e i out reported
     → Moves (i.pending).may_follow e' i'.pending t
-      (λ z more o m. moved (configuration o m e (longer z more i.pending))) → StaysBy i i' t → t ≡ turns.GoesOn
+    (λ z more o m. moved (configuration o m e (longer z more i.pending))) → StaysBy i i' t → t ≡ turns.GoesOn
     → e'.limits ≡ e.limits → FlushesSome e' e2 (writers out out' reported reported')
     → Running w e0 p0 out0 reported0 e2 i' out' reported'
 went_on w e0 e e' e2 p0 i i' out0 reported0 out reported out' reported' t r h y k l f =
@@ -188,7 +188,7 @@ pub went_past_line : (w : Wanted) (e0 e e' e2 : Engine) (p0 : Pending) (i k i' :
     (out0 reported0 out reported out' reported' : Option (List ℕ)) (t : Turned)
     → Running w e0 p0 out0 reported0 e i out reported
     → Moves (i.pending).may_follow e' k.pending t
-      (λ z more o m. moved (configuration o m e (longer z more i.pending))) → StaysBy i k t → t ≡ turns.SkipsLine
+    (λ z more o m. moved (configuration o m e (longer z more i.pending))) → StaysBy i k t → t ≡ turns.SkipsLine
     → e'.limits ≡ e.limits → FlushesSome e' e2 (writers out out' reported reported') → LineGives k i' true
     → Running w e0 p0 out0 reported0 e2 i' out' reported'
 went_past_line w e0 e e' e2 p0 i k i' out0 reported0 out reported out' reported' t r h y g l f d =
@@ -201,7 +201,7 @@ went_past_line w e0 e e' e2 p0 i k i' out0 reported0 out reported out' reported'
 pub fell : (e e1 e' e2 : Engine) (i i1 i' : Held) (out out' reported reported' : Option (List ℕ)) (t : Turned)
     → Passes e e1 i i1
     → Moves (i1.pending).may_follow e' i'.pending t
-      (λ z more o m. moved (configuration o m e1 (longer z more i1.pending))) → StaysBy i1 i' t → t ≡ turns.GoesOn
+    (λ z more o m. moved (configuration o m e1 (longer z more i1.pending))) → StaysBy i1 i' t → t ≡ turns.GoesOn
     → FlushesSome e' e2 (writers out out' reported reported') → turns_of e2 i'.pending < turns_of e i.pending
 fell e e1 e' e2 i i1 i' out out' reported reported' t w h y k f =
     let s = subst (StaysBy i1 i') k y in
@@ -212,7 +212,7 @@ fell e e1 e' e2 i i1 i' out out' reported reported' t w h y k f =
 pub fell_past_line : (e e1 e' e2 : Engine) (i i1 k i' : Held) (out out' reported reported' : Option (List ℕ))
     (t : Turned) → Passes e e1 i i1
     → Moves (i1.pending).may_follow e' k.pending t
-      (λ z more o m. moved (configuration o m e1 (longer z more i1.pending))) → StaysBy i1 k t → t ≡ turns.SkipsLine
+    (λ z more o m. moved (configuration o m e1 (longer z more i1.pending))) → StaysBy i1 k t → t ≡ turns.SkipsLine
     → FlushesSome e' e2 (writers out out' reported reported') → LineGives k i' true
     → turns_of e2 i'.pending < turns_of e i.pending
 fell_past_line e e1 e' e2 i i1 k i' out out' reported reported' t w h y g f d =
@@ -326,7 +326,7 @@ pub needs_line_after : (w : Wanted) (e0 e e' e2 : Engine) (p0 : Pending) (i0 i k
     (out0 reported0 out reported out' reported' : Option (List ℕ)) (t : Turned) → p0 ≡ i0.pending
     → Running w e0 p0 out0 reported0 e i out reported
     → Moves (i.pending).may_follow e' k.pending t
-      (λ z more o m. moved (configuration o m e (longer z more i.pending))) → StaysBy i k t → t ≡ turns.SkipsLine
+    (λ z more o m. moved (configuration o m e (longer z more i.pending))) → StaysBy i k t → t ≡ turns.SkipsLine
     → e'.limits ≡ e.limits → e2 ≡ after_flush e' → out' ≡ with_bytes out e'.output
     → reported' ≡ with_bytes reported e'.messages → LineGives k j false
     → HandNeeds w e0 i0 wanted.Line e2 j (writers out0 out' reported0 reported')
@@ -401,7 +401,7 @@ breaks w e0 e p0 i out0 reported0 out reported r = record {
 turn_made : (e e' : Engine) (i j : Held) (z : List ℕ) (more : Bool) (o m : List ℕ) (t : Turned)
     → MayFollow (i.pending).may_follow z more
     → Moves (i.pending).may_follow e' j.pending t
-      (λ z more o m. moved (configuration o m e (longer z more i.pending))) → IsTurned e e' i j t
+    (λ z more o m. moved (configuration o m e (longer z more i.pending))) → IsTurned e e' i j t
     → Extends (so_far_of o m e') (made_out (meaning_of o m e (longer z more i.pending)))
 turn_made e e' i j z more o m turns.GoesOn c h k =
     subst (λ v. Extends (so_far_of o m e') (made_out v)) (moved_on e e' i.pending j.pending z more o m c h) (meaning_keeps o m e' (longer z more j.pending))
@@ -420,7 +420,7 @@ turn_made e e' i j z more o m (turns.Ends cause) c h k =
 pub write_breaks : (w : Wanted) (e0 e e' : Engine) (p0 : Pending) (i j : Held) (t : Turned)
     (out0 reported0 out reported out' reported' : Option (List ℕ)) → Running w e0 p0 out0 reported0 e i out reported
     → Moves (i.pending).may_follow e' j.pending t
-      (λ z more o m. moved (configuration o m e (longer z more i.pending))) → IsTurned e e' i j t
+    (λ z more o m. moved (configuration o m e (longer z more i.pending))) → IsTurned e e' i j t
     → FlushesPrefix e'.output e'.messages (writers out out' reported reported')
     → HandBreaks w e0 p0 (writers out0 out' reported0 reported')
 write_breaks w e0 e e' p0 i j t out0 reported0 out reported out' reported' r h k b = record {
@@ -456,7 +456,7 @@ taken_after old mid new o a f more k e h =
 pub breaks_in_order : (w : Wanted) (e0 e e' : Engine) (p0 : Pending) (i j : Held) (t : Turned) (earlier : ℕ)
     (out0 reported0 out reported out' reported' : Option (List ℕ)) → Running w e0 p0 out0 reported0 e i out reported
     → Moves (i.pending).may_follow e' j.pending t
-      (λ z more o m. moved (configuration o m e (longer z more i.pending))) → IsTurned e e' i j t
+    (λ z more o m. moved (configuration o m e (longer z more i.pending))) → IsTurned e e' i j t
     → e.messages ≡ [] → earlier ≡ length e.output → IsInOrder (take earlier e'.output) e'.messages (writers out out' reported reported') → FlushesPrefix e'.output e'.messages (writers out out' reported reported') → BreaksInOrder w e0 p0 (writers out0 out' reported0 reported')
 breaks_in_order w e0 e e' p0 i j t earlier out0 reported0 out reported out' reported' r h k quiet is order b =
     let f = output_front e e' i j t h k in

@@ -22,7 +22,7 @@ over_rounds (suc n) limits p h e = ap (λ o. next_round (rounds n limits) limits
 -- the parameters of `Shifts`, and that an end at which nothing is claimed ends the run
 module _ (o m : List ℕ) (c calls calls' nesting nesting' : ℕ) (room : (k : ℕ) → c + k < calls → k < calls')
     (depth : (k : ℕ) → (nat_lt 0 nesting && nat_lt nesting k) ≡ false → (nat_lt 0 nesting' && nat_lt nesting' k)
-      ≡ false) (Limit : EndReason → Type 0)
+    ≡ false) (Limit : EndReason → Type 0)
     (at_calls : Limit (Ends causes.ExpansionLimit) ⊎ ((c ≡ 0) × (calls ≡ calls')))
     (at_nesting : Limit (Ends causes.NestingLimit) ⊎ (nesting ≡ nesting'))
     (ends : (h : EndReason) → Limit h → over_of h ≡ Some h) where

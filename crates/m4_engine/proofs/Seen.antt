@@ -92,7 +92,7 @@ byte_front a e p q b h g k z more m =
 pub name_front : (a : Lookahead) (e : Engine) (p q : Pending) (n : Named) → a ≡ aheads.Named n → q ≡ consumed n.len p
     → IsLookahead a e p → (z : List ℕ) (more : Bool) → MayFollow p.may_follow z more
     → token_at (e.state).quotes (e.state).comments (longer z more p)
-      ≡ Taken (Name (take n.len (text_of p))) (longer z more q)
+    ≡ Taken (Name (take n.len (text_of p))) (longer z more q)
 name_front a e p q n h g k z more m =
     let r = subst (λ (v : Lookahead). IsLookahead v e p) h k in
     found_longer (e.state).quotes (e.state).comments p (Name (take n.len (text_of p))) n.len z more r.0 r.1.scanned m
@@ -133,8 +133,8 @@ pub named_at : (e e1 : Engine) (p q p' : Pending) (r : Result Turned TurnFault) 
     (name : List ℕ) → q.may_follow ≡ p.may_follow → NameMoves q.may_follow e e1 q p' r m bare
     → IsMeaning m bare e.state name (place_at p)
     → IfOk r (λ u. Moves p.may_follow e1 p' u
-      (λ z more o l. step (outer_of e.open_calls)
-        (take_name (top_of e.state name) name (longer z more q) (here_of o l e (longer z more p)))))
+    (λ z more o l. step (outer_of e.open_calls)
+    (take_name (top_of e.state name) name (longer z more q) (here_of o l e (longer z more p)))))
 named_at e e1 p q p' (Ok u) m bare name f h w =
     subst (λ (v : Bool). Moves v e1 p' u (λ z more o l. step (outer_of e.open_calls) (take_name (top_of e.state name) name (longer z more q) (here_of o l e (longer z more p))))) f
     (h name (place_at p) (λ z more. longer z more p) (λ z more. refl) w)
@@ -152,9 +152,9 @@ pub expansion_moves : (e e1 : Engine) (m : Meaning) (x : List ℕ) (bare listed 
     (r : Result Turned TurnFault) → m ≡ meanings.Expansion x → p.definition ≡ None
     → paren_at (e.state).quotes (e.state).comments p ≡ answer_of listed → listed ≡ false
     → IfOk r (λ u. (c : Call) (t : List ℕ) → c.definition ≡ Text t → x ≡ substituted t c.name c.done (e.state).quotes
-      → (before : Extended)
-      → Moves p.may_follow e1 p' u
-        (λ z more o l. step (outer_of e.open_calls) (call false c (longer z more p) (here_of o l e (before z more)))))
+    → (before : Extended)
+    → Moves p.may_follow e1 p' u
+    (λ z more o l. step (outer_of e.open_calls) (call false c (longer z more p) (here_of o l e (before z more)))))
     → NameMoves p.may_follow e e1 p p' r m bare
 expansion_moves e e1 m x bare listed p p' (Ok u) h d i j k = λ name at before f w.
     let v = subst (λ (n : Meaning). IsMeaning n bare e.state name at) h w in
@@ -168,8 +168,8 @@ pub line_skips : (e e1 : Engine) (m : Meaning) (bare listed : Bool) (p : Pending
     → nat_lt e.calls (e.limits).calls ≡ true → is_deep_in e ≡ false → e1 ≡ with_made [] [] None (with_one_call e)
     → (name : List ℕ) (at : Place) (before : Extended) → IsAt at before → IsMeaning m bare e.state name at
     → Moves p.may_follow e1 p turns.SkipsLine
-      (λ z more o l. step (outer_of e.open_calls)
-        (take_name (top_of e.state name) name (longer z more p) (here_of o l e (before z more))))
+    (λ z more o l. step (outer_of e.open_calls)
+    (take_name (top_of e.state name) name (longer z more p) (here_of o l e (before z more))))
 line_skips e e1 m bare listed p h d i j room shallow g name at before f w =
     let v = subst (λ (n : Meaning). IsMeaning n bare e.state name at) h w in
     let c : Call = call_of (Builtin Dnl) name at in
@@ -184,9 +184,9 @@ pub made_moves : (e e1 : Engine) (m : Meaning) (c : Call) (bare listed : Bool) (
     → p.definition ≡ None → paren_at (e.state).quotes (e.state).comments p ≡ answer_of listed
     → (listed ≡ false → needs_list c.definition ≡ false)
     → IfOk r (λ u. (before : Extended)
-      → Moves p.may_follow e1 p' u
-        (λ z more o l. step (outer_of e.open_calls)
-          (call listed c (longer z more p) (here_of o l e (before z more)))))
+    → Moves p.may_follow e1 p' u
+    (λ z more o l. step (outer_of e.open_calls)
+    (call listed c (longer z more p) (here_of o l e (before z more)))))
     → NameMoves p.may_follow e e1 p p' r m bare
 made_moves e e1 m c bare listed p p' (Ok u) f g q i j k = λ name at before b w.
     let v = subst (λ (n : Meaning). IsMeaning n bare e.state name at) f w in
@@ -207,8 +207,8 @@ pub bare_moves : (e e1 : Engine) (m : Meaning) (h : Call) (bare listed : Bool) (
     → needs_list h.definition ≡ true → e1 ≡ with_text h.name e → (name : List ℕ) (at : Place) (before : Extended)
     → IsAt at before → IsMeaning m bare e.state name at
     → Moves p.may_follow e1 p turns.GoesOn
-      (λ z more o l. step (outer_of e.open_calls)
-        (take_name (top_of e.state name) name (longer z more p) (here_of o l e (before z more))))
+    (λ z more o l. step (outer_of e.open_calls)
+    (take_name (top_of e.state name) name (longer z more p) (here_of o l e (before z more))))
 bare_moves e e1 m h bare listed p f q i j n g name at before b w = λ z more t o l.
     let v = subst (λ (k : Meaning). IsMeaning k bare e.state name at) f w in
     let s = here_of o l e (before z more) in
@@ -225,8 +225,8 @@ bare_moves e e1 m h bare listed p f q i j n g name at before b w = λ z more t o
 pub word_moves : (e e1 : Engine) (name : List ℕ) (p : Pending) → top_of e.state name ≡ None → e1 ≡ with_text name e
     → (before : Extended)
     → Moves p.may_follow e1 p turns.GoesOn
-      (λ z more o l. step (outer_of e.open_calls)
-        (take_name (top_of e.state name) name (longer z more p) (here_of o l e (before z more))))
+    (λ z more o l. step (outer_of e.open_calls)
+    (take_name (top_of e.state name) name (longer z more p) (here_of o l e (before z more))))
 word_moves e e1 name p n g before = λ z more t o l.
     ap (λ t. step (outer_of e.open_calls) (take_name t name (longer z more p) (here_of o l e (before z more)))) n
     ∙ text_goes e.open_calls name e (longer z more p) (before z more) o l refl

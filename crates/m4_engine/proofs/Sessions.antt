@@ -158,11 +158,15 @@ may_end false z h = (h refl, refl)
 taken_file : (name x : List ℕ) (before after : Option Script) (q : Pending) (z : List ℕ) (more : Bool) → Reads before after (unread_file name).pending x q → longer z more q ≡ file_pending name (x ++ z) more
 taken_file name x before after q z more r = ap (longer z more) r.in_hand
 
+-- the same where more may follow
+open_file : (name x : List ℕ) (before after : Option Script) (q : Pending) → q.may_follow ≡ true → Reads before after (unread_file name).pending x q → longer [] q.may_follow q ≡ file_pending name x true
+open_file name x before after q f r = nothing_more q ∙ r.in_hand ∙ ap (λ (b : Bool). longer x b (unread_file name).pending) f
+
 -- a file was read to an end
 file_done : (e0 e1 : Engine) (any_missing : Bool) (name : List ℕ) (before after : Option Script) (w : Contents)
     → ReadSo e0 (unread_file name).pending before after w (λ d. Expanded e0 e1 d causes.Done w)
     → FileDone name before after (session_of e0 any_missing None false)
-      (session_of (at_rest e1) any_missing None false) w
+    (session_of (at_rest e1) any_missing None false) w
 file_done e0 e1 any_missing name before after w r =
     let still : (r.q).may_follow ≡ false = by_flag (r.q).may_follow (λ f. never_done e0 r.q f
     (ap (λ (q : Pending). (input_expansion e0 q).reason) (sym (nothing_more r.q)) ∙ (r.so [] (r.q).may_follow (nothing_follows (r.q).may_follow)).reason)) in
@@ -204,7 +208,7 @@ file_ended : (e0 e1 : Engine) (any_missing : Bool) (name : List ℕ) (cause : Ca
     (w : Contents) → how_over (Some cause) ≡ over_by cause
     → ReadSo e0 (unread_file name).pending before after w (λ d. Expanded e0 e1 d cause w)
     → FileEnded name before after (session_of e0 any_missing None false)
-      (session_of (at_rest e1) any_missing (Some cause) false) w cause
+    (session_of (at_rest e1) any_missing (Some cause) false) w cause
 file_ended e0 e1 any_missing name cause before after w o r = (
   record {
     x = r.x;
@@ -218,13 +222,14 @@ file_ended e0 e1 any_missing name cause before after w o r = (
         (subst (λ (q : Pending). Expanded e0 e1 (input_expansion e0 q) cause w) (taken_file name r.x before after r.q z false r.reads) (r.so z false (may_end (r.q).may_follow z e))) o;
   },
   refl,
+  λ f. (subst (λ (q : Pending). Expanded e0 e1 (input_expansion e0 q) cause w) (open_file name r.x before after r.q f r.reads) (r.so [] (r.q).may_follow (nothing_follows (r.q).may_follow))).reason,
 )
 
 -- a file broke off
 file_broke : (e0 e1 : Engine) (any_missing : Bool) (name : List ℕ) (cause : Cause) (before after : Option Script)
     (w : Contents) → ReadSo e0 (unread_file name).pending before after w (λ d. Broken d w)
     → FileBroke name before after (session_of e0 any_missing None false)
-      (session_of (at_rest e1) any_missing (Some cause) false) w cause
+    (session_of (at_rest e1) any_missing (Some cause) false) w cause
 file_broke e0 e1 any_missing name cause before after w r = (
   record {
     x = r.x;
@@ -254,7 +259,7 @@ file_fell e0 e1 any_missing name before after w f = record {
 by_cause : (e0 e1 : Engine) (any_missing : Bool) (name : List ℕ) (cause : Cause) (before after : Option Script)
     (w : Contents) → Expands e0 e1 (unread_file name).pending before after w cause
     → FileGives name before after (session_of e0 any_missing None false)
-      (session_of (at_rest e1) any_missing (over_after cause None) false) w (answer_by cause)
+    (session_of (at_rest e1) any_missing (over_after cause None) false) w (answer_by cause)
 by_cause e0 e1 any_missing name causes.Done before after w d = file_done e0 e1 any_missing name before after w d
 by_cause e0 e1 any_missing name (causes.Exited n) before after w d = file_ended e0 e1 any_missing name (causes.Exited n) before after w refl d
 by_cause e0 e1 any_missing name causes.EndInString before after w d = file_ended e0 e1 any_missing name causes.EndInString before after w refl d
@@ -276,7 +281,7 @@ module _ (To : SessionState → SessionState → Result Unit Stop → Type 0) (o
   unchanged_session : old ≡ session_of e0 any_missing over finished → IsOpen old → e2 ≡ at_rest e1
       → new ≡ session_of e2 any_missing (over_after cause over) finished → result ≡ answer_by cause
       → To (session_of e0 any_missing None false) (session_of (at_rest e1) any_missing (over_after cause None) false)
-        (answer_by cause) → To old new result
+      (answer_by cause) → To old new result
   unchanged_session o l z v r g =
       let k = open_is old e0 any_missing over finished o l in
       let o' : old ≡ session_of e0 any_missing None false = o ∙ ap (λ x. session_of e0 any_missing x finished) k.0 ∙ ap (λ x. session_of e0 any_missing None x) k.1 in
@@ -402,7 +407,7 @@ pub froze : (old new : SessionState) (s : State) (out reported frozen frozen' : 
     → old.saved ≡ [] → s ≡ old.state → new ≡ record old { finished = true } → frozen' ≡ with_bytes frozen (freeze s)
     → IsSized s
     → FreezeGives old new
-      (record { two = writers out out reported reported; frozen_old = frozen; frozen_new = frozen' }) (Ok tt)
+    (record { two = writers out out reported reported; frozen_old = frozen; frozen_new = frozen' }) (Ok tt)
 froze old new s out reported frozen frozen' l e i n f z =
     let p : progress_of old ≡ session_after_wraps old = sym (after_is old l e) in
     let t : s ≡ last_state old = i ∙ ap (λ (x : Progress). (x.so_far).state) p in (
@@ -426,7 +431,7 @@ pub freeze_broke : (old new : SessionState) (s : State) (e : Stop) (out reported
     → IsOpen old → old.saved ≡ [] → s ≡ old.state → e ≡ stops.Ended causes.Write → new.over ≡ Some causes.Write
     → HasBegun frozen frozen' (freeze s)
     → FreezeGives old new
-      (record { two = writers out out reported reported; frozen_old = frozen; frozen_new = frozen' }) (Err e)
+    (record { two = writers out out reported reported; frozen_old = frozen; frozen_new = frozen' }) (Err e)
 freeze_broke old new s e out reported frozen frozen' l v i k o f =
     let p : progress_of old ≡ session_after_wraps old = sym (after_is old l v) in
     let t : s ≡ last_state old = i ∙ ap (λ (x : Progress). (x.so_far).state) p in
@@ -444,7 +449,7 @@ freeze_broke old new s e out reported frozen frozen' l v i k o f =
 pub freeze_lacked : (old new : SessionState) (e : Stop) (out reported frozen frozen' : Option (List ℕ)) → IsOpen old
     → old.saved ≡ [] → e ≡ stops.Ended causes.OutOfMemory → new.over ≡ Some causes.OutOfMemory → frozen' ≡ frozen
     → FreezeGives old new
-      (record { two = writers out out reported reported; frozen_old = frozen; frozen_new = frozen' }) (Err e)
+    (record { two = writers out out reported reported; frozen_old = frozen; frozen_new = frozen' }) (Err e)
 freeze_lacked old new e out reported frozen frozen' l v k o f =
     subst (λ (x : Stop). FreezeGives old new (record { two = writers out out reported reported; frozen_old = frozen; frozen_new = frozen' }) (Err x)) (sym k)
     (broke_off true old new (writers out out reported reported) causes.OutOfMemory l v o refl (nothing_begun out _), f)

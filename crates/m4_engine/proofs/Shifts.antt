@@ -42,7 +42,7 @@ after_record o m c r = record r { output = o ++ r.output; messages = m ++ r.mess
 -- says at which ends nothing is claimed of the second: at those of a limit that is not the same.
 module _ (o m : List ℕ) (c calls calls' nesting nesting' : ℕ) (room : (k : ℕ) → c + k < calls → k < calls')
     (depth : (k : ℕ) → (nat_lt 0 nesting && nat_lt nesting k) ≡ false → (nat_lt 0 nesting' && nat_lt nesting' k)
-      ≡ false) (Limit : EndReason → Type 0)
+    ≡ false) (Limit : EndReason → Type 0)
     (at_calls : Limit (Ends causes.ExpansionLimit) ⊎ ((c ≡ 0) × (calls ≡ calls')))
     (at_nesting : Limit (Ends causes.NestingLimit) ⊎ (nesting ≡ nesting')) where
   abbrev pub B : Expansion → Expansion
@@ -139,9 +139,9 @@ module _ (o m : List ℕ) (c calls calls' nesting nesting' : ℕ) (room : (k : �
   enter_meets true deep' listed k p s h g l =
       ⊎_elim (λ x. inl x)
       (λ e. inr (let f = fails_after (codes "more than " ++ decimal nesting ++ codes " nested calls")
-          (codes "more than " ++ decimal (s.limits).nesting ++ codes " nested calls") causes.NestingLimit k s.so_far
-          (ap (λ n. codes "more than " ++ decimal n ++ codes " nested calls") (e ∙ sym l.1)) in
-          (f.0, ap (λ d. call_unless_deep d listed k p s) (g refl e) ∙ f.1, f.2)))
+      (codes "more than " ++ decimal (s.limits).nesting ++ codes " nested calls") causes.NestingLimit k s.so_far
+      (ap (λ n. codes "more than " ++ decimal n ++ codes " nested calls") (e ∙ sym l.1)) in
+      (f.0, ap (λ d. call_unless_deep d listed k p s) (g refl e) ∙ f.1, f.2)))
       at_nesting
   enter_meets false deep' listed k p s h g l = subst (λ d. Meets (call_unless_deep false listed k p (B s)) (call_unless_deep d listed k p s)) (sym (h refl)) (enter_list_meets listed k p s l)
 
@@ -156,9 +156,9 @@ module _ (o m : List ℕ) (c calls calls' nesting nesting' : ℕ) (room : (k : �
   call_if_meets false r' listed k p s h g l =
       ⊎_elim (λ x. inl x)
       (λ e. inr (let f = fails_after (codes "more than " ++ decimal calls ++ codes " calls")
-          (codes "more than " ++ decimal (s.limits).calls ++ codes " calls") causes.ExpansionLimit k s.so_far
-          (ap (λ n. codes "more than " ++ decimal n ++ codes " calls") (e.1 ∙ sym l.0)) in
-          (f.0, ap (λ d. call_if_room d listed k p s) (g refl e.0 e.1) ∙ f.1, f.2)))
+      (codes "more than " ++ decimal (s.limits).calls ++ codes " calls") causes.ExpansionLimit k s.so_far
+      (ap (λ n. codes "more than " ++ decimal n ++ codes " calls") (e.1 ∙ sym l.0)) in
+      (f.0, ap (λ d. call_if_room d listed k p s) (g refl e.0 e.1) ∙ f.1, f.2)))
       at_calls
   call_if_meets true r' listed k p s h g l =
       subst (λ x. Meets (call_unless_deep (is_deep x) listed k p x) (call_if_room r' listed k p s)) (sym (count_follows s))

@@ -65,7 +65,7 @@ so_of name before after s Q P t h =
     subst P (sym k.2) (h.so k.0 k.1)
 
 -- an open session reads a file
-source_is : (old : SessionState) (name x : List ℕ) → IsOpen old → (after_source old.limits (Opened name x) (progress_of old)).so_far ≡ (file old.limits (progress_of old).so_far name x).so_far
+pub source_is : (old : SessionState) (name x : List ℕ) → IsOpen old → (after_source old.limits (Opened name x) (progress_of old)).so_far ≡ (file old.limits (progress_of old).so_far name x).so_far
 source_is old name x l = ap (λ (o : Option Cause). (after_source old.limits (Opened name x) (record (progress_of old) { over = how_over o })).so_far) l.over
 
 silent_begun : (o n : Option (List ℕ)) (x : List ℕ) → n ≡ o → HasBegun o n x

@@ -141,9 +141,9 @@ same_saved limits freezes as' (b ∷ bs) saved r p q nothing (inr e) n =
 results_join : (freezes : Bool) (saved saved' saved'' : List (List ℕ)) (r : RunSoFar) (v : Option EndReason)
     (q : RunSoFar) (any_missing : Bool) → saved'' ≡ saved'
     → Joins (first_result saved r) (result_by v freezes saved' q any_missing)
-      (result_by v freezes saved''
-        (record q { output = r.output ++ q.output; messages = r.messages ++ q.messages; calls = r.calls + q.calls })
-        any_missing)
+    (result_by v freezes saved''
+    (record q { output = r.output ++ q.output; messages = r.messages ++ q.messages; calls = r.calls + q.calls })
+    any_missing)
 unfolding first_result
 results_join freezes saved saved' saved'' r None q any_missing same = record { output = output_joins freezes r q; messages = refl; reason = refl; status = refl; frozen = refl; calls = refl; saved = same }
 results_join freezes saved saved' saved'' r (Some h) q any_missing same = record { output = refl; messages = refl; reason = refl; status = refl; frozen = refl; calls = refl; saved = same }
@@ -161,8 +161,8 @@ pub split_states : (o : Options) (freezes : Bool) (start : Start) (as' bs : List
     → Carries (freezing true o) start as' → (run_from (freezing true o) start as').frozen ≡ Some text
     → (run_from (freezing freezes o) start (as' ++ bs)).reason ≢ Ends causes.ExpansionLimit
     → Joins (run_from (freezing true o) start as')
-      (run_from (freezing freezes o) (From (frozen_state (freezing true o) start as') []) bs)
-      (run_from (freezing freezes o) start (as' ++ bs))
+    (run_from (freezing freezes o) (From (frozen_state (freezing true o) start as') []) bs)
+    (run_from (freezing freezes o) start (as' ++ bs))
 unfolding first_result
 split_states o freezes start as' bs text carries frozen joint =
     let limits : Limits = limits_of o in

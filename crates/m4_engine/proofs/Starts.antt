@@ -161,9 +161,9 @@ pub begun_gives : (o : Options) (start : Start) (ss : List Source) (s : SessionS
     (d x : Ending) (out0 out1 out2 reported reported' frozen frozen' : Option (List ℕ)) → st ≡ Ok s → d ≡ x
     → BeginGives start o out0 out1 st
     → RunGives (result_after o.freeze s.limits ss (after_sources s.limits ss (progress_of s))) x
-      (record { two = writers out1 out2 reported reported'; frozen_old = frozen; frozen_new = frozen' })
+    (record { two = writers out1 out2 reported reported'; frozen_old = frozen; frozen_new = frozen' })
     → RunGives (run_from o start ss) d
-      (record { two = writers out0 out2 reported reported'; frozen_old = frozen; frozen_new = frozen' })
+    (record { two = writers out0 out2 reported reported'; frozen_old = frozen; frozen_new = frozen' })
 begun_gives o start ss s st d x out0 out1 out2 reported reported' frozen frozen' i j b h =
     let k = subst (BeginGives start o out0 out1) i b in
     let v : Three (Option (List ℕ)) = record { two = writers out1 out2 reported reported'; frozen_old = frozen; frozen_new = frozen' } in
@@ -206,8 +206,8 @@ faulty_is o fault ss =
 faulty_wrote : (o : Options) (start : Start) (fault : FrozenFault) (ss : List Source)
     (out out' reported : Option (List ℕ)) → out' ≡ out → start ≡ Faulty fault
     → WroteAll (run_from o start ss)
-      (ending_by (status_after (stops.Ended (causes.Frozen fault))) (Err (stops.Ended (causes.Frozen fault))))
-      (writers out out' reported reported)
+    (ending_by (status_after (stops.Ended (causes.Frozen fault))) (Err (stops.Ended (causes.Frozen fault))))
+    (writers out out' reported reported)
 faulty_wrote o start fault ss out out' reported i e =
     subst (λ (y : RunResult). WroteAll y (ending_by (status_after (stops.Ended (causes.Frozen fault))) (Err (stops.Ended (causes.Frozen fault)))) (writers out out' reported reported))
     (sym (ap (λ (y : Start). run_from o y ss) e ∙ faulty_is o fault ss)) (record {
@@ -239,8 +239,8 @@ refused_gives : (k : FrozenKind) (o : Options) (start : Start) (fault : FrozenFa
     (out out' reported : Option (List ℕ)) → fault.kind ≡ k → out' ≡ out
     → (fault.kind ≢ kinds.OutOfMemory → start ≡ Faulty fault)
     → RefusedBy k (run_from o start ss)
-      (ending_by (status_after (stops.Ended (causes.Frozen fault))) (Err (stops.Ended (causes.Frozen fault))))
-      (writers out out' reported reported)
+    (ending_by (status_after (stops.Ended (causes.Frozen fault))) (Err (stops.Ended (causes.Frozen fault))))
+    (writers out out' reported reported)
 refused_gives kinds.NoVersion o start fault ss out out' reported e i h = faulty_wrote o start fault ss out out' reported i (h (λ x. cc))
 refused_gives kinds.Newer o start fault ss out out' reported e i h = faulty_wrote o start fault ss out out' reported i (h (λ x. cc))
 refused_gives kinds.VersionZero o start fault ss out out' reported e i h = faulty_wrote o start fault ss out out' reported i (h (λ x. cc))
@@ -257,7 +257,7 @@ refused_gives kinds.OutOfMemory o start fault ss out out' reported e i h = fell_
 never_by : (o : Options) (start : Start) (ss : List Source) (e : Stop) (out out' reported frozen : Option (List ℕ))
     → BeginGives start o out out' (Err e)
     → RunGives (run_from o start ss) (ending_by (status_after e) (Err e))
-      (record { two = writers out out' reported reported; frozen_old = frozen; frozen_new = frozen })
+    (record { two = writers out out' reported reported; frozen_old = frozen; frozen_new = frozen })
 never_by o start ss stops.Finished out out' reported frozen h = absurd h
 never_by o start ss (stops.Ended causes.Done) out out' reported frozen h = absurd h
 never_by o start ss (stops.Ended (causes.Exited n)) out out' reported frozen h = absurd h
@@ -275,7 +275,7 @@ pub never_gives : (o : Options) (start : Start) (ss : List Source) (st : Result 
     (d : Ending) (out out' reported frozen : Option (List ℕ)) → st ≡ Err e → n ≡ status_after e
     → d ≡ ending_by n (Err e) → BeginGives start o out out' st
     → RunGives (run_from o start ss) d
-      (record { two = writers out out' reported reported; frozen_old = frozen; frozen_new = frozen })
+    (record { two = writers out out' reported reported; frozen_old = frozen; frozen_new = frozen })
 never_gives o start ss st e n d out out' reported frozen i m j h =
     subst (λ (y : Ending). RunGives (run_from o start ss) y (record { two = writers out out' reported reported; frozen_old = frozen; frozen_new = frozen }))
     (sym (j ∙ ap (λ (k : ℕ). ending_by k (Err e)) m))
@@ -299,8 +299,8 @@ begun_cause o (stops.Ended causes.OutOfMemory) h = (causes.OutOfMemory, refl, λ
 never_is : (o : Options) (st : Result SessionState Stop) (e : Stop) (n : ℕ) (d : Ending) → st ≡ Err e
     → n ≡ status_after e → d ≡ ending_by n (Err e) → IsBegun o st
     → (cause : Cause) × (st ≡ Err (stops.Ended cause))
-      × (d ≡ record { status = status_of (Ends cause) false; cause = cause; wrapped = false }) × (cause ≢ causes.Done)
-      × (cause ≢ causes.Read)
+    × (d ≡ record { status = status_of (Ends cause) false; cause = cause; wrapped = false }) × (cause ≢ causes.Done)
+    × (cause ≢ causes.Read)
 never_is o st e n d i m j h =
     let k = begun_cause o e (subst (IsBegun o) i h) in (
       k.0,
@@ -316,17 +316,17 @@ never_status o st e n d unopened i m j h =
     subst (StatusIs unopened) (sym k.2) (false, refl, λ x. absurd (k.3 x))
 
 -- no source was read
-sound_by : {R : Type 0} (failures : R → ℕ) (xs ys : List (RunSource R)) (cause : Cause) → cause ≢ causes.Read → AllPairs (is_sound failures) xs ys → ReadersFailBy failures cause xs ys
-sound_by failures xs ys causes.Read n a = absurd (n refl)
-sound_by failures xs ys cause n a = a
+sound_by : {R : Type 0} (script : R → Option Script) (failures : R → ℕ) (xs ys : List (RunSource R)) (cause : Cause) → cause ≢ causes.Read → AllPairs (is_sound failures) xs ys → ReadersFailBy script failures cause xs ys
+sound_by script failures xs ys causes.Read n a = absurd (n refl)
+sound_by script failures xs ys cause n a = a
 
-pub never_read : {R : Type 0} (failures : R → ℕ) (xs ys : List (RunSource R)) (o : Options)
+pub never_read : {R : Type 0} (script : R → Option Script) (failures : R → ℕ) (xs ys : List (RunSource R)) (o : Options)
     (st : Result SessionState Stop) (e : Stop) (n : ℕ) (d : Ending) → st ≡ Err e → n ≡ status_after e
     → d ≡ ending_by n (Err e) → IsBegun o st → AllPairs (is_sound failures) xs ys
-    → ReadersFailBy failures d.cause xs ys
-never_read failures xs ys o st e n d i m j h a =
+    → ReadersFailBy script failures d.cause xs ys
+never_read script failures xs ys o st e n d i m j h a =
     let k = never_is o st e n d i m j h in
-    subst (λ (y : Ending). ReadersFailBy failures y.cause xs ys) (sym k.2) (sound_by failures xs ys k.0 k.4 a)
+    subst (λ (y : Ending). ReadersFailBy script failures y.cause xs ys) (sym k.2) (sound_by script failures xs ys k.0 k.4 a)
 
 -- the frozen file's reader
 frozen_by : (cause : Cause) (old new : ℕ) → ReloadFails {A = SessionState} (Err (stops.Ended cause)) old new → frozen_fails cause old new
@@ -349,8 +349,8 @@ never_frozen failures xs ys o st e n d i m j h a =
 written_by : (cause : Cause) (old new reported frozen : ℕ) (w : Three (Option (List ℕ))) → IsSpared w
     → ByCause cause (new ≡ old) (new ≡ one_more old)
     → ByCause cause
-      (NoneOfThree (record { two = writers old new reported reported; frozen_old = frozen; frozen_new = frozen }))
-      (OneOfThree (record { two = writers old new reported reported; frozen_old = frozen; frozen_new = frozen }) w)
+    (NoneOfThree (record { two = writers old new reported reported; frozen_old = frozen; frozen_new = frozen }))
+    (OneOfThree (record { two = writers old new reported reported; frozen_old = frozen; frozen_new = frozen }) w)
 written_by causes.Write old new reported frozen w s h = inl (inl (h, refl), refl, s)
 written_by causes.Done old new reported frozen w s h = ((h, refl), refl)
 written_by (causes.Exited n) old new reported frozen w s h = ((h, refl), refl)
@@ -367,8 +367,8 @@ pub never_wrote : (o : Options) (st : Result SessionState Stop) (e : Stop) (n : 
     (old new reported frozen : ℕ) (w : Three (Option (List ℕ))) → st ≡ Err e → n ≡ status_after e
     → d ≡ ending_by n (Err e) → IsBegun o st → IsSpared w → MessageWriteFails st old new
     → ByCause d.cause
-      (NoneOfThree (record { two = writers old new reported reported; frozen_old = frozen; frozen_new = frozen }))
-      (OneOfThree (record { two = writers old new reported reported; frozen_old = frozen; frozen_new = frozen }) w)
+    (NoneOfThree (record { two = writers old new reported reported; frozen_old = frozen; frozen_new = frozen }))
+    (OneOfThree (record { two = writers old new reported reported; frozen_old = frozen; frozen_new = frozen }) w)
 never_wrote o st e n d old new reported frozen w i m j h s t =
     let k = never_is o st e n d i m j h in
     let f : Three ℕ = record { two = writers old new reported reported; frozen_old = frozen; frozen_new = frozen } in
@@ -386,7 +386,7 @@ pub never_done : {S : Type 0} (sources : S) (o : Options) (st : Result SessionSt
     → d ≡ ending_by n (Err e) → IsBegun o st → d.cause ≡ causes.Frozen fault
     → (st ≡ Err (stops.Ended (causes.Frozen fault)) → out' ≡ out)
     → NothingIsDone sources sources
-      (record { two = writers out out' reported reported; frozen_old = frozen; frozen_new = frozen })
+    (record { two = writers out out' reported reported; frozen_old = frozen; frozen_new = frozen })
 never_done sources o st e n d fault out out' reported frozen i m j h c s =
     let k = never_is o st e n d i m j h in
     let f : k.0 ≡ causes.Frozen fault = sym (ap (λ (y : Ending). y.cause) k.2) ∙ c in

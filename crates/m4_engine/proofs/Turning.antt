@@ -41,7 +41,7 @@ pub unended_moves : (e e1 : Engine) (what w : Unended) (line : ℕ) (at : Place)
     → what ≡ w → at.file ≡ name_of p → at.line ≡ line → before.file ≡ p.file
     → e1 ≡ with_engine_message (error at (unended_text w)) e
     → step (outer_of e.open_calls) (take_front (Refused what line) (here_of o m e before))
-      ≡ Stops (Halted (record { so_far = so_far_of o m e1; reason = Ends (unended_cause w) }))
+    ≡ Stops (Halted (record { so_far = so_far_of o m e1; reason = Ends (unended_cause w) }))
 unended_moves e e1 what w line at p before o m h i l f g =
     let j : at ≡ record { file = or_empty before.file; line = line } = place_of_file at before p line i l f in
     ap (λ (x : Unended). step (outer_of e.open_calls) (take_front (Refused x line) (here_of o m e before))) h
@@ -50,9 +50,9 @@ unended_moves e e1 what w line at p before o m h i l f g =
 -- a turn that takes a token
 pub turn_taken : (e e1 : Engine) (t : Token) (p q p' : Pending) (r : Result Turned TurnFault)
     → ((z : List ℕ) (more : Bool) → MayFollow p.may_follow z more
-      → token_at (e.state).quotes (e.state).comments (longer z more p) ≡ Taken t (longer z more q))
+    → token_at (e.state).quotes (e.state).comments (longer z more p) ≡ Taken t (longer z more q))
     → IfOk r (λ u. Moves p.may_follow e1 p' u
-      (λ z more o m. step (outer_of e.open_calls) (take_token t (longer z more q) (here_of o m e (longer z more p)))))
+    (λ z more o m. step (outer_of e.open_calls) (take_token t (longer z more q) (here_of o m e (longer z more p)))))
     → IfOk r (λ u. Moves p.may_follow e1 p' u (λ z more o m. moved (configuration o m e (longer z more p))))
 turn_taken e e1 t p q p' r front k =
     result_by p.may_follow e1 p' r _ _ (λ z more c o m. ap (λ v. step (outer_of e.open_calls) (take_front v (here_of o m e (longer z more p)))) (front z more c)) k
@@ -62,7 +62,7 @@ pub turn_found : (e e1 : Engine) (t : Token) (n : ℕ) (p q p' : Pending) (r : R
     → p.definition ≡ None → scan (e.state).quotes (e.state).comments p.may_follow (text_of p) ≡ Found t n
     → q ≡ consumed n p
     → IfOk r (λ u. Moves p.may_follow e1 p' u
-      (λ z more o m. step (outer_of e.open_calls) (take_token t (longer z more q) (here_of o m e (longer z more p)))))
+    (λ z more o m. step (outer_of e.open_calls) (take_token t (longer z more q) (here_of o m e (longer z more p)))))
     → IfOk r (λ u. Moves p.may_follow e1 p' u (λ z more o m. moved (configuration o m e (longer z more p))))
 turn_found e e1 t n p q p' r d s g k =
     turn_taken e e1 t p q p' r (λ z more c. found_longer (e.state).quotes (e.state).comments p t n z more d s c ∙ ap (λ (x : Pending). Taken t (longer z more x)) (sym g)) k
@@ -72,9 +72,9 @@ pub turn_unended : (e e1 : Engine) (what : Unended) (line : ℕ) (p p1 p' : Pend
     → p.definition ≡ None → scan (e.state).quotes (e.state).comments p.may_follow (text_of p) ≡ Broken what
     → line ≡ line_of p → p1.file ≡ p.file
     → IfOk r (λ u. (may : Bool) (q : Pending) (before : Extended)
-      → ((z : List ℕ) (more : Bool) → (before z more).file ≡ p1.file)
-      → Moves may e1 q u (λ z more o m. step (outer_of e.open_calls)
-        (take_front (Refused what line) (here_of o m e (before z more)))))
+    → ((z : List ℕ) (more : Bool) → (before z more).file ≡ p1.file)
+    → Moves may e1 q u (λ z more o m. step (outer_of e.open_calls)
+    (take_front (Refused what line) (here_of o m e (before z more)))))
     → IfOk r (λ u. Moves p.may_follow e1 p' u (λ z more o m. moved (configuration o m e (longer z more p))))
 turn_unended e e1 what line p p1 p' (Ok u) d s i g k =
     result_by p.may_follow e1 p' (Ok u) _ _ (λ z more c o m. ap (λ v. step (outer_of e.open_calls) (take_front v (here_of o m e (longer z more p))))
@@ -139,8 +139,8 @@ pub found_steps : (e e1 : Engine) (t : Token) (n : ℕ) (i k j : Held) (r : Resu
     → scan (e.state).quotes (e.state).comments (i.pending).may_follow (text_of i.pending) ≡ Found t n
     → k ≡ record i { pending = consumed n i.pending }
     → IfOk r (λ u. Moves (i.pending).may_follow e1 j.pending u
-      (λ z more o m. step (outer_of e.open_calls)
-        (take_token t (longer z more k.pending) (here_of o m e (longer z more i.pending))))) → {to : Turned → Type 0}
+    (λ z more o m. step (outer_of e.open_calls)
+    (take_token t (longer z more k.pending) (here_of o m e (longer z more i.pending))))) → {to : Turned → Type 0}
     → Steps r e e1 k j to → Turns r e e1 i j
 found_steps e e1 t n i k j r d s g m st =
     turned_steps e e1 i k j r (ap (λ (h : Held). (h.pending).may_follow) g) (ap (λ (h : Held). (h.pending).file) g)
@@ -152,8 +152,8 @@ pub found_steps_at : (e e1 : Engine) (t : Token) (n : ℕ) (i k j : Held) (r : R
     → scan (e.state).quotes (e.state).comments (i.pending).may_follow (text_of i.pending) ≡ Found t n
     → k ≡ record i { pending = consumed n i.pending }
     → IfOk r (λ u. Moves (k.pending).may_follow e1 j.pending u
-      (λ z more o m. step (outer_of e.open_calls)
-        (take_token t (longer z more k.pending) (here_of o m e (longer z more i.pending))))) → {to : Turned → Type 0}
+    (λ z more o m. step (outer_of e.open_calls)
+    (take_token t (longer z more k.pending) (here_of o m e (longer z more i.pending))))) → {to : Turned → Type 0}
     → Steps r e e1 k j to → Turns r e e1 i j
 found_steps_at e e1 t n i k j r d s g m st =
     found_steps e e1 t n i k j r d s g (subst (λ (v : Bool). IfOk r (λ u. Moves v e1 j.pending u (λ z more o m. step (outer_of e.open_calls) (take_token t (longer z more k.pending) (here_of o m e (longer z more i.pending)))))) (ap (λ (h : Held). (h.pending).may_follow) g) m) st
@@ -172,8 +172,8 @@ text_turn : (e e1 : Engine) (t : Token) (n : ℕ) (x : List ℕ) (i : Held) → 
     → scan (e.state).quotes (e.state).comments (i.pending).may_follow (text_of i.pending) ≡ Found t n
     → e1 ≡ with_text x e
     → Moves (i.pending).may_follow e1 (consumed n i.pending) turns.GoesOn
-      (λ z more o m. step (outer_of e.open_calls)
-        (take_token t (longer z more (consumed n i.pending)) (here_of o m e (longer z more i.pending))))
+    (λ z more o m. step (outer_of e.open_calls)
+    (take_token t (longer z more (consumed n i.pending)) (here_of o m e (longer z more i.pending))))
     → Turns (Ok turns.GoesOn) e e1 i (record i { pending = consumed n i.pending })
 text_turn e e1 t n x i r d s k m = record {
   moves = turn_found e e1 t n i.pending (consumed n i.pending) (consumed n i.pending) (Ok turns.GoesOn) d s refl m;
@@ -208,17 +208,17 @@ pub end_turn : (e e1 : Engine) (n : ℕ) (i : Held) (r : Result Turned TurnFault
     → (i.pending).definition ≡ None
     → scan (e.state).quotes (e.state).comments (i.pending).may_follow (text_of i.pending) ≡ Found End n
     → Makes r e e1 (λ t. (may : Bool) (p : Pending) (before : Extended)
-      → Moves may e1 p t (λ z more o m. step (outer_of e.open_calls)
-        (take_end (mode_of e.open_calls) (here_of o m e (before z more))))) → Turns r e e1 i i
+    → Moves may e1 p t (λ z more o m. step (outer_of e.open_calls)
+    (take_end (mode_of e.open_calls) (here_of o m e (before z more))))) → Turns r e e1 i i
 end_turn e e1 n i r q d s k = turned_makes e e1 i r q (turn_found e e1 End n i.pending (consumed n i.pending) i.pending r d s refl (at_it r k.moves)) k
   where
     at_it : (r : Result Turned TurnFault)
         → IfOk r (λ t. (may : Bool) (p : Pending) (before : Extended)
-          → Moves may e1 p t (λ z more o m. step (outer_of e.open_calls)
-            (take_end (mode_of e.open_calls) (here_of o m e (before z more)))))
+        → Moves may e1 p t (λ z more o m. step (outer_of e.open_calls)
+        (take_end (mode_of e.open_calls) (here_of o m e (before z more)))))
         → IfOk r (λ t. Moves (i.pending).may_follow e1 i.pending t
-          (λ z more o m. step (outer_of e.open_calls)
-            (take_token End (longer z more (consumed n i.pending)) (here_of o m e (longer z more i.pending)))))
+        (λ z more o m. step (outer_of e.open_calls)
+        (take_token End (longer z more (consumed n i.pending)) (here_of o m e (longer z more i.pending)))))
     at_it (Ok t) h = h (i.pending).may_follow i.pending (λ z more. longer z more i.pending)
     at_it (Err x) h = tt
 
@@ -228,9 +228,9 @@ pub broken_turn : (e e1 : Engine) (what : Unended) (line : ℕ) (i j : Held) (r 
     → scan (e.state).quotes (e.state).comments (i.pending).may_follow (text_of i.pending) ≡ Broken what
     → line ≡ line_of i.pending → j ≡ i
     → Makes r e e1 (λ t. (may : Bool) (p : Pending) (before : Extended)
-      → ((z : List ℕ) (more : Bool) → (before z more).file ≡ (j.pending).file)
-      → Moves may e1 p t (λ z more o m. step (outer_of e.open_calls)
-        (take_front (Refused what line) (here_of o m e (before z more))))) → Turns r e e1 i j
+    → ((z : List ℕ) (more : Bool) → (before z more).file ≡ (j.pending).file)
+    → Moves may e1 p t (λ z more o m. step (outer_of e.open_calls)
+    (take_front (Refused what line) (here_of o m e (before z more))))) → Turns r e e1 i j
 broken_turn e e1 what line i j r q d s l g k =
     subst (λ (j : Held). Turns r e e1 i j) (sym g)
     (turned_makes e e1 i r q (turn_unended e e1 what line i.pending j.pending i.pending r d s l (ap (λ (h : Held). (h.pending).file) g) k.moves) k)
@@ -271,10 +271,10 @@ turns_from e e1 i k j r g t = subst (λ (i : Held). Turns r e e1 i j) g t
 pub seen_steps : (e e1 : Engine) (t : Token) (i k j : Held) (r : Result Turned TurnFault)
     → (k.pending).may_follow ≡ (i.pending).may_follow → (k.pending).file ≡ (i.pending).file
     → ((z : List ℕ) (more : Bool) → MayFollow (i.pending).may_follow z more
-      → token_at (e.state).quotes (e.state).comments (longer z more i.pending) ≡ Taken t (longer z more k.pending))
+    → token_at (e.state).quotes (e.state).comments (longer z more i.pending) ≡ Taken t (longer z more k.pending))
     → IfOk r (λ u. Moves (k.pending).may_follow e1 j.pending u
-      (λ z more o m. step (outer_of e.open_calls)
-        (take_token t (longer z more k.pending) (here_of o m e (longer z more i.pending))))) → {to : Turned → Type 0}
+    (λ z more o m. step (outer_of e.open_calls)
+    (take_token t (longer z more k.pending) (here_of o m e (longer z more i.pending))))) → {to : Turned → Type 0}
     → Steps r e e1 k j to → Turns r e e1 i j
 seen_steps e e1 t i k j r f g front m st =
     turned_steps e e1 i k j r f g

@@ -122,8 +122,12 @@ pub two_runs : (o : Options) (freezes prefix : Bool) (file : Option Script) (as'
     → (w.two).out_old ≡ (v.two).out_new → (w.two).messages_old ≡ (v.two).messages_new
     → (run (freezing freezes o) file (as' ++ bs)).reason ≢ Ends causes.ExpansionLimit
     → IsOneRun (run (freezing freezes o) file (as' ++ bs)) f
-      (record { two = writers (v.two).out_old (w.two).out_new (v.two).messages_old (w.two).messages_new; frozen_old =
-        w.frozen_old; frozen_new = w.frozen_new })
+    (record {
+      two = writers (v.two).out_old (w.two).out_new (v.two).messages_old (w.two).messages_new;
+      frozen_old =
+          w.frozen_old;
+      frozen_new = w.frozen_new;
+    })
 two_runs o freezes prefix file as' bs text e f v w g i s n z old new h d a b l =
     let r : RunResult = run (freezing true o) file as' in
     let t : RunResult = run (prefixed prefix (freezing freezes o)) (Some (frozen_file text)) bs in

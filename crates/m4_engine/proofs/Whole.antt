@@ -124,7 +124,7 @@ closed_after false o m r = append_assoc o r.output (close r.state)
 result_output : (freezes : Bool) (o m : List ℕ) (over : Option EndReason) (saved : List (List ℕ)) (r : RunSoFar)
     (any_missing : Bool)
     → (result_by over freezes saved (record r { output = o ++ r.output; messages = m ++ r.messages }) any_missing).output
-      ≡ o ++ (result_by over freezes [] r any_missing).output
+    ≡ o ++ (result_by over freezes [] r any_missing).output
 result_output freezes o m None saved r any_missing = closed_after freezes o m r
 result_output freezes o m (Some h) saved r any_missing = refl
 
@@ -339,9 +339,9 @@ pub late_so : (freezes : Bool) (limits : Limits) (ss : List Source) (p : Progres
     → GoesTo p old mid (writers out0 out1 reported0 reported1) (Ok tt)
     → (e : Stop) (q : Result Unit Stop) (r : Result Bool Stop) → q ≡ Err e → r ≡ Err e → IsOpen mid
     → CloseGives freezes mid new
-      (record { two = writers out1 out2 reported1 reported2; frozen_old = frozen; frozen_new = frozen' }) q
+    (record { two = writers out1 out2 reported1 reported2; frozen_old = frozen; frozen_new = frozen' }) q
     → RunGives (result_after freezes limits ss p) (ending_by (status_at new) r)
-      (record { two = writers out0 out2 reported0 reported2; frozen_old = frozen; frozen_new = frozen' })
+    (record { two = writers out0 out2 reported0 reported2; frozen_old = frozen; frozen_new = frozen' })
 late_so freezes limits ss p old mid new out0 out1 out2 reported0 reported1 reported2 frozen frozen' l f e q r i j o h =
     let v : Three (Option (List ℕ)) = record { two = writers out1 out2 reported1 reported2; frozen_old = frozen; frozen_new = frozen' } in
     subst (λ (x : Result Bool Stop). RunGives (result_after freezes limits ss p) (ending_by (status_at new) x) (record { two = writers out0 out2 reported0 reported2; frozen_old = frozen; frozen_new = frozen' })) (sym j)
@@ -352,10 +352,10 @@ pub well_so : (freezes : Bool) (limits : Limits) (ss : List Source) (old mid new
     → GoesTo (after_sources limits ss (progress_of old)) old mid (writers out0 out1 reported0 reported1) (Ok tt)
     → old.saved ≡ [] → (wrapped : Bool) → wrapped ≡ is_saved mid.saved
     → CloseGives freezes mid new
-      (record { two = writers out1 out2 reported1 reported2; frozen_old = frozen; frozen_new = frozen' }) (Ok tt)
+    (record { two = writers out1 out2 reported1 reported2; frozen_old = frozen; frozen_new = frozen' }) (Ok tt)
     → RunGives (result_after freezes limits ss (after_sources limits ss (progress_of old)))
-      (ending_by (status_at new) (Ok wrapped))
-      (record { two = writers out0 out2 reported0 reported2; frozen_old = frozen; frozen_new = frozen' })
+    (ending_by (status_at new) (Ok wrapped))
+    (record { two = writers out0 out2 reported0 reported2; frozen_old = frozen; frozen_new = frozen' })
 well_so freezes limits ss old mid new out0 out1 out2 reported0 reported1 reported2 frozen frozen' l f e wrapped v c =
     let p : Progress = after_sources limits ss (progress_of old) in
     let o : p.over ≡ None = ap (λ (x : Progress). x.over) (sym (f.0).progress) ∙ ap how_over f.1 in
@@ -365,7 +365,7 @@ pub sized_so : (freezes : Bool) (limits : Limits) (ss : List Source) (p : Progre
     (out0 out1 out2 reported0 reported1 reported2 frozen frozen' : Option (List ℕ)) → old.limits ≡ limits
     → GoesTo p old mid (writers out0 out1 reported0 reported1) (Ok tt)
     → CloseGives freezes mid new
-      (record { two = writers out1 out2 reported1 reported2; frozen_old = frozen; frozen_new = frozen' }) (Ok tt)
+    (record { two = writers out1 out2 reported1 reported2; frozen_old = frozen; frozen_new = frozen' }) (Ok tt)
     → freezes ≡ true → IsSized ((after_wraps limits p).so_far).state
 sized_so freezes limits ss p old mid new out0 out1 out2 reported0 reported1 reported2 frozen frozen' l f c t =
     sized_by freezes limits ss p old mid new out0 out1 out2 reported0 reported1 reported2 l f.0 f.1 frozen frozen' freezes c t

@@ -263,9 +263,9 @@ pub freeze_then : (old mid new : SessionState)
     → GoesTo (session_after_wraps old) old mid (writers out0 out1 reported0 reported1) (Ok tt) → mid.saved ≡ []
     → mid.any_missing ≡ old.any_missing → (r : Result Unit Stop)
     → FreezeGives mid new
-      (record { two = writers out1 out2 reported1 reported2; frozen_old = frozen; frozen_new = frozen' }) r
+    (record { two = writers out1 out2 reported1 reported2; frozen_old = frozen; frozen_new = frozen' }) r
     → FreezeGives old new
-      (record { two = writers out0 out2 reported0 reported2; frozen_old = frozen; frozen_new = frozen' }) r
+    (record { two = writers out0 out2 reported0 reported2; frozen_old = frozen; frozen_new = frozen' }) r
 freeze_then old mid new out0 out1 out2 reported0 reported1 reported2 frozen frozen' g none any_missing r k = (
   end_then true old mid new out0 out1 out2 reported0 reported1 reported2 g.0 g.1 none any_missing r k.0,
   frozen_then true old mid new out0 out1 out2 reported0 reported1 reported2 g.0 g.1 none any_missing frozen frozen' r k.1,

@@ -1,21 +1,22 @@
 -- OnePass: how far a run has read its sources when it ends, and what it had written by then.
 -- Believed. Its law: `SettledBegins` (what a prefix settles is so whatever follows it).
 -- Manual: "Command line files", "How m4 copies input to output".
--- Words: IsRead, IsCurrent, Reaches, AreRead, settled_after, ExactAtFault, AskedAt, Reached, IsPast, OnePassBy,
--- OnePass.
+-- Words: IsRead, IsCurrent, Reaches, AreRead, settled_after, ExactAtFault, AskedAt, left_after, EndsOrIsLast, EndedBy,
+-- Reached, IsPast, OnePassBy, OnePass.
 -- A reader is asked only where the bytes in hand leave open how the run continues, and then for one block.
-use Rattle.std.specs.Prelude.{◌≡◌, ◌≢◌, ◌⊎◌, ◌≤◌, ℕ, List, [], ◌∷◌, ◌++◌, Option, length}
-use Rattle.m4_state.specs.Device.{Script, after_bytes, IsAtEnd}
+use Rattle.std.specs.Prelude.{◌≡◌, ◌≢◌, ◌⊎◌, ◌≤◌, ℕ, ◌+◌, List, [], ◌∷◌, ◌++◌, Option, Some, None, length}
+use Rattle.m4_state.specs.Device.{Script, after_bytes, IsAtEnd, IsAtFault}
 use Rattle.m4_input.specs.Input.{block}
 use Rattle.m4_engine.specs.declared.options.Options.{Options}
 use Rattle.m4_engine.specs.declared.ending.Cause.{Cause}
 use Rattle.m4_engine.specs.declared.ending.Cause.TheVariants as causes
 use Rattle.m4_engine.specs.declared.source.Source.{Source as RunSource}
 use Rattle.m4_engine.specs.declared.source.Source.TheVariants as sources
-use Rattle.m4_engine.specs.Expansion.{Limits, NeedsInput}
+use Rattle.m4_engine.specs.Expansion.{Limits, Ends, NeedsInput}
 use Rattle.m4_engine.specs.File.{Source, Opened, Unopened, Progress, after_sources}
 use Rattle.m4_engine.specs.Start.{Start, begun}
 use Rattle.m4_engine.specs.Run.{limits_of}
+use Rattle.m4_engine.specs.RunSources.{script_of}
 use Rattle.m4_engine.specs.Settled.{SettledSoFar, settled_in}
 use Rattle.m4_engine.specs.Writers.{Contents, HasWritten, WroteAtLeast}
 
@@ -70,8 +71,29 @@ pub record AskedAt (part : List ℕ → SettledSoFar) (cause : Cause) (taken : L
   pub written : WroteAtLeast (part asked).output (part asked).messages w
   pub exact : ExactAtFault cause (part taken) w
 
+-- what the reader of the source after these was left with; nothing is known of it if that source wasn't opened
+abbrev pub left_after : {R : Type 0} → (R → Option Script) → List (RunSource R) → List Source → Option Script
+left_after script (y ∷ ys) [] = script_of script y
+left_after script (y ∷ ys) (s ∷ ss) = left_after script ys ss
+left_after script [] ss = None
+
+-- the end of the source after these ends the run by this cause, or no source is left after it
+abbrev pub EndsOrIsLast : {A : Type 0} → List A → Limits → Progress → List Source → List ℕ → List ℕ → Cause → Type 0
+EndsOrIsLast old limits p before name taken cause =
+    ((after_sources limits (before ++ Opened name taken ∷ []) p).over ≡ Some (Ends cause))
+    ⊎ (length old ≡ length before + 1)
+
+-- where a run ended, by its cause: either the bytes taken, which settle s, end it, whatever follows them; or the
+-- source was asked once more after all of them, and was at its end. A read fault comes only where a reader is asked;
+-- a writer or an allocation may fail anywhere
+abbrev pub EndedBy : Cause → SettledSoFar → Type 0 → Option Script → Type 0 → Type 0
+EndedBy causes.Write s all left closed = Unit {0}
+EndedBy causes.OutOfMemory s all left closed = Unit {0}
+EndedBy causes.Read s all left closed = all × IsAtFault left
+EndedBy cause s all left closed = (s.reason ≡ Ends cause) ⊎ (all × IsAtEnd left × closed)
+
 -- how far a run came that was at p before its sources: those before the current one were read to their ends, `taken`
--- is what was taken of the current one, and of the later ones nothing was
+-- is what was taken of the current one, where the run ended, and of the later ones nothing was
 pub record Reached {R : Type 0} (script : R → Option Script) (old new : List (RunSource R)) (limits : Limits)
     (p : Progress) (cause : Cause) (w : Contents) : Type 0 where
   pub before : List Source
@@ -79,6 +101,8 @@ pub record Reached {R : Type 0} (script : R → Option Script) (old new : List (
   pub taken : List ℕ
   pub place : Reaches script old new before name taken
   pub at : AskedAt (settled_after limits p before name) cause taken w
+  pub ended : EndedBy cause (settled_after limits p before name taken) (at.asked ≡ taken) (left_after script new before)
+      (EndsOrIsLast old limits p before name taken cause)
 
 -- a run came past its sources: all were read to their ends, and the last of them was asked once more where all of its
 -- bytes leave open how the run continues

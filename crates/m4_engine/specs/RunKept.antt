@@ -51,7 +51,7 @@ pub record IsRun {R Z : Type 0} (script : R → Option Script) (failed : R → �
       → (ss : List Source) → DescribeSources script c.sources_old c.sources_new ss → e.cause ≡ causes.Write
       → FreezeLeaves (frozen_state c.options (start_of (c.options).prefix file) ss) (c.contents).frozen_old
       (c.contents).frozen_new
-  pub read : ReadersFailBy failed e.cause c.sources_old c.sources_new
+  pub read : ReadersFailBy script failed e.cause c.sources_old c.sources_new
   pub frozen_read : FrozenFailsBy failed e.cause c.file_old c.file_new
   pub write : ByCause e.cause (NoneOfThree c.failures) (OneOfThree c.failures c.contents)
   pub taken : AllConsumeOnly script c.sources_old c.sources_new

@@ -2,7 +2,7 @@
 -- Believed. Manual: "Command line files". Words: source_of, ExtendsRead, ExtendsSource, DescribeSources, any_unopened,
 -- MissedBefore, MissedBy, AllPairs, AnyFailed, is_sound, ReadersFailBy, AllConsumeOnly, DescribesFrozen, FrozenFailsBy.
 use Rattle.std.specs.Prelude.{◌≡◌, ℕ, Bool, true, false, List, [], ◌∷◌, ◌++◌, map, Option, Some, None, ◌⊎◌, ◌||◌}
-use Rattle.m4_state.specs.Device.{Script, after_bytes, one_more}
+use Rattle.m4_state.specs.Device.{Script, after_bytes, one_more, IsAtFault}
 use Rattle.m4_frozen.specs.declared.fault.FrozenKind.TheVariants as kinds
 use Rattle.m4_frozen.specs.declared.fault.FrozenFault.{FrozenFault}
 use Rattle.m4_engine.specs.declared.ending.Cause.{Cause}
@@ -100,11 +100,11 @@ AllPairs P [] [] = Unit {0}
 AllPairs P (x ∷ xs) (y ∷ ys) = P x y × AllPairs P xs ys
 AllPairs P before after = ⊥
 
--- the reader of a source failed once more
-abbrev pub HasFailed : {R : Type 0} → (R → ℕ) → RunSource R → RunSource R → Type 0
-HasFailed failures (sources.Opened name before) (sources.Opened n after) =
-    failures after ≡ one_more (failures before)
-HasFailed failures before after = ⊥
+-- the reader of a source failed once more, after all its bytes
+abbrev pub HasFailed : {R : Type 0} → (R → Option Script) → (R → ℕ) → RunSource R → RunSource R → Type 0
+HasFailed script failures (sources.Opened name before) (sources.Opened n after) =
+    (failures after ≡ one_more (failures before)) × IsAtFault (script after)
+HasFailed script failures before after = ⊥
 
 -- the reader of a source did not fail
 abbrev pub is_sound : {R : Type 0} → (R → ℕ) → RunSource R → RunSource R → Type 0
@@ -114,14 +114,15 @@ is_sound failures (sources.Unopened name) (sources.Unopened n) = Unit {0}
 is_sound failures before after = ⊥
 
 -- the reader of one of the sources failed
-abbrev pub AnyFailed : {R : Type 0} → (R → ℕ) → List (RunSource R) → List (RunSource R) → Type 0
-AnyFailed failures (x ∷ xs) (y ∷ ys) = HasFailed failures x y ⊎ AnyFailed failures xs ys
-AnyFailed failures before after = ⊥
+abbrev pub AnyFailed : {R : Type 0} → (R → Option Script) → (R → ℕ) → List (RunSource R) → List (RunSource R) → Type 0
+AnyFailed script failures (x ∷ xs) (y ∷ ys) = HasFailed script failures x y ⊎ AnyFailed script failures xs ys
+AnyFailed script failures before after = ⊥
 
 -- a reader failed if the run ends by a read fault; otherwise none did
-abbrev pub ReadersFailBy : {R : Type 0} → (R → ℕ) → Cause → List (RunSource R) → List (RunSource R) → Type 0
-ReadersFailBy failures causes.Read before after = AnyFailed failures before after
-ReadersFailBy failures cause before after = AllPairs (is_sound failures) before after
+abbrev pub ReadersFailBy : {R : Type 0} → (R → Option Script) → (R → ℕ) → Cause → List (RunSource R)
+    → List (RunSource R) → Type 0
+ReadersFailBy script failures causes.Read before after = AnyFailed script failures before after
+ReadersFailBy script failures cause before after = AllPairs (is_sound failures) before after
 
 -- bytes were read from the reader of a source, and nothing else changed
 abbrev pub ConsumesOnly : {R : Type 0} → (R → Option Script) → RunSource R → RunSource R → Type 0

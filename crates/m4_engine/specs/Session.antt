@@ -131,12 +131,13 @@ pub record FileRead (before after : Option Script) (Q : List ℕ → Type 0) (P 
   pub asked : Q x
   pub so : (z : List ℕ) → (may_follow ≡ false → z ≡ []) → P (x ++ z)
 
--- the bytes that were read end the run, whatever follows them
+-- the bytes that were read end the run, whatever follows them; if the reader was not found at its end, they settle that
 abbrev pub FileEnded : List ℕ → Option Script → Option Script → SessionState → SessionState → Contents → Cause → Type 0
 FileEnded name before after old new w cause =
-    FileRead before after (λ x. FileAsked old name x w)
-    (λ bytes. Completed old new (after_source old.limits (Opened name bytes) (progress_of old)) w)
+    (r : FileRead before after (λ x. FileAsked old name x w)
+    (λ bytes. Completed old new (after_source old.limits (Opened name bytes) (progress_of old)) w))
     × (new.over ≡ Some cause)
+    × (r.may_follow ≡ true → (settled_part old name r.x).reason ≡ Ends cause)
 
 -- prefixes of a file's output and messages were written, whatever follows
 abbrev pub FileBroke : List ℕ → Option Script → Option Script → SessionState → SessionState → Contents → Cause → Type 0

@@ -1,9 +1,9 @@
 -- Session failures: how often readers and writers failed in a call of a session, by what it answers.
 -- Believed. Manual: "Invoking m4".
--- Words: ByAnswer, WriteFails, ThreeFail, ReadFails, SourceFails, SourcesFail, MessageWriteFails, ReloadFails, NoneRefused,
--- BeginFails, SparesBy.
+-- Words: ByAnswer, WriteFails, ThreeFail, ReadFails, SourceFails, SourcesFail, MessageWriteFails, ReloadFails,
+-- NoneRefused, BeginFails, SparesBy.
 use Rattle.std.specs.Prelude.{◌≡◌, ℕ, List, Option, Some, None, Result, Ok, Err}
-use Rattle.m4_state.specs.Device.{one_more}
+use Rattle.m4_state.specs.Device.{Script, one_more}
 use Rattle.m4_engine.specs.declared.ending.Cause.TheVariants as causes
 use Rattle.m4_engine.specs.declared.source.Source.{Source as RunSource}
 use Rattle.m4_engine.specs.declared.stop.Stop.{Stop}
@@ -32,14 +32,16 @@ abbrev pub ReadFails : {A : Type 0} → Result A Stop → ℕ → ℕ → Type 0
 ReadFails (Err (stops.Ended causes.Read)) old new = new ≡ one_more old
 ReadFails result old new = new ≡ old
 
--- the same for one of a run's sources, and for all of them
-abbrev pub SourceFails : {A R : Type 0} → (R → ℕ) → Result A Stop → RunSource R → RunSource R → Type 0
-SourceFails failures (Err (stops.Ended causes.Read)) before after = HasFailed failures before after
-SourceFails failures result before after = is_sound failures before after
+-- the same for one of a run's sources, and for all of them: the reader failed after all its bytes
+abbrev pub SourceFails : {A R : Type 0} → (R → Option Script) → (R → ℕ) → Result A Stop → RunSource R → RunSource R
+    → Type 0
+SourceFails script failures (Err (stops.Ended causes.Read)) before after = HasFailed script failures before after
+SourceFails script failures result before after = is_sound failures before after
 
-abbrev pub SourcesFail : {A R : Type 0} → (R → ℕ) → Result A Stop → List (RunSource R) → List (RunSource R) → Type 0
-SourcesFail failures (Err (stops.Ended causes.Read)) before after = AnyFailed failures before after
-SourcesFail failures result before after = AllPairs (is_sound failures) before after
+abbrev pub SourcesFail : {A R : Type 0} → (R → Option Script) → (R → ℕ) → Result A Stop → List (RunSource R)
+    → List (RunSource R) → Type 0
+SourcesFail script failures (Err (stops.Ended causes.Read)) before after = AnyFailed script failures before after
+SourcesFail script failures result before after = AllPairs (is_sound failures) before after
 
 -- the same for a call with one writer, by its number of failures before and after
 abbrev pub MessageWriteFails : {A : Type 0} → Result A Stop → ℕ → ℕ → Type 0

@@ -1,25 +1,29 @@
 -- SourcesRead: how far each step of a run has read its sources.
 -- Not believed: it connects a session's calls with `OnePass`.
 -- Words: EndsWithin, SourceGives, SourcesGive, RunReached.
-use Rattle.std.specs.Prelude.{ℕ, Bool, List, Option, Result, Ok, Err}
+use Rattle.std.specs.Prelude.{◌≡◌, ℕ, Bool, List, Option, Some, Result, Ok, Err}
 use Rattle.m4_state.specs.Device.{Script}
 use Rattle.m4_engine.specs.declared.ending.Cause.{Cause}
 use Rattle.m4_engine.specs.declared.ending.Cause.TheVariants as causes
 use Rattle.m4_engine.specs.declared.stop.Stop.{Stop}
 use Rattle.m4_engine.specs.declared.stop.Stop.TheVariants as stops
 use Rattle.m4_engine.specs.declared.source.Source.{Source as RunSource}
-use Rattle.m4_engine.specs.File.{Source, after_source, after_sources}
+use Rattle.m4_engine.specs.Expansion.{Ends}
+use Rattle.m4_engine.specs.File.{Source, Opened, after_source, after_sources}
+use Rattle.m4_engine.specs.RunSources.{script_of}
 use Rattle.m4_engine.specs.Settled.{settled_in}
 use Rattle.m4_engine.specs.Session.{SessionState, progress_of, Completed}
 use Rattle.m4_engine.specs.Writers.{Contents}
-use Rattle.m4_engine.specs.OnePass.{IsRead, IsCurrent, AreRead, AskedAt, Reached, IsPast}
+use Rattle.m4_engine.specs.OnePass.{IsRead, IsCurrent, AreRead, AskedAt, EndedBy, Reached, IsPast}
 
 -- a source that ended the run: so far it was read
 abbrev pub EndsWithin : {R : Type 0} → (R → Option Script) → RunSource R → RunSource R → SessionState → Contents → Cause
     → Type 0
 EndsWithin script before after old w cause =
     (name taken : List ℕ) × IsCurrent script before after name taken
-    × AskedAt (settled_in old.limits (progress_of old) name) cause taken w
+    × (at : AskedAt (settled_in old.limits (progress_of old) name) cause taken w)
+    × EndedBy cause (settled_in old.limits (progress_of old) name taken) (at.asked ≡ taken) (script_of script after)
+    ((after_source old.limits (Opened name taken) (progress_of old)).over ≡ Some (Ends cause))
 
 -- a source was read to its end, or the run ended within it
 abbrev pub SourceGives : {R : Type 0} → (R → Option Script) → RunSource R → RunSource R → SessionState → SessionState

@@ -72,8 +72,8 @@ pub fn run<R: ByteSource, O: ByteSink, M: ByteSink, Z: ByteSink>(
         → (ss : List Said) → DescribeSources R.script sources.old sources.new ss → result.cause ≡ Cause.Write
         → FreezeLeaves (frozen_state options (start_of options.prefix file) ss) (Z.contents freeze_to.old)
         (Z.contents freeze_to.new) }
-    // safe and total: a read fault is reported if a reader failed in this call, and only then
-    ensures read { ReadersFailBy R.failures result.cause sources.old sources.new }
+    // safe and total: a read fault is reported if a reader failed in this call, after all its bytes, and only then
+    ensures read { ReadersFailBy R.script R.failures result.cause sources.old sources.new }
     // safe and total: a read fault of a frozen file is reported only if its reader failed in this call
     ensures frozen_read { FrozenFailsBy R.failures result.cause frozen.old frozen.new }
     // safe and total: a write fault is reported only if a writer failed in this call
@@ -233,7 +233,7 @@ fn read_to_end<R: ByteSource, O: ByteSink, M: ByteSink, Z: ByteSink>(
         → FreezeLeaves ((after_wraps session.old.limits (after_sources session.old.limits ss
         (progress_of session.old))).so_far).state
         (Z.contents freeze_to.old) (Z.contents freeze_to.new) }
-    ensures read { SourcesFail R.failures result sources.old sources.new }
+    ensures read { SourcesFail R.script R.failures result sources.old sources.new }
     ensures taken { AllConsumeOnly R.script sources.old sources.new }
     ensures write { ThreeFail result
         (all_three O.failures M.failures Z.failures
@@ -298,7 +298,7 @@ fn read<R: ByteSource, O: ByteSink, M: ByteSink>(
         → (is_unopened source.old ≡ false) × (session.new.any_missing ≡ session.old.any_missing) }
     ensures reached { SourceGives R.script source.old source.new session.old session.new
         (both O.contents M.contents out.old out.new messages.old messages.new) result }
-    ensures read { SourceFails R.failures result source.old source.new }
+    ensures read { SourceFails R.script R.failures result source.old source.new }
     ensures taken { ConsumesOnly R.script source.old source.new }
     ensures write { WriteFails result (both O.failures M.failures out.old out.new messages.old messages.new) }
 {
@@ -335,7 +335,7 @@ fn read_sources<R: ByteSource, O: ByteSink, M: ByteSink>(
         → MissedBy sources.old sources.new session.new.any_missing }
     ensures reached { SourcesGive R.script sources.old sources.new session.old session.new
         (both O.contents M.contents out.old out.new messages.old messages.new) result }
-    ensures read { SourcesFail R.failures result sources.old sources.new }
+    ensures read { SourcesFail R.script R.failures result sources.old sources.new }
     ensures taken { AllConsumeOnly R.script sources.old sources.new }
     ensures write { WriteFails result (both O.failures M.failures out.old out.new messages.old messages.new) }
 {

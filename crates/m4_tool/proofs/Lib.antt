@@ -11,6 +11,7 @@ mod ModeLines
 mod OpenedFiles
 mod Places
 mod RanFiles
+mod ReadFaults
 mod RefusalLemmas
 mod RowLemmas
 mod TornFiles

@@ -1,6 +1,6 @@
 -- Known: what is known of a world, and the results that a line may give in it if readers of its files fail.
--- Believed: public contracts cite it. Words: KnowsFiles, Knows, ExtendFiles, MayGive.
-use Rattle.std.specs.Prelude.{◌≡◌, ℕ, Bool, false, List, [], ◌∷◌, ◌++◌, Option, Some, None}
+-- Believed: public contracts cite it. Words: KnowsFiles, Knows, ExtendFiles, MayGive, AnyFails.
+use Rattle.std.specs.Prelude.{◌≡◌, ◌⊎◌, ℕ, Bool, true, false, List, [], ◌∷◌, ◌++◌, Option, Some, None}
 use Rattle.m4_state.specs.Device.{Script}
 use Rattle.m4_engine.specs.File.{Source, Opened, Unopened}
 use Rattle.m4_tool.specs.Line.{LineResult, Request, input_after, reload_name, result_by, script_at, source_name}
@@ -34,3 +34,14 @@ abbrev pub MayGive : Request → Files → Script → LineResult → Type 0
 MayGive q files input r =
     (ss : List Source) × ExtendFiles files input (words_of q.names) ss
     × (result_by (thaw_in files q.reload) q.options (reload_name q) (Some ss) ≡ Some r)
+
+-- a file is there, and its reader fails
+abbrev pub DoesFail : Option Script → Type 0
+DoesFail None = ⊥
+DoesFail (Some script) = script.fails ≡ true
+
+-- the reader of one of these words fails
+abbrev pub AnyFails : Files → Script → List (List ℕ) → Type 0
+AnyFails files input [] = ⊥
+AnyFails files input (name ∷ names) =
+    DoesFail (script_at files input name) ⊎ AnyFails files (input_after input name) names

@@ -11,7 +11,7 @@ ghost use Rattle.m4_tool.specs.Line.{LineResult, freeze_name, line as line_resul
 ghost use Rattle.m4_tool.specs.Line.{words_of};
 ghost use Rattle.m4_tool.specs.FailureCounts.{AnyRose, FailedAs, counts_of};
 ghost use Rattle.m4_tool.specs.declared.followed.Failure.TheVariants as failures;
-ghost use Rattle.m4_tool.specs.Known.{ExtendFiles, Knows, KnowsFiles, MayGive};
+ghost use Rattle.m4_tool.specs.Known.{AnyFails, ExtendFiles, Knows, KnowsFiles, MayGive};
 ghost use Rattle.m4_tool.specs.LineEnd.{AllShown, EndsBy, Follows, seen};
 ghost use Rattle.m4_tool.specs.LineMode.{ModeFollows, ends_of, mode_of};
 ghost use Rattle.m4_tool.specs.Modes.{RunsBy};
@@ -68,6 +68,10 @@ pub fn follow<W: World, O: Shows, M: Shows>(
     // safe and total: a failed write or flush is reported only if one failed in this call
     ensures counted { mode_of line.now ≡ None → FailedAs result.failure (counts_of O.failures M.failures W.failures
         out.old out.new messages.old messages.new world result.world) }
+    // safe and total: a read fault is reported only if the reader of one of the files fails
+    ensures read { (files : Files) (input : Script)
+        → mode_of line.now ≡ None → Knows W.making W.files W.input world files input
+        → result.failure ≡ Some failures.Read → AnyFails files input (words_of (request_of line.now).names) }
     // safe and total: in a mode too, a flush that failed is reported only if one failed in this call
     ensures flushed { result.failure ≡ Some failures.Write → AnyRose (counts_of O.failures M.failures W.failures
         out.old out.new messages.old messages.new world result.world) }
@@ -159,6 +163,8 @@ fn follow_run<W: World, O: Shows, M: Shows>(
         → W.appends_whole ≡ true → Knows W.making W.files W.input world files input
         → MayGive (request_of line.now) files input r
         → FreezesOrTears (freeze_name (request_of line.now)) r.frozen (W.files world) (W.files result.world) }
+    ensures read { (files : Files) (input : Script) → Knows W.making W.files W.input world files input
+        → result.failure ≡ Some failures.Read → AnyFails files input (words_of (request_of line.now).names) }
     ensures counted { FailedAs result.failure (counts_of O.failures M.failures W.failures
         out.old out.new messages.old messages.new world result.world) }
     ensures shown { result.failure ≡ None
@@ -207,6 +213,8 @@ fn follow_from<W: World, O: Shows, M: Shows>(
         → FreezesOrTears (freeze_name (request_of line.now))
         (result_of_run file.now (defined line.now.options script ss)).frozen
         (W.files world) (W.files result.world) }
+    ensures read { (files : Files) (input : Script) → Knows W.making W.files W.input world files input
+        → result.failure ≡ Some failures.Read → AnyFails files input (words_of (request_of line.now).names) }
     ensures counted { FailedAs result.failure (counts_of O.failures M.failures W.failures
         out.old out.new messages.old messages.new world result.world) }
     ensures shown { result.failure ≡ None

@@ -3,6 +3,7 @@
 ghost use Rattle.std.specs.Prelude.{◌≡◌, ◌≢◌, [], List, ℕ, None, Some, false, true};
 ghost use Rattle.m4_state.specs.Device.{Puts, count_after};
 ghost use Rattle.m4_engine.specs.File.{cannot_open};
+ghost use Rattle.m4_tool.specs.declared.followed.Failure.TheVariants as failures;
 ghost use Rattle.m4_tool.specs.Failure.{failure_lines};
 ghost use Rattle.m4_tool.specs.Line.{refusals, unreloaded};
 ghost use Rattle.m4_tool.specs.FailureCounts.{FailedAs, counts_of};
@@ -122,6 +123,7 @@ pub fn close_unopened<W: World, O: Shows, M: Shows>(
 ) -> Followed<W>
     ensures ends { (name : List ℕ) → EndsBy result.failure name file.now (unreloaded file.now) result.status
         (seen O.contents M.contents M.failures W.files out.old out.new messages.old messages.new world result.world) }
+    ensures unread { result.failure ≢ Some failures.Read }
     ensures counted { FailedAs result.failure (counts_of O.failures M.failures W.failures
         out.old out.new messages.old messages.new world result.world) }
     ensures files { W.files result.world ≡ W.files world }

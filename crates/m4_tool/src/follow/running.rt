@@ -9,7 +9,7 @@ ghost use Rattle.m4_engine.specs.Run.{run as defined};
 ghost use Rattle.m4_tool.specs.World.{Files};
 ghost use Rattle.m4_tool.specs.Line.{freeze_name, request_of, words_of};
 ghost use Rattle.m4_tool.specs.FailureCounts.{counts_of};
-ghost use Rattle.m4_tool.specs.Known.{ExtendFiles, Knows};
+ghost use Rattle.m4_tool.specs.Known.{AnyFails, ExtendFiles, Knows};
 ghost use Rattle.m4_tool.specs.LineEnd.{seen};
 ghost use Rattle.m4_tool.specs.LineRun.{RanBy, RanCounts, named_in, named_of};
 ghost use Rattle.m4_tool.specs.TornFile.{TearsFile};
@@ -56,6 +56,8 @@ pub fn run_line<W: World, O: Shows, M: Shows>(
         → ExtendFiles files input (words_of (request_of line.now).names) ss
         → result.ending.cause ≡ Cause.Write
         → TearsFile (freeze_name (request_of line.now)) (W.files world) (W.files result.world) }
+    ensures read { (files : Files) (input : Script) → Knows W.making W.files W.input world files input
+        → result.ending.cause ≡ Cause.Read → AnyFails files input (words_of (request_of line.now).names) }
     ensures counted { RanCounts result.ending.cause (counts_of O.failures M.failures W.failures
         out.old out.new messages.old messages.new world result.world) }
 {
@@ -128,6 +130,9 @@ fn run_late<W: World, K: LateStart, O: Shows, M: Shows>(
         → map (named_of W.Reader.script) sources.old ≡ named_in files input names
         → DescribesFrozen W.Reader.script frozen.old script → ExtendFiles files input names ss
         → result.ending.cause ≡ Cause.Write → TearsFile K.name (W.files world) (W.files result.world) }
+    ensures read { (files : Files) (input : Script) (names : List (List ℕ))
+        → map (named_of W.Reader.script) sources.old ≡ named_in files input names
+        → result.ending.cause ≡ Cause.Read → AnyFails files input names }
     ensures counted { RanCounts result.ending.cause (counts_of O.failures M.failures W.failures
         out.old out.new messages.old messages.new world result.world) }
 {

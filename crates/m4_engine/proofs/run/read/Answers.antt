@@ -15,7 +15,7 @@ pub returns-in-Unopened-clause-goes : goal.returns-in-Unopened-clause-goes
 returns-in-Unopened-clause-goes g c = λ s e. unopened_described g.R.ByteSource.script c.args.session.now c.missing.new.self c.as_slice.result.now _ _ _ c.missing.result s (search rules) c.requires e refl c.missing.ensures.gives
 
 pub returns-in-Ok-clause-read : goal.returns-in-Ok-clause-read
-returns-in-Ok-clause-read g c = source_fails g.R.ByteSource.failures c.in-Opened.name c.in-Opened.name c.in-Opened.reader c.file.new.reader _ _ c.file.result (search rules) (search rules) c.file.ensures.read
+returns-in-Ok-clause-read g c = source_fails g.R.ByteSource.script g.R.ByteSource.failures c.in-Ok.name c.in-Ok.name c.in-Opened.reader c.file.new.reader _ _ c.args.session.now c.file.new.self _ c.file.result (search rules) (search rules) c.file.ensures.read c.file.ensures.gives
 
 pub returns-in_default-clause-reached : goal.returns-in_default-clause-reached
 returns-in_default-clause-reached g c = unread_so g.R.ByteSource.script c.args.source.now _ c.args.session.now c.end.new.self _ _ c.end.result (search rules) c.end.ensures.answer c.requires

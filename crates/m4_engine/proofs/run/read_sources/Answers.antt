@@ -38,20 +38,20 @@ pub returns-in_err-read-clause-goes : goal.returns-in_err-read-clause-goes
 returns-in_err-read-clause-goes g c = λ ss e.
     let t = item g.R.ByteSource.script c.sources.source-index c.sources.sources c.args.sources.now c.source-item.result c.read.new.source ss c.sources.invariant.1 (search rules) (first_for g.R.ByteSource.script (c.sources.source-index + 1) c.args.sources.now _ ss e) in
     stopped_so ss c.sources.source-index (c.sources.source-index + 1) c.args.session.now c.sources.session
-        c.read.new.session t.source _ _ _ _ _ _ c.in_err-read.field-0.0 c.read.result c.from_residual.result
-        (search rules) (search rules) c.requires (c.sources.invariant.4 ss t.first) t.there
-        (c.read.ensures.goes t.source t.describes)
+    c.read.new.session t.source _ _ _ _ _ _ c.in_err-read.field-0.0 c.read.result c.from_residual.result
+    (search rules) (search rules) c.requires (c.sources.invariant.4 ss t.first) t.there
+    (c.read.ensures.goes t.source t.describes)
 
 pub returns-clause-goes : goal.returns-clause-goes
 returns-clause-goes g c = λ ss e.
     all_read ss c.sources.source-index c.args.session.now c.sources.session _ c.requires c.sources.invariant.0
-        (c.sources.invariant.4 ss
-          (first_for g.R.ByteSource.script c.sources.source-index c.args.sources.now c.sources.sources ss e))
-        (none_left g.R.ByteSource.script c.args.sources.now c.sources.sources ss c.sources.source-index e
-          (search rules))
+    (c.sources.invariant.4 ss
+    (first_for g.R.ByteSource.script c.sources.source-index c.args.sources.now c.sources.sources ss e))
+    (none_left g.R.ByteSource.script c.args.sources.now c.sources.sources ss c.sources.source-index e
+    (search rules))
 
 pub returns-in_err-read-clause-read : goal.returns-in_err-read-clause-read
-returns-in_err-read-clause-read g c = sources_fail g.R.ByteSource.failures c.sources.source-index c.sources.sources
+returns-in_err-read-clause-read g c = sources_fail g.R.ByteSource.script g.R.ByteSource.failures c.sources.source-index c.sources.sources
     c.args.sources.now c.source-item.result c.read.new.source c.in_err-read.field-0.0 c.read.result
     c.from_residual.result (search rules) (search rules) c.sources.invariant.5 c.sources.invariant.1 (search rules)
     c.read.ensures.read

@@ -12,17 +12,17 @@ use Rattle.m4_engine.proofs.run.read_to_end.Goals as goal
 pub returns-in_err-read_sources-clause-gives : goal.returns-in_err-read_sources-clause-gives
 returns-in_err-read_sources-clause-gives g c = λ ss s.
     early_so c.args.freezes ss (after_sources c.args.session.now.limits ss (progress_of c.args.session.now))
-        c.args.session.now c.read_sources.new.session _ c.in_err-read_sources.field-0.0 c.read_sources.result
-        c.from_residual.result (search rules) (search rules) c.read_sources.ensures.left refl
-        (c.read_sources.ensures.goes ss s)
+    c.args.session.now c.read_sources.new.session _ c.in_err-read_sources.field-0.0 c.read_sources.result
+    c.from_residual.result (search rules) (search rules) c.read_sources.ensures.left refl
+    (c.read_sources.ensures.goes ss s)
 
 pub returns-in_err-close-clause-gives : goal.returns-in_err-close-clause-gives
 returns-in_err-close-clause-gives g c = λ ss s.
     late_so c.args.freezes c.args.session.now.limits ss
-        (after_sources c.args.session.now.limits ss (progress_of c.args.session.now)) c.args.session.now
-        c.read_sources.new.session c.close.new.session _ _ _ _ _ _ _ _ refl (c.in_ok-read_sources.ensures.goes ss s)
-        c.in_err-close.field-0.0 c.close.result c.from_residual-in_err-close.result (search rules) (search rules)
-        c.in_ok-read_sources.ensures.unfinished c.close.ensures.gives
+    (after_sources c.args.session.now.limits ss (progress_of c.args.session.now)) c.args.session.now
+    c.read_sources.new.session c.close.new.session _ _ _ _ _ _ _ _ refl (c.in_ok-read_sources.ensures.goes ss s)
+    c.in_err-close.field-0.0 c.close.result c.from_residual-in_err-close.result (search rules) (search rules)
+    c.in_ok-read_sources.ensures.unfinished c.close.ensures.gives
 
 pub returns-clause-gives : goal.returns-clause-gives
 returns-clause-gives g c = λ ss s.
@@ -33,10 +33,10 @@ returns-clause-sized g c = λ ss s.
     sized_so c.args.freezes c.args.session.now.limits ss (after_sources c.args.session.now.limits ss (progress_of c.args.session.now)) c.args.session.now c.read_sources.new.session c.close.new.session _ _ _ _ _ _ _ _ refl (c.in_ok-read_sources.ensures.goes ss s) c.in_ok-close.ensures.gives
 
 pub returns-in_err-read_sources-clause-read : goal.returns-in_err-read_sources-clause-read
-returns-in_err-read_sources-clause-read g c = same_fails g.R.ByteSource.failures c.args.sources.now c.read_sources.new.sources c.in_err-read_sources.field-0.0 c.read_sources.result c.from_residual.result (search rules) (search rules) c.read_sources.ensures.read
+returns-in_err-read_sources-clause-read g c = same_fails g.R.ByteSource.script g.R.ByteSource.failures c.args.sources.now c.read_sources.new.sources c.in_err-read_sources.field-0.0 c.read_sources.result c.from_residual.result (search rules) (search rules) c.read_sources.ensures.read
 
 pub returns-in_err-close-clause-read : goal.returns-in_err-close-clause-read
-returns-in_err-close-clause-read g c = close_sound g.R.ByteSource.failures c.args.sources.now
+returns-in_err-close-clause-read g c = close_sound g.R.ByteSource.script g.R.ByteSource.failures c.args.sources.now
     c.read_sources.new.sources c.args.freezes c.read_sources.new.session c.close.new.session _
     c.in_err-close.field-0.0 c.close.result c.from_residual-in_err-close.result (search rules) (search rules)
     c.close.ensures.gives c.in_ok-read_sources.ensures.read
@@ -68,9 +68,9 @@ returns-in_err-read_sources-clause-torn g c = λ whole ss s e. inl refl
 pub returns-in_err-close-clause-torn : goal.returns-in_err-close-clause-torn
 returns-in_err-close-clause-torn g c = λ whole ss s e.
     torn_so c.args.session.now.limits (after_sources c.args.session.now.limits ss (progress_of c.args.session.now))
-        c.args.session.now c.read_sources.new.session _ _ _ refl (c.in_ok-read_sources.ensures.goes ss s)
-        c.in_err-close.field-0.0 c.close.result c.from_residual-in_err-close.result (search rules) (search rules) e
-        (c.close.ensures.torn whole)
+    c.args.session.now c.read_sources.new.session _ _ _ refl (c.in_ok-read_sources.ensures.goes ss s)
+    c.in_err-close.field-0.0 c.close.result c.from_residual-in_err-close.result (search rules) (search rules) e
+    (c.close.ensures.torn whole)
 
 pub returns-in_err-read_sources-clause-exited : goal.returns-in_err-read_sources-clause-exited
 returns-in_err-read_sources-clause-exited g c = λ code e n.

@@ -19,12 +19,13 @@ returns-in-Err g c = record {
   exited = λ code e. never_exited c.args.options c.begin.result c.in-Err.stop c.status.result c.ending.result code (search rules) c.ending.ensures c.begin.ensures.begun e;
   sized = search rules;
   torn = λ whole file t ss s e. inl refl;
-  read = starts.never_read g.R.ByteSource.failures c.args.sources.now c.args.sources.now c.args.options c.begin.result c.in-Err.stop c.status.result c.ending.result (search rules) c.status.ensures c.ending.ensures c.begin.ensures.begun (all_sound g.R.ByteSource.failures c.args.sources.now);
+  read = starts.never_read g.R.ByteSource.script g.R.ByteSource.failures
+      c.args.sources.now c.args.sources.now c.args.options c.begin.result c.in-Err.stop c.status.result c.ending.result (search rules) c.status.ensures c.ending.ensures c.begin.ensures.begun (all_sound g.R.ByteSource.failures c.args.sources.now);
   frozen_read = starts.never_frozen g.R.ByteSource.failures c.args.frozen.now c.begin.new.frozen c.args.options c.begin.result c.in-Err.stop c.status.result c.ending.result (search rules) c.status.ensures c.ending.ensures c.begin.ensures.begun c.begin.ensures.read;
   write = starts.never_wrote c.args.options c.begin.result c.in-Err.stop c.status.result c.ending.result _ _ _ _
       (three g.Z.ByteSink.contents
-        (both g.O.ByteSink.contents g.M.ByteSink.contents c.args.out.now c.begin.new.out c.args.messages.now
-          c.args.messages.now) c.args.freeze_to.now c.args.freeze_to.now) (search rules) c.status.ensures
+      (both g.O.ByteSink.contents g.M.ByteSink.contents c.args.out.now c.begin.new.out c.args.messages.now
+      c.args.messages.now) c.args.freeze_to.now c.args.freeze_to.now) (search rules) c.status.ensures
       c.ending.ensures c.begin.ensures.begun refl c.begin.ensures.write;
   taken = none_taken_yet g.R.ByteSource.script c.args.sources.now;
   one_pass = λ file t. never_passed g.R.ByteSource.script c.args.sources.now c.args.options (start_of c.args.options.prefix file) _ c.begin.result c.in-Err.stop c.status.result c.ending.result (search rules) c.ending.ensures c.begin.ensures.begun;
@@ -48,7 +49,7 @@ returns g c = record {
       let left : State → Type 0 = λ x. FreezeLeaves x (g.Z.ByteSink.contents c.args.freeze_to.now) (g.Z.ByteSink.contents c.read_to_end-answer.new.freeze_to) in
       starts.begun_state left c.args.options (start_of c.args.options.prefix file) ss c.in-Ok.session c.begin.result _ _ (search rules) (c.begin.ensures.begins file t)
       (ended_write _ _ c.read_to_end-answer.result c.ending-2.result c.ending-2.ensures e (c.read_to_end-answer.ensures.torn whole ss s));
-  read = run_fails g.R.ByteSource.failures _ c.args.sources.now c.read_to_end-answer.new.sources c.read_to_end-answer.result c.ending-2.result c.ending-2.ensures c.read_to_end-answer.ensures.read;
+  read = run_fails g.R.ByteSource.script g.R.ByteSource.failures _ c.args.sources.now c.read_to_end-answer.new.sources c.read_to_end-answer.result c.ending-2.result c.ending-2.ensures c.read_to_end-answer.ensures.read;
   frozen_read = starts.begun_frozen g.R.ByteSource.failures c.args.frozen.now c.begin.new.frozen c.in-Ok.session c.begin.result c.read_to_end-answer.new.session _ c.read_to_end-answer.result c.ending-2.result (search rules) c.ending-2.ensures c.read_to_end-answer.ensures.left c.begin.ensures.read;
   write = search rules;
   taken = search rules;

@@ -67,3 +67,12 @@ returns-in-Some-open-clause-torn g c = λ files input r whole known l.
 
 pub returns-in-None-open-clause-torn : goal.returns-in-None-open-clause-torn
 returns-in-None-open-clause-torn g c = λ files input r whole known l. inr (inl c.close_unopened.ensures.files)
+
+pub returns-in-None-clause-read : goal.returns-in-None-clause-read
+returns-in-None-clause-read g c = λ files input known e. c.follow_from.ensures.read files input known e
+
+pub returns-in-Some-open-clause-read : goal.returns-in-Some-open-clause-read
+returns-in-Some-open-clause-read g c = λ files input known e. c.follow_from-in-Some-open.ensures.read files input known e
+
+pub returns-in-None-open-clause-read : goal.returns-in-None-open-clause-read
+returns-in-None-open-clause-read g c = λ files input known e. absurd (c.close_unopened.ensures.unread e)

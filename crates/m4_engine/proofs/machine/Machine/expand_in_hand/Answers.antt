@@ -37,7 +37,7 @@ returns-then-not-at_token-clause-gives g c = elim c.match-wanted.branch [
       c.args.wanted (g.O.ByteSink.contents c.args.out.now) (g.M.ByteSink.contents c.args.messages.now) (search rules)
       (search rules) c.requires.ready c.requires.flushed
       (line_done_by c.args.input.now w.skip_in_hand-at_token.new.self w.skip_in_hand-at_token.result false
-        (search rules) w.skip_in_hand-at_token.ensures)
+      (search rules) w.skip_in_hand-at_token.ensures)
 ]
 
 pub turns-init : goal.turns-init
@@ -47,7 +47,7 @@ turns-init g c = record {
     | in-Line w ↦ begins_past c.args.self.now c.args.input.now w.skip_in_hand-at_token.new.self c.match-wanted.input
         c.args.wanted _ _ (search rules) (search rules) c.requires.ready
         (line_done_by c.args.input.now w.skip_in_hand-at_token.new.self w.skip_in_hand-at_token.result true
-          (search rules) w.skip_in_hand-at_token.ensures)
+        (search rules) w.skip_in_hand-at_token.ensures)
   ];
   quiet = c.requires.flushed.messages;
   out = refl;
@@ -115,21 +115,21 @@ pub returns-then-not-skip_in_hand-clause-gives : goal.returns-then-not-skip_in_h
 returns-then-not-skip_in_hand-clause-gives g c =
     let r = passed c.args.wanted c.args.self.now c.turns.self c.pass_plain.new.self c.args.input.now.pending c.turns.input c.pass_plain.new.input _ _ _ _ c.turns.invariant.runs c.in-Ok.ensures.passes in
     needs_line_after c.args.wanted c.args.self.now c.pass_plain.new.self c.turn.new.self c.flush.new.self
-        c.args.input.now.pending c.args.input.now c.pass_plain.new.input c.turn.new.input c.skip_in_hand.new.self _ _
-        _ _ _ _ c.in-Ok-turn.turned refl r c.in-Ok-turn.ensures.moves c.in-Ok-turn.ensures.ready c.in-SkipsLine.is
-        c.in-Ok-turn.ensures.limits c.in_default-flush.ensures.engine c.in_default-flush.ensures.output
-        c.in_default-flush.ensures.messages
-        (line_done_by c.turn.new.input c.skip_in_hand.new.self c.skip_in_hand.result false (search rules)
-          c.skip_in_hand.ensures)
+    c.args.input.now.pending c.args.input.now c.pass_plain.new.input c.turn.new.input c.skip_in_hand.new.self _ _
+    _ _ _ _ c.in-Ok-turn.turned refl r c.in-Ok-turn.ensures.moves c.in-Ok-turn.ensures.ready c.in-SkipsLine.is
+    c.in-Ok-turn.ensures.limits c.in_default-flush.ensures.engine c.in_default-flush.ensures.output
+    c.in_default-flush.ensures.messages
+    (line_done_by c.turn.new.input c.skip_in_hand.new.self c.skip_in_hand.result false (search rules)
+    c.skip_in_hand.ensures)
 
 pub turns-smaller : goal.turns-smaller
 turns-smaller g c = fell_past_line c.turns.self c.pass_plain.new.self c.turn.new.self c.flush.new.self c.turns.input
     c.pass_plain.new.input c.turn.new.input c.skip_in_hand.new.self _ _ _ _ c.in-Ok-turn.turned c.in-Ok.ensures.passes
     c.in-Ok-turn.ensures.moves c.in-Ok-turn.ensures.ready c.in-SkipsLine.is
     (flushed_all c.turn.new.self _ _ _ _ c.flush.new.self c.in_default-flush.ensures.engine
-      c.in_default-flush.ensures.output c.in_default-flush.ensures.messages)
+    c.in_default-flush.ensures.output c.in_default-flush.ensures.messages)
     (line_done_by c.turn.new.input c.skip_in_hand.new.self c.skip_in_hand.result true (search rules)
-      c.skip_in_hand.ensures)
+    c.skip_in_hand.ensures)
 
 pub turns-preserved : goal.turns-preserved
 turns-preserved g c =
@@ -140,9 +140,9 @@ turns-preserved g c =
           c.in-Ok-turn.turned r c.in-Ok-turn.ensures.moves c.in-Ok-turn.ensures.ready c.in-SkipsLine.is
           c.in-Ok-turn.ensures.limits
           (flushed_all c.turn.new.self _ _ _ _ c.flush.new.self c.in_default-flush.ensures.engine
-            c.in_default-flush.ensures.output c.in_default-flush.ensures.messages)
+          c.in_default-flush.ensures.output c.in_default-flush.ensures.messages)
           (line_done_by c.turn.new.input c.skip_in_hand.new.self c.skip_in_hand.result true (search rules)
-            c.skip_in_hand.ensures);
+          c.skip_in_hand.ensures);
       quiet = ap (λ (d : Engine). d.messages) c.in_default-flush.ensures.engine;
       out = c.in_default-flush.ensures.counted.0 ∙ c.turns.invariant.out;
       reported = c.in_default-flush.ensures.counted.1 ∙ c.turns.invariant.reported;
@@ -152,58 +152,58 @@ pub returns-in-Ok-flush-clause-gives : goal.returns-in-Ok-flush-clause-gives
 returns-in-Ok-flush-clause-gives g c =
     let r = passed c.args.wanted c.args.self.now c.turns.self c.pass_plain.new.self c.args.input.now.pending c.turns.input c.pass_plain.new.input _ _ _ _ c.turns.invariant.runs c.in-Ok.ensures.passes in
     needed c.args.wanted c.args.self.now c.pass_plain.new.self c.turn.new.self c.flush-in-NeedsMore.new.self
-        c.args.input.now.pending c.args.input.now c.pass_plain.new.input c.turn.new.input _ _ _ _ _ _
-        c.in-Ok-turn.turned refl r c.in-Ok-turn.ensures.made c.in-NeedsMore.is c.in-Ok-flush.ensures.engine
-        c.in-Ok-flush.ensures.output c.in-Ok-flush.ensures.messages
+    c.args.input.now.pending c.args.input.now c.pass_plain.new.input c.turn.new.input _ _ _ _ _ _
+    c.in-Ok-turn.turned refl r c.in-Ok-turn.ensures.made c.in-NeedsMore.is c.in-Ok-flush.ensures.engine
+    c.in-Ok-flush.ensures.output c.in-Ok-flush.ensures.messages
 
 pub returns-in-Ok-flush-2-clause-gives : goal.returns-in-Ok-flush-2-clause-gives
 returns-in-Ok-flush-2-clause-gives g c =
     let r = passed c.args.wanted c.args.self.now c.turns.self c.pass_plain.new.self c.args.input.now.pending c.turns.input c.pass_plain.new.input _ _ _ _ c.turns.invariant.runs c.in-Ok.ensures.passes in
     hand_ends c.args.wanted c.args.self.now c.flush-in-Ends.new.self c.args.input.now c.turn.new.input _ c.in-Ends.end _ c.cause.ensures
     (ended c.args.wanted c.args.self.now c.pass_plain.new.self c.turn.new.self c.flush-in-Ends.new.self
-        c.args.input.now.pending c.turn.new.input.pending c.pass_plain.new.input _ _ _ _ _ _ c.in-Ok-turn.turned
-        c.in-Ends.end r c.in-Ok-turn.ensures.moves c.in-Ends.is c.in-Ok-flush-2.ensures.engine
-        c.in-Ok-turn.ensures.limits c.in-Ok-flush-2.ensures.output c.in-Ok-flush-2.ensures.messages)
+    c.args.input.now.pending c.turn.new.input.pending c.pass_plain.new.input _ _ _ _ _ _ c.in-Ok-turn.turned
+    c.in-Ends.end r c.in-Ok-turn.ensures.moves c.in-Ends.is c.in-Ok-flush-2.ensures.engine
+    c.in-Ok-turn.ensures.limits c.in-Ok-flush-2.ensures.output c.in-Ok-flush-2.ensures.messages)
 
 pub returns-in-Err-clause-order : goal.returns-in-Err-clause-order
 returns-in-Err-clause-order g c =
     let r = passed c.args.wanted c.args.self.now c.turns.self c.pass_plain.new.self c.args.input.now.pending c.turns.input c.pass_plain.new.input _ _ _ _ c.turns.invariant.runs c.in-Ok.ensures.passes in
     breaks_in_order c.args.wanted c.args.self.now c.pass_plain.new.self c.turn.new.self c.args.input.now.pending
-        c.pass_plain.new.input c.turn.new.input c.in-Ok-turn.turned c.len-earlier.result _ _ _ _ _ _ r
-        c.in-Ok-turn.ensures.moves c.in-Ok-turn.ensures.made
-        (passes_messages c.turns.self c.pass_plain.new.self c.turns.input c.pass_plain.new.input
-          c.in-Ok.ensures.passes ∙ c.turns.invariant.quiet) (search rules) c.in-Err.ensures.order
-        c.in-Err.ensures.begun
+    c.pass_plain.new.input c.turn.new.input c.in-Ok-turn.turned c.len-earlier.result _ _ _ _ _ _ r
+    c.in-Ok-turn.ensures.moves c.in-Ok-turn.ensures.made
+    (passes_messages c.turns.self c.pass_plain.new.self c.turns.input c.pass_plain.new.input
+    c.in-Ok.ensures.passes ∙ c.turns.invariant.quiet) (search rules) c.in-Err.ensures.order
+    c.in-Err.ensures.begun
 
 pub returns-in-Err-flush-clause-order : goal.returns-in-Err-flush-clause-order
 returns-in-Err-flush-clause-order g c =
     let r = passed c.args.wanted c.args.self.now c.turns.self c.pass_plain.new.self c.args.input.now.pending c.turns.input c.pass_plain.new.input _ _ _ _ c.turns.invariant.runs c.in-Ok.ensures.passes in
     breaks_in_order c.args.wanted c.args.self.now c.pass_plain.new.self c.turn.new.self c.args.input.now.pending
-        c.pass_plain.new.input c.turn.new.input c.in-Ok-turn.turned c.len-earlier.result _ _ _ _ _ _ r
-        c.in-Ok-turn.ensures.moves c.in-Ok-turn.ensures.made
-        (passes_messages c.turns.self c.pass_plain.new.self c.turns.input c.pass_plain.new.input
-          c.in-Ok.ensures.passes ∙ c.turns.invariant.quiet) (search rules) c.in-Err-flush.ensures.order
-        c.in-Err-flush.ensures.begun
+    c.pass_plain.new.input c.turn.new.input c.in-Ok-turn.turned c.len-earlier.result _ _ _ _ _ _ r
+    c.in-Ok-turn.ensures.moves c.in-Ok-turn.ensures.made
+    (passes_messages c.turns.self c.pass_plain.new.self c.turns.input c.pass_plain.new.input
+    c.in-Ok.ensures.passes ∙ c.turns.invariant.quiet) (search rules) c.in-Err-flush.ensures.order
+    c.in-Err-flush.ensures.begun
 
 pub returns-in-Err-flush-2-clause-order : goal.returns-in-Err-flush-2-clause-order
 returns-in-Err-flush-2-clause-order g c =
     let r = passed c.args.wanted c.args.self.now c.turns.self c.pass_plain.new.self c.args.input.now.pending c.turns.input c.pass_plain.new.input _ _ _ _ c.turns.invariant.runs c.in-Ok.ensures.passes in
     breaks_in_order c.args.wanted c.args.self.now c.pass_plain.new.self c.turn.new.self c.args.input.now.pending
-        c.pass_plain.new.input c.turn.new.input c.in-Ok-turn.turned c.len-earlier.result _ _ _ _ _ _ r
-        c.in-Ok-turn.ensures.moves c.in-Ok-turn.ensures.made
-        (passes_messages c.turns.self c.pass_plain.new.self c.turns.input c.pass_plain.new.input
-          c.in-Ok.ensures.passes ∙ c.turns.invariant.quiet) (search rules) c.in-Err-flush-2.ensures.order
-        c.in-Err-flush-2.ensures.begun
+    c.pass_plain.new.input c.turn.new.input c.in-Ok-turn.turned c.len-earlier.result _ _ _ _ _ _ r
+    c.in-Ok-turn.ensures.moves c.in-Ok-turn.ensures.made
+    (passes_messages c.turns.self c.pass_plain.new.self c.turns.input c.pass_plain.new.input
+    c.in-Ok.ensures.passes ∙ c.turns.invariant.quiet) (search rules) c.in-Err-flush-2.ensures.order
+    c.in-Err-flush-2.ensures.begun
 
 pub returns-in-Err-flush-3-clause-order : goal.returns-in-Err-flush-3-clause-order
 returns-in-Err-flush-3-clause-order g c =
     let r = passed c.args.wanted c.args.self.now c.turns.self c.pass_plain.new.self c.args.input.now.pending c.turns.input c.pass_plain.new.input _ _ _ _ c.turns.invariant.runs c.in-Ok.ensures.passes in
     breaks_in_order c.args.wanted c.args.self.now c.pass_plain.new.self c.turn.new.self c.args.input.now.pending
-        c.pass_plain.new.input c.turn.new.input c.in-Ok-turn.turned c.len-earlier.result _ _ _ _ _ _ r
-        c.in-Ok-turn.ensures.moves c.in-Ok-turn.ensures.made
-        (passes_messages c.turns.self c.pass_plain.new.self c.turns.input c.pass_plain.new.input
-          c.in-Ok.ensures.passes ∙ c.turns.invariant.quiet) (search rules) c.in-Err-flush-3.ensures.order
-        c.in-Err-flush-3.ensures.begun
+    c.pass_plain.new.input c.turn.new.input c.in-Ok-turn.turned c.len-earlier.result _ _ _ _ _ _ r
+    c.in-Ok-turn.ensures.moves c.in-Ok-turn.ensures.made
+    (passes_messages c.turns.self c.pass_plain.new.self c.turns.input c.pass_plain.new.input
+    c.in-Ok.ensures.passes ∙ c.turns.invariant.quiet) (search rules) c.in-Err-flush-3.ensures.order
+    c.in-Err-flush-3.ensures.begun
 
 pub returns-in-Ok-flush-2-clause-order : goal.returns-in-Ok-flush-2-clause-order
 returns-in-Ok-flush-2-clause-order g c = rw c.cause.ensures (in_order_end c.args.wanted c.args.self.now c.args.input.now.pending _ c.in-Ends.end)

@@ -32,9 +32,9 @@ pub returns-in_err-write_all-3-clause-order : goal.returns-in_err-write_all-3-cl
 returns-in_err-write_all-3-clause-order g c =
     let no_less : c.args.earlier ≤ c.if-is_empty.first = elim c.if-is_empty.branch [ then-is_empty w ↦ search rules | else-is_empty w ↦ search rules ] in
     in_any c.from_residual-in_err-write_all-3.result
-        (own_breaks _ (g.O.ByteSink.contents c.write_all.new.writer) _ _ _ c.args.earlier c.if-is_empty.first
-          c.args.self.now.output (drop c.if-is_empty.first c.args.self.now.output) c.args.self.now.messages no_less
-          (search rules) (search rules) (search rules))
+    (own_breaks _ (g.O.ByteSink.contents c.write_all.new.writer) _ _ _ c.args.earlier c.if-is_empty.first
+    c.args.self.now.output (drop c.if-is_empty.first c.args.self.now.output) c.args.self.now.messages no_less
+    (search rules) (search rules) (search rules))
 
 pub returns-in_err-write_all-3-clause-begun : goal.returns-in_err-write_all-3-clause-begun
 returns-in_err-write_all-3-clause-begun g c = in_any c.from_residual-in_err-write_all-3.result (begun_parts _ (g.O.ByteSink.contents c.write_all.new.writer) _ c.if-is_empty.first c.args.self.now.output (search rules) (search rules), all_begun _ _ c.args.self.now.messages (search rules))

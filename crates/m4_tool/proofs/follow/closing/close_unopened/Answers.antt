@@ -1,6 +1,8 @@
 -- A line whose frozen file can't be opened ends as a run that writes one message.
 use Rattle.std.proofs.Common.{◌≡◌, ◌∙◌, ap, sym}
+use Rattle.m4_engine.specs.declared.ending.Cause.TheVariants as causes
 use Rattle.m4_tool.proofs.LineEnds.{missed_cause, missed_ends}
+use Rattle.m4_tool.proofs.ReadFaults.{closes_read}
 use Rattle.m4_tool.proofs.follow.closing.close_unopened.Goals as goal
 use Rattle.m4_tool.proofs.follow.closing.close_unopened.Goals.{in-Ok, in-Err}
 
@@ -19,3 +21,11 @@ returns-clause-ends g c = λ name.
 
 pub returns-clause-files : goal.returns-clause-files
 returns-clause-files g c = c.close.ensures.closes.files
+
+pub returns-clause-unread : goal.returns-clause-unread
+returns-clause-unread g c = λ e.
+    let k : c.match-put_unopened.cause ≡ causes.Read = closes_read c.args.file.now _ c.close.result.status c.close.result.failure _ c.close.ensures.closes e in
+    elim c.match-put_unopened.branch [
+      | in-Ok w ↦ (let h : causes.Done ≡ causes.Read = sym w.cause-is ∙ k in cc)
+      | in-Err w ↦ (let h : causes.Write ≡ causes.Read = sym w.cause-is ∙ k in cc)
+    ]

@@ -6,6 +6,7 @@ use Rattle.m4_engine.specs.Carries.{frozen_state}
 use Rattle.m4_engine.specs.Start.{start_of}
 use Rattle.m4_engine.proofs.Reloads.{frozen_in_order}
 use Rattle.m4_tool.proofs.RanFiles.{ran_so}
+use Rattle.m4_tool.proofs.ReadFaults.{run_fails}
 use Rattle.m4_tool.proofs.TornFiles.{tears_from}
 use Rattle.m4_tool.proofs.follow.running.run_late.Goals as goal
 
@@ -28,3 +29,8 @@ returns-clause-torn g c = λ whole files input names script ss n t e cause.
     (frozen_in_order c.args.options script ss)
     c.over-late.ensures.created (ap g.W.World.files c.over-late.ensures.world ∙ c.requires.before) c.run_keeping-ran.new.freeze_to.agrees
     (c.run_keeping-ran.ensures.torn whole script t ss sources cause)))
+
+pub returns-clause-read : goal.returns-clause-read
+returns-clause-read g c = λ files input names n e.
+    run_fails g.W.Reader.ByteSource.script g.W.Reader.ByteSource.failures files input names c.args.sources.now c.run_keeping-ran.new.sources
+    c.run_keeping-ran.result.ending.cause n c.run_keeping-ran.ensures.taken c.run_keeping-ran.ensures.read e

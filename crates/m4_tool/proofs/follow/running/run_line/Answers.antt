@@ -5,6 +5,7 @@ use Rattle.m4_tool.specs.Line.{words_of}
 use Rattle.m4_engine.specs.Run.{run as defined}
 use Rattle.m4_tool.proofs.RanFiles.{not_begun, ran_as}
 use Rattle.m4_tool.proofs.TornFiles.{tears_as}
+use Rattle.m4_tool.proofs.ReadFaults.{never_read}
 use Rattle.m4_tool.proofs.follow.running.run_line.Goals as goal
 
 pub returns-in_default-clause-ran : goal.returns-in_default-clause-ran
@@ -43,3 +44,15 @@ returns-clause-torn g c = λ whole files input script ss k t e cause.
     c.in-Ok-name_of.ensures c.sources_of.ensures.files
     (c.run_late.ensures.torn whole files input (words_of (map string_bytes c.args.line.now.files.items)) script ss
     (rw c.deref_mut.ensures.value (rw c.as_slice.ensures.value at (c.in-Ok.ensures.sources files input k))) t e cause)
+
+pub returns-in_default-clause-read : goal.returns-in_default-clause-read
+returns-in_default-clause-read g c = λ files input k e. never_read c.without_memory.result.ending c.without_memory.ensures.ending e
+
+pub returns-in_default-name_of-clause-read : goal.returns-in_default-name_of-clause-read
+returns-in_default-name_of-clause-read g c = λ files input k e.
+    never_read c.without_memory-in_default-name_of.result.ending c.without_memory-in_default-name_of.ensures.ending e
+
+pub returns-clause-read : goal.returns-clause-read
+returns-clause-read g c = λ files input k e.
+    c.run_late.ensures.read files input (words_of (map string_bytes c.args.line.now.files.items))
+    (rw c.deref_mut.ensures.value (rw c.as_slice.ensures.value at (c.in-Ok.ensures.sources files input k))) e
