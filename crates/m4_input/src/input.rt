@@ -179,6 +179,7 @@ impl Input {
     #[inline(always)]
     pub fn front(&self) -> Option<(&[u8], bool)>
         ensures text { IfSome result (λ r. IsInFront self.now.pending r.0.now (r.1 || self.now.pending.may_follow)) }
+        ensures all { IfSome result (λ r. r.1 ≡ false → r.0.now ≡ text_of self.now.pending) }
         ensures some { IfSome result (λ r. r.1 ≡ true → 0 < length r.0.now) }
         ensures first { IfSome result (λ r. self.now.pending.definition ≡ None) }
     {
@@ -194,6 +195,7 @@ impl Input {
     pub fn copy_front(&self, most: usize, copy: &mut Vec<u8>) -> Result<bool, AllocError>
         ensures text { IfOk result (λ others. IsInFront self.now.pending copy.new.items
             (others || self.now.pending.may_follow)) }
+        ensures all { IfOk result (λ others. others ≡ false → copy.new.items ≡ text_of self.now.pending) }
         ensures some { 0 < most → IfOk result (λ others. others ≡ true → 0 < length copy.new.items) }
     {
         self.text.copy_front(most, copy)
