@@ -336,14 +336,13 @@ fn a_macro_ends_the_run_within_a_text(rt: HostRuntime) {
     compare(&rt, &EXITS_WITHIN);
 }
 
-// A file, what a run that freezes writes, how it ends, and whether it freezes the fresh state; otherwise it freezes
-// nothing.
+// A file, what a run that freezes writes and how it ends, and the parts of the frozen text.
 struct Frozen {
     name: &'static str,
     file: &'static str,
     output: &'static str,
     end: End,
-    freezes: bool,
+    frozen_text: &'static [&'static str],
 }
 
 static FREEZES: [Frozen; 7] = [
@@ -352,64 +351,59 @@ static FREEZES: [Frozen; 7] = [
         file: "x\n",
         output: "x\n",
         end: DONE,
-        freezes: true,
+        frozen_text: FRESH_TEXT,
     },
     Frozen {
         name: "text is saved, and read before the state is frozen",
         file: "m4wrap(`bye')x\n",
         output: "x\nbye",
         end: SAVED,
-        freezes: true,
+        frozen_text: FRESH_TEXT,
     },
     Frozen {
         name: "text is saved in two rounds",
         file: "m4wrap(`m4wrap(`c')b')a\n",
         output: "a\nbc",
         end: SAVED,
-        freezes: true,
+        frozen_text: FRESH_TEXT,
     },
     Frozen {
         name: "an empty text is saved",
         file: "m4wrap()x\n",
         output: "x\n",
         end: SAVED,
-        freezes: true,
+        frozen_text: FRESH_TEXT,
     },
     Frozen {
         name: "a macro ends the run",
         file: "x m4exit(`3')y\n",
         output: "x ",
         end: (3, Cause::Exited(3), false),
-        freezes: false,
+        frozen_text: &[],
     },
     Frozen {
         name: "a macro ends the run with code 0",
         file: "m4wrap(`w')x m4exit y\n",
         output: "x ",
         end: (0, Cause::Exited(0), false),
-        freezes: false,
+        frozen_text: &[],
     },
     Frozen {
         name: "a macro within saved text ends the run",
         file: "m4wrap(`w m4exit(`2')v')x\n",
         output: "x\nw ",
         end: (2, Cause::Exited(2), false),
-        freezes: false,
+        frozen_text: &[],
     },
 ];
-
-// Returns the expected report on a run that freezes: no message, and the frozen text of the fresh state, or none.
-fn expected_frozen(alloc: Global, row: &Frozen) -> Result<Vec<u8>, AllocError> {
-    let frozen_text = if row.freezes { FRESH_TEXT } else { &[] };
-    printed_freezing(alloc, (row.output, ""), ending(row.end), frozen_text)
-}
 
 // Compares the report on each run that freezes, at each size of a block.
 fn compare_frozen(rt: &(impl Abort + Alloc<A = Global>), rows: &[Frozen]) {
     for row in rows {
         for block in BLOCKS {
             let seen = run_of(rt, freezing(USUAL), row.file, block);
-            let want = expected_frozen(rt.alloc(), row);
+            let written = (row.output, "");
+            let want = printed_freezing(rt.alloc(), written, ending(row.end), row.frozen_text);
             agrees_by(rt, row.name, block, want, printed_frozen(rt.alloc(), &seen));
         }
     }
