@@ -20,6 +20,7 @@ mod input;
 #[cfg(test)]
 mod refused;
 pub mod report;
-pub mod shows;
+#[cfg(test)]
+mod shows;
 #[cfg(test)]
 mod state;

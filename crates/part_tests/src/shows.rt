@@ -1,5 +1,4 @@
-//! Prints a row that failed: its name, and below it the expected and the actual report. `run_tests` compares its rows
-//! so too.
+//! Prints a row that failed: its name, and below it the expected and the actual report.
 
 use std::alloc::AllocError;
 use std::fmt;

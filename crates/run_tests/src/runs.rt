@@ -15,6 +15,7 @@ mod rows;
 mod scale;
 mod seams;
 mod sessions;
+pub mod shows;
 mod sources;
 mod stacks;
 mod sweeps;

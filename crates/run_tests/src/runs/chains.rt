@@ -4,11 +4,11 @@ use super::given::{
     AT_MOST, BLOCKS, ROOM, Seen, USUAL, ended, freezing, opened, options, run_over,
 };
 use super::report::add_run;
+use super::shows::{agrees_by, shows};
 use m4_engine::ending::Cause;
 use m4_engine::options::Options;
 use m4_state::memory::MemSource;
 use part_tests::report::Report;
-use part_tests::shows::{agrees_by, shows};
 use std::alloc::{AllocError, Global};
 use std::process::Abort;
 

@@ -2,10 +2,10 @@
 
 use super::given::{BLOCKS, Seen, USUAL, ended, freezing, options, printed_frozen};
 use super::report::printed_freezing;
+use super::shows::agrees_by;
 use super::sweeps::{ENOUGH, Limits, reader, run_within};
 use m4_engine::ending::Cause;
 use m4_frozen::fault::{FrozenFault, FrozenKind};
-use part_tests::shows::agrees_by;
 use std::alloc::{AllocError, Global};
 use std::process::Abort;
 

@@ -3,8 +3,8 @@
 
 use super::given::{BLOCKS, ROOM, ended, run_file, seen_of_file};
 use super::report::{printed, printed_run};
+use super::shows::{agrees, agrees_by};
 use m4_engine::ending::Cause;
-use part_tests::shows::{agrees, agrees_by};
 use std::alloc::Global;
 use std::process::Abort;
 

@@ -5,12 +5,12 @@ use super::given::{
     taken,
 };
 use super::report::{add_run, printed_freezing};
+use super::shows::agrees_by;
 use m4_engine::ending::Cause;
 use m4_engine::options::Options;
 use m4_frozen::fault::{FrozenFault, FrozenKind};
 use m4_state::memory::MemSource;
 use part_tests::report::Report;
-use part_tests::shows::agrees_by;
 use std::alloc::{AllocError, Global};
 use std::process::Abort;
 

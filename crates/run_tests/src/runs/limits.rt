@@ -2,8 +2,8 @@
 
 use super::given::{BLOCKS, USUAL, ended, seen_of_file};
 use super::report::printed_run;
+use super::shows::agrees_by;
 use m4_engine::ending::Cause;
-use part_tests::shows::agrees_by;
 use std::alloc::Global;
 use std::process::Abort;
 

@@ -4,10 +4,10 @@ use super::given::{
     AT_MOST, BLOCKS, ROOM, Seen, USUAL, ended, files, freezing, options, printed_seen, run_over,
 };
 use super::report::printed_run;
+use super::shows::agrees_by;
 use m4_engine::ending::Cause;
 use m4_engine::options::Options;
 use m4_state::memory::MemSource;
-use part_tests::shows::agrees_by;
 use std::alloc::{AllocError, Global};
 use std::process::Abort;
 

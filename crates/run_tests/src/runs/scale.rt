@@ -4,9 +4,9 @@ use super::given::{
     AT_MOST, ROOM as SMALL, USUAL, ended, files, options, printed_seen, run_file, run_over, taken,
 };
 use super::report::printed_run;
+use super::shows::agrees;
 use m4_engine::ending::Cause;
 use part_tests::report::Report;
-use part_tests::shows::agrees;
 use std::alloc::{AllocError, Global};
 use std::process::Abort;
 

@@ -1,10 +1,10 @@
 //! Sessions call by call: their results and their outputs.
 
 use super::given::{AT_MOST, BLOCKS, ROOM, bytes, options, sink};
+use super::shows::agrees_by;
 use m4_engine::session::Session;
 use m4_state::memory::{MemSink, MemSource};
 use part_tests::report::Report;
-use part_tests::shows::agrees_by;
 use std::alloc::{AllocError, Global};
 use std::process::Abort;
 

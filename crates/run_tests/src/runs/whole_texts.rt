@@ -5,9 +5,9 @@ use super::given::{
     AT_MOST, BLOCKS, ROOM, USUAL, ended, files, freezing, printed_frozen, run_over,
 };
 use super::report::printed_freezing;
+use super::shows::agrees_by;
 use m4_engine::ending::Cause;
 use m4_engine::options::Options;
-use part_tests::shows::agrees_by;
 use std::alloc::{AllocError, Global};
 use std::process::Abort;
 

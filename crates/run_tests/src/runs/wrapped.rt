@@ -6,12 +6,12 @@ use super::given::{
 };
 use super::report::{add_run, printed_freezing};
 use super::rows::{DONE, End, Row, compare, ending};
+use super::shows::agrees_by;
 use super::whole_texts::FRESH_TEXT;
 use m4_engine::ending::Cause;
 use m4_engine::options::Options;
 use m4_state::memory::MemSource;
 use part_tests::report::Report;
-use part_tests::shows::agrees_by;
 use std::alloc::{AllocError, Global};
 use std::process::Abort;
 

@@ -6,12 +6,12 @@ ghost use Rattle.std.specs.Prelude.{None, false};
 
 use super::following::{AT_MOST, Around, USUAL, end_of, expected, made_by, seen_of};
 use crate::runs::given::sink;
+use crate::runs::shows::agrees;
 use m4_state::device::{ByteSink, DeviceFault};
 use m4_state::memory::MemSink;
 use m4_tool::followed::Failure;
 use m4_tool::world::Shows;
 use part_tests::report::Report;
-use part_tests::shows::agrees;
 use std::alloc::{AllocError, Global};
 use std::process::Abort;
 

@@ -1,11 +1,11 @@
 //! The line for each fault of a frozen file. It has the number and the name that the kind displays.
 
 use crate::runs::given::sink;
+use crate::runs::shows::shows;
 use m4_frozen::fault::FrozenKind;
 use m4_state::memory::MemSource;
 use m4_tool::modes::canon;
 use part_tests::report::Report;
-use part_tests::shows::shows;
 use std::alloc::{AllocError, Global};
 use std::process::Abort;
 

@@ -4,6 +4,7 @@ ghost use Rattle.std.specs.Prelude.{◌≡◌};
 
 use super::following::add_made;
 use crate::runs::given::bytes;
+use crate::runs::shows::shows;
 use m4_state::bytes::Bytes;
 use m4_state::transfer::write_all;
 use m4_tool::late::{LateFile, LateStart};
@@ -11,7 +12,6 @@ use m4_tool::mem_world::MemWorld;
 use m4_tool::std_world::StdFiles;
 use m4_tool::world::World;
 use part_tests::report::Report;
-use part_tests::shows::shows;
 use std::alloc::Global;
 use std::fs;
 use std::marker::Brand;

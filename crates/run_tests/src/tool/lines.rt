@@ -1,9 +1,9 @@
 //! A table of command lines and their meaning. The kinds of refusal are those of Rust's clap.
 
+use crate::runs::shows::shows;
 use m4_engine::options::Options;
 use m4_tool::line::{Line, LineFault, read_line};
 use part_tests::report::Report;
-use part_tests::shows::shows;
 use std::alloc::{AllocError, Global};
 use std::process::Abort;
 

@@ -5,10 +5,10 @@
 
 use super::following::add_written;
 use crate::runs::given::sink;
+use crate::runs::shows::agrees_by;
 use m4_state::memory::MemSource;
 use m4_tool::modes::{canon, inspect};
 use part_tests::report::Report;
-use part_tests::shows::agrees_by;
 use std::alloc::{AllocError, Global};
 use std::process::Abort;
 

@@ -2,9 +2,9 @@
 //! made. The files and the expected results were written by hand.
 
 use super::following::{Around, USUAL, expected, made_by, seen_of};
+use crate::runs::shows::agrees;
 use m4_tool::given::Given;
 use part_tests::report::Report;
-use part_tests::shows::agrees;
 use std::alloc::{AllocError, Global};
 use std::process::Abort;
 
