@@ -14,6 +14,8 @@ echo 0 > "$scratch/zero"
 theirs=no
 if m4 --version 2> /dev/null | grep -q '^m4 (GNU M4)'; then
     theirs=yes
+else
+    echo "$suite: SKIPPED: the answers of GNU m4, which is not installed"
 fi
 
 # expects WHAT WANT GOT: two files have the same bytes
