@@ -5,8 +5,8 @@ ghost use Rattle.std.specs.Prelude.{◌≡◌, ◌≤◌, ◌++◌, OnOk, OnErr,
 
 use std::alloc::AllocError;
 
-/// How many bytes are copied as one piece.
-const PIECE: usize = 16;
+/// How many bytes are copied at once.
+const COPIED: usize = 16;
 
 /// Appends a text. One of a byte or two, as most quotes and many arguments are, takes no call that copies.
 #[inline(always)]
@@ -25,19 +25,19 @@ pub fn append(out: &mut Vec<u8>, text: &[u8]) -> Result<(), AllocError>
     }
 }
 
-/// Appends the first `len` bytes of a text. A few of them are copied as one piece of a fixed length, where the text is
-/// as long, and what comes after them is cut off again: that takes no call that copies.
+/// Appends the first `len` bytes of a text. A few of them are copied with those after them, as one piece of a fixed
+/// length, if the text is as long, and the others are cut off again: that takes no call that copies.
 #[inline(always)]
 pub fn append_front(out: &mut Vec<u8>, text: &[u8], len: usize) -> Result<(), AllocError>
     requires { len ≤ length text.now }
     ensures ok { OnOk result (out.new.items ≡ out.old.items ++ take len text.now) }
     ensures err { OnErr result (out.new.items ≡ out.old.items) }
 {
-    if len > PIECE || text.len() < PIECE {
+    if len > COPIED || text.len() < COPIED {
         return append(out, text.split_at(len).0);
     }
     let old = out.len();
-    out.extend_from_slice(text.split_at(PIECE).0)?;
+    out.extend_from_slice(text.split_at(COPIED).0)?;
     out.truncate(old + len);
     Ok(())
 }

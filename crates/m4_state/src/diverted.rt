@@ -47,8 +47,8 @@ pub fn append_in(
     Ok(())
 }
 
-/// Copies the first piece of a text. After one of a page or more further pieces may come: three times as many bytes have
-/// room after it, up to `ROOM`, so that they are added without a copy of what is there.
+/// Copies the first piece of a text. After one of a page or more further pieces may come: three times as many bytes
+/// have room after it, up to `ROOM`, so that they are added without a copy of the first.
 fn begun_with(alloc: Global, text: &[u8]) -> Result<Vec<u8>, AllocError>
     ensures items { IfOk result (λ held. held.items ≡ text.now) }
 {
@@ -72,7 +72,8 @@ pub fn take_in(texts: &mut BTreeMap<i32, Vec<u8>>, number: i32) -> Option<Vec<u8
     texts.remove(&number)
 }
 
-/// Moves the text of one number to the end of another's. If an allocation fails nothing changes.
+/// Moves the text of one number to the end of another's. Room for it is allocated first, so if that fails nothing
+/// changes.
 pub fn move_in(
     alloc: Global,
     texts: &mut BTreeMap<i32, Vec<u8>>,
@@ -89,30 +90,9 @@ pub fn move_in(
     ensures sized { OnOk result (length (text_at (texts_of texts.old.entries) to
         ++ text_at (texts_of texts.old.entries) from) < 2 ^ 64) }
 {
-    if texts.contains_key(&to) {
-        join_in(alloc, texts, from, to)
-    } else {
-        place_in(alloc, texts, from, to)
+    if !texts.contains_key(&to) {
+        return place_in(alloc, texts, from, to);
     }
-}
-
-/// Appends the text of one number to that of another. Room for it is allocated first, so if that fails nothing changes.
-fn join_in(
-    alloc: Global,
-    texts: &mut BTreeMap<i32, Vec<u8>>,
-    from: i32,
-    to: i32,
-) -> Result<(), AllocError>
-    requires sorted { IsTrue (is_sorted int_cmp (texts_of texts.old.entries)) }
-    requires apart { int_eq from to ≡ false }
-    requires some { text_at (texts_of texts.old.entries) from ≢ [] }
-    ensures ok { OnOk result (texts_of texts.new.entries
-        ≡ put int_cmp to (text_at (texts_of texts.old.entries) to ++ text_at (texts_of texts.old.entries) from)
-        (without_text (texts_of texts.old.entries) from)) }
-    ensures err { OnErr result (texts_of texts.new.entries ≡ texts_of texts.old.entries) }
-    ensures sized { OnOk result (length (text_at (texts_of texts.old.entries) to
-        ++ text_at (texts_of texts.old.entries) from) < 2 ^ 64) }
-{
     let mut text = Vec::new(alloc);
     swap_in(texts, from, &mut text);
     match append_in(alloc, texts, to, &text) {
