@@ -24,7 +24,7 @@ use m4_state::state::State;
 use std::alloc::{AllocError, Global};
 
 /// A text with more bytes is a part of the slice that all such texts of its block share.
-const LONG: usize = 64;
+const LARGEST_UNSHARED: usize = 64;
 
 /// The result of loading a frozen file: a state, and the text to print before any input is read.
 pub struct Loaded {
@@ -384,7 +384,7 @@ impl Loading {
                 Bytes::from_slice(alloc, begin)?,
                 Bytes::from_slice(alloc, end)?,
             ),
-            Directive::Text(both, middle) if both.len() - *middle > LONG => {
+            Directive::Text(both, middle) if both.len() - *middle > LARGEST_UNSHARED => {
                 let len = both.len() - *middle;
                 let from = block.len() - (after + 1 + len);
                 let text = block.part(alloc, from, len)?;

@@ -13,12 +13,12 @@ use Rattle.m4_input.specs.declared.front.Mark.TheVariants.{EndQuote, BeginQuote,
 use Rattle.m4_input.specs.declared.front.Scan.TheVariants.{NeedsMore}
 use Rattle.m4_input.specs.declared.open_token.OpenToken.{OpenToken}
 use Rattle.m4_input.specs.declared.open_token.OpenToken.TheVariants as opens
-use Rattle.m4_input.specs.declared.strings.Reached.TheVariants as reached
+use Rattle.m4_input.specs.declared.strings.StringSoFar.TheVariants as string_so_far
 use Rattle.m4_input.specs.Ascii.{is_name_byte}
 use Rattle.m4_input.specs.Pending.{one_more}
 use Rattle.m4_input.specs.Token.{begins, run_length, before, mark_at, level, comment_found, comment_at, name_unless}
 use Rattle.m4_input.specs.Token.{name_at, string_found, string_at, scan_kind, scan}
-use Rattle.m4_input.specs.OpenToken.{further, kind_in, MayCome, HasPassed, Reaches, NameIsOpen, CommentIsOpen}
+use Rattle.m4_input.specs.OpenToken.{further, kind_in, MayCome, HasPassed, IsStringSoFar, NameIsOpen, CommentIsOpen}
 use Rattle.m4_input.specs.OpenToken.{StringIsOpen, IsOpenAt, StaysOpen, CommentGoesOn}
 use Rattle.m4_input.proofs.Scans.{on_mark, level_at, passed_mark, further_further, one_further, before_step}
 use Rattle.m4_input.proofs.Scans.{begins_length, mark_down, mark_up}
@@ -116,7 +116,7 @@ pub passed_so : (q : Delimiters) (o : Bool) (n : ℕ) (x : List ℕ) (m k : ℕ)
 passed_so q o n x m k s = record { within = s.within; low = s.low; same = λ p z c. s.same p z tt }
 
 -- the string goes on: nothing is left, or a quote is cut
-pub all_reached : (q : Delimiters) (o : Bool) (n : ℕ) (x : List ℕ) (m k : ℕ) → HasPassed q o n x m k → length x ≤ k → Reaches q o n x (reached.Open k m)
+pub all_reached : (q : Delimiters) (o : Bool) (n : ℕ) (x : List ℕ) (m k : ℕ) → HasPassed q o n x m k → length x ≤ k → IsStringSoFar q o n x (string_so_far.Open k m)
 all_reached q o n x m k s h = (s, passed_level q o n x m k s ∙ ap (λ (y : List ℕ). further k (level q o m 0 y)) (all_dropped x k h))
 
 -- a mark of any length at a place
@@ -149,10 +149,10 @@ module _ (q : Delimiters) (o : Bool) (n : ℕ) (x : List ℕ) (m k : ℕ) (s : H
   level_there : (v : Mark) → v ≡ mark_at q o (drop k x) → level q o n 0 x ≡ further k (on_mark q o m (drop (k + 1) x) v)
   level_there v h = passed_level q o n x m k s ∙ ap (further k) (ap (level q o m 0) there ∙ level_at q o m byte (drop (k + 1) x) v (seen v h))
 
-  pub reached_cut : CutQuote ≡ mark_at q o (drop k x) → Reaches q o n x (reached.Open k m)
+  pub reached_cut : CutQuote ≡ mark_at q o (drop k x) → IsStringSoFar q o n x (string_so_far.Open k m)
   reached_cut h = (s, level_there CutQuote h)
 
-  pub reached_end : EndQuote ≡ mark_at q o (drop k x) → m ≡ 0 → Reaches q o n x (reached.Ends k)
+  pub reached_end : EndQuote ≡ mark_at q o (drop k x) → m ≡ 0 → IsStringSoFar q o n x (string_so_far.Ends k)
   reached_end h none =
       let len : length (drop k x) ≡ length x - k = length-drop k x in
       let fits : length q.end ≤ length (drop k x) = begins_length q.end (drop k x) (mark_down _ _ _ h) in
@@ -203,13 +203,13 @@ module _ (b e : ℕ) where
       passed_level (short b e) false n x 0 k (passed_so (short b e) false n x 0 k s) ∙ ap (further k) here ∙ ap Some there
 
 -- the same, if the quotes have a name
-pub short_reached : (q : Delimiters) (b e : ℕ) (o : Bool) (n : ℕ) (x : List ℕ) (m : ℕ) → q.begin ≡ b ∷ [] → q.end ≡ e ∷ [] → HasPassed (record { begin = b ∷ []; end = e ∷ [] }) true n x m (length x) → Reaches q o n x (reached.Open (length x) m)
+pub short_reached : (q : Delimiters) (b e : ℕ) (o : Bool) (n : ℕ) (x : List ℕ) (m : ℕ) → q.begin ≡ b ∷ [] → q.end ≡ e ∷ [] → HasPassed (record { begin = b ∷ []; end = e ∷ [] }) true n x m (length x) → IsStringSoFar q o n x (string_so_far.Open (length x) m)
 short_reached q b e o n x m h g s =
     all_reached q o n x m (length x) (passed_so q o n x m (length x)
     (subst (λ (y : List ℕ). HasPassed (record { begin = q.begin; end = y }) true n x m (length x)) (sym g)
     (subst (λ (y : List ℕ). HasPassed (record { begin = y; end = e ∷ [] }) true n x m (length x)) (sym h) s))) (omega arith)
 
-pub short_ended : (q : Delimiters) (b e : ℕ) (o : Bool) (n : ℕ) (x : List ℕ) (k : ℕ) → q.begin ≡ b ∷ [] → q.end ≡ e ∷ [] → level (record { begin = b ∷ []; end = e ∷ [] }) false n 0 x ≡ Some k → k + 1 ≤ length x → Reaches q o n x (reached.Ends k)
+pub short_ended : (q : Delimiters) (b e : ℕ) (o : Bool) (n : ℕ) (x : List ℕ) (k : ℕ) → q.begin ≡ b ∷ [] → q.end ≡ e ∷ [] → level (record { begin = b ∷ []; end = e ∷ [] }) false n 0 x ≡ Some k → k + 1 ≤ length x → IsStringSoFar q o n x (string_so_far.Ends k)
 short_ended q b e o n x k h g l w =
     let one : length q.end ≡ 1 = ap length g in
     (sym (short_level q b e o n x h g) ∙ l, omega arith)
@@ -390,7 +390,7 @@ comment_stays_open q c at n x y h e g =
       k.3 ∙ ap (λ (t : List ℕ). comment_at c true t) (sym k.2) ∙ ap (comment_found c true x) none,
     )
 
-pub string_stays_open : (q c : Delimiters) (at depth n m : ℕ) (x y : List ℕ) → StringIsOpen q c at depth x → y ≡ drop (length q.begin + at) x → Reaches q true depth y (reached.Open n m) → StaysOpen q c (opens.Quoted (at + n) m) x
+pub string_stays_open : (q c : Delimiters) (at depth n m : ℕ) (x y : List ℕ) → StringIsOpen q c at depth x → y ≡ drop (length q.begin + at) x → IsStringSoFar q true depth y (string_so_far.Open n m) → StaysOpen q c (opens.Quoted (at + n) m) x
 string_stays_open q c at depth n m x y h e g =
     let w : List ℕ = drop (length q.begin) x in
     let rest : y ≡ drop at w = e ∙ sym (drop-drop at (length q.begin) x) in

@@ -1,17 +1,17 @@
 -- OpenToken: a token that a text begins and does not end, as far as it was looked at.
 -- Not believed: it connects `more_of_token` with `scan`, so that a token over many blocks is looked at once.
--- Words: further, kind_in, MayCome, HasPassed, Follows, Reaches, NameIsOpen, CommentIsOpen, StringIsOpen, IsOpenAt,
--- StaysOpen, CommentGoesOn.
+-- Words: further, kind_in, MayCome, HasPassed, IsStringAfter, IsStringSoFar, NameIsOpen, CommentIsOpen, StringIsOpen,
+-- IsOpenAt, StaysOpen, CommentGoesOn.
 use Rattle.std.specs.Prelude.{◌≡◌, ◌≤◌, ◌+◌, ℕ, Bool, true, false, List, [], ◌∷◌, ◌++◌, Option, Some, None, length}
 use Rattle.std.specs.Prelude.{drop}
 use Rattle.m4_state.specs.declared.delimiters.Delimiters.{Delimiters}
 use Rattle.m4_input.specs.declared.front.Kind.{Kind}
 use Rattle.m4_input.specs.declared.front.Kind.TheVariants.{CommentHere, NameHere, StringHere, Undecided}
 use Rattle.m4_input.specs.declared.front.Scan.TheVariants.{NeedsMore}
-use Rattle.m4_input.specs.declared.strings.Followed.{Followed}
-use Rattle.m4_input.specs.declared.strings.Followed.TheVariants as followed
-use Rattle.m4_input.specs.declared.strings.Reached.{Reached}
-use Rattle.m4_input.specs.declared.strings.Reached.TheVariants as reached
+use Rattle.m4_input.specs.declared.strings.StringAfter.{StringAfter}
+use Rattle.m4_input.specs.declared.strings.StringAfter.TheVariants as string_after
+use Rattle.m4_input.specs.declared.strings.StringSoFar.{StringSoFar}
+use Rattle.m4_input.specs.declared.strings.StringSoFar.TheVariants as string_so_far
 use Rattle.m4_input.specs.declared.open_token.OpenToken.{OpenToken}
 use Rattle.m4_input.specs.declared.open_token.OpenToken.TheVariants as opens
 use Rattle.m4_input.specs.Ascii.{is_name_byte}
@@ -41,14 +41,16 @@ pub record HasPassed (q : Delimiters) (may_follow : Bool) (n : ℕ) (x : List �
       → level q p n 0 (x ++ z) ≡ further k (level q p m 0 (drop k x ++ z))
 
 -- where a string with n nested strings open is after x, whatever comes after x
-abbrev pub Follows : Delimiters → ℕ → List ℕ → Followed → Type 0
-Follows q n x (followed.Ends k) = (level q false n 0 x ≡ Some k) × (k + 1 ≤ length x)
-Follows q n x (followed.Open m) = HasPassed q true n x m (length x)
+abbrev pub IsStringAfter : Delimiters → ℕ → List ℕ → StringAfter → Type 0
+IsStringAfter q n x (string_after.Ends k) = (level q false n 0 x ≡ Some k) × (k + 1 ≤ length x)
+IsStringAfter q n x (string_after.Open m) = HasPassed q true n x m (length x)
 
 -- the same where the end of x may cut a quote
-abbrev pub Reaches : Delimiters → Bool → ℕ → List ℕ → Reached → Type 0
-Reaches q may_follow n x (reached.Ends k) = (level q may_follow n 0 x ≡ Some k) × (k + length q.end ≤ length x)
-Reaches q may_follow n x (reached.Open k m) = HasPassed q may_follow n x m k × (level q may_follow n 0 x ≡ None)
+abbrev pub IsStringSoFar : Delimiters → Bool → ℕ → List ℕ → StringSoFar → Type 0
+IsStringSoFar q may_follow n x (string_so_far.Ends k) =
+    (level q may_follow n 0 x ≡ Some k) × (k + length q.end ≤ length x)
+IsStringSoFar q may_follow n x (string_so_far.Open k m) =
+    HasPassed q may_follow n x m k × (level q may_follow n 0 x ≡ None)
 
 -- a name: its first k bytes were looked at
 pub record NameIsOpen (q c : Delimiters) (k : ℕ) (x : List ℕ) : Type 0 where

@@ -1,7 +1,7 @@
-//! The bytes of one file that are in hand, of which a beginning was read.
+//! The bytes of one file that are in hand, and how many of them were read.
 //!
-//! A block of the file is appended. If the buffer is full, and more bytes were read than are left, the bytes that are
-//! left are moved to its front. So reading a file and moving its bytes takes time in proportion to the file.
+//! Blocks of the file are appended to a buffer. If it is full, and more of its bytes were read than are left, those left
+//! are moved to its front. So reading a file and moving its bytes takes time in proportion to the file.
 
 ghost use Rattle.std.specs.Prelude.{◌≡◌, ◌+◌, ◌<◌, ◌≤◌, ◌++◌, [], OnOk, OnErr, IfOk, Ok, true, false, length, take};
 ghost use Rattle.std.specs.Prelude.{drop, vec_len, vec_capacity, ◌-◌};
@@ -16,7 +16,7 @@ use std::marker::Model;
 /// How many bytes a reader is asked for at a time.
 const SOURCE_BLOCK: usize = 4096;
 
-/// Bytes of a file, how many of them were read, and how many newlines of the file were.
+/// Bytes of a file, how many of them were read, and how many newlines of the file were read.
 #[derive(Drop)]
 pub struct File {
     bytes: Vec<u8>,
@@ -47,8 +47,9 @@ fn count_newlines(bytes: &[u8]) -> usize
     }
 }
 
-/// How many bytes are counted at a time. Their count fits into a byte, so one instruction counts many of them.
-const FEW: usize = 255;
+/// In how many bytes newlines are counted at once. Their number fits into a byte, so one instruction looks at many
+/// bytes.
+const COUNTED_AT_ONCE: usize = 255;
 
 /// The same for any number of bytes. Not inlined, so that the loop has the registers for itself.
 #[inline(never)]
@@ -57,15 +58,15 @@ fn count_each_newline(bytes: &[u8]) -> usize
 {
     let mut count = 0usize;
     let mut rest = bytes;
-    while rest.len() > FEW {
-        let (few, others) = rest.split_at(FEW);
+    while rest.len() > COUNTED_AT_ONCE {
+        let (few, others) = rest.split_at(COUNTED_AT_ONCE);
         count += usize::from(count_few(few));
         rest = others;
     }
     count + usize::from(count_few(rest))
 }
 
-/// The same for so few bytes that a byte can count them.
+/// The same for at most 255 bytes, whose newlines one byte can count.
 #[inline(always)]
 fn count_few(bytes: &[u8]) -> u8
     requires { length bytes.now ≤ 255 }
@@ -93,7 +94,7 @@ fn move_to_front(bytes: &mut Vec<u8>, at: usize)
 }
 
 /// Appends bytes for which there is room.
-fn append(bytes: &mut Vec<u8>, more: &[u8])
+fn append_in_room(bytes: &mut Vec<u8>, more: &[u8])
     requires { vec_len bytes.old + length more.now ≤ vec_capacity bytes.old }
     ensures { bytes.new.items ≡ bytes.old.items ++ more.now }
 {
@@ -149,7 +150,7 @@ impl File {
         let mut block = [0u8; SOURCE_BLOCK];
         match reader.take(&mut block) {
             Ok(n) => {
-                append(&mut self.bytes, &block[..n]);
+                append_in_room(&mut self.bytes, &block[..n]);
                 Ok(n > 0)
             }
             Err(DeviceFault) => Err(InputFault::Read),

@@ -1,9 +1,9 @@
 //! The input that a run has not read yet: at most one definition, then pushed text, then the rest of one file.
 //!
 //! The file is read in blocks. `more` asks the reader for one. `next`, `sees_paren` and `skip_line` ask only
-//! while the bytes in hand do not decide what they return. If the reader or an allocation fails, what was read
-//! is still in hand, but for what `skip_line` has skipped, and every later call that can fail returns the same
-//! fault. `push_front` is the exception: if it runs out of memory, it may be called again.
+//! while the bytes in hand do not decide what they return. If the reader or an allocation fails, the bytes that were
+//! read are still in hand, except those that `skip_line` has discarded, and every later call that can fail returns the
+//! same fault. `push_front` is the exception: if it runs out of memory, it may be called again.
 //!
 //! Contracts see `Held` (`specs/Input.antt`). Manual: "How m4 copies input to output".
 
@@ -189,7 +189,7 @@ impl Input {
         Some(self.text.front())
     }
 
-    /// Copies the first bytes, at most so many, also where they are not contiguous. Returns whether others in hand come
+    /// Copies the first bytes, at most `most`, also if they are not contiguous. Returns whether others in hand come
     /// after them.
     #[doc(hidden)]
     pub fn copy_front(&self, most: usize, copy: &mut Vec<u8>) -> Result<bool, AllocError>
@@ -201,7 +201,7 @@ impl Input {
         self.text.copy_front(most, copy)
     }
 
-    /// Returns a buffer without contents, which may have memory: that of a text that was read to its end.
+    /// Returns an empty buffer. It has the memory of a text that was read to its end, if one was kept.
     #[doc(hidden)]
     pub fn take_buffer(&mut self) -> Vec<u8>
         ensures empty { result.items ≡ [] }
@@ -218,7 +218,7 @@ impl Input {
         // exact steps: the rest after n bytes
         ensures { self.new ≡ record self.old { pending = consumed n self.old.pending } }
     {
-        // Hardly ever is there one, and dropping none takes more than the test.
+        // There is hardly ever one, and the test takes less time than dropping none.
         if self.definition.is_some() {
             self.drop_definition();
         }
@@ -371,7 +371,7 @@ impl Input {
         requires sound { self.old.fault ≡ None }
         // exact steps: a block of the reader after the bytes in hand, or its end
         ensures gives { BlockGives (R.script reader.old) (R.script reader.new) self.old self.new result }
-        // bytes come only so many times
+        // bytes come only a limited number of times
         ensures falls { result ≡ Ok true → R.takes_left reader.new < R.takes_left reader.old }
         ensures counted { R.failures reader.new
             ≡ failures_after self.old.fault self.new.fault (R.failures reader.old) }
@@ -400,7 +400,7 @@ impl Input {
         // token was open
         ensures gives { TokenGives (pair_of delims.now.quotes) (pair_of delims.now.comments)
             (R.script reader.old) (R.script reader.new) self.old self.new result }
-        // the reader is at its end, or bytes came, which they do only so many times
+        // the reader is at its end, or bytes came, which they do only a limited number of times
         ensures falls { result ≡ Ok tt → self.new.pending.may_follow ≡ true
             → R.takes_left reader.new < R.takes_left reader.old }
         ensures counted { R.failures reader.new
@@ -422,7 +422,7 @@ impl Input {
         }
     }
 
-    /// Returns the first token of the bytes in hand if it may go on in bytes that follow. Returns `None` too if an
+    /// Returns the first token of the bytes in hand if it may continue in bytes that follow. Also returns `None` if an
     /// allocation fails.
     fn open_token(&self, delims: &Delims<'_>) -> Option<OpenToken>
         ensures { IfSome result (λ o. (self.now.pending.definition ≡ None)
@@ -477,8 +477,8 @@ impl Input {
         copied(self.alloc, look, text)
     }
 
-    /// Returns the first token, which more than so many bytes decide: those at the start are joined, twice as many at
-    /// each look, so that each byte of a token is copied and looked at but a few times.
+    /// Returns the first token, which the first `fewer` bytes leave open: more bytes are joined, twice as many at each
+    /// look, so that each byte of a token is copied and looked at only a few times.
     fn look_across(&self, fewer: usize, delims: &Delims<'_>) -> Result<Scan, AllocError>
         ensures value { IfOk result (λ s. s ≡ scan (pair_of delims.now.quotes) (pair_of delims.now.comments)
             self.now.pending.may_follow (text_of self.now.pending)) }
@@ -521,7 +521,7 @@ impl Input {
         self.list_across(n, delims)
     }
 
-    /// Returns the same by a copy of so many bytes that no delimiter is cut.
+    /// Returns the same by a copy of enough bytes that no delimiter is cut.
     fn list_across(&self, n: usize, delims: &Delims<'_>) -> Result<Answer, AllocError>
         requires { n ≤ length (text_of self.now.pending) }
         ensures { IfOk result (λ answer. ListGives (pair_of delims.now.quotes) (pair_of delims.now.comments) n

@@ -1,5 +1,5 @@
-//! Sixteen bytes that are looked at together: most names, strings and pieces of a text are short, and to look at their
-//! bytes one by one takes longer. A text with fewer bytes is looked at by the callers.
+//! Looks at sixteen bytes together. Most names, strings and pieces of a text are short, and to look at their bytes one
+//! by one takes longer. The callers look at a text of fewer bytes themselves.
 
 ghost use Rattle.std.specs.Prelude.{◌≡◌, ◌==◌, ◌+◌, ◌<◌, ◌≤◌, ℕ, Bool, List, not, drop, length, map};
 ghost use Rattle.std.specs.List.{prefix_len};
@@ -42,7 +42,7 @@ fn either_marks(lanes: u8x16, one: u8, other: u8) -> u64
     (lanes.simd_eq(u8x16::splat(one)) | lanes.simd_eq(u8x16::splat(other))).to_bitmask()
 }
 
-/// Returns a bit for each lane: whether its byte is none that may occur in a name.
+/// Returns a bit for each lane: whether its byte may not occur in a name.
 #[inline(always)]
 fn other_marks(lanes: u8x16) -> u64
     ensures { result ≡ mask_l (map (λ (b : ℕ). not (is_name_byte b)) lanes) }
@@ -56,8 +56,7 @@ fn other_marks(lanes: u8x16) -> u64
         & lanes.simd_ne(u8x16::splat(b'_'))).to_bitmask()
 }
 
-/// Counts the bytes from a place on before the first one that is this byte. It looks at sixteen, and returns 16 if none
-/// of them is.
+/// Counts the bytes from a place on before the first one of this value, among sixteen; 16 if there is none.
 #[inline(always)]
 pub fn len_before(byte: u8, text: &[u8], at: usize) -> usize
     requires room { at + 16 ≤ length text.now }
@@ -69,8 +68,7 @@ pub fn len_before(byte: u8, text: &[u8], at: usize) -> usize
     first_lane(equal_marks(u8x16::from_slice(&text[at..]), byte))
 }
 
-/// Counts the bytes from a place on before the first that is one of these two. It looks at sixteen, and returns 16 if
-/// none of them is.
+/// Counts the bytes from a place on before the first one of these two values, among sixteen; 16 if there is none.
 #[inline(always)]
 pub(crate) fn len_before_either(one: u8, other: u8, text: &[u8], at: usize) -> usize
     requires room { at + 16 ≤ length text.now }
@@ -81,7 +79,7 @@ pub(crate) fn len_before_either(one: u8, other: u8, text: &[u8], at: usize) -> u
     first_lane(either_marks(u8x16::from_slice(&text[at..]), one, other))
 }
 
-/// Counts the bytes of the name at the start, if it has fewer than sixteen, and else returns 16.
+/// Returns the length of the name at the start, or 16 if it has sixteen bytes or more.
 #[inline(always)]
 pub(crate) fn short_word_len(text: &[u8]) -> usize
     requires room { 16 ≤ length text.now }

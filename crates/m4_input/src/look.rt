@@ -1,7 +1,7 @@
 //! One look at the front of a text: which token is it, and how long is it? Nothing is copied, and no name is
 //! looked up. If more bytes may follow (`may_follow`), nothing is decided that they could change.
 //!
-//! A run looks at each token of its text, so that the look is inlined, and tests the first byte before it
+//! A run looks at each token of its text, so the look is inlined, and tests the first byte before it
 //! compares a delimiter. Manual: "Lexical and syntactic conventions".
 
 ghost use Rattle.std.specs.Prelude.{◌≡◌, ◌<◌, ◌≤◌, ◌∷◌, [], Bool, List, ℕ, false, IfSome, length, drop};
@@ -16,7 +16,7 @@ use crate::delims::{Delims, Pair};
 use crate::front::{Answer, Kind, Look, Unended};
 use crate::scan::{kind, may_open, opens};
 use crate::slice::{find, is_letter_byte, single, word_len};
-use crate::strings::{Reached, follow, quoted_len};
+use crate::strings::{StringSoFar, follow_string, quoted_len};
 
 /// Returns the first token of a text, if no delimiter can begin with its first byte. This takes no search.
 #[inline(always)]
@@ -128,9 +128,9 @@ fn look_at_string(text: &[u8], pair: &Pair<'_>, may_follow: bool) -> Look
     ensures lies { LookLies text.now result }
 {
     let begin = pair.0.len();
-    match follow(text.split_at(begin).1, 0, pair, may_follow) {
-        Reached::Open(_, _) => without_end(Unended::InString, may_follow),
-        Reached::Ends(n) => Look::Quoted(begin, n, begin + (n + pair.1.len())),
+    match follow_string(text.split_at(begin).1, 0, pair, may_follow) {
+        StringSoFar::Open(_, _) => without_end(Unended::InString, may_follow),
+        StringSoFar::Ends(n) => Look::Quoted(begin, n, begin + (n + pair.1.len())),
     }
 }
 

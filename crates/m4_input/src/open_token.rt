@@ -1,7 +1,7 @@
 //! Tokens that the bytes in hand begin and do not end.
 //!
-//! A token may span any number of blocks. After each of them only the bytes that came are looked at, and bytes of the
-//! token that were pushed are copied for the first look alone, so that this takes time in proportion to the token.
+//! A token may span any number of blocks. After each of them only its bytes are looked at, and bytes of the token that
+//! were pushed are copied only for the first look, so that this takes time in proportion to the token.
 //! Manual: "Names", "Quoted strings", "Comments".
 
 ghost use Rattle.std.specs.Prelude.{◌≡◌, ◌<◌, ◌^◌, IfSome, length};
@@ -13,18 +13,18 @@ use crate::delims::Delims;
 use crate::front::Kind;
 use crate::scan::kind;
 use crate::slice::{find, word_len};
-use crate::strings::{Reached, follow};
+use crate::strings::{StringSoFar, follow_string};
 use crate::text::Text;
 use std::alloc::Global;
 
-/// A token that may go on in bytes that follow, and how far it was looked at.
+/// A token that may continue in bytes that follow, and how far it was looked at.
 #[derive(Clone, Copy)]
 pub enum OpenToken {
-    /// A name, of which so many bytes were looked at.
+    /// A name, and how many of its bytes were looked at.
     Name(usize),
-    /// A comment: its end begins at none of so many bytes after its begin.
+    /// A comment, and how many bytes after its begin are known not to begin its end.
     Comment(usize),
-    /// A string: so many bytes after its begin-quote were looked at, and so many nested strings are open there.
+    /// A string, how many bytes after its begin-quote were looked at, and how many nested strings are open after them.
     Quoted(usize, usize),
 }
 
@@ -43,14 +43,14 @@ fn comment_goes_on(text: &[u8], end: &[u8]) -> Option<usize>
 }
 
 impl Text {
-    /// Returns the first token if it may go on in bytes that follow. Nothing of it was looked at. Returns `None` too
-    /// if an allocation fails.
+    /// Returns the first token if it may continue in bytes that follow; none of its bytes counts as looked at. Also
+    /// returns `None` if an allocation fails.
     pub fn open_token(&self, alloc: Global, delims: &Delims<'_>) -> Option<OpenToken>
         ensures { IfSome result (λ o. IsOpenAt (pair_of delims.now.quotes) (pair_of delims.now.comments) o
             (text_in self.now)) }
     {
         let mut copy = Vec::new(alloc);
-        let text = self.rest(0, &mut copy)?;
+        let text = self.bytes_from(0, &mut copy)?;
         let first = text.first()?;
         match kind(text, delims, true, *first) {
             Kind::NameHere => Some(OpenToken::Name(0)),
@@ -60,8 +60,8 @@ impl Text {
         }
     }
 
-    /// Looks at an open token from the place on up to which it was looked at. Returns it if it is still open. Returns
-    /// `None` too if an allocation fails.
+    /// Looks at the bytes of an open token that were not looked at yet. Returns it if it is still open. Also returns
+    /// `None` if an allocation fails.
     pub fn still_open(
         &self,
         alloc: Global,
@@ -77,22 +77,25 @@ impl Text {
         let mut copy = Vec::new(alloc);
         match token {
             OpenToken::Name(at) => {
-                let rest = self.rest(at, &mut copy)?;
+                let rest = self.bytes_from(at, &mut copy)?;
                 if word_len(rest) < rest.len() {
                     return None;
                 }
                 Some(OpenToken::Name(at + rest.len()))
             }
             OpenToken::Comment(at) => {
-                let rest = self.rest(delims.comments.0.len() + at, &mut copy)?;
+                let rest = self.bytes_from(delims.comments.0.len() + at, &mut copy)?;
                 let further = comment_goes_on(rest, delims.comments.1)?;
                 Some(OpenToken::Comment(at + further))
             }
             OpenToken::Quoted(at, depth) => {
-                let rest = self.rest(delims.quotes.0.len() + at, &mut copy)?;
-                match follow(rest, depth, &delims.quotes, true) {
-                    Reached::Ends(_) => None,
-                    Reached::Open(further, nested) => Some(OpenToken::Quoted(at + further, nested)),
+                let rest = self.bytes_from(delims.quotes.0.len() + at, &mut copy)?;
+                match follow_string(rest, depth, &delims.quotes, true) {
+                    StringSoFar::Ends(_) => None,
+                    StringSoFar::Open(further, nested) => Some(OpenToken::Quoted(
+                        at + further,
+                        nested,
+                    )),
                 }
             }
         }

@@ -23,7 +23,7 @@ pub fn opens(text: &[u8], pair: &Pair<'_>) -> bool
     !pair.0.is_empty() && starts(text, pair.0)
 }
 
-/// Returns whether, with more bytes, it may turn out to begin so.
+/// Returns whether a text may turn out to begin with the pair once more bytes follow.
 pub fn may_open(text: &[u8], pair: &Pair<'_>, may_follow: bool) -> bool
     ensures { result ≡ may_start (pair_of pair.now) may_follow text.now }
 {
@@ -75,7 +75,7 @@ pub fn copied(alloc: Global, look: Look, text: &[u8]) -> Result<Scan, AllocError
     Ok(found)
 }
 
-/// Copies so many bytes of a text from a place on.
+/// Copies `len` bytes of a text from a place on.
 fn front_of(alloc: Global, text: &[u8], at: usize, len: usize) -> Result<Bytes, AllocError>
     requires { at + len ≤ length text.now }
     ensures { IfOk result (λ b. b ≡ take len (drop at text.now)) }

@@ -8,8 +8,8 @@ ghost use Rattle.m4_input.specs.Token.{begins, is_cut, run_length, before};
 use crate::lanes::{LANES, short_word_len};
 use memchr::memchr;
 
-// Each byte of a name is at its own place, and a comma at every other place: to look a byte up takes half of what the
-// comparisons with letters, digits and the underscore do.
+// A byte that may occur in a name is at its own place, and a comma is at all others. To look a byte up takes half the
+// time of comparing it with letters, digits and the underscore.
 static NAME_BYTES: [u8; 256] = *b"\
     ,,,,,,,,,,,,,,,,,,,,,,,,,,,,,,,,\
     ,,,,,,,,,,,,,,,,0123456789,,,,,,\
@@ -61,8 +61,8 @@ pub fn single(delimiter: &[u8]) -> Option<u8>
     if rest.is_empty() { Some(*first) } else { None }
 }
 
-/// Counts the bytes before the first such byte.
-pub fn len_before(text: &[u8], byte: u8) -> Option<usize>
+/// Counts the bytes before the first one of this value; `None` if there is none.
+pub fn find_byte(text: &[u8], byte: u8) -> Option<usize>
     ensures value { result ≡ before (byte ∷ []) text.now }
     ensures within { IfSome result (λ n. n + 1 ≤ length text.now) }
 {
@@ -90,13 +90,13 @@ pub fn cut(text: &[u8], delimiter: &[u8]) -> bool
     starts(delimiter, text) && text.len() < delimiter.len()
 }
 
-/// Counts the bytes before the first such delimiter. An empty one is found at each byte.
+/// Counts the bytes before the first such delimiter; `None` if there is none. An empty one is found at each byte.
 pub fn find(text: &[u8], delimiter: &[u8]) -> Option<usize>
     ensures value { result ≡ before delimiter.now text.now }
     ensures within { IfSome result (λ n. n + length delimiter.now ≤ length text.now) }
 {
     match single(delimiter) {
-        Some(byte) => len_before(text, byte),
+        Some(byte) => find_byte(text, byte),
         None => find_long(text, delimiter),
     }
 }
@@ -121,7 +121,7 @@ pub fn line_len(text: &[u8]) -> Option<usize>
     ensures value { result ≡ line_length text.now }
     ensures within { IfSome result (λ n. n ≤ length text.now) }
 {
-    match len_before(text, b'\n') {
+    match find_byte(text, b'\n') {
         Some(n) => Some(n + 1),
         None => None,
     }

@@ -3,7 +3,7 @@
 
 ghost use Rattle.std.specs.Prelude.{◌≡◌, ◌+◌, ◌^◌, ◌<◌, ◌≤◌, ◌∷◌, [], false, IfSome, length};
 ghost use Rattle.m4_input.specs.DelimsView.{pair_of};
-ghost use Rattle.m4_input.specs.OpenToken.{Follows, Reaches};
+ghost use Rattle.m4_input.specs.OpenToken.{IsStringAfter, IsStringSoFar};
 ghost use Rattle.m4_input.specs.Token.{level, mark_at};
 ghost use Rattle.memchr.specs.Find.{IsFirstByte, is_byte2};
 
@@ -15,30 +15,29 @@ use memchr::memchr2;
 
 /// Where a string is after a text.
 #[derive(Clone, Copy)]
-pub enum Followed {
-    /// It ends in the text: so many bytes come before the end-quote that closes it.
+pub enum StringAfter {
+    /// It ends in the text: how many bytes come before the end-quote that closes it.
     Ends(usize),
-    /// It goes on: so many nested strings are open after the text.
+    /// It goes on: how many nested strings are open after the text.
     Open(usize),
 }
 
 /// Where a string is after a text whose end may cut a quote.
 #[derive(Clone, Copy)]
-pub enum Reached {
-    /// It ends in the text: so many bytes come before the end-quote that closes it.
+pub enum StringSoFar {
+    /// It ends in the text: how many bytes come before the end-quote that closes it.
     Ends(usize),
-    /// It goes on: so many bytes are decided, and so many nested strings are open after them.
+    /// It goes on: how many bytes are decided, and how many nested strings are open after them.
     Open(usize, usize),
 }
 
-/// So many bytes from each place in a string on are looked at, sixteen at a time, before a search begins, which takes
-/// longer to start.
+/// How many bytes are looked at, sixteen at a time, before a search begins. A search takes longer to start.
 const NEAR: usize = 64;
 
 /// Follows a string through a text, before which `depth` nested strings are open: from quote to quote.
-pub fn follow_quoted(text: &[u8], depth: usize, begin: u8, end: u8) -> Followed
+pub fn follow_quoted(text: &[u8], depth: usize, begin: u8, end: u8) -> StringAfter
     requires { depth + length text.now < 2 ^ 64 }
-    ensures { Follows (record { begin = begin ∷ []; end = end ∷ [] }) depth text.now result }
+    ensures { IsStringAfter (record { begin = begin ∷ []; end = end ∷ [] }) depth text.now result }
 {
     let mut nested = depth;
     let mut k = 0usize;
@@ -47,13 +46,13 @@ pub fn follow_quoted(text: &[u8], depth: usize, begin: u8, end: u8) -> Followed
         if text[k] != end {
             nested += 1;
         } else if nested == 0 {
-            return Followed::Ends(k);
+            return StringAfter::Ends(k);
         } else {
             nested -= 1;
         }
         k += 1;
     }
-    Followed::Open(nested)
+    StringAfter::Open(nested)
 }
 
 /// Returns how many bytes of a text are looked at sixteen at a time: none if it has fewer.
@@ -89,7 +88,7 @@ fn first_of_two(one: u8, other: u8, text: &[u8]) -> Option<usize>
     Some(k + found)
 }
 
-/// Returns the same by a search. Not inlined, so that a short string waits for nothing that a search prepares.
+/// Returns the same by a search. Not inlined, so that a short string does not pay for what a search prepares.
 #[inline(never)]
 fn first_far(one: u8, other: u8, text: &[u8]) -> Option<usize>
     ensures { IsFirstByte (is_byte2 one other) text.now result }
@@ -103,32 +102,32 @@ pub fn quoted_len(text: &[u8], begin: u8, end: u8) -> Option<usize>
     ensures within { IfSome result (λ n. n + 1 ≤ length text.now) }
 {
     match follow_quoted(text, 0, begin, end) {
-        Followed::Ends(len) => Some(len),
-        Followed::Open(_) => None,
+        StringAfter::Ends(len) => Some(len),
+        StringAfter::Open(_) => None,
     }
 }
 
 /// Follows a string through a text, before which `depth` nested strings are open.
-pub fn follow(text: &[u8], depth: usize, quotes: &Pair<'_>, may_follow: bool) -> Reached
+pub fn follow_string(text: &[u8], depth: usize, quotes: &Pair<'_>, may_follow: bool) -> StringSoFar
     requires begin { 0 < length quotes.now.0.now }
     requires small { depth + length text.now < 2 ^ 64 }
-    ensures { Reaches (pair_of quotes.now) may_follow depth text.now result }
+    ensures { IsStringSoFar (pair_of quotes.now) may_follow depth text.now result }
 {
     match (single(quotes.0), single(quotes.1)) {
         // Quotes of one byte are never cut.
         (Some(begin), Some(end)) => match follow_quoted(text, depth, begin, end) {
-            Followed::Ends(len) => Reached::Ends(len),
-            Followed::Open(nested) => Reached::Open(text.len(), nested),
+            StringAfter::Ends(len) => StringSoFar::Ends(len),
+            StringAfter::Open(nested) => StringSoFar::Open(text.len(), nested),
         },
         _ => follow_by_marks(text, depth, quotes, may_follow),
     }
 }
 
 /// The same for quotes of any length: from mark to mark.
-fn follow_by_marks(text: &[u8], depth: usize, quotes: &Pair<'_>, may_follow: bool) -> Reached
+fn follow_by_marks(text: &[u8], depth: usize, quotes: &Pair<'_>, may_follow: bool) -> StringSoFar
     requires begin { 0 < length quotes.now.0.now }
     requires small { depth + length text.now < 2 ^ 64 }
-    ensures { Reaches (pair_of quotes.now) may_follow depth text.now result }
+    ensures { IsStringSoFar (pair_of quotes.now) may_follow depth text.now result }
 {
     let mut open = depth;
     let mut k = 0usize;
@@ -136,10 +135,10 @@ fn follow_by_marks(text: &[u8], depth: usize, quotes: &Pair<'_>, may_follow: boo
         match mark(text.split_at(k).1, quotes, may_follow) {
             Mark::EndQuote => {
                 if open == 0 {
-                    return Reached::Ends(k);
+                    return StringSoFar::Ends(k);
                 }
                 open -= 1;
-                // An empty end-quote is found at each byte, and takes it.
+                // An empty end-quote is found at each byte, and consumes it.
                 k += quotes.1.len().max(1);
             }
             Mark::BeginQuote => {
@@ -147,10 +146,10 @@ fn follow_by_marks(text: &[u8], depth: usize, quotes: &Pair<'_>, may_follow: boo
                 k += quotes.0.len();
             }
             Mark::PlainByte => k += 1,
-            Mark::CutQuote => return Reached::Open(k, open),
+            Mark::CutQuote => return StringSoFar::Open(k, open),
         }
     }
-    Reached::Open(k, open)
+    StringSoFar::Open(k, open)
 }
 
 /// Returns the mark with which a text in a string begins.

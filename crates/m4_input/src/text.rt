@@ -1,8 +1,8 @@
 //! The bytes of an input: a stack of segments that calls pushed, and then the bytes of one file.
 //!
-//! The segment that is read first is apart from those below it. It leaves when it is read to its end: the next one
-//! takes its place, and so does a text that is pushed. To push a text takes no copy, and to consume bytes takes
-//! time in proportion to the segments that they end.
+//! The segment that is read first is held apart from those below it. When it is read to its end it is removed, and the
+//! next one takes its place, or a text that is pushed. Pushing a text copies nothing, and consuming bytes takes time in
+//! proportion to the number of segments that end in them.
 
 ghost use Rattle.std.specs.Prelude.{◌≡◌, ◌≢◌, ◌<◌, ◌≤◌, ◌^◌, ◌++◌, ◌+◌, [], IfSome, IfOk, OnOk, OnErr, Ok, true, false};
 ghost use Rattle.std.specs.Prelude.{length, take, drop, nat_lt};
@@ -16,10 +16,10 @@ use m4_state::device::ByteSource;
 use std::alloc::{AllocError, AllocFailed, Global};
 use std::marker::Model;
 
-/// How long the text of a segment may be, and those of the segments below it together.
-const MOST: usize = 1 << 62;
+/// The greatest length of the text of a segment, and of all segments below it together.
+const MOST_PUSHED: usize = 1 << 62;
 
-/// How many bytes a buffer that is kept has room for at most.
+/// The greatest capacity of a buffer that is kept.
 const LARGEST_KEPT: usize = 65536;
 
 /// Pending bytes, and how many newlines of the file were read.
@@ -53,7 +53,7 @@ fn keep(buffer: &mut Vec<u8>, spent: Segment) {
     }
 }
 
-/// Appends bytes up to a length of all of them together.
+/// Appends bytes until the copy has `most` bytes, or all of them if they are fewer.
 fn append_most(copy: &mut Vec<u8>, bytes: &[u8], most: usize) -> Result<(), AllocError>
     requires { length copy.old.items ≤ most }
     ensures { OnOk result (copy.new.items ≡ take most (copy.old.items ++ bytes.now)) }
@@ -124,7 +124,7 @@ impl Text {
         }
     }
 
-    /// Copies the first bytes, at most so many. Returns whether others come after them. Inlined, since a pass calls it
+    /// Copies the first bytes, at most `most`. Returns whether others come after them. Inlined, since a pass calls it
     /// for each short result.
     #[inline(always)]
     pub fn copy_front(&self, most: usize, copy: &mut Vec<u8>) -> Result<bool, AllocError>
@@ -144,7 +144,7 @@ impl Text {
 
     /// Returns the bytes from a place on: those of the file, or of a copy of all bytes if some of them were pushed.
     /// Returns `None` if an allocation fails.
-    pub fn rest<'a>(&'a self, at: usize, copy: &'a mut Vec<u8>) -> Option<&'a [u8]>
+    pub fn bytes_from<'a>(&'a self, at: usize, copy: &'a mut Vec<u8>) -> Option<&'a [u8]>
         requires { at ≤ length (text_in self.now) }
         ensures { IfSome result (λ x. x.now ≡ drop at (text_in self.now)) }
     {
@@ -168,7 +168,7 @@ impl Text {
         if segment.len() == 0 {
             return Ok(());
         }
-        if segment.len() > MOST {
+        if segment.len() > MOST_PUSHED {
             return Err(AllocError);
         }
         if self.top.len() == 0 {
@@ -178,7 +178,7 @@ impl Text {
         self.push_above(segment)
     }
 
-    /// Puts a segment above the first one.
+    /// Pushes a segment above the one that is read now.
     #[inline(never)]
     fn push_above(&mut self, segment: Segment) -> Result<(), AllocError>
         requires short { length segment ≤ 2 ^ 62 }
@@ -187,7 +187,7 @@ impl Text {
         ensures err { OnErr result (self.new ≡ self.old) }
     {
         let held = self.held + self.top.len();
-        if held > MOST {
+        if held > MOST_PUSHED {
             return Err(AllocError);
         }
         let top = std::mem::replace(&mut self.top, segment);
@@ -246,7 +246,7 @@ impl Text {
     }
 
     /// Discards the first n bytes, of several segments or of segments and the file. A segment that is read to its end
-    /// leaves.
+    /// is removed.
     #[inline(never)]
     fn consume_across(&mut self, n: usize)
         requires { n ≤ length (text_in self.old) }

@@ -1,6 +1,6 @@
 use Rattle.std.proofs.Common.{sym, ◌∙◌}
 use Rattle.m4_input.proofs.ByteSearch.{first_before, first_within, here_first, none_left}
-use Rattle.m4_input.proofs.slice.len_before.Goals as goal
+use Rattle.m4_input.proofs.slice.find_byte.Goals as goal
 
 pub returns-then-first-byte : goal.returns-then-first-byte
 returns-then-first-byte c =

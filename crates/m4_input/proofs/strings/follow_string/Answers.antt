@@ -1,6 +1,6 @@
 use Rattle.m4_input.specs.DelimsView.{pair_of}
 use Rattle.m4_input.proofs.OpenTokens.{short_reached, short_ended}
-use Rattle.m4_input.proofs.strings.follow.Goals as goal
+use Rattle.m4_input.proofs.strings.follow_string.Goals as goal
 
 pub returns-in-Open : goal.returns-in-Open
 returns-in-Open c =

@@ -19,7 +19,7 @@ returns-in-Ok-take-clause-gives g c =
       small,
       ap (nat_lt 0) (sym lx),
       (λ e. let z : c.in-Ok-take.n ≡ 0 = sym lx ∙ ap length e in c.in-Ok-take.ensures.end (ap Ok z)),
-      ap (λ (y : List ℕ). let t : HeldText = record { pushed = []; unread = drop c.in-Ok.at y; newlines = f.newlines } in t) c.append.ensures
+      ap (λ (y : List ℕ). let t : HeldText = record { pushed = []; unread = drop c.in-Ok.at y; newlines = f.newlines } in t) c.append_in_room.ensures
           ∙ ap (λ (y : List ℕ). let t : HeldText = record { pushed = []; unread = y; newlines = f.newlines } in t) (drop-append-le c.in-Ok.at b1 x within ∙ ap (λ (y : List ℕ). y ++ x) same)
           ∙ ap (λ (t : HeldText). let u : HeldText = record t { unread = t.unread ++ x } in u) c.self.view_is,
     )

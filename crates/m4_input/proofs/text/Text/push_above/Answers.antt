@@ -10,7 +10,7 @@ invariant_of-self c =
     let items : c.push.new.self.items ≡ below ++ top ∷ [] = c.in-Ok.ensures.items ∙ ap (λ (x : List ℕ). below ++ x ∷ []) c.replace-top.ensures.value in
     let long : length (joined c.push.new.self.items) ≡ length top + length (joined below) = ap (λ (x : List (List ℕ)). length (joined x)) items ∙ joined_length below top in
     let over : length c.replace-top.new.dest ≡ length c.args.segment = ap length c.replace-top.ensures.after in
-    ((omega (arith, long, c.len.ensures, c.self.invariant), omega (arith, c.if-held-gt-MOST.false), omega (arith, over, c.requires.short)), λ h. absurd (c.requires.some (sym c.replace-top.ensures.after ∙ h)))
+    ((omega (arith, long, c.len.ensures, c.self.invariant), omega (arith, c.if-held-gt-MOST_PUSHED.false), omega (arith, over, c.requires.short)), λ h. absurd (c.requires.some (sym c.replace-top.ensures.after ∙ h)))
 
 pub returns-in-Ok-clause-ok : goal.returns-in-Ok-clause-ok
 returns-in-Ok-clause-ok c =
