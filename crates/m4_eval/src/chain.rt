@@ -24,7 +24,7 @@ pub(crate) fn chain_value(text: &[u8]) -> Option<Option<i32>>
     let mut left = None;
     let mut rest = text;
     while !rest.is_empty() {
-        let (value, after) = read_operand(rest)?;
+        let (value, after) = next_operand(rest)?;
         let Some((byte, more)) = after.split_first() else {
             return join_left(left, 1, value);
         };
@@ -53,7 +53,7 @@ fn join_left(left: Option<(Option<i32>, Operator)>, least: u8, value: i32) -> Op
 /// Reads a literal, perhaps with a minus before it, and the white space around it. Returns its value, and
 /// the text after it.
 #[inline(always)]
-fn read_operand(text: &[u8]) -> Option<(i32, &[u8])>
+fn next_operand(text: &[u8]) -> Option<(i32, &[u8])>
     ensures value { IfSome result (λ r. (w : List Frame)
         → values_from zero (place w None) text.now ≡ values_from zero (with_signs w (Some r.0)) r.1.now) }
     ensures fewer { IfSome result (λ r. length r.1.now < length text.now) }

@@ -2,7 +2,7 @@
 use Rattle.std.proofs.Common.{rules, zero, Some, sym, ap, ◌∙◌, w32, SFits, to_z-of_z}
 use Rattle.m4_eval.specs.EvaluateSteps.{with_signs, values_from}
 use Rattle.m4_eval.proofs.Chains.{operand_read}
-use Rattle.m4_eval.proofs.chain.read_operand.Goals as goal
+use Rattle.m4_eval.proofs.chain.next_operand.Goals as goal
 
 pub returns-clause-value : goal.returns-clause-value
 returns-clause-value c w =
