@@ -563,7 +563,8 @@ unfolding digits
 ifelse_of_eight = refl
 
 -- ifelse of ten
-ifelse_of_ten : seen (act (defs.Builtin Ifelse) [] (args.Text (codes "a") ∷ args.Text (codes "b") ∷ args.Text (codes "1") ∷ args.Text (codes "c") ∷ args.Text (codes "d") ∷ args.Text (codes "2") ∷ args.Text (codes "e") ∷ args.Text (codes "e") ∷ args.Text (codes "3") ∷ args.Text (codes "4") ∷ []) here bare)
+ifelse_of_ten : seen (act (defs.Builtin Ifelse) [] (args.Text (codes "a") ∷ args.Text (codes "b") ∷ args.Text (codes "1") ∷ args.Text (codes "c") ∷ args.Text (codes "d") ∷ args.Text (codes "2") ∷
+    args.Text (codes "e") ∷ args.Text (codes "e") ∷ args.Text (codes "3") ∷ args.Text (codes "4") ∷ []) here bare)
     ≡ record (still bare) { text = codes "3" }
 unfolding digits
 ifelse_of_ten = refl

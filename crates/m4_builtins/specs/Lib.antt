@@ -3,6 +3,7 @@ pub mod Subst
 pub mod Messages
 pub mod Acted
 pub mod Numeric
+pub mod NameRead
 pub mod Naming
 pub mod Branching
 pub mod Delimiting

@@ -6,13 +6,12 @@ ghost use Rattle.m4_input.specs.declared.pushed.Pushed.TheVariants as pushes;
 ghost use Rattle.m4_builtins.specs.Acted.{nothing};
 ghost use Rattle.m4_builtins.specs.Arithmetic as spec;
 
-use crate::args::{Arg, text_at};
+use crate::args::Arg;
 use crate::effect_buffer::EffectBuffer;
-use crate::number::number_in;
+use crate::number::first_number;
 use crate::place::Place;
 use itoa::Buffer;
 use m4_state::builtin::Builtin;
-use m4_state::bytes::Bytes;
 use std::alloc::AllocError;
 
 /// Adds 1 to a number; the greatest number wraps to the least. Manual: "Decrement and increment
@@ -21,15 +20,9 @@ pub(crate) fn incr(effect: &mut EffectBuffer, list: &[Arg], place: &Place) -> Re
     requires { effect.old ≡ nothing }
     ensures { OnOk result (effect.new ≡ spec.incr list.now place.now) }
 {
-    let alloc = effect.alloc();
-    let mut messages = Vec::new(alloc);
-    let text = text_at(list, 0);
-    match number_in(alloc, text, place, Builtin::Incr, &mut messages)? {
-        Some(number) => give_number(effect, number.wrapping_add(1), Bytes::from(messages)),
-        None => {
-            effect.warn(Bytes::from(messages));
-            Ok(())
-        }
+    match first_number(effect, list, place, Builtin::Incr)? {
+        Some(number) => give_number(effect, number.wrapping_add(1)),
+        None => Ok(()),
     }
 }
 
@@ -39,29 +32,17 @@ pub(crate) fn decr(effect: &mut EffectBuffer, list: &[Arg], place: &Place) -> Re
     requires { effect.old ≡ nothing }
     ensures { OnOk result (effect.new ≡ spec.decr list.now place.now) }
 {
-    let alloc = effect.alloc();
-    let mut messages = Vec::new(alloc);
-    let text = text_at(list, 0);
-    match number_in(alloc, text, place, Builtin::Decr, &mut messages)? {
-        Some(number) => give_number(effect, number.wrapping_sub(1), Bytes::from(messages)),
-        None => {
-            effect.warn(Bytes::from(messages));
-            Ok(())
-        }
+    match first_number(effect, list, place, Builtin::Decr)? {
+        Some(number) => give_number(effect, number.wrapping_sub(1)),
+        None => Ok(()),
     }
 }
 
-/// Expands to a number, with these messages.
-fn give_number(effect: &mut EffectBuffer, number: i32, messages: Bytes) -> Result<(), AllocError>
-    requires { effect.old ≡ nothing }
-    ensures { OnOk result (effect.new ≡ record nothing {
-      push = Some
-          (pushes.Text (signed_decimal number));
-      messages = messages;
-    }) }
+/// Expands to a number.
+fn give_number(effect: &mut EffectBuffer, number: i32) -> Result<(), AllocError>
+    ensures { OnOk result (effect.new
+        ≡ record effect.old { push = Some (pushes.Text (signed_decimal number)) }) }
 {
     let mut buffer = Buffer::new();
-    effect.give_copy(buffer.format(number).as_bytes())?;
-    effect.warn(messages);
-    Ok(())
+    effect.give_copy(buffer.format(number).as_bytes())
 }

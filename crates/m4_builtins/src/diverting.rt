@@ -10,7 +10,7 @@ ghost use Rattle.m4_builtins.specs.Numeric.{number_of_reading, reading_warning};
 use crate::args::{Arg, text_of};
 use crate::effect_buffer::EffectBuffer;
 use crate::fault::BuiltinFault;
-use crate::number::number_in;
+use crate::number::{first_number, number_in};
 use crate::place::Place;
 use itoa::Buffer;
 use m4_state::builtin::Builtin;
@@ -30,16 +30,13 @@ pub(crate) fn divert(
     ensures { OnOk result (spec.divert list.now place.now state.old
         ≡ record { state = state.new; effect = effect.new }) }
 {
-    let Some(first) = list.first() else {
+    if list.is_empty() {
         state.divert(0);
         return Ok(());
-    };
-    let alloc = effect.alloc();
-    let mut messages = Vec::new(alloc);
-    if let Some(number) = number_in(alloc, text_of(first), place, Builtin::Divert, &mut messages)? {
+    }
+    if let Some(number) = first_number(effect, list, place, Builtin::Divert)? {
         state.divert(number);
     }
-    effect.warn(Bytes::from(messages));
     Ok(())
 }
 
@@ -64,7 +61,7 @@ pub(crate) fn undivert(
     let mut output = Vec::new(alloc);
     bring_back(numbers.as_slice(), state, &mut output)?;
     effect.warn(Bytes::from(messages));
-    effect.issue(Bytes::from(output));
+    effect.set_output(Bytes::from(output));
     Ok(())
 }
 

@@ -293,7 +293,7 @@ impl EffectBuffer {
     }
 
     /// Sets the output that is written at once.
-    pub(crate) fn issue(&mut self, output: Bytes)
+    pub(crate) fn set_output(&mut self, output: Bytes)
         ensures { self.new ≡ record self.old { output = output } }
     {
         self.has_more = true;

@@ -7,7 +7,7 @@ ghost use Rattle.m4_builtins.specs.Ending as spec;
 
 use crate::args::{Arg, text_of};
 use crate::effect_buffer::EffectBuffer;
-use crate::messages::{Warning, warning_message};
+use crate::messages::{Warning, warn};
 use crate::number::{Reading, reading_of};
 use crate::place::Place;
 use crate::substitute::push_joined;
@@ -50,25 +50,17 @@ fn end_by(effect: &mut EffectBuffer, reading: Reading, place: &Place) -> Result<
     requires { effect.old ≡ nothing }
     ensures { OnOk result (effect.new ≡ spec.exits_reading reading place.now) }
 {
-    let alloc = effect.alloc();
     let (code, warning) = match reading {
         Reading::Number(number) => match u8::try_from(number) {
             Ok(code) => {
                 effect.end_with(code);
                 return Ok(());
             }
-            Err(_) => (1, warning_message(alloc, place, Warning::BadStatus)?),
+            Err(_) => (1, Warning::BadStatus),
         },
-        Reading::Empty => (
-            0,
-            warning_message(alloc, place, Warning::EmptyNumber(Builtin::M4exit))?,
-        ),
-        Reading::NotNumeric => (
-            1,
-            warning_message(alloc, place, Warning::NotNumeric(Builtin::M4exit))?,
-        ),
+        Reading::Empty => (0, Warning::EmptyNumber(Builtin::M4exit)),
+        Reading::NotNumeric => (1, Warning::NotNumeric(Builtin::M4exit)),
     };
     effect.end_with(code);
-    effect.warn(warning);
-    Ok(())
+    warn(effect, place, warning)
 }

@@ -9,7 +9,7 @@ ghost use Rattle.m4_builtins.specs.ReadsAs.{ReadsAs};
 
 use crate::args::{Arg, text_at, text_of};
 use crate::effect_buffer::EffectBuffer;
-use crate::messages::{Warning, warning_message};
+use crate::messages::{Warning, append_warning};
 use crate::number::number_in;
 use crate::place::Place;
 use m4_eval::blank::is_blank;
@@ -79,7 +79,7 @@ fn radix_in(
     };
     let radix = Radix::new(number);
     if radix.is_none() {
-        messages.extend_from_slice(warning_message(alloc, place, Warning::OutOfRange)?.as_slice())?;
+        append_warning(alloc, place, Warning::OutOfRange, messages)?;
     }
     Ok(radix)
 }
@@ -103,11 +103,7 @@ fn width_in(
     match usize::try_from(number) {
         Ok(width) => Ok(Some(width)),
         Err(_negative) => {
-            messages.extend_from_slice(warning_message(
-                alloc,
-                place,
-                Warning::OutOfRange,
-            )?.as_slice())?;
+            append_warning(alloc, place, Warning::OutOfRange, messages)?;
             Ok(None)
         }
     }
@@ -125,15 +121,14 @@ fn value_in(
         messages.new.items) }
 {
     if is_blank(text) {
-        let warning = warning_message(alloc, place, Warning::EmptyNumber(Builtin::Eval))?;
-        messages.extend_from_slice(warning.as_slice())?;
+        append_warning(alloc, place, Warning::EmptyNumber(Builtin::Eval), messages)?;
         return Ok(Some(0));
     }
     let warning = match evaluate(alloc, text)? {
         Evaluated::Value(value) => return Ok(Some(value)),
-        Evaluated::DivideByZero => warning_message(alloc, place, Warning::DivideByZero)?,
-        Evaluated::BadExpression => warning_message(alloc, place, Warning::BadExpression)?,
+        Evaluated::DivideByZero => Warning::DivideByZero,
+        Evaluated::BadExpression => Warning::BadExpression,
     };
-    messages.extend_from_slice(warning.as_slice())?;
+    append_warning(alloc, place, warning, messages)?;
     Ok(None)
 }

@@ -16,6 +16,7 @@ use crate::args::Arg;
 use crate::effect_buffer::EffectBuffer;
 use crate::fault::BuiltinFault;
 use crate::messages::{Warning, warn};
+use crate::naming::name_in;
 use crate::place::Place;
 use m4_state::builtin::Builtin;
 use m4_state::definition::Def;
@@ -74,18 +75,14 @@ pub(crate) fn indir<'a>(
         (goes_on list.now place.now state.now) list.now place.now state.now) place.now state.now effect.new step) }
     ensures shorter { IfOk result (λ step. IsShorter (length list.now) step) }
 {
-    let Some((first, rest)) = list.split_first() else {
+    let Some((name, rest)) = name_in(effect, list, place, Builtin::Indir)? else {
         return Ok(Step::Done);
     };
-    let Arg::Text(name) = first else {
-        warn(effect, place, Warning::BadName(Builtin::Indir))?;
+    let Some(def) = state.top(name) else {
+        warn(effect, place, Warning::UnknownMacro(name))?;
         return Ok(Step::Done);
     };
-    let Some(def) = state.top(name.as_slice()) else {
-        warn(effect, place, Warning::UnknownMacro(name.as_slice()))?;
-        return Ok(Step::Done);
-    };
-    start(effect, def, name.as_slice(), rest, place, state)
+    start(effect, def, name, rest, place, state)
 }
 
 /// Calls the builtin whose own name is the first argument. Manual: "Indirect call of builtins".
@@ -101,15 +98,11 @@ pub(crate) fn builtin<'a>(
         (goes_on list.now place.now state.now) list.now place.now state.now) place.now state.now effect.new step) }
     ensures shorter { IfOk result (λ step. IsShorter (length list.now) step) }
 {
-    let Some((first, rest)) = list.split_first() else {
+    let Some((name, rest)) = name_in(effect, list, place, Builtin::IndirBuiltin)? else {
         return Ok(Step::Done);
     };
-    let Arg::Text(name) = first else {
-        warn(effect, place, Warning::BadName(Builtin::IndirBuiltin))?;
-        return Ok(Step::Done);
-    };
-    let Some(builtin) = Builtin::by_name(name.as_slice()) else {
-        warn(effect, place, Warning::UnknownBuiltin(name.as_slice()))?;
+    let Some(builtin) = Builtin::by_name(name) else {
+        warn(effect, place, Warning::UnknownBuiltin(name))?;
         return Ok(Step::Done);
     };
     Ok(Step::On(builtin, rest))

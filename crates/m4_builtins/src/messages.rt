@@ -46,6 +46,19 @@ pub(crate) fn warn(
     Ok(())
 }
 
+/// Appends a warning to messages.
+pub(crate) fn append_warning(
+    alloc: Global,
+    place: &Place,
+    about: Warning<'_>,
+    messages: &mut Vec<u8>,
+) -> Result<(), AllocError>
+    ensures { OnOk result (messages.new.items ≡ messages.old.items ++ warned_of place.now about.entry) }
+{
+    let line = warning_message(alloc, place, about)?;
+    messages.extend_from_slice(line.as_slice())
+}
+
 /// What a warning is about: a builtin of the table, or a name that the input or a frozen file has.
 #[derive(Clone, Copy)]
 pub(crate) enum Warning<'a> {

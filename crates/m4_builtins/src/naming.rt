@@ -2,18 +2,20 @@
 //! macro", "Deleting a macro", "Temporarily redefining macros", "Renaming macros".
 
 ghost use Rattle.std.specs.Prelude.{◌≡◌, ◌++◌, fold, flat_map, IfOk, IfSome, OnOk, Some, option_copied};
+ghost use Rattle.std.specs.Prelude.{option_map};
 ghost use Rattle.std.specs.List.{AllByRecursion};
 ghost use Rattle.m4_state.specs.Definition.{IsDefinition};
 ghost use Rattle.m4_state.specs.State.{popped, undefined};
 ghost use Rattle.m4_input.specs.DelimsView.{pair_of};
 ghost use Rattle.m4_builtins.specs.Acted.{nothing};
 ghost use Rattle.m4_builtins.specs.Args.{IsArg, text_of_arg, quoted};
+ghost use Rattle.m4_builtins.specs.NameRead.{ReadsName};
 ghost use Rattle.m4_builtins.specs.Naming as spec;
 
 use crate::args::{Arg, text_of};
 use crate::effect_buffer::EffectBuffer;
 use crate::fault::BuiltinFault;
-use crate::messages::{Warning, dropped_message, warn};
+use crate::messages::{Warning, append_warning, warn};
 use crate::place::Place;
 use crate::substitute::push_one_quoted;
 use m4_state::builtin::Builtin;
@@ -34,18 +36,11 @@ pub(crate) fn define(
     ensures { OnOk result (spec.define list.now place.now state.old
         ≡ record { state = state.new; effect = effect.new }) }
 {
-    let Some((first, rest)) = list.split_first() else {
+    let Some((name, rest)) = name_in(effect, list, place, Builtin::Define)? else {
         return Ok(());
     };
-    match first {
-        Arg::Text(name) => {
-            let def = definition_in(rest)?;
-            state.define_borrowed(name.as_slice(), def)?;
-        }
-        Arg::Definition(_) => {
-            warn(effect, place, Warning::BadName(Builtin::Define))?;
-        }
-    }
+    let def = definition_in(rest)?;
+    state.define_borrowed(name, def)?;
     Ok(())
 }
 
@@ -62,19 +57,34 @@ pub(crate) fn pushdef(
     ensures { OnOk result (spec.pushdef list.now place.now state.old
         ≡ record { state = state.new; effect = effect.new }) }
 {
-    let Some((first, rest)) = list.split_first() else {
+    let Some((name, rest)) = name_in(effect, list, place, Builtin::Pushdef)? else {
         return Ok(());
     };
-    match first {
-        Arg::Text(name) => {
-            let def = definition_in(rest)?;
-            state.push_borrowed(name.as_slice(), def)?;
-        }
-        Arg::Definition(_) => {
-            warn(effect, place, Warning::BadName(Builtin::Pushdef))?;
-        }
-    }
+    let def = definition_in(rest)?;
+    state.push_borrowed(name, def)?;
     Ok(())
+}
+
+/// Returns the name that the first argument is, and the arguments after it. Returns `None` if there is no argument, or
+/// if the first one is a definition, which is warned of.
+pub(crate) fn name_in<'a>(
+    effect: &mut EffectBuffer,
+    list: &'a [Arg],
+    place: &Place,
+    builtin: Builtin,
+) -> Result<Option<(&'a [u8], &'a [Arg])>, AllocError>
+    requires { effect.old ≡ nothing }
+    ensures { IfOk result (λ read. ReadsName list.now place.now builtin
+        (option_map (λ r. (r.0.now, r.1.now)) read) effect.new) }
+{
+    match list.split_first() {
+        Some((Arg::Text(name), rest)) => Ok(Some((name.as_slice(), rest))),
+        Some((Arg::Definition(_), _)) => {
+            warn(effect, place, Warning::BadName(builtin))?;
+            Ok(None)
+        }
+        None => Ok(None),
+    }
 }
 
 /// Returns the first of these arguments as a definition, or the empty text if there is none.
@@ -205,8 +215,7 @@ fn push_text_of(
         None => {}
         Some(Def::Text(defined)) => push_one_quoted(texts, defined.as_slice(), quotes)?,
         Some(Def::Builtin(_)) | Some(Def::Placeholder(_)) => {
-            let warning = dropped_message(alloc, place)?;
-            warnings.extend_from_slice(warning.as_slice())?;
+            append_warning(alloc, place, Warning::Dropped, warnings)?;
         }
     }
     Ok(())

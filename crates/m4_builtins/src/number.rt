@@ -2,13 +2,18 @@
 //! Manual: "Macro arguments", and the sections of the builtins that take numbers.
 
 ghost use Rattle.std.specs.Prelude.{◌≡◌, ◌++◌, OnOk, IfOk};
+ghost use Rattle.m4_builtins.specs.Acted.{nothing, only_warning};
+ghost use Rattle.m4_builtins.specs.Args.{text_at};
 ghost use Rattle.m4_builtins.specs.Numeric as spec;
 
-use crate::messages::{Warning, warning_message};
+use crate::args::{Arg, text_at};
+use crate::effect_buffer::EffectBuffer;
+use crate::messages::{Warning, append_warning};
 use crate::place::Place;
 use crate::substitute::{digits_len, number_of};
 use m4_eval::blank::spaces_len;
 use m4_state::builtin::Builtin;
+use m4_state::bytes::Bytes;
 use std::alloc::{AllocError, Global};
 
 /// The result of reading a numeric argument.
@@ -36,6 +41,25 @@ pub(crate) fn reading_of(text: &[u8]) -> Reading
     }
 }
 
+/// Returns the number of the first argument, if it has one. Sets the warning on it.
+pub(crate) fn first_number(
+    effect: &mut EffectBuffer,
+    list: &[Arg],
+    place: &Place,
+    builtin: Builtin,
+) -> Result<Option<i32>, AllocError>
+    requires { effect.old ≡ nothing }
+    ensures number { IfOk result (λ n. n ≡ spec.number_of_reading (spec.reading_of (text_at list.now 0))) }
+    ensures warns { OnOk result (effect.new
+        ≡ only_warning (spec.reading_warning place.now builtin (spec.reading_of (text_at list.now 0)))) }
+{
+    let alloc = effect.alloc();
+    let mut messages = Vec::new(alloc);
+    let number = number_in(alloc, text_at(list, 0), place, builtin, &mut messages)?;
+    effect.warn(Bytes::from(messages));
+    Ok(number)
+}
+
 /// Returns the number of an argument, if it has one. Adds the warning on it to the messages.
 pub(crate) fn number_in(
     alloc: Global,
@@ -51,13 +75,11 @@ pub(crate) fn number_in(
     match reading_of(text) {
         Reading::Number(number) => Ok(Some(number)),
         Reading::Empty => {
-            let warning = warning_message(alloc, place, Warning::EmptyNumber(builtin))?;
-            messages.extend_from_slice(warning.as_slice())?;
+            append_warning(alloc, place, Warning::EmptyNumber(builtin), messages)?;
             Ok(Some(0))
         }
         Reading::NotNumeric => {
-            let warning = warning_message(alloc, place, Warning::NotNumeric(builtin))?;
-            messages.extend_from_slice(warning.as_slice())?;
+            append_warning(alloc, place, Warning::NotNumeric(builtin), messages)?;
             Ok(None)
         }
     }

@@ -10,7 +10,7 @@ ghost use Rattle.m4_builtins.specs.Args.{texts_of};
 use crate::args::{Arg, text_of};
 use crate::effect_buffer::EffectBuffer;
 use crate::fault::BuiltinFault;
-use crate::messages::{Warning, warning_message};
+use crate::messages::{Warning, append_warning};
 use crate::place::Place;
 use crate::substitute::{push_joined, push_one_quoted};
 use itoa::Buffer;
@@ -94,8 +94,7 @@ fn push_warning(
     if def.is_some() {
         return Ok(());
     }
-    let warning = warning_message(alloc, place, Warning::UnknownMacro(name))?;
-    messages.extend_from_slice(warning.as_slice())
+    append_warning(alloc, place, Warning::UnknownMacro(name), messages)
 }
 
 /// Appends the lines of names that have a definition.

@@ -10,7 +10,7 @@ use Rattle.m4_builtins.specs.Numeric.{reading_of, number_of_reading, reading_war
 use Rattle.m4_builtins.specs.ReadsAs.{ReadsAs}
 use Rattle.m4_builtins.proofs.EvalReads.{radix_of_number, radix_kept, radix_lost, radix_read}
 use Rattle.m4_builtins.proofs.eval.radix_in.Goals as goal
-use Rattle.m4_builtins.proofs.eval.radix_in.Goals.{then-is_none+in_ok-warning_message+in_ok-extend_from_slice}
+use Rattle.m4_builtins.proofs.eval.radix_in.Goals.{then-is_none+in_ok-append_warning}
 use Rattle.m4_builtins.proofs.eval.radix_in.Goals.{else-is_none}
 
 pub returns : goal.returns
@@ -25,7 +25,7 @@ returns c =
     let warned : c.number_in.new.messages.items ≡ c.args.messages.now.items ++ reading_warning p Eval (reading_of text) = c.in_ok-number.ensures.warns in
     let after_it : ReadsAs (radix_of_number p n) (radix_at n) c.number_in.new.messages.items c.if-is_none.messages.items =
     elim c.if-is_none.branch [
-      | then-is_none+in_ok-warning_message+in_ok-extend_from_slice w ↦ radix_lost p _ _ (radix_at n) (search rules) (search rules)
+      | then-is_none+in_ok-append_warning w ↦ radix_lost p _ _ (radix_at n) (search rules) (search rules)
       | else-is_none w ↦ radix_kept p _ _ (radix_at n) (search rules) (search rules)
     ] in
     subst (λ o. ReadsAs (with_radix p text) o c.args.messages.now.items c.if-is_none.messages.items) (sym radix)
