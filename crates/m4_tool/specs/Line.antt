@@ -15,7 +15,7 @@ use Rattle.m4_engine.specs.RunSources.{whole}
 use Rattle.m4_engine.specs.Run.{RunResult, run}
 use Rattle.m4_tool.specs.declared.line.Line.{Line}
 use Rattle.m4_tool.specs.declared.fault.ModeFault.TheVariants as faults
-use Rattle.m4_tool.specs.ModeFault.{line_of}
+use Rattle.m4_tool.specs.ModeFault.{fault_line}
 use Rattle.m4_tool.specs.World.{Files}
 
 -- what a line asks for if it has no mode: the files to be read, and the names to reload from and to freeze to
@@ -109,7 +109,7 @@ pub record LineResult : Type 0 where
 
 -- the line of the frozen file, if the run ended because it was refused
 abbrev pub refused_line : List ℕ → Cause → List ℕ
-refused_line file (causes.Frozen fault) = line_of file (faults.Frozen fault)
+refused_line file (causes.Frozen fault) = fault_line file (faults.Frozen fault)
 refused_line file cause = []
 
 -- the line for a frozen file that was refused

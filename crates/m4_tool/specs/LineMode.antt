@@ -14,7 +14,7 @@ use Rattle.m4_tool.specs.declared.modes.Mode.TheVariants as kinds
 use Rattle.m4_tool.specs.declared.followed.Failure.TheVariants as failures
 use Rattle.m4_tool.specs.Failure.{failure_line}
 use Rattle.m4_tool.specs.FailureCounts.{AnyRose, Counts, NoneRose, Rose}
-use Rattle.m4_tool.specs.ModeFault.{line_of, status_of}
+use Rattle.m4_tool.specs.ModeFault.{fault_line, status_of}
 use Rattle.m4_tool.specs.Modes.{CanonEnds, InspectEnds}
 use Rattle.m4_tool.specs.LineEnd.{Reports, Seen}
 
@@ -30,7 +30,7 @@ mode_of line = mode_by (option_map string_bytes line.canon) (option_map string_b
 -- the line for a mode that did not do its work
 abbrev pub fault_lines : List ℕ → Result (Unit {0}) ModeFault → List (List ℕ)
 fault_lines file (Ok done) = []
-fault_lines file (Err fault) = line_of file fault ∷ []
+fault_lines file (Err fault) = fault_line file fault ∷ []
 
 -- the status after the last flush, and the line that it adds
 abbrev pub closed_status : ℕ → Bool → ℕ

@@ -1,5 +1,5 @@
 -- The messages and statuses for a mode that did not do its work.
--- Believed. Words: line_of, status_of_fault, status_of.
+-- Believed. Words: fault_line, status_of_fault, status_of.
 -- own: all of it; the manual has no such modes.
 use Rattle.std.specs.Prelude.{ℕ, List, [], ◌++◌, codes, decimal, Result, Ok, Err}
 use Rattle.m4_frozen.specs.declared.fault.FrozenKind.{FrozenKind}
@@ -17,18 +17,18 @@ fault_of_write writes.Write = faults.Write
 fault_of_write writes.OutOfMemory = faults.OutOfMemory
 
 -- the number and the name of a kind
-abbrev pub text_of : FrozenKind → List ℕ
-text_of kinds.NoVersion = codes "F1 NoVersion"
-text_of kinds.Newer = codes "F2 Newer"
-text_of kinds.VersionZero = codes "F3 VersionZero"
-text_of kinds.SecondVersion = codes "F4 SecondVersion"
-text_of kinds.UnknownDirective = codes "F5 UnknownDirective"
-text_of kinds.DigitExpected = codes "F6 DigitExpected"
-text_of kinds.NumberTooLarge = codes "F7 NumberTooLarge"
-text_of kinds.SeparatorExpected = codes "F8 SeparatorExpected"
-text_of kinds.PrematureEnd = codes "F9 PrematureEnd"
-text_of kinds.Read = codes "F10 Read"
-text_of kinds.OutOfMemory = codes "F11 OutOfMemory"
+abbrev pub kind_text : FrozenKind → List ℕ
+kind_text kinds.NoVersion = codes "F1 NoVersion"
+kind_text kinds.Newer = codes "F2 Newer"
+kind_text kinds.VersionZero = codes "F3 VersionZero"
+kind_text kinds.SecondVersion = codes "F4 SecondVersion"
+kind_text kinds.UnknownDirective = codes "F5 UnknownDirective"
+kind_text kinds.DigitExpected = codes "F6 DigitExpected"
+kind_text kinds.NumberTooLarge = codes "F7 NumberTooLarge"
+kind_text kinds.SeparatorExpected = codes "F8 SeparatorExpected"
+kind_text kinds.PrematureEnd = codes "F9 PrematureEnd"
+kind_text kinds.Read = codes "F10 Read"
+kind_text kinds.OutOfMemory = codes "F11 OutOfMemory"
 
 -- the place of the fault; a failed reader, or running out of memory, has no place in the file
 abbrev pub place_of : FrozenKind → ℕ → List ℕ
@@ -37,13 +37,13 @@ place_of kinds.OutOfMemory offset = []
 place_of kind offset = codes " at byte " ++ decimal offset
 
 -- the line that reports the fault of a file
-abbrev pub line_of : List ℕ → ModeFault → List ℕ
-line_of file (faults.Frozen f) =
-    codes "m4: " ++ (file ++ (codes ": " ++ (text_of f.kind ++ (place_of f.kind f.offset ++ codes "\n"))))
-line_of file faults.Issues =
+abbrev pub fault_line : List ℕ → ModeFault → List ℕ
+fault_line file (faults.Frozen f) =
+    codes "m4: " ++ (file ++ (codes ": " ++ (kind_text f.kind ++ (place_of f.kind f.offset ++ codes "\n"))))
+fault_line file faults.Issues =
     codes "m4: " ++ (file ++ (codes ": " ++ (codes "K1 text would be issued at reload" ++ codes "\n")))
-line_of file faults.Write = failure_line failures.Write
-line_of file faults.OutOfMemory = failure_line failures.OutOfMemory
+fault_line file faults.Write = failure_line failures.Write
+fault_line file faults.OutOfMemory = failure_line failures.OutOfMemory
 
 -- a newer format has a status of its own
 abbrev pub status_of_kind : FrozenKind → ℕ

@@ -12,7 +12,7 @@ use Rattle.m4_frozen.specs.Listing.{listing}
 use Rattle.m4_frozen.specs.Outcome.{Loads, IsFaultOf}
 use Rattle.m4_tool.specs.declared.fault.ModeFault.{ModeFault}
 use Rattle.m4_tool.specs.declared.fault.ModeFault.TheVariants as faults
-use Rattle.m4_tool.specs.ModeFault.{line_of, status_of}
+use Rattle.m4_tool.specs.ModeFault.{fault_line, status_of}
 
 -- the loaded value of a frozen file whose reader ended after its bytes
 pub record Holds (script : Script) (loaded : Loaded) : Type 0 where
@@ -52,7 +52,7 @@ InspectEnds (Err faults.OutOfMemory) script old new = new ≡ old
 abbrev pub ReportsFault : Result (Unit {0}) ModeFault → List ℕ → Option (List ℕ) → Option (List ℕ) → ℕ → ℕ → Type 0
 ReportsFault (Ok done) file old new failures failures' = (new ≡ old) × (failures' ≡ failures)
 ReportsFault (Err fault) file old new failures failures' =
-    (put : Result (Unit {0}) DeviceFault) × Puts put old new (line_of file fault)
+    (put : Result (Unit {0}) DeviceFault) × Puts put old new (fault_line file fault)
     × (failures' ≡ count_after put failures)
 
 -- a fault of a device occurs only if that device failed in this call, by its count of failures; a file that is

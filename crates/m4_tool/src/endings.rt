@@ -21,7 +21,7 @@ pub(crate) fn put_refused<M: ByteSink>(
     ensures counted { M.failures messages.new ≡ count_after result (M.failures messages.old) }
 {
     match cause {
-        Cause::Frozen(fault) => ModeFault::from(fault).report(file, messages),
+        Cause::Frozen(fault) => ModeFault::from(fault).put_report(file, messages),
         _ => Ok(()),
     }
 }

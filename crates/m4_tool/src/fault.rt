@@ -2,7 +2,7 @@
 
 ghost use Rattle.std.specs.Prelude.{◌≡◌, ◌++◌, codes, decimal};
 ghost use Rattle.m4_state.specs.Device.{Puts, count_after};
-ghost use Rattle.m4_tool.specs.ModeFault.{line_of, text_of};
+ghost use Rattle.m4_tool.specs.ModeFault.{fault_line, kind_text};
 ghost use Rattle.m4_tool.specs.declared.fault.ModeFault.TheVariants as faults;
 
 use crate::followed::Failure;
@@ -60,13 +60,13 @@ impl ModeFault {
         }
     }
 
-    /// Writes the line that reports the fault of this file.
-    pub(crate) fn report<M: ByteSink>(
+    /// Writes the line that reports the fault, of this file.
+    pub(crate) fn put_report<M: ByteSink>(
         self,
         file: &[u8],
         messages: &mut M,
     ) -> Result<(), DeviceFault>
-        ensures puts { Puts result (M.contents messages.old) (M.contents messages.new) (line_of file.now self) }
+        ensures puts { Puts result (M.contents messages.old) (M.contents messages.new) (fault_line file.now self) }
         ensures counted { M.failures messages.new ≡ count_after result (M.failures messages.old) }
     {
         match self {
@@ -85,10 +85,10 @@ fn put_frozen_fault<M: ByteSink>(
     messages: &mut M,
 ) -> Result<(), DeviceFault>
     ensures puts { Puts result (M.contents messages.old) (M.contents messages.new)
-        (line_of file.now (faults.Frozen fault)) }
+        (fault_line file.now (faults.Frozen fault)) }
     ensures counted { M.failures messages.new ≡ count_after result (M.failures messages.old) }
 {
-    let text = text_of(fault.kind);
+    let text = kind_text(fault.kind);
     match fault.kind {
         FrozenKind::Read | FrozenKind::OutOfMemory => put_line(file, text, messages),
         _ => put_line_at(file, text, fault.offset, messages),
@@ -125,8 +125,8 @@ fn put_line_at<M: ByteSink>(
 }
 
 /// Returns the number and the name of a kind, as the kind displays them.
-fn text_of(kind: FrozenKind) -> &'static [u8]
-    ensures { result.now ≡ text_of kind }
+fn kind_text(kind: FrozenKind) -> &'static [u8]
+    ensures { result.now ≡ kind_text kind }
 {
     match kind {
         FrozenKind::NoVersion => b"F1 NoVersion",

@@ -1,4 +1,4 @@
-//! How a line ends: what failed, if anything did, with the line and the status.
+//! How a command line ends: what failed, if anything did, the line that reports it, and the status.
 
 ghost use Rattle.std.specs.Prelude.{◌≡◌};
 ghost use Rattle.m4_tool.specs.Failure.{failure_line, status_after};
@@ -22,7 +22,8 @@ pub enum Failure {
 }
 
 impl Failure {
-    /// Returns the line that reports it. It is empty if the line for a frozen file reports it, or failed itself.
+    /// Returns the line that reports it. It is empty if the line for a frozen file reports it, or if that line is what
+    /// could not be written.
     pub(crate) fn line(self) -> &'static str
         ensures { result.now ≡ failure_line self }
     {
@@ -35,7 +36,7 @@ impl Failure {
     }
 }
 
-/// Returns the status of a line whose run has this status: another one if something failed.
+/// Returns the status of a line whose run has this status: `FAILED` if something failed.
 pub(crate) fn status_after(failure: Option<Failure>, status: u8) -> u8
     ensures { result ≡ status_after failure status }
 {

@@ -56,10 +56,10 @@ Examples:
   m4r --inspect=macros.m4f                   lists the contents of the frozen library
   m4r --canon=macros.m4f > canonical.m4f     writes its canonical text, for cmp";
 
-// The limit of open calls, unless the line gives one.
+/// The limit of open calls, unless the line gives one.
 const USUAL_NESTING: u32 = 1024;
 
-// The limit of all calls, unless the line gives one.
+/// The limit of all calls, unless the line gives one.
 const USUAL_CALLS: u32 = u32::MAX;
 
 /// The content of a command line: one mode with its file, or a run over files.
@@ -122,7 +122,7 @@ pub fn read_line(alloc: Global, words: &[&str]) -> Result<Line, LineFault>
     line_of_matches(alloc, &matches)
 }
 
-// Returns the matches that `clap` finds for the words.
+/// Returns the matches that `clap` finds for the words.
 fn matches_of_words<'a>(alloc: Global, words: &'a [&'a str]) -> Result<ArgMatches<'a>, LineFault>
     ensures found { IfOk result (HasRowsOf (texts words.now)) }
     ensures refused { IfErr result (IsRefusal (texts words.now)) }
@@ -135,7 +135,7 @@ fn matches_of_words<'a>(alloc: Global, words: &'a [&'a str]) -> Result<ArgMatche
     }
 }
 
-// Returns the line of the matches, unless a mode is not alone.
+/// Returns the line of the matches, unless a mode is not alone.
 fn line_of_matches(alloc: Global, matches: &ArgMatches<'_>) -> Result<Line, LineFault>
     ensures says { IfOk result (HoldsFound (rows_of (found_of matches.now))) }
     ensures in_range { IfOk result AreInRange }
@@ -164,7 +164,7 @@ fn line_of_matches(alloc: Global, matches: &ArgMatches<'_>) -> Result<Line, Line
     })
 }
 
-// Returns whether a mode is given together with another mode, a limit, a prefix or a file.
+/// Returns whether a mode is given together with another mode, a limit, a prefix or a file.
 fn mode_has_others(matches: &ArgMatches<'_>) -> bool
     ensures { result ≡ mode_has_others (rows_of (found_of matches.now)) }
 {
@@ -173,7 +173,7 @@ fn mode_has_others(matches: &ArgMatches<'_>) -> bool
     (canon && inspect) || ((canon || inspect) && (has_options(matches) || has_files(matches)))
 }
 
-// Returns whether a limit or the option for prefixes is given.
+/// Returns whether a limit or the option for prefixes is given.
 fn has_options(matches: &ArgMatches<'_>) -> bool
     ensures { result ≡ has_options (rows_of (found_of matches.now)) }
 {
@@ -182,7 +182,7 @@ fn has_options(matches: &ArgMatches<'_>) -> bool
         || asks(matches, "prefix-builtins")
 }
 
-// Returns whether a frozen file or a file to read is given.
+/// Returns whether a frozen file or a file to read is given.
 fn has_files(matches: &ArgMatches<'_>) -> bool
     ensures { result ≡ has_files (rows_of (found_of matches.now)) }
 {
@@ -191,14 +191,14 @@ fn has_files(matches: &ArgMatches<'_>) -> bool
         || is_given(matches, "files")
 }
 
-// Returns whether a word of this name is given.
+/// Returns whether a word of this name is given.
 fn is_given(matches: &ArgMatches<'_>, name: &str) -> bool
     ensures { result ≡ is_given name.now (rows_of (found_of matches.now)) }
 {
     matches.contains_id(name)
 }
 
-// Returns whether an option without a value is given. Its text is `true` then.
+/// Returns whether an option without a value is given. Its text is `true` then.
 fn asks(matches: &ArgMatches<'_>, name: &str) -> bool
     ensures { result ≡ asks name.now (rows_of (found_of matches.now)) }
 {
@@ -208,7 +208,7 @@ fn asks(matches: &ArgMatches<'_>, name: &str) -> bool
     }
 }
 
-// Returns the options of the line, for a run that freezes or does not.
+/// Returns the options of the line, for a run that freezes or does not.
 fn options_of(matches: &ArgMatches<'_>, freeze: bool) -> Options
     ensures nesting { IsLimit 0 1024 (one_of (codes "nesting-limit") (rows_of (found_of matches.now))) result.nesting }
     ensures calls { IsLimit 1 4294967295 (one_of (codes "expansions") (rows_of (found_of matches.now))) result.calls }
@@ -225,8 +225,8 @@ fn options_of(matches: &ArgMatches<'_>, freeze: bool) -> Options
     }
 }
 
-// Returns the number that the line gives for a limit, or the usual one. `clap` has already refused a
-// number out of the range.
+/// Returns the number that the line gives for a limit, or the usual one. `clap` has already refused a
+/// number out of the range.
 fn limit(matches: &ArgMatches<'_>, name: &str, least: u32, usual: u32) -> u64
     requires { least ≤ usual }
     ensures says { IsLimit least usual (one_of name.now (rows_of (found_of matches.now))) result }
@@ -238,7 +238,7 @@ fn limit(matches: &ArgMatches<'_>, name: &str, least: u32, usual: u32) -> u64
     }
 }
 
-// Returns the file of an option, if the line has it.
+/// Returns the file of an option, if the line has it.
 fn file_of(
     alloc: Global,
     matches: &ArgMatches<'_>,
@@ -253,7 +253,7 @@ fn file_of(
     }
 }
 
-// Returns the files to read.
+/// Returns the files to read.
 fn files_of(alloc: Global, matches: &ArgMatches<'_>) -> Result<Vec<String>, AllocError>
     ensures { IfOk result (λ files. map string_bytes files.items
         ≡ files_in (rows_of (found_of matches.now))) }
@@ -264,7 +264,7 @@ fn files_of(alloc: Global, matches: &ArgMatches<'_>) -> Result<Vec<String>, Allo
     }
 }
 
-// Returns copies of the texts, which the line owns.
+/// Returns copies of the texts, which the line owns.
 fn copies(alloc: Global, files: &[&str]) -> Result<Vec<String>, AllocError>
     ensures { IfOk result (λ same. map string_bytes same.items ≡ texts files.now) }
 {
@@ -275,11 +275,11 @@ fn copies(alloc: Global, files: &[&str]) -> Result<Vec<String>, AllocError>
     Ok(same)
 }
 
-// Returns the words that the program knows, for `clap`.
+/// Returns the words that the program knows, for `clap`.
 fn known_command<'a>(alloc: Global) -> Result<Command<'a>, AllocError>
     ensures { IfOk result (λ command. app_of command ≡ known_words) }
 {
-    let command = with_modes(alloc, start(alloc))?;
+    let command = with_modes(alloc, bare_command(alloc))?;
     let command = with_frozen(alloc, command)?;
     let command = with_limits(alloc, command)?;
     let command = with_prefix(alloc, command)?;
@@ -287,7 +287,7 @@ fn known_command<'a>(alloc: Global) -> Result<Command<'a>, AllocError>
     command.arg(help(alloc))
 }
 
-// Adds the modes to the command.
+/// Adds the modes to the command.
 fn with_modes<'a>(alloc: Global, command: Command<'a>) -> Result<Command<'a>, AllocError>
     ensures { IfOk result (λ more. app_of more ≡ with_modes (app_of command.entry)) }
 {
@@ -303,7 +303,7 @@ fn with_modes<'a>(alloc: Global, command: Command<'a>) -> Result<Command<'a>, Al
     ))
 }
 
-// Adds the frozen files of a run to the command.
+/// Adds the frozen files of a run to the command.
 fn with_frozen<'a>(alloc: Global, command: Command<'a>) -> Result<Command<'a>, AllocError>
     ensures { IfOk result (λ more. app_of more ≡ with_frozen (app_of command.entry)) }
 {
@@ -318,7 +318,7 @@ fn with_frozen<'a>(alloc: Global, command: Command<'a>) -> Result<Command<'a>, A
     command.arg(reload)
 }
 
-// Adds the limits to the command.
+/// Adds the limits to the command.
 fn with_limits<'a>(alloc: Global, command: Command<'a>) -> Result<Command<'a>, AllocError>
     ensures { IfOk result (λ more. app_of more ≡ with_limits (app_of command.entry)) }
 {
@@ -338,7 +338,7 @@ fn with_limits<'a>(alloc: Global, command: Command<'a>) -> Result<Command<'a>, A
     ))
 }
 
-// Adds the option for prefixes to the command.
+/// Adds the option for prefixes to the command.
 fn with_prefix<'a>(alloc: Global, command: Command<'a>) -> Result<Command<'a>, AllocError>
     ensures { IfOk result (λ more. app_of more ≡ with_prefix (app_of command.entry)) }
 {
@@ -350,8 +350,8 @@ fn with_prefix<'a>(alloc: Global, command: Command<'a>) -> Result<Command<'a>, A
     command.arg(prefix)
 }
 
-// Returns the program with its texts, before its words are added.
-fn start<'a>(alloc: Global) -> Command<'a>
+/// Returns the program with its texts, before its words are added.
+fn bare_command<'a>(alloc: Global) -> Command<'a>
     ensures { app_of result ≡ without_short_help (new_app (codes "m4r")) }
 {
     Command::new(alloc, "m4r")
@@ -361,7 +361,7 @@ fn start<'a>(alloc: Global) -> Command<'a>
         .disable_help_flag(true)
 }
 
-// Returns an option with a file.
+/// Returns an option with a file.
 fn path_option<'a>(alloc: Global, name: &'a str, help: &'a str) -> Arg<'a>
     ensures rule { rule_of result ≡ path_word name.now }
     ensures local { result.global ≡ false }
@@ -373,7 +373,7 @@ fn path_option<'a>(alloc: Global, name: &'a str, help: &'a str) -> Arg<'a>
         .help(help)
 }
 
-// Returns the option of a limit, whose number is `least` or greater.
+/// Returns the option of a limit, whose number is `least` or greater.
 fn limit_option<'a>(alloc: Global, name: &'a str, least: u32, help: &'a str) -> Arg<'a>
     ensures rule { rule_of result ≡ limit_word name.now least }
     ensures local { result.global ≡ false }
@@ -387,7 +387,7 @@ fn limit_option<'a>(alloc: Global, name: &'a str, least: u32, help: &'a str) -> 
         .value_parser(numbers)
 }
 
-// Returns the argument for the files to read: all words that are not options.
+/// Returns the argument for the files to read: all words that are not options.
 fn files<'a>(alloc: Global) -> Arg<'a>
     ensures rule { rule_of result ≡ file_word }
     ensures local { result.global ≡ false }
@@ -398,7 +398,7 @@ fn files<'a>(alloc: Global) -> Arg<'a>
         .help("An input file; `-` is standard input")
 }
 
-// Returns the option for the help, which has no short name.
+/// Returns the option for the help, which has no short name.
 fn help<'a>(alloc: Global) -> Arg<'a>
     ensures rule { rule_of result ≡ help_word }
     ensures local { result.global ≡ false }
@@ -409,7 +409,7 @@ fn help<'a>(alloc: Global) -> Arg<'a>
         .help("Prints this help")
 }
 
-// Returns the fault for an error of `clap`: either memory ran out, or the line is refused.
+/// Returns the fault for an error of `clap`: either memory ran out, or the line is refused.
 fn fault_of_parse(error: Error) -> LineFault
     ensures { ClassifiesError error result }
 {

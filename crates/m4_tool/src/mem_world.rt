@@ -14,8 +14,8 @@ use std::alloc::Global;
 /// How many bytes a reader returns for each take, at most.
 const AT_MOST: usize = 4096;
 
-/// A world of given files, a given standard input, and the file that was made. It makes one file at most, and none if
-/// `makes` is unset.
+/// A world of given files, a given standard input, and the file that was made. One file can be made, and none if
+/// `makes` is false.
 #[derive(Drop)]
 pub struct MemWorld<'a> {
     alloc: Global,

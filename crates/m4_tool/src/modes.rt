@@ -120,7 +120,7 @@ fn answer<M: ByteSink>(end: Result<(), ModeFault>, file: &[u8], messages: &mut M
     match end {
         Ok(()) => 0,
         Err(fault) => {
-            let _put = fault.report(file, messages);
+            let _put = fault.put_report(file, messages);
             fault.status()
         }
     }

@@ -10,7 +10,7 @@ use crate::follow::follow;
 use crate::followed::{FAILED, Failure};
 use crate::line::{Line, LineFault, read_line};
 use crate::reports::{report, report_failure};
-use crate::shared::{MESSAGES, OUTPUT_BUFFER, SharedOutputs};
+use crate::shared::{MESSAGES_BUFFER, OUTPUT_BUFFER, SharedOutputs};
 use crate::std_world::StdWorld;
 use crate::streams::occupy_closed;
 use m4_state::standard::StdSink;
@@ -34,13 +34,13 @@ where
     }
 }
 
-// Returns the words that the process was started with.
+/// Returns the words that the process was started with.
 fn words_of_process(rt: &(impl Env + Alloc<A = Global>)) -> io::Result<Vec<String>> {
     let words = std::env::args(rt)?;
     Ok(words.collect(rt.alloc())?)
 }
 
-// Follows the line of these words, or reports why it is refused.
+/// Follows the line of these words, or reports why it is refused.
 fn status_of_words<R: Files + Alloc<A = Global> + Print + Eprint, I: Read + Copy, E: Write + Drop>(
     rt: &R,
     input: I,
@@ -48,16 +48,16 @@ fn status_of_words<R: Files + Alloc<A = Global> + Print + Eprint, I: Read + Copy
     words: &[String],
     spare: Option<<R as Files>::File>,
 ) -> u8 {
-    match line_of(rt.alloc(), words) {
+    match line_of_words(rt.alloc(), words) {
         Ok(line) => status_of_line(rt, input, errors, &line, spare),
         Err(fault) => report_line_fault(rt, &fault),
     }
 }
 
-// Returns the line of these words. It is not inlined, and neither is `follow_line`: the run then uses the part of the
-// stack that `clap` has used.
+/// Returns the line of these words. It is not inlined, and neither is `follow_line`: the run then uses the part of the
+/// stack that `clap` has used.
 #[inline(never)]
-fn line_of(alloc: Global, words: &[String]) -> Result<Line, LineFault>
+fn line_of_words(alloc: Global, words: &[String]) -> Result<Line, LineFault>
     ensures says { IfOk result (Says (map string_bytes words.now)) }
     ensures in_range { IfOk result AreInRange }
     ensures alone { IfOk result ModeIsAlone }
@@ -69,7 +69,7 @@ fn line_of(alloc: Global, words: &[String]) -> Result<Line, LineFault>
     read_line(alloc, texts.as_slice())
 }
 
-// Returns the words as borrowed texts, which `read_line` reads.
+/// Returns the words as borrowed texts, which `read_line` reads.
 fn borrowed<'a>(alloc: Global, words: &'a [String]) -> Result<Vec<&'a str>, AllocError>
     ensures { IfOk result (λ same. texts same.items ≡ map string_bytes words.now) }
 {
@@ -80,7 +80,7 @@ fn borrowed<'a>(alloc: Global, words: &'a [String]) -> Result<Vec<&'a str>, Allo
     Ok(texts)
 }
 
-// Follows the line and returns its status. If a block can't be allocated, that is reported.
+/// Follows the line and returns its status. If a block can't be allocated, that is reported.
 fn status_of_line<R: Files + Alloc<A = Global> + Print + Eprint, I: Read + Copy, E: Write + Drop>(
     rt: &R,
     input: I,
@@ -94,8 +94,8 @@ fn status_of_line<R: Files + Alloc<A = Global> + Print + Eprint, I: Read + Copy,
     ))
 }
 
-// Follows the line in the world of this runtime, and returns its status. Its output and its messages are written in
-// blocks; an error is a block that could not be allocated.
+/// Follows the line in the world of this runtime, and returns its status. Its output and its messages are written in
+/// blocks; an error is a block that could not be allocated.
 #[inline(never)]
 fn follow_line<R: Files + Alloc<A = Global> + Print + Eprint, I: Read + Copy, E: Write + Drop>(
     rt: &R,
@@ -105,7 +105,7 @@ fn follow_line<R: Files + Alloc<A = Global> + Print + Eprint, I: Read + Copy, E:
     spare: Option<<R as Files>::File>,
 ) -> io::Result<u8> {
     let output = BufWriter::with_capacity(rt.alloc(), OUTPUT_BUFFER, io::writer(rt))?;
-    let messages = BufWriter::with_capacity(rt.alloc(), MESSAGES, errors)?;
+    let messages = BufWriter::with_capacity(rt.alloc(), MESSAGES_BUFFER, errors)?;
     let shared = SharedOutputs::new(output, messages);
     let world = StdWorld::new(rt, input, &shared, spare)?;
     let mut out = StdSink::new(shared.output());
@@ -114,7 +114,7 @@ fn follow_line<R: Files + Alloc<A = Global> + Print + Eprint, I: Read + Copy, E:
     Ok(followed.status)
 }
 
-// Reports why a line is refused, and returns the status. Help that was requested is not a fault.
+/// Reports why a line is refused, and returns the status. Help that was requested is not a fault.
 fn report_line_fault(rt: &(impl Print + Eprint), fault: &LineFault) -> u8 {
     match fault {
         LineFault::ModeNotAlone => report(rt, "U1 a mode stands alone"),
@@ -123,7 +123,8 @@ fn report_line_fault(rt: &(impl Print + Eprint), fault: &LineFault) -> u8 {
     }
 }
 
-// Prints the text of `clap`, which is help for standard output or a refusal for standard error, and returns the status.
+/// Prints the text of `clap`, which is help for standard output or a refusal for standard error, and returns the
+/// status.
 fn print_answer(rt: &(impl Print + Eprint), error: &clap::Error) -> u8 {
     if error.print(rt).is_err() {
         return report_failure(rt, Failure::Write);
@@ -131,7 +132,7 @@ fn print_answer(rt: &(impl Print + Eprint), error: &clap::Error) -> u8 {
     if error.use_stderr() { FAILED } else { 0 }
 }
 
-// Reports why the words of the process could not be read, and returns the status.
+/// Reports why the words of the process could not be read, and returns the status.
 fn report_unread_words(rt: &impl Eprint, fault: &io::Error) -> u8
     ensures { result ≡ FAILED }
 {

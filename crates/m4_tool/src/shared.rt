@@ -8,11 +8,11 @@ use std::io::{self, ErrorKind, Read, Write};
 /// How many bytes of the output are buffered, at most.
 pub const OUTPUT_BUFFER: usize = 65536;
 
-/// How many bytes of messages are buffered, at most. Few runs have more, and a longer one is written with no copy.
-pub const MESSAGES: usize = 1024;
+/// How many bytes of messages are buffered, at most. Few runs have more, and a longer message is written with no copy.
+pub const MESSAGES_BUFFER: usize = 1024;
 
 /// One of two writers that a run shares with the reader of standard input. Before it writes, it flushes the other one.
-/// A call during another one fails; there is none.
+/// A call during another one would fail, but none is made.
 #[derive(Drop)]
 pub struct Shared<'a, W, V> {
     cell: &'a RefCell<W>,
@@ -35,7 +35,7 @@ impl<W: Write, V: Write> Write for Shared<'_, W, V> {
     }
 }
 
-// Flushes a shared writer.
+/// Flushes a shared writer.
 fn flush<W: Write>(cell: &RefCell<W>) -> io::Result<()> {
     match cell.try_borrow_mut() {
         Ok(mut writer) => writer.flush(),
@@ -93,7 +93,7 @@ pub struct FlushBeforeRead<'a, R, W, E> {
 }
 
 impl<'a, R, W, E> FlushBeforeRead<'a, R, W, E> {
-    /// Returns this reader, which will flush these outputs.
+    /// Returns a reader over this one, which flushes these outputs.
     pub fn new(
         reader: R,
         outputs: Option<&'a SharedOutputs<W, E>>,

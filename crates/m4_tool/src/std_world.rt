@@ -1,7 +1,7 @@
 //! The world of a process: its files and its standard input. Contracts know no byte of it.
 //!
-//! All files are opened before the run. A process may have so many open files and no more: from the first one
-//! on for which there is no descriptor, a file is tried, closed, and opened again when it is read.
+//! All files are opened before the run. The number of files that a process may have open is limited: from the first
+//! one on for which there is no descriptor, a file is tried, closed, and opened again when it is read.
 
 ghost use Rattle.std.specs.Prelude.{◌≡◌, IfErr, IfOk, None, false};
 ghost use Rattle.std.specs.IoError.{error_kind};
@@ -17,12 +17,11 @@ use std::fs::{self, OpenFile};
 use std::io::{self, BufWriter, Empty, ErrorKind, Read, Sink, Write};
 use std::rt::Files;
 
-/// The system's numbers of the two errors that say that there are too many open files, in the system and in the
-/// process.
+/// The system's numbers of the two errors for too many open files: in the system, and in the process.
 const TOO_MANY: [i32; 2] = [23, 24];
 
-/// How many bytes of a made file are buffered, at most. A text that is as long is written with no copy, and a small
-/// file touches little memory.
+/// How many bytes of a made file are buffered, at most. A text of that length or more is written with no copy, and a
+/// small file touches little memory.
 const FROZEN_BUFFER: usize = 32768;
 
 /// A writer to the file that was made. If none was, each write fails, and a flush has nothing to do.
@@ -79,7 +78,7 @@ impl<'a, R: Files + Alloc<A = Global>, I, W, E> StdWorld<'a, R, I, W, E> {
         StdWorld::with_outputs(rt, input, Some(outputs), spare)
     }
 
-    // Returns the world of this runtime, which has not made a file yet.
+    /// Returns the world of this runtime, which has not made a file yet.
     fn with_outputs(
         rt: &'a R,
         input: I,
@@ -115,8 +114,8 @@ impl<'a, R: Files + Alloc<A = Global>> StdWorld<'a, R, Empty, Sink, Sink> {
 }
 
 impl<'a, R: Files + Alloc<A = Global>, I, W, E> StdWorld<'a, R, I, W, E> {
-    // Opens a file to be read, unless that is refused. Once there were too many open files it stays closed until it is
-    // read, so that one descriptor is free for the file that is read and for the one that is made.
+    /// Opens a file to be read, unless that is refused. Once there were too many open files, a file stays closed until
+    /// it is read, so that one descriptor is free for the file that is read and for the one that is made.
     fn open_input<J>(&self, path: &str) -> Option<FileOrInput<'a, R, J>> {
         if !self.is_full.get() {
             match open_file(self.rt, path) {
@@ -137,7 +136,7 @@ impl<'a, R: Files + Alloc<A = Global>, I, W, E> StdWorld<'a, R, I, W, E> {
     }
 }
 
-// Flushes the outputs, if there are any, and returns whether all were flushed.
+/// Flushes the outputs, if there are any, and returns whether all were flushed.
 fn flush_outputs<W: Write, E: Write>(outputs: Option<&SharedOutputs<W, E>>) -> bool {
     match outputs {
         Some(outputs) => outputs.flush(),
@@ -145,7 +144,7 @@ fn flush_outputs<W: Write, E: Write>(outputs: Option<&SharedOutputs<W, E>>) -> b
     }
 }
 
-// Opens a file that is no directory.
+/// Opens a file that is no directory.
 fn open_file<R: Files>(rt: &R, path: &str) -> io::Result<<R as Files>::File> {
     let file = fs::open(rt, path)?;
     if file.metadata()?.is_dir() {
@@ -154,8 +153,8 @@ fn open_file<R: Files>(rt: &R, path: &str) -> io::Result<<R as Files>::File> {
     Ok(file)
 }
 
-// Returns whether a file can be opened later. Only a regular file is opened for that: if another one, as a pipe, is
-// closed again, its writer may fail.
+/// Returns whether a file can be opened later. Only a regular file is opened to find out: if another one, such as a
+/// pipe, is closed again, its writer may fail.
 fn may_open<R: Files>(rt: &R, path: &str) -> bool {
     match fs::metadata(rt, path) {
         Ok(data) if data.is_file() => match open_file(rt, path) {
@@ -167,7 +166,7 @@ fn may_open<R: Files>(rt: &R, path: &str) -> bool {
     }
 }
 
-// Returns whether the error says that there are too many open files.
+/// Returns whether the error says that there are too many open files.
 fn is_too_many(fault: &io::Error) -> bool {
     match fault.raw_os_error() {
         Some(number) => TOO_MANY.contains(&number),

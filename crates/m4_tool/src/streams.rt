@@ -10,8 +10,8 @@ const FULL: &str = "/dev/full";
 /// The least number that is not one of the three streams.
 const FIRST_FREE: RawFd = 3;
 
-/// Occupies each of the three streams that is closed by a device that refuses each read and each write. Returns one
-/// more file, which is none of the three; none if the device can't be opened, and then a closed stream may stay so.
+/// Opens a device that refuses each read and each write in place of each of the three streams that is closed. Returns
+/// one more file, which is none of the three; `None` if the device can't be opened: then a closed stream may stay so.
 pub fn occupy_closed<R: Files>(rt: &R) -> Option<<R as Files>::File>
 where
     <R as Files>::File: AsRawFd + IntoRawFd,

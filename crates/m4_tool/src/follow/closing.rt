@@ -1,4 +1,4 @@
-//! The end of a line: its outputs and its file are flushed, and what is not reported yet is reported.
+//! Ends a line: flushes its outputs and the file that was made, and reports what was not reported yet.
 
 ghost use Rattle.std.specs.Prelude.{◌≡◌, ◌≢◌, [], List, ℕ, None, Some, false, true};
 ghost use Rattle.m4_state.specs.Device.{Puts, count_after};
@@ -17,8 +17,8 @@ use m4_engine::ending::{Cause, Ending};
 use m4_state::device::{ByteSink, DeviceFault};
 use m4_state::transfer::{write_all, write_pieces};
 
-/// Ends a line whose run ended so: flushes everything, and reports what the run has not reported itself. `file` is the
-/// name of its frozen file. If a report can't be written, only the status shows it.
+/// Ends a line whose run had this ending: flushes everything, and reports what the run has not reported itself. `file`
+/// is the name of its frozen file. If a report can't be written, only the status shows it.
 pub fn close<W: World, O: Shows, M: Shows>(
     ending: Ending,
     file: &[u8],
@@ -87,13 +87,13 @@ fn report_last<M: Shows>(failure: Option<Failure>, messages: &mut M)
     ensures unreported { failure ≡ None → messages.new ≡ messages.old }
 {
     match failure {
-        Some(failure) => report(failure, messages),
+        Some(failure) => show_failure(failure, messages),
         None => {}
     }
 }
 
-/// Writes the line of a failure to the messages and flushes them, if it has one.
-fn report<M: Shows>(failure: Failure, messages: &mut M)
+/// Writes the line of a failure, if it has one, to the messages, and flushes them.
+fn show_failure<M: Shows>(failure: Failure, messages: &mut M)
     ensures reports { Reports (failure_lines (Some failure)) (M.contents messages.old) (M.contents messages.new)
         (M.failures messages.old) (M.failures messages.new) }
 {
@@ -170,7 +170,7 @@ pub fn close_mode<W: World, O: Shows, M: Shows>(
     let mut world = world;
     let all_flushed = flush_all(&mut world, out, messages);
     if status == 0 && !all_flushed {
-        report(Failure::Write, messages);
+        show_failure(Failure::Write, messages);
         return Followed {
             status: FAILED,
             failure: Some(Failure::Write),

@@ -27,9 +27,9 @@ use std::alloc::{AllocError, Global};
 use std::marker::Brand;
 use std::mem::forget;
 
-/// The end of a run, with the world after it.
+/// How the run of a line ended, with the world after it.
 #[derive(Drop)]
-pub struct Ran<W> {
+pub struct RunEnd<W> {
     /// How the run ended.
     pub ending: Ending,
     /// The world.
@@ -44,7 +44,7 @@ pub fn run_line<W: World, O: Shows, M: Shows>(
     world: W,
     out: &mut O,
     messages: &mut M,
-) -> Ran<W>
+) -> RunEnd<W>
     ensures ran { (files : Files) (input : Script) (script : Option Script) (ss : List Said)
         → Knows W.making W.files W.input world files input → DescribesFrozen W.Reader.script frozen.old script
         → ExtendFiles files input (words_of (request_of line.now).names) ss
@@ -91,11 +91,11 @@ fn name_of(alloc: Global, file: &Option<String>) -> Result<Bytes, AllocError>
 }
 
 /// Returns the end of a run that was not begun, because an allocation failed.
-fn without_memory<W>(world: W) -> Ran<W>
+fn without_memory<W>(world: W) -> RunEnd<W>
     ensures ending { result.ending ≡ record { status = 1; cause = Cause.OutOfMemory; wrapped = false } }
     ensures world { result.world ≡ world }
 {
-    Ran {
+    RunEnd {
         ending: Ending {
             status: 1,
             cause: Cause::OutOfMemory,
@@ -116,7 +116,7 @@ fn run_late<W: World, K: LateStart, O: Shows, M: Shows>(
     messages: &mut M,
     world: W,
     name: Bytes,
-) -> Ran<W>
+) -> RunEnd<W>
     requires before { W.files world ≡ K.before }
     requires name { name ≡ K.name }
     requires failures { W.failures world ≡ K.failures }
@@ -140,7 +140,7 @@ fn run_late<W: World, K: LateStart, O: Shows, M: Shows>(
     let ran = run_keeping(alloc, options, frozen, sources, out, messages, &mut late);
     // The program ends after this, so the definitions are not freed one by one.
     forget(ran.session);
-    Ran {
+    RunEnd {
         ending: ran.ending,
         world: late.into_world(),
     }

@@ -7,7 +7,7 @@ use Rattle.m4_tool.proofs.line.known_command.Goals as goal
 
 pub returns : goal.returns
 returns c =
-    let modes_are = c.in_ok-command.ensures ∙ ap with_modes c.start.ensures in
+    let modes_are = c.in_ok-command.ensures ∙ ap with_modes c.bare_command.ensures in
     let frozen_are = c.in_ok-command-2.ensures ∙ ap with_frozen modes_are in
     let limits_are = c.in_ok-command-3.ensures ∙ ap with_limits frozen_are in
     let prefix_is = c.in_ok-command-4.ensures ∙ ap with_prefix limits_are in

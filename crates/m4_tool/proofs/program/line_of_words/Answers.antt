@@ -3,7 +3,7 @@ use Rattle.std.proofs.Common.{◌∙◌, List, ap, subst}
 use Rattle.clap.specs.Walk.{texts}
 use Rattle.clap.specs.Words.{Text}
 use Rattle.m4_tool.specs.CommandLine.{IsModeNotAlone}
-use Rattle.m4_tool.proofs.program.line_of.Goals as goal
+use Rattle.m4_tool.proofs.program.line_of_words.Goals as goal
 
 pub returns-clause-not_alone : goal.returns-clause-not_alone
 returns-clause-not_alone c same =

@@ -4,7 +4,7 @@ use Rattle.m4_tool.specs.Failure.{failure_line, lines_of}
 use Rattle.m4_tool.specs.LineEnd.{Reports}
 use Rattle.m4_tool.proofs.Counts.{grew_after, grew_by}
 use Rattle.m4_tool.proofs.LineEnds.{line_reported}
-use Rattle.m4_tool.proofs.follow.closing.report.Goals as goal
+use Rattle.m4_tool.proofs.follow.closing.show_failure.Goals as goal
 
 pub returns-then-not-is_empty : goal.returns-then-not-is_empty
 returns-then-not-is_empty g c =
