@@ -72,7 +72,8 @@ static DEFINITIONS: [Row; 2] = [
             Step::Call("define", &["f", "new", "more"]),
             Step::Look("f"),
         ],
-        "f: 1, text old\nf: 1, text \nm4:a.m4:1: Warning: excess arguments to builtin `define' ignored\nf: 1, text new\n",
+        "f: 1, text old\nf: 1, text \n\
+        m4:a.m4:1: Warning: excess arguments to builtin `define' ignored\nf: 1, text new\n",
     ),
     (
         "undefine takes each name away",

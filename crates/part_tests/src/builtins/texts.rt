@@ -208,7 +208,8 @@ static WARNED_PARTS: [Row; 9] = [
         "an empty place and count",
         false,
         &[Step::Call("substr", &["abc", "", ""])],
-        "push \nm4:a.m4:1: Warning: empty string treated as 0 in builtin `substr'\nm4:a.m4:1: Warning: empty string treated as 0 in builtin `substr'\n",
+        "push \nm4:a.m4:1: Warning: empty string treated as 0 in builtin `substr'\n\
+        m4:a.m4:1: Warning: empty string treated as 0 in builtin `substr'\n",
     ),
     (
         "a place that is no number",
@@ -226,7 +227,8 @@ static WARNED_PARTS: [Row; 9] = [
         "an empty place and a count that is no number",
         false,
         &[Step::Call("substr", &["abc", "", "x"])],
-        "m4:a.m4:1: Warning: empty string treated as 0 in builtin `substr'\nm4:a.m4:1: Warning: non-numeric argument to builtin `substr'\n",
+        "m4:a.m4:1: Warning: empty string treated as 0 in builtin `substr'\n\
+        m4:a.m4:1: Warning: non-numeric argument to builtin `substr'\n",
     ),
     (
         "neither is a number",
@@ -238,7 +240,8 @@ static WARNED_PARTS: [Row; 9] = [
         "a fourth argument",
         false,
         &[Step::Call("substr", &["abc", "", "2", "x"])],
-        "push ab\nm4:a.m4:1: Warning: excess arguments to builtin `substr' ignored\nm4:a.m4:1: Warning: empty string treated as 0 in builtin `substr'\n",
+        "push ab\nm4:a.m4:1: Warning: excess arguments to builtin `substr' ignored\n\
+        m4:a.m4:1: Warning: empty string treated as 0 in builtin `substr'\n",
     ),
     (
         "no argument",

@@ -153,7 +153,8 @@ fn a_block_ends_at_each_byte(rt: HostRuntime) {
 const FAILING: &[u8] = b"V1\nQ1,1\n[]\nC0,0\n\nT2,3\na\n# b\nF3,3\ndnldnl\nD2,2\nzz\nD-1,0\n\n";
 
 const FAILING_CANONICAL: &[u8] =
-    b"# m4 frozen state\nV1\nQ1,1\n[]\nC0,0\n\nT2,3\na\n# b\nF3,3\ndnldnl\nD2,2\nzz\nD-1,0\n\n# End of frozen state file\n";
+    b"# m4 frozen state\nV1\nQ1,1\n[]\nC0,0\n\nT2,3\na\n# b\nF3,3\ndnldnl\nD2,2\nzz\nD-1,0\n\n\
+    # End of frozen state file\n";
 
 // Reports writing a file's state twice to a writer that fails after this many bytes.
 fn cut_short(alloc: Global, room: usize, block: usize) -> Result<Vec<u8>, AllocError> {
