@@ -1,7 +1,7 @@
 //! The bytes of one file that are in hand, and how many of them were read.
 //!
-//! Blocks of the file are appended to a buffer. If it is full, and more of its bytes were read than are left, those left
-//! are moved to its front. So reading a file and moving its bytes takes time in proportion to the file.
+//! Blocks of the file are appended to a buffer. If it is full, and more of its bytes were read than are left, the bytes
+//! left are moved to its front. So reading a file and moving its bytes takes time in proportion to the file.
 
 ghost use Rattle.std.specs.Prelude.{◌≡◌, ◌+◌, ◌<◌, ◌≤◌, ◌++◌, [], OnOk, OnErr, IfOk, Ok, true, false, length, take};
 ghost use Rattle.std.specs.Prelude.{drop, vec_len, vec_capacity, ◌-◌};
