@@ -14,7 +14,7 @@ use crate::loading::Loaded;
 use itoa::Buffer;
 use m4_state::definition::Def;
 use m4_state::device::{ByteSink, DeviceFault};
-use m4_state::named::Named;
+use m4_state::named::NamedStack;
 use m4_state::state::State;
 use m4_state::transfer::{write_all, write_pieces};
 
@@ -46,7 +46,7 @@ pub fn list<W: ByteSink>(loaded: &Loaded, writer: &mut W) -> Result<(), WriteFau
 /// Writes the delimiters, the definitions and the diversions.
 fn put_listing<W: ByteSink>(
     loaded: &Loaded,
-    pairs: &[Named],
+    pairs: &[NamedStack],
     writer: &mut W,
 ) -> Result<(), DeviceFault>
     ensures puts { Puts result (W.contents writer.old) (W.contents writer.new)
@@ -87,7 +87,7 @@ fn put_delimiters<W: ByteSink>(
 }
 
 /// Writes the definitions of the names, in their order.
-fn put_names<W: ByteSink>(pairs: &[Named], writer: &mut W) -> Result<(), DeviceFault>
+fn put_names<W: ByteSink>(pairs: &[NamedStack], writer: &mut W) -> Result<(), DeviceFault>
     ensures puts { Puts result (W.contents writer.old) (W.contents writer.new) (steps.names_lines pairs.now) }
     ensures counted { W.failures writer.new ≡ count_after result (W.failures writer.old) }
 {

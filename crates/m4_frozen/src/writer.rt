@@ -17,7 +17,7 @@ use arrayvec::{ArrayVec, CapacityError};
 use itoa::Buffer;
 use m4_state::definition::Def;
 use m4_state::device::{ByteSink, DeviceFault};
-use m4_state::named::Named;
+use m4_state::named::NamedStack;
 use m4_state::state::State;
 use m4_state::transfer::{write_all, write_pieces};
 
@@ -68,7 +68,7 @@ pub fn write_frozen<W: ByteSink>(state: &State, writer: &mut W) -> Result<(), Wr
 /// Writes the header, the directives and the end line.
 fn put_frozen<W: ByteSink>(
     state: &State,
-    pairs: &[Named],
+    pairs: &[NamedStack],
     writer: &mut W,
 ) -> Result<(), DeviceFault>
     ensures puts { Puts result (W.contents writer.old) (W.contents writer.new) (steps.frozen_text state.now pairs.now) }
@@ -84,7 +84,7 @@ fn put_frozen<W: ByteSink>(
 /// Writes the delimiters, the definitions and the diversions.
 fn put_directives<W: ByteSink>(
     state: &State,
-    pairs: &[Named],
+    pairs: &[NamedStack],
     writer: &mut W,
 ) -> Result<(), DeviceFault>
     ensures puts { PutsAll W.takes_whole result (W.contents writer.old) (W.contents writer.new)
@@ -141,7 +141,7 @@ fn put_delimiters<W: ByteSink>(
 }
 
 /// Writes the definitions of the names, in their order.
-fn put_names<W: ByteSink>(pairs: &[Named], writer: &mut W) -> Result<(), DeviceFault>
+fn put_names<W: ByteSink>(pairs: &[NamedStack], writer: &mut W) -> Result<(), DeviceFault>
     ensures puts { PutsAll W.takes_whole result (W.contents writer.old) (W.contents writer.new)
         (steps.names_directives pairs.now) }
     ensures counted { W.failures writer.new ≡ count_after result (W.failures writer.old) }
@@ -161,7 +161,7 @@ fn put_names<W: ByteSink>(pairs: &[Named], writer: &mut W) -> Result<(), DeviceF
 /// apart in memory: here the processor waits for many of them at once, and not for one after the other.
 /// Nothing depends on what was `seen`. It is stored so that the compiler keeps the looks.
 #[inline(never)]
-fn look_at(pairs: &[Named], seen: &mut u8) {
+fn look_at(pairs: &[NamedStack], seen: &mut u8) {
     let (pairs, _rest) = pairs.split_at(AHEAD.min(pairs.len()));
     for pair in pairs {
         *seen ^= first_byte(pair.name()) ^ first_byte_of_text(pair.stack());

@@ -18,14 +18,14 @@ const RANKED: usize = 16;
 
 /// A name with its definitions, the oldest first. Contracts see the pair of both.
 #[derive(Drop)]
-pub struct Named<'a> {
+pub struct NamedStack<'a> {
     first: u64,
     second: u64,
     name: &'a Bytes,
     stack: &'a Stack,
 }
 
-impl<'a> Model for Named<'a> {
+impl<'a> Model for NamedStack<'a> {
     ghost use Rattle.m4_state.specs.ByteWords.{IsRank};
     ghost use Rattle.m4_state.specs.Table.{Pair};
 
@@ -36,13 +36,13 @@ impl<'a> Model for Named<'a> {
     ghost invariant = { λ n. IsRank n.name.now n.first n.second };
 }
 
-impl<'a> Named<'a> {
+impl<'a> NamedStack<'a> {
     /// Takes a name and its definitions.
-    pub(crate) fn new(name: &'a Bytes, stack: &'a Stack) -> Named<'a>
+    pub(crate) fn new(name: &'a Bytes, stack: &'a Stack) -> NamedStack<'a>
         ensures { result ≡ (name.now, stack.now) }
     {
         let bytes = filled(name.as_slice());
-        Named {
+        NamedStack {
             first: word_at(&bytes, 0),
             second: word_at(&bytes, 8),
             name,
@@ -73,7 +73,7 @@ impl<'a> Named<'a> {
 }
 
 /// Returns the byte order of two names.
-pub(crate) fn order_of(a: &Named, b: &Named) -> Ordering
+pub(crate) fn order_of(a: &NamedStack, b: &NamedStack) -> Ordering
     ensures { result ≡ byte_order a.now.0 b.now.0 }
 {
     if a.first != b.first {

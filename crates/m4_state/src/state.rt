@@ -14,7 +14,7 @@ use crate::definition::Def;
 use crate::delimiters::Delimiters;
 use crate::diversions::Diversions;
 use crate::fault::StateFault;
-use crate::named::Named;
+use crate::named::NamedStack;
 use crate::table::Table;
 use std::alloc::{AllocError, Global};
 use std::marker::Model;
@@ -151,7 +151,7 @@ impl State {
     /// Returns the names that have a definition, in byte order, each with its definitions, the oldest
     /// first. Each call sorts them; both are borrowed. Every state is valid, and none of its byte strings is
     /// longer than 2^64 - 1.
-    pub fn definitions(&self) -> Result<Vec<Named<'_>>, StateFault>
+    pub fn definitions(&self) -> Result<Vec<NamedStack<'_>>, StateFault>
         // exact steps: the pairs of the record, in its order
         ensures pairs { IfOk result (λ named. named.items ≡ self.now.table) }
         ensures valid { IsState self.now }

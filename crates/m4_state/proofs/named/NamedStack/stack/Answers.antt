@@ -1,5 +1,5 @@
 use Rattle.std.proofs.Common.{rules}
-use Rattle.m4_state.proofs.named.Named.stack.Goals as goal
+use Rattle.m4_state.proofs.named.NamedStack.stack.Goals as goal
 
 pub returns : goal.returns
 returns c = search rules
