@@ -12,7 +12,7 @@ use Rattle.m4_engine.specs.RunSources.{ExtendsSource, whole}
 use Rattle.m4_tool.specs.Line.{source_name, LineResult, Missing, Request, Starts, Thawed, all_of, file_source}
 use Rattle.m4_tool.specs.Line.{input_after, line, result_by, script_at, sources_in, thaw_in, words_of}
 use Rattle.m4_tool.specs.Known.{ExtendFiles, ExtendsFile, MayGive}
-use Rattle.m4_tool.specs.LineRun.{Named, named_in, named_of}
+use Rattle.m4_tool.specs.LineRun.{NamedSource, named_in, named_of}
 use Rattle.m4_tool.specs.World.{Files}
 use Rattle.m4_tool.proofs.OpenedFiles.{all_there}
 
@@ -39,14 +39,14 @@ opened_extends name m given (Some p) (Some q) x s n b e h =
 one_extends : {R : Type 0} (script : R → Option Script) (name : List ℕ) (given : Option Script) (x y : RunSource R) (s : Source)
     → named_of script x ≡ record { name = name; script = option_map (λ t. Some t) given } → ConsumesOnly script x y → ExtendsFile name given s → ExtendsSource script x y s
 one_extends script name None (sources.Opened m r) y s e c h =
-    absurd (let k : Some (script r) ≡ None = ap (λ (t : Named). t.script) e in cc)
+    absurd (let k : Some (script r) ≡ None = ap (λ (t : NamedSource). t.script) e in cc)
 one_extends script name (Some t) (sources.Opened m r) (sources.Unopened k) s e c h = absurd c
 one_extends script name (Some t) (sources.Opened m r) (sources.Opened k q) s e c h =
-    opened_extends name m t (script r) (script q) c.1.0 s (ap (λ (u : Named). u.name) e)
-    (ap (λ (u : Named). unwrap_or u.script None) e) c.1.1 h
-one_extends script name None (sources.Unopened m) y s e c h = h ∙ ap Unopened (sym (ap (λ (u : Named). u.name) e))
+    opened_extends name m t (script r) (script q) c.1.0 s (ap (λ (u : NamedSource). u.name) e)
+    (ap (λ (u : NamedSource). unwrap_or u.script None) e) c.1.1 h
+one_extends script name None (sources.Unopened m) y s e c h = h ∙ ap Unopened (sym (ap (λ (u : NamedSource). u.name) e))
 one_extends script name (Some t) (sources.Unopened m) y s e c h =
-    absurd (let k : None ≡ Some (Some t) = ap (λ (u : Named). u.script) e in cc)
+    absurd (let k : None ≡ Some (Some t) = ap (λ (u : NamedSource). u.script) e in cc)
 
 -- sources that the files of a line may have been extend what a run read of its sources
 pub all_extend : {R : Type 0} (script : R → Option Script) (files : Files) (input : Script) (names : List (List ℕ)) (xs ys : List (RunSource R)) (ss : List Source)
@@ -59,8 +59,8 @@ all_extend script files input (n ∷ ns) [] ys ss e c h = absurd cc
 all_extend script files input (n ∷ ns) (x ∷ xs) [] ss e c h = absurd c
 all_extend script files input (n ∷ ns) (x ∷ xs) (y ∷ ys) [] e c h = absurd h
 all_extend script files input (n ∷ ns) (x ∷ xs) (y ∷ ys) (s ∷ ss) e c h = (
-  one_extends script (source_name n) (script_at files input n) x y s (ap (λ (l : List Named). get_or l 0 (named_of script x)) e) c.0 h.0,
-  all_extend script files (input_after input n) ns xs ys ss (ap (λ (l : List Named). drop 1 l) e) c.1 h.1,
+  one_extends script (source_name n) (script_at files input n) x y s (ap (λ (l : List NamedSource). get_or l 0 (named_of script x)) e) c.0 h.0,
+  all_extend script files (input_after input n) ns xs ys ss (ap (λ (l : List NamedSource). drop 1 l) e) c.1 h.1,
 )
 
 -- the sources of a line whose readers don't fail

@@ -12,7 +12,7 @@ use Rattle.m4_engine.specs.RunSources.{DescribesFrozen}
 use Rattle.m4_tool.specs.World.{Files}
 use Rattle.m4_tool.specs.Line.{LineResult, all_of, and_then, input_after, result_by, result_of_run, thaw_in}
 use Rattle.m4_tool.specs.Line.{thawed_by, unreloaded}
-use Rattle.m4_tool.specs.LineRun.{Named, named_at, named_in, named_of}
+use Rattle.m4_tool.specs.LineRun.{NamedSource, named_at, named_in, named_of}
 use Rattle.m4_tool.proofs.Places.{at_place}
 
 -- the files before a place were opened
@@ -34,9 +34,9 @@ one_opened {A = A} script bytes_of files input names i sources now now' s d lt o
     record {
       left = input_after o.left n;
       is = e;
-      are = ap (λ (xs : List Named). xs ++ named_in files (input_after o.left n) rest) (map-append (named_of script) sources (s ∷ []))
+      are = ap (λ (xs : List NamedSource). xs ++ named_in files (input_after o.left n) rest) (map-append (named_of script) sources (s ∷ []))
           ∙ append_assoc (map (named_of script) sources) (named_of script s ∷ []) (named_in files (input_after o.left n) rest)
-          ∙ ap (λ (x : Named). map (named_of script) sources ++ x ∷ named_in files (input_after o.left n) rest) t
+          ∙ ap (λ (x : NamedSource). map (named_of script) sources ++ x ∷ named_in files (input_after o.left n) rest) t
           ∙ ap (λ (ns : List A). map (named_of script) sources ++ named_in files o.left (map bytes_of ns)) (sym (at_place names i d lt))
           ∙ o.are;
     }

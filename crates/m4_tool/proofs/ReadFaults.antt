@@ -16,7 +16,7 @@ use Rattle.m4_tool.specs.declared.followed.Failure.TheVariants as failures
 use Rattle.m4_tool.specs.Line.{input_after, script_at, source_name}
 use Rattle.m4_tool.specs.Known.{AnyFails, DoesFail}
 use Rattle.m4_tool.specs.LineEnd.{Seen, failure_of, frozen_failure}
-use Rattle.m4_tool.specs.LineRun.{Closes, Named, failure_after, named_in, named_of}
+use Rattle.m4_tool.specs.LineRun.{Closes, NamedSource, failure_after, named_in, named_of}
 use Rattle.m4_tool.specs.World.{Files}
 
 -- a reader whose bytes are known failed after them
@@ -30,10 +30,10 @@ one_fails : {R : Type 0} (script : R → Option Script) (count : R → ℕ) (nam
     → named_of script x ≡ record { name = name; script = option_map (λ t. Some t) given } → ConsumesOnly script x y
     → HasFailed script count x y → DoesFail given
 one_fails script count name None (sources.Opened m r) y e c h =
-    absurd (let k : Some (script r) ≡ None = ap (λ (t : Named). t.script) e in cc)
+    absurd (let k : Some (script r) ≡ None = ap (λ (t : NamedSource). t.script) e in cc)
 one_fails script count name (Some t) (sources.Opened m r) (sources.Unopened k) e c h = absurd c
 one_fails script count name (Some t) (sources.Opened m r) (sources.Opened k q) e c h =
-    fails_so (script r) (script q) c.1.0 t (ap (λ (u : Named). unwrap_or u.script None) e) c.1.1 h.1
+    fails_so (script r) (script q) c.1.0 t (ap (λ (u : NamedSource). unwrap_or u.script None) e) c.1.1 h.1
 one_fails script count name given (sources.Unopened m) y e c h = absurd h
 
 any_fails : {R : Type 0} (script : R → Option Script) (count : R → ℕ) (files : Files) (input : Script) (names : List (List ℕ)) (xs ys : List (RunSource R))
@@ -42,9 +42,9 @@ any_fails script count files input names [] ys e c h = absurd h
 any_fails script count files input [] (x ∷ xs) ys e c h = absurd cc
 any_fails script count files input (n ∷ ns) (x ∷ xs) [] e c h = absurd h
 any_fails script count files input (n ∷ ns) (x ∷ xs) (y ∷ ys) e c (inl h) =
-    inl (one_fails script count (source_name n) (script_at files input n) x y (ap (λ (l : List Named). get_or l 0 (named_of script x)) e) c.0 h)
+    inl (one_fails script count (source_name n) (script_at files input n) x y (ap (λ (l : List NamedSource). get_or l 0 (named_of script x)) e) c.0 h)
 any_fails script count files input (n ∷ ns) (x ∷ xs) (y ∷ ys) e c (inr h) =
-    inr (any_fails script count files (input_after input n) ns xs ys (ap (λ (l : List Named). drop 1 l) e) c.1 h)
+    inr (any_fails script count files (input_after input n) ns xs ys (ap (λ (l : List NamedSource). drop 1 l) e) c.1 h)
 
 pub run_fails : {R : Type 0} (script : R → Option Script) (count : R → ℕ) (files : Files) (input : Script) (names : List (List ℕ)) (xs ys : List (RunSource R)) (cause : Cause)
     → map (named_of script) xs ≡ named_in files input names → AllConsumeOnly script xs ys → ReadersFailBy script count cause xs ys → cause ≡ causes.Read → AnyFails files input names

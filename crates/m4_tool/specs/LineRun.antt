@@ -24,19 +24,19 @@ use Rattle.m4_tool.specs.LineMode.{closed_lines, closed_status}
 use Rattle.m4_tool.specs.World.{Files, made_file}
 
 -- a source by its name, with its bytes if it was opened and they are known
-pub record Named : Type 0 where
+pub record NamedSource : Type 0 where
   pub name : List ℕ
   pub script : Option (Option Script)
 
-abbrev pub named_of : {R : Type 0} → (R → Option Script) → RunSource R → Named
+abbrev pub named_of : {R : Type 0} → (R → Option Script) → RunSource R → NamedSource
 named_of script (sources.Opened name reader) = record { name = name; script = Some (script reader) }
 named_of script (sources.Unopened name) = record { name = name; script = None }
 
 -- the same for a word of the line, and for all of them
-abbrev pub named_at : Files → Script → List ℕ → Named
+abbrev pub named_at : Files → Script → List ℕ → NamedSource
 named_at files input name = record { name = source_name name; script = option_map Some (script_at files input name) }
 
-abbrev pub named_in : Files → Script → List (List ℕ) → List Named
+abbrev pub named_in : Files → Script → List (List ℕ) → List NamedSource
 named_in files input [] = []
 named_in files input (name ∷ names) = named_at files input name ∷ named_in files (input_after input name) names
 
