@@ -8,7 +8,7 @@
 //! Contracts see `Held` (`specs/Input.antt`). Manual: "How m4 copies input to output".
 
 ghost use Rattle.std.specs.Prelude.{◌≡◌, ◌<◌, ◌≤◌, List, ℕ, Some, None, OnOk, OnErr, IfOk, IfErr, IfSome, Ok, Err};
-ghost use Rattle.std.specs.Prelude.{true, false, [], ◌||◌, length, take};
+ghost use Rattle.std.specs.Prelude.{true, false, [], ◌||◌, ◌≢◌, IfNone, length, take};
 ghost use Rattle.m4_state.specs.Device.{Script};
 ghost use Rattle.m4_input.specs.DelimsView.{pair_of};
 ghost use Rattle.m4_input.specs.Pending.{consumed, line_of, name_of, newlines_in, text_of};
@@ -182,6 +182,7 @@ impl Input {
         ensures all { IfSome result (λ r. r.1 ≡ false → r.0.now ≡ text_of self.now.pending) }
         ensures some { IfSome result (λ r. r.1 ≡ true → 0 < length r.0.now) }
         ensures first { IfSome result (λ r. self.now.pending.definition ≡ None) }
+        ensures none { IfNone result (self.now.pending.definition ≢ None) }
     {
         if self.definition.is_some() {
             return None;
