@@ -5,8 +5,8 @@ use Rattle.std.proofs.lemmas.List.{length-append, nil_from_length, take-append-d
 use Rattle.m4_state.proofs.CallerLaws.{with_bytes-append, with_bytes-nil}
 use Rattle.m4_state.specs.Device.{with_bytes, HasBegun}
 use Rattle.m4_engine.specs.Engine.{Engine, after_flush}
-use Rattle.m4_engine.specs.Expands.{FlushesSome, HasTaken, IsInOrder}
-use Rattle.m4_engine.specs.Writers.{writers}
+use Rattle.m4_engine.specs.Expands.{FlushesDue, IsInOrder}
+use Rattle.m4_engine.specs.Writers.{HasTaken, writers}
 
 -- a writer that was not asked has taken a beginning
 pub nothing_begun : (o : Option (List ℕ)) (x : List ℕ) → HasBegun o o x
@@ -29,22 +29,13 @@ begun_after o a b x y more all e h f = (
   },
 )
 
--- nothing was handed on
-pub some_none : (e : Engine) (out reported : Option (List ℕ)) → FlushesSome e e (writers out out reported reported)
-some_none e out reported = record { front = []; reported = []; held = refl; output = with_bytes-nil out; messages = with_bytes-nil reported }
+-- nothing was flushed
+pub due_none : (e : Engine) (out reported : Option (List ℕ)) → FlushesDue e e (writers out out reported reported)
+due_none e out reported = inl (refl, record { output = with_bytes-nil out; messages = with_bytes-nil reported })
 
 -- all was
-pub some_all : (e e' : Engine) (out out' reported reported' : Option (List ℕ)) → e' ≡ after_flush e → out' ≡ with_bytes out e.output → reported' ≡ with_bytes reported e.messages → FlushesSome e e' (writers out out' reported reported')
-some_all e e' out out' reported reported' h f g = record {
-  front = e.output;
-  reported = e.messages;
-  held =
-      ap (λ (x : List ℕ). let d : Engine = record e { output = x } in d) (sym (append-nil e.output))
-      ∙ ap (λ (x : List ℕ). let d : Engine = record e { output = e.output ++ []; messages = x } in d) (sym (append-nil e.messages))
-      ∙ ap (λ (d : Engine). let k : Engine = record d { output = e.output ++ d.output; messages = e.messages ++ d.messages } in k) (sym h);
-  output = f;
-  messages = g;
-}
+pub due_all : (e e' : Engine) (out out' reported reported' : Option (List ℕ)) → e' ≡ after_flush e → out' ≡ with_bytes out e.output → reported' ≡ with_bytes reported e.messages → FlushesDue e e' (writers out out' reported reported')
+due_all e e' out out' reported reported' h f g = inr (h, record { output = f; messages = g })
 
 -- a beginning of the first part was written
 pub begun_front : (o a : Option (List ℕ)) (k : ℕ) (all : List ℕ) → HasBegun o a (take k all) → HasBegun o a all

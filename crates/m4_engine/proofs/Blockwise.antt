@@ -16,19 +16,23 @@ use Rattle.m4_engine.specs.declared.in_hand.Wanted.TheVariants as wanted
 use Rattle.m4_engine.specs.declared.in_hand.InHand.{InHand}
 use Rattle.m4_engine.specs.declared.in_hand.InHand.TheVariants as hands
 use Rattle.m4_engine.specs.Nesting.{Outcome, Halted, Closed}
-use Rattle.m4_engine.specs.OpenCalls.{resume}
+use Rattle.m4_engine.specs.OpenCalls.{Goes, resume}
+use Rattle.m4_engine.specs.Moments.{Moment, moved, made_by, Comes, first_moment}
+use Rattle.m4_engine.specs.Order.{preceded}
 use Rattle.m4_engine.specs.Expansion.{RunSoFar, Call, Expansion, Kept, Ended, Ends, NeedsInput}
 use Rattle.m4_engine.specs.Expand.{turn, join, expand, ended_of, expansion_of}
 use Rattle.m4_engine.specs.Engine.{Engine, so_far_of, outer_of, here_of, configuration, IsReady, IsFront}
 use Rattle.m4_engine.specs.Turns.{MayFollow}
 use Rattle.m4_engine.specs.Expands.{made_before, input_expansion, Expanded, LastAsked, ReadSo, Fell, Expands, ReadsBy}
-use Rattle.m4_engine.specs.Expands.{IsIdle}
-use Rattle.m4_engine.specs.Continued.{comes_to, Leads, IsFlushed, HandNeeds, HandEnds, HandBreaks, HandGives, HasMade}
-use Rattle.m4_engine.specs.Continued.{so_far_in, fault_cause}
+use Rattle.m4_engine.specs.Expands.{IsIdle, StepBreaks, StepBreaksBy, progress_before}
+use Rattle.m4_engine.specs.Continued.{comes_to, stands, Leads, Marked, IsMarked, IsFlushed, HandNeeds, HandEnds}
+use Rattle.m4_engine.specs.Continued.{HandBreaks, HandGives, HasMade, BreaksInOrder, OrderBy, so_far_in, fault_cause}
 use Rattle.m4_engine.specs.ReadsOn.{IsWantedAfter, HasReadOn, HasStopped, ReadsOn}
 use Rattle.m4_engine.specs.Writers.{Contents, Failures, NoneFailed, FailsBy, writers, Broken, HasWritten}
 use Rattle.m4_engine.proofs.ReadingOn.{stays_open}
-use Rattle.m4_engine.proofs.Running.{leads_then, leads_nowhere, more_written, comes_keeps, made_is}
+use Rattle.m4_engine.proofs.Leading.{leads_then, leads_nowhere, leads_same}
+use Rattle.m4_engine.proofs.Marks.{mark_here, mark_then}
+use Rattle.m4_engine.proofs.Running.{more_written, comes_keeps}
 
 -- the reader gave x of the file, and the expansion goes on from here; all that was made was written
 pub record Taking (e0 : Engine) (p0 : Pending) (before after : Option Script) (out0 reported0 : Option (List ℕ)) (w : Wanted) (e : Engine) (i : Held) (out reported : Option (List ℕ)) : Type 0 where
@@ -39,6 +43,7 @@ pub record Taking (e0 : Engine) (p0 : Pending) (before after : Option Script) (o
   pub m : List ℕ
   pub written : HasWritten o m (writers out0 out reported0 reported)
   pub leads : Leads wanted.Token e0 q w e i.pending o m
+  pub marked : Marked wanted.Token e0 q o m
   pub asked : (x ≡ []) ⊎ LastAsked e0 p0 x (writers out0 out reported0 reported)
   pub ready : IsReady i
   pub flushed : IsFlushed e
@@ -78,10 +83,18 @@ takes_nothing e i s out reported d r = record {
   m = [];
   written = record { output = with_bytes-nil out; messages = with_bytes-nil reported };
   leads = leads_nowhere wanted.Token e i.pending;
+  marked = mark_here wanted.Token e e i.pending i.pending [] [] (leads_nowhere wanted.Token e i.pending) d.output;
   asked = inl refl;
   ready = r;
   flushed = record { output = d.output; messages = d.messages };
 }
+
+-- what was written since is told by a later turn, if anything was
+pub marked_since : (w : Wanted) (e0 e : Engine) (q p : Pending) (o m x y : List ℕ) → Marked wanted.Token e0 q o m → Leads wanted.Token e0 q w e p o m → IsMarked w e p x y → Marked wanted.Token e0 q (o ++ x) (m ++ y)
+marked_since w e0 e q p o m x y k l (inr n) = mark_then wanted.Token w e0 e q p o m x y l n
+marked_since w e0 e q p o m x y k l (inl n) =
+    subst (λ (v : List ℕ). Marked wanted.Token e0 q v (m ++ y)) (sym (append-nil o) ∙ ap (λ (v : List ℕ). o ++ v) (sym n.0))
+    (subst (λ (v : List ℕ). Marked wanted.Token e0 q o v) (sym (append-nil m) ∙ ap (λ (v : List ℕ). m ++ v) (sym n.1)) k)
 
 -- the bytes in hand were expanded
 abbrev pub needs_more : (e0 e e' : Engine) (p0 : Pending) (i j : Held) (before after : Option Script)
@@ -97,6 +110,7 @@ needs_more e0 e e' p0 i j before after out0 reported0 out reported out' reported
   m = t.m ++ h.m;
   written = more_written t.o t.m h.o h.m out0 out out' reported0 reported reported' t.written (h.written).output (h.written).messages;
   leads = leads_then wanted.Token w v e0 e e' t.q i.pending j.pending t.o t.m h.o h.m t.leads h.leads;
+  marked = marked_since w e0 e t.q i.pending t.o t.m h.o h.m t.marked t.leads h.marked;
   asked = asked_since e0 p0 t.x h.o h.m out0 reported0 out reported out' reported' t.asked h.written;
   ready = h.ready;
   flushed = h.flushed;
@@ -126,12 +140,32 @@ reads_on before a b p0 q j k x y r f g s = record {
 -- the same place, with more bytes after those in hand
 leads_more : (w : Wanted) (e0 e : Engine) (q p : Pending) (o m y : List ℕ) (came : Bool) → q.may_follow ≡ true → Leads wanted.Token e0 q w e p o m → Leads wanted.Token e0 (longer y came q) w e (longer y came p) o m
 leads_more w e0 e q p o m y came f l = record {
-  means = λ z more c a b.
-      ap (λ (r : Pending). comes_to w (configuration (a ++ o) (b ++ m) e r)) (longer_twice y z came more p)
-      ∙ l.means (y ++ z) more (subst (λ v. MayFollow v (y ++ z) more) (sym f) tt) a b
-      ∙ ap (λ (r : Pending). comes_to wanted.Token (configuration a b e0 r)) (sym (longer_twice y z came more q));
+  comes = λ z more c a b.
+      let k = l.comes (y ++ z) more (subst (λ v. MayFollow v (y ++ z) more) (sym f) tt) a b in (
+        k.0,
+        subst (λ (r : Pending). Comes k.0 (Goes (configuration a b e0 r)) (stands w (configuration (a ++ o) (b ++ m) e (longer z more (longer y came p))))) (sym (longer_twice y z came more q))
+        (subst (λ (r : Pending). Comes k.0 (Goes (configuration a b e0 (longer (y ++ z) more q))) (stands w (configuration (a ++ o) (b ++ m) e r))) (sym (longer_twice y z came more p)) k.1),
+      );
   follows = refl;
   limits = l.limits;
+}
+
+-- the same turn tells what was written
+mark_longer : (e0 : Engine) (q : Pending) (o m y : List ℕ) (came : Bool) → q.may_follow ≡ true → Marked wanted.Token e0 q o m → Marked wanted.Token e0 (longer y came q) o m
+mark_longer e0 q o m y came f k = record {
+  at = k.at;
+  q = longer y came k.q;
+  before = k.before;
+  reported = k.reported;
+  leads = leads_more wanted.Token e0 k.at q k.q k.before k.reported y came f k.leads;
+  more = k.more;
+  output = k.output;
+  own = k.own;
+  rest = k.rest;
+  messages = k.messages;
+  makes = λ z more c a b.
+      let made = k.makes (y ++ z) more (subst (λ v. MayFollow v (y ++ z) more) (sym f) tt) a b in
+      (made.0, ap (λ (r : Pending). (made_by (moved (configuration (a ++ k.before) (b ++ k.reported) k.at r))).messages) (longer_twice y z came more k.q) ∙ made.1);
 }
 
 -- ---- what it all comes to
@@ -154,7 +188,7 @@ from_start : (e0 e : Engine) (p0 : Pending) (i : Held) (before after : Option Sc
     → MayFollow (t.q).may_follow z more
     → comes_to w (configuration t.o t.m e (longer z more i.pending))
     ≡ expand (expansion_of e0.limits (made_before e0) (longer z more t.q))
-from_start e0 e p0 i before after out0 reported0 out reported w d t z more c = (t.leads).means z more c [] [] ∙ comes_is e0 (longer z more t.q) d
+from_start e0 e p0 i before after out0 reported0 out reported w d t z more c = leads_same wanted.Token w e0 e t.q i.pending t.o t.m t.leads z more c [] [] ∙ comes_is e0 (longer z more t.q) d
 
 so_far_is : (v : Outcome Expansion Ended) → so_far_in v ≡ (ended_of v).so_far
 so_far_is (Halted d) = refl
@@ -225,6 +259,7 @@ blocks_came e0 e e' p0 i j k before a b out0 reported0 out reported out' reporte
       written = s.written;
       leads = subst (λ (p : Pending). Leads wanted.Token e0 (longer g.x (k.pending).may_follow t.q) v e' p s.o s.m) (sym (g.reads).in_hand)
           (leads_more v e0 e' t.q j.pending s.o s.m g.x (k.pending).may_follow still s.leads);
+      marked = mark_longer e0 t.q s.o s.m g.x (k.pending).may_follow still s.marked;
       asked = inr (asked_here e0 e e' p0 i j before a out0 reported0 out reported out' reported' w v d t h g.x g.front g.last g.undecided g.parts g.within);
       ready = record { sound = g.sound; front = subst (λ (p : Pending). IsFront p.definition) (sym (g.reads).in_hand) (h.ready).front };
       flushed = h.flushed;
@@ -259,6 +294,74 @@ ended_all e0 e e' p0 i before after out0 reported0 out reported out' reported' w
       } in
       subst (λ (y : Ended). Expanded e0 e' y cause (writers out0 out' reported0 reported')) (sym same) x;
 }
+
+-- ---- a turn that tells what was written
+
+-- the machine before its first turn
+idle_start : (e : Engine) (p : Pending) (a b : List ℕ) → IsIdle e
+    → configuration a b e p ≡ first_moment (expansion_of e.limits (preceded a b (progress_before e)).so_far p)
+idle_start e p a b d =
+    ap (λ (cs : List Call). configuration a b (record e { open_calls = cs }) p) d.open_calls
+    ∙ ap (λ (x : List ℕ). configuration a b (record e { open_calls = []; output = x }) p) d.output
+    ∙ ap (λ (x : List ℕ). configuration a b (record e { open_calls = []; output = []; messages = x }) p) d.messages
+
+told : (e0 : Engine) (p0 : Pending) (before after : Option Script) (x : List ℕ) (q : Pending) (o m : List ℕ)
+    (out0 out reported0 reported : Option (List ℕ)) → IsIdle e0 → Reads before after p0 x q
+    → HasWritten o m (writers out0 out reported0 reported) → Marked wanted.Token e0 q o m
+    → StepBreaks e0 p0 before after (writers out0 out reported0 reported)
+told e0 p0 before after x q o m out0 out reported0 reported d r h k = record {
+  x = x;
+  q = q;
+  reads = r;
+  so = λ z more c a b o0 m0 f g.
+      let way = (k.leads).comes z more c a b in
+      let made = k.makes z more c a b in
+      let at : Moment = configuration (a ++ k.before) (b ++ k.reported) k.at (longer z more k.q) in (
+        (at.here).so_far,
+        made_by (moved at),
+        record {
+          way = way.0;
+          at = at;
+          comes = subst (λ (n : Moment). Comes way.0 (Goes n) (Goes at)) (idle_start e0 (longer z more q) a b d) way.1;
+          made = refl;
+          makes = refl;
+        },
+        record {
+          output = (
+            k.more,
+            h.output
+            ∙ ap (λ (v : Option (List ℕ)). with_bytes v o) f
+            ∙ with_bytes-append o0 a o
+            ∙ ap (λ (n : List ℕ). with_bytes o0 (a ++ n)) k.output
+            ∙ ap (with_bytes o0) (sym (append_assoc a (k.before ++ (k.at).output) k.more))
+            ∙ ap (λ (n : List ℕ). with_bytes o0 (n ++ k.more)) (sym (append_assoc a k.before (k.at).output)),
+          );
+          messages = (
+            k.rest ++ made.0,
+            record {
+              front = b ++ m;
+              parts =
+                  made.1
+                  ∙ ap (λ (n : List ℕ). (b ++ n) ++ made.0) k.messages
+                  ∙ ap (λ (n : List ℕ). n ++ made.0) (sym (append_assoc b m k.rest))
+                  ∙ append_assoc (b ++ m) k.rest made.0;
+              holds = h.messages ∙ ap (λ (v : Option (List ℕ)). with_bytes v m) g ∙ with_bytes-append m0 b m;
+            },
+          );
+        },
+      );
+}
+
+-- one that was interrupted
+told_in_hand : (e0 e : Engine) (p0 : Pending) (i : Held) (before after : Option Script)
+    (out0 reported0 out reported out' reported' : Option (List ℕ)) (w : Wanted) → IsIdle e0
+    → Taking e0 p0 before after out0 reported0 w e i out reported
+    → BreaksInOrder w e i.pending (writers out out' reported reported')
+    → StepBreaks e0 p0 before after (writers out0 out' reported0 reported')
+told_in_hand e0 e p0 i before after out0 reported0 out reported out' reported' w d t h =
+    told e0 p0 before after t.x t.q (t.o ++ h.o) (t.m ++ h.m) out0 out' reported0 reported' d t.reads
+    (more_written t.o t.m h.o h.m out0 out out' reported0 reported reported' t.written (h.written).output (h.written).messages)
+    (mark_then wanted.Token w e0 e t.q i.pending t.o t.m h.o h.m t.leads h.marked)
 
 begun : (out0 out : Option (List ℕ)) (o x all : List ℕ) → out ≡ with_bytes out0 o → all ≡ o ++ x → HasBegun out0 out all
 begun out0 out o x all e f = (x, record { front = o; parts = f; holds = e })
@@ -338,7 +441,7 @@ module _ (e0 e e' : Engine) (p0 : Pending) (i j k : Held) (before a b : Option S
       ∙ ap (λ (n : List ℕ). longer n more p0) (sym (append_assoc t.x g.x z)) ∙ sym (longer_twice (t.x ++ g.x) z true more p0) in
       subst (λ (p : Pending). HasMade (t.o ++ h.o) (t.m ++ h.m) (input_expansion e0 p).so_far) same
       (subst (λ (r : RunSoFar). HasMade (t.o ++ h.o) (t.m ++ h.m) r)
-      (made_is (comes_to v (configuration s.o s.m e' (longer (g.x ++ z) more j.pending))) ∙ ap so_far_in from ∙ so_far_is (expand (expansion_of e0.limits (made_before e0) (longer (g.x ++ z) more t.q))))
+      (ap so_far_in from ∙ so_far_is (expand (expansion_of e0.limits (made_before e0) (longer (g.x ++ z) more t.q))))
       (record {
         x = e'.output ++ c.more;
         y = e'.messages ++ c.reported;
@@ -355,6 +458,14 @@ module _ (e0 e e' : Engine) (p0 : Pending) (i j k : Held) (before a b : Option S
     asked = inr (asked_here e0 e e' p0 i j before a out0 reported0 out reported out' reported' w v d t h g.x g.x [] g.undecided (sym (append-nil g.x)) (omega arith));
     so = λ z more c. broken_by (t.o ++ h.o) (t.m ++ h.m) (input_expansion e0 (longer z more (longer (t.x ++ g.x) true p0))) out0 out' reported0 reported' both_written (kept_after z more);
   }
+
+  -- a turn of the expansion of all bytes tells what was written
+  lacked_told : StepBreaks e0 p0 before b (writers out0 out' reported0 reported')
+  lacked_told =
+      let s : Taking e0 p0 before a out0 reported0 v e' j out' reported' = needs_more e0 e e' p0 i j before a out0 reported0 out reported out' reported' w v t h in
+      let same : longer g.x true t.q ≡ longer (t.x ++ g.x) true p0 = ap (longer g.x true) (t.reads).in_hand ∙ longer_twice t.x g.x (t.q).may_follow true p0 in
+      told e0 p0 before b (t.x ++ g.x) (longer (t.x ++ g.x) true p0) (t.o ++ h.o) (t.m ++ h.m) out0 out' reported0 reported' d read_before both_written
+      (subst (λ (q : Pending). Marked wanted.Token e0 q (t.o ++ h.o) (t.m ++ h.m)) same (mark_longer e0 t.q s.o s.m g.x true still_open s.marked))
 
 -- by the cause
 pub ends_by_cause : (e0 e e' : Engine) (p0 : Pending) (i j : Held) (before after : Option Script)
@@ -382,6 +493,23 @@ pub ends_so : (e0 e e' : Engine) (p0 : Pending) (i j : Held) (before after : Opt
 ends_so e0 e e' p0 i j before after out0 reported0 out reported out' reported' w cause r f d t h =
     ends_by_cause e0 e e' p0 i j before after out0 reported0 out reported out' reported' w cause d t (subst (HandGives w e e' i j (writers out out' reported reported')) f h)
 
+told_by_cause : (e0 e : Engine) (p0 : Pending) (i : Held) (before after : Option Script)
+    (out0 reported0 out reported out' reported' : Option (List ℕ)) (w : Wanted) (cause : Cause) → IsIdle e0
+    → Taking e0 p0 before after out0 reported0 w e i out reported
+    → OrderBy w e i.pending (writers out out' reported reported') (hands.Ends cause)
+    → StepBreaksBy e0 p0 before after (writers out0 out' reported0 reported') cause
+told_by_cause e0 e p0 i before after out0 reported0 out reported out' reported' w causes.Write d t h = told_in_hand e0 e p0 i before after out0 reported0 out reported out' reported' w d t h
+told_by_cause e0 e p0 i before after out0 reported0 out reported out' reported' w causes.OutOfMemory d t h = told_in_hand e0 e p0 i before after out0 reported0 out reported out' reported' w d t h
+told_by_cause e0 e p0 i before after out0 reported0 out reported out' reported' w cause d t h = tt
+
+pub told_so : (e0 e : Engine) (p0 : Pending) (i : Held) (before after : Option Script)
+    (out0 reported0 out reported out' reported' : Option (List ℕ)) (w : Wanted) (cause : Cause) (r : InHand)
+    → r ≡ hands.Ends cause → IsIdle e0 → Taking e0 p0 before after out0 reported0 w e i out reported
+    → OrderBy w e i.pending (writers out out' reported reported') r
+    → StepBreaksBy e0 p0 before after (writers out0 out' reported0 reported') cause
+told_so e0 e p0 i before after out0 reported0 out reported out' reported' w cause r f d t h =
+    told_by_cause e0 e p0 i before after out0 reported0 out reported out' reported' w cause d t (subst (OrderBy w e i.pending (writers out out' reported reported')) f h)
+
 pub needs_so : (w v : Wanted) (e e' : Engine) (i j : Held) (c : Contents) (r : InHand) → r ≡ hands.Needs v → HandGives w e e' i j c r → HandNeeds w e i v e' j c
 needs_so w v e e' i j c r f h = subst (HandGives w e e' i j c) f h
 
@@ -406,6 +534,25 @@ pub stopped_so : (e0 e e' : Engine) (p0 : Pending) (i j k : Held) (before after 
     → Expands e0 e' p0 before later (writers out0 out' reported0 reported') cause
 stopped_so e0 e e' p0 i j k before after later out0 reported0 out reported out' reported' w v f cause c d t h g =
     subst (Expands e0 e' p0 before later (writers out0 out' reported0 reported')) (sym c) (stopped_by e0 e e' p0 i j k before after later out0 reported0 out reported out' reported' w v f d t h g)
+
+-- what was written before the next block was asked for
+told_by : (e0 e e' : Engine) (p0 : Pending) (i j k : Held) (before after later : Option Script)
+    (out0 reported0 out reported out' reported' : Option (List ℕ)) (w v : Wanted) (f : InputFault) → IsIdle e0
+    → Taking e0 p0 before after out0 reported0 w e i out reported
+    → HandNeeds w e i v e' j (writers out out' reported reported') → ReadsOn v e' after later j k (Err f)
+    → StepBreaksBy e0 p0 before later (writers out0 out' reported0 reported') (fault_cause f)
+told_by e0 e e' p0 i j k before after later out0 reported0 out reported out' reported' w v faults.Read d t h g = tt
+told_by e0 e e' p0 i j k before after later out0 reported0 out reported out' reported' w v faults.OutOfMemory d t h g = lacked_told e0 e e' p0 i j k before after later out0 reported0 out reported out' reported' w v faults.OutOfMemory d t h g
+told_by e0 e e' p0 i j k before after later out0 reported0 out reported out' reported' w v (faults.EndInString n) d t h g = absurd g
+told_by e0 e e' p0 i j k before after later out0 reported0 out reported out' reported' w v (faults.EndInComment n) d t h g = absurd g
+
+pub told_at_fault : (e0 e e' : Engine) (p0 : Pending) (i j k : Held) (before after later : Option Script)
+    (out0 reported0 out reported out' reported' : Option (List ℕ)) (w v : Wanted) (f : InputFault) (cause : Cause)
+    → cause ≡ fault_cause f → IsIdle e0 → Taking e0 p0 before after out0 reported0 w e i out reported
+    → HandNeeds w e i v e' j (writers out out' reported reported') → ReadsOn v e' after later j k (Err f)
+    → StepBreaksBy e0 p0 before later (writers out0 out' reported0 reported') cause
+told_at_fault e0 e e' p0 i j k before after later out0 reported0 out reported out' reported' w v f cause c d t h g =
+    subst (StepBreaksBy e0 p0 before later (writers out0 out' reported0 reported')) (sym c) (told_by e0 e e' p0 i j k before after later out0 reported0 out reported out' reported' w v f d t h g)
 
 -- a reader that failed, by the fault
 pub fault_counted : (v : Wanted) (e : Engine) (a b : Option Script) (j k : Held) (f : InputFault) (old mid new : ℕ) → j.fault ≡ None → ReadsOn v e a b j k (Err f) → mid ≡ old → new ≡ failures_after j.fault k.fault mid → ReadsBy (fault_cause f) old new

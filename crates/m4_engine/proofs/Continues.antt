@@ -31,7 +31,8 @@ use Rattle.m4_engine.specs.Expand.{after_call, called, join_by, join, call_of, b
 use Rattle.m4_engine.specs.Expand.{is_deep, call_if_room, call_without_list, take_call, take_name, take_other}
 use Rattle.m4_engine.specs.Expand.{take_token, take_front, unended_cause, turn, size_of, calls_left, out_of_bound_at}
 use Rattle.m4_engine.specs.Expand.{expand}
-use Rattle.m4_engine.proofs.Growth.{Extends, made_out, longer_level, Continues, Begins}
+use Rattle.m4_engine.specs.Moments.{so_far_in}
+use Rattle.m4_engine.proofs.Growth.{Extends, longer_level, Continues, Begins}
 use Rattle.m4_input.specs.declared.front.Unended.TheVariants.{InString, InComment}
 use Rattle.m4_input.proofs.Consumed.{text_longer, consumed_longer}
 use Rattle.m4_input.proofs.OpenEnd.{NoEnd, scan_no_end, scan_stays, scan_fits, paren_in_stays, one_more_is}
@@ -266,7 +267,7 @@ module _ (z : List ℕ) (b : Bool) where
   halts s t d r e =
       let m : Meets (Halt d) (turn (L s)) = subst (λ v. Meets v (turn (L s))) e (turn_meets s r.0) in
       subst (λ x. Q d (whole x)) (sym r.1)
-      (⊎_elim (λ h. inl (h.0, subst (λ o. Extends d.so_far (made_out o)) (sym (expand_is (L s))) (extends_more _ _ _ h.1 (turn_goes (turn (L s))))))
+      (⊎_elim (λ h. inl (h.0, subst (λ o. Extends d.so_far (so_far_in o)) (sym (expand_is (L s))) (extends_more _ _ _ h.1 (turn_goes (turn (L s))))))
       (λ h. inr (expand_is (L s) ∙ ap (after Expansion Kept Ended join whole whole) h.0, h.1))
       m)
 

@@ -35,12 +35,15 @@ pub mod Bare
 pub mod Named
 pub mod Turning
 pub mod LoopKeeps
+pub mod Moments
 pub mod Begins
 pub mod PlainRuns
 pub mod TextBytes
 pub mod ListRuns
 pub mod Passing
 pub mod SkippedLines
+pub mod Leading
+pub mod Marks
 pub mod Running
 pub mod Seen
 pub mod ReadingOn

@@ -15,7 +15,8 @@ use Rattle.m4_engine.specs.Start.{Start, begun}
 use Rattle.m4_engine.specs.Run.{limits_of, result_by, result_of, saved_after, run_from}
 use Rattle.m4_engine.specs.Settled.{settled_of, settled_ended, settled_by, settled_in, settled}
 use Rattle.m4_engine.specs.Laws.{IsBeginning, AreSettled}
-use Rattle.m4_engine.proofs.Growth.{Extends, made_out, longer_level, Begins}
+use Rattle.m4_engine.specs.Moments.{so_far_in}
+use Rattle.m4_engine.proofs.Growth.{Extends, longer_level, Begins}
 use Rattle.m4_engine.proofs.OnlyGrows.{extends_same, extends_more, tells, input_keeps}
 use Rattle.m4_engine.proofs.Continues.{law}
 
@@ -108,7 +109,7 @@ over_unless_done OutOfBound n = refl
 abbrev pub Goes : Ended → Ended → Type 0
 Goes e d = ((e.reason ≡ NeedsInput) × Extends e.so_far d.so_far) ⊎ ((d ≡ e) × (e.reason ≢ Ends causes.Done))
 
-made_ended : (o : Outcome Expansion Ended) → made_out o ≡ (ended_of o).so_far
+made_ended : (o : Outcome Expansion Ended) → so_far_in o ≡ (ended_of o).so_far
 made_ended (Halted d) = refl
 made_ended (Closed s) = refl
 

@@ -15,9 +15,10 @@ use Rattle.m4_state.specs.State.{top_of}
 use Rattle.m4_input.specs.declared.pushed.Pushed.{Pushed}
 use Rattle.m4_builtins.specs.Act.{needs_list}
 use Rattle.m4_engine.specs.Nesting.{Turn, Halt, Close, GoOn, Bare, Opens, Outcome, Halted, Closed, then_on, after}
-use Rattle.m4_engine.specs.OpenCalls.{Stacked, Move, Stops, Goes, pop, close, take_turn}
+use Rattle.m4_engine.specs.OpenCalls.{pop, close, take_turn}
+use Rattle.m4_engine.specs.Moments.{Moment, moved, made_by, so_far_in}
 use Rattle.m4_engine.specs.Engine.{Engine, so_far_of, outer_of, here_of, configuration}
-use Rattle.m4_engine.specs.Turns.{moved, Moves, IsTurned}
+use Rattle.m4_engine.specs.Turns.{Moves, IsTurned}
 use Rattle.m4_input.specs.Input.{Held, longer}
 use Rattle.m4_engine.proofs.Longer.{nothing_follows}
 use Rattle.m4_engine.specs.declared.turned.Turned.{Turned}
@@ -32,7 +33,7 @@ use Rattle.m4_engine.specs.Expand.{join_by, join, call_of, bare, collect, call_u
 use Rattle.m4_engine.specs.Expand.{call, call_without_list, take_call, take_name, take_other, take_end, take_token}
 use Rattle.m4_engine.specs.Expand.{take_front, turn, size_of, calls_left, out_of_bound_at, expand}
 use Rattle.m4_engine.specs.Expand.{expansion_of, ended_of, expand_input}
-use Rattle.m4_engine.proofs.Growth.{Extends, made_out}
+use Rattle.m4_engine.proofs.Growth.{Extends}
 use Rattle.m4_engine.proofs.ByRules.{Rules, holds}
 use Rattle.m4_engine.proofs.CallsFall.{falls}
 
@@ -67,26 +68,26 @@ made (GoOn t) = t.so_far
 made (Bare t) = t.so_far
 made (Opens f t) = t.so_far
 
-skipped_all_keeps : (b : Bool) (s : Expansion) → Extends s.so_far (made_out (skip_all b s))
+skipped_all_keeps : (b : Bool) (s : Expansion) → Extends s.so_far (so_far_in (skip_all b s))
 skipped_all_keeps true s = extends_same _
 skipped_all_keeps false s = extends_same _
 
-pub skipped_keeps : (o : Option ℕ) (s : Expansion) → Extends s.so_far (made_out (skip_line o s))
+pub skipped_keeps : (o : Option ℕ) (s : Expansion) → Extends s.so_far (so_far_in (skip_line o s))
 skipped_keeps None s = skipped_all_keeps (s.pending).may_follow s
 skipped_keeps (Some n) s = extends_same _
 
-pushed_keeps : (skip : Bool) (v : Option Pushed) (s : Expansion) → Extends s.so_far (made_out (skip_or_push skip v s))
+pushed_keeps : (skip : Bool) (v : Option Pushed) (s : Expansion) → Extends s.so_far (so_far_in (skip_or_push skip v s))
 pushed_keeps true v s = skipped_keeps (line_length (text_of s.pending)) s
 pushed_keeps false v s = extends_same _
 
-effected_keeps : (n : Option ℕ) (skip : Bool) (v : Option Pushed) (s : Expansion) → Extends s.so_far (made_out (effected n skip v s))
+effected_keeps : (n : Option ℕ) (skip : Bool) (v : Option Pushed) (s : Expansion) → Extends s.so_far (so_far_in (effected n skip v s))
 effected_keeps (Some n) skip v s = extends_same _
 effected_keeps None skip v s = pushed_keeps skip v s
 
-pub called_keeps : (c : Call) (t : Expansion) (s : Kept) → Extends t.so_far (made_out (called c t s))
+pub called_keeps : (c : Call) (t : Expansion) (s : Kept) → Extends t.so_far (so_far_in (called c t s))
 called_keeps c t s = extends_more _ _ _ (writes t.so_far (after_call c t s).so_far ((acted_at c t).effect).output ((acted_at c t).effect).messages refl refl) (effected_keeps _ _ _ (after_call c t s))
 
-pub bare_made : (o : Outcome Expansion Ended) → made (bare o) ≡ made_out o
+pub bare_made : (o : Outcome Expansion Ended) → made (bare o) ≡ so_far_in o
 bare_made (Halted d) = refl
 bare_made (Closed t) = refl
 
@@ -153,53 +154,48 @@ on_seen_keeps More s = extends_same _
 pub turn_keeps : (s : Expansion) → Extends s.so_far (made (turn s))
 turn_keeps s = on_seen_keeps (token_at ((s.so_far).state).quotes ((s.so_far).state).comments s.pending) s
 
-pub join_keeps : (m : Mode) (s : Kept) (t : Expansion) → Extends t.so_far (made_out (join_by m s t))
+pub join_keeps : (m : Mode) (s : Kept) (t : Expansion) → Extends t.so_far (so_far_in (join_by m s t))
 join_keeps Outside s t = extends_same _
 join_keeps (Collecting c) s t = called_keeps c t s
 
 turned : (s : Expansion) (v : Turn Expansion Kept Ended) → turn s ≡ v → Extends s.so_far (made v)
 turned s v e = subst (λ w. Extends s.so_far (made w)) e (turn_keeps s)
 
-joined : (k : Kept) (t : Expansion) (v : Outcome Expansion Ended) → join k t ≡ v → Extends t.so_far (made_out v)
-joined k t v e = subst (λ w. Extends t.so_far (made_out w)) e (join_keeps t.mode k t)
+joined : (k : Kept) (t : Expansion) (v : Outcome Expansion Ended) → join k t ≡ v → Extends t.so_far (so_far_in v)
+joined k t v e = subst (λ w. Extends t.so_far (so_far_in w)) e (join_keeps t.mode k t)
 
 abbrev Post : Expansion → Outcome Expansion Ended → Type 0
-Post s o = Extends s.so_far (made_out o)
+Post s o = Extends s.so_far (so_far_in o)
 
 rules : Rules Expansion Kept Ended turn join Post
 rules = record {
   halt = λ s d e. turned s (Halt d) e;
   close = λ s t e. turned s (Close t) e;
-  go_on = λ s t o e p. extends_more s.so_far t.so_far (made_out o) (turned s (GoOn t) e) p;
-  bare = λ s t o e p. extends_more s.so_far t.so_far (made_out o) (turned s (Bare t) e) p;
+  go_on = λ s t o e p. extends_more s.so_far t.so_far (so_far_in o) (turned s (GoOn t) e) p;
+  bare = λ s t o e p. extends_more s.so_far t.so_far (so_far_in o) (turned s (Bare t) e) p;
   list_halts = λ s t f d e p. extends_more s.so_far t.so_far d.so_far (turned s (Opens f t) e) p;
   call_halts = λ s t u f d e p j. extends_more s.so_far t.so_far d.so_far (turned s (Opens f t) e) (extends_more t.so_far u.so_far d.so_far p (joined f u (Halted d) j));
-  joins = λ s t u w f o e p j q. extends_more s.so_far t.so_far (made_out o) (turned s (Opens f t) e) (extends_more t.so_far u.so_far (made_out o) p (extends_more u.so_far w.so_far (made_out o) (joined f u (Closed w) j) q));
+  joins = λ s t u w f o e p j q. extends_more s.so_far t.so_far (so_far_in o) (turned s (Opens f t) e) (extends_more t.so_far u.so_far (so_far_in o) p (extends_more u.so_far w.so_far (so_far_in o) (joined f u (Closed w) j) q));
 }
 
-pub whole_keeps : (s : Expansion) → Extends s.so_far (made_out (expand s))
+pub whole_keeps : (s : Expansion) → Extends s.so_far (so_far_in (expand s))
 whole_keeps = holds Expansion Kept Ended turn join out_of_bound_at size_of calls_left falls Post rules
 
-pub then_keeps : (o : Outcome Expansion Ended) (f : Expansion → Outcome Expansion Ended) → ((u : Expansion) → Extends u.so_far (made_out (f u))) → Extends (made_out o) (made_out (then_on o f))
+pub then_keeps : (o : Outcome Expansion Ended) (f : Expansion → Outcome Expansion Ended) → ((u : Expansion) → Extends u.so_far (so_far_in (f u))) → Extends (so_far_in o) (so_far_in (then_on o f))
 then_keeps (Halted d) f g = extends_same d.so_far
 then_keeps (Closed u) f g = g u
 
-pub list_keeps : (k : Kept) (o : Outcome Expansion Ended) → Extends (made_out o) (made_out (then_on (then_on o (join k)) expand))
+pub list_keeps : (k : Kept) (o : Outcome Expansion Ended) → Extends (so_far_in o) (so_far_in (then_on (then_on o (join k)) expand))
 list_keeps k o = extends_more _ _ _ (then_keeps o (join k) (λ u. join_keeps u.mode k u)) (then_keeps (then_on o (join k)) expand whole_keeps)
 
-pub turn_goes : (v : Turn Expansion Kept Ended) → Extends (made v) (made_out (after Expansion Kept Ended join expand expand v))
+pub turn_goes : (v : Turn Expansion Kept Ended) → Extends (made v) (so_far_in (after Expansion Kept Ended join expand expand v))
 turn_goes (Halt d) = extends_same d.so_far
 turn_goes (Close u) = extends_same u.so_far
 turn_goes (GoOn u) = whole_keeps u
 turn_goes (Bare u) = whole_keeps u
 turn_goes (Opens f u) = extends_more _ _ _ (whole_keeps u) (list_keeps f (expand u))
 
--- what a move has made
-abbrev made_by : Move Expansion Kept Ended → RunSoFar
-made_by (Stops o) = made_out o
-made_by (Goes c) = (c.here).so_far
-
-popped_keeps : (fs : List Kept) (o : Outcome Expansion Ended) → Extends (made_out o) (made_by (pop Expansion Kept Ended turn join fs o))
+popped_keeps : (fs : List Kept) (o : Outcome Expansion Ended) → Extends (so_far_in o) (made_by (pop Expansion Kept Ended turn join fs o))
 popped_keeps fs (Halted d) = extends_same d.so_far
 popped_keeps fs (Closed u) = extends_same u.so_far
 
@@ -214,8 +210,8 @@ taken_keeps fs (GoOn u) = extends_same u.so_far
 taken_keeps fs (Bare u) = extends_same u.so_far
 taken_keeps fs (Opens f u) = extends_same u.so_far
 
-move_keeps : (c : Stacked Expansion Kept) → Extends (c.here).so_far (made_by (moved c))
-move_keeps c = extends_more _ _ _ (turn_keeps c.here) (taken_keeps c.outer (turn c.here))
+pub moment_keeps : (c : Moment) → Extends (c.here).so_far (made_by (moved c))
+moment_keeps c = extends_more _ _ _ (turn_keeps c.here) (taken_keeps c.outer (turn c.here))
 
 longer_by : (e e' : Engine) → Extends (so_far_of [] [] e) (so_far_of [] [] e') → length e.output ≤ length e'.output
 longer_by e e' x =
@@ -223,7 +219,7 @@ longer_by e e' x =
     omega arith
 
 -- skipping a line makes nothing
-skipping_makes : (fs : List Kept) (o : Option ℕ) (s : Expansion) → made_by (pop Expansion Kept Ended turn join fs (skip_line o s)) ≡ s.so_far
+pub skipping_makes : (fs : List Kept) (o : Option ℕ) (s : Expansion) → made_by (pop Expansion Kept Ended turn join fs (skip_line o s)) ≡ s.so_far
 skipping_makes fs (Some n) s = refl
 skipping_makes fs None s = by_end (s.pending).may_follow
   where
@@ -235,18 +231,18 @@ skipping_makes fs None s = by_end (s.pending).may_follow
 pub output_stays : (e e' : Engine) (i j : Held) (t : Turned) → Moves (i.pending).may_follow e' j.pending t (λ z more o m. moved (configuration o m e (longer z more i.pending))) → IsTurned e e' i j t → length e.output ≤ length e'.output
 output_stays e e' i j turns.GoesOn h k =
     let may : Bool = (i.pending).may_follow in
-    longer_by e e' (subst (λ v. Extends (so_far_of [] [] e) (made_by v)) (h [] may (nothing_follows may) [] []) (move_keeps (configuration [] [] e (longer [] may i.pending))))
+    longer_by e e' (subst (λ v. Extends (so_far_of [] [] e) (made_by v)) (h [] may (nothing_follows may) [] []) (moment_keeps (configuration [] [] e (longer [] may i.pending))))
 output_stays e e' i j turns.SkipsLine h k =
     let may : Bool = (i.pending).may_follow in
     longer_by e e' (subst (λ r. Extends (so_far_of [] [] e) r)
     (ap made_by (h [] may (nothing_follows may) [] []) ∙ skipping_makes (outer_of e'.open_calls) (line_length (text_of (longer [] may j.pending))) (here_of [] [] e' (longer [] may j.pending)))
-    (move_keeps (configuration [] [] e (longer [] may i.pending))))
+    (moment_keeps (configuration [] [] e (longer [] may i.pending))))
 output_stays e e' i j turns.NeedsMore h k =
     let same : length e'.output ≡ length e.output = ap (λ (d : Engine). length d.output) k.engine in
     omega arith
 output_stays e e' i j (turns.Ends cause) h k =
     let may : Bool = (i.pending).may_follow in
-    longer_by e e' (subst (λ v. Extends (so_far_of [] [] e) (made_by v)) (h [] may (nothing_follows may) [] []) (move_keeps (configuration [] [] e (longer [] may i.pending))))
+    longer_by e e' (subst (λ v. Extends (so_far_of [] [] e) (made_by v)) (h [] may (nothing_follows may) [] []) (moment_keeps (configuration [] [] e (longer [] may i.pending))))
 
 front_by : (e e' : Engine) → Extends (so_far_of [] [] e) (so_far_of [] [] e') → (x : List ℕ) × (e'.output ≡ e.output ++ x)
 front_by e e' x = (x.more, x.output)
@@ -255,21 +251,21 @@ front_by e e' x = (x.more, x.output)
 pub output_front : (e e' : Engine) (i j : Held) (t : Turned) → Moves (i.pending).may_follow e' j.pending t (λ z more o m. moved (configuration o m e (longer z more i.pending))) → IsTurned e e' i j t → (x : List ℕ) × (e'.output ≡ e.output ++ x)
 output_front e e' i j turns.GoesOn h k =
     let may : Bool = (i.pending).may_follow in
-    front_by e e' (subst (λ v. Extends (so_far_of [] [] e) (made_by v)) (h [] may (nothing_follows may) [] []) (move_keeps (configuration [] [] e (longer [] may i.pending))))
+    front_by e e' (subst (λ v. Extends (so_far_of [] [] e) (made_by v)) (h [] may (nothing_follows may) [] []) (moment_keeps (configuration [] [] e (longer [] may i.pending))))
 output_front e e' i j turns.SkipsLine h k =
     let may : Bool = (i.pending).may_follow in
     front_by e e' (subst (λ r. Extends (so_far_of [] [] e) r)
     (ap made_by (h [] may (nothing_follows may) [] []) ∙ skipping_makes (outer_of e'.open_calls) (line_length (text_of (longer [] may j.pending))) (here_of [] [] e' (longer [] may j.pending)))
-    (move_keeps (configuration [] [] e (longer [] may i.pending))))
+    (moment_keeps (configuration [] [] e (longer [] may i.pending))))
 output_front e e' i j turns.NeedsMore h k = ([], ap (λ (d : Engine). d.output) k.engine ∙ sym (append-nil e.output))
 output_front e e' i j (turns.Ends cause) h k =
     let may : Bool = (i.pending).may_follow in
-    front_by e e' (subst (λ v. Extends (so_far_of [] [] e) (made_by v)) (h [] may (nothing_follows may) [] []) (move_keeps (configuration [] [] e (longer [] may i.pending))))
+    front_by e e' (subst (λ v. Extends (so_far_of [] [] e) (made_by v)) (h [] may (nothing_follows may) [] []) (moment_keeps (configuration [] [] e (longer [] may i.pending))))
 
 -- the expansion of an input
 pub input_keeps : (limits : Limits) (r : RunSoFar) (p : Pending) → Extends r (expand_input limits r p).so_far
 input_keeps limits r p = go (expand (expansion_of limits r p)) (whole_keeps (expansion_of limits r p))
   where
-    go : (o : Outcome Expansion Ended) → Extends r (made_out o) → Extends r (ended_of o).so_far
+    go : (o : Outcome Expansion Ended) → Extends r (so_far_in o) → Extends r (ended_of o).so_far
     go (Halted d) h = h
     go (Closed s) h = h

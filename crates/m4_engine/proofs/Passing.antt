@@ -24,7 +24,8 @@ use Rattle.m4_engine.specs.OpenCalls.{take_turn, Goes}
 use Rattle.m4_engine.specs.Expansion.{Call, Expansion, Kept, Ended, reading, put_text, issued}
 use Rattle.m4_engine.specs.Expand.{turn, join, take_front, take_name}
 use Rattle.m4_engine.specs.Engine.{Engine, put_in, here_of, outer_of, configuration, IsReady, allows_call}
-use Rattle.m4_engine.specs.Turns.{moved, MayFollow, Moves}
+use Rattle.m4_engine.specs.Moments.{Moment, Next, moved, Comes}
+use Rattle.m4_engine.specs.Turns.{MayFollow, Moves}
 use Rattle.m4_engine.specs.Passes.{PassesPlain, PassesInner, PassesOnce, ArePasses, Passes, PassesText, PassesBy}
 use Rattle.m4_engine.specs.Passes.{PassesFront, IsLookahead}
 use Rattle.m4_input.specs.Blocks.{IsInFront}
@@ -33,7 +34,8 @@ use Rattle.m4_engine.specs.declared.lookahead.Lookahead.TheVariants as aheads
 use Rattle.m4_engine.specs.Lookahead.{IsLookaheadOf, placed_ahead, place_in}
 use Rattle.m4_engine.proofs.FrontRuns.{plain_front, list_front, take_in_front, ahead_front, front_falls}
 use Rattle.m4_engine.proofs.Longer.{found_longer}
-use Rattle.m4_engine.proofs.LoopKeeps.{turns_of, turn_falls, meaning_of, moved_on}
+use Rattle.m4_engine.proofs.LoopKeeps.{turns_of, turn_falls}
+use Rattle.m4_engine.proofs.Moments.{on_from}
 
 -- an engine outside of calls
 abbrev at_top : Engine → Engine
@@ -69,19 +71,25 @@ consumed_none p d =
     ∙ ap (λ m. let q : Pending = record p { definition = None; newlines = m } in q) (counted_none p.newlines)
     ∙ ap (λ (o : Option Def). let q : Pending = record p { definition = o } in q) (sym d)
 
--- the rest of an expansion is the same, in no more turns, whatever follows the bytes in hand
+-- turns lead from the one to the other, whatever follows the bytes in hand, so that no more are left
 pub record Reaches (e : Engine) (p : Pending) (e1 : Engine) (p1 : Pending) : Type 0 where
-  pub means : (z : List ℕ) (more : Bool) → MayFollow p.may_follow z more → (o m : List ℕ) → meaning_of o m e1 (longer z more p1) ≡ meaning_of o m e (longer z more p)
+  pub comes : (z : List ℕ) (more : Bool) → MayFollow p.may_follow z more → (o m : List ℕ)
+      → (way : List Moment) × Comes way (Goes (configuration o m e (longer z more p))) (Goes (configuration o m e1 (longer z more p1)))
   pub turns : turns_of e1 p1 ≤ turns_of e p
 
 pub nothing_reaches : (e : Engine) (p : Pending) → Reaches e p e p
-nothing_reaches e p = record { means = λ z more c o m. refl; turns = omega arith }
+nothing_reaches e p = record { comes = λ z more c o m. ([], refl); turns = omega arith }
 
 pub move_reaches : (e e1 e2 : Engine) (p p1 p2 : Pending) → p1.may_follow ≡ p.may_follow → Moves p.may_follow e1 p1 turns.GoesOn (λ z more o m. moved (configuration o m e (longer z more p))) → Reaches e1 p1 e2 p2 → Reaches e p e2 p2
 move_reaches e e1 e2 p p1 p2 k h r =
     let f : turns_of e1 p1 < turns_of e p = turn_falls e e1 p p1 k h in
     let g : turns_of e2 p2 ≤ turns_of e1 p1 = r.turns in
-    record { means = λ z more c o m. r.means z more (subst (λ v. MayFollow v z more) (sym k) c) o m ∙ moved_on e e1 p p1 z more o m c h; turns = omega arith }
+    record {
+      comes = λ z more c o m.
+          let rest = r.comes z more (subst (λ v. MayFollow v z more) (sym k) c) o m in
+          (configuration o m e (longer z more p) ∷ rest.0, (refl, subst (λ (x : Next). Comes rest.0 x (Goes (configuration o m e2 (longer z more p2)))) (sym (h z more c o m)) rest.1));
+      turns = omega arith;
+    }
 
 -- ---- two texts that are put one after the other are put as one
 
@@ -308,7 +316,10 @@ both_reach e e1 e2 p p1 p2 f a b =
     let x : turns_of e1 p1 ≤ turns_of e p = a.turns in
     let y : turns_of e2 p2 ≤ turns_of e1 p1 = b.turns in
     record {
-      means = λ z more c o m. b.means z more (subst (λ (v : Bool). MayFollow v z more) (sym f) c) o m ∙ a.means z more c o m;
+      comes = λ z more c o m.
+          let first = a.comes z more c o m in
+          let later = b.comes z more (subst (λ (v : Bool). MayFollow v z more) (sym f) c) o m in
+          (first.0 ++ later.0, on_from first.0 later.0 (Goes (configuration o m e (longer z more p))) (Goes (configuration o m e1 (longer z more p1))) (Goes (configuration o m e2 (longer z more p2))) first.1 later.1);
       turns = omega arith;
     }
 

@@ -30,7 +30,8 @@ use Rattle.m4_engine.specs.WholeRun.{ending_by}
 use Rattle.m4_engine.specs.OnePass.{IsRead, Reaches, AreRead, settled_after, ExactAtFault, Reached, OnePassBy, OnePass}
 use Rattle.m4_engine.specs.OnePass.{left_after, EndsOrIsLast, EndedBy}
 use Rattle.m4_engine.specs.SourcesRead.{SourcesGive, RunReached}
-use Rattle.m4_engine.proofs.Growth.{Extends, made_out, longer_level, Begins}
+use Rattle.m4_engine.specs.Moments.{so_far_in}
+use Rattle.m4_engine.proofs.Growth.{Extends, longer_level, Begins}
 use Rattle.m4_engine.proofs.Continues.{law}
 use Rattle.m4_engine.proofs.OnePass.{over_sources}
 use Rattle.m4_engine.proofs.Blockwise.{more_after}
@@ -41,7 +42,7 @@ use Rattle.m4_engine.proofs.Starts.{begun_is}
 
 -- ---- a file after which the run goes on is open up to its last byte
 
-made_ended : (o : Outcome Expansion Ended) → made_out o ≡ (ended_of o).so_far
+made_ended : (o : Outcome Expansion Ended) → so_far_in o ≡ (ended_of o).so_far
 made_ended (Halted d) = refl
 made_ended (Closed s) = refl
 

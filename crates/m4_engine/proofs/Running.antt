@@ -1,13 +1,13 @@
 -- Running: the state of the loop over the turns of the bytes in hand, and what its ends say.
-use Rattle.std.proofs.Common.{◌≡◌, ◌<◌, ◌≤◌, ℕ, Bool, true, false, List, [], ◌∷◌, ◌++◌, Option, Some, None, refl, sym}
-use Rattle.std.proofs.Common.{ap, ◌∙◌, subst, append-nil, append_assoc, arith, length, take, inl, inr}
+use Rattle.std.proofs.Common.{◌≡◌, ◌⊎◌, ◌<◌, ◌≤◌, ℕ, Bool, true, false, List, [], ◌∷◌, ◌++◌, Option, Some, None, refl}
+use Rattle.std.proofs.Common.{sym, ap, ◌∙◌, subst, append-nil, append_assoc, arith, length, take, inl, inr}
 use Rattle.std.proofs.lemmas.List.{take_at}
 use Rattle.m4_state.proofs.CallerLaws.{with_bytes-append, with_bytes-nil}
-use Rattle.m4_state.specs.Device.{with_bytes, HasBegun}
+use Rattle.m4_state.specs.Device.{with_bytes}
 use Rattle.m4_input.specs.Pending.{Pending, text_of, line_length}
 use Rattle.m4_input.specs.Input.{Held, longer, all_read, after_line}
 use Rattle.m4_input.specs.Blocks.{LineGives}
-use Rattle.m4_input.proofs.Decided.{line_open, no_newline}
+use Rattle.m4_input.proofs.Decided.{line_open}
 use Rattle.m4_engine.specs.declared.ending.Cause.{Cause}
 use Rattle.m4_engine.specs.declared.in_hand.InHand.TheVariants as hands
 use Rattle.m4_engine.specs.declared.in_hand.Wanted.{Wanted}
@@ -18,96 +18,27 @@ use Rattle.m4_engine.specs.declared.turned.TurnEnd.{TurnEnd}
 use Rattle.m4_engine.specs.declared.turned.TurnEnd.TheVariants as turn_ends
 use Rattle.m4_engine.specs.Nesting.{Outcome, Halted, Closed, then_on}
 use Rattle.m4_engine.specs.OpenCalls.{pop, resume, moved_meaning}
+use Rattle.m4_engine.specs.Moments.{moved}
 use Rattle.m4_engine.specs.Expansion.{RunSoFar, Expansion, Kept, Ended, Ends, NeedsInput}
 use Rattle.m4_engine.specs.Expand.{turn, join, expand, skip_line, skip_all, out_of_bound_at, size_of, calls_left}
 use Rattle.m4_engine.specs.Engine.{Engine, so_far_of, outer_of, here_of, configuration, after_flush, IsReady}
-use Rattle.m4_engine.specs.Turns.{MayFollow, Moving, moved, Moves, Needs, IsTurned, StaysBy, cause_of_end}
+use Rattle.m4_engine.specs.Turns.{MayFollow, Moving, Moves, Needs, IsTurned, StaysBy, cause_of_end}
 use Rattle.m4_engine.specs.Passes.{Passes}
-use Rattle.m4_engine.specs.Expands.{IsInOrder, FlushesPrefix, FlushesSome}
-use Rattle.m4_engine.specs.Continued.{BreaksInOrder, OrderBy, skipped_first, comes_to, Leads, IsFlushed, HandNeeds}
-use Rattle.m4_engine.specs.Continued.{HandEnds, HandBreaks, HandGives, HasMade, so_far_in}
-use Rattle.m4_engine.specs.Writers.{Contents, writers, HasWritten}
-use Rattle.m4_engine.proofs.Begins.{some_all}
+use Rattle.m4_engine.specs.Expands.{IsInOrder, FlushesPrefix, FlushesDue}
+use Rattle.m4_engine.specs.Continued.{BreaksInOrder, OrderBy, skipped_first, comes_to, Leads, Marked, IsMarked}
+use Rattle.m4_engine.specs.Continued.{IsFlushed, HandNeeds, HandEnds, HandBreaks, HandGives, HasMade, so_far_in}
+use Rattle.m4_engine.specs.Writers.{Contents, writers, HasWritten, HasTaken}
 use Rattle.m4_engine.proofs.CallsFall.{falls}
-use Rattle.m4_engine.proofs.Growth.{Extends, made_out}
+use Rattle.m4_engine.proofs.Growth.{Extends}
 use Rattle.m4_engine.proofs.Inputs.{none_is_front}
 use Rattle.m4_engine.proofs.LoopKeeps.{turns_of, move_falls, meaning_of, moved_on, end_means}
 use Rattle.m4_engine.proofs.MachineIsNesting.{resume-halted, popped, move_keeps}
-use Rattle.m4_engine.proofs.Passing.{passes_reaches, passes_ready, passes_limits, passes_follows}
+use Rattle.m4_engine.proofs.Passing.{passes_reaches, passes_ready}
+use Rattle.m4_engine.proofs.Leading.{leads_then, leads_on, leads_nowhere, leads_past, leads_turn, leads_to_line}
+use Rattle.m4_engine.proofs.Leading.{leads_past_line, leads_along_line, leads_flushed, leads_same}
+use Rattle.m4_engine.proofs.Marks.{due_some, mark_here, mark_turn, mark_more, mark_flushed, mark_due}
 use Rattle.m4_engine.proofs.OnlyGrows.{output_front, extends_same, extends_more, whole_keeps, then_keeps, list_keeps}
-use Rattle.m4_engine.proofs.SkippedLines.{all_gone, skip_cut, line_done, line_keeps, line_drops}
-
--- ---- where one place leads
-
--- on from a place that another leads to
-pub leads_then : (w v u : Wanted) (e0 e e2 : Engine) (p0 p q : Pending) (o m x y : List ℕ) → Leads w e0 p0 v e p o m → Leads v e p u e2 q x y → Leads w e0 p0 u e2 q (o ++ x) (m ++ y)
-leads_then w v u e0 e e2 p0 p q o m x y f g = record {
-  means = λ z more c a b.
-      ap (λ (n : List ℕ). comes_to u (configuration n (b ++ (m ++ y)) e2 (longer z more q))) (sym (append_assoc a o x))
-      ∙ ap (λ (n : List ℕ). comes_to u (configuration ((a ++ o) ++ x) n e2 (longer z more q))) (sym (append_assoc b m y))
-      ∙ g.means z more (subst (λ v. MayFollow v z more) (sym f.follows) c) (a ++ o) (b ++ m)
-      ∙ f.means z more c a b;
-  follows = g.follows ∙ f.follows;
-  limits = g.limits ∙ f.limits;
-}
-
--- the same, if nothing was written on the way
-pub leads_on : (w v u : Wanted) (e0 e e2 : Engine) (p0 p q : Pending) (o m : List ℕ) → Leads w e0 p0 v e p o m → Leads v e p u e2 q [] [] → Leads w e0 p0 u e2 q o m
-leads_on w v u e0 e e2 p0 p q o m f g =
-    subst (λ (x : List ℕ). Leads w e0 p0 u e2 q x m) (append-nil o)
-    (subst (λ (y : List ℕ). Leads w e0 p0 u e2 q (o ++ []) y) (append-nil m) (leads_then w v u e0 e e2 p0 p q o m [] [] f g))
-
--- a step that leads on, with what was written so far in front
-step_leads : (w v : Wanted) (e e2 : Engine) (p q : Pending)
-    → ((z : List ℕ) (more : Bool) → MayFollow p.may_follow z more → (a b : List ℕ)
-    → comes_to v (configuration a b e2 (longer z more q)) ≡ comes_to w (configuration a b e (longer z more p)))
-    → q.may_follow ≡ p.may_follow → e2.limits ≡ e.limits → Leads w e p v e2 q [] []
-step_leads w v e e2 p q h f l = record {
-  means = λ z more c a b.
-      ap (λ (n : List ℕ). comes_to v (configuration n (b ++ []) e2 (longer z more q))) (append-nil a)
-      ∙ ap (λ (n : List ℕ). comes_to v (configuration a n e2 (longer z more q))) (append-nil b)
-      ∙ h z more c a b;
-  follows = f;
-  limits = l;
-}
-
-pub leads_nowhere : (w : Wanted) (e : Engine) (p : Pending) → Leads w e p w e p [] []
-leads_nowhere w e p = step_leads w w e e p p (λ z more c a b. refl) refl refl
-
--- tokens that are plain text were added at once
-pub leads_past : (e e1 : Engine) (i i1 : Held) → Passes e e1 i i1 → Leads wanted.Token e i.pending wanted.Token e1 i1.pending [] []
-leads_past e e1 i i1 h = step_leads wanted.Token wanted.Token e e1 i.pending i1.pending (λ z more c a b. (passes_reaches e e1 i i1 h).means z more c a b) (passes_follows e e1 i i1 h) (passes_limits e e1 i i1 h)
-
--- a turn after which the expansion continues
-leads_turn : (e e' : Engine) (p p' : Pending) → p'.may_follow ≡ p.may_follow → e'.limits ≡ e.limits → Moves p.may_follow e' p' turns.GoesOn (λ z more o m. moved (configuration o m e (longer z more p))) → Leads wanted.Token e p wanted.Token e' p' [] []
-leads_turn e e' p p' f l h = step_leads wanted.Token wanted.Token e e' p p' (λ z more c a b. moved_on e e' p p' z more a b c h) f l
-
--- a call was made that discards the rest of the line
-pub leads_to_line : (e e' : Engine) (p p' : Pending) → p'.may_follow ≡ p.may_follow → e'.limits ≡ e.limits → Moves p.may_follow e' p' turns.SkipsLine (λ z more o m. moved (configuration o m e (longer z more p))) → Leads wanted.Token e p wanted.Line e' p' [] []
-leads_to_line e e' p p' f l h = step_leads wanted.Token wanted.Line e e' p p' (λ z more c a b.
-    sym (popped Expansion Kept Ended turn join out_of_bound_at size_of calls_left falls (outer_of e'.open_calls) (skipped_first wanted.Line (here_of a b e' (longer z more p'))))
-    ∙ ap (moved_meaning Expansion Kept Ended turn join expand) (sym (h z more c a b))
-    ∙ move_keeps Expansion Kept Ended turn join out_of_bound_at size_of calls_left falls (configuration a b e (longer z more p))) f l
-
--- the rest of the line was in hand
-pub leads_past_line : (e : Engine) (p q : Pending) → after_line p ≡ Some q → Leads wanted.Line e p wanted.Token e q [] []
-leads_past_line e p q h = step_leads wanted.Line wanted.Token e e p q (λ z more c a b.
-    ap (λ v. resume Expansion Kept Ended turn join expand (outer_of e.open_calls) (then_on v expand)) (sym (line_done (here_of a b e p) p q z more c h))) (line_keeps p q h) refl
-
--- it was not: the bytes in hand were dropped
-pub leads_along_line : (e : Engine) (p : Pending) → after_line p ≡ None → Leads wanted.Line e p wanted.Line e (all_read p) [] []
-leads_along_line e p h = step_leads wanted.Line wanted.Line e e p (all_read p) (λ z more c a b.
-    ap (λ v. resume Expansion Kept Ended turn join expand (outer_of e.open_calls) (then_on v expand)) (sym (skip_cut (here_of a b e p) p z more (no_newline p h)))) refl refl
-
--- some of the buffers were flushed
-pub leads_flushed : (v : Wanted) (e e2 : Engine) (p : Pending) (x y : List ℕ) → e ≡ record e2 { output = x ++ e2.output; messages = y ++ e2.messages } → Leads v e p v e2 p x y
-leads_flushed v e e2 p x y h = record {
-  means = λ z more c a b.
-      (rw (append_assoc a x e2.output, append_assoc b y e2.messages) refl)
-      ∙ sym (ap (λ (d : Engine). comes_to v (configuration a b d (longer z more p))) h);
-  follows = refl;
-  limits = sym (ap (λ (d : Engine). d.limits) h);
-}
+use Rattle.m4_engine.proofs.SkippedLines.{all_gone, line_done, line_keeps, line_drops}
 
 -- ---- the loop over turns
 
@@ -116,6 +47,7 @@ pub record Running (w : Wanted) (e0 : Engine) (p0 : Pending) (out0 reported0 : O
   pub o : List ℕ
   pub m : List ℕ
   pub written : HasWritten o m (writers out0 out reported0 reported)
+  pub marked : Marked w e0 p0 o m
   pub leads : Leads w e0 p0 wanted.Token e i.pending o m
   pub ready : IsReady i
 
@@ -129,21 +61,36 @@ more_written o m x y out0 out out' reported0 reported reported' h f g = record {
 }
 
 -- the loop begins at a token
-pub begins_at_token : (e : Engine) (i : Held) (out reported : Option (List ℕ)) → IsReady i → Running wanted.Token e i.pending out reported e i out reported
-begins_at_token e i out reported r = record { o = []; m = []; written = none_written out reported; leads = leads_nowhere wanted.Token e i.pending; ready = r }
+begins_at_token : (e : Engine) (i : Held) (out reported : Option (List ℕ)) → IsReady i → IsFlushed e → Running wanted.Token e i.pending out reported e i out reported
+begins_at_token e i out reported r f = record {
+  o = [];
+  m = [];
+  written = none_written out reported;
+  marked = mark_here wanted.Token e e i.pending i.pending [] [] (leads_nowhere wanted.Token e i.pending) f.output;
+  leads = leads_nowhere wanted.Token e i.pending;
+  ready = r;
+}
 
 ready_after_line : (i j : Held) → IsReady i → LineGives i j true → IsReady j
 ready_after_line i j r h = record { sound = h.1 ∙ r.sound; front = none_is_front (j.pending).definition (line_drops i.pending j.pending h.0) }
 
 -- or after the rest of a line
-pub begins_after_line : (e : Engine) (i j : Held) (out reported : Option (List ℕ)) → IsReady i → LineGives i j true → Running wanted.Line e i.pending out reported e j out reported
-begins_after_line e i j out reported r h = record { o = []; m = []; written = none_written out reported; leads = leads_past_line e i.pending j.pending h.0; ready = ready_after_line i j r h }
+begins_after_line : (e : Engine) (i j : Held) (out reported : Option (List ℕ)) → IsReady i → IsFlushed e → LineGives i j true → Running wanted.Line e i.pending out reported e j out reported
+begins_after_line e i j out reported r f h = record {
+  o = [];
+  m = [];
+  written = none_written out reported;
+  marked = mark_here wanted.Line e e i.pending j.pending [] [] (leads_past_line e i.pending j.pending h.0) f.output;
+  leads = leads_past_line e i.pending j.pending h.0;
+  ready = ready_after_line i j r h;
+}
 
 pub passed : (w : Wanted) (e0 e e1 : Engine) (p0 : Pending) (i i1 : Held) (out0 reported0 out reported : Option (List ℕ)) → Running w e0 p0 out0 reported0 e i out reported → Passes e e1 i i1 → Running w e0 p0 out0 reported0 e1 i1 out reported
 passed w e0 e e1 p0 i i1 out0 reported0 out reported r h = record {
   o = r.o;
   m = r.m;
   written = r.written;
+  marked = r.marked;
   leads = leads_on w wanted.Token wanted.Token e0 e e1 p0 i.pending i1.pending r.o r.m r.leads (leads_past e e1 i i1 h);
   ready = passes_ready e e1 i i1 r.ready h;
 }
@@ -159,25 +106,29 @@ goes_on : (w : Wanted) (e0 e e' e2 : Engine) (p0 p' : Pending) (i i' : Held)
     (out0 reported0 out reported out' reported' : Option (List ℕ)) → Running w e0 p0 out0 reported0 e i out reported
     → Moves (i.pending).may_follow e' p' turns.GoesOn
     (λ z more o m. moved (configuration o m e (longer z more i.pending))) → p'.may_follow ≡ (i.pending).may_follow
-    → i'.pending ≡ p' → IsReady i' → e'.limits ≡ e.limits → FlushesSome e' e2 (writers out out' reported reported')
+    → i'.pending ≡ p' → IsReady i' → e'.limits ≡ e.limits → FlushesDue e' e2 (writers out out' reported reported')
     → Running w e0 p0 out0 reported0 e2 i' out' reported'
-goes_on w e0 e e' e2 p0 p' i i' out0 reported0 out reported out' reported' r h g s q l f = record {
-  o = r.o ++ f.front;
-  m = r.m ++ f.reported;
-  written = more_written r.o r.m f.front f.reported out0 out out' reported0 reported reported' r.written f.output f.messages;
-  leads = subst (λ (x : Pending). Leads w e0 p0 wanted.Token e2 x (r.o ++ f.front) (r.m ++ f.reported)) (sym s)
-      (leads_then w wanted.Token wanted.Token e0 e' e2 p0 p' p' r.o r.m f.front f.reported
-      (leads_on w wanted.Token wanted.Token e0 e e' p0 i.pending p' r.o r.m r.leads (leads_turn e e' i.pending p' g l h))
-      (leads_flushed wanted.Token e' e2 p' f.front f.reported f.held));
-  ready = q;
-}
+goes_on w e0 e e' e2 p0 p' i i' out0 reported0 out reported out' reported' r h g s q l d =
+    let f = due_some e' e2 out out' reported reported' d in
+    let j : Held = record i' { pending = p' } in
+    record {
+      o = r.o ++ f.front;
+      m = r.m ++ f.reported;
+      written = more_written r.o r.m f.front f.reported out0 out out' reported0 reported reported' r.written f.output f.messages;
+      marked = mark_due w e0 e e' e2 p0 i j turns.GoesOn r.o r.m out out' reported reported' r.marked r.leads h tt d;
+      leads = subst (λ (x : Pending). Leads w e0 p0 wanted.Token e2 x (r.o ++ f.front) (r.m ++ f.reported)) (sym s)
+          (leads_then w wanted.Token wanted.Token e0 e' e2 p0 p' p' r.o r.m f.front f.reported
+          (leads_on w wanted.Token wanted.Token e0 e e' p0 i.pending p' r.o r.m r.leads (leads_turn e e' i.pending p' g l h))
+          (leads_flushed wanted.Token e' e2 p' f.front f.reported f.held));
+      ready = q;
+    }
 
 pub went_on : (w : Wanted) (e0 e e' e2 : Engine) (p0 : Pending) (i i' : Held)
     (out0 reported0 out reported out' reported' : Option (List ℕ)) (t : Turned)
     → Running w e0 p0 out0 reported0 e i out reported
     → Moves (i.pending).may_follow e' i'.pending t
     (λ z more o m. moved (configuration o m e (longer z more i.pending))) → StaysBy i i' t → t ≡ turns.GoesOn
-    → e'.limits ≡ e.limits → FlushesSome e' e2 (writers out out' reported reported')
+    → e'.limits ≡ e.limits → FlushesDue e' e2 (writers out out' reported reported')
     → Running w e0 p0 out0 reported0 e2 i' out' reported'
 went_on w e0 e e' e2 p0 i i' out0 reported0 out reported out' reported' t r h y k l f =
     let s = subst (StaysBy i i') k y in
@@ -189,7 +140,7 @@ pub went_past_line : (w : Wanted) (e0 e e' e2 : Engine) (p0 : Pending) (i k i' :
     → Running w e0 p0 out0 reported0 e i out reported
     → Moves (i.pending).may_follow e' k.pending t
     (λ z more o m. moved (configuration o m e (longer z more i.pending))) → StaysBy i k t → t ≡ turns.SkipsLine
-    → e'.limits ≡ e.limits → FlushesSome e' e2 (writers out out' reported reported') → LineGives k i' true
+    → e'.limits ≡ e.limits → FlushesDue e' e2 (writers out out' reported reported') → LineGives k i' true
     → Running w e0 p0 out0 reported0 e2 i' out' reported'
 went_past_line w e0 e e' e2 p0 i k i' out0 reported0 out reported out' reported' t r h y g l f d =
     let s = subst (StaysBy i k) g y in
@@ -202,8 +153,9 @@ pub fell : (e e1 e' e2 : Engine) (i i1 i' : Held) (out out' reported reported' :
     → Passes e e1 i i1
     → Moves (i1.pending).may_follow e' i'.pending t
     (λ z more o m. moved (configuration o m e1 (longer z more i1.pending))) → StaysBy i1 i' t → t ≡ turns.GoesOn
-    → FlushesSome e' e2 (writers out out' reported reported') → turns_of e2 i'.pending < turns_of e i.pending
-fell e e1 e' e2 i i1 i' out out' reported reported' t w h y k f =
+    → FlushesDue e' e2 (writers out out' reported reported') → turns_of e2 i'.pending < turns_of e i.pending
+fell e e1 e' e2 i i1 i' out out' reported reported' t w h y k due =
+    let f = due_some e' e2 out out' reported reported' due in
     let s = subst (StaysBy i1 i') k y in
     let a : turns_of e2 i'.pending < turns_of e1 i1.pending = move_falls e1 e' e2 i1.pending i'.pending f.front f.reported s.follows f.held (subst (λ (x : Turned). Moves (i1.pending).may_follow e' i'.pending x (λ z more o m. moved (configuration o m e1 (longer z more i1.pending)))) k h) in
     let b : turns_of e1 i1.pending ≤ turns_of e i.pending = (passes_reaches e e1 i i1 w).turns in
@@ -213,9 +165,10 @@ pub fell_past_line : (e e1 e' e2 : Engine) (i i1 k i' : Held) (out out' reported
     (t : Turned) → Passes e e1 i i1
     → Moves (i1.pending).may_follow e' k.pending t
     (λ z more o m. moved (configuration o m e1 (longer z more i1.pending))) → StaysBy i1 k t → t ≡ turns.SkipsLine
-    → FlushesSome e' e2 (writers out out' reported reported') → LineGives k i' true
+    → FlushesDue e' e2 (writers out out' reported reported') → LineGives k i' true
     → turns_of e2 i'.pending < turns_of e i.pending
-fell_past_line e e1 e' e2 i i1 k i' out out' reported reported' t w h y g f d =
+fell_past_line e e1 e' e2 i i1 k i' out out' reported reported' t w h y g due d =
+    let f = due_some e' e2 out out' reported reported' due in
     let s = subst (StaysBy i1 k) g y in
     let a : turns_of e2 i'.pending < turns_of e1 i1.pending = move_falls e1 e' e2 i1.pending i'.pending f.front f.reported (line_keeps k.pending i'.pending d.0 ∙ s.follows) f.held
     (line_goes (i1.pending).may_follow e' k.pending i'.pending _ (sym s.follows) d.0 (subst (λ (x : Turned). Moves (i1.pending).may_follow e' k.pending x (λ z more o m. moved (configuration o m e1 (longer z more i1.pending)))) g h)) in
@@ -251,7 +204,7 @@ ended w e0 e e' e2 p0 p' i out0 reported0 out reported out' reported' t end r h 
       m = r.m ++ e'.messages;
       written = more_written r.o r.m e'.output e'.messages out0 out out' reported0 reported reported' r.written f g;
       ends = λ z more c a b.
-          sym ((r.leads).means z more c a b)
+          sym (leads_same w wanted.Token e0 e p0 i.pending r.o r.m r.leads z more c a b)
           ∙ end_means e e' i.pending p' z more (a ++ r.o) (b ++ r.m) end (subst (λ v. MayFollow v z more) (sym (r.leads).follows) c)
           (subst (λ (x : Turned). Moves (i.pending).may_follow e' p' x (λ z more o m. moved (configuration o m e (longer z more i.pending)))) k h)
           ∙ ap (λ (s : RunSoFar). Halted (let d : Ended = record { so_far = s; reason = Ends (cause_of_end end) } in d))
@@ -271,14 +224,16 @@ pub needed : (w : Wanted) (e0 e e' e2 : Engine) (p0 : Pending) (i0 i i' : Held)
 needed w e0 e e' e2 p0 i0 i i' out0 reported0 out reported out' reported' t p r y k j f g =
     let n : Needs e e' i i' = subst (IsTurned e e' i i') k y in
     let flushed : e2 ≡ after_flush e = j ∙ ap after_flush n.engine in
+    let here = subst (λ (q : Pending). Leads w e0 q wanted.Token (after_flush e) i.pending (r.o ++ e.output) (r.m ++ e.messages)) p
+    (leads_then w wanted.Token wanted.Token e0 e (after_flush e) p0 i.pending i.pending r.o r.m e.output e.messages r.leads (leads_flushed wanted.Token e (after_flush e) i.pending e.output e.messages (all_held e))) in
     subst (λ (x : Engine). HandNeeds w e0 i0 wanted.Token x i' (writers out0 out' reported0 reported')) (sym flushed)
     (subst (λ (x : Held). HandNeeds w e0 i0 wanted.Token (after_flush e) x (writers out0 out' reported0 reported')) (sym n.input)
     (record {
       o = r.o ++ e.output;
       m = r.m ++ e.messages;
       written = more_written r.o r.m e.output e.messages out0 out out' reported0 reported reported' r.written (f ∙ ap (λ (d : Engine). with_bytes out d.output) n.engine) (g ∙ ap (λ (d : Engine). with_bytes reported d.messages) n.engine);
-      leads = subst (λ (q : Pending). Leads w e0 q wanted.Token (after_flush e) i.pending (r.o ++ e.output) (r.m ++ e.messages)) p
-          (leads_then w wanted.Token wanted.Token e0 e (after_flush e) p0 i.pending i.pending r.o r.m e.output e.messages r.leads (leads_flushed wanted.Token e (after_flush e) i.pending e.output e.messages (all_held e)));
+      marked = inr (mark_here w e0 (after_flush e) i0.pending i.pending (r.o ++ e.output) (r.m ++ e.messages) here refl);
+      leads = here;
       ready = r.ready;
       opened = sym (ap (λ (q : Pending). q.may_follow) p) ∙ sym (r.leads).follows ∙ n.follows;
       flushed = flushed_is e;
@@ -301,13 +256,14 @@ line_undecided e p a b f h =
     ∙ ap (λ (v : Bool). resume Expansion Kept Ended turn join expand (outer_of e.open_calls) (then_on (skip_all v (here_of a b e p)) expand)) f
     ∙ resume-halted Expansion Kept Ended turn join expand (outer_of e.open_calls) (record { so_far = so_far_of a b e; reason = NeedsInput })
 
-line_needs : (w : Wanted) (e0 e : Engine) (i0 k j : Held) (o m : List ℕ) (c : Contents) → HasWritten o m c → Leads w e0 i0.pending wanted.Line e k.pending o m → IsReady k → IsFlushed e → LineGives k j false → HandNeeds w e0 i0 wanted.Line e j c
-line_needs w e0 e i0 k j o m c h l r f d =
+line_needs : (w : Wanted) (e0 e : Engine) (i0 k j : Held) (o m : List ℕ) (c : Contents) → HasWritten o m c → IsMarked w e0 i0.pending o m → Leads w e0 i0.pending wanted.Line e k.pending o m → IsReady k → IsFlushed e → LineGives k j false → HandNeeds w e0 i0 wanted.Line e j c
+line_needs w e0 e i0 k j o m c h n l r f d =
     subst (λ (x : Held). HandNeeds w e0 i0 wanted.Line e x c) (sym d.1)
     (record {
       o = o;
       m = m;
       written = h;
+      marked = n;
       leads = leads_on w wanted.Line wanted.Line e0 e e i0.pending k.pending (all_read k.pending) o m l (leads_along_line e k.pending d.0);
       ready = record { sound = r.sound; front = tt };
       opened = sym l.follows ∙ line_open k.pending d.0;
@@ -319,7 +275,11 @@ line_needs w e0 e i0 k j o m c h l r f d =
 pub needs_line : (e : Engine) (i j : Held) (w : Wanted) (out reported : Option (List ℕ)) → w ≡ wanted.Line → IsReady i → IsFlushed e → LineGives i j false → HandNeeds w e i wanted.Line e j (writers out out reported reported)
 needs_line e i j w out reported g r f d =
     subst (λ (x : Wanted). HandNeeds x e i wanted.Line e j (writers out out reported reported)) (sym g)
-    (line_needs wanted.Line e e i i j [] [] (writers out out reported reported) (none_written out reported) (leads_nowhere wanted.Line e i.pending) r f d)
+    (line_needs wanted.Line e e i i j [] [] (writers out out reported reported) (none_written out reported) (inl (refl, refl)) (leads_nowhere wanted.Line e i.pending) r f d)
+
+-- a turn that skips a line was made
+skips_line : (e e' : Engine) (i k : Held) (t : Turned) → t ≡ turns.SkipsLine → IsTurned e e' i k t
+skips_line e e' i k t g = subst (IsTurned e e' i k) (sym g) tt
 
 -- after a turn
 pub needs_line_after : (w : Wanted) (e0 e e' e2 : Engine) (p0 : Pending) (i0 i k j : Held)
@@ -335,6 +295,7 @@ needs_line_after w e0 e e' e2 p0 i0 i k j out0 reported0 out reported out' repor
     subst (λ (x : Engine). HandNeeds w e0 i0 wanted.Line x j (writers out0 out' reported0 reported')) (sym n)
     (line_needs w e0 (after_flush e') i0 k j (r.o ++ e'.output) (r.m ++ e'.messages) (writers out0 out' reported0 reported')
     (more_written r.o r.m e'.output e'.messages out0 out out' reported0 reported reported' r.written f q)
+    (inr (subst (λ (x : Pending). Marked w e0 x (r.o ++ e'.output) (r.m ++ e'.messages)) p (mark_flushed w e0 e e' p0 i k t r.o r.m r.leads h (skips_line e e' i k t g))))
     (leads_then w wanted.Line wanted.Line e0 e' (after_flush e') i0.pending k.pending k.pending r.o r.m e'.output e'.messages
     (leads_on w wanted.Token wanted.Line e0 e e' i0.pending i.pending k.pending r.o r.m
     (subst (λ (x : Pending). Leads w e0 x wanted.Token e i.pending r.o r.m) p r.leads)
@@ -345,30 +306,26 @@ needs_line_after w e0 e e' e2 p0 i0 i k j out0 reported0 out reported out' repor
 -- ---- where it breaks off
 
 -- what a machine comes to continues what it has made
-resume_keeps : (fs : List Kept) (v : Outcome Expansion Ended) → Extends (made_out v) (made_out (resume Expansion Kept Ended turn join expand fs v))
-resume_keeps [] v = extends_same (made_out v)
+resume_keeps : (fs : List Kept) (v : Outcome Expansion Ended) → Extends (so_far_in v) (so_far_in (resume Expansion Kept Ended turn join expand fs v))
+resume_keeps [] v = extends_same (so_far_in v)
 resume_keeps (f ∷ fs) v = extends_more _ _ _ (list_keeps f v) (resume_keeps fs (then_on (then_on v (join f)) expand))
 
-meaning_keeps : (o m : List ℕ) (e : Engine) (p : Pending) → Extends (so_far_of o m e) (made_out (meaning_of o m e p))
+meaning_keeps : (o m : List ℕ) (e : Engine) (p : Pending) → Extends (so_far_of o m e) (so_far_in (meaning_of o m e p))
 meaning_keeps o m e p = extends_more _ _ _ (whole_keeps (here_of o m e p)) (resume_keeps (outer_of e.open_calls) (expand (here_of o m e p)))
 
-skip_makes : (o : Option ℕ) (s : Expansion) → Extends s.so_far (made_out (skip_line o s))
+skip_makes : (o : Option ℕ) (s : Expansion) → Extends s.so_far (so_far_in (skip_line o s))
 skip_makes (Some n) s = extends_same s.so_far
 skip_makes None s = by_end (s.pending).may_follow
   where
-    by_end : (b : Bool) → Extends s.so_far (made_out (skip_all b s))
+    by_end : (b : Bool) → Extends s.so_far (so_far_in (skip_all b s))
     by_end true = extends_same s.so_far
     by_end false = extends_same s.so_far
 
-line_makes : (o m : List ℕ) (e : Engine) (p : Pending) → Extends (so_far_of o m e) (made_out (comes_to wanted.Line (configuration o m e p)))
+line_makes : (o m : List ℕ) (e : Engine) (p : Pending) → Extends (so_far_of o m e) (so_far_in (comes_to wanted.Line (configuration o m e p)))
 line_makes o m e p =
     let v : Outcome Expansion Ended = skip_line (line_length (text_of p)) (here_of o m e p) in
     extends_more _ _ _ (skip_makes (line_length (text_of p)) (here_of o m e p))
     (extends_more _ _ _ (then_keeps v expand whole_keeps) (resume_keeps (outer_of e.open_calls) (then_on v expand)))
-
-pub made_is : (v : Outcome Expansion Ended) → made_out v ≡ so_far_in v
-made_is (Halted d) = refl
-made_is (Closed s) = refl
 
 -- what was written is a part of what is made
 has_made : (a b o m x y : List ℕ) (e : Engine) (r : RunSoFar) (x' y' : List ℕ) → e.output ≡ x ++ x' → e.messages ≡ y ++ y' → Extends (so_far_of (a ++ o) (b ++ m) e) r → HasMade (a ++ (o ++ x)) (b ++ (m ++ y)) r
@@ -393,7 +350,7 @@ breaks w e0 e p0 i out0 reported0 out reported r = record {
   written = more_written r.o r.m [] [] out0 out out reported0 reported reported r.written (with_bytes-nil out) (with_bytes-nil reported);
   made = λ z more c a b.
       subst (λ (v : RunSoFar). HasMade (a ++ (r.o ++ [])) (b ++ (r.m ++ [])) v)
-      (made_is (meaning_of (a ++ r.o) (b ++ r.m) e (longer z more i.pending)) ∙ ap so_far_in ((r.leads).means z more c a b))
+      (ap so_far_in (leads_same w wanted.Token e0 e p0 i.pending r.o r.m r.leads z more c a b))
       (has_made a b r.o r.m [] [] e _ e.output e.messages refl refl (meaning_keeps (a ++ r.o) (b ++ r.m) e (longer z more i.pending)));
 }
 
@@ -402,19 +359,19 @@ turn_made : (e e' : Engine) (i j : Held) (z : List ℕ) (more : Bool) (o m : Lis
     → MayFollow (i.pending).may_follow z more
     → Moves (i.pending).may_follow e' j.pending t
     (λ z more o m. moved (configuration o m e (longer z more i.pending))) → IsTurned e e' i j t
-    → Extends (so_far_of o m e') (made_out (meaning_of o m e (longer z more i.pending)))
+    → Extends (so_far_of o m e') (so_far_in (meaning_of o m e (longer z more i.pending)))
 turn_made e e' i j z more o m turns.GoesOn c h k =
-    subst (λ v. Extends (so_far_of o m e') (made_out v)) (moved_on e e' i.pending j.pending z more o m c h) (meaning_keeps o m e' (longer z more j.pending))
+    subst (λ v. Extends (so_far_of o m e') (so_far_in v)) (moved_on e e' i.pending j.pending z more o m c h) (meaning_keeps o m e' (longer z more j.pending))
 turn_made e e' i j z more o m turns.SkipsLine c h k =
-    subst (λ v. Extends (so_far_of o m e') (made_out v))
+    subst (λ v. Extends (so_far_of o m e') (so_far_in v))
     (sym (popped Expansion Kept Ended turn join out_of_bound_at size_of calls_left falls (outer_of e'.open_calls) (skipped_first wanted.Line (here_of o m e' (longer z more j.pending))))
     ∙ ap (moved_meaning Expansion Kept Ended turn join expand) (sym (h z more c o m))
     ∙ move_keeps Expansion Kept Ended turn join out_of_bound_at size_of calls_left falls (configuration o m e (longer z more i.pending)))
     (line_makes o m e' (longer z more j.pending))
 turn_made e e' i j z more o m turns.NeedsMore c h k =
-    subst (λ (d : Engine). Extends (so_far_of o m d) (made_out (meaning_of o m e (longer z more i.pending)))) (sym k.engine) (meaning_keeps o m e (longer z more i.pending))
+    subst (λ (d : Engine). Extends (so_far_of o m d) (so_far_in (meaning_of o m e (longer z more i.pending)))) (sym k.engine) (meaning_keeps o m e (longer z more i.pending))
 turn_made e e' i j z more o m (turns.Ends cause) c h k =
-    subst (λ v. Extends (so_far_of o m e') (made_out v)) (sym (end_means e e' i.pending j.pending z more o m cause c h)) (extends_same (so_far_of o m e'))
+    subst (λ v. Extends (so_far_of o m e') (so_far_in v)) (sym (end_means e e' i.pending j.pending z more o m cause c h)) (extends_same (so_far_of o m e'))
 
 -- it can't be flushed: a part of it was
 pub write_breaks : (w : Wanted) (e0 e e' : Engine) (p0 : Pending) (i j : Held) (t : Turned)
@@ -430,7 +387,7 @@ write_breaks w e0 e e' p0 i j t out0 reported0 out reported out' reported' r h k
   made = λ z more c x y.
       let c' : MayFollow (i.pending).may_follow z more = subst (λ v. MayFollow v z more) (sym (r.leads).follows) c in
       subst (λ (v : RunSoFar). HasMade (x ++ (r.o ++ ((b.0).1).front)) (y ++ (r.m ++ ((b.1).1).front)) v)
-      (made_is (meaning_of (x ++ r.o) (y ++ r.m) e (longer z more i.pending)) ∙ ap so_far_in ((r.leads).means z more c x y))
+      (ap so_far_in (leads_same w wanted.Token e0 e p0 i.pending r.o r.m r.leads z more c x y))
       (has_made x y r.o r.m ((b.0).1).front ((b.1).1).front e' _ (b.0).0 (b.1).0 ((b.0).1).parts ((b.1).1).parts (turn_made e e' i j z more (x ++ r.o) (y ++ r.m) t c' h k));
 }
 
@@ -438,46 +395,47 @@ write_breaks w e0 e e' p0 i j t out0 reported0 out reported out' reported' r h k
 front_taken : (n : ℕ) (a b x : List ℕ) → n ≡ length a → b ≡ a ++ x → take n b ≡ a
 front_taken n a b x l e = ap (take n) e ∙ take_at a x n (sym l)
 
-begun_after : (old mid new : Option (List ℕ)) (m y : List ℕ) → mid ≡ with_bytes old m → HasBegun mid new y → HasBegun old new (m ++ y)
-begun_after old mid new m y e h = (
-  h.0,
-  record {
-    front = m ++ (h.1).front;
-    parts = ap (λ (v : List ℕ). m ++ v) (h.1).parts ∙ sym (append_assoc m (h.1).front h.0);
-    holds = (h.1).holds ∙ ap (λ (v : Option (List ℕ)). with_bytes v (h.1).front) e ∙ with_bytes-append old m (h.1).front;
-  },
-)
-
-taken_after : (old mid new : Option (List ℕ)) (o a f more : List ℕ) → f ≡ a → mid ≡ with_bytes old o → new ≡ with_bytes mid (f ++ more) → new ≡ with_bytes old ((o ++ a) ++ more)
-taken_after old mid new o a f more k e h =
-    h ∙ ap (λ (v : List ℕ). with_bytes mid (v ++ more)) k ∙ ap (λ (v : Option (List ℕ)). with_bytes v (a ++ more)) e ∙ with_bytes-append old o (a ++ more) ∙ ap (with_bytes old) (sym (append_assoc o a more))
-
--- messages are written after the output before them
-pub breaks_in_order : (w : Wanted) (e0 e e' : Engine) (p0 : Pending) (i j : Held) (t : Turned) (earlier : ℕ)
+-- a writer failed in the flush after a turn
+pub write_breaks_in_order : (w : Wanted) (e0 e e' : Engine) (p0 : Pending) (i j : Held) (t : Turned) (earlier : ℕ)
     (out0 reported0 out reported out' reported' : Option (List ℕ)) → Running w e0 p0 out0 reported0 e i out reported
     → Moves (i.pending).may_follow e' j.pending t
     (λ z more o m. moved (configuration o m e (longer z more i.pending))) → IsTurned e e' i j t
-    → e.messages ≡ [] → earlier ≡ length e.output → IsInOrder (take earlier e'.output) e'.messages (writers out out' reported reported') → FlushesPrefix e'.output e'.messages (writers out out' reported reported') → BreaksInOrder w e0 p0 (writers out0 out' reported0 reported')
-breaks_in_order w e0 e e' p0 i j t earlier out0 reported0 out reported out' reported' r h k quiet is order b =
-    let f = output_front e e' i j t h k in
-    record {
-      at = e;
-      i = i;
-      next = e';
-      j = j;
-      t = t;
-      o = r.o;
+    → earlier ≡ length e.output → IsInOrder (take earlier e'.output) e'.messages (writers out out' reported reported')
+    → FlushesPrefix e'.output e'.messages (writers out out' reported reported')
+    → BreaksInOrder w e0 p0 (writers out0 out' reported0 reported')
+write_breaks_in_order w e0 e e' p0 i j t earlier out0 reported0 out reported out' reported' r h k is order b = by order.output_first
+  where
+    by : (reported' ≡ reported) ⊎ HasTaken (take earlier e'.output) (writers out out' reported reported') → BreaksInOrder w e0 p0 (writers out0 out' reported0 reported')
+    by (inl q) = record {
+      o = r.o ++ ((b.0).1).front;
       m = r.m;
-      leads = r.leads;
-      quiet = quiet;
-      moves = h;
-      turned = k;
-      within = begun_after reported0 reported reported' r.m e'.messages (r.written).messages b.1;
-      order = elim order.output_first [
-        | inl q ↦ inl (q ∙ (r.written).messages)
-        | inr q ↦ inr (q.0, taken_after out0 out out' r.o e.output (take earlier e'.output) q.0 (front_taken earlier e.output e'.output f.0 is f.1) (r.written).output q.1)
-      ];
+      written = record {
+        output = (more_written r.o r.m ((b.0).1).front [] out0 out out' reported0 reported reported r.written ((b.0).1).holds (with_bytes-nil reported)).output;
+        messages = q ∙ (r.written).messages;
+      };
+      marked = mark_more w e0 p0 r.o r.m ((b.0).1).front r.marked;
     }
+    by (inr q) =
+        let f = output_front e e' i j t h k in
+        let same : take earlier e'.output ≡ e.output = front_taken earlier e.output e'.output f.0 is f.1 in
+        record {
+          o = (r.o ++ e.output) ++ q.0;
+          m = r.m ++ ((b.1).1).front;
+          written = record {
+            output =
+                q.1
+                ∙ ap (λ (v : List ℕ). with_bytes out (v ++ q.0)) same
+                ∙ ap (λ (v : Option (List ℕ)). with_bytes v (e.output ++ q.0)) (r.written).output
+                ∙ with_bytes-append out0 r.o (e.output ++ q.0)
+                ∙ ap (with_bytes out0) (sym (append_assoc r.o e.output q.0));
+            messages = (more_written r.o r.m [] ((b.1).1).front out0 out out reported0 reported reported' r.written (with_bytes-nil out) ((b.1).1).holds).messages;
+          };
+          marked = mark_turn w e0 e e' p0 i j t r.o r.m q.0 ((b.1).1).front (b.1).0 r.leads h k ((b.1).1).parts;
+        }
+
+-- an allocation failed in a turn
+pub lack_breaks_in_order : (w : Wanted) (e0 e : Engine) (p0 : Pending) (i : Held) (out0 reported0 out reported : Option (List ℕ)) → Running w e0 p0 out0 reported0 e i out reported → BreaksInOrder w e0 p0 (writers out0 out reported0 reported)
+lack_breaks_in_order w e0 e p0 i out0 reported0 out reported r = record { o = r.o; m = r.m; written = r.written; marked = r.marked }
 
 pub in_order_end : (w : Wanted) (e : Engine) (p : Pending) (c : Contents) (end : TurnEnd) → OrderBy w e p c (hands.Ends (cause_of_end end))
 in_order_end w e p c turn_ends.Done = tt
@@ -493,9 +451,6 @@ in_order_end w e p c turn_ends.NestingLimit = tt
 pub line_done_by : (i j : Held) (v w : Bool) → v ≡ w → LineGives i j v → LineGives i j w
 line_done_by i j v w e h = subst (LineGives i j) e h
 
-pub flushed_all : (e : Engine) (out out' reported reported' : Option (List ℕ)) (e2 : Engine) → e2 ≡ after_flush e → out' ≡ with_bytes out e.output → reported' ≡ with_bytes reported e.messages → FlushesSome e e2 (writers out out' reported reported')
-flushed_all e out out' reported reported' e2 h f g = some_all e e2 out out' reported reported' h f g
-
 -- a turn ends an expansion by no fault of a device or of an allocation
 hand_ends_so : (w : Wanted) (old new : Engine) (i j : Held) (c : Contents) (end : TurnEnd) → HandEnds w old i.pending (cause_of_end end) new c → HandGives w old new i j c (hands.Ends (cause_of_end end))
 hand_ends_so w old new i j c turn_ends.Done h = h
@@ -510,15 +465,15 @@ pub hand_ends : (w : Wanted) (old new : Engine) (i j : Held) (c : Contents) (end
 hand_ends w old new i j c end cause k h = subst (λ (x : Cause). HandGives w old new i j c (hands.Ends x)) (sym k) (hand_ends_so w old new i j c end h)
 
 -- the loop begins, by what is wanted
-pub begins_so : (e : Engine) (i k : Held) (w : Wanted) (out reported : Option (List ℕ)) → w ≡ wanted.Token → k ≡ i → IsReady i → Running w e i.pending out reported e k out reported
-begins_so e i k w out reported h g r =
+pub begins_so : (e : Engine) (i k : Held) (w : Wanted) (out reported : Option (List ℕ)) → w ≡ wanted.Token → k ≡ i → IsReady i → IsFlushed e → Running w e i.pending out reported e k out reported
+begins_so e i k w out reported h g r f =
     subst (λ (x : Wanted). Running x e i.pending out reported e k out reported) (sym h)
-    (subst (λ (x : Held). Running wanted.Token e i.pending out reported e x out reported) (sym g) (begins_at_token e i out reported r))
+    (subst (λ (x : Held). Running wanted.Token e i.pending out reported e x out reported) (sym g) (begins_at_token e i out reported r f))
 
-pub begins_past : (e : Engine) (i j k : Held) (w : Wanted) (out reported : Option (List ℕ)) → w ≡ wanted.Line → k ≡ j → IsReady i → LineGives i j true → Running w e i.pending out reported e k out reported
-begins_past e i j k w out reported h g r d =
+pub begins_past : (e : Engine) (i j k : Held) (w : Wanted) (out reported : Option (List ℕ)) → w ≡ wanted.Line → k ≡ j → IsReady i → IsFlushed e → LineGives i j true → Running w e i.pending out reported e k out reported
+begins_past e i j k w out reported h g r f d =
     subst (λ (x : Wanted). Running x e i.pending out reported e k out reported) (sym h)
-    (subst (λ (x : Held). Running wanted.Line e i.pending out reported e x out reported) (sym g) (begins_after_line e i j out reported r d))
+    (subst (λ (x : Held). Running wanted.Line e i.pending out reported e x out reported) (sym g) (begins_after_line e i j out reported r f d))
 
 pub needs_line_so : (e : Engine) (i j k : Held) (w : Wanted) (out reported : Option (List ℕ)) → w ≡ wanted.Line → k ≡ j → IsReady i → IsFlushed e → LineGives i j false → HandNeeds w e i wanted.Line e k (writers out out reported reported)
 needs_line_so e i j k w out reported g h r f d = subst (λ (x : Held). HandNeeds w e i wanted.Line e x (writers out out reported reported)) (sym h) (needs_line e i j w out reported g r f d)
@@ -528,6 +483,6 @@ not_both true e f = cc
 not_both false e f = cc
 
 -- what is made from a place on continues what was made before it
-pub comes_keeps : (w : Wanted) (o m : List ℕ) (e : Engine) (p : Pending) → Extends (so_far_of o m e) (made_out (comes_to w (configuration o m e p)))
+pub comes_keeps : (w : Wanted) (o m : List ℕ) (e : Engine) (p : Pending) → Extends (so_far_of o m e) (so_far_in (comes_to w (configuration o m e p)))
 comes_keeps wanted.Token o m e p = meaning_keeps o m e p
 comes_keeps wanted.Line o m e p = line_makes o m e p

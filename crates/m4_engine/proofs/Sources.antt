@@ -11,7 +11,8 @@ use Rattle.m4_engine.specs.declared.stop.Stop.TheVariants as stops
 use Rattle.m4_engine.specs.Expansion.{RunSoFar, Expansion, Ended, NeedsInput, with_message}
 use Rattle.m4_engine.specs.Expand.{expand, expansion_of, ended_of}
 use Rattle.m4_engine.specs.Nesting.{Outcome, Halted, Closed}
-use Rattle.m4_engine.proofs.Growth.{Extends, made_out, longer_level, Begins}
+use Rattle.m4_engine.specs.Moments.{so_far_in}
+use Rattle.m4_engine.proofs.Growth.{Extends, longer_level, Begins}
 use Rattle.m4_engine.proofs.OnlyGrows.{extends_same}
 use Rattle.m4_engine.proofs.Continues.{law}
 use Rattle.m4_engine.specs.File.{Source, Opened, Unopened, Progress, file, file_pending, after_source, cannot_open}
@@ -96,7 +97,7 @@ broke_goes old new name before after w s cause t h =
 
 -- ---- what a prefix of a file settles is a prefix of what the file gives
 
-made_in_end : (o : Outcome Expansion Ended) → made_out o ≡ (ended_of o).so_far
+made_in_end : (o : Outcome Expansion Ended) → so_far_in o ≡ (ended_of o).so_far
 made_in_end (Halted d) = refl
 made_in_end (Closed s) = refl
 

@@ -1,6 +1,7 @@
 -- Continued: an expansion of which the bytes in hand were expanded, whatever follows them.
 -- Not believed: it connects the driver with `Expand`.
--- Words: comes_to, Leads, IsFlushed, HandNeeds, HandEnds, HasMade, HandBreaks, BreaksInOrder, OrderBy, HandGives.
+-- Words: comes_to, stands, Leads, Marked, IsMarked, IsFlushed, HandNeeds, HandEnds, HasMade, HandBreaks, BreaksInOrder,
+-- OrderBy, HandGives.
 use Rattle.std.specs.Prelude.{◌≡◌, ◌⊎◌, ℕ, Bool, true, List, [], ◌++◌}
 use Rattle.m4_input.specs.declared.fault.InputFault.{InputFault}
 use Rattle.m4_input.specs.declared.fault.InputFault.TheVariants as faults
@@ -13,14 +14,13 @@ use Rattle.m4_engine.specs.declared.in_hand.Wanted.TheVariants as wanted
 use Rattle.m4_engine.specs.declared.in_hand.InHand.{InHand}
 use Rattle.m4_engine.specs.declared.in_hand.InHand.TheVariants as hands
 use Rattle.m4_engine.specs.Nesting.{Outcome, Halted, Closed, then_on}
-use Rattle.m4_engine.specs.OpenCalls.{Stacked, resume}
+use Rattle.m4_engine.specs.OpenCalls.{Stacked, Goes, pop, resume}
+use Rattle.m4_engine.specs.Moments.{Moment, Next, moved, made_by, Comes}
+pub use Rattle.m4_engine.specs.Moments.{so_far_in}
 use Rattle.m4_engine.specs.Expansion.{RunSoFar, Expansion, Kept, Ended, Ends, NeedsInput}
 use Rattle.m4_engine.specs.Expand.{turn, join, expand, skip_line}
-use Rattle.m4_state.specs.Device.{with_bytes, HasBegun}
-use Rattle.m4_engine.specs.declared.turned.Turned.{Turned}
-use Rattle.m4_engine.specs.Expands.{HasTaken}
 use Rattle.m4_engine.specs.Engine.{Engine, so_far_of, configuration, IsReady}
-use Rattle.m4_engine.specs.Turns.{MayFollow, Moves, IsTurned, moved}
+use Rattle.m4_engine.specs.Turns.{MayFollow}
 use Rattle.m4_engine.specs.Writers.{Contents, HasWritten}
 
 -- the rest of a line is to be skipped first, or nothing
@@ -32,15 +32,41 @@ skipped_first wanted.Line s = skip_line (line_length (text_of s.pending)) s
 abbrev pub comes_to : Wanted → Stacked Expansion Kept → Outcome Expansion Ended
 comes_to w c = resume Expansion Kept Ended turn join expand c.outer (then_on (skipped_first w c.here) expand)
 
--- from the one place the machine goes on as from the other, whatever follows the bytes in hand: it made o and
--- m on the way
+-- where the machine stands: before a turn, or within one that skips the rest of a line
+abbrev pub stands : Wanted → Moment → Next
+stands wanted.Token c = Goes c
+stands wanted.Line c = pop Expansion Kept Ended turn join c.outer (skipped_first wanted.Line c.here)
+
+-- from the one place the machine comes to the other, whatever follows the bytes in hand: it made o and m on the way
 pub record Leads (w : Wanted) (old : Engine) (p : Pending) (v : Wanted) (new : Engine) (q : Pending)
     (o m : List ℕ) : Type 0 where
-  pub means : (z : List ℕ) (more : Bool) → MayFollow p.may_follow z more → (a b : List ℕ)
-      → comes_to v (configuration (a ++ o) (b ++ m) new (longer z more q))
-      ≡ comes_to w (configuration a b old (longer z more p))
+  pub comes : (z : List ℕ) (more : Bool) → MayFollow p.may_follow z more → (a b : List ℕ)
+      → (way : List Moment) × Comes way (stands w (configuration a b old (longer z more p)))
+      (stands v (configuration (a ++ o) (b ++ m) new (longer z more q)))
   pub follows : q.may_follow ≡ p.may_follow
   pub limits : new.limits ≡ old.limits
+
+-- o and m were written on the way from a place: before the turn at `at` all output was written, and that turn and
+-- those before it made all messages that were
+pub record Marked (w : Wanted) (old : Engine) (p : Pending) (o m : List ℕ) : Type 0 where
+  pub at : Engine
+  pub q : Pending
+  pub before : List ℕ
+  pub reported : List ℕ
+  pub leads : Leads w old p wanted.Token at q before reported
+  pub more : List ℕ
+  pub output : o ≡ (before ++ at.output) ++ more
+  pub own : List ℕ
+  pub rest : List ℕ
+  pub messages : reported ++ own ≡ m ++ rest
+  pub makes : (z : List ℕ) (more : Bool) → MayFollow p.may_follow z more → (a b : List ℕ)
+      → (later : List ℕ)
+      × ((made_by (moved (configuration (a ++ before) (b ++ reported) at (longer z more q)))).messages
+      ≡ (b ++ (reported ++ own)) ++ later)
+
+-- nothing was written, or a turn tells what was
+abbrev pub IsMarked : Wanted → Engine → Pending → List ℕ → List ℕ → Type 0
+IsMarked w old p o m = ((o ≡ []) × (m ≡ [])) ⊎ Marked w old p o m
 
 -- nothing is buffered
 pub record IsFlushed (e : Engine) : Type 0 where
@@ -53,6 +79,7 @@ pub record HandNeeds (w : Wanted) (old : Engine) (i : Held) (v : Wanted) (new : 
   pub o : List ℕ
   pub m : List ℕ
   pub written : HasWritten o m c
+  pub marked : IsMarked w old i.pending o m
   pub leads : Leads w old i.pending v new j.pending o m
   pub ready : IsReady j
   pub opened : (i.pending).may_follow ≡ true
@@ -73,11 +100,6 @@ pub record HandEnds (w : Wanted) (old : Engine) (p : Pending) (cause : Cause) (n
   pub flushed : IsFlushed new
   pub limits : new.limits ≡ old.limits
 
--- what an outcome made
-abbrev pub so_far_in : Outcome Expansion Ended → RunSoFar
-so_far_in (Halted d) = d.so_far
-so_far_in (Closed s) = s.so_far
-
 -- some was made, and perhaps more
 pub record HasMade (o m : List ℕ) (r : RunSoFar) : Type 0 where
   pub x : List ℕ
@@ -93,27 +115,17 @@ pub record HandBreaks (w : Wanted) (old : Engine) (p : Pending) (c : Contents) :
   pub made : (z : List ℕ) (more : Bool) → MayFollow p.may_follow z more → (a b : List ℕ)
       → HasMade (a ++ o) (b ++ m) (so_far_in (comes_to w (configuration a b old (longer z more p))))
 
--- a writer failed in the flush after a turn, which began at `at`, where no message waited, and led to `next`: a message
--- of that turn was written only if all output before it was
+-- a writer or an allocation failed: a turn tells what was written
 pub record BreaksInOrder (w : Wanted) (old : Engine) (p : Pending) (c : Contents) : Type 0 where
-  pub at : Engine
-  pub i : Held
-  pub next : Engine
-  pub j : Held
-  pub t : Turned
   pub o : List ℕ
   pub m : List ℕ
-  pub leads : Leads w old p wanted.Token at i.pending o m
-  pub quiet : at.messages ≡ []
-  pub moves : Moves (i.pending).may_follow next j.pending t
-      (λ z more o m. moved (configuration o m at (longer z more i.pending)))
-  pub turned : IsTurned at next i j t
-  pub within : HasBegun c.messages_old c.messages_new (m ++ next.messages)
-  pub order : (c.messages_new ≡ with_bytes c.messages_old m) ⊎ HasTaken (o ++ at.output) c
+  pub written : HasWritten o m c
+  pub marked : Marked w old p o m
 
 -- by the outcome
 abbrev pub OrderBy : Wanted → Engine → Pending → Contents → InHand → Type 0
 OrderBy w old p c (hands.Ends causes.Write) = BreaksInOrder w old p c
+OrderBy w old p c (hands.Ends causes.OutOfMemory) = BreaksInOrder w old p c
 OrderBy w old p c result = Unit {0}
 
 abbrev pub HandGives : Wanted → Engine → Engine → Held → Held → Contents → InHand → Type 0

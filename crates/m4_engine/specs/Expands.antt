@@ -1,19 +1,22 @@
 -- Expands: the effect of an input's expansion on the machine and the writers.
 -- Not believed: it connects the machine with `Session`, which says the same of a source.
 -- Manual: "How m4 copies input to output".
--- Words: made_before, input_expansion, Expanded, LastAsked, ReadSo, Fell, Expands, ReadsBy, FlushesPrefix, IsInOrder,
--- IsIdle.
-use Rattle.std.specs.Prelude.{◌≡◌, ◌≤◌, ℕ, Bool, true, List, [], ◌++◌, ◌⊎◌, Option, length}
+-- Words: made_before, input_expansion, Expanded, LastAsked, ReadSo, Fell, Expands, ReadsBy, StepBreaks, StepBreaksBy,
+-- FlushesPrefix, IsInOrder, FlushesSome, FlushesDue, IsIdle.
+use Rattle.std.specs.Prelude.{◌≡◌, ◌≤◌, ℕ, Bool, true, false, List, [], ◌++◌, ◌⊎◌, Option, None, length}
 use Rattle.m4_state.specs.Device.{Script, with_bytes, HasBegun, IsAtFault, one_more}
 use Rattle.m4_input.specs.Pending.{Pending}
 use Rattle.m4_input.specs.Input.{longer, Reads, block}
 use Rattle.m4_engine.specs.declared.ending.Cause.{Cause}
 use Rattle.m4_engine.specs.declared.ending.Cause.TheVariants as causes
 use Rattle.m4_engine.specs.Expansion.{RunSoFar, Ended, Ends, NeedsInput}
-use Rattle.m4_engine.specs.Expand.{expand_input}
-use Rattle.m4_engine.specs.Engine.{Engine}
+use Rattle.m4_engine.specs.Expand.{expand_input, expansion_of}
+use Rattle.m4_engine.specs.Engine.{Engine, after_flush}
 use Rattle.m4_engine.specs.Turns.{MayFollow}
-use Rattle.m4_engine.specs.Writers.{Contents, Broken, WroteAtLeast}
+use Rattle.m4_engine.specs.File.{Progress}
+use Rattle.m4_engine.specs.Order.{Breaks}
+use Rattle.m4_engine.specs.Moments.{IsTurnOf}
+use Rattle.m4_engine.specs.Writers.{Contents, Broken, HasTaken, HasWritten, WroteAtLeast}
 
 -- a run so far, if its earlier output and messages were written
 abbrev pub made_before : Engine → RunSoFar
@@ -81,14 +84,29 @@ abbrev pub ReadsBy : Cause → ℕ → ℕ → Type 0
 ReadsBy causes.Read old new = new ≡ one_more old
 ReadsBy cause old new = new ≡ old
 
+-- the progress before an input, if its earlier output and messages were written
+abbrev pub progress_before : Engine → Progress
+progress_before e = record { so_far = made_before e; over = None; any_missing = false }
+
+-- the expansion was broken off: the reader gave x, so that q is in hand of the input; and whatever follows q, a turn
+-- tells what was written
+pub record StepBreaks (old : Engine) (p : Pending) (before after : Option Script) (w : Contents) : Type 0 where
+  pub x : List ℕ
+  pub q : Pending
+  pub reads : Reads before after p x q
+  pub so : (z : List ℕ) (more : Bool) → MayFollow q.may_follow z more
+      → Breaks (λ r. IsTurnOf (expansion_of old.limits r.so_far (longer z more q))) (progress_before old) w
+
+-- by the cause
+abbrev pub StepBreaksBy : Engine → Pending → Option Script → Option Script → Contents → Cause → Type 0
+StepBreaksBy old p before after w causes.Write = StepBreaks old p before after w
+StepBreaksBy old p before after w causes.OutOfMemory = StepBreaks old p before after w
+StepBreaksBy old p before after w cause = Unit {0}
+
 -- prefixes of an engine's output and messages were written
 abbrev pub FlushesPrefix : List ℕ → List ℕ → Contents → Type 0
 FlushesPrefix output messages w =
     HasBegun w.out_old w.out_new output × HasBegun w.messages_old w.messages_new messages
-
--- this output was written, and maybe more
-abbrev pub HasTaken : List ℕ → Contents → Type 0
-HasTaken before w = (more : List ℕ) × (w.out_new ≡ with_bytes w.out_old (before ++ more))
 
 -- a message was written only after all output before it, and more output only after all messages
 pub record IsInOrder (before messages : List ℕ) (w : Contents) : Type 0 where
@@ -102,6 +120,11 @@ pub record FlushesSome (old new : Engine) (w : Contents) : Type 0 where
   pub held : old ≡ record new { output = front ++ new.output; messages = reported ++ new.messages }
   pub output : w.out_new ≡ with_bytes w.out_old front
   pub messages : w.messages_new ≡ with_bytes w.messages_old reported
+
+-- nothing was flushed, or all
+abbrev pub FlushesDue : Engine → Engine → Contents → Type 0
+FlushesDue old new w =
+    ((new ≡ old) × HasWritten [] [] w) ⊎ ((new ≡ after_flush old) × HasWritten old.output old.messages w)
 
 -- an engine between two inputs
 pub record IsIdle (e : Engine) : Type 0 where

@@ -1,6 +1,6 @@
 -- Laws: what holds of the definitions alone, for expansions and runs.
 -- Believed as statements; the functions of the module `laws` carry their proofs.
--- Words: ExpansionRules, ExpandRules, WrapsRules, OneStart, SameDenotation, SettledBegins, SplitStates, Split, Chain,
+-- Words: ExpansionRules, ExpandRules, MomentsLead, WrapsRules, OneStart, SameDenotation, SettledBegins, SplitStates, Split, Chain,
 -- IsDecided, IsOneRun, TwoRuns, LargerNesting, LargerCalls, RunEnds.
 use Rattle.std.specs.Prelude.{◌≡◌, ◌≢◌, ◌↔◌, ◌⊎◌, ℕ, ◌<◌, ◌≤◌, Bool, true, false, List, [], ◌∷◌, ◌++◌, Option, Some}
 use Rattle.m4_state.specs.Device.{Script, with_bytes}
@@ -14,6 +14,8 @@ use Rattle.m4_engine.specs.declared.ending.Cause.{Cause}
 use Rattle.m4_engine.specs.declared.ending.Cause.TheVariants as causes
 use Rattle.m4_engine.specs.Expansion.{Limits, Expansion, Kept, Ended, Ends, NeedsInput}
 use Rattle.m4_engine.specs.Expand.{turn, join, expand}
+use Rattle.m4_engine.specs.OpenCalls.{Goes, moved_meaning}
+use Rattle.m4_engine.specs.Moments.{Moment, Next, Comes, first_moment}
 use Rattle.m4_engine.specs.File.{Source, Opened, Progress}
 use Rattle.m4_engine.specs.Wraps.{next_round, after_wraps}
 use Rattle.m4_engine.specs.Start.{Start, From, frozen_file, IsStart, start_of}
@@ -41,6 +43,12 @@ IsBeginning x y = (rest : List ℕ) × (y ≡ x ++ rest)
 -- each expansion is the result of its turns
 abbrev pub ExpandRules : Type 0
 ExpandRules = (s : Expansion) → expand s ≡ after Expansion Kept Ended join expand expand (turn s)
+
+-- whatever its turns lead to comes to what the whole expansion comes to
+abbrev pub MomentsLead : Type 0
+MomentsLead =
+    (s : Expansion) (way : List Moment) (n : Next) → Comes way (Goes (first_moment s)) n
+    → moved_meaning Expansion Kept Ended turn join expand n ≡ expand s
 
 -- a run after its saved texts is the result of its next round and of the later ones, with no bound in sight
 abbrev pub WrapsRules : Type 0

@@ -3,6 +3,7 @@ pub mod OpenCalls
 pub mod Expansion
 pub mod Args
 pub mod Expand
+pub mod Moments
 pub mod File
 pub mod Wraps
 pub mod Start
@@ -20,6 +21,7 @@ pub mod Turns
 pub mod Passes
 pub mod MachineView
 pub mod Writers
+pub mod Order
 pub mod Expands
 pub mod Continued
 pub mod ReadsOn

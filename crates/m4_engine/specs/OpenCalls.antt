@@ -1,5 +1,6 @@
 -- OpenCalls: an expansion as a machine that keeps its open calls on a stack.
--- Not believed: `MachineIsNesting` proves that it agrees with the nested expansion.
+-- Believed. Its law: `MomentsLead` (a turn of it changes nothing of what it comes to, which is the nested expansion).
+-- Manual: "Macro invocation", "Macro arguments".
 -- Words: Stacked, Move, move, resume, meaning.
 use Rattle.std.specs.Prelude.{List, [], ◌∷◌}
 use Rattle.m4_engine.specs.Nesting.{Turn, Halt, Close, GoOn, Bare, Opens, Outcome, Halted, Closed, then_on}

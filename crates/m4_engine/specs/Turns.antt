@@ -15,7 +15,8 @@ use Rattle.m4_engine.specs.declared.turned.TurnEnd.TheVariants as turn_ends
 use Rattle.m4_engine.specs.declared.turned.Turned.TheVariants as turns
 use Rattle.m4_engine.specs.Args.{end_argument}
 use Rattle.m4_engine.specs.Nesting.{Turn, GoOn, Close, Halted}
-use Rattle.m4_engine.specs.OpenCalls.{Stacked, Move, Stops, Goes, pop, take_turn, move}
+use Rattle.m4_engine.specs.OpenCalls.{Move, Stops, Goes, pop, take_turn}
+pub use Rattle.m4_engine.specs.Moments.{moved}
 use Rattle.m4_engine.specs.Expand.{turn, join, called, with_value, skip_line}
 use Rattle.m4_engine.specs.Engine.{Engine, so_far_of, kept_in, outer_of, here_of, configuration, IsReady}
 
@@ -122,10 +123,6 @@ StepsBy result old new i j f = Steps result old new i j (λ t. Moves (i.pending)
 abbrev pub close_in : List Call → Expansion → Turn Expansion Kept Ended
 close_in [] s = GoOn s
 close_in (c ∷ cs) s = Close (end_argument c s)
-
--- one move of the definitions' machine
-abbrev pub moved : Stacked Expansion Kept → Move Expansion Kept Ended
-moved c = move Expansion Kept Ended turn join c
 
 -- a turn that needs more bytes: nothing was done, and the bytes in hand don't decide the definitions' turn
 pub record Needs (old new : Engine) (i j : Held) : Type 0 where

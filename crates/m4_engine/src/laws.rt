@@ -2,7 +2,7 @@
 //!
 //! The contract of each function is a law of `specs/Laws.antt`.
 
-ghost use Rattle.m4_engine.specs.Laws.{Chain, ExpansionRules, ExpandRules, LargerCalls, LargerNesting, OneStart};
+ghost use Rattle.m4_engine.specs.Laws.{Chain, ExpansionRules, ExpandRules, LargerCalls, LargerNesting, MomentsLead, OneStart};
 ghost use Rattle.m4_engine.specs.Laws.{RunEnds, SameDenotation, SettledBegins, Split, SplitStates, TwoRuns, WrapsRules};
 
 /// An expansion with nested calls is the result of its turns: no bound on them is ever reached.
@@ -13,6 +13,11 @@ pub fn expansion_rules<S, F, D>()
 /// The expansion of an input is the result of its turns.
 pub fn expand_rules()
     ensures { ExpandRules }
+{}
+
+/// Whatever the turns of an expansion lead to comes to what the whole expansion comes to.
+pub fn moments_lead()
+    ensures { MomentsLead }
 {}
 
 /// A run after its saved texts is the result of its next round and of the later ones: no bound on rounds is

@@ -8,7 +8,8 @@ ghost use Rattle.m4_engine.specs.Engine.{IsReady, after_flush};
 ghost use Rattle.m4_engine.specs.Writers.{both, FailsBy, FailsOnce};
 ghost use Rattle.m4_engine.specs.Continued.{HandGives, OrderBy, IsFlushed, cause_of, fault_cause};
 ghost use Rattle.m4_engine.specs.ReadsOn.{ReadsOn};
-ghost use Rattle.m4_engine.specs.Expands.{Expands, ReadsBy, FlushesPrefix, FlushesSome, IsInOrder, IsIdle, at_rest};
+ghost use Rattle.m4_engine.specs.Expands.{Expands, ReadsBy, StepBreaksBy, FlushesPrefix, FlushesDue, IsInOrder, IsIdle};
+ghost use Rattle.m4_engine.specs.Expands.{at_rest};
 
 use crate::ending::Cause;
 use crate::in_hand::{InHand, Wanted};
@@ -73,7 +74,7 @@ impl Machine {
     }
 
     /// Flushes the buffers if there is a message, or a block of output.
-    #[tactic(auto, using(crate::proofs::Begins::some_none, crate::proofs::Begins::some_all))]
+    #[tactic(auto, using(crate::proofs::Begins::due_none, crate::proofs::Begins::due_all))]
     fn flush_if_due<O: ByteSink, M: ByteSink>(
         &mut self,
         earlier: usize,
@@ -81,7 +82,7 @@ impl Machine {
         messages: &mut M,
     ) -> Result<(), DeviceFault>
         requires { earlier ≤ length self.old.output }
-        ensures some { OnOk result (FlushesSome self.old self.new
+        ensures due { OnOk result (FlushesDue self.old self.new
             (both O.contents M.contents out.old out.new messages.old messages.new)) }
         ensures order { OnErr result (IsInOrder (take earlier self.old.output) self.old.messages
             (both O.contents M.contents out.old out.new messages.old messages.new)) }
@@ -197,6 +198,8 @@ impl Machine {
         requires ready { IsReady input.old }
         requires idle { IsIdle self.old }
         ensures expands { Expands self.old self.new input.old.pending (R.script reader.old) (R.script reader.new)
+            (both O.contents M.contents out.old out.new messages.old messages.new) result }
+        ensures order { StepBreaksBy self.old input.old.pending (R.script reader.old) (R.script reader.new)
             (both O.contents M.contents out.old out.new messages.old messages.new) result }
         ensures read { ReadsBy result (R.failures reader.old) (R.failures reader.new) }
         ensures counted { FailsBy result (both O.failures M.failures out.old out.new messages.old messages.new) }

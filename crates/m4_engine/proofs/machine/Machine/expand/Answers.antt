@@ -1,6 +1,6 @@
 use Rattle.std.proofs.Common.{refl, ◌∙◌}
 use Rattle.m4_engine.proofs.Blockwise.{takes_nothing, needs_so, blocks_came, stopped_so, fault_counted_so, lasting_so}
-use Rattle.m4_engine.proofs.Blockwise.{none_failed, came_counted, ends_so}
+use Rattle.m4_engine.proofs.Blockwise.{none_failed, came_counted, ends_so, told_so, told_at_fault}
 use Rattle.m4_engine.proofs.machine.Machine.expand.Goals as goal
 
 pub blocks-2-init : goal.blocks-2-init
@@ -14,6 +14,11 @@ returns-in-Ends-clause-expands g c = ends_so c.args.self.now c.blocks-2.self c.e
     c.args.input.now.pending c.blocks-2.input c.expand_in_hand.new.input _ _ _ _ _ _ _ _ c.blocks-2.wanted
     c.in-Ends.cause c.expand_in_hand.result c.in-Ends.is c.requires.idle c.blocks-2.invariant.takes
     c.expand_in_hand.ensures.gives
+
+pub returns-in-Ends-clause-order : goal.returns-in-Ends-clause-order
+returns-in-Ends-clause-order g c = told_so c.args.self.now c.blocks-2.self c.args.input.now.pending c.blocks-2.input _ _
+    _ _ _ _ _ _ c.blocks-2.wanted c.in-Ends.cause c.expand_in_hand.result c.in-Ends.is c.requires.idle
+    c.blocks-2.invariant.takes c.expand_in_hand.ensures.order
 
 pub blocks-2-preserved : goal.blocks-2-preserved
 blocks-2-preserved g c =
@@ -33,6 +38,10 @@ returns-in-Err g c =
     let h = needs_so c.blocks-2.wanted c.in-Needs.more c.blocks-2.self c.expand_in_hand.new.self c.blocks-2.input c.expand_in_hand.new.input _ c.expand_in_hand.result c.in-Needs.is c.expand_in_hand.ensures.gives in
     record {
       expands = stopped_so c.args.self.now c.blocks-2.self c.expand_in_hand.new.self c.args.input.now.pending
+          c.blocks-2.input c.expand_in_hand.new.input c.read_on.new.input _ _ _ _ _ _ _ _ _ c.blocks-2.wanted
+          c.in-Needs.more c.in-Err.fault c.cause_of_fault.result c.cause_of_fault.ensures c.requires.idle
+          c.blocks-2.invariant.takes h c.in-Err.ensures.gives;
+      order = told_at_fault c.args.self.now c.blocks-2.self c.expand_in_hand.new.self c.args.input.now.pending
           c.blocks-2.input c.expand_in_hand.new.input c.read_on.new.input _ _ _ _ _ _ _ _ _ c.blocks-2.wanted
           c.in-Needs.more c.in-Err.fault c.cause_of_fault.result c.cause_of_fault.ensures c.requires.idle
           c.blocks-2.invariant.takes h c.in-Err.ensures.gives;

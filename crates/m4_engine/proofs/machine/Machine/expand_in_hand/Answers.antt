@@ -1,9 +1,10 @@
 use Rattle.std.proofs.Common.{◌≡◌, ◌≤◌, true, false, length, rules, arith, refl, ap, ◌∙◌}
 use Rattle.m4_engine.proofs.OnlyGrows.{output_stays}
 use Rattle.m4_engine.proofs.Running.{begins_so, begins_past, not_both, passed, went_on, went_past_line, fell}
+use Rattle.m4_engine.proofs.Begins.{due_all}
 use Rattle.m4_engine.proofs.Running.{fell_past_line, ended, needed, needs_line_after, breaks, write_breaks}
-use Rattle.m4_engine.proofs.Running.{breaks_in_order, in_order_end, needs_line_so, line_done_by, hand_ends}
-use Rattle.m4_engine.proofs.Running.{flushed_all}
+use Rattle.m4_engine.proofs.Running.{write_breaks_in_order, lack_breaks_in_order, in_order_end, needs_line_so}
+use Rattle.m4_engine.proofs.Running.{line_done_by, hand_ends}
 use Rattle.m4_engine.proofs.Passing.{passes_messages, passes_ready}
 use Rattle.m4_engine.specs.Engine.{Engine}
 use Rattle.m4_engine.proofs.machine.Machine.expand_in_hand.Goals.{in-Token, in-Line}
@@ -43,9 +44,9 @@ returns-then-not-at_token-clause-gives g c = elim c.match-wanted.branch [
 pub turns-init : goal.turns-init
 turns-init g c = record {
   runs = elim c.match-wanted.branch [
-    | in-Token w ↦ begins_so c.args.self.now c.args.input.now c.match-wanted.input c.args.wanted _ _ (search rules) (search rules) c.requires.ready
+    | in-Token w ↦ begins_so c.args.self.now c.args.input.now c.match-wanted.input c.args.wanted _ _ (search rules) (search rules) c.requires.ready c.requires.flushed
     | in-Line w ↦ begins_past c.args.self.now c.args.input.now w.skip_in_hand-at_token.new.self c.match-wanted.input
-        c.args.wanted _ _ (search rules) (search rules) c.requires.ready
+        c.args.wanted _ _ (search rules) (search rules) c.requires.ready c.requires.flushed
         (line_done_by c.args.input.now w.skip_in_hand-at_token.new.self w.skip_in_hand-at_token.result true
         (search rules) w.skip_in_hand-at_token.ensures)
   ];
@@ -63,7 +64,7 @@ pub turns-smaller-in_default-flush_if_due : goal.turns-smaller-in_default-flush_
 turns-smaller-in_default-flush_if_due g c = fell c.turns.self c.pass_plain.new.self c.turn.new.self
     c.flush_if_due.new.self c.turns.input c.pass_plain.new.input c.turn.new.input _ _ _ _ c.in-Ok-turn.turned
     c.in-Ok.ensures.passes c.in-Ok-turn.ensures.moves c.in-Ok-turn.ensures.ready c.in-GoesOn.is
-    c.in_default-flush_if_due.ensures.some
+    c.in_default-flush_if_due.ensures.due
 
 pub turns-preserved-in_default-flush_if_due : goal.turns-preserved-in_default-flush_if_due
 turns-preserved-in_default-flush_if_due g c =
@@ -72,7 +73,7 @@ turns-preserved-in_default-flush_if_due g c =
       runs = went_on c.args.wanted c.args.self.now c.pass_plain.new.self c.turn.new.self c.flush_if_due.new.self
           c.args.input.now.pending c.pass_plain.new.input c.turn.new.input _ _ _ _ _ _ c.in-Ok-turn.turned r
           c.in-Ok-turn.ensures.moves c.in-Ok-turn.ensures.ready c.in-GoesOn.is c.in-Ok-turn.ensures.limits
-          c.in_default-flush_if_due.ensures.some;
+          c.in_default-flush_if_due.ensures.due;
       quiet = c.in_default-flush_if_due.ensures.none_waits;
       out = c.in_default-flush_if_due.ensures.counted.0 ∙ c.turns.invariant.out;
       reported = c.in_default-flush_if_due.ensures.counted.1 ∙ c.turns.invariant.reported;
@@ -126,7 +127,7 @@ pub turns-smaller : goal.turns-smaller
 turns-smaller g c = fell_past_line c.turns.self c.pass_plain.new.self c.turn.new.self c.flush.new.self c.turns.input
     c.pass_plain.new.input c.turn.new.input c.skip_in_hand.new.self _ _ _ _ c.in-Ok-turn.turned c.in-Ok.ensures.passes
     c.in-Ok-turn.ensures.moves c.in-Ok-turn.ensures.ready c.in-SkipsLine.is
-    (flushed_all c.turn.new.self _ _ _ _ c.flush.new.self c.in_default-flush.ensures.engine
+    (due_all c.turn.new.self c.flush.new.self _ _ _ _ c.in_default-flush.ensures.engine
     c.in_default-flush.ensures.output c.in_default-flush.ensures.messages)
     (line_done_by c.turn.new.input c.skip_in_hand.new.self c.skip_in_hand.result true (search rules)
     c.skip_in_hand.ensures)
@@ -139,7 +140,7 @@ turns-preserved g c =
           c.args.input.now.pending c.pass_plain.new.input c.turn.new.input c.skip_in_hand.new.self _ _ _ _ _ _
           c.in-Ok-turn.turned r c.in-Ok-turn.ensures.moves c.in-Ok-turn.ensures.ready c.in-SkipsLine.is
           c.in-Ok-turn.ensures.limits
-          (flushed_all c.turn.new.self _ _ _ _ c.flush.new.self c.in_default-flush.ensures.engine
+          (due_all c.turn.new.self c.flush.new.self _ _ _ _ c.in_default-flush.ensures.engine
           c.in_default-flush.ensures.output c.in_default-flush.ensures.messages)
           (line_done_by c.turn.new.input c.skip_in_hand.new.self c.skip_in_hand.result true (search rules)
           c.skip_in_hand.ensures);
@@ -168,42 +169,41 @@ returns-in-Ok-flush-2-clause-gives g c =
 pub returns-in-Err-clause-order : goal.returns-in-Err-clause-order
 returns-in-Err-clause-order g c =
     let r = passed c.args.wanted c.args.self.now c.turns.self c.pass_plain.new.self c.args.input.now.pending c.turns.input c.pass_plain.new.input _ _ _ _ c.turns.invariant.runs c.in-Ok.ensures.passes in
-    breaks_in_order c.args.wanted c.args.self.now c.pass_plain.new.self c.turn.new.self c.args.input.now.pending
+    write_breaks_in_order c.args.wanted c.args.self.now c.pass_plain.new.self c.turn.new.self c.args.input.now.pending
     c.pass_plain.new.input c.turn.new.input c.in-Ok-turn.turned c.len-earlier.result _ _ _ _ _ _ r
-    c.in-Ok-turn.ensures.moves c.in-Ok-turn.ensures.made
-    (passes_messages c.turns.self c.pass_plain.new.self c.turns.input c.pass_plain.new.input
-    c.in-Ok.ensures.passes ∙ c.turns.invariant.quiet) (search rules) c.in-Err.ensures.order
+    c.in-Ok-turn.ensures.moves c.in-Ok-turn.ensures.made (search rules) c.in-Err.ensures.order
     c.in-Err.ensures.begun
 
 pub returns-in-Err-flush-clause-order : goal.returns-in-Err-flush-clause-order
 returns-in-Err-flush-clause-order g c =
     let r = passed c.args.wanted c.args.self.now c.turns.self c.pass_plain.new.self c.args.input.now.pending c.turns.input c.pass_plain.new.input _ _ _ _ c.turns.invariant.runs c.in-Ok.ensures.passes in
-    breaks_in_order c.args.wanted c.args.self.now c.pass_plain.new.self c.turn.new.self c.args.input.now.pending
+    write_breaks_in_order c.args.wanted c.args.self.now c.pass_plain.new.self c.turn.new.self c.args.input.now.pending
     c.pass_plain.new.input c.turn.new.input c.in-Ok-turn.turned c.len-earlier.result _ _ _ _ _ _ r
-    c.in-Ok-turn.ensures.moves c.in-Ok-turn.ensures.made
-    (passes_messages c.turns.self c.pass_plain.new.self c.turns.input c.pass_plain.new.input
-    c.in-Ok.ensures.passes ∙ c.turns.invariant.quiet) (search rules) c.in-Err-flush.ensures.order
+    c.in-Ok-turn.ensures.moves c.in-Ok-turn.ensures.made (search rules) c.in-Err-flush.ensures.order
     c.in-Err-flush.ensures.begun
 
 pub returns-in-Err-flush-2-clause-order : goal.returns-in-Err-flush-2-clause-order
 returns-in-Err-flush-2-clause-order g c =
     let r = passed c.args.wanted c.args.self.now c.turns.self c.pass_plain.new.self c.args.input.now.pending c.turns.input c.pass_plain.new.input _ _ _ _ c.turns.invariant.runs c.in-Ok.ensures.passes in
-    breaks_in_order c.args.wanted c.args.self.now c.pass_plain.new.self c.turn.new.self c.args.input.now.pending
+    write_breaks_in_order c.args.wanted c.args.self.now c.pass_plain.new.self c.turn.new.self c.args.input.now.pending
     c.pass_plain.new.input c.turn.new.input c.in-Ok-turn.turned c.len-earlier.result _ _ _ _ _ _ r
-    c.in-Ok-turn.ensures.moves c.in-Ok-turn.ensures.made
-    (passes_messages c.turns.self c.pass_plain.new.self c.turns.input c.pass_plain.new.input
-    c.in-Ok.ensures.passes ∙ c.turns.invariant.quiet) (search rules) c.in-Err-flush-2.ensures.order
+    c.in-Ok-turn.ensures.moves c.in-Ok-turn.ensures.made (search rules) c.in-Err-flush-2.ensures.order
     c.in-Err-flush-2.ensures.begun
 
 pub returns-in-Err-flush-3-clause-order : goal.returns-in-Err-flush-3-clause-order
 returns-in-Err-flush-3-clause-order g c =
     let r = passed c.args.wanted c.args.self.now c.turns.self c.pass_plain.new.self c.args.input.now.pending c.turns.input c.pass_plain.new.input _ _ _ _ c.turns.invariant.runs c.in-Ok.ensures.passes in
-    breaks_in_order c.args.wanted c.args.self.now c.pass_plain.new.self c.turn.new.self c.args.input.now.pending
+    write_breaks_in_order c.args.wanted c.args.self.now c.pass_plain.new.self c.turn.new.self c.args.input.now.pending
     c.pass_plain.new.input c.turn.new.input c.in-Ok-turn.turned c.len-earlier.result _ _ _ _ _ _ r
-    c.in-Ok-turn.ensures.moves c.in-Ok-turn.ensures.made
-    (passes_messages c.turns.self c.pass_plain.new.self c.turns.input c.pass_plain.new.input
-    c.in-Ok.ensures.passes ∙ c.turns.invariant.quiet) (search rules) c.in-Err-flush-3.ensures.order
+    c.in-Ok-turn.ensures.moves c.in-Ok-turn.ensures.made (search rules) c.in-Err-flush-3.ensures.order
     c.in-Err-flush-3.ensures.begun
 
 pub returns-in-Ok-flush-2-clause-order : goal.returns-in-Ok-flush-2-clause-order
 returns-in-Ok-flush-2-clause-order g c = rw c.cause.ensures (in_order_end c.args.wanted c.args.self.now c.args.input.now.pending _ c.in-Ends.end)
+
+-- an allocation failed: nothing was written since the last flush
+pub returns-in_default-clause-order : goal.returns-in_default-clause-order
+returns-in_default-clause-order g c = lack_breaks_in_order c.args.wanted c.args.self.now c.turns.self c.args.input.now.pending c.turns.input _ _ _ _ c.turns.invariant.runs
+
+pub returns-in-Err-OutOfMemory-clause-order : goal.returns-in-Err-OutOfMemory-clause-order
+returns-in-Err-OutOfMemory-clause-order g c = lack_breaks_in_order c.args.wanted c.args.self.now c.turns.self c.args.input.now.pending c.turns.input _ _ _ _ c.turns.invariant.runs
