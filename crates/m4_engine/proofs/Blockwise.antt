@@ -144,7 +144,7 @@ leads_more w e0 e q p o m y came f l = record {
       let k = l.comes (y ++ z) more (subst (λ v. MayFollow v (y ++ z) more) (sym f) tt) a b in (
         k.0,
         subst (λ (r : Pending). Comes k.0 (Goes (configuration a b e0 r)) (stands w (configuration (a ++ o) (b ++ m) e (longer z more (longer y came p))))) (sym (longer_twice y z came more q))
-        (subst (λ (r : Pending). Comes k.0 (Goes (configuration a b e0 (longer (y ++ z) more q))) (stands w (configuration (a ++ o) (b ++ m) e r))) (sym (longer_twice y z came more p)) k.1),
+            (subst (λ (r : Pending). Comes k.0 (Goes (configuration a b e0 (longer (y ++ z) more q))) (stands w (configuration (a ++ o) (b ++ m) e r))) (sym (longer_twice y z came more p)) k.1),
       );
   follows = refl;
   limits = l.limits;
@@ -330,11 +330,11 @@ told e0 p0 before after x q o m out0 out reported0 reported d r h k = record {
           output = (
             k.more,
             h.output
-            ∙ ap (λ (v : Option (List ℕ)). with_bytes v o) f
-            ∙ with_bytes-append o0 a o
-            ∙ ap (λ (n : List ℕ). with_bytes o0 (a ++ n)) k.output
-            ∙ ap (with_bytes o0) (sym (append_assoc a (k.before ++ (k.at).output) k.more))
-            ∙ ap (λ (n : List ℕ). with_bytes o0 (n ++ k.more)) (sym (append_assoc a k.before (k.at).output)),
+                ∙ ap (λ (v : Option (List ℕ)). with_bytes v o) f
+                ∙ with_bytes-append o0 a o
+                ∙ ap (λ (n : List ℕ). with_bytes o0 (a ++ n)) k.output
+                ∙ ap (with_bytes o0) (sym (append_assoc a (k.before ++ (k.at).output) k.more))
+                ∙ ap (λ (n : List ℕ). with_bytes o0 (n ++ k.more)) (sym (append_assoc a k.before (k.at).output)),
           );
           messages = (
             k.rest ++ made.0,

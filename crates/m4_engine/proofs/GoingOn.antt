@@ -10,16 +10,17 @@ use Rattle.m4_engine.specs.declared.stop.Stop.{Stop}
 use Rattle.m4_engine.specs.declared.stop.Stop.TheVariants as stops
 use Rattle.m4_engine.specs.Expansion.{Limits, EndReason, Ends}
 use Rattle.m4_engine.specs.File.{Source, Progress, after_sources}
-use Rattle.m4_engine.specs.Wraps.{after_wraps}
+use Rattle.m4_engine.specs.Wraps.{read_saved, after_wraps}
+use Rattle.m4_engine.specs.Order.{preceded}
 use Rattle.m4_engine.specs.Session.{SessionState, progress_of, how_over, written, IsOpen, Completed, BrokeOff, GoesTo}
 use Rattle.m4_engine.specs.Writers.{Contents, writers}
 use Rattle.m4_engine.proofs.Begins.{begun_after}
 use Rattle.m4_engine.proofs.Growth.{Extends}
-use Rattle.m4_engine.proofs.RunsAfter.{Bp, Prefixed, sources_follow, rounds_after}
+use Rattle.m4_engine.proofs.RunsAfter.{Bp, Prefixed, sources_follow, round_follows, rounds_after}
 
 -- a progress after the bytes that were written before
 abbrev pub after : List ℕ → List ℕ → Progress → Progress
-after o m p = record p { so_far = record p.so_far { output = o ++ (p.so_far).output; messages = m ++ (p.so_far).messages } }
+after o m p = preceded o m p
 
 -- the law of runs after others, if nothing but output and messages was made before
 module _ (o m : List ℕ) (limits : Limits) where
@@ -46,6 +47,12 @@ module _ (o m : List ℕ) (limits : Limits) where
       ap (after_sources limits ss) (sym (B_is q))
       ∙ same (after_sources limits ss (B q)) (after_sources limits ss q)
       (sources_follow o m 0 limits.calls limits.calls limits.nesting limits.nesting room (λ k h. h) (λ h. ⊥) (inr (refl, refl)) (inr refl) (λ h x. absurd x) ss (B q) q (inr refl))
+
+  pub round_after : (saved : List (List ℕ)) (q : Progress) → read_saved limits saved (after o m q) ≡ after o m (read_saved limits saved q)
+  round_after saved q =
+      ap (read_saved limits saved) (sym (B_is q))
+      ∙ same (read_saved limits saved (B q)) (read_saved limits saved q)
+      (round_follows o m 0 limits.calls limits.calls limits.nesting limits.nesting room (λ k h. h) (λ h. ⊥) (inr (refl, refl)) (inr refl) (λ h x. absurd x) saved q)
 
   pub wraps_after : (q : Progress) → after_wraps limits (after o m q) ≡ after o m (after_wraps limits q)
   wraps_after q =

@@ -29,7 +29,7 @@ leads_then w v u e0 e e2 p0 p q o m x y f g = record {
       (stands u (configuration ((a ++ o) ++ x) ((b ++ m) ++ y) e2 (longer z more q))) first.1 later.1 in (
         first.0 ++ later.0,
         subst (λ (n : List ℕ). Comes (first.0 ++ later.0) (stands w (configuration a b e0 (longer z more p0))) (stands u (configuration n (b ++ (m ++ y)) e2 (longer z more q)))) (append_assoc a o x)
-        (subst (λ (n : List ℕ). Comes (first.0 ++ later.0) (stands w (configuration a b e0 (longer z more p0))) (stands u (configuration ((a ++ o) ++ x) n e2 (longer z more q)))) (append_assoc b m y) all),
+            (subst (λ (n : List ℕ). Comes (first.0 ++ later.0) (stands w (configuration a b e0 (longer z more p0))) (stands u (configuration ((a ++ o) ++ x) n e2 (longer z more q)))) (append_assoc b m y) all),
       );
   follows = g.follows ∙ f.follows;
   limits = g.limits ∙ f.limits;
@@ -51,7 +51,7 @@ step_leads w v e e2 p q h f l = record {
       let k = h z more c a b in (
         k.0,
         subst (λ (n : List ℕ). Comes k.0 (stands w (configuration a b e (longer z more p))) (stands v (configuration n (b ++ []) e2 (longer z more q)))) (sym (append-nil a))
-        (subst (λ (n : List ℕ). Comes k.0 (stands w (configuration a b e (longer z more p))) (stands v (configuration a n e2 (longer z more q)))) (sym (append-nil b)) k.1),
+            (subst (λ (n : List ℕ). Comes k.0 (stands w (configuration a b e (longer z more p))) (stands v (configuration a n e2 (longer z more q)))) (sym (append-nil b)) k.1),
       );
   follows = f;
   limits = l;
@@ -88,7 +88,7 @@ leads_flushed v e e2 p x y h = record {
   comes = λ z more c a b. (
     [],
     (rw (append_assoc a x e2.output, append_assoc b y e2.messages) refl)
-    ∙ sym (ap (λ (d : Engine). stands v (configuration a b d (longer z more p))) h),
+        ∙ sym (ap (λ (d : Engine). stands v (configuration a b d (longer z more p))) h),
   );
   follows = refl;
   limits = sym (ap (λ (d : Engine). d.limits) h);

@@ -53,6 +53,7 @@ pub mod Issues
 pub mod Sources
 pub mod JoinsBack
 pub mod GoingOn
+pub mod Ordering
 pub mod Wrapping
 pub mod Reading
 pub mod Reached

@@ -1,7 +1,6 @@
 -- Marks: the turn that tells what was written, kept while a run goes on.
-use Rattle.std.proofs.Common.{◌≡◌, inl, inr, Bool, ℕ, List, [], ◌∷◌, ◌++◌, refl, sym, ap, ◌∙◌, subst, append-nil}
+use Rattle.std.proofs.Common.{◌≡◌, inl, inr, Bool, ℕ, List, [], ◌++◌, refl, sym, ap, ◌∙◌, subst, append-nil}
 use Rattle.std.proofs.Common.{append_assoc, Option}
-use Rattle.m4_state.specs.Device.{with_bytes, HasBegun}
 use Rattle.m4_input.specs.Pending.{Pending, text_of, line_length}
 use Rattle.m4_input.specs.Input.{Held, longer}
 use Rattle.m4_engine.specs.declared.in_hand.Wanted.{Wanted}
@@ -9,12 +8,12 @@ use Rattle.m4_engine.specs.declared.in_hand.Wanted.TheVariants as wanted
 use Rattle.m4_engine.specs.declared.turned.Turned.{Turned}
 use Rattle.m4_engine.specs.declared.turned.Turned.TheVariants as turns
 use Rattle.m4_engine.specs.Expansion.{RunSoFar}
-use Rattle.m4_engine.specs.Engine.{Engine, so_far_of, outer_of, here_of, configuration, after_flush}
-use Rattle.m4_engine.specs.Moments.{Moment, Next, moved, made_by}
+use Rattle.m4_engine.specs.Engine.{Engine, so_far_of, outer_of, here_of, configuration}
+use Rattle.m4_engine.specs.Moments.{Next, moved, made_by}
 use Rattle.m4_engine.specs.Turns.{MayFollow, Moves, IsTurned}
-use Rattle.m4_engine.specs.Expands.{IsInOrder, FlushesPrefix, FlushesSome, FlushesDue}
-use Rattle.m4_engine.specs.Continued.{Leads, Marked, IsMarked, BreaksInOrder}
-use Rattle.m4_engine.specs.Writers.{Contents, writers, HasWritten, HasTaken}
+use Rattle.m4_engine.specs.Expands.{FlushesSome, FlushesDue}
+use Rattle.m4_engine.specs.Continued.{Leads, Marked}
+use Rattle.m4_engine.specs.Writers.{writers}
 use Rattle.m4_engine.proofs.Growth.{Extends}
 use Rattle.m4_engine.proofs.Leading.{leads_then}
 use Rattle.m4_engine.proofs.OnlyGrows.{extends_same, skipping_makes, moment_keeps, output_front}
@@ -51,8 +50,8 @@ mark_here w e0 e p0 p o m l n = record {
       let k = moment_keeps (configuration (a ++ o) (b ++ m) e (longer z more p)) in (
         e.messages ++ k.reported,
         k.messages
-        ∙ append_assoc (b ++ m) e.messages k.reported
-        ∙ ap (λ (x : List ℕ). (b ++ x) ++ (e.messages ++ k.reported)) (sym (append-nil m)),
+            ∙ append_assoc (b ++ m) e.messages k.reported
+            ∙ ap (λ (x : List ℕ). (b ++ x) ++ (e.messages ++ k.reported)) (sym (append-nil m)),
       );
 }
 
@@ -115,10 +114,10 @@ mark_then w v e0 e p0 p o m x y l k = record {
       let made = k.makes z more (subst (λ v. MayFollow v z more) (sym l.follows) c) (a ++ o) (b ++ m) in (
         made.0,
         ap (λ (n : List ℕ). (made_by (moved (configuration n (b ++ (m ++ k.reported)) k.at (longer z more k.q)))).messages) (sym (append_assoc a o k.before))
-        ∙ ap (λ (n : List ℕ). (made_by (moved (configuration ((a ++ o) ++ k.before) n k.at (longer z more k.q)))).messages) (sym (append_assoc b m k.reported))
-        ∙ made.1
-        ∙ ap (λ (n : List ℕ). n ++ made.0) (append_assoc b m (k.reported ++ k.own))
-        ∙ ap (λ (n : List ℕ). (b ++ n) ++ made.0) (sym (append_assoc m k.reported k.own)),
+            ∙ ap (λ (n : List ℕ). (made_by (moved (configuration ((a ++ o) ++ k.before) n k.at (longer z more k.q)))).messages) (sym (append_assoc b m k.reported))
+            ∙ made.1
+            ∙ ap (λ (n : List ℕ). n ++ made.0) (append_assoc b m (k.reported ++ k.own))
+            ∙ ap (λ (n : List ℕ). (b ++ n) ++ made.0) (sym (append_assoc m k.reported k.own)),
       );
 }
 

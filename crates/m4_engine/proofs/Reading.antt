@@ -1,6 +1,7 @@
 -- Reading: sources read in order are the definitions' sources.
 use Rattle.std.proofs.Common.{◌≡◌, ◌⊎◌, inl, inr, ◌<◌, ◌≤◌, ℕ, zero, suc, ◌+◌, List, [], ◌∷◌, ◌++◌, length, drop}
-use Rattle.std.proofs.Common.{drop-cons, map, Option, Some, refl, sym, ap, ◌∙◌, subst, arith}
+use Rattle.std.proofs.Common.{drop-cons, map, Option, Some, refl, sym, ap, ◌∙◌, subst, arith, append-nil}
+use Rattle.std.proofs.Common.{append_assoc}
 use Rattle.std.specs.Prelude.{Result, Ok, Err, slice_set, slice_index_or}
 use Rattle.std.proofs.lemmas.List.{drop-set-lt, drop-drop}
 use Rattle.m4_state.proofs.CallerLaws.{with_bytes-append, with_bytes-nil}
@@ -8,13 +9,15 @@ use Rattle.m4_state.specs.Device.{Script, with_bytes}
 use Rattle.m4_engine.specs.declared.source.Source.{Source as RunSource}
 use Rattle.m4_engine.specs.RunSources.{source_of, ExtendsSource, ExtendSources, DescribeSources, DescribesSource}
 use Rattle.m4_engine.specs.declared.stop.Stop.{Stop}
-use Rattle.m4_engine.specs.Expansion.{Limits}
+use Rattle.m4_engine.specs.Expansion.{Limits, RunSoFar}
+use Rattle.m4_engine.specs.Order.{IsStepOf, InSources, Breaks, BreaksBy}
 use Rattle.m4_engine.proofs.OnePass.{sources_keep, over_sources}
 use Rattle.m4_engine.specs.File.{Source, Progress, after_source, after_sources}
 use Rattle.m4_engine.specs.Session.{SessionState, progress_of, IsOpen, Completed, GoesTo}
 use Rattle.m4_engine.specs.Writers.{Contents, writers}
 use Rattle.m4_engine.proofs.GoingOn.{after, sources_after, written_after, Within, step_stops, all_made}
 use Rattle.m4_engine.proofs.Growth.{Extends}
+use Rattle.m4_engine.proofs.Ordering.{same_breaks}
 
 -- some of the sources were read: so much was written, and the rest of the run is the rest of the sources
 pub record Between (ss : List Source) (i : ℕ) (s0 s : SessionState) (w : Contents) : Type 0 where
@@ -24,9 +27,22 @@ pub record Between (ss : List Source) (i : ℕ) (s0 s : SessionState) (w : Conte
   pub messages : w.messages_new ≡ with_bytes w.messages_old m
   pub limits : s.limits ≡ s0.limits
   pub rest : after_sources s0.limits ss (progress_of s0) ≡ after_sources s0.limits (drop i ss) (after o m (progress_of s))
+  pub steps : (a b : List ℕ) (before later : RunSoFar)
+      → InSources s0.limits (drop i ss) (after (a ++ o) (b ++ m) (progress_of s)) before later
+      → InSources s0.limits ss (after a b (progress_of s0)) before later
 
 pub none_read : (ss : List Source) (s : SessionState) (out reported : Option (List ℕ)) → Between ss 0 s s (writers out out reported reported)
-none_read ss s out reported = record { o = []; m = []; output = with_bytes-nil out; messages = with_bytes-nil reported; limits = refl; rest = refl }
+none_read ss s out reported = record {
+  o = [];
+  m = [];
+  output = with_bytes-nil out;
+  messages = with_bytes-nil reported;
+  limits = refl;
+  rest = refl;
+  steps = λ a b before later h.
+      subst (λ (x : List ℕ). InSources s.limits ss (after x b (progress_of s)) before later) (append-nil a)
+      (subst (λ (x : List ℕ). InSources s.limits ss (after (a ++ []) x (progress_of s)) before later) (append-nil b) h);
+}
 
 -- after a source, the run continues from what was written of it
 pub source_after : (s0 s : SessionState) (o m : List ℕ) (t : Source) (ts : List Source) → s.limits ≡ s0.limits → after_sources s0.limits (t ∷ ts) (after o m (progress_of s)) ≡ after_sources s0.limits ts (after o m (after_source s.limits t (progress_of s)))
@@ -51,6 +67,17 @@ one_read ss i j s0 s s' t out0 out out' reported0 reported reported' b d f =
           ∙ ap (λ (ts : List Source). after_sources s0.limits ts (after b.o b.m (progress_of s))) d
           ∙ source_after s0 s b.o b.m t (drop j ss) b.limits
           ∙ ap (after_sources s0.limits (drop j ss)) (written_after b.o b.m p (progress_of s') f.progress);
+      steps = λ x y before later h.
+          let o : List ℕ = x ++ b.o in
+          let m : List ℕ = y ++ b.m in
+          let there : after (x ++ (b.o ++ (p.so_far).output)) (y ++ (b.m ++ (p.so_far).messages)) (progress_of s') ≡ after_source s0.limits t (after o m (progress_of s)) =
+          ap (λ (n : List ℕ). after n (y ++ (b.m ++ (p.so_far).messages)) (progress_of s')) (sym (append_assoc x b.o (p.so_far).output))
+          ∙ ap (λ (n : List ℕ). after (o ++ (p.so_far).output) n (progress_of s')) (sym (append_assoc y b.m (p.so_far).messages))
+          ∙ sym (written_after o m p (progress_of s') f.progress)
+          ∙ sym (source_after s0 s o m t [] b.limits) in
+          b.steps x y before later
+          (subst (λ (ts : List Source). InSources s0.limits ts (after o m (progress_of s)) before later) (sym d)
+          (inr (subst (λ (q : Progress). InSources s0.limits (drop j ss) q before later) there h)));
     }
 
 -- all were read
@@ -78,6 +105,24 @@ stopped : (ss : List Source) (i j : ℕ) (s0 s s' : SessionState) (t : Source)
     → GoesTo (after_sources s0.limits ss (progress_of s0)) s0 s' (writers out0 out' reported0 reported') (Err e)
 stopped ss i j s0 s s' t out0 out out' reported0 reported reported' e l b d h =
     step_stops b.o b.m _ _ (within ss i j s0 s t _ b d) s0 s s' out0 out out' reported0 reported reported' b.output b.messages l b.limits e h
+
+-- a source broke off: its step is one of the sources
+source_step : (ss : List Source) (i j : ℕ) (s0 s : SessionState) (t : Source)
+    (out0 out out' reported0 reported reported' : Option (List ℕ))
+    → Between ss i s0 s (writers out0 out reported0 reported) → drop i ss ≡ t ∷ drop j ss
+    → Breaks (IsStepOf s.limits t) (progress_of s) (writers out out' reported reported')
+    → Breaks (InSources s0.limits ss) (progress_of s0) (writers out0 out' reported0 reported')
+source_step ss i j s0 s t out0 out out' reported0 reported reported' b d h = λ x y out1 reported1 f g.
+    let k = h (x ++ b.o) (y ++ b.m) out1 reported1
+    (b.output ∙ ap (λ (v : Option (List ℕ)). with_bytes v b.o) f ∙ with_bytes-append out1 x b.o)
+    (b.messages ∙ ap (λ (v : Option (List ℕ)). with_bytes v b.m) g ∙ with_bytes-append reported1 y b.m) in (
+      k.0,
+      k.1,
+      b.steps x y k.0 k.1
+          (subst (λ (ts : List Source). InSources s0.limits ts (after (x ++ b.o) (y ++ b.m) (progress_of s)) k.0 k.1) (sym d)
+          (inl (subst (λ (l : Limits). IsStepOf l t (after (x ++ b.o) (y ++ b.m) (progress_of s)) k.0 k.1) b.limits k.2))),
+      k.3,
+    )
 
 -- the source at a position
 reported_at : {R : Type 0} (f : R → Option Source) (xs : List R) (ss : List Source) (i : ℕ) (x : R) (rest : List R) → map f xs ≡ map Some ss → drop i xs ≡ x ∷ rest → (t : Source) × (f x ≡ Some t) × (drop i ss ≡ t ∷ drop (suc i) ss)
@@ -193,3 +238,10 @@ pub stopped_so : (ss : List Source) (i j : ℕ) (s0 s s' : SessionState) (t : So
 stopped_so ss i j s0 s s' t out0 out out' reported0 reported reported' e q r f g l b d h =
     subst (GoesTo (after_sources s0.limits ss (progress_of s0)) s0 s' (writers out0 out' reported0 reported')) (sym g)
     (stopped ss i j s0 s s' t out0 out out' reported0 reported reported' e l b d (subst (GoesTo (after_source s.limits t (progress_of s)) s s' (writers out out' reported reported')) f h))
+
+pub step_so : (ss : List Source) (i j : ℕ) (s0 s : SessionState) (t : Source)
+    (out0 out out' reported0 reported reported' : Option (List ℕ)) (e : Stop) (q r : Result Unit Stop) → q ≡ Err e
+    → r ≡ Err e → Between ss i s0 s (writers out0 out reported0 reported) → drop i ss ≡ t ∷ drop j ss
+    → BreaksBy q (Breaks (IsStepOf s.limits t) (progress_of s) (writers out out' reported reported'))
+    → BreaksBy r (Breaks (InSources s0.limits ss) (progress_of s0) (writers out0 out' reported0 reported'))
+step_so ss i j s0 s t out0 out out' reported0 reported reported' e q r f g b d h = same_breaks Unit Unit e q r _ _ f g (source_step ss i j s0 s t out0 out out' reported0 reported reported' b d) h

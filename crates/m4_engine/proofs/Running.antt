@@ -16,7 +16,7 @@ use Rattle.m4_engine.specs.declared.turned.Turned.{Turned}
 use Rattle.m4_engine.specs.declared.turned.Turned.TheVariants as turns
 use Rattle.m4_engine.specs.declared.turned.TurnEnd.{TurnEnd}
 use Rattle.m4_engine.specs.declared.turned.TurnEnd.TheVariants as turn_ends
-use Rattle.m4_engine.specs.Nesting.{Outcome, Halted, Closed, then_on}
+use Rattle.m4_engine.specs.Nesting.{Outcome, Halted, then_on}
 use Rattle.m4_engine.specs.OpenCalls.{pop, resume, moved_meaning}
 use Rattle.m4_engine.specs.Moments.{moved}
 use Rattle.m4_engine.specs.Expansion.{RunSoFar, Expansion, Kept, Ended, Ends, NeedsInput}

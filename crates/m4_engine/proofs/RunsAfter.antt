@@ -85,12 +85,14 @@ module _ (o m : List ℕ) (c calls calls' nesting nesting' : ℕ) (room : (k : �
   sources_follow [] p q h = h
   sources_follow (s ∷ ss) p q h = sources_follow ss (after_source first s p) (after_source second s q) (source_follows s p q h)
 
+  pub round_follows : (saved : List (List ℕ)) (q : Progress) → Prefixed (read_saved first saved (Bp q)) (read_saved second saved q)
+  round_follows saved q = after_after _ _ q.any_missing (input_after (record q.so_far { saved = [] }) (wrapped_pending (joined_back saved)))
+
   next_after : (go go' : Progress → Progress) → ((p q : Progress) → Prefixed p q → Prefixed (go p) (go' q)) → (v : Option EndReason) (saved : List (List ℕ)) (q : Progress) → Prefixed (next_round go first v saved (Bp q)) (next_round go' second v saved q)
   next_after go go' h (Some x) saved q = inr refl
   next_after go go' h None [] q = inr refl
   next_after go go' h None (x ∷ xs) q =
-      h (read_saved first (x ∷ xs) (Bp q)) (read_saved second (x ∷ xs) q)
-      (after_after _ _ q.any_missing (input_after (record q.so_far { saved = [] }) (wrapped_pending (joined_back (x ∷ xs)))))
+      h (read_saved first (x ∷ xs) (Bp q)) (read_saved second (x ∷ xs) q) (round_follows (x ∷ xs) q)
 
   pub rounds_after : (n : ℕ) (p q : Progress) → Prefixed p q → Prefixed (rounds n first p) (rounds n second q)
   rounds_after n p q (inl h) = inl (h.0, ap (λ (x : Progress). x.over) (over_rounds n first p h.0 h.1) ∙ h.1, h.2)

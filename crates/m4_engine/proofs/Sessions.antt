@@ -89,13 +89,17 @@ not_open : (b c : Bool) → (b ≡ true → c ≡ true) → c ≡ false → b �
 not_open true c h e = let f : c ≡ true = h refl in cc
 not_open false c h e = refl
 
+-- all of it is in hand
+pub closed_rest : (p q : Pending) (before after : Option Script) (x : List ℕ) → p.may_follow ≡ false → Reads before after p x q → (q.may_follow ≡ false) × (longer [] false q ≡ p)
+closed_rest p q before after x c r =
+    let still : q.may_follow ≡ false = not_open q.may_follow p.may_follow r.still c in
+    (still, closed_same q still ∙ r.in_hand ∙ ap (λ (b : Bool). longer x b p) still ∙ ap (λ (y : List ℕ). longer y false p) (r.closed c).0 ∙ closed_same p c)
+
 -- nothing follows it, and its reader is not asked
 closed_so : (old : Engine) (p : Pending) (before after : Option Script) (w : Contents) (P : Ended → Type 0) → p.may_follow ≡ false → ReadSo old p before after w P → (after ≡ before) × P (input_expansion old p)
 closed_so old p before after w P c r =
-    let still : (r.q).may_follow ≡ false = not_open (r.q).may_follow p.may_follow (r.reads).still c in
-    let same : longer [] false r.q ≡ p =
-    closed_same r.q still ∙ (r.reads).in_hand ∙ ap (λ (b : Bool). longer r.x b p) still ∙ ap (λ (x : List ℕ). longer x false p) ((r.reads).closed c).0 ∙ closed_same p c in
-    (((r.reads).closed c).1, subst (λ (q : Pending). P (input_expansion old q)) same (r.so [] false (subst (λ (b : Bool). MayFollow b [] false) (sym still) (refl, refl))))
+    let k = closed_rest p r.q before after r.x c r.reads in
+    (((r.reads).closed c).1, subst (λ (q : Pending). P (input_expansion old q)) k.1 (r.so [] false (subst (λ (b : Bool). MayFollow b [] false) (sym k.0) (refl, refl))))
 
 closed_fell : (old : Engine) (p : Pending) (before after : Option Script) (w : Contents) → p.may_follow ≡ false → Fell old p before after w → ⊥
 closed_fell old p before after w c f =
@@ -150,12 +154,12 @@ by_flag : (b : Bool) → (b ≡ true → ⊥) → b ≡ false
 by_flag true h = absurd (h refl)
 by_flag false h = refl
 
-may_end : (b : Bool) (z : List ℕ) → (b ≡ false → z ≡ []) → MayFollow b z false
+pub may_end : (b : Bool) (z : List ℕ) → (b ≡ false → z ≡ []) → MayFollow b z false
 may_end true z h = tt
 may_end false z h = (h refl, refl)
 
 -- the input of a file, and what may follow it
-taken_file : (name x : List ℕ) (before after : Option Script) (q : Pending) (z : List ℕ) (more : Bool) → Reads before after (unread_file name).pending x q → longer z more q ≡ file_pending name (x ++ z) more
+pub taken_file : (name x : List ℕ) (before after : Option Script) (q : Pending) (z : List ℕ) (more : Bool) → Reads before after (unread_file name).pending x q → longer z more q ≡ file_pending name (x ++ z) more
 taken_file name x before after q z more r = ap (longer z more) r.in_hand
 
 -- the same where more may follow

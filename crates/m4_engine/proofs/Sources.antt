@@ -28,7 +28,7 @@ use Rattle.std.proofs.lemmas.List.{append_cancel_right}
 use Rattle.m4_engine.proofs.Begins.{nothing_begun}
 
 -- the source is what was read, and what may follow it
-abbrev Suits : List ℕ → Option Script → Option Script → Source → Type 0
+abbrev pub Suits : List ℕ → Option Script → Option Script → Source → Type 0
 Suits name before after s = (x : List ℕ) (more : Bool) → before ≡ after_bytes x after → (more ≡ false → IsAtEnd after) → (z : List ℕ) × (more ≡ false → z ≡ []) × (s ≡ Opened name (x ++ z))
 
 -- a reader whose bytes are known and that ends
@@ -55,12 +55,12 @@ may_suit name (Some b) (Some e) (Opened n bytes) m x more g a =
     let t : k.taken ≡ x = append_cancel_right k.taken x e.bytes (sym k.given ∙ f) in
     (k.more, (λ h. k.ended (a h).0 (a h).1), ap (λ y. Opened y bytes) m.0 ∙ ap (Opened name) (k.begins ∙ ap (λ y. y ++ k.more) t))
 
-described_suit : {R : Type 0} (script : R → Option Script) (name : List ℕ) (r : R) (after : RunSource R) (s : Source) → DescribesSource script (sources.Opened name r) after s → Suits name (script r) (script_of script after) s
+pub described_suit : {R : Type 0} (script : R → Option Script) (name : List ℕ) (r : R) (after : RunSource R) (s : Source) → DescribesSource script (sources.Opened name r) after s → Suits name (script r) (script_of script after) s
 described_suit script name r after s (inl t) = all_given name (script r) (script_of script after) s t
 described_suit script name r after s (inr m) = may_suit name (script r) (script_of script after) s m
 
 -- what is so of all that may follow is so of the source
-so_of : (name : List ℕ) (before after : Option Script) (s : Source) (Q : List ℕ → Type 0) (P : Source → Type 0) → Suits name before after s → FileRead before after Q (λ bytes. P (Opened name bytes)) → P s
+pub so_of : (name : List ℕ) (before after : Option Script) (s : Source) (Q : List ℕ → Type 0) (P : Source → Type 0) → Suits name before after s → FileRead before after Q (λ bytes. P (Opened name bytes)) → P s
 so_of name before after s Q P t h =
     let k = t h.x h.may_follow h.given h.at_end in
     subst P (sym k.2) (h.so k.0 k.1)
@@ -197,7 +197,7 @@ unread_goes old new w p e i v o m =
     subst (λ (x : Stop). GoesTo p old new w (Err x)) (sym i)
     (record { over = v; output = silent_begun w.out_old w.out_new _ o; messages = silent_begun w.messages_old w.messages_new _ m })
 
-unopened_is : {R : Type 0} (script : R → Option Script) (name : List ℕ) (after : RunSource R) (s : Source) → DescribesSource script (sources.Unopened name) after s → Unopened name ≡ s
+pub unopened_is : {R : Type 0} (script : R → Option Script) (name : List ℕ) (after : RunSource R) (s : Source) → DescribesSource script (sources.Unopened name) after s → Unopened name ≡ s
 unopened_is script name after s (inl t) = let e : Unopened name ≡ s = cc in e
 unopened_is script name after s (inr m) = sym m
 
@@ -211,7 +211,7 @@ unopened_described script old new name first after w r s f l t o h =
     subst (λ (s : Source). GoesTo (after_source old.limits s (progress_of old)) old new w r) (unopened_is script name after s k) (missing_goes old new name w r l o h)
 
 -- nothing was taken
-none_taken : (b : Option Script) → b ≡ after_bytes [] b
+pub none_taken : (b : Option Script) → b ≡ after_bytes [] b
 none_taken None = refl
 none_taken (Some s) = refl
 

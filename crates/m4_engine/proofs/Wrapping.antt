@@ -2,6 +2,7 @@
 -- after them.
 use Rattle.std.proofs.Common.{◌≡◌, ◌⊎◌, inl, inr, ⊎_elim, ◌<◌, ℕ, suc, ◌-◌, Bool, true, false, List, [], ◌∷◌, ◌++◌}
 use Rattle.std.proofs.Common.{Option, Some, None, refl, sym, ap, ◌∙◌, subst, arith, append-nil}
+use Rattle.std.proofs.Common.{append_assoc}
 use Rattle.std.specs.Prelude.{Result, Ok, Err}
 use Rattle.m4_state.proofs.CallerLaws.{with_bytes-append, with_bytes-nil}
 use Rattle.m4_state.specs.State.{State, IsSized}
@@ -17,14 +18,17 @@ use Rattle.m4_engine.specs.Run.{closed_output, result_by, result_of}
 use Rattle.m4_engine.specs.Session.{SessionState, progress_of, how_over, written, IsOpen, Completed, BrokeOff, GoesTo}
 use Rattle.m4_engine.specs.Session.{WrapsGive, round_of, session_after_wraps, last_state, is_saved, Closed}
 use Rattle.m4_engine.specs.Session.{Unfinished, EndGives, FinishGives, FreezeBegan, FrozenGives, FreezeGives}
-use Rattle.m4_engine.specs.Wraps.{next_round, after_wraps, close}
+use Rattle.m4_engine.specs.Wraps.{next_round, read_saved, after_wraps, close}
+use Rattle.m4_engine.specs.Order.{IsTurnOfRound, InRounds, InSomeRound, Breaks, BreaksBy}
 use Rattle.m4_engine.specs.Writers.{Contents, Three, writers}
 use Rattle.m4_engine.proofs.Begins.{begun_after}
 use Rattle.m4_engine.proofs.Growth.{Extends}
 use Rattle.m4_engine.proofs.OnePass.{rounds_keep, over_wraps}
 use Rattle.m4_engine.proofs.Rounds.{round_saves, wraps_rules}
 use Rattle.m4_engine.proofs.Sessions.{after_is}
-use Rattle.m4_engine.proofs.GoingOn.{after, after_twice, written_after, wraps_after, Within, step_stops, all_made}
+use Rattle.m4_engine.proofs.GoingOn.{after, after_twice, written_after, round_after, wraps_after, Within, step_stops}
+use Rattle.m4_engine.proofs.GoingOn.{all_made}
+use Rattle.m4_engine.proofs.Ordering.{same_breaks, some_saved}
 
 -- ---- the rounds
 
@@ -36,9 +40,22 @@ pub record Rounding (s0 s : SessionState) (w : Contents) : Type 0 where
   pub messages : w.messages_new ≡ with_bytes w.messages_old m
   pub limits : s.limits ≡ s0.limits
   pub rest : session_after_wraps s0 ≡ after o m (session_after_wraps s)
+  pub steps : (a b : List ℕ) (before later : RunSoFar)
+      → InSomeRound s0.limits (after (a ++ o) (b ++ m) (progress_of s)) before later
+      → InSomeRound s0.limits (after a b (progress_of s0)) before later
 
 pub none_yet : (s : SessionState) (out reported : Option (List ℕ)) → Rounding s s (writers out out reported reported)
-none_yet s out reported = record { o = []; m = []; output = with_bytes-nil out; messages = with_bytes-nil reported; limits = refl; rest = refl }
+none_yet s out reported = record {
+  o = [];
+  m = [];
+  output = with_bytes-nil out;
+  messages = with_bytes-nil reported;
+  limits = refl;
+  rest = refl;
+  steps = λ a b before later h.
+      subst (λ (x : List ℕ). InSomeRound s.limits (after x b (progress_of s)) before later) (append-nil a)
+      (subst (λ (x : List ℕ). InSomeRound s.limits (after (a ++ []) x (progress_of s)) before later) (append-nil b) h);
+}
 
 -- the next round of a run that goes on and has saved texts
 by_saved : (go : Progress → Progress) (limits : Limits) (saved : List (List ℕ)) (s : SessionState) → s.limits ≡ limits → s.saved ≡ saved → is_saved saved ≡ true → next_round go s.limits None s.saved (progress_of s) ≡ go (round_of s)
@@ -77,11 +94,36 @@ one_round s0 s s' out0 out out' reported0 reported reported' b l e f =
       rest = b.rest
           ∙ ap (after b.o b.m) (went_round s s' (writers out out' reported reported') l e f)
           ∙ after_twice b.o b.m (q.so_far).output (q.so_far).messages (session_after_wraps s');
+      steps = λ x y before later h.
+          let o : List ℕ = x ++ b.o in
+          let m : List ℕ = y ++ b.m in
+          let there : after (x ++ (b.o ++ (q.so_far).output)) (y ++ (b.m ++ (q.so_far).messages)) (progress_of s') ≡ read_saved s0.limits s.saved (after o m (progress_of s)) =
+          ap (λ (n : List ℕ). after n (y ++ (b.m ++ (q.so_far).messages)) (progress_of s')) (sym (append_assoc x b.o (q.so_far).output))
+          ∙ ap (λ (n : List ℕ). after (o ++ (q.so_far).output) n (progress_of s')) (sym (append_assoc y b.m (q.so_far).messages))
+          ∙ sym (written_after o m q (progress_of s') f.progress)
+          ∙ sym (round_after o m s.limits s.saved (progress_of s))
+          ∙ ap (λ (n : Limits). read_saved n s.saved (after o m (progress_of s))) b.limits in
+          b.steps x y before later
+          (suc h.0, (ap how_over l.over, some_saved s.saved e, subst (λ (p : Progress). InRounds h.0 s0.limits p before later) there h.1));
     }
 
 pub none_is : (saved : List (List ℕ)) → is_saved saved ≡ false → saved ≡ []
 none_is [] e = refl
 none_is (x ∷ xs) e = cc
+
+-- a round broke off: its step is one of the rounds
+pub round_step : (s0 s : SessionState) (out0 out out' reported0 reported reported' : Option (List ℕ)) (e : Stop)
+    (q r : Result Unit Stop) → q ≡ Err e → r ≡ Err e → Rounding s0 s (writers out0 out reported0 reported)
+    → BreaksBy q (Breaks (IsTurnOfRound s.limits) (progress_of s) (writers out out' reported reported'))
+    → BreaksBy r (Breaks (InSomeRound s0.limits) (progress_of s0) (writers out0 out' reported0 reported'))
+round_step s0 s out0 out out' reported0 reported reported' e q r i j b h = same_breaks Unit Unit e q r _ _ i j all h
+  where
+    all : Breaks (IsTurnOfRound s.limits) (progress_of s) (writers out out' reported reported') → Breaks (InSomeRound s0.limits) (progress_of s0) (writers out0 out' reported0 reported')
+    all h = λ x y out1 reported1 f g.
+        let k = h (x ++ b.o) (y ++ b.m) out1 reported1
+        (b.output ∙ ap (λ (v : Option (List ℕ)). with_bytes v b.o) f ∙ with_bytes-append out1 x b.o)
+        (b.messages ∙ ap (λ (v : Option (List ℕ)). with_bytes v b.m) g ∙ with_bytes-append reported1 y b.m) in
+        (k.0, k.1, b.steps x y k.0 k.1 (0, subst (λ (l : Limits). IsTurnOfRound l (after (x ++ b.o) (y ++ b.m) (progress_of s)) k.0 k.1) b.limits k.2), k.3)
 
 -- no text is saved any more
 pub all_rounds : (s0 s : SessionState) (w : Contents) → IsOpen s0 → IsOpen s → Rounding s0 s w → is_saved s.saved ≡ false → WrapsGive (session_after_wraps s0) s0 s w (Ok tt)

@@ -21,13 +21,13 @@ pub mod Turns
 pub mod Passes
 pub mod MachineView
 pub mod Writers
-pub mod Order
 pub mod Expands
 pub mod Continued
 pub mod ReadsOn
 pub mod RunKept
 pub mod RunSources
 pub mod Session
+pub mod Order
 pub mod SessionFailures
 pub mod SessionView
 pub mod WholeRun

@@ -1,12 +1,12 @@
 -- Order: a message is written only after all output that the run made before it.
 -- Believed. Manual: "How m4 copies input to output", "Command line files", "Saving text until end of input".
--- Words: IsBetween, IsStepOf, InSources, IsTurnOfRound, InRounds, InEnd, IsStepOfRun, InOrder, InOrderBy, preceded,
--- Breaks, BreaksBy.
+-- Words: IsBetween, IsStepOf, InSources, IsTurnOfRound, InRounds, InSomeRound, InEnd, IsStepOfRun, InOrder, InOrderBy,
+-- preceded, Breaks, BreaksBy, FileBreaks.
 -- A run is made of steps: the turns of its expansions, and the messages on sources that can't be opened. Where a
 -- writer or an allocation fails, one step tells what was written: all output made before it was, and no message that
 -- was made after it.
-use Rattle.std.specs.Prelude.{◌≡◌, ◌≢◌, ◌⊎◌, ℕ, zero, suc, List, [], ◌∷◌, ◌++◌, Option, None, Result, Err}
-use Rattle.m4_state.specs.Device.{with_bytes, HasBegun}
+use Rattle.std.specs.Prelude.{◌≡◌, ◌≢◌, ◌⊎◌, ℕ, zero, suc, false, List, [], ◌∷◌, ◌++◌, Option, None, Result, Err}
+use Rattle.m4_state.specs.Device.{Script, with_bytes, HasBegun}
 use Rattle.m4_engine.specs.declared.ending.Cause.{Cause}
 use Rattle.m4_engine.specs.declared.ending.Cause.TheVariants as causes
 use Rattle.m4_engine.specs.declared.options.Options.{Options}
@@ -20,6 +20,7 @@ use Rattle.m4_engine.specs.File.{after_sources}
 use Rattle.m4_engine.specs.Wraps.{wrapped_pending, joined_back, read_saved, after_wraps}
 use Rattle.m4_engine.specs.Start.{Start, begun}
 use Rattle.m4_engine.specs.Run.{limits_of}
+use Rattle.m4_engine.specs.Session.{FileRead}
 use Rattle.m4_engine.specs.Writers.{Contents, writers, HasTaken}
 
 -- all output made before a step was written, and no messages but those made when it is over
@@ -54,10 +55,13 @@ InRounds zero limits p before later = IsTurnOfRound limits p before later
 InRounds (suc n) limits p before later =
     (p.over ≡ None) × ((p.so_far).saved ≢ []) × InRounds n limits (read_saved limits (p.so_far).saved p) before later
 
+abbrev pub InSomeRound : Limits → Progress → RunSoFar → RunSoFar → Type 0
+InSomeRound limits p before later = (n : ℕ) × InRounds n limits p before later
+
 -- a step of the end of a run: a turn of a round, or what comes after all rounds, where no message is made
 abbrev pub InEnd : Limits → Progress → RunSoFar → RunSoFar → Type 0
 InEnd limits p before later =
-    ((n : ℕ) × InRounds n limits p before later)
+    InSomeRound limits p before later
     ⊎ (((after_wraps limits p).over ≡ None) × (before ≡ (after_wraps limits p).so_far) × (later ≡ before))
 
 -- a step of a run that was at p before its sources
@@ -96,3 +100,8 @@ abbrev pub BreaksBy : {A : Type 0} → Result A Stop → Type 0 → Type 0
 BreaksBy (Err (stops.Ended causes.Write)) P = P
 BreaksBy (Err (stops.Ended causes.OutOfMemory)) P = P
 BreaksBy result P = Unit {0}
+
+-- the same of a file, of which the reader gave some bytes: whatever follows them
+abbrev pub FileBreaks : Limits → Progress → List ℕ → Option Script → Option Script → Contents → Type 0
+FileBreaks limits p name before after w =
+    FileRead before after (λ x. Unit {0}) (λ bytes. Breaks (IsStepOf limits (Opened name bytes)) p w)

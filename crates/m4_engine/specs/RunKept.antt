@@ -12,6 +12,7 @@ use Rattle.m4_engine.specs.Carries.{frozen_state}
 use Rattle.m4_engine.specs.Expansion.{Ends}
 use Rattle.m4_engine.specs.File.{Source}
 use Rattle.m4_engine.specs.OnePass.{OnePass}
+use Rattle.m4_engine.specs.Order.{InOrderBy}
 use Rattle.m4_engine.specs.Run.{run, status_of}
 use Rattle.m4_engine.specs.RunSources.{AllConsumeOnly, DescribeSources, DescribesFrozen, FrozenFailsBy, MissedBy}
 use Rattle.m4_engine.specs.RunSources.{ReadersFailBy, any_unopened}
@@ -57,6 +58,9 @@ pub record IsRun {R Z : Type 0} (script : R → Option Script) (failed : R → �
   pub taken : AllConsumeOnly script c.sources_old c.sources_new
   pub one_pass : (file : Option Script) → DescribesFrozen script c.file_old file
       → OnePass script c.sources_old c.sources_new c.options (start_of (c.options).prefix file) e.cause (c.contents).two
+  pub order : (file : Option Script) → DescribesFrozen script c.file_old file
+      → (ss : List Source) → DescribeSources script c.sources_old c.sources_new ss
+      → InOrderBy e.cause c.options (start_of (c.options).prefix file) ss (c.contents).two
   pub refused : (fault : FrozenFault) → e.cause ≡ causes.Frozen fault
       → NothingIsDone c.sources_old c.sources_new c.contents
   pub spared : (c.options).freeze ≡ false → c.freeze_new ≡ c.freeze_old

@@ -8,7 +8,6 @@ use Rattle.m4_engine.specs.declared.ending.Cause.TheVariants as causes
 use Rattle.m4_engine.specs.declared.source.Source.{Source as RunSource}
 use Rattle.m4_engine.specs.declared.stop.Stop.{Stop}
 use Rattle.m4_engine.specs.declared.stop.Stop.TheVariants as stops
-use Rattle.m4_engine.specs.Expansion.{Ended}
 use Rattle.m4_engine.specs.RunSources.{AllPairs, IsFaultBy, IsUnrefused, HasFailed, is_sound, AnyFailed}
 use Rattle.m4_engine.specs.Writers.{Failures, Three, NoneFailed, OneFailed, ByCause, IsSpared, NoneOfThree}
 use Rattle.m4_engine.specs.Writers.{OneOfThree, Spares}

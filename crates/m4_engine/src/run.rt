@@ -20,6 +20,7 @@ ghost use Rattle.m4_engine.specs.Session.{last_state, progress_of, status_at};
 ghost use Rattle.m4_engine.specs.SessionFailures.{BeginFails, WriteFails, ThreeFail, MessageWriteFails, SourceFails};
 ghost use Rattle.m4_engine.specs.SessionFailures.{SourcesFail, SparesBy};
 ghost use Rattle.m4_engine.specs.OnePass.{OnePass};
+ghost use Rattle.m4_engine.specs.Order.{IsStepOf, InSources, InEnd, IsStepOfRun, InOrderBy, Breaks, BreaksBy};
 ghost use Rattle.m4_engine.specs.SourcesRead.{SourceGives, SourcesGive, RunReached};
 ghost use Rattle.m4_engine.specs.RunKept.{IsRun};
 ghost use Rattle.m4_engine.specs.WholeRun.{RunGives, NothingIsDone, result_after, ending_by};
@@ -88,6 +89,12 @@ pub fn run<R: ByteSource, O: ByteSink, M: ByteSink, Z: ByteSink>(
     // these settle is written before further bytes are asked for
     ensures one_pass { (file : Option Script) → DescribesFrozen R.script frozen.old file
         → OnePass R.script sources.old sources.new options (start_of options.prefix file) result.cause
+        (both O.contents M.contents out.old out.new messages.old messages.new) }
+    // faults leave beginnings: where a writer or an allocation breaks the run off, a message was written only if all
+    // output was that the run had made before it
+    ensures order { (file : Option Script) → DescribesFrozen R.script frozen.old file
+        → (ss : List Said) → DescribeSources R.script sources.old sources.new ss →
+        InOrderBy result.cause options (start_of options.prefix file) ss
         (both O.contents M.contents out.old out.new messages.old messages.new) }
     // faults leave beginnings: if a frozen file is refused, no source is read and nothing is written
     ensures refused { (fault : FrozenFault) → result.cause ≡ Cause.Frozen fault
@@ -228,6 +235,9 @@ fn read_to_end<R: ByteSource, O: ByteSink, M: ByteSink, Z: ByteSink>(
     ensures sized { (ss : List Said) → DescribeSources R.script sources.old sources.new ss → OnOk result (freezes ≡ true
         → IsSized ((after_wraps session.old.limits (after_sources session.old.limits ss
         (progress_of session.old))).so_far).state) }
+    ensures order { (ss : List Said) → DescribeSources R.script sources.old sources.new ss →
+        BreaksBy result (Breaks (IsStepOfRun session.old.limits ss) (progress_of session.old)
+        (both O.contents M.contents out.old out.new messages.old messages.new)) }
     ensures torn { Z.takes_whole ≡ true → (ss : List Said) → DescribeSources R.script sources.old sources.new ss
         → result ≡ Err (Stop.Ended Cause.Write)
         → FreezeLeaves ((after_wraps session.old.limits (after_sources session.old.limits ss
@@ -267,6 +277,8 @@ fn close<O: ByteSink, M: ByteSink, Z: ByteSink>(
         out.old out.new messages.old messages.new freeze_to.old freeze_to.new)
         (all_three O.contents M.contents Z.contents
         out.old out.new messages.old messages.new freeze_to.old freeze_to.new) }
+    ensures order { BreaksBy result (Breaks (InEnd session.old.limits) (progress_of session.old)
+        (both O.contents M.contents out.old out.new messages.old messages.new)) }
     ensures torn { Z.takes_whole ≡ true → result ≡ Err (Stop.Ended Cause.Write)
         → FreezeLeaves (last_state session.old) (Z.contents freeze_to.old) (Z.contents freeze_to.new) }
     ensures spared { freezes ≡ false → freeze_to.new ≡ freeze_to.old }
@@ -293,6 +305,9 @@ fn read<R: ByteSource, O: ByteSink, M: ByteSink>(
         GoesTo (after_source session.old.limits s (progress_of session.old)) session.old session.new
         (both O.contents M.contents out.old out.new messages.old messages.new)
         result }
+    ensures order { (s : Said) → DescribesSource R.script source.old source.new s →
+        BreaksBy result (Breaks (IsStepOf session.old.limits s) (progress_of session.old)
+        (both O.contents M.contents out.old out.new messages.old messages.new)) }
     ensures any_missing { OnOk result (session.new.any_missing ≡ (is_unopened source.old || session.old.any_missing)) }
     ensures exited { (code : ℕ) → result ≡ Err (Stop.Ended (Cause.Exited code))
         → (is_unopened source.old ≡ false) × (session.new.any_missing ≡ session.old.any_missing) }
@@ -328,6 +343,9 @@ fn read_sources<R: ByteSource, O: ByteSink, M: ByteSink>(
         GoesTo (after_sources session.old.limits ss (progress_of session.old)) session.old session.new
         (both O.contents M.contents out.old out.new messages.old messages.new)
         result }
+    ensures order { (ss : List Said) → DescribeSources R.script sources.old sources.new ss →
+        BreaksBy result (Breaks (InSources session.old.limits ss) (progress_of session.old)
+        (both O.contents M.contents out.old out.new messages.old messages.new)) }
     ensures unfinished { OnOk result (IsOpen session.new) }
     ensures any_missing { OnOk result (session.new.any_missing
         ≡ (any_unopened sources.old || session.old.any_missing)) }

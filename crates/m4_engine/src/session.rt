@@ -6,7 +6,8 @@ ghost use Rattle.m4_engine.specs.Writers.{all_three, both};
 ghost use Rattle.m4_engine.specs.Session.{SessionState, IsOpen, answer_by, over_after, session_from, fresh_session};
 ghost use Rattle.m4_engine.specs.Session.{ReloadGives, FileGives, MissingGives, FinishGives, FreezeGives};
 ghost use Rattle.m4_engine.specs.Session.{FreezeLeaves, last_state, WrapsGive, session_after_wraps, round_of};
-ghost use Rattle.m4_engine.specs.Session.{is_saved, status_at};
+ghost use Rattle.m4_engine.specs.Session.{is_saved, status_at, progress_of};
+ghost use Rattle.m4_engine.specs.Order.{IsTurnOfRound, InSomeRound, InEnd, Breaks, BreaksBy, FileBreaks};
 ghost use Rattle.m4_engine.specs.SessionFailures.{ReadFails, ReloadFails, WriteFails, ThreeFail, MessageWriteFails};
 
 use crate::ending::Cause;
@@ -149,6 +150,10 @@ impl Session {
         ensures gives { FileGives name (R.script reader.old) (R.script reader.new) self.old self.new
             (both O.contents M.contents out.old out.new messages.old messages.new)
             result }
+        // session steps: where it is broken off, no message was written before output that was made before it
+        ensures order { BreaksBy result (FileBreaks self.old.limits (progress_of self.old) name
+            (R.script reader.old) (R.script reader.new)
+            (both O.contents M.contents out.old out.new messages.old messages.new)) }
         // safe and total: a read fault is returned if the reader failed in this call, and only then
         ensures read { ReadFails result (R.failures reader.old) (R.failures reader.new) }
         // safe and total: a write fault is returned only if a writer failed in this call
@@ -214,6 +219,9 @@ impl Session {
         ensures goes { WrapsGive (round_of self.old) self.old self.new
             (both O.contents M.contents out.old out.new messages.old messages.new)
             result }
+        ensures order { is_saved self.old.saved ≡ true
+            → BreaksBy result (Breaks (IsTurnOfRound self.old.limits) (progress_of self.old)
+            (both O.contents M.contents out.old out.new messages.old messages.new)) }
         ensures write { WriteFails result (both O.failures M.failures out.old out.new messages.old messages.new) }
         ensures any_missing { self.new.any_missing ≡ self.old.any_missing }
     {
@@ -239,6 +247,8 @@ impl Session {
         ensures goes { WrapsGive (session_after_wraps self.old) self.old self.new
             (both O.contents M.contents out.old out.new messages.old messages.new)
             result }
+        ensures order { BreaksBy result (Breaks (InSomeRound self.old.limits) (progress_of self.old)
+            (both O.contents M.contents out.old out.new messages.old messages.new)) }
         ensures none_saved { OnOk result (self.new.saved ≡ []) }
         ensures write { WriteFails result (both O.failures M.failures out.old out.new messages.old messages.new) }
         ensures any_missing { self.new.any_missing ≡ self.old.any_missing }
@@ -261,6 +271,9 @@ impl Session {
         ensures gives { FinishGives self.old self.new
             (both O.contents M.contents out.old out.new messages.old messages.new)
             result }
+        // session steps: where it is broken off, no message was written before output that was made before it
+        ensures order { BreaksBy result (Breaks (InEnd self.old.limits) (progress_of self.old)
+            (both O.contents M.contents out.old out.new messages.old messages.new)) }
         // safe and total: a write fault is returned only if a writer failed in this call
         ensures write { WriteFails result (both O.failures M.failures out.old out.new messages.old messages.new) }
         ensures any_missing { self.new.any_missing ≡ self.old.any_missing }
@@ -291,6 +304,9 @@ impl Session {
             (all_three O.contents M.contents Z.contents
             out.old out.new messages.old messages.new freeze_to.old freeze_to.new)
             result }
+        // session steps: where it is broken off, no message was written before output that was made before it
+        ensures order { BreaksBy result (Breaks (InEnd self.old.limits) (progress_of self.old)
+            (both O.contents M.contents out.old out.new messages.old messages.new)) }
         // torn files: if each put is taken whole, a write fault leaves nothing of the frozen text, or a torn beginning
         ensures torn { Z.takes_whole ≡ true → result ≡ Err (Stop.Ended Cause.Write)
             → FreezeLeaves (last_state self.old) (Z.contents freeze_to.old) (Z.contents freeze_to.new) }

@@ -1,8 +1,10 @@
 use Rattle.std.proofs.Common.{rules, refl}
+use Rattle.std.specs.Prelude.{Err}
 use Rattle.m4_engine.proofs.Readers.{source_fails}
 use Rattle.m4_engine.proofs.Sources.{opened_described, unopened_described, unread_goes}
 use Rattle.m4_engine.proofs.Reached.{file_so, missing_so, unread_so}
 use Rattle.m4_engine.proofs.Missed.{missing_exits, opened_exits}
+use Rattle.m4_engine.proofs.Ordering.{opened_told, unopened_told, unread_told}
 use Rattle.m4_engine.proofs.run.read.Goals as goal
 
 pub returns-in_default-clause-goes : goal.returns-in_default-clause-goes
@@ -34,3 +36,12 @@ returns-in-Ok-clause-exited g c = λ code e. opened_exits c.args.source.now c.in
 
 pub returns-in-Unopened-clause-exited : goal.returns-in-Unopened-clause-exited
 returns-in-Unopened-clause-exited g c = λ code e. missing_exits c.as_slice.result.now c.args.session.now c.missing.new.self _ _ c.missing.result code c.missing.ensures.gives e
+
+pub returns-in_default-clause-order : goal.returns-in_default-clause-order
+returns-in_default-clause-order g c = λ s e. unread_told g.R.ByteSource.script c.args.session.now c.in-Opened.name c.in-Opened.reader _ _ (Err c.end.result) s (search rules) c.requires e refl refl
+
+pub returns-in-Ok-clause-order : goal.returns-in-Ok-clause-order
+returns-in-Ok-clause-order g c = λ s e. opened_told g.R.ByteSource.script c.args.session.now c.in-Ok.name c.in-Opened.reader c.file.new.reader _ _ _ c.file.result s (search rules) (search rules) e c.file.ensures.order
+
+pub returns-in-Unopened-clause-order : goal.returns-in-Unopened-clause-order
+returns-in-Unopened-clause-order g c = λ s e. unopened_told g.R.ByteSource.script c.args.session.now c.missing.new.self c.as_slice.result.now _ _ _ c.missing.result s (search rules) c.requires e refl c.missing.ensures.gives

@@ -4,6 +4,7 @@ use Rattle.m4_engine.proofs.Reading.{none_read, one_read, all_read, stopped_so, 
 use Rattle.m4_engine.proofs.Readers.{none_taken_yet, all_sound, pair_item, sources_fail, missed_on, missed_last}
 use Rattle.m4_engine.proofs.Reached.{none_yet, one_more_read, stops_so, all_read_so}
 use Rattle.m4_engine.proofs.Missed.{begun_on, exited_there, same_stop}
+use Rattle.m4_engine.proofs.Reading.{step_so}
 use Rattle.m4_engine.proofs.run.read_sources.Goals as goal
 
 pub sources-init : goal.sources-init
@@ -75,3 +76,10 @@ pub returns-in_err-read-clause-exited : goal.returns-in_err-read-clause-exited
 returns-in_err-read-clause-exited g c = λ code e n.
     exited_there c.sources.source-index c.sources.sources c.args.sources.now c.source-item.result c.read.new.source c.sources.session.any_missing c.read.new.session.any_missing _ c.sources.invariant.1 (search rules) c.sources.invariant.8
     (c.read.ensures.exited code (same_stop c.in_err-read.field-0.0 _ c.read.result c.from_residual.result (search rules) (search rules) e)) n
+
+pub returns-in_err-read-clause-order : goal.returns-in_err-read-clause-order
+returns-in_err-read-clause-order g c = λ ss e.
+    let t = item g.R.ByteSource.script c.sources.source-index c.sources.sources c.args.sources.now c.source-item.result c.read.new.source ss c.sources.invariant.1 (search rules) (first_for g.R.ByteSource.script (c.sources.source-index + 1) c.args.sources.now _ ss e) in
+    step_so ss c.sources.source-index (c.sources.source-index + 1) c.args.session.now c.sources.session t.source _ _ _
+    _ _ _ c.in_err-read.field-0.0 c.read.result c.from_residual.result (search rules) (search rules)
+    (c.sources.invariant.4 ss t.first) t.there (c.read.ensures.order t.source t.describes)

@@ -1,4 +1,4 @@
-use Rattle.std.proofs.Common.{rules, refl, inl}
+use Rattle.std.proofs.Common.{rules, refl, inl, Bool}
 use Rattle.m4_engine.specs.File.{after_sources}
 use Rattle.m4_engine.specs.Session.{progress_of}
 use Rattle.m4_engine.proofs.Readers.{same_fails, close_sound}
@@ -7,6 +7,7 @@ use Rattle.m4_engine.proofs.Starts.{close_left}
 use Rattle.m4_engine.proofs.RunReached.{early_reached, late_reached, closed_reached}
 use Rattle.m4_engine.proofs.Tears.{torn_so}
 use Rattle.m4_engine.proofs.Missed.{exited_late, same_stop}
+use Rattle.m4_engine.proofs.Ordering.{same_breaks, sources_step, end_step}
 use Rattle.m4_engine.proofs.run.read_to_end.Goals as goal
 
 pub returns-in_err-read_sources-clause-gives : goal.returns-in_err-read_sources-clause-gives
@@ -82,3 +83,12 @@ returns-in_err-close-clause-exited g c = λ code e n.
 
 pub returns-clause-exited : goal.returns-clause-exited
 returns-clause-exited g c = λ code e n. absurd cc
+
+pub returns-in_err-read_sources-clause-order : goal.returns-in_err-read_sources-clause-order
+returns-in_err-read_sources-clause-order g c = λ ss s.
+    same_breaks Unit Bool c.in_err-read_sources.field-0.0 c.read_sources.result c.from_residual.result _ _ (search rules) (search rules) (sources_step c.args.session.now.limits ss _ _) (c.read_sources.ensures.order ss s)
+
+pub returns-in_err-close-clause-order : goal.returns-in_err-close-clause-order
+returns-in_err-close-clause-order g c = λ ss s.
+    same_breaks Unit Bool c.in_err-close.field-0.0 c.close.result c.from_residual-in_err-close.result _ _ (search rules) (search rules)
+    (end_step ss c.args.session.now c.read_sources.new.session _ _ _ _ _ _ (c.in_ok-read_sources.ensures.goes ss s)) c.close.ensures.order

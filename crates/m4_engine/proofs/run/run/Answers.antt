@@ -39,3 +39,6 @@ returns-clause-spared g c = c.run_keeping-ran.ensures.spared
 
 pub returns-clause-spared_by : goal.returns-clause-spared_by
 returns-clause-spared_by g c = c.run_keeping-ran.ensures.spared_by
+
+pub returns-clause-order : goal.returns-clause-order
+returns-clause-order g c = c.run_keeping-ran.ensures.order

@@ -8,6 +8,7 @@ use Rattle.m4_engine.proofs.Readers.{none_taken_yet, all_sound, run_fails}
 use Rattle.m4_engine.proofs.RunReached.{never_passed, passed}
 use Rattle.m4_engine.specs.Session.{FreezeLeaves}
 use Rattle.m4_engine.proofs.Tears.{ended_write}
+use Rattle.m4_engine.proofs.Ordering.{never_told, run_told}
 use Rattle.m4_engine.proofs.Missed.{begun_unmissed, left_exited, never_exited}
 use Rattle.m4_engine.proofs.run.run_keeping.Goals as goal
 
@@ -29,6 +30,7 @@ returns-in-Err g c = record {
       c.ending.ensures c.begin.ensures.begun refl c.begin.ensures.write;
   taken = none_taken_yet g.R.ByteSource.script c.args.sources.now;
   one_pass = λ file t. never_passed g.R.ByteSource.script c.args.sources.now c.args.options (start_of c.args.options.prefix file) _ c.begin.result c.in-Err.stop c.status.result c.ending.result (search rules) c.ending.ensures c.begin.ensures.begun;
+  order = λ file t ss s. never_told _ c.args.options (start_of c.args.options.prefix file) ss _ refl;
   refused = λ fault e. starts.never_done c.args.sources.now c.args.options c.begin.result c.in-Err.stop c.status.result c.ending.result fault _ _ _ _ (search rules) c.status.ensures c.ending.ensures c.begin.ensures.begun e (c.begin.ensures.refused fault);
   spared = search rules;
   spared_by = starts.spares_any c.ending.result.cause (three g.Z.ByteSink.contents (both g.O.ByteSink.contents g.M.ByteSink.contents c.args.out.now c.begin.new.out c.args.messages.now c.args.messages.now) c.args.freeze_to.now c.args.freeze_to.now) refl;
@@ -53,6 +55,7 @@ returns g c = record {
   frozen_read = starts.begun_frozen g.R.ByteSource.failures c.args.frozen.now c.begin.new.frozen c.in-Ok.session c.begin.result c.read_to_end-answer.new.session _ c.read_to_end-answer.result c.ending-2.result (search rules) c.ending-2.ensures c.read_to_end-answer.ensures.left c.begin.ensures.read;
   write = search rules;
   taken = search rules;
+  order = λ file t ss s. run_told c.args.options (start_of c.args.options.prefix file) ss c.in-Ok.session c.begin.result _ _ _ _ _ _ c.read_to_end-answer.result c.ending-2.result (search rules) (c.begin.ensures.begins file t) c.ending-2.ensures (c.read_to_end-answer.ensures.order ss s);
   one_pass = λ file t. passed g.R.ByteSource.script c.args.sources.now c.read_to_end-answer.new.sources c.args.options
       (start_of c.args.options.prefix file) c.in-Ok.session c.begin.result _ c.read_to_end-answer.result
       c.ending-2.result _ _ _ _ _ (search rules) c.ending-2.ensures (c.begin.ensures.begins file t)

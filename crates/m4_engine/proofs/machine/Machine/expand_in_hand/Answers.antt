@@ -5,7 +5,7 @@ use Rattle.m4_engine.proofs.Begins.{due_all}
 use Rattle.m4_engine.proofs.Running.{fell_past_line, ended, needed, needs_line_after, breaks, write_breaks}
 use Rattle.m4_engine.proofs.Running.{write_breaks_in_order, lack_breaks_in_order, in_order_end, needs_line_so}
 use Rattle.m4_engine.proofs.Running.{line_done_by, hand_ends}
-use Rattle.m4_engine.proofs.Passing.{passes_messages, passes_ready}
+use Rattle.m4_engine.proofs.Passing.{passes_ready}
 use Rattle.m4_engine.specs.Engine.{Engine}
 use Rattle.m4_engine.proofs.machine.Machine.expand_in_hand.Goals.{in-Token, in-Line}
 use Rattle.m4_engine.proofs.machine.Machine.expand_in_hand.Goals as goal

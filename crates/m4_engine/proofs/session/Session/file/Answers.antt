@@ -1,5 +1,6 @@
 use Rattle.std.proofs.Common.{rules, refl}
 use Rattle.m4_engine.proofs.Sessions.{file_gives, file_reads}
+use Rattle.m4_engine.proofs.Ordering.{file_told}
 use Rattle.m4_engine.proofs.session.Session.file.Goals as goal
 
 pub returns-clause-gives : goal.returns-clause-gives
@@ -13,3 +14,8 @@ returns-clause-read g c = file_reads c.expand-cause.result c.settle.result _ _ _
 
 pub returns-clause-write : goal.returns-clause-write
 returns-clause-write g c = search rules
+
+pub returns-clause-order : goal.returns-clause-order
+returns-clause-order g c = file_told c.args.self.now c.self.inside.machine c.self.inside.any_missing c.self.inside.over
+    c.self.inside.finished c.args.name c.file-input.result _ _ _ c.expand-cause.result c.settle.result (search rules)
+    (search rules) c.file-input.ensures c.expand-cause.ensures.order c.settle.ensures.answer

@@ -1,8 +1,10 @@
 use Rattle.std.proofs.Common.{rules, refl}
 use Rattle.std.specs.Prelude.{Ok, Err}
 use Rattle.m4_engine.specs.Session.{IsOpen}
+use Rattle.m4_engine.specs.Wraps.{close}
 use Rattle.m4_engine.proofs.Sessions.{finish_broke, issued_all}
 use Rattle.m4_engine.proofs.Wrapping.{finish_then, finish_stops, gone_on}
+use Rattle.m4_engine.proofs.Ordering.{any_breaks, same_breaks, rounds_end, end_breaks}
 use Rattle.m4_engine.proofs.session.Session.finish.Goals as goal
 
 -- the run ended in its saved texts
@@ -23,3 +25,9 @@ returns-clause-gives g c =
     let l : IsOpen mid = gone_on _ c.args.self.now mid _ c.in_ok-read_saved.ensures.goes.0 in
     finish_then c.args.self.now mid c.finish_here.new.self _ _ _ _ _ _ c.in_ok-read_saved.ensures.goes.0 c.in_ok-read_saved.ensures.none_saved c.read_saved.ensures.any_missing (Ok tt)
     (issued_all mid c.finish_here.new.self _ _ _ l c.in_ok-read_saved.ensures.none_saved (search rules) (search rules) (search rules) (search rules) (search rules) (search rules) (search rules))
+
+pub returns-in_err-read_saved-clause-order : goal.returns-in_err-read_saved-clause-order
+returns-in_err-read_saved-clause-order g c = same_breaks Unit Unit c.in_err-read_saved.field-0.0 c.read_saved.result c.from_residual.result _ _ (search rules) (search rules) (rounds_end c.args.self.now.limits _ _) c.read_saved.ensures.order
+
+pub returns-in-Err-clause-order : goal.returns-in-Err-clause-order
+returns-in-Err-clause-order g c = any_breaks {A = Unit} (Err c.end.result) _ (end_breaks c.args.self.now c.read_saved.new.self _ _ _ _ _ (close c.read_saved.new.self.state) c.in_ok-read_saved.ensures.goes.0 (search rules))

@@ -1,5 +1,6 @@
 use Rattle.std.proofs.Common.{rules, refl, ◌∙◌}
 use Rattle.m4_engine.proofs.Wrapping.{none_yet, one_round, all_rounds, round_stops, fewer_rounds}
+use Rattle.m4_engine.proofs.Wrapping.{round_step}
 use Rattle.m4_engine.proofs.session.Session.read_saved.Goals as goal
 
 pub rounds-init : goal.rounds-init
@@ -23,3 +24,6 @@ returns-in_err-read_round-clause-goes g c =
 
 pub returns-clause-goes : goal.returns-clause-goes
 returns-clause-goes g c = all_rounds c.args.self.now c.rounds.self _ c.requires c.rounds.invariant.live c.rounds.invariant.runs (search rules)
+
+pub returns-in_err-read_round-clause-order : goal.returns-in_err-read_round-clause-order
+returns-in_err-read_round-clause-order g c = round_step c.args.self.now c.rounds.self _ _ _ _ _ _ c.in_err-read_round.field-0.0 c.read_round.result c.from_residual.result (search rules) (search rules) c.rounds.invariant.runs (c.read_round.ensures.order (search rules))
