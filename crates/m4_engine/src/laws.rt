@@ -17,6 +17,7 @@ pub fn expand_rules()
 
 /// Whatever the turns of an expansion lead to comes to what the whole expansion comes to.
 pub fn moments_lead()
+    // in order: each moment of an expansion leads to its result
     ensures { MomentsLead }
 {}
 

@@ -90,8 +90,8 @@ pub fn run<R: ByteSource, O: ByteSink, M: ByteSink, Z: ByteSink>(
     ensures one_pass { (file : Option Script) → DescribesFrozen R.script frozen.old file
         → OnePass R.script sources.old sources.new options (start_of options.prefix file) result.cause
         (both O.contents M.contents out.old out.new messages.old messages.new) }
-    // faults leave beginnings: where a writer or an allocation breaks the run off, a message was written only if all
-    // output was that the run had made before it
+    // in order: where a writer or an allocation breaks the run off, a message was written only if all output was that
+    // the run had made before it
     ensures order { (file : Option Script) → DescribesFrozen R.script frozen.old file
         → (ss : List Said) → DescribeSources R.script sources.old sources.new ss →
         InOrderBy result.cause options (start_of options.prefix file) ss

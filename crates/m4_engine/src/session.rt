@@ -150,7 +150,7 @@ impl Session {
         ensures gives { FileGives name (R.script reader.old) (R.script reader.new) self.old self.new
             (both O.contents M.contents out.old out.new messages.old messages.new)
             result }
-        // session steps: where it is broken off, no message was written before output that was made before it
+        // in order: where it is broken off, a message was written only if all output was that was made before it
         ensures order { BreaksBy result (FileBreaks self.old.limits (progress_of self.old) name
             (R.script reader.old) (R.script reader.new)
             (both O.contents M.contents out.old out.new messages.old messages.new)) }
@@ -271,7 +271,7 @@ impl Session {
         ensures gives { FinishGives self.old self.new
             (both O.contents M.contents out.old out.new messages.old messages.new)
             result }
-        // session steps: where it is broken off, no message was written before output that was made before it
+        // in order: where it is broken off, a message was written only if all output was that was made before it
         ensures order { BreaksBy result (Breaks (InEnd self.old.limits) (progress_of self.old)
             (both O.contents M.contents out.old out.new messages.old messages.new)) }
         // safe and total: a write fault is returned only if a writer failed in this call
@@ -304,7 +304,7 @@ impl Session {
             (all_three O.contents M.contents Z.contents
             out.old out.new messages.old messages.new freeze_to.old freeze_to.new)
             result }
-        // session steps: where it is broken off, no message was written before output that was made before it
+        // in order: where it is broken off, a message was written only if all output was that was made before it
         ensures order { BreaksBy result (Breaks (InEnd self.old.limits) (progress_of self.old)
             (both O.contents M.contents out.old out.new messages.old messages.new)) }
         // torn files: if each put is taken whole, a write fault leaves nothing of the frozen text, or a torn beginning
