@@ -17,6 +17,7 @@ pub mod RowsChain
 pub mod RowsArguments
 pub mod RowsDelimiters
 pub mod RowsEndings
+pub mod RowsMoments
 pub mod Shifts
 pub mod RunsAfter
 pub mod Split
