@@ -1,5 +1,5 @@
 -- RowsFrozen: worked runs that freeze and reload, and what beginnings settle, computed.
-use Rattle.std.proofs.Common.{Option, Some, None, ◌≡◌, ℕ, List, [], ◌∷◌, false, refl}
+use Rattle.std.proofs.Common.{Option, Some, None, ◌≡◌, ◌++◌, ℕ, List, [], ◌∷◌, false, refl}
 use Rattle.std.specs.Prelude.{codes}
 use Rattle.std.specs.Fmt.{digits}
 use Rattle.std.specs.Int.{int_wrap}
@@ -60,7 +60,10 @@ decided = refl
 
 -- the frozen text of a run that changes the delimiters
 delimiters_text : List ℕ
-delimiters_text = codes "# m4 frozen state\nV1\nQ1,1\n[]\nC0,0\n\nF8,8\n__file____file__\nT7,0\n__gnu__\nF8,8\n__line____line__\nT8,0\n__unix__\nF7,7\nbuiltinbuiltin\nF9,9\nchangecomchangecom\nF11,11\nchangequotechangequote\nF4,4\ndecrdecr\nF6,6\ndefinedefine\nF4,4\ndefndefn\nF6,6\ndivertdivert\nF6,6\ndivnumdivnum\nF3,3\ndnldnl\nF7,7\ndumpdefdumpdef\nF8,8\nerrprinterrprint\nF4,4\nevaleval\nF5,5\nifdefifdef\nF6,6\nifelseifelse\nF4,4\nincrincr\nF5,5\nindexindex\nF5,5\nindirindir\nF3,3\nlenlen\nF6,6\nm4exitm4exit\nF6,6\nm4wrapm4wrap\nF6,6\npopdefpopdef\nF7,7\npushdefpushdef\nF5,5\nshiftshift\nF6,6\nsubstrsubstr\nF8,8\ntranslittranslit\nF8,8\nundefineundefine\nF8,8\nundivertundivert\n# End of frozen state file\n"
+delimiters_text = codes "# m4 frozen state\nV1\nQ1,1\n[]\nC0,0\n\nF8,8\n__file____file__\nT7,0\n__gnu__\nF8,8\n__line____line__\nT8,0\n__unix__\nF7,7\nbuiltinbuiltin\nF9,9\nchangecomchangecom\nF11,11\nchangequotechangequote\nF4,4\ndecrdecr\nF6,6\n"
+    ++ codes "definedefine\nF4,4\ndefndefn\nF6,6\ndivertdivert\nF6,6\ndivnumdivnum\nF3,3\ndnldnl\nF7,7\ndumpdefdumpdef\nF8,8\nerrprinterrprint\nF4,4\nevaleval\nF5,5\nifdefifdef\nF6,6\nifelseifelse\nF4,4\nincrincr\nF5,5\nindexindex\nF5,5\n"
+    ++ codes "indirindir\nF3,3\nlenlen\nF6,6\nm4exitm4exit\nF6,6\nm4wrapm4wrap\nF6,6\npopdefpopdef\nF7,7\npushdefpushdef\nF5,5\nshiftshift\nF6,6\nsubstrsubstr\nF8,8\ntranslittranslit\nF8,8\nundefineundefine\nF8,8\nundivertundivert\n"
+    ++ codes "# End of frozen state file\n"
 
 delimiters_frozen : (over_a freezing (codes "changequote([,])changecom(,)dnl\n")).frozen ≡ Some delimiters_text
 unfolding digits delimiters_text
@@ -87,12 +90,14 @@ unfolding steps.file_at steps.version_at steps.directives_at steps.directive_at 
 newer_file = refl
 
 -- a builtin of another m4
-placeholder : run freezing (from (codes "V1\nF6,6\nregexpregexp\n")) (Opened (codes "b.m4") (codes "regexp(`a',`b')!\n") ∷ []) ≡ record (done (codes "!\n") (codes "m4:b.m4:1: Warning: builtin `regexp' requested by frozen file is not supported\n") 1) { frozen = Some (codes "# m4 frozen state\nV1\nF6,6\nregexpregexp\n# End of frozen state file\n") }
+placeholder : run freezing (from (codes "V1\nF6,6\nregexpregexp\n")) (Opened (codes "b.m4") (codes "regexp(`a',`b')!\n") ∷ [])
+    ≡ record (done (codes "!\n") (codes "m4:b.m4:1: Warning: builtin `regexp' requested by frozen file is not supported\n") 1) { frozen = Some (codes "# m4 frozen state\nV1\nF6,6\nregexpregexp\n# End of frozen state file\n") }
 unfolding digits steps.file_at steps.version_at steps.directives_at steps.directive_at steps.pair_at steps.diversion_at steps.length_at steps.string_at
 placeholder = refl
 
 -- without a list it is called too
-placeholder_alone : run freezing (from (codes "V1\nF6,6\nregexpregexp\n")) (Opened (codes "b.m4") (codes "regexp!\n") ∷ []) ≡ record (done (codes "!\n") (codes "m4:b.m4:1: Warning: builtin `regexp' requested by frozen file is not supported\n") 1) { frozen = Some (codes "# m4 frozen state\nV1\nF6,6\nregexpregexp\n# End of frozen state file\n") }
+placeholder_alone : run freezing (from (codes "V1\nF6,6\nregexpregexp\n")) (Opened (codes "b.m4") (codes "regexp!\n") ∷ [])
+    ≡ record (done (codes "!\n") (codes "m4:b.m4:1: Warning: builtin `regexp' requested by frozen file is not supported\n") 1) { frozen = Some (codes "# m4 frozen state\nV1\nF6,6\nregexpregexp\n# End of frozen state file\n") }
 unfolding digits steps.file_at steps.version_at steps.directives_at steps.directive_at steps.pair_at steps.diversion_at steps.length_at steps.string_at
 placeholder_alone = refl
 
@@ -123,7 +128,10 @@ discarded = refl
 
 -- the frozen text of a run that defines a greeting and puts nothing out
 greeting_text : List ℕ
-greeting_text = codes "# m4 frozen state\nV1\nF8,8\n__file____file__\nT7,0\n__gnu__\nF8,8\n__line____line__\nT8,0\n__unix__\nF7,7\nbuiltinbuiltin\nF9,9\nchangecomchangecom\nF11,11\nchangequotechangequote\nF4,4\ndecrdecr\nF6,6\ndefinedefine\nF4,4\ndefndefn\nF6,6\ndivertdivert\nF6,6\ndivnumdivnum\nF3,3\ndnldnl\nF7,7\ndumpdefdumpdef\nF8,8\nerrprinterrprint\nF4,4\nevaleval\nT2,9\nhiHello $1.\nF5,5\nifdefifdef\nF6,6\nifelseifelse\nF4,4\nincrincr\nF5,5\nindexindex\nF5,5\nindirindir\nF3,3\nlenlen\nF6,6\nm4exitm4exit\nF6,6\nm4wrapm4wrap\nF6,6\npopdefpopdef\nF7,7\npushdefpushdef\nF5,5\nshiftshift\nF6,6\nsubstrsubstr\nF8,8\ntranslittranslit\nF8,8\nundefineundefine\nF8,8\nundivertundivert\n# End of frozen state file\n"
+greeting_text = codes "# m4 frozen state\nV1\nF8,8\n__file____file__\nT7,0\n__gnu__\nF8,8\n__line____line__\nT8,0\n__unix__\nF7,7\nbuiltinbuiltin\nF9,9\nchangecomchangecom\nF11,11\nchangequotechangequote\nF4,4\ndecrdecr\nF6,6\ndefinedefine\nF4,4\n"
+    ++ codes "defndefn\nF6,6\ndivertdivert\nF6,6\ndivnumdivnum\nF3,3\ndnldnl\nF7,7\ndumpdefdumpdef\nF8,8\nerrprinterrprint\nF4,4\nevaleval\nT2,9\nhiHello $1.\nF5,5\nifdefifdef\nF6,6\nifelseifelse\nF4,4\nincrincr\nF5,5\nindexindex\nF5,5\n"
+    ++ codes "indirindir\nF3,3\nlenlen\nF6,6\nm4exitm4exit\nF6,6\nm4wrapm4wrap\nF6,6\npopdefpopdef\nF7,7\npushdefpushdef\nF5,5\nshiftshift\nF6,6\nsubstrsubstr\nF8,8\ntranslittranslit\nF8,8\nundefineundefine\nF8,8\nundivertundivert\n"
+    ++ codes "# End of frozen state file\n"
 
 greeting_frozen : over_a freezing (codes "define(`hi',`Hello $1.')dnl\n") ≡ record (done [] [] 2) { frozen = Some greeting_text }
 unfolding digits greeting_text

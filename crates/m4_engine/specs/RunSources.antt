@@ -1,6 +1,7 @@
 -- RunSources: the definitions' sources for those of a run, by the bytes that their readers deliver.
--- Believed. Manual: "Command line files". Words: source_of, ExtendsRead, ExtendsSource, DescribeSources, any_unopened,
--- MissedBefore, MissedBy, AllPairs, AnyFailed, is_sound, ReadersFailBy, AllConsumeOnly, DescribesFrozen, FrozenFailsBy.
+-- Believed. Manual: "Command line files". Words: whole, source_of, ExtendsRead, ExtendsSource, DescribeSources,
+-- any_unopened, MissedBefore, MissedBy, AllPairs, AnyFailed, is_sound, ReadersFailBy, AllConsumeOnly, DescribesFrozen,
+-- FrozenFailsBy.
 use Rattle.std.specs.Prelude.{◌≡◌, ℕ, Bool, true, false, List, [], ◌∷◌, ◌++◌, map, Option, Some, None, ◌⊎◌, ◌||◌}
 use Rattle.m4_state.specs.Device.{Script, after_bytes, one_more, IsAtFault}
 use Rattle.m4_frozen.specs.declared.fault.FrozenKind.TheVariants as kinds

@@ -2,7 +2,7 @@
 -- Believed. Manual: "Command line files", "Invoking m4".
 -- Words: SessionState, progress_of, written, session_from, fresh_session, IsOpen, ReloadGives, Completed, FileAsked,
 -- FileRead, FileEnded, FileFell, FileGives, MissingGives, EndGives, FinishGives, FreezeGives, FreezeLeaves, BeginGives,
--- IsBegun, ReadFails, ReloadFails, BeginFails, SparesBy, ByAnswer, WriteFails, ThreeFail, MessageWriteFails.
+-- IsBegun.
 -- A session is a run's progress without the bytes that were written; these went to the writers.
 use Rattle.std.specs.Prelude.{◌≡◌, ◌≢◌, ◌≤◌, length, IfSome, ℕ, Bool, true, false, List, [], ◌∷◌, ◌++◌, Option, Some}
 use Rattle.std.specs.Prelude.{None, Result, Ok, Err, ◌⊎◌}

@@ -293,7 +293,7 @@ impl OpenCall {
     }
 
     /// Marks the argument as begun: from now on white space belongs to it.
-    pub fn begin(&mut self)
+    pub fn mark_begun(&mut self)
         ensures { self.new ≡ record self.old { begun = true } }
     {
         self.parts.begun = true;

@@ -102,7 +102,7 @@ fn collect_byte(
     if call.has_begun() {
         return Ok(1);
     }
-    let spaces = spaces_len(text.split_at(1).1, delims);
+    let spaces = plain_spaces_len(text.split_at(1).1, delims);
     Ok(1 + spaces)
 }
 
@@ -131,7 +131,7 @@ fn is_plain_space(byte: u8, delims: &Delims<'_>) -> bool
 
 /// Counts the spaces at the start. Before an argument's first token they are dropped, so they are passed together.
 #[inline(always)]
-fn spaces_len(text: &[u8], delims: &Delims<'_>) -> usize
+fn plain_spaces_len(text: &[u8], delims: &Delims<'_>) -> usize
     ensures bytes { AreBlankBytes (pair_of delims.now.quotes) (pair_of delims.now.comments) (take result text.now) }
     ensures within { result ≤ length text.now }
 {

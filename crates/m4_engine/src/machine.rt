@@ -165,7 +165,7 @@ impl Machine {
     }
 
     /// Opens a list: its call becomes the innermost.
-    pub fn begin(&mut self, call: OpenCall) -> Result<(), AllocError>
+    pub fn open_list(&mut self, call: OpenCall) -> Result<(), AllocError>
         ensures { OnOk result (self.new ≡ with_open_call call self.old) }
     {
         if let Some(outer) = std::mem::replace(&mut self.innermost, Some(call)) {
@@ -175,7 +175,7 @@ impl Machine {
     }
 
     /// Closes the innermost list: removes its call and returns it.
-    pub fn close(&mut self) -> Option<OpenCall>
+    pub fn close_list(&mut self) -> Option<OpenCall>
         ensures some { IfSome result (λ c. self.old ≡ with_open_call c self.new) }
         ensures none { IfNone result ((self.old.open_calls ≡ []) × (self.new ≡ self.old)) }
     {

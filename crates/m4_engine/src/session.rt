@@ -165,7 +165,7 @@ impl Session {
         }
         let mut input = Input::file(self.machine.alloc(), name);
         let cause = self.machine.expand(&mut input, reader, out, messages);
-        self.machine.rest();
+        self.machine.come_to_rest();
         self.settle(cause)
     }
 
@@ -233,7 +233,7 @@ impl Session {
         };
         let mut none = MemSource::new(&[], 1, false);
         let ended = self.machine.expand(&mut input, &mut none, out, messages);
-        self.machine.rest();
+        self.machine.come_to_rest();
         self.settle(ended)
     }
 

@@ -2,7 +2,7 @@
 -- Believed: `known_words` is what the program passes to clap; how clap reads words is clap's own
 -- `matches_of` and `fault_of`, which proofs/Examples.antt computes for example lines.
 -- Manual: "Invoking m4", "Limits control", "Frozen state". Words: known_words, rows_by,
--- refusals_of, files_in, IsLimit, asks, HoldsFound, Says, AreInRange, HasNoFiles, ModeIsAlone, stands,
+-- refusals_of, files_in, IsLimit, asks, HoldsFound, Says, AreInRange, HasNoFiles, ModeIsAlone,
 -- has_options, has_files, mode_has_others, IsModeNotAlone, IsRefusal.
 -- own: a mode is given alone; `--help` has no short form; `--expansions`; each option is given once.
 use Rattle.std.specs.Prelude.{◌≡◌, ◌≤◌, ◌&&◌, ◌||◌, ℕ, Bool, List, [], Option, Some, None, IsSome, true, false, codes}

@@ -35,6 +35,7 @@ impl<'a> MemWorld<'a> {
         ensures files { ⟦<MemWorld<'a> as World>⟧.files result ≡ Some (given_files given.now) }
         ensures input { ⟦<MemWorld<'a> as World>⟧.input result ≡ Some (record { bytes = input.now; fails = false }) }
         ensures making { ⟦<MemWorld<'a> as World>⟧.making result ≡ false }
+        ensures makes { result.makes ≡ makes }
     {
         MemWorld {
             alloc,
@@ -54,6 +55,7 @@ impl<'a> MemWorld<'a> {
             ≡ Some (record { bytes = self.old.input.now; fails = true }) }
         ensures files { ⟦<MemWorld<'a> as World>⟧.files self.new ≡ ⟦<MemWorld<'a> as World>⟧.files self.old }
         ensures making { ⟦<MemWorld<'a> as World>⟧.making self.new ≡ ⟦<MemWorld<'a> as World>⟧.making self.old }
+        ensures makes { self.new.makes ≡ self.old.makes }
     {
         self.input_fails = true;
     }

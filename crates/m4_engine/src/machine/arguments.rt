@@ -62,7 +62,7 @@ impl Machine {
             (λ s. step (outer_of self.old.open_calls) (close_in self.old.open_calls s)) }
     {
         self.end_argument()?;
-        let Some(call) = self.close() else {
+        let Some(call) = self.close_list() else {
             return Ok(Turned::GoesOn);
         };
         self.call(call, input)

@@ -68,10 +68,10 @@ fn push_value(input: &mut Input, value: Option<Pushed>) -> Result<(), TurnFault>
     }
 }
 
-/// Pushes a text.
+/// Pushes the expansion of a call.
 #[inline(always)]
 #[tactic(auto, using(crate::proofs::Inputs::pushed))]
-fn push_text(input: &mut Input, text: Bytes) -> Result<(), TurnFault>
+fn push_expansion(input: &mut Input, text: Bytes) -> Result<(), TurnFault>
     requires { IsTaken input.old }
     ensures pushes { OnOk result (Pushes input.old.pending input.new.pending (Some (pushes.Text text))) }
     ensures stays { OnOk result (Stays input.old input.new) }
@@ -143,7 +143,7 @@ impl Machine {
             return self.call(call, input);
         }
         self.take_parenthesis(input);
-        self.begin(call)?;
+        self.open_list(call)?;
         Ok(Turned::GoesOn)
     }
 
@@ -270,7 +270,7 @@ impl Machine {
             (λ z more o m. called_within self.old.open_calls c
             (here_of o m self.old (longer z more input.old.pending)))) }
     {
-        push_text(input, text)?;
+        push_expansion(input, text)?;
         self.begin_argument();
         Ok(Turned::GoesOn)
     }
@@ -281,7 +281,7 @@ impl Machine {
         ensures { self.new ≡ with_made [] [] None self.old }
     {
         if let Some(around) = &mut self.innermost {
-            around.begin();
+            around.mark_begun();
             self.spare.lend(around);
         }
     }

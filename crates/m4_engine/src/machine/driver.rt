@@ -217,7 +217,7 @@ impl Machine {
     }
 
     /// Drops the open calls and the buffered bytes, before the next input.
-    pub fn rest(&mut self)
+    pub fn come_to_rest(&mut self)
         ensures { self.new ≡ at_rest self.old }
     {
         self.innermost = None;

@@ -13,7 +13,7 @@ returns-then-has_begun-clause-collected c = λ s m q k h. byte_taken s m c.args.
 
 pub returns-clause-collected : goal.returns-clause-collected
 returns-clause-collected c = λ s m q k h.
-    let n = c.spaces_len-spaces.result in
+    let n = c.plain_spaces_len-spaces.result in
     let y = c.split_at.result.1.now in
-    byte_and_blanks s m c.args.byte n c.args.call.now c.take_byte.new.self c.args.text.now y h (search rules) (search rules) (search rules) c.spaces_len-spaces.ensures.within
-    (subst (λ (d : Delimiters). AreBlankBytes s.quotes d (take n y)) k (subst (λ (d : Delimiters). AreBlankBytes d (pair_of c.args.delims.now.comments) (take n y)) q c.spaces_len-spaces.ensures.bytes))
+    byte_and_blanks s m c.args.byte n c.args.call.now c.take_byte.new.self c.args.text.now y h (search rules) (search rules) (search rules) c.plain_spaces_len-spaces.ensures.within
+    (subst (λ (d : Delimiters). AreBlankBytes s.quotes d (take n y)) k (subst (λ (d : Delimiters). AreBlankBytes d (pair_of c.args.delims.now.comments) (take n y)) q c.plain_spaces_len-spaces.ensures.bytes))

@@ -31,10 +31,10 @@ returns-then-not-listed c = record {
 
 pub returns : goal.returns
 returns c = record {
-  moves = λ before z more k o m. list_begins_so c.args.self.now c.count.new.self c.begin.new.self c.args.call
+  moves = λ before z more k o m. list_begins_so c.args.self.now c.count.new.self c.open_list.new.self c.args.call
       c.args.listed c.args.input.now.pending c.take_parenthesis.new.input.pending (before z more) z more o m
       (search rules) (search rules) c.count.ensures (search rules) c.take_parenthesis.ensures.taken
-      c.take_parenthesis.ensures.within c.in_ok-begin.ensures;
+      c.take_parenthesis.ensures.within c.in_ok-open_list.ensures;
   ready = search rules;
   limits = search rules;
   made = search rules;

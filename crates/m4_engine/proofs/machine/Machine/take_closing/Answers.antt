@@ -6,7 +6,7 @@ use Rattle.m4_engine.proofs.machine.Machine.take_closing.Goals as goal
 
 pub returns : goal.returns
 returns c = record {
-  moves = closing_result c.args.input.now.pending.may_follow c.args.self.now c.close.new.self c.call.new.self c.in-Some.call (λ z more. longer z more c.args.input.now.pending) c.call.new.input.pending c.call.result
+  moves = closing_result c.args.input.now.pending.may_follow c.args.self.now c.close_list.new.self c.call.new.self c.in-Some.call (λ z more. longer z more c.args.input.now.pending) c.call.new.input.pending c.call.result
       (sym c.in_ok-end_argument.ensures ∙ c.in-Some.ensures.some) c.call.ensures.moves;
   ready = search rules;
   limits = search rules;

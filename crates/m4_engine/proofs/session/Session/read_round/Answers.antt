@@ -6,9 +6,9 @@ use Rattle.m4_engine.proofs.session.Session.read_round.Goals as goal
 
 pub returns-clause-goes : goal.returns-clause-goes
 returns-clause-goes g c = round_gives c.args.self.now c.settle.new.self c.self.inside.machine c.take_saved.new.self
-    c.expand-ended.new.self c.rest.new.self c.self.inside.any_missing c.self.inside.over c.self.inside.finished
+    c.expand-ended.new.self c.come_to_rest.new.self c.self.inside.any_missing c.self.inside.over c.self.inside.finished
     c.in-Ok.text c.in-Ok-wrapped.input _ _ _ c.expand-ended.result c.settle.result (search rules) (search rules)
-    (search rules) (search rules) c.in-Ok-wrapped.ensures c.expand-ended.ensures.expands c.rest.ensures (search rules)
+    (search rules) (search rules) c.in-Ok-wrapped.ensures c.expand-ended.ensures.expands c.come_to_rest.ensures (search rules)
     c.settle.ensures.answer
 
 pub returns-in_default-clause-goes : goal.returns-in_default-clause-goes

@@ -1,7 +1,7 @@
 use Rattle.std.proofs.Common.{◌-◌, ◌≤◌, length, take}
 use Rattle.m4_input.specs.DelimsView.{pair_of}
 use Rattle.m4_engine.specs.Collected.{AreBlankBytes}
-use Rattle.m4_engine.proofs.collect.spaces_len.Given as goal
+use Rattle.m4_engine.proofs.collect.plain_spaces_len.Given as goal
 
 -- the bytes so far are dropped
 abbrev pub invariant-loop-k : goal.invariant-loop-k

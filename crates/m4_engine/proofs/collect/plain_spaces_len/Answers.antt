@@ -2,7 +2,7 @@ use Rattle.std.proofs.Common.{rules}
 use Rattle.std.proofs.lemmas.List.{take_more}
 use Rattle.m4_input.specs.DelimsView.{pair_of}
 use Rattle.m4_engine.proofs.ListRuns.{blank_bytes_more}
-use Rattle.m4_engine.proofs.collect.spaces_len.Goals as goal
+use Rattle.m4_engine.proofs.collect.plain_spaces_len.Goals as goal
 
 pub loop-k-preserved : goal.loop-k-preserved
 loop-k-preserved c = record {
