@@ -73,11 +73,13 @@ plain_run_on s false more n x z f h = closed_on (λ b (y : List ℕ). IsPlainRun
 
 text_fits : (s : State) (n : ℕ) (t x : List ℕ) → IsText s true n t x → n ≤ length x
 text_fits s n t x (inl g) = scan_fits s.quotes s.comments x (Str t) n g
-text_fits s n t x (inr g) = scan_fits s.quotes s.comments x (Name t) n g.0
+text_fits s n t x (inr (inl g)) = scan_fits s.quotes s.comments x (Name t) n g.0
+text_fits s n t x (inr (inr g)) = scan_fits s.quotes s.comments x (Comment t) n g
 
 text_on : (s : State) (more : Bool) (n : ℕ) (t x z : List ℕ) → IsText s true n t x → IsText s more n t (x ++ z)
 text_on s more n t x z (inl g) = inl (found_on s.quotes s.comments more x z (Str t) n g)
-text_on s more n t x z (inr g) = inr (found_on s.quotes s.comments more x z (Name t) n g.0, g.1)
+text_on s more n t x z (inr (inl g)) = inr (inl (found_on s.quotes s.comments more x z (Name t) n g.0, g.1))
+text_on s more n t x z (inr (inr g)) = inr (inr (found_on s.quotes s.comments more x z (Comment t) n g))
 
 token_fits : (s : State) (n : ℕ) (c d : Call) (x : List ℕ) → IsListToken s true n c d x → n ≤ length x
 token_fits s n c d x (inl g) = text_fits s n g.0 x g.1
@@ -140,6 +142,17 @@ list_front s p m n c d x h r =
     let a = after p x m h in
     subst (λ (y : List ℕ). IsListRun s p.may_follow n c d y) (sym a.all) (list_run_on s m p.may_follow n c d x a.rest a.follows r)
 
+-- a token that is found after the first bytes of the front
+pub found_after : (q c : Delimiters) (p : Pending) (m : Bool) (n : ℕ) (x : List ℕ) (t : Token) (l : ℕ) → IsInFront p x m → n ≤ length x → scan q c m (drop n x) ≡ Found t l → scan q c p.may_follow (drop n (text_of p)) ≡ Found t l
+found_after q c p m n x t l h k g =
+    let a = after p x m h in
+    let rest : drop n (text_of p) ≡ drop n x ++ a.rest = ap (drop n) a.all ∙ drop-append-le n x a.rest k in
+    subst (λ (y : List ℕ). scan q c p.may_follow y ≡ Found t l) (sym rest) (by m a.rest a.follows g)
+  where
+    by : (m : Bool) (z : List ℕ) → MayFollow m z p.may_follow → scan q c m (drop n x) ≡ Found t l → scan q c p.may_follow (drop n x ++ z) ≡ Found t l
+    by true z f g = found_on q c p.may_follow (drop n x) z t l g
+    by false z f g = closed_on (λ b (y : List ℕ). scan q c b y ≡ Found t l) (drop n x) z p.may_follow f g
+
 -- what was seen after n bytes is seen at the front once these were consumed
 ahead_there : (a : Lookahead) (s : State) (room : Bool) (p : Pending) (at : Place) → p.definition ≡ None → at ≡ place_in p → IsAhead a s room p.may_follow (text_of p) at → IsLookaheadOf a s room p
 ahead_there aheads.Unknown s room p at f e h = tt
@@ -163,6 +176,14 @@ front_falls p m n x h some k e =
     let all : length (text_of p) ≡ length x + length r.rest = ap length r.all ∙ length-append x r.rest in
     let none : length x - n ≡ 0 = sym (length-drop n x) ∙ ap length e in
     omega (arith, rest, all, none)
+
+-- so it is if some were
+pub front_less : (p : Pending) (m : Bool) (n : ℕ) (x : List ℕ) → IsInFront p x m → 0 < n → n ≤ length x → length (text_of (consumed n p)) < length (text_of p)
+front_less p m n x h some k =
+    let r = after p x m h in
+    let rest : length (text_of (consumed n p)) ≡ length (text_of p) - n = ap length (sym (drop_parts n p.pushed p.unread)) ∙ length-drop n (text_of p) in
+    let all : length (text_of p) ≡ length x + length r.rest = ap length r.all ∙ length-append x r.rest in
+    omega (arith, rest, all)
 
 pub take_in_front : (p : Pending) (m : Bool) (n : ℕ) (x : List ℕ) → IsInFront p x m → n ≤ length x → take n (text_of p) ≡ take n x
 take_in_front p m n x h k =

@@ -5,14 +5,16 @@ use Rattle.std.specs.Ordering.{int_cmp}
 use Rattle.std.specs.FinMap.{put}
 use Rattle.std.specs.FinMap.Entries.{by_order, find-put}
 use Rattle.m4_state.specs.State.{State, Diversion, appended, with_text, text_at, holds_text}
-use Rattle.std.proofs.Common.{◌≡◌, inl, inr, Bool, true, false, cond, ℕ, zero, suc, ℤ, pos, negsuc, Ordering, Less}
+use Rattle.std.proofs.Common.{◌≡◌, ◌⊎◌, inl, inr, Bool, true, false, cond, ℕ, zero, suc, ℤ, pos, negsuc, Ordering, Less}
 use Rattle.std.proofs.Common.{Equal, Greater, unwrap_or, ◌+◌, ◌-◌, ◌<◌, ◌≤◌, List, [], ◌∷◌, ◌++◌, Option, None, take}
 use Rattle.std.proofs.Common.{drop, length, refl, sym, ap, ◌∙◌, subst, arith, append-nil, append_assoc}
 use Rattle.std.proofs.Math.Seq.{take-add}
 use Rattle.m4_state.specs.declared.definition.Def.{Def}
+use Rattle.m4_input.specs.declared.front.Scan.TheVariants.{Found}
 use Rattle.m4_input.specs.declared.token.Token.TheVariants.{Name, Str, Comment, Byte}
+use Rattle.m4_input.specs.Token.{scan}
 use Rattle.m4_input.specs.Pending.{Pending, text_of, counted, consumed, newlines_in}
-use Rattle.m4_engine.specs.Plain.{IsPlain, total, ArePlain, IsPlainRun}
+use Rattle.m4_engine.specs.Plain.{IsPlain, total, ArePlain, IsPlainRun, IsTextOf}
 use Rattle.m4_engine.specs.Collected.{IsText, IsListToken, AreListTokens, bytes_in}
 use Rattle.m4_input.specs.Input.{Held, longer}
 use Rattle.m4_input.proofs.Consumed.{consumed_twice}
@@ -26,16 +28,18 @@ use Rattle.m4_engine.specs.Expand.{turn, join, take_front, take_name}
 use Rattle.m4_engine.specs.Engine.{Engine, put_in, here_of, outer_of, configuration, IsReady, allows_call}
 use Rattle.m4_engine.specs.Moments.{Moment, Next, moved, Comes}
 use Rattle.m4_engine.specs.Turns.{MayFollow, Moves}
-use Rattle.m4_engine.specs.Passes.{PassesPlain, PassesInner, PassesOnce, ArePasses, Passes, PassesText, PassesBy}
-use Rattle.m4_engine.specs.Passes.{PassesFront, IsLookahead}
+use Rattle.m4_engine.specs.Passes.{PassesPlain, PassesInner, PassesString, PassesOnce, ArePasses, Passes, PassesText}
+use Rattle.m4_engine.specs.Passes.{PassesBy, PassesFront, IsLookahead, PutsToken}
 use Rattle.m4_input.specs.Blocks.{IsInFront}
 use Rattle.m4_builtins.specs.declared.place.Place.{Place}
 use Rattle.m4_engine.specs.declared.lookahead.Lookahead.TheVariants as aheads
 use Rattle.m4_engine.specs.Lookahead.{IsLookaheadOf, placed_ahead, place_in}
-use Rattle.m4_engine.proofs.FrontRuns.{plain_front, list_front, take_in_front, ahead_front, front_falls}
+use Rattle.m4_engine.proofs.FrontRuns.{plain_front, list_front, found_after, take_in_front, ahead_front, front_falls}
+use Rattle.m4_engine.proofs.FrontRuns.{front_less}
 use Rattle.m4_engine.proofs.Longer.{found_longer}
 use Rattle.m4_engine.proofs.LoopKeeps.{turns_of, turn_falls}
 use Rattle.m4_engine.proofs.Moments.{on_from}
+use Rattle.m4_engine.proofs.PlainRuns.{plain_more}
 
 -- an engine outside of calls
 abbrev at_top : Engine → Engine
@@ -64,6 +68,14 @@ plain_moves e p n d h = λ z more c o m.
     ap (take_turn Expansion Kept Ended turn join []) (plain_turn e p n d h z more c o m)
     ∙ (rw (append_assoc o e.output (issued (e.state).current (take n (text_of p)))) refl)
 
+-- and so it puts the text of a string
+string_moves : (e : Engine) (p : Pending) (t : List ℕ) (n : ℕ) → p.definition ≡ None
+    → scan (e.state).quotes (e.state).comments p.may_follow (text_of p) ≡ Found (Str t) n
+    → Moves p.may_follow (with_output t (at_top e)) (consumed n p) turns.GoesOn (λ z more o m. moved (configuration o m (at_top e) (longer z more p)))
+string_moves e p t n d h = λ z more c o m.
+    ap (λ v. take_turn Expansion Kept Ended turn join [] (take_front v (here_of o m (at_top e) (longer z more p)))) (found_longer (e.state).quotes (e.state).comments p (Str t) n z more d h c)
+    ∙ (rw (append_assoc o e.output (issued (e.state).current t)) refl)
+
 pub consumed_none : (p : Pending) → p.definition ≡ None → consumed 0 p ≡ p
 consumed_none p d =
     let none : 0 - length p.pushed ≡ 0 = omega arith in
@@ -88,6 +100,19 @@ move_reaches e e1 e2 p p1 p2 k h r =
       comes = λ z more c o m.
           let rest = r.comes z more (subst (λ v. MayFollow v z more) (sym k) c) o m in
           (configuration o m e (longer z more p) ∷ rest.0, (refl, subst (λ (x : Next). Comes rest.0 x (Goes (configuration o m e2 (longer z more p2)))) (sym (h z more c o m)) rest.1));
+      turns = omega arith;
+    }
+
+-- and so on from there
+both_reach : (e e1 e2 : Engine) (p p1 p2 : Pending) → p1.may_follow ≡ p.may_follow → Reaches e p e1 p1 → Reaches e1 p1 e2 p2 → Reaches e p e2 p2
+both_reach e e1 e2 p p1 p2 f a b =
+    let x : turns_of e1 p1 ≤ turns_of e p = a.turns in
+    let y : turns_of e2 p2 ≤ turns_of e1 p1 = b.turns in
+    record {
+      comes = λ z more c o m.
+          let first = a.comes z more c o m in
+          let later = b.comes z more (subst (λ (v : Bool). MayFollow v z more) (sym f) c) o m in
+          (first.0 ++ later.0, on_from first.0 later.0 (Goes (configuration o m e (longer z more p))) (Goes (configuration o m e1 (longer z more p1))) (Goes (configuration o m e2 (longer z more p2))) first.1 later.1);
       turns = omega arith;
     }
 
@@ -191,6 +216,26 @@ plain_reaches e e1 i i1 h =
     subst (λ (d : Engine). Reaches e i.pending d i1.pending) (sym h.engine)
     (subst (λ (j : Held). Reaches e i.pending (with_output (take (total h.lens) (text_of i.pending)) e) j.pending) (sym h.input) x)
 
+-- plain tokens and then a string
+string_reaches : (e e1 : Engine) (i i1 : Held) → PassesString e e1 i i1 → Reaches e i.pending e1 i1.pending
+string_reaches e e1 i i1 h =
+    let p : Pending = i.pending in
+    let n : ℕ = total h.lens in
+    let x : List ℕ = take n (text_of p) in
+    let mid : Engine = with_output x (at_top e) in
+    let q : Pending = consumed n p in
+    let there : scan (mid.state).quotes (mid.state).comments q.may_follow (text_of q) ≡ Found (Str h.string) h.len =
+    subst (λ (y : List ℕ). scan (e.state).quotes (e.state).comments p.may_follow y ≡ Found (Str h.string) h.len) (drop_parts n p.pushed p.unread) h.found in
+    let last : Reaches mid q (with_output h.string mid) (consumed h.len q) =
+    move_reaches mid (with_output h.string mid) (with_output h.string mid) q (consumed h.len q) (consumed h.len q) refl (string_moves mid q h.string h.len refl there) (nothing_reaches (with_output h.string mid) (consumed h.len q)) in
+    let all : Reaches (at_top e) p (with_output h.string mid) (consumed (n + h.len) p) =
+    subst (λ (r : Pending). Reaches (at_top e) p (with_output h.string mid) r) (consumed_twice n h.len p)
+    (both_reach (at_top e) mid (with_output h.string mid) p q (consumed h.len q) refl (run_reaches h.lens e p h.first h.plain) last) in
+    let same : Reaches e p (with_output h.string (with_output x e)) (consumed (n + h.len) p) =
+    subst (λ (d : Engine). Reaches d p (with_output h.string (with_output x d)) (consumed (n + h.len) p)) (top_is e h.outside) all in
+    subst (λ (d : Engine). Reaches e p d i1.pending) (sym h.engine)
+    (subst (λ (j : Held). Reaches e p (with_output h.string (with_output x e)) j.pending) (sym h.input) same)
+
 -- the first bytes of a text that is in front of an input were passed
 pub passes_text : (old new : Engine) (i j : Held) (m : Bool) (n : ℕ) (x : List ℕ) → IsInFront i.pending x m → (i.pending).definition ≡ None → n ≤ length x → PassesText m n x old new → j ≡ record i { pending = consumed n i.pending } → PassesOnce old new i j
 passes_text old new i j m n x h f k (inl r) g =
@@ -203,8 +248,8 @@ passes_text old new i j m n x h f k (inl r) g =
       engine = r.2 ∙ ap (λ (y : List ℕ). put_in [] y old) (sym (take_in_front i.pending m n x h k)) ∙ ap (λ k. put_in [] (take k (text_of i.pending)) old) (sym run.2);
       input = g ∙ ap (λ k. let v : Held = record i { pending = consumed k i.pending } in v) (sym run.2);
     }))
-passes_text old new i j m n x h f k (inr r) g =
-    inr (inr (record {
+passes_text old new i j m n x h f k (inr (inl r)) g =
+    inr (inr (inl (record {
       innermost = r.0;
       after = r.1;
       around = r.2;
@@ -214,7 +259,24 @@ passes_text old new i j m n x h f k (inr r) g =
       first = f;
       engine = r.5;
       input = g;
-    }))
+    })))
+passes_text old new i j m n x h f k (inr (inr r)) g =
+    let le : r.0 ≤ length x = let sum : n ≡ r.0 + r.2 = r.5 in omega (arith, k, sum) in
+    let run = plain_front old.state i.pending m r.0 x h r.3 in
+    inr (inr (inr (record {
+      lens = run.0;
+      plain = run.1;
+      string = r.1;
+      len = r.2;
+      found = subst (λ (v : ℕ). scan (old.state).quotes (old.state).comments (i.pending).may_follow (drop v (text_of i.pending)) ≡ Found (Str r.1) r.2) (sym run.2)
+          (found_after (old.state).quotes (old.state).comments i.pending m r.0 x (Str r.1) r.2 h le r.4);
+      outside = r.6;
+      first = f;
+      engine = r.7
+          ∙ ap (λ (y : List ℕ). put_in [] r.1 (put_in [] y old)) (sym (take_in_front i.pending m r.0 x h le))
+          ∙ ap (λ v. put_in [] r.1 (put_in [] (take v (text_of i.pending)) old)) (sym run.2);
+      input = g ∙ ap (λ v. let w : Held = record i { pending = consumed v i.pending } in w) (r.5 ∙ ap (λ v. v + r.2) (sym run.2));
+    })))
 
 -- outside of diversions they were added to the output
 pub text_output : (old new : Engine) (m : Bool) (n : ℕ) (x : List ℕ) → IsPlainRun old.state m n x → old.open_calls ≡ [] → (old.state).current ≡ pos 0 → new ≡ record old { output = old.output ++ take n x } → PassesText m n x old new
@@ -233,6 +295,36 @@ diverted_put e x h =
 
 pub text_diverted : (old new : Engine) (m : Bool) (n : ℕ) (x : List ℕ) → IsPlainRun old.state m n x → old.open_calls ≡ [] → ((old.state).current ≡ pos 0 → ⊥) → new ≡ record old { state = appended old.state (take n x) } → PassesText m n x old new
 text_diverted old new m n x r o u e = inl (r, o, e ∙ sym (diverted_put old (take n x) u))
+
+-- the text of a token that calls nothing
+pub token_put : (m : Bool) (begin len n : ℕ) (x : List ℕ) (old new : Engine) → IsTextOf old.state m begin len n x → new ≡ put_in [] (take len (drop begin x)) old → PutsToken m n x old new
+token_put m begin len n x old new (inl f) e = inr (inl (take len (drop begin x), f, e))
+token_put m begin len n x old new (inr f) e =
+    inr (inr (f.2, e ∙ ap (λ (k : ℕ). put_in [] (take len (drop k x)) old) f.0 ∙ ap (λ (k : ℕ). put_in [] (take k x) old) f.1))
+
+-- and then one more token, if there is one
+pub text_and_token : (old mid new : Engine) (m : Bool) (k n : ℕ) (x : List ℕ) → IsPlainRun old.state m k x
+    → old.open_calls ≡ [] → mid ≡ put_in [] (take k x) old → PutsToken m n (drop k x) mid new → PassesText m (k + n) x old new
+text_and_token old mid new m k n x r o e (inl h) =
+    let none : k + n ≡ k = ap (λ (v : ℕ). k + v) h.0 ∙ (omega arith) in
+    subst (λ (v : ℕ). PassesText m v x old new) (sym none) (inl (r, o, h.1 ∙ e))
+text_and_token old mid new m k n x r o e (inr (inl h)) =
+    let found = subst (λ (d : Engine). scan (d.state).quotes (d.state).comments m (drop k x) ≡ Found (Str h.0) n) e h.1 in
+    inr (inr (k, h.0, n, r, found, refl, o, h.2 ∙ ap (put_in [] h.0) e))
+text_and_token old mid new m k n x r o e (inr (inr h)) =
+    let plain : IsPlain old.state m n (drop k x) = subst (λ (d : Engine). IsPlain d.state m n (drop k x)) e h.0 in
+    inl (
+      plain_more old.state m k n x r plain,
+      o,
+      h.1 ∙ ap (put_in [] (take n (drop k x))) e ∙ put_twice (take k x) (take n (drop k x)) old ∙ ap (λ (y : List ℕ). put_in [] y old) (sym (take-add k n x)),
+    )
+
+-- the output and the diversions are where text goes
+pub output_is : (e : Engine) (x y : List ℕ) → (e.state).current ≡ pos 0 → y ≡ e.output ++ x → record e { output = y } ≡ put_in [] x e
+output_is e x y u h = ap (λ (o : List ℕ). let d : Engine = record e { output = o } in d) h ∙ sym (output_put e x u)
+
+pub diversion_is : (e : Engine) (x : List ℕ) (s : State) → ((e.state).current ≡ pos 0 → ⊥) → s ≡ appended e.state x → record e { state = s } ≡ put_in [] x e
+diversion_is e x s u h = ap (λ (t : State). let d : Engine = record e { state = t } in d) h ∙ sym (diverted_put e x u)
 
 -- an engine within a list
 abbrev at_call : Call → List Call → Engine → Engine
@@ -256,9 +348,11 @@ list_turn c d cs e p n f (inl h) z more k o m =
         (reading (longer z more (consumed n p)) (here_of o m (at_call c cs e) (longer z more p))))
     text_turn (inl g) z more k o m =
         ap (λ v. take_front v (here_of o m (at_call c cs e) (longer z more p))) (found_longer (e.state).quotes (e.state).comments p (Str h.0) n z more f g k)
-    text_turn (inr g) z more k o m =
+    text_turn (inr (inl g)) z more k o m =
         ap (λ v. take_front v (here_of o m (at_call c cs e) (longer z more p))) (found_longer (e.state).quotes (e.state).comments p (Name h.0) n z more f g.0 k)
         ∙ ap (λ v. take_name v h.0 (longer z more (consumed n p)) (here_of o m (at_call c cs e) (longer z more p))) g.1
+    text_turn (inr (inr g)) z more k o m =
+        ap (λ v. take_front v (here_of o m (at_call c cs e) (longer z more p))) (found_longer (e.state).quotes (e.state).comments p (Comment h.0) n z more f g k)
 list_turn c d cs e p n f (inr h) z more k o m =
     ap (λ v. take_turn Expansion Kept Ended turn join (outer_of (c ∷ cs)) (take_front v (here_of o m (at_call c cs e) (longer z more p)))) (found_longer (e.state).quotes (e.state).comments p (Byte h.0) n z more f h.1 k)
     ∙ ap (λ v. take_turn Expansion Kept Ended turn join (outer_of (c ∷ cs)) v) (h.2 (reading (longer z more (consumed n p)) (here_of o m (at_call c cs e) (longer z more p))) refl)
@@ -288,40 +382,32 @@ once_reaches : (e e1 : Engine) (i i1 : Held) → PassesOnce e e1 i i1 → Reache
 once_reaches e e1 i i1 (inl h) =
     subst (λ (d : Engine). Reaches e i.pending d i1.pending) (sym h.0) (subst (λ (j : Held). Reaches e i.pending e j.pending) (sym h.1) (nothing_reaches e i.pending))
 once_reaches e e1 i i1 (inr (inl h)) = plain_reaches e e1 i i1 h
-once_reaches e e1 i i1 (inr (inr h)) = inner_reaches e e1 i i1 h
+once_reaches e e1 i i1 (inr (inr (inl h))) = inner_reaches e e1 i i1 h
+once_reaches e e1 i i1 (inr (inr (inr h))) = string_reaches e e1 i i1 h
 
 once_ready : (e e1 : Engine) (i i1 : Held) → IsReady i → PassesOnce e e1 i i1 → IsReady i1
 once_ready e e1 i i1 r (inl h) = subst IsReady (sym h.1) r
 once_ready e e1 i i1 r (inr (inl h)) = subst IsReady (sym h.input) (record { sound = r.sound; front = tt })
-once_ready e e1 i i1 r (inr (inr h)) = subst IsReady (sym h.input) (record { sound = r.sound; front = tt })
+once_ready e e1 i i1 r (inr (inr (inl h))) = subst IsReady (sym h.input) (record { sound = r.sound; front = tt })
+once_ready e e1 i i1 r (inr (inr (inr h))) = subst IsReady (sym h.input) (record { sound = r.sound; front = tt })
 
 once_follows : (e e1 : Engine) (i i1 : Held) → PassesOnce e e1 i i1 → (i1.pending).may_follow ≡ (i.pending).may_follow
 once_follows e e1 i i1 (inl h) = ap (λ (j : Held). (j.pending).may_follow) h.1
 once_follows e e1 i i1 (inr (inl h)) = ap (λ (j : Held). (j.pending).may_follow) h.input
-once_follows e e1 i i1 (inr (inr h)) = ap (λ (j : Held). (j.pending).may_follow) h.input
+once_follows e e1 i i1 (inr (inr (inl h))) = ap (λ (j : Held). (j.pending).may_follow) h.input
+once_follows e e1 i i1 (inr (inr (inr h))) = ap (λ (j : Held). (j.pending).may_follow) h.input
 
 once_limits : (e e1 : Engine) (i i1 : Held) → PassesOnce e e1 i i1 → e1.limits ≡ e.limits
 once_limits e e1 i i1 (inl h) = ap (λ (d : Engine). d.limits) h.0
 once_limits e e1 i i1 (inr (inl h)) = ap (λ (d : Engine). d.limits) h.engine
-once_limits e e1 i i1 (inr (inr h)) = ap (λ (d : Engine). d.limits) h.engine
+once_limits e e1 i i1 (inr (inr (inl h))) = ap (λ (d : Engine). d.limits) h.engine
+once_limits e e1 i i1 (inr (inr (inr h))) = ap (λ (d : Engine). d.limits) h.engine
 
 once_messages : (e e1 : Engine) (i i1 : Held) → PassesOnce e e1 i i1 → e1.messages ≡ e.messages
 once_messages e e1 i i1 (inl h) = ap (λ (d : Engine). d.messages) h.0
 once_messages e e1 i i1 (inr (inl h)) = ap (λ (d : Engine). d.messages) h.engine
-once_messages e e1 i i1 (inr (inr h)) = ap (λ (d : Engine). d.messages) h.engine
-
--- and so of several passes
-both_reach : (e e1 e2 : Engine) (p p1 p2 : Pending) → p1.may_follow ≡ p.may_follow → Reaches e p e1 p1 → Reaches e1 p1 e2 p2 → Reaches e p e2 p2
-both_reach e e1 e2 p p1 p2 f a b =
-    let x : turns_of e1 p1 ≤ turns_of e p = a.turns in
-    let y : turns_of e2 p2 ≤ turns_of e1 p1 = b.turns in
-    record {
-      comes = λ z more c o m.
-          let first = a.comes z more c o m in
-          let later = b.comes z more (subst (λ (v : Bool). MayFollow v z more) (sym f) c) o m in
-          (first.0 ++ later.0, on_from first.0 later.0 (Goes (configuration o m e (longer z more p))) (Goes (configuration o m e1 (longer z more p1))) (Goes (configuration o m e2 (longer z more p2))) first.1 later.1);
-      turns = omega arith;
-    }
+once_messages e e1 i i1 (inr (inr (inl h))) = ap (λ (d : Engine). d.messages) h.engine
+once_messages e e1 i i1 (inr (inr (inr h))) = ap (λ (d : Engine). d.messages) h.engine
 
 reach : (ss : List (Engine × Held)) (e e1 : Engine) (i i1 : Held) → ArePasses ss e e1 i i1 → Reaches e i.pending e1 i1.pending
 reach [] e e1 i i1 h =
@@ -393,10 +479,14 @@ front_passed a b old new i j n x others more h some f r g e =
       passes = passes_text old new i j more n x h f r.within r.passes g;
       ahead = subst (λ (c : Lookahead). IsLookahead c new j.pending) (sym same) (subst (λ (k : Held). IsLookahead (placed_ahead (place_in next) a) new k.pending) (sym g) there);
       some = λ k.
-          let q = r.passed (placed_passed (place_in next) a (sym same ∙ k)) in
-          subst (λ (v : Held). length (text_of v.pending) < length (text_of i.pending)) (sym g) (front_falls i.pending more n x h (some q.0) r.within q.1);
+          subst (λ (v : Held). length (text_of v.pending) < length (text_of i.pending)) (sym g)
+          (falls (r.passed (placed_passed (place_in next) a (sym same ∙ k))));
       first = λ k. ap (λ (v : Held). (v.pending).definition) g;
     }
+  where
+    falls : (0 < n) ⊎ ((others ≡ true) × (drop n x ≡ [])) → length (text_of (consumed n i.pending)) < length (text_of i.pending)
+    falls (inl q) = front_less i.pending more n x h q r.within
+    falls (inr q) = front_falls i.pending more n x h (some q.0) r.within q.1
 
 -- a further pass over a front
 pub passed_front : (a : Lookahead) (e e1 e2 s : Engine) (i i1 i2 t : Held) → Passes e e1 i i1 → IsReady i1 → PassesFront a e1 e2 i1 i2 → s ≡ e2 → t ≡ i2 → Passes e s i t × IsReady t

@@ -1,12 +1,15 @@
 -- PlainRuns: plain tokens in order.
-use Rattle.std.proofs.Common.{◌≡◌, inl, inr, Bool, ℕ, ◌+◌, List, [], ◌∷◌, ◌++◌, take, drop, sym, ap, ◌∙◌, subst, arith}
+use Rattle.std.proofs.Common.{◌≡◌, ◌<◌, inl, inr, Bool, ℕ, ◌+◌, List, [], ◌∷◌, ◌++◌, take, drop, sym, ap, ◌∙◌, subst, arith}
 use Rattle.std.proofs.lemmas.List.{drop-drop}
 use Rattle.m4_state.specs.State.{State}
-use Rattle.m4_input.specs.declared.token.Token.TheVariants.{Comment}
+use Rattle.m4_state.specs.declared.delimiters.Delimiters.{Delimiters}
+use Rattle.m4_input.specs.declared.token.Token.TheVariants.{Name, Str, Comment, Byte}
+use Rattle.m4_input.specs.declared.front.Scan.{Scan}
 use Rattle.m4_input.specs.declared.front.Scan.TheVariants.{Found}
 use Rattle.m4_input.specs.Token.{scan}
+use Rattle.m4_input.proofs.Consumed.{HasBytes, scan_bytes}
 use Rattle.m4_engine.specs.declared.front.First.TheVariants as firsts
-use Rattle.m4_engine.specs.Plain.{IsPlain, total, ArePlain, IsPlainRun, IsFirst}
+use Rattle.m4_engine.specs.Plain.{IsPlain, total, ArePlain, IsPlainRun, IsFirst, IsTextOf}
 
 -- a token more
 longer : (s : State) (o : Bool) (n : ℕ) (lens x : List ℕ) → ArePlain s o lens x → IsPlain s o n (drop (total lens) x) → ArePlain s o (lens ++ n ∷ []) x × (total (lens ++ n ∷ []) ≡ total lens + n)
@@ -21,9 +24,10 @@ plain_more s o k n x r p =
     let q = longer s o n r.0 x r.1 (subst (λ (m : ℕ). IsPlain s o n (drop m x)) (sym r.2) p) in
     (r.0 ++ n ∷ [], q.0, q.1 ∙ ap (λ (m : ℕ). m + n) r.2)
 
--- a name more
-pub plain_word : (s : State) (o : Bool) (k n : ℕ) (x y : List ℕ) → IsPlainRun s o k x → y ≡ drop k x → IsFirst s o y (firsts.Word n) → IsPlainRun s o (k + n) x
-plain_word s o k n x y r e h = plain_more s o k n x r (subst (IsPlain s o n) e (inl h))
+-- a name more, or a comment
+pub plain_text : (s : State) (o : Bool) (k n : ℕ) (x y : List ℕ) → IsPlainRun s o k x → y ≡ drop k x → IsFirst s o y (firsts.Text n) → IsPlainRun s o (k + n) x
+plain_text s o k n x y r e (inl h) = plain_more s o k n x r (subst (IsPlain s o n) e (inl h))
+plain_text s o k n x y r e (inr h) = plain_more s o k n x r (subst (IsPlain s o n) e (inr (inr h)))
 
 -- a byte more
 pub plain_byte : (s : State) (o : Bool) (k b : ℕ) (x y : List ℕ) → IsPlainRun s o k x → y ≡ drop k x → IsFirst s o y (firsts.Byte b) → IsPlainRun s o (k + 1) x
@@ -32,3 +36,24 @@ plain_byte s o k b x y r e h = plain_more s o k 1 x r (subst (IsPlain s o 1) e (
 -- a comment more
 pub plain_comment : (s : State) (o : Bool) (k n : ℕ) (x y : List ℕ) → IsPlainRun s o k x → y ≡ drop k x → scan s.quotes s.comments o y ≡ Found (Comment (take n y)) n → IsPlainRun s o (k + n) x
 plain_comment s o k n x y r e h = plain_more s o k n x r (subst (IsPlain s o n) e (inr (inr h)))
+
+-- a text that calls nothing is plain
+pub plain_is : (s : State) (o : Bool) (n : ℕ) (x : List ℕ) → IsFirst s o x (firsts.Text n) → IsPlain s o n x
+plain_is s o n x (inl h) = inl h
+plain_is s o n x (inr h) = inr (inr h)
+
+-- each token that is text has a byte
+found_some : (q c : Delimiters) (m : Bool) (x : List ℕ) (v : Scan) → scan q c m x ≡ v → HasBytes v
+found_some q c m x v e = subst HasBytes e (scan_bytes q c m x)
+
+pub text_some : (s : State) (m : Bool) (begin len n : ℕ) (x : List ℕ) → IsTextOf s m begin len n x → 0 < n
+unfolding HasBytes
+text_some s m begin len n x (inl e) = found_some s.quotes s.comments m x (Found (Str (take len (drop begin x))) n) e
+text_some s m begin len n x (inr (z, l, inl e)) = found_some s.quotes s.comments m x (Found (Name (take n x)) n) e.0
+text_some s m begin len n x (inr (z, l, inr (inl e))) = found_some s.quotes s.comments m x (Found (Byte e.0) n) e.1
+text_some s m begin len n x (inr (z, l, inr (inr e))) = found_some s.quotes s.comments m x (Found (Comment (take n x)) n) e
+
+-- a comment has a byte
+pub comment_some : (q c : Delimiters) (m : Bool) (x y : List ℕ) (n : ℕ) → scan q c m x ≡ Found (Comment y) n → 0 < n
+unfolding HasBytes
+comment_some q c m x y n e = found_some q c m x (Found (Comment y) n) e

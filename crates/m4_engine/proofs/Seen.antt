@@ -23,7 +23,7 @@ use Rattle.m4_engine.specs.declared.turned.Turned.{Turned}
 use Rattle.m4_engine.specs.declared.turned.TurnFault.{TurnFault}
 use Rattle.m4_engine.specs.Expansion.{Call, Limits, place_at, issued, reading, put_text}
 use Rattle.m4_engine.specs.Expand.{call, call_of, take_call, call_without_list, take_name}
-use Rattle.m4_engine.specs.Lookahead.{IsMeaning, IsAhead, IsLookaheadOf, placed_ahead}
+use Rattle.m4_engine.specs.Lookahead.{IsMeaning, IsAhead, KnowsNothing, IsLookaheadOf, placed_ahead}
 use Rattle.m4_engine.specs.Engine.{Engine, outer_of, here_of, allows_call, is_bare, configuration, put_in, with_text}
 use Rattle.m4_engine.specs.Engine.{with_one_call, with_made, is_deep_in}
 use Rattle.m4_engine.specs.Turns.{step, MayFollow, Extended, IsAt, Moves}
@@ -68,6 +68,14 @@ pub ahead_by : (a : Lookahead) (e e1 : Engine) (room m : Bool) (x y : List ℕ) 
 ahead_by a e e1 room m x y f r h i j t g k = λ at.
     subst (λ (v : Bool). IsAhead (placed_ahead at a) e1.state v m x at) (r ∙ leaves_same e e1 h i j)
     (subst (λ (z : List ℕ). IsAhead (placed_ahead at a) e1.state room m z at) t (k m at (subst (λ (z : List ℕ). IsFirst e1.state m z f) (sym t) g)))
+
+-- a lookahead that knows nothing is right
+pub nothing_ahead : (a : Lookahead) (s : State) (room m : Bool) (x : List ℕ) (at : Place) → KnowsNothing a → IsAhead (placed_ahead at a) s room m x at
+nothing_ahead aheads.Unknown s room m x at h = tt
+nothing_ahead aheads.Passed s room m x at h = tt
+nothing_ahead aheads.Open s room m x at h = tt
+nothing_ahead (aheads.Byte b) s room m x at h = absurd h
+nothing_ahead (aheads.Named n) s room m x at h = absurd h
 
 -- the token after k bytes is the first once these were consumed
 pub first_after : (s : State) (m : Bool) (f : First) (p q : Pending) (k : ℕ) (x : List ℕ) → m ≡ p.may_follow → x ≡ text_of p → q ≡ consumed k p → IsFirst s m (drop k x) f → IsFirst s q.may_follow (text_of q) f

@@ -5,7 +5,7 @@
 use Rattle.std.specs.Prelude.{◌≡◌, ℕ, ◌+◌, Bool, true, false, List, [], ◌∷◌, ◌++◌, drop, None, ◌⊎◌}
 use Rattle.m4_state.specs.declared.delimiters.Delimiters.{Delimiters}
 use Rattle.m4_state.specs.State.{State, top_of}
-use Rattle.m4_input.specs.declared.token.Token.TheVariants.{Name, Str, Byte}
+use Rattle.m4_input.specs.declared.token.Token.TheVariants.{Name, Str, Comment, Byte}
 use Rattle.m4_input.specs.declared.front.Scan.TheVariants.{Found}
 use Rattle.m4_input.specs.Token.{scan}
 use Rattle.m4_engine.specs.Nesting.{GoOn}
@@ -37,11 +37,12 @@ abbrev pub AreBlankBytes : Delimiters → Delimiters → List ℕ → Type 0
 AreBlankBytes q k [] = Unit {0}
 AreBlankBytes q k (b ∷ x) = IsBlankByte q k b × AreBlankBytes q k x
 
--- the first token, of n bytes, is a string or a name without a definition: the text t
+-- the first token, of n bytes, is a string, a comment, or a name without a definition: the text t
 abbrev pub IsText : State → Bool → ℕ → List ℕ → List ℕ → Type 0
 IsText s m n t x =
     (scan s.quotes s.comments m x ≡ Found (Str t) n)
-    ⊎ ((scan s.quotes s.comments m x ≡ Found (Name t) n) × (top_of s t ≡ None))
+    ⊎ (((scan s.quotes s.comments m x ≡ Found (Name t) n) × (top_of s t ≡ None))
+    ⊎ (scan s.quotes s.comments m x ≡ Found (Comment t) n))
 
 -- the first token, of n bytes, makes d of the open call c, and has no other effect
 abbrev pub IsListToken : State → Bool → ℕ → Call → Call → List ℕ → Type 0

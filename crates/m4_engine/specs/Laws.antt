@@ -1,7 +1,7 @@
 -- Laws: what holds of the definitions alone, for expansions and runs.
 -- Believed as statements; the functions of the module `laws` carry their proofs.
--- Words: ExpansionRules, ExpandRules, MomentsLead, WrapsRules, OneStart, SameDenotation, SettledBegins, SplitStates, Split, Chain,
--- IsDecided, IsOneRun, TwoRuns, LargerNesting, LargerCalls, RunEnds.
+-- Words: ExpansionRules, ExpandRules, MomentsLead, WrapsRules, OneStart, SameDenotation, SettledBegins, SplitStates,
+-- Split, Chain, IsDecided, IsOneRun, TwoRuns, LargerNesting, LargerCalls, RunEnds.
 use Rattle.std.specs.Prelude.{◌≡◌, ◌≢◌, ◌↔◌, ◌⊎◌, ℕ, ◌<◌, ◌≤◌, Bool, true, false, List, [], ◌∷◌, ◌++◌, Option, Some}
 use Rattle.m4_state.specs.Device.{Script, with_bytes}
 use Rattle.m4_state.specs.State.{IsSized}

@@ -1,6 +1,6 @@
 -- Lookahead: the next token, as far as it was recognised before a turn consumes it.
 -- Not believed: it connects the code with `Expand`; the turns' lemmas prove that they agree.
--- Words: IsMeaning, Fits, placed, placed_ahead, place_in, IsNamed, IsAhead, IsLookaheadOf.
+-- Words: IsMeaning, Fits, placed, placed_ahead, place_in, IsNamed, IsAhead, KnowsNothing, IsLookaheadOf.
 use Rattle.std.specs.Prelude.{◌≡◌, ◌&&◌, ◌<◌, ◌≤◌, not, Bool, true, ℕ, List, [], None, Some, length, take, drop}
 use Rattle.m4_state.specs.declared.builtin.Builtin.TheVariants.{Dnl}
 use Rattle.m4_state.specs.declared.definition.Def.TheVariants.{Text, Builtin}
@@ -66,6 +66,12 @@ IsAhead aheads.Passed s room m x at = Unit {0}
 IsAhead aheads.Open s room m x at = Unit {0}
 IsAhead (aheads.Byte b) s room m x at = (scan s.quotes s.comments m x ≡ Found (Byte b) 1) × (0 < length x)
 IsAhead (aheads.Named n) s room m x at = IsNamed n s room m x at
+
+-- nothing is known about the next token
+abbrev pub KnowsNothing : Lookahead → Type 0
+KnowsNothing (aheads.Byte b) = ⊥
+KnowsNothing (aheads.Named n) = ⊥
+KnowsNothing a = Unit {0}
 
 -- the lookahead is right for the next token
 abbrev pub IsLookaheadOf : Lookahead → State → Bool → Pending → Type 0

@@ -1,8 +1,11 @@
 -- Passes: tokens that call nothing, taken many at once, as the turns that they stand for.
 -- Not believed: it connects the engine's passes with its turns.
-use Rattle.std.specs.Prelude.{◌≡◌, None, ℕ, Bool, true, List, [], ◌∷◌, length, take, drop, ◌<◌, ◌≤◌, ◌⊎◌}
+use Rattle.std.specs.Prelude.{◌≡◌, None, ℕ, ◌+◌, Bool, true, List, [], ◌∷◌, length, take, drop, ◌<◌, ◌≤◌, ◌⊎◌}
 use Rattle.m4_input.specs.Pending.{Pending, text_of, consumed}
-use Rattle.m4_engine.specs.Plain.{total, ArePlain, IsPlainRun}
+use Rattle.m4_input.specs.declared.front.Scan.TheVariants.{Found}
+use Rattle.m4_input.specs.declared.token.Token.TheVariants.{Str}
+use Rattle.m4_input.specs.Token.{scan}
+use Rattle.m4_engine.specs.Plain.{IsPlain, total, ArePlain, IsPlainRun}
 use Rattle.m4_engine.specs.Collected.{IsListRun}
 use Rattle.m4_builtins.specs.declared.place.Place.{Place}
 use Rattle.m4_engine.specs.Expansion.{Call}
@@ -35,9 +38,23 @@ pub record PassesInner (old new : Engine) (i j : Held) : Type 0 where
   pub engine : new ≡ record old { open_calls = after ∷ around }
   pub input : j ≡ record i { pending = consumed len i.pending }
 
+-- the same, and then a string, whose text was added there without its quotes
+pub record PassesString (old new : Engine) (i j : Held) : Type 0 where
+  pub lens : List ℕ
+  pub plain : ArePlain old.state (i.pending).may_follow lens (text_of i.pending)
+  pub string : List ℕ
+  pub len : ℕ
+  pub found : scan (old.state).quotes (old.state).comments (i.pending).may_follow
+      (drop (total lens) (text_of i.pending)) ≡ Found (Str string) len
+  pub outside : old.open_calls ≡ []
+  pub first : (i.pending).definition ≡ None
+  pub engine : new ≡ put_in [] string (put_in [] (take (total lens) (text_of i.pending)) old)
+  pub input : j ≡ record i { pending = consumed (total lens + len) i.pending }
+
 -- such tokens were added where they go, or nothing was done
 abbrev pub PassesOnce : Engine → Engine → Held → Held → Type 0
-PassesOnce old new i j = ((new ≡ old) × (j ≡ i)) ⊎ (PassesPlain old new i j ⊎ PassesInner old new i j)
+PassesOnce old new i j =
+    ((new ≡ old) × (j ≡ i)) ⊎ (PassesPlain old new i j ⊎ (PassesInner old new i j ⊎ PassesString old new i j))
 
 -- and so on: after each pass the engine and the input
 abbrev pub ArePasses : List (Engine × Held) → Engine → Engine → Held → Held → Type 0
@@ -47,6 +64,13 @@ ArePasses (s ∷ ss) old new i j = PassesOnce old s.0 i s.1 × ArePasses ss s.0 
 abbrev pub Passes : Engine → Engine → Held → Held → Type 0
 Passes old new i j = (ss : List (Engine × Held)) × ArePasses ss old new i j
 
+-- the first token of a text, of n bytes, was added where text goes: a string's text, or a plain token; or nothing was
+abbrev pub PutsToken : Bool → ℕ → List ℕ → Engine → Engine → Type 0
+PutsToken m n x old new =
+    ((n ≡ 0) × (new ≡ old))
+    ⊎ (((t : List ℕ) × (scan (old.state).quotes (old.state).comments m x ≡ Found (Str t) n) × (new ≡ put_in [] t old))
+    ⊎ (IsPlain old.state m n x × (new ≡ put_in [] (take n x) old)))
+
 -- the lookahead is right for the next token
 abbrev pub IsLookahead : Lookahead → Engine → Pending → Type 0
 IsLookahead a e p = IsLookaheadOf a e.state (allows_call e) p
@@ -55,8 +79,11 @@ IsLookahead a e p = IsLookaheadOf a e.state (allows_call e) p
 abbrev pub PassesText : Bool → ℕ → List ℕ → Engine → Engine → Type 0
 PassesText m n x old new =
     (IsPlainRun old.state m n x × (old.open_calls ≡ []) × (new ≡ put_in [] (take n x) old))
-    ⊎ ((c : Call) × (d : Call) × (cs : List Call) × IsListRun old.state m n c d x × (old.open_calls ≡ c ∷ cs)
+    ⊎ (((c : Call) × (d : Call) × (cs : List Call) × IsListRun old.state m n c d x × (old.open_calls ≡ c ∷ cs)
     × (new ≡ record old { open_calls = d ∷ cs }))
+    ⊎ ((k : ℕ) × (t : List ℕ) × (l : ℕ) × IsPlainRun old.state m k x
+    × (scan (old.state).quotes (old.state).comments m (drop k x) ≡ Found (Str t) l) × (n ≡ k + l)
+    × (old.open_calls ≡ []) × (new ≡ put_in [] t (put_in [] (take k x) old))))
 
 -- a pass over a text, which others in hand may follow, and more bytes may; the lookahead is right, once its place is
 -- set
@@ -64,7 +91,7 @@ pub record PassesBy (n : ℕ) (a : Lookahead) (x : List ℕ) (others more : Bool
   pub passes : PassesText more n x old new
   pub within : n ≤ length x
   pub ahead : (at : Place) → IsAhead (placed_ahead at a) new.state (allows_call new) more (drop n x) at
-  pub passed : a ≡ aheads.Passed → (others ≡ true) × (drop n x ≡ [])
+  pub passed : a ≡ aheads.Passed → (0 < n) ⊎ ((others ≡ true) × (drop n x ≡ []))
 
 -- a pass over the front of an input; if all of it was passed, that was some
 pub record PassesFront (a : Lookahead) (old new : Engine) (i j : Held) : Type 0 where

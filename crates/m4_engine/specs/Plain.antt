@@ -1,7 +1,7 @@
 -- Plain: tokens at the start of a text that expand to themselves.
 -- Not believed: it only says which turns a run may make at once, by the tokens of `scan`. If more bytes may follow
 -- (`m`), only tokens that they can't change are meant.
--- Words: IsPlain, total, ArePlain, IsPlainRun, IsFirst, FirstLies.
+-- Words: IsPlain, total, ArePlain, IsPlainRun, IsFirst, FirstLies, IsTextOf.
 use Rattle.std.specs.Prelude.{◌≡◌, ◌<◌, ◌≤◌, ℕ, ◌+◌, Bool, List, [], ◌∷◌, Some, None, take, drop, ◌⊎◌}
 use Rattle.m4_state.specs.Definition.{IsDefinition}
 use Rattle.m4_state.specs.State.{State, top_of}
@@ -36,8 +36,9 @@ IsPlainRun s m n x = (lens : List ℕ) × ArePlain s m lens x × (total lens ≡
 
 -- the result of one look at the first token
 abbrev pub IsFirst : State → Bool → List ℕ → First → Type 0
-IsFirst s m x (firsts.Word n) = (scan s.quotes s.comments m x ≡ Found (Name (take n x)) n)
-    × (top_of s (take n x) ≡ None)
+IsFirst s m x (firsts.Text n) =
+    ((scan s.quotes s.comments m x ≡ Found (Name (take n x)) n) × (top_of s (take n x) ≡ None))
+    ⊎ (scan s.quotes s.comments m x ≡ Found (Comment (take n x)) n)
 IsFirst s m x (firsts.Byte b) = (scan s.quotes s.comments m x ≡ Found (Byte b) 1) × (take 1 x ≡ b ∷ [])
 IsFirst s m x (firsts.Quoted begin len all) = scan s.quotes s.comments m x ≡ Found (Str (take len (drop begin x))) all
 IsFirst s m x (firsts.Called n listed d) =
@@ -47,8 +48,14 @@ IsFirst s m x firsts.Other = Unit {0}
 
 -- the first token is inside a text of m bytes
 abbrev pub FirstLies : ℕ → First → Type 0
-FirstLies m (firsts.Word n) = (0 < n) × (n ≤ m)
+FirstLies m (firsts.Text n) = (0 < n) × (n ≤ m)
 FirstLies m (firsts.Byte b) = 0 < m
 FirstLies m (firsts.Quoted begin len all) = (begin + len ≤ m) × (all ≤ m)
 FirstLies m (firsts.Called n listed d) = n ≤ m
 FirstLies m firsts.Other = Unit {0}
+
+-- the text of the first token, which has n bytes: that of a string, or all of a plain token
+abbrev pub IsTextOf : State → Bool → ℕ → ℕ → ℕ → List ℕ → Type 0
+IsTextOf s m begin len n x =
+    (scan s.quotes s.comments m x ≡ Found (Str (take len (drop begin x))) n)
+    ⊎ ((begin ≡ 0) × (len ≡ n) × IsPlain s m n x)

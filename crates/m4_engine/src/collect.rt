@@ -69,7 +69,7 @@ fn collect_first(
             call.put_front(after, len)?;
             Ok(all)
         }
-        First::Word(len) => {
+        First::Text(len) => {
             call.put_front(text, len)?;
             Ok(len)
         }

@@ -2,13 +2,14 @@
 //! them, so it can consume many at once. The look at the front of the text is that of `m4_input`, with the flag
 //! whether more bytes may follow; names are looked up here.
 
-ghost use Rattle.std.specs.Prelude.{◌≡◌, ◌<◌, ◌≤◌, length, take, drop};
+ghost use Rattle.std.specs.Prelude.{◌≡◌, ◌<◌, ◌≤◌, ◌+◌, ℕ, Bool, List, IfSome, length, take, drop};
+ghost use Rattle.m4_state.specs.State.{State as Specified};
 ghost use Rattle.m4_input.specs.DelimsView.{pair_of};
 ghost use Rattle.m4_input.specs.Look.{scan_of, LookLies};
 ghost use Rattle.m4_input.specs.Token.{scan};
 ghost use Rattle.m4_input.specs.declared.front.Scan.TheVariants.{Found};
 ghost use Rattle.m4_input.specs.declared.token.Token.TheVariants.{Comment};
-ghost use Rattle.m4_engine.specs.Plain.{IsPlainRun, IsFirst, FirstLies};
+ghost use Rattle.m4_engine.specs.Plain.{IsPlainRun, IsFirst, FirstLies, IsTextOf};
 
 use m4_input::delims::Delims;
 use m4_input::front::{Answer, Look};
@@ -19,8 +20,8 @@ use m4_state::state::State;
 /// The first token of a text, as far as one look decides it.
 #[derive(Clone, Copy)]
 pub enum First<'a> {
-    /// A name without a definition, with its length.
-    Word(usize),
+    /// So many bytes that are text as they are: a name without a definition or, in a list, a comment.
+    Text(usize),
     /// A byte that belongs to no other token.
     Byte(u8),
     /// A string: the lengths of its begin-quote, of its text, and of all of it.
@@ -50,7 +51,7 @@ pub fn plain_run<'a>(
     let mut len = 0;
     while len < most {
         match first_plain(text.split_at(len).1, state, &delims, may_follow) {
-            First::Word(n) => len += n,
+            First::Text(n) => len += n,
             First::Byte(_) => len += 1,
             First::Other => {
                 let comment = comment_len(text.split_at(len).1, state, &delims, may_follow);
@@ -125,7 +126,7 @@ fn first_of<'a>(
         Look::Name(len) => {
             let name = text.split_at(len).0;
             let Some(definition) = state.top(name) else {
-                return First::Word(len);
+                return First::Text(len);
             };
             let after = text.split_at(len).1;
             match list_follows(after, delims, may_follow) {
@@ -136,7 +137,8 @@ fn first_of<'a>(
         }
         Look::Byte(byte) => First::Byte(byte),
         Look::Quoted(begin, len, all) => First::Quoted(begin, len, all),
-        Look::Comment(_) | Look::End | Look::Unended(_) | Look::NeedsMore => First::Other,
+        Look::Comment(len) => First::Text(len),
+        Look::End | Look::Unended(_) | Look::NeedsMore => First::Other,
     }
 }
 
@@ -156,4 +158,20 @@ pub fn first_in_list<'a>(
 {
     let look = first_token(text, delims, may_follow);
     first_of(look, text, state, delims, may_follow)
+}
+
+/// Returns where the text of a token lies that calls nothing: after how many bytes it begins, how many it has, and how
+/// many the token has.
+#[inline(always)]
+pub fn text_of(first: &First<'_>) -> Option<(usize, usize, usize)>
+    ensures text { IfSome result (λ r. (s : Specified) (m : Bool) (x : List ℕ) → IsFirst s m x first.now
+        → IsTextOf s m r.0 r.1 r.2 x) }
+    ensures lies { IfSome result (λ r. (k : ℕ) → FirstLies k first.now → (r.0 + r.1 ≤ k) × (r.2 ≤ k)) }
+{
+    match first {
+        First::Quoted(begin, len, all) => Some((*begin, *len, *all)),
+        First::Text(len) => Some((0, *len, *len)),
+        First::Byte(_) => Some((0, 1, 1)),
+        First::Called(..) | First::Other => None,
+    }
 }

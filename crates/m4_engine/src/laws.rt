@@ -2,8 +2,9 @@
 //!
 //! The contract of each function is a law of `specs/Laws.antt`.
 
-ghost use Rattle.m4_engine.specs.Laws.{Chain, ExpansionRules, ExpandRules, LargerCalls, LargerNesting, MomentsLead, OneStart};
-ghost use Rattle.m4_engine.specs.Laws.{RunEnds, SameDenotation, SettledBegins, Split, SplitStates, TwoRuns, WrapsRules};
+ghost use Rattle.m4_engine.specs.Laws.{Chain, ExpansionRules, ExpandRules, LargerCalls, LargerNesting, MomentsLead};
+ghost use Rattle.m4_engine.specs.Laws.{OneStart, RunEnds, SameDenotation, SettledBegins, Split, SplitStates, TwoRuns};
+ghost use Rattle.m4_engine.specs.Laws.{WrapsRules};
 
 /// An expansion with nested calls is the result of its turns: no bound on them is ever reached.
 pub fn expansion_rules<S, F, D>()

@@ -48,7 +48,7 @@ pub struct Named {
 pub enum Lookahead {
     /// Nothing is known about it.
     Unknown,
-    /// All bytes of the text were passed, and others in hand come after them.
+    /// Bytes were passed, and more may be.
     Passed,
     /// The text does not decide it, and others in hand come after it.
     Open,

@@ -1,6 +1,7 @@
 -- Line: what a run over the files of a line gives in a world of files.
 -- Believed: public contracts cite it. Manual: "Invoking m4", "Command line files", "Fast loading of frozen state".
--- Words: Request, request_of, source_name, sources_in, words_of, all_of, refused_line, Thawed, thaw_in, LineResult, line.
+-- Words: Request, request_of, source_name, sources_in, words_of, all_of, refused_line, Thawed, thaw_in, LineResult,
+-- line.
 -- own: a frozen file that can't be opened is the only work of its line; standard input is read once.
 use Rattle.std.specs.Prelude.{ℕ, Bool, false, List, [], ◌∷◌, map, Option, Some, None}
 use Rattle.std.specs.Prelude.{option_map, unwrap_or, codes, string_bytes, if◌then◌else◌}

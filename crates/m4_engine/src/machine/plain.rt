@@ -4,14 +4,16 @@
 //! A pass takes the tokens of one text: the bytes at the start of the input that are contiguous or, where these leave a
 //! token open and others in hand come after them, a copy of some of both.
 
-ghost use Rattle.std.specs.Prelude.{◌≡◌, ◌≢◌, ◌<◌, ◌||◌, [], Bool, pos, Some, None, IfOk, OnOk, length};
+ghost use Rattle.std.specs.Prelude.{◌≡◌, ◌≢◌, ◌<◌, ◌≤◌, ◌||◌, [], Bool, pos, Some, None, IfOk, OnOk, length};
 ghost use Rattle.m4_input.specs.Pending.{text_of};
 ghost use Rattle.m4_engine.specs.Engine.{IsReady, allows_call};
-ghost use Rattle.m4_engine.specs.Passes.{IsLookahead, PassesBy, PassesFront, Passes};
+ghost use Rattle.m4_engine.specs.declared.lookahead.Lookahead.TheVariants.{Passed};
+ghost use Rattle.m4_engine.specs.Lookahead.{KnowsNothing};
+ghost use Rattle.m4_engine.specs.Passes.{IsLookahead, PassesBy, PassesFront, Passes, PutsToken};
 
 use super::driver::OUTPUT_BLOCK;
 use crate::collect::collect;
-use crate::front::{first_plain, plain_run};
+use crate::front::{First, first_in_list, first_plain, plain_run, text_of};
 use crate::lookahead::Lookahead;
 use crate::machine::Machine;
 use crate::turned::TurnFault;
@@ -43,6 +45,15 @@ fn is_short_name(text: &[u8]) -> bool {
             text.len() < FEW && first.is_ascii_alphabetic() && last.is_ascii_alphabetic()
         }
         [] => false,
+    }
+}
+
+/// Returns whether a look did not decide the token, or a delimiter may begin with its first byte.
+#[inline(always)]
+fn is_other(first: &First<'_>) -> bool {
+    match first {
+        First::Other => true,
+        _ => false,
     }
 }
 
@@ -140,6 +151,10 @@ impl Machine {
         let (len, first) = plain_run(text, &self.state, more, OUTPUT_BLOCK);
         let (passed, rest) = text.split_at(len);
         append(&mut self.output, passed)?;
+        if is_other(&first) && !rest.is_empty() {
+            let (token, lookahead) = self.pass_rare(rest, others, more)?;
+            return Ok((len + token, lookahead));
+        }
         let lookahead = Lookahead::of(
             &mut self.spare,
             &mut self.effect,
@@ -150,6 +165,42 @@ impl Machine {
             others,
         )?;
         Ok((len, lookahead))
+    }
+
+    /// Passes the first token of a text, outside of calls, where a delimiter may begin with its first byte: a string,
+    /// or a token that is text as it is. Returns how many bytes it has; none if it may be called, or more bytes decide
+    /// it. Not inlined, since few tokens begin so.
+    #[inline(never)]
+    fn pass_rare(
+        &mut self,
+        text: &[u8],
+        others: bool,
+        more: bool,
+    ) -> Result<(usize, Lookahead), TurnFault>
+        requires outside { self.old.open_calls ≡ [] }
+        ensures puts { IfOk result (λ r. PutsToken more r.0 text.now self.old self.new) }
+        ensures within { IfOk result (λ r. r.0 ≤ length text.now) }
+        ensures ahead { IfOk result (λ r. KnowsNothing r.1) }
+        ensures passed { IfOk result (λ r. r.1 ≡ Passed → 0 < r.0) }
+    {
+        let delims = Delims::of(&self.state);
+        let first = first_in_list(text, &self.state, &delims, more);
+        let Some((begin, len, all)) = text_of(&first) else {
+            let lookahead = if others {
+                Lookahead::Open
+            } else {
+                Lookahead::Unknown
+            };
+            return Ok((0, lookahead));
+        };
+        self.put_text(text.split_at(begin).1.split_at(len).0)?;
+        // No more than a block is passed at once.
+        let lookahead = if self.output.len() < OUTPUT_BLOCK {
+            Lookahead::Passed
+        } else {
+            Lookahead::Unknown
+        };
+        Ok((all, lookahead))
     }
 
     /// The same where text goes to a diversion or is dropped. The token after the passed ones is looked at again, since
@@ -165,9 +216,14 @@ impl Machine {
         requires diverted { self.old.state.current ≢ pos 0 }
         ensures { IfOk result (λ r. PassesBy r.0 r.1 text.now others more self.old self.new) }
     {
-        let (len, _) = plain_run(text, &self.state, more, OUTPUT_BLOCK);
+        let (len, after) = plain_run(text, &self.state, more, OUTPUT_BLOCK);
         let (passed, rest) = text.split_at(len);
+        let is_rare = is_other(&after) && !rest.is_empty();
         self.state.append(passed)?;
+        if is_rare {
+            let (token, lookahead) = self.pass_rare(rest, others, more)?;
+            return Ok((len + token, lookahead));
+        }
         let room = self.allows_call();
         let first = first_plain(rest, &self.state, &Delims::of(&self.state), more);
         let lookahead = Lookahead::of(

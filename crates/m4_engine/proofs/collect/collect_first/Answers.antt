@@ -8,7 +8,7 @@ returns-in_ok-put_front-in-Quoted-clause-collected c = λ s m q k h.
     let f = subst (IsFirst s m c.args.text.now) c.in-Quoted.is h in
     list_one s m c.in-Quoted.all c.args.call.now c.put_front.new.self c.args.text.now (inl (_, inl f, search rules))
 
-pub returns-in_ok-put_front-in-Word-clause-collected : goal.returns-in_ok-put_front-in-Word-clause-collected
-returns-in_ok-put_front-in-Word-clause-collected c = λ s m q k h.
-    let f = subst (IsFirst s m c.args.text.now) c.in-Word.is h in
-    list_one s m c.in-Word.len c.args.call.now c.put_front-in-Word.new.self c.args.text.now (inl (_, inr f, search rules))
+pub returns-in_ok-put_front-in-Text-clause-collected : goal.returns-in_ok-put_front-in-Text-clause-collected
+returns-in_ok-put_front-in-Text-clause-collected c = λ s m q k h.
+    let f = subst (IsFirst s m c.args.text.now) c.in-Text.is h in
+    list_one s m c.in-Text.len c.args.call.now c.put_front-in-Text.new.self c.args.text.now (inl (_, inr f, search rules))

@@ -1,11 +1,11 @@
 use Rattle.std.proofs.Common.{rules}
-use Rattle.m4_engine.proofs.PlainRuns.{plain_word, plain_byte, plain_comment}
+use Rattle.m4_engine.proofs.PlainRuns.{plain_text, plain_byte, plain_comment}
 use Rattle.m4_engine.proofs.front.plain_run.Goals as goal
 
-pub loop-len-preserved-in-Word : goal.loop-len-preserved-in-Word
-loop-len-preserved-in-Word c = record {
+pub loop-len-preserved-in-Text : goal.loop-len-preserved-in-Text
+loop-len-preserved-in-Text c = record {
   within = search rules;
-  plain = plain_word c.args.state.now c.args.may_follow c.loop-len.len c.in-Word.n c.args.text.now c.split_at.result.1.now c.loop-len.invariant.plain (search rules) (search rules);
+  plain = plain_text c.args.state.now c.args.may_follow c.loop-len.len c.in-Text.n c.args.text.now c.split_at.result.1.now c.loop-len.invariant.plain (search rules) (search rules);
 }
 
 pub loop-len-preserved-in-Byte : goal.loop-len-preserved-in-Byte

@@ -1,4 +1,4 @@
-use Rattle.std.proofs.Common.{◌≡◌, List, ℕ, ◌∷◌, inr, Option, drop, length, refl, sym, ap, ◌∙◌, subst, rules}
+use Rattle.std.proofs.Common.{◌≡◌, List, ℕ, ◌∷◌, inl, inr, Option, drop, length, refl, sym, ap, ◌∙◌, subst, rules}
 use Rattle.std.specs.Prelude.{reverse}
 use Rattle.m4_engine.specs.Expansion.{Call}
 use Rattle.m4_engine.specs.Engine.{Engine}
@@ -18,10 +18,10 @@ returns c =
     let a = c.in_ok-lookahead.lookahead in
     let inside : old.open_calls ≡ c.in-Some.call ∷ cs = ap (λ (o : Option Call). innermost_first o cs) c.in-Some.is in
     subst (λ (e : Engine). PassesBy n a x c.args.others c.args.more e new) c.self.view_is (record {
-      passes = inr (c.in-Some.call, c.collect.new.call, cs, c.in_ok-len.ensures.collected, inside, refl);
+      passes = inr (inl (c.in-Some.call, c.collect.new.call, cs, c.in_ok-len.ensures.collected, inside, refl));
       within = c.in_ok-len.ensures.within;
       ahead = ahead_by a old new c.allows_call-room.result c.args.more (drop n x) c.split_at.result.1.now c.in_ok-len.first (search rules) refl refl (ap length (sym inside)) c.split_at.ensures.back c.in_ok-len.ensures.after c.in_ok-lookahead.ensures.ahead;
-      passed = λ h. let g = c.in_ok-lookahead.ensures.passed h in (g.0, sym c.split_at.ensures.back ∙ g.1);
+      passed = λ h. let g = c.in_ok-lookahead.ensures.passed h in inr (g.0, sym c.split_at.ensures.back ∙ g.1);
     })
 
 pub of-requires-clause-first : goal.of-requires-clause-first
