@@ -1,7 +1,9 @@
 -- Joins: the rests of segments, joined.
-use Rattle.std.proofs.Common.{◌≡◌, ℕ, zero, suc, ◌+◌, ◌-◌, ◌<◌, List, [], ◌∷◌, ◌++◌, length, refl, sym, ap, ◌∙◌}
+use Rattle.std.proofs.Common.{◌≡◌, ℕ, zero, suc, ◌+◌, ◌-◌, ◌<◌, ◌≤◌, List, [], ◌∷◌, ◌++◌, length, refl, sym, ap, ◌∙◌}
 use Rattle.std.proofs.Common.{arith, append_assoc, append-nil, length-append, length-drop, take, drop}
-use Rattle.m4_input.specs.Text.{joined}
+use Rattle.m4_input.specs.Text.{HeldText, joined, with_text, text_in, text_after}
+use Rattle.m4_input.proofs.Parts.{apart_taken, drop_parts}
+use Rattle.std.proofs.Math.ListN.{drop_of_length-le}
 
 -- the one that was put above the others is read first
 pub joined_push : (below : List (List ℕ)) (s : List ℕ) → joined (below ++ s ∷ []) ≡ s ++ joined below
@@ -28,3 +30,18 @@ pub take_more : (n : ℕ) (x y : List ℕ) → take n (take n x ++ y) ≡ take n
 take_more zero x y = refl
 take_more (suc n) [] y = refl
 take_more (suc n) (b ∷ x) y = ap (λ (z : List ℕ). b ∷ z) (take_more n x y)
+
+-- a text that comes first, and the bytes after it
+pub text_first : (x : List ℕ) (t : HeldText) → text_in (with_text x t) ≡ x ++ text_in t
+text_first x t = append_assoc x t.pushed t.unread
+
+pub texts_first : (x y : List ℕ) (t : HeldText) → with_text (x ++ y) t ≡ with_text x (with_text y t)
+texts_first x y t = ap (λ (z : List ℕ). let u : HeldText = record t { pushed = z } in u) (append_assoc x y t.pushed)
+
+-- the first text is consumed, and then some of the rest
+pub first_taken : (x y : List ℕ) (t : HeldText) (n : ℕ) → length x ≤ n → text_after (n - length x) (with_text y t) ≡ text_after n (with_text (x ++ y) t)
+first_taken x y t n h = apart_taken x (with_text y t) n h ∙ ap (text_after n) (sym (texts_first x y t))
+
+-- the bytes after all of a text, and some more
+pub late_bytes : (x y : List ℕ) (n : ℕ) → length x ≤ n → drop n (x ++ y) ≡ drop (n - length x) y
+late_bytes x y n h = drop_parts n x y ∙ ap (λ (z : List ℕ). z ++ drop (n - length x) y) (drop_of_length-le x h)

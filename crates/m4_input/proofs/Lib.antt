@@ -17,4 +17,5 @@ pub mod ByteSearch
 pub mod QuoteSearch
 pub mod Joins
 pub mod ShortQuotes
+pub mod Files
 pub mod Fronts

@@ -1,6 +1,6 @@
 -- Text: the bytes of an input, as its code represents them.
 -- Not believed: it only connects the code with specs/Pending.antt and specs/Blocks.antt. Words: HeldText,
--- text_in, text_after, joined, TakesBlock, failures_by, LiesIn.
+-- text_in, with_text, text_after, joined, TakesBlock, failures_by, LiesIn.
 use Rattle.std.specs.Prelude.{◌≡◌, ℕ, ◌-◌, ◌≤◌, nat_lt, Bool, List, [], ◌∷◌, ◌++◌, length, take, drop, Option, Result}
 use Rattle.std.specs.Prelude.{Ok, Err}
 use Rattle.m4_state.specs.Device.{Script, after_bytes, one_more, IsAtEnd, IsAtFault}
@@ -20,6 +20,10 @@ pub record HeldText : Type 0 where
 -- the bytes in order
 abbrev pub text_in : HeldText → List ℕ
 text_in t = t.pushed ++ t.unread
+
+-- a text that was pushed comes first
+abbrev pub with_text : List ℕ → HeldText → HeldText
+with_text x t = record t { pushed = x ++ t.pushed }
 
 -- the rest after the first n bytes
 abbrev pub text_after : ℕ → HeldText → HeldText

@@ -1,14 +1,17 @@
 //! The bytes of one file that are in hand, and how many of them were read.
 //!
 //! Blocks of the file are appended to a buffer. If it is full, and more of its bytes were read than are left, the bytes
-//! left are moved to its front. So reading a file and moving its bytes takes time in proportion to the file.
+//! left are moved to its front. So reading a file and moving its bytes takes time in proportion to the file. Bytes that
+//! were read are room for short texts that calls push.
 
 ghost use Rattle.std.specs.Prelude.{◌≡◌, ◌+◌, ◌<◌, ◌≤◌, ◌++◌, [], OnOk, OnErr, IfOk, Ok, true, false, length, take};
 ghost use Rattle.std.specs.Prelude.{drop, vec_len, vec_capacity, ◌-◌};
 ghost use Rattle.m4_input.specs.Input.{block};
-ghost use Rattle.m4_input.specs.Pending.{counted, newlines_in};
+ghost use Rattle.m4_input.specs.Text.{text_in, text_after, with_text};
+ghost use Rattle.m4_input.specs.Pending.{newlines_in};
 
 use crate::fault::InputFault;
+use m4_state::append::put_before;
 use m4_state::device::{ByteSource, DeviceFault};
 use std::alloc::AllocError;
 use std::marker::Model;
@@ -16,24 +19,25 @@ use std::marker::Model;
 /// How many bytes a reader is asked for at a time.
 const SOURCE_BLOCK: usize = 4096;
 
-/// Bytes of a file, how many of them were read, and how many newlines of the file were read.
+/// Bytes of a file, how many of them were read, and how many newlines of the file were read. Of the bytes that are left
+/// the first `pushed` were pushed, over bytes of the file.
 #[derive(Drop)]
 pub struct File {
     bytes: Vec<u8>,
     at: usize,
+    pushed: usize,
     newlines: usize,
 }
 
 impl Model for File {
-    ghost use Rattle.std.specs.Prelude.{◌≤◌, length};
     ghost use Rattle.m4_input.specs.Text.{HeldText};
-    ghost use Rattle.m4_input.specs.FileView.{file_view};
+    ghost use Rattle.m4_input.specs.FileView.{file_view, IsFile};
 
     ghost Value = { HeldText };
 
     ghost view = { file_view };
 
-    ghost invariant = { λ f. f.at ≤ length f.bytes.items };
+    ghost invariant = { IsFile };
 }
 
 /// Counts the newlines. Most tokens of a file are one byte.
@@ -132,6 +136,7 @@ impl File {
         File {
             bytes,
             at: 0,
+            pushed: 0,
             newlines: 0,
         }
     }
@@ -164,42 +169,63 @@ impl File {
         self.newlines
     }
 
-    /// Returns whether no byte is unread.
+    /// Returns whether no byte is left.
     #[inline(always)]
     pub fn is_empty(&self) -> bool
-        ensures some { result ≡ false → 0 < length self.now.unread }
-        ensures none { result ≡ true → self.now.unread ≡ [] }
+        ensures some { result ≡ false → 0 < length (text_in self.now) }
+        ensures none { result ≡ true → text_in self.now ≡ [] }
     {
         self.at == self.bytes.len()
     }
 
-    /// Returns the unread bytes.
+    /// Returns the bytes.
     #[inline(always)]
     pub fn rest(&self) -> &[u8]
-        ensures { result.now ≡ self.now.unread }
+        ensures { result.now ≡ text_in self.now }
     {
         self.bytes.split_at(self.at).1
     }
 
-    /// Discards the first n bytes.
+    /// Puts a text at the start, over bytes that were read, if there are as many. Returns whether it did.
+    #[inline(always)]
+    pub fn put_before(&mut self, text: &[u8]) -> bool
+        ensures put { result ≡ true → self.new ≡ with_text text.now self.old }
+        ensures left { result ≡ false → self.new ≡ self.old }
+    {
+        if text.len() > self.at {
+            return false;
+        }
+        put_before(&mut self.bytes, self.at, text);
+        self.at -= text.len();
+        self.pushed += text.len();
+        true
+    }
+
+    /// Discards the first n bytes. Newlines count in those of the file.
     #[inline(always)]
     pub fn consume(&mut self, n: usize)
-        requires { n ≤ length self.old.unread }
-        ensures unread { self.new.unread ≡ drop n self.old.unread }
-        ensures newlines { self.new.newlines ≡ counted self.old.newlines (newlines_in (take n self.old.unread)) }
+        requires { n ≤ length (text_in self.old) }
+        ensures { self.new ≡ text_after n self.old }
     {
-        let passed = self.rest().split_at(n).0;
-        self.newlines = self.newlines.saturating_add(count_newlines(passed));
+        if n <= self.pushed {
+            self.pushed -= n;
+            self.at += n;
+            return;
+        }
+        let read = self.rest().split_at(n).0.split_at(self.pushed).1;
+        self.newlines = self.newlines.saturating_add(count_newlines(read));
+        self.pushed = 0;
         self.at += n;
     }
 
     /// Discards the first n bytes, none of which is a newline, so that none of them is looked at.
     #[inline(always)]
     pub fn pass(&mut self, n: usize)
-        requires { n ≤ length self.old.unread }
-        ensures unread { self.new.unread ≡ drop n self.old.unread }
-        ensures newlines { self.new.newlines ≡ self.old.newlines }
+        requires within { n ≤ length (text_in self.old) }
+        requires inline { newlines_in (take n (text_in self.old)) ≡ 0 }
+        ensures { self.new ≡ text_after n self.old }
     {
+        self.pushed = self.pushed.saturating_sub(n);
         self.at += n;
     }
 }

@@ -1,9 +1,12 @@
 //! A text that a call pushed, and the place up to which it was read.
 
-ghost use Rattle.std.specs.Prelude.{◌≡◌, ◌≤◌, [], length, drop};
+ghost use Rattle.std.specs.Prelude.{◌≡◌, ◌≤◌, ◌^◌, ◌++◌, [], true, false, length, drop};
 
 use m4_state::bytes::Bytes;
 use std::marker::Model;
+
+/// The greatest length of the text of a segment.
+pub const LONGEST_SEGMENT: usize = 1 << 62;
 
 /// The rest of a text. Contracts see it as a list of bytes.
 #[derive(Drop)]
@@ -14,19 +17,20 @@ pub struct Segment {
 }
 
 impl Model for Segment {
-    ghost use Rattle.std.specs.Prelude.{◌≡◌, ◌≤◌, List, ℕ, length, drop};
+    ghost use Rattle.std.specs.Prelude.{◌≡◌, ◌≤◌, ◌^◌, List, ℕ, length, drop};
 
     ghost Value = { List ℕ };
 
     ghost view = { λ s. drop s.at s.text };
 
-    ghost invariant = { λ s. (s.at ≤ s.end) × (s.end ≡ length s.text) };
+    ghost invariant = { λ s. (s.at ≤ s.end) × (s.end ≡ length s.text) × (s.end ≤ 2 ^ 62) };
 }
 
 impl Segment {
     /// Returns a text, none of which was read.
     #[inline(always)]
     pub fn of(text: Bytes) -> Segment
+        requires { length text ≤ 2 ^ 62 }
         ensures { result ≡ text }
     {
         let end = text.as_slice().len();
@@ -57,7 +61,8 @@ impl Segment {
     /// Returns the number of bytes that were not read.
     #[inline(always)]
     pub fn len(&self) -> usize
-        ensures { result ≡ length self.now }
+        ensures len { result ≡ length self.now }
+        ensures most { result ≤ 2 ^ 62 }
     {
         self.end - self.at
     }
@@ -77,5 +82,19 @@ impl Segment {
         ensures { self.new ≡ drop n self.old }
     {
         self.at += n;
+    }
+
+    /// Puts a text at the start, over bytes that were read, if there are as many and no other text shares them.
+    /// Returns whether it did.
+    #[inline(always)]
+    pub fn put_before(&mut self, text: &[u8]) -> bool
+        ensures put { result ≡ true → self.new ≡ text.now ++ self.old }
+        ensures left { result ≡ false → self.new ≡ self.old }
+    {
+        if self.text.put_before(self.at, text) {
+            self.at -= text.len();
+            return true;
+        }
+        false
     }
 }

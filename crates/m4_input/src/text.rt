@@ -1,8 +1,9 @@
 //! The bytes of an input: a stack of segments that calls pushed, and then the bytes of one file.
 //!
 //! The segment that is read first is held apart from those below it. When it is read to its end it is removed, and the
-//! next one takes its place, or a text that is pushed. Pushing a text copies nothing, and consuming bytes takes time in
-//! proportion to the number of segments that end in them.
+//! next one takes its place, or a text that is pushed. A short text that is pushed is put over bytes that were read,
+//! directly before those that come next, so that these are still contiguous. Pushing a longer one copies nothing.
+//! Consuming bytes takes time in proportion to the number of segments that end in them.
 
 ghost use Rattle.std.specs.Prelude.{◌≡◌, ◌≢◌, ◌<◌, ◌≤◌, ◌^◌, ◌++◌, ◌+◌, [], IfSome, IfOk, OnOk, OnErr, Ok, true, false};
 ghost use Rattle.std.specs.Prelude.{length, take, drop, nat_lt};
@@ -10,14 +11,17 @@ ghost use Rattle.m4_input.specs.Pending.{newlines_in};
 
 use crate::fault::InputFault;
 use crate::file::File;
-use crate::segment::Segment;
+use crate::segment::{LONGEST_SEGMENT, Segment};
 use m4_state::bytes::Bytes;
 use m4_state::device::ByteSource;
 use std::alloc::{AllocError, AllocFailed, Global};
 use std::marker::Model;
 
-/// The greatest length of the text of a segment, and of all segments below it together.
-const MOST_PUSHED: usize = 1 << 62;
+/// The greatest length of all segments below the first one together.
+const MOST_BELOW: usize = 1 << 62;
+
+/// A text of at most so many bytes is put before the bytes that come next. To copy it takes less than a segment.
+const SHORT: usize = 30;
 
 /// The greatest capacity of a buffer that is kept.
 const LARGEST_KEPT: usize = 65536;
@@ -63,7 +67,7 @@ fn append_most(copy: &mut Vec<u8>, bytes: &[u8], most: usize) -> Result<(), Allo
 }
 
 impl Text {
-    ghost use Rattle.m4_input.specs.Text.{text_in, text_after, TakesBlock, failures_by};
+    ghost use Rattle.m4_input.specs.Text.{text_in, text_after, with_text, TakesBlock, failures_by};
 
     /// Creates a text without bytes.
     pub fn new(alloc: Global) -> Text
@@ -161,15 +165,40 @@ impl Text {
     /// Inserts a text at the start, without a copy. If an allocation fails, nothing changes.
     #[inline(always)]
     pub fn push(&mut self, text: Bytes) -> Result<(), AllocError>
-        ensures ok { OnOk result (self.new ≡ record self.old { pushed = text ++ self.old.pushed }) }
+        ensures ok { OnOk result (self.new ≡ with_text text self.old) }
         ensures err { OnErr result (self.new ≡ self.old) }
     {
-        let segment = Segment::of(text);
-        if segment.len() == 0 {
+        let len = text.as_slice().len();
+        if len <= SHORT && self.put_before(text.as_slice()) {
             return Ok(());
         }
-        if segment.len() > MOST_PUSHED {
+        if len > LONGEST_SEGMENT {
             return Err(AllocError);
+        }
+        self.push_segment(Segment::of(text))
+    }
+
+    /// Puts a text before the bytes that come next, over bytes that were read, if it can. Returns whether it did.
+    #[inline(always)]
+    fn put_before(&mut self, text: &[u8]) -> bool
+        ensures put { result ≡ true → self.new ≡ with_text text.now self.old }
+        ensures left { result ≡ false → self.new ≡ self.old }
+    {
+        if self.top.len() == 0 {
+            self.file.put_before(text)
+        } else {
+            self.top.put_before(text)
+        }
+    }
+
+    /// Pushes a segment.
+    #[inline(always)]
+    fn push_segment(&mut self, segment: Segment) -> Result<(), AllocError>
+        ensures ok { OnOk result (self.new ≡ with_text segment self.old) }
+        ensures err { OnErr result (self.new ≡ self.old) }
+    {
+        if segment.len() == 0 {
+            return Ok(());
         }
         if self.top.len() == 0 {
             self.top = segment;
@@ -181,13 +210,12 @@ impl Text {
     /// Pushes a segment above the one that is read now.
     #[inline(never)]
     fn push_above(&mut self, segment: Segment) -> Result<(), AllocError>
-        requires short { length segment ≤ 2 ^ 62 }
-        requires some { segment ≢ [] }
-        ensures ok { OnOk result (self.new ≡ record self.old { pushed = segment ++ self.old.pushed }) }
+        requires { segment ≢ [] }
+        ensures ok { OnOk result (self.new ≡ with_text segment self.old) }
         ensures err { OnErr result (self.new ≡ self.old) }
     {
         let held = self.held + self.top.len();
-        if held > MOST_PUSHED {
+        if held > MOST_BELOW {
             return Err(AllocError);
         }
         let top = std::mem::replace(&mut self.top, segment);

@@ -1,7 +1,7 @@
-//! Appends bytes to a vector. Most texts of a macro are short, and a call that copies takes longer than a few
-//! bytes do.
+//! Appends bytes to a vector, and puts them before a place. Most texts of a macro are short, and a call that copies
+//! takes longer than a few bytes do.
 
-ghost use Rattle.std.specs.Prelude.{◌≡◌, ◌≤◌, ◌++◌, OnOk, OnErr, length, take};
+ghost use Rattle.std.specs.Prelude.{◌≡◌, ◌≤◌, ◌++◌, ◌-◌, OnOk, OnErr, length, take, drop};
 
 use std::alloc::AllocError;
 
@@ -40,4 +40,18 @@ pub fn append_front(out: &mut Vec<u8>, text: &[u8], len: usize) -> Result<(), Al
     out.extend_from_slice(text.split_at(COPIED).0)?;
     out.truncate(old + len);
     Ok(())
+}
+
+/// Puts bytes directly before the place `at`, over those that are there.
+#[inline(always)]
+pub fn put_before(all: &mut [u8], at: usize, bytes: &[u8])
+    requires at { at ≤ length all.old }
+    requires room { length bytes.now ≤ at }
+    ensures put { drop (at - length bytes.now) all.new ≡ bytes.now ++ drop at all.old }
+    ensures len { length all.new ≡ length all.old }
+{
+    match bytes {
+        [byte] => all[at - 1] = *byte,
+        _ => all[at - bytes.len()..at].copy_from_slice(bytes),
+    }
 }

@@ -2,6 +2,8 @@ use Rattle.std.proofs.Common.{◌≡◌, ◌++◌, ◌≤◌, List, [], ℕ, Ok,
 use Rattle.std.specs.Prelude.{nat_lt}
 use Rattle.std.proofs.lemmas.List.{length-take, drop-append-le}
 use Rattle.m4_input.specs.Text.{HeldText}
+use Rattle.m4_input.specs.FileView.{left_in, split_at}
+use Rattle.m4_input.proofs.Files.{block_added}
 use Rattle.m4_input.proofs.file.File.take_block.Goals as goal
 
 pub returns-in-Ok-take-clause-gives : goal.returns-in-Ok-take-clause-gives
@@ -19,8 +21,9 @@ returns-in-Ok-take-clause-gives g c =
       small,
       ap (nat_lt 0) (sym lx),
       (λ e. let z : c.in-Ok-take.n ≡ 0 = sym lx ∙ ap length e in c.in-Ok-take.ensures.end (ap Ok z)),
-      ap (λ (y : List ℕ). let t : HeldText = record { pushed = []; unread = drop c.in-Ok.at y; newlines = f.newlines } in t) c.append_in_room.ensures
-          ∙ ap (λ (y : List ℕ). let t : HeldText = record { pushed = []; unread = y; newlines = f.newlines } in t) (drop-append-le c.in-Ok.at b1 x within ∙ ap (λ (y : List ℕ). y ++ x) same)
+      ap (λ (y : List ℕ). split_at f.pushed (drop c.in-Ok.at y) f.newlines) c.append_in_room.ensures
+          ∙ ap (λ (y : List ℕ). split_at f.pushed y f.newlines) (drop-append-le c.in-Ok.at b1 x within ∙ ap (λ (y : List ℕ). y ++ x) same)
+          ∙ block_added f.pushed f.newlines (left_in f) x c.self.invariant.1
           ∙ ap (λ (t : HeldText). let u : HeldText = record t { unread = t.unread ++ x } in u) c.self.view_is,
     )
 
@@ -30,5 +33,5 @@ returns-in-Err-take-clause-gives g c =
     let same : g.R.ByteSource.script c.take.new.self ≡ g.R.ByteSource.script c.args.reader.now = c.in-Err-take.ensures.unchanged in (
       same,
       search (same, c.in-Err-take.ensures.fault),
-      ap (λ (y : List ℕ). let t : HeldText = record { pushed = []; unread = y; newlines = f.newlines } in t) c.in-Ok.ensures.same ∙ c.self.view_is,
+      ap (λ (y : List ℕ). split_at f.pushed y f.newlines) c.in-Ok.ensures.same ∙ c.self.view_is,
     )

@@ -1,8 +1,8 @@
 use Rattle.std.proofs.Common.{rules, ◌≡◌, ◌≤◌, ◌++◌, ◌∷◌, [], List, ℕ, length, take, arith, ap, ◌∙◌, sym}
 use Rattle.std.proofs.Common.{append_assoc, append-nil, length-append}
 use Rattle.std.proofs.lemmas.List.{nil_from_length, length-take}
-use Rattle.m4_input.specs.Text.{HeldText, joined}
-use Rattle.m4_input.proofs.Joins.{joined_push, take_more}
+use Rattle.m4_input.specs.Text.{joined, text_in}
+use Rattle.m4_input.proofs.Joins.{joined_push, take_more, text_first}
 use Rattle.m4_input.proofs.text.Text.copy_front.Goals as goal
 
 pub segments-init : goal.segments-init
@@ -10,7 +10,8 @@ segments-init c =
     let copied : c.append_most.new.copy.items ≡ take c.args.most (c.clear.new.self.items ++ c.rest.result.now) = search rules in (
       c.self.inside.top,
       copied ∙ ap (λ (x : List ℕ). take c.args.most (x ++ c.rest.result.now)) c.clear.ensures.items ∙ ap (take c.args.most) c.rest.ensures,
-      ap (λ (x : List (List ℕ)). c.self.inside.top ++ joined x) c.as_slice-rest.ensures.value ∙ ap (λ (t : HeldText). t.pushed) c.self.view_is,
+      ap (λ (x : List (List ℕ)). (c.self.inside.top ++ joined x) ++ text_in (c.self.inside.file)) c.as_slice-rest.ensures.value
+          ∙ sym (text_first (c.self.inside.top ++ joined c.self.inside.below.items) c.self.inside.file) ∙ ap text_in c.self.view_is,
     )
 
 -- no more bytes than were asked for
@@ -35,8 +36,10 @@ segments-preserved c =
       done ++ next,
       copied ∙ ap (λ (x : List ℕ). take c.args.most (x ++ c.rest-in-Some.result.now)) c.segments.invariant.1
           ∙ take_more c.args.most done c.rest-in-Some.result.now ∙ ap (λ (x : List ℕ). take c.args.most (done ++ x)) c.rest-in-Some.ensures,
-      append_assoc done next (joined c.in-Some.others.now) ∙ ap (λ (x : List ℕ). done ++ x) (sym (joined_push c.in-Some.others.now next))
-          ∙ ap (λ (x : List (List ℕ)). done ++ joined x) (sym c.in-Some.ensures.cases.0) ∙ c.segments.invariant.2,
+      ap (λ (x : List ℕ). x ++ text_in (c.self.inside.file))
+      (append_assoc done next (joined c.in-Some.others.now) ∙ ap (λ (x : List ℕ). done ++ x) (sym (joined_push c.in-Some.others.now next))
+      ∙ ap (λ (x : List (List ℕ)). done ++ joined x) (sym c.in-Some.ensures.cases.0))
+          ∙ c.segments.invariant.2,
     )
 
 pub append_most-requires-2 : goal.append_most-requires-2
@@ -47,7 +50,9 @@ returns-clause-bytes c =
     let done = c.segments.invariant.0 in
     let copied : c.append_most-2.new.copy.items ≡ take c.args.most (c.segments.copy.items ++ c.rest-2.result.now) = search rules in
     let none : c.segments.rest.now ≡ [] = nil_from_length c.segments.rest.now c.in_default.ensures.cases in
-    let all : done ≡ (c.args.self.now).pushed = sym (append-nil done) ∙ ap (λ (x : List (List ℕ)). done ++ joined x) (sym none) ∙ c.segments.invariant.2 in
+    let f = c.self.inside.file in
+    let all : done ++ text_in f ≡ text_in (c.args.self.now) = ap (λ (x : List ℕ). x ++ text_in f) (sym (append-nil done))
+    ∙ ap (λ (x : List (List ℕ)). (done ++ joined x) ++ text_in f) (sym none) ∙ c.segments.invariant.2 in
     copied ∙ ap (λ (x : List ℕ). take c.args.most (x ++ c.rest-2.result.now)) c.segments.invariant.1
-    ∙ take_more c.args.most done c.rest-2.result.now ∙ ap (λ (x : List ℕ). take c.args.most (x ++ c.rest-2.result.now)) all
-    ∙ ap (λ (x : List ℕ). take c.args.most ((c.args.self.now).pushed ++ x)) (c.rest-2.ensures ∙ ap (λ (t : HeldText). t.unread) c.self.view_is)
+    ∙ take_more c.args.most done c.rest-2.result.now ∙ ap (λ (x : List ℕ). take c.args.most (done ++ x)) c.rest-2.ensures
+    ∙ ap (take c.args.most) all
