@@ -46,8 +46,6 @@ pub struct Machine {
     spare: Spare,
     // The effect of the call that is made, or of the last one, whose memory the next one takes.
     effect: EffectBuffer,
-    // The memory of bytes that were joined to look at them.
-    joined: Vec<u8>,
 }
 
 impl Model for Machine {
@@ -78,7 +76,6 @@ impl Drop for Machine {
             saved: _saved,
             spare: _spare,
             effect: _effect,
-            joined: _joined,
         } = self;
     }
 }
@@ -113,7 +110,6 @@ impl Machine {
             saved: Vec::new(alloc),
             spare: Spare::new(alloc),
             effect: EffectBuffer::new(alloc),
-            joined: Vec::new(alloc),
         }
     }
 

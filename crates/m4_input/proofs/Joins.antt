@@ -2,6 +2,8 @@
 use Rattle.std.proofs.Common.{◌≡◌, ℕ, zero, suc, ◌+◌, ◌-◌, ◌<◌, ◌≤◌, List, [], ◌∷◌, ◌++◌, length, refl, sym, ap, ◌∙◌}
 use Rattle.std.proofs.Common.{arith, append_assoc, append-nil, length-append, length-drop, take, drop}
 use Rattle.m4_input.specs.Text.{HeldText, joined, with_text, text_in, text_after}
+use Rattle.std.proofs.Math.ListN.{get_or, set}
+use Rattle.std.proofs.lemmas.List.{set_split, take-set-le, set-get_or}
 use Rattle.m4_input.proofs.Parts.{apart_taken, drop_parts}
 use Rattle.std.proofs.Math.ListN.{drop_of_length-le}
 
@@ -45,3 +47,19 @@ first_taken x y t n h = apart_taken x (with_text y t) n h ∙ ap (text_after n) 
 -- the bytes after all of a text, and some more
 pub late_bytes : (x y : List ℕ) (n : ℕ) → length x ≤ n → drop n (x ++ y) ≡ drop (n - length x) y
 late_bytes x y n h = drop_parts n x y ∙ ap (λ (z : List ℕ). z ++ drop (n - length x) y) (drop_of_length-le x h)
+
+-- the last segment below, when a text was put before it and it was removed
+last_is : (below front : List (List ℕ)) (i : ℕ) (s : List ℕ) → suc i ≡ length below → front ≡ take i (set below i s) → set below i s ≡ front ++ s ∷ []
+last_is below front i s l e =
+    let inside : i < length below = omega (arith, l) in
+    let all : length below ≤ suc i = omega (arith, l) in
+    set_split below i s inside ∙ ap (λ (x : List (List ℕ)). take i below ++ s ∷ x) (drop_of_length-le below all)
+    ∙ ap (λ (x : List (List ℕ)). x ++ s ∷ []) (sym (e ∙ take-set-le i below i s (omega arith)))
+
+pub last_below : (below front : List (List ℕ)) (i : ℕ) (s put d : List ℕ) → suc i ≡ length below → s ≡ get_or below i d → front ≡ take i (set below i put) → joined below ≡ s ++ joined front
+last_below below front i s put d l e f =
+    let same : front ≡ take i (set below i s) = f ∙ take-set-le i below i put (omega arith) ∙ sym (take-set-le i below i s (omega arith)) in
+    ap joined (sym (set-get_or below i d) ∙ ap (λ (x : List ℕ). set below i x) (sym e) ∙ last_is below front i s l same) ∙ joined_push front s
+
+pub last_put : (below front : List (List ℕ)) (i : ℕ) (put next : List ℕ) → suc i ≡ length below → set below i put ≡ front ++ next ∷ [] → front ≡ take i (set below i put) → next ++ joined front ≡ put ++ joined front
+last_put below front i put next l e f = sym (joined_push front next) ∙ ap joined (sym e ∙ last_is below front i put l f) ∙ joined_push front put

@@ -190,16 +190,13 @@ impl Input {
         Some(self.text.front())
     }
 
-    /// Copies the first bytes, at most `most`, also if they are not contiguous. Returns whether others in hand come
-    /// after them.
+    /// Puts the bytes at the start that are contiguous, if they are few, before those that come after them, so that
+    /// both are contiguous. Returns whether it did.
     #[doc(hidden)]
-    pub fn copy_front(&self, most: usize, copy: &mut Vec<u8>) -> Result<bool, AllocError>
-        ensures text { IfOk result (λ others. IsInFront self.now.pending copy.new.items
-            (others || self.now.pending.may_follow)) }
-        ensures all { IfOk result (λ others. others ≡ false → copy.new.items ≡ text_of self.now.pending) }
-        ensures some { 0 < most → IfOk result (λ others. others ≡ true → 0 < length copy.new.items) }
+    pub fn join(&mut self) -> bool
+        ensures { self.new ≡ self.old }
     {
-        self.text.copy_front(most, copy)
+        self.text.join()
     }
 
     /// Returns an empty buffer. It has the memory of a text that was read to its end, if one was kept.

@@ -231,6 +231,34 @@ impl Text {
         }
     }
 
+    /// Puts the rest of the first segment, if it is short, before the bytes that come after it, so that both are
+    /// contiguous. Returns whether it did.
+    #[inline(never)]
+    pub fn join(&mut self) -> bool
+        ensures { self.new ≡ self.old }
+    {
+        let rest = self.top.rest();
+        if rest.len() > SHORT {
+            return false;
+        }
+        let Some(next) = self.below.last_mut() else {
+            if !self.file.put_before(rest) {
+                return false;
+            }
+            self.top = Segment::spent();
+            return true;
+        };
+        let len = next.len();
+        if !next.put_before(rest) {
+            return false;
+        }
+        self.held -= len;
+        if let Some(next) = self.below.pop() {
+            self.top = next;
+        }
+        true
+    }
+
     /// Returns a buffer without contents: that of the last text that was read to its end, if it had one.
     pub fn take_buffer(&mut self) -> Vec<u8>
         ensures empty { result.items ≡ [] }

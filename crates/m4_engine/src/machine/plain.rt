@@ -1,8 +1,8 @@
 //! A fast path for tokens that call nothing: many at once, outside of calls and in an argument list, without
 //! an intermediate copy. Manual: "How m4 copies input to output", "Macro arguments".
 //!
-//! A pass takes the tokens of one text: the bytes at the start of the input that are contiguous or, where these leave a
-//! token open and others in hand come after them, a copy of some of both.
+//! A pass takes the tokens of one text: the bytes at the start of the input that are contiguous. Where these leave a
+//! token open and others in hand come after them, both are made contiguous if that is cheap.
 
 ghost use Rattle.std.specs.Prelude.{◌≡◌, ◌≢◌, ◌<◌, ◌≤◌, ◌||◌, [], Bool, pos, Some, None, IfOk, OnOk, length};
 ghost use Rattle.m4_input.specs.Pending.{text_of};
@@ -21,31 +21,12 @@ use m4_input::delims::Delims;
 use m4_input::input::Input;
 use m4_state::append::append;
 
-/// How many bytes are copied where contiguous ones leave a token open.
-const JOINED: usize = 64;
-
-/// A text with fewer bytes than this is short.
-const FEW: usize = 8;
-
 /// Returns whether bytes may come after those at the start: others in hand, or further ones.
 #[inline(always)]
 fn may_follow(input: &Input, others: bool) -> bool
     ensures { result ≡ (others || input.now.pending.may_follow) }
 {
     others || input.may_follow()
-}
-
-/// Returns whether a text has few bytes, and begins and ends with a letter, as many results of calls do. Then it is
-/// mostly a name, whose end the bytes after it decide, so that no look at the text alone is of use.
-#[inline(always)]
-fn is_short_name(text: &[u8]) -> bool {
-    match text {
-        [letter] => letter.is_ascii_alphabetic(),
-        [first, .., last] => {
-            text.len() < FEW && first.is_ascii_alphabetic() && last.is_ascii_alphabetic()
-        }
-        [] => false,
-    }
 }
 
 /// Returns whether a look did not decide the token, or a delimiter may begin with its first byte.
@@ -67,14 +48,13 @@ impl Machine {
         ensures passes { OnOk result (Passes self.old self.new input.old input.new) }
         ensures lookahead { IfOk result (λ a. IsLookahead a self.new input.new.pending) }
     {
+        let mut may_join = true;
         'fronts: loop {
-            let mut lookahead = self.pass_front(input)?;
-            if let Lookahead::Open = lookahead {
-                lookahead = self.pass_joined(input)?;
-            }
+            let lookahead = self.pass_front(input)?;
             match lookahead {
-                Lookahead::Passed => {}
-                lookahead => return Ok(lookahead),
+                Lookahead::Passed => may_join = true,
+                Lookahead::Open if may_join && input.join() => may_join = false,
+                _ => return Ok(lookahead),
             }
         }
     }
@@ -88,28 +68,8 @@ impl Machine {
         let Some((text, others)) = input.front() else {
             return Ok(Lookahead::Unknown);
         };
-        if others && is_short_name(text) {
-            return Ok(Lookahead::Open);
-        }
         let more = may_follow(input, others);
         let (len, mut lookahead) = self.pass_text(text, others, more)?;
-        input.consume(len);
-        lookahead.set_place(input)?;
-        Ok(lookahead)
-    }
-
-    /// Passes a copy of the first bytes, which are not contiguous.
-    #[inline(never)]
-    fn pass_joined(&mut self, input: &mut Input) -> Result<Lookahead, TurnFault>
-        requires ready { IsReady input.old }
-        requires first { input.old.pending.definition ≡ None }
-        ensures { IfOk result (λ a. PassesFront a self.old self.new input.old input.new) }
-    {
-        let mut text = std::mem::replace(&mut self.joined, Vec::new(self.alloc));
-        let others = input.copy_front(JOINED, &mut text)?;
-        let more = may_follow(input, others);
-        let (len, mut lookahead) = self.pass_text(&text, others, more)?;
-        self.joined = text;
         input.consume(len);
         lookahead.set_place(input)?;
         Ok(lookahead)

@@ -1,4 +1,5 @@
-use Rattle.std.proofs.Common.{length}
+use Rattle.std.proofs.Common.{length, ◌+◌, ◌*◌}
+use Rattle.std.specs.Prelude.{cond}
 use Rattle.m4_input.specs.Pending.{text_of}
 use Rattle.m4_engine.specs.Engine.{IsReady}
 use Rattle.m4_engine.specs.Passes.{Passes}
@@ -11,5 +12,6 @@ invariant-fronts l = record {
   ready : IsReady l.input;
 }
 
+-- each pass but the one after a join leaves fewer bytes
 abbrev pub decreases-fronts : goal.decreases-fronts
-decreases-fronts l = length (text_of (l.input).pending)
+decreases-fronts l = 2 * length (text_of (l.input).pending) + cond l.may_join 1 0
