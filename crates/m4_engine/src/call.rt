@@ -151,11 +151,14 @@ fn argument(bytes: Vec<u8>, tokens: Vec<Def>) -> Result<Arg, AllocError>
 }
 
 impl OpenCall {
-    /// Creates a call that has no name yet.
-    pub fn empty(alloc: Global) -> Result<OpenCall, AllocError> {
+    /// Creates a call with no argument read yet. Its place is to be set.
+    pub fn new(alloc: Global, name: &[u8], definition: &Def) -> Result<OpenCall, AllocError>
+        requires { IsDefinition definition.now }
+        ensures { IfOk result (λ c. c ≡ call_of definition.now name.now c.place) }
+    {
         let parts = Parts {
-            definition: Def::Text(Bytes::empty()),
-            name: Bytes::empty(),
+            definition: definition.share()?,
+            name: Bytes::from_slice(alloc, name)?,
             place: Place {
                 file: Bytes::empty(),
                 line: 0,

@@ -9,20 +9,17 @@ use m4_state::definition::Def;
 use std::alloc::{AllocError, Global};
 use std::marker::Model;
 
-/// How many calls are kept at most.
-const MOST: usize = 256;
-
-/// How many of them may keep the memory of a long list.
+/// How many calls may keep the memory of a long list.
 const LONG: usize = 4;
 
-/// How many arguments these keep at most, each. No argument that is kept is large, so that all of them take a few
-/// megabytes at most.
+/// How many arguments these keep at most, each. No argument that is kept is large.
 const LONGEST: usize = 4096;
 
 /// How many arguments any other call keeps at most.
 const USUAL: usize = 8;
 
-/// Calls without contents. They keep their memory.
+/// Calls without contents. They keep their memory. There are as many as were open at one time, so that to keep all of
+/// them takes no more than was needed then.
 pub struct Spare {
     alloc: Global,
     calls: Vec<OpenCall>,
@@ -59,26 +56,23 @@ impl Spare {
         requires { IsDefinition definition.now }
         ensures { IfOk result (λ c. c ≡ call_of definition.now name.now c.place) }
     {
-        let mut call = match self.calls.pop() {
-            Some(kept) => kept,
-            None => OpenCall::empty(self.alloc)?,
-        };
-        call.renew(name, definition)?;
-        Ok(call)
+        match self.calls.pop() {
+            Some(kept) => {
+                let mut call = kept;
+                call.renew(name, definition)?;
+                Ok(call)
+            }
+            None => OpenCall::new(self.alloc, name, definition),
+        }
     }
 
-    /// Keeps a call that was made. If enough are kept, it takes the place of the last one.
+    /// Keeps a call that was made. If there is no memory to keep it in, it is dropped.
     #[inline(always)]
     pub fn keep(&mut self, call: OpenCall) {
-        let others = self.calls.len();
         let mut kept = call;
-        kept.shed(if others < LONG { LONGEST } else { USUAL });
-        if others < MOST {
-            // If there is no memory to keep it in, it is dropped.
-            let _kept = self.calls.push(kept);
-        } else {
-            self.calls[others - 1] = kept;
-        }
+        let is_first = self.calls.len() < LONG;
+        kept.shed(if is_first { LONGEST } else { USUAL });
+        let _kept = self.calls.push(kept);
     }
 
     /// Gives an open call the memory of the call that was made last, if it has none for its arguments yet. Calls that

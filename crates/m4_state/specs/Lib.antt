@@ -6,6 +6,7 @@ pub mod Device
 pub mod DiversionEntries
 pub mod Entries
 pub mod Fresh
+pub mod Marks
 pub mod State
 pub mod NameHash
 pub mod StackView

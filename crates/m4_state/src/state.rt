@@ -83,7 +83,7 @@ impl State {
         let comments = Delimiters::default_comments(alloc)?;
         Ok(State {
             alloc,
-            table: Table::new(alloc),
+            table: Table::new(alloc)?,
             quotes,
             comments,
             diversions: Diversions::new(alloc),
@@ -130,9 +130,22 @@ impl State {
         self.table.stack(name)
     }
 
-    /// Returns the top definition of a name, which is a valid one.
+    /// Returns the top definition of a name, which is a valid one. Most words of a text have no mark in the table.
+    #[inline(always)]
     pub fn top(&self, name: &[u8]) -> Option<&Def>
         // exact steps: the last of the record's definitions of the name
+        ensures top { option_copied result ≡ top_of self.now name.now }
+        ensures valid { IfSome (option_copied result) IsDefinition }
+    {
+        if !self.table.may_have(name) {
+            return None;
+        }
+        self.top_in_table(name)
+    }
+
+    /// The same by a look into the table.
+    #[inline(never)]
+    fn top_in_table(&self, name: &[u8]) -> Option<&Def>
         ensures top { option_copied result ≡ top_of self.now name.now }
         ensures valid { IfSome (option_copied result) IsDefinition }
     {

@@ -56,6 +56,7 @@ impl<'a> MemWorld<'a> {
         ensures files { ⟦<MemWorld<'a> as World>⟧.files self.new ≡ ⟦<MemWorld<'a> as World>⟧.files self.old }
         ensures making { ⟦<MemWorld<'a> as World>⟧.making self.new ≡ ⟦<MemWorld<'a> as World>⟧.making self.old }
         ensures makes { self.new.makes ≡ self.old.makes }
+        ensures failures { self.new.failures ≡ self.old.failures }
     {
         self.input_fails = true;
     }

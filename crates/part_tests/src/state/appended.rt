@@ -1,4 +1,5 @@
-//! Bytes that are appended to a vector, all of a text or its first ones; texts, however they are held.
+//! Bytes that are appended to a vector, all of a text or its first ones; texts, however they are held; bytes that are put
+//! into a text before a place.
 
 use crate::report::joined;
 use crate::shows::shows;
@@ -123,6 +124,68 @@ fn held(alloc: Global, text: &[u8], way: Way) -> Result<Bytes, AllocError> {
 // Returns the bytes of a text that is held in a way.
 fn bytes_held(alloc: Global, text: &[u8], way: Way) -> Result<Vec<u8>, AllocError> {
     Vec::from_slice(alloc, held(alloc, text, way)?.as_slice())
+}
+
+// A row's name, a text, how it is held, a place, the bytes that are put before it, and whether they were, with the text
+// after that.
+type PutRow = (
+    &'static str,
+    &'static str,
+    Way,
+    usize,
+    &'static str,
+    &'static str,
+);
+
+// A text of one byte more than is held in place.
+static LONG: &str = "abcdefghijklmnopqrstuvwxyz01234";
+
+static PUTS: [PutRow; 8] = [
+    ("one byte", "abcd", Way::Copied, 2, "x", "put axcd"),
+    ("from the first on", "abcd", Way::Copied, 3, "xyz", "put xyzd"),
+    ("at the end", "abcd", Way::Shared, 4, "xy", "put abxy"),
+    ("more than are there", "abcd", Way::Copied, 2, "xyz", "left abcd"),
+    ("no byte", "abcd", Way::Copied, 0, "", "put abcd"),
+    (
+        "in a buffer of the text's own",
+        LONG,
+        Way::Taken,
+        31,
+        "xyz",
+        "put abcdefghijklmnopqrstuvwxyz01xyz",
+    ),
+    (
+        "in a buffer, more than are there",
+        LONG,
+        Way::Moved,
+        1,
+        "xy",
+        "left abcdefghijklmnopqrstuvwxyz01234",
+    ),
+    (
+        "in a slice that others may share",
+        LONG,
+        Way::Shared,
+        31,
+        "xyz",
+        "left abcdefghijklmnopqrstuvwxyz01234",
+    ),
+];
+
+// Puts bytes before a place of a text.
+fn put(alloc: Global, row: &PutRow) -> Result<Vec<u8>, AllocError> {
+    let mut text = held(alloc, row.1.as_bytes(), row.2)?;
+    let at = row.3.min(text.as_slice().len());
+    let was_put = text.put_before(at, row.4.as_bytes());
+    let word: &[u8] = if was_put { b"put " } else { b"left " };
+    joined(alloc, &[word, text.as_slice()])
+}
+
+#[test]
+fn bytes_are_put_before_a_place(rt: HostRuntime) {
+    for row in &PUTS {
+        shows(&rt, row.0, row.5.as_bytes(), put(rt.alloc(), row));
+    }
 }
 
 #[test]

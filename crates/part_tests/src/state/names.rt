@@ -97,7 +97,18 @@ static PUSHED: [Row; 2] = [
 ];
 
 // Definitions that are taken away or replaced.
-static STACKS: [Row; 2] = [
+static STACKS: [Row; 3] = [
+    (
+        "names of one length, with the same first, middle and last byte, are told apart",
+        &[
+            Step::Define("axcye", Given::Text("1")),
+            Step::Look("azcwe"),
+            Step::Define("azcwe", Given::Text("2")),
+            Step::Undefine("axcye"),
+            Step::Look("axcye"),
+        ],
+        "azcwe\naxcye\nazcwe, text 2; 1\n",
+    ),
     (
         "the newest definition is taken away, and the name with the last one",
         &[

@@ -53,6 +53,45 @@ static TOKENS: [Row; 6] = [
     ),
 ];
 
+// Results that are short enough to be put before the bytes that come next, and long ones.
+static RESULTS: [Row; 4] = [
+    (
+        "short results in a long one, whose end is a part of a name",
+        "define(`s',`a')define(`ab',`yes')define(`long',`one two three four five six seven s()b eight s()'\
+         )dnl\nlong()b long\nlong()s()b s()long()\n",
+        "one two three four five six seven yes eight yes one two three four five six seven yes eight a\none \
+         two three four five six seven yes eight as()b along()\n",
+        "",
+        DONE,
+    ),
+    (
+        "newlines of results, which are not of the file",
+        "define(`n',`\n')define(`nn',`n()n()')define(`m',`[$1]\n')dnl\nn()n()x __line__\nnn()x __line__\nm\
+         (m(a))x __line__\nm(n()n())__line__\n",
+        "\n\nx 4\n\n\nx 5\n[[a]\n]\nx 6\n[\n\n]\n7\n",
+        "",
+        DONE,
+    ),
+    (
+        "a long text without a dollar, whose end is a part of a name",
+        "define(`t',`a text of more than thirty bytes, no part of which is copied; its end is ab')define(`\
+         abc',`yes')define(`e',`')dnl\nt()c t()e()c t()`'c\n",
+        "a text of more than thirty bytes, no part of which is copied; its end is yes a text of more than\
+         \x20thirty bytes, no part of which is copied; its end is abe()c a text of more than thirty bytes,\
+         \x20no part of which is copied; its end is abc\n",
+        "",
+        DONE,
+    ),
+    (
+        "calls one within another, and lists that begin and end in texts",
+        "define(`c',`,')define(`o',`(')define(`f',`<$1|$2>')define(`w',`f(a long first argument of this c\
+         all, b)c()f')dnl\nf(w()(x,y)) f(f(f(a)))f(c()b)\nf(f(f(f(f(f(f(f(1,2),2),2),2),2),2),2),2)\n",
+        "<<a long first argument of this call|b>|<x|y>> <<<a|>|>|><|b>\n<<<<<<<<1|2>|2>|2>|2>|2>|2>|2>|2>\n",
+        "",
+        DONE,
+    ),
+];
+
 static ARGUMENTS: [Row; 5] = [
     (
         "an argument of several texts",
@@ -130,6 +169,11 @@ static DIVERTED: [Row; 4] = [
 #[test]
 fn tokens_across_texts(rt: HostRuntime) {
     compare(&rt, &TOKENS);
+}
+
+#[test]
+fn results_before_other_text(rt: HostRuntime) {
+    compare(&rt, &RESULTS);
 }
 
 #[test]

@@ -2,7 +2,7 @@ use Rattle.std.proofs.Common.{rules}
 use Rattle.std.specs.Option.{option_copied}
 use Rattle.m4_state.specs.StateView.{view_of}
 use Rattle.m4_state.proofs.StaysInOrder.{top_valid}
-use Rattle.m4_state.proofs.state.State.top.Goals as goal
+use Rattle.m4_state.proofs.state.State.top_in_table.Goals as goal
 
 -- every state is valid
 pub returns-clause-valid : goal.returns-clause-valid

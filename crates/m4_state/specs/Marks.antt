@@ -1,0 +1,21 @@
+-- Marks: which names may be in a table, by marks at places that their bytes decide.
+-- Not believed: it only connects the code's table with specs/Table.antt. Words: place_of, is_marked, IsMarkedBy,
+-- AreMarked.
+use Rattle.std.specs.Prelude.{◌≡◌, ◌+◌, ◌-◌, ◌*◌, ◌/◌, ◌%◌, ℕ, List, Bool, true, false, length, get_or}
+use Rattle.std.specs.List.{AllByRecursion}
+use Rattle.m4_state.specs.Table.{Pair, Pairs}
+
+-- the place of a name, by its length and three of its bytes
+abbrev pub place_of : List ℕ → ℕ
+place_of name =
+    (((get_or name 0 0 + 7 * get_or name (length name / 2) 0) + 61 * get_or name (length name - 1) 0)
+    + 211 * (length name % 64)) % 4096
+
+abbrev pub is_marked : List Bool → List ℕ → Bool
+is_marked marks name = get_or marks (place_of name) false
+
+abbrev pub IsMarkedBy : List Bool → Pair → Type 0
+IsMarkedBy marks pair = is_marked marks pair.0 ≡ true
+
+abbrev pub AreMarked : List Bool → Pairs → Type 0
+AreMarked marks table = AllByRecursion (IsMarkedBy marks) table
