@@ -513,9 +513,6 @@ told_so e0 e p0 i before after out0 reported0 out reported out' reported' w caus
 pub needs_so : (w v : Wanted) (e e' : Engine) (i j : Held) (c : Contents) (r : InHand) → r ≡ hands.Needs v → HandGives w e e' i j c r → HandNeeds w e i v e' j c
 needs_so w v e e' i j c r f h = subst (HandGives w e e' i j c) f h
 
-pub needs_open : (i j : Held) (e e' : Engine) (w v : Wanted) (c : Contents) → HandNeeds w e i v e' j c → (j.pending).may_follow ≡ true
-needs_open i j e e' w v c h = is_open i j e e' w v c h
-
 -- the next block is missing
 pub stopped_by : (e0 e e' : Engine) (p0 : Pending) (i j k : Held) (before after later : Option Script)
     (out0 reported0 out reported out' reported' : Option (List ℕ)) (w v : Wanted) (f : InputFault) → IsIdle e0

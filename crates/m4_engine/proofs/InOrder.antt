@@ -41,7 +41,7 @@ use Rattle.m4_input.proofs.Consumed.{NoDefinition, scan_plain}
 use Rattle.m4_builtins.specs.Args.{IsArg}
 use Rattle.m4_builtins.specs.Act.{IsPushed, needs_list}
 use Rattle.m4_builtins.proofs.ActKeeps.{act_keeps, act_pushes}
-use Rattle.m4_engine.specs.Engine.{IsFront, IsToken}
+use Rattle.m4_engine.specs.Engine.{IsFront}
 use Rattle.m4_frozen.specs.Directive.{Directive, Quotes, Comments, Text, Builtin as NamedBuiltin, Diversion}
 use Rattle.m4_frozen.specs.Spells.{SpellsAll, SpellsOne}
 use Rattle.m4_frozen.specs.Denote.{with_directive, definition_named, builtin_or_placeholder}
@@ -265,23 +265,6 @@ is_valid : (o : Option Def) → IsFront o → ValidToken o
 unfolding ValidToken
 is_valid None h = tt
 is_valid (Some d) h = h
-
-is_token : (t : Token) → TokenValid t → IsToken t
-unfolding TokenValid
-is_token (Name x) h = tt
-is_token (Str x) h = tt
-is_token (Comment x) h = tt
-is_token (Byte b) h = tt
-is_token (Definition d) h = h
-is_token End h = tt
-
-taken_token : (t : Token) (r : Pending) (f : Front) → f ≡ Taken t r → FrontValid f → IsToken t
-unfolding FrontValid
-taken_token t r f e h = is_token t (subst FrontValid e h).0
-
--- a token that is taken is in order
-pub token_in_order : (q c : Delimiters) (p r : Pending) (t : Token) → IsFront p.definition → token_at q c p ≡ Taken t r → IsToken t
-token_in_order q c p r t h e = taken_token t r (token_at q c p) e (front_valid p.definition q c p (is_valid p.definition h))
 
 take_front_valid : (v : Front) (s : Expansion) → FrontValid v → Valid s → ValidTurn (take_front v s)
 unfolding FrontValid ValidTurn

@@ -1,6 +1,6 @@
 -- LoopKeeps: what the machine's loop keeps, and what falls at each of its turns.
 use Rattle.std.proofs.Common.{◌≡◌, Bool, inl, inr, ℕ, ◌+◌, ◌<◌, List, [], ◌++◌, refl, sym, ap, ◌∙◌, subst, arith}
-use Rattle.std.proofs.Common.{append-nil, append_assoc}
+use Rattle.std.proofs.Common.{append-nil}
 use Rattle.m4_input.specs.Pending.{Pending}
 use Rattle.m4_input.specs.Input.{longer}
 use Rattle.m4_engine.specs.declared.turned.Turned.TheVariants as turns
@@ -108,12 +108,6 @@ move_falls e e' e2 p p' x y k d h = subst (λ n. n < turns_of e p) (sym (some_le
 -- what a machine comes to, where so much was handed on
 abbrev pub meaning_of : List ℕ → List ℕ → Engine → Pending → Outcome Expansion Ended
 meaning_of o m e p = meaning Expansion Kept Ended turn join expand (configuration o m e p)
-
--- the flushed bytes come before the rest
-pub some_means : (e e2 : Engine) (p : Pending) (o m x y : List ℕ) → e ≡ record e2 { output = x ++ e2.output; messages = y ++ e2.messages } → meaning_of (o ++ x) (m ++ y) e2 p ≡ meaning_of o m e p
-some_means e e2 p o m x y h =
-    (rw (append_assoc o x e2.output, append_assoc m y e2.messages) refl)
-    ∙ sym (ap (λ (d : Engine). meaning_of o m d p) h)
 
 -- a move changes nothing of it
 pub moved_on : (e e' : Engine) (p p' : Pending) (z : List ℕ) (more : Bool) (o m : List ℕ) → MayFollow p.may_follow z more → Moves p.may_follow e' p' turns.GoesOn (λ z more o m. moved (configuration o m e (longer z more p))) → meaning_of o m e' (longer z more p') ≡ meaning_of o m e (longer z more p)

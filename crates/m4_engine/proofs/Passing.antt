@@ -443,9 +443,6 @@ passes_follows e e1 i i1 h = follows h.0 e e1 i i1 h.1
 pub passes_limits : (e e1 : Engine) (i i1 : Held) → Passes e e1 i i1 → e1.limits ≡ e.limits
 passes_limits e e1 i i1 h = limits h.0 e e1 i i1 h.1
 
-pub passes_messages : (e e1 : Engine) (i i1 : Held) → Passes e e1 i i1 → e1.messages ≡ e.messages
-passes_messages e e1 i i1 h = messages h.0 e e1 i i1 h.1
-
 -- a further pass
 further : (ss : List (Engine × Held)) (e e1 e2 : Engine) (i i1 i2 : Held) → ArePasses ss e e1 i i1 → PassesOnce e1 e2 i1 i2 → Passes e e2 i i2
 further [] e e1 e2 i i1 i2 h g =
@@ -457,9 +454,6 @@ further (s ∷ ss) e e1 e2 i i1 i2 h g =
 
 pub passes_on : (e e1 e2 : Engine) (i i1 i2 : Held) → Passes e e1 i i1 → PassesOnce e1 e2 i1 i2 → Passes e e2 i i2
 passes_on e e1 e2 i i1 i2 h g = further h.0 e e1 e2 i i1 i2 h.1 g
-
-pub passes_nothing : (e : Engine) (i : Held) → Passes e e i i
-passes_nothing e i = ([], (refl, refl))
 
 placed_passed : (at : Place) (a : Lookahead) → placed_ahead at a ≡ aheads.Passed → a ≡ aheads.Passed
 placed_passed at aheads.Unknown h = absurd cc
@@ -492,7 +486,3 @@ front_passed a b old new i j n x others more h some f r g e =
 pub passed_front : (a : Lookahead) (e e1 e2 s : Engine) (i i1 i2 t : Held) → Passes e e1 i i1 → IsReady i1 → PassesFront a e1 e2 i1 i2 → s ≡ e2 → t ≡ i2 → Passes e s i t × IsReady t
 passed_front a e e1 e2 s i i1 i2 t h r f g k =
     (subst (λ (d : Engine). Passes e d i t) (sym g) (subst (λ (j : Held). Passes e e2 i j) (sym k) (passes_on e e1 e2 i i1 i2 h f.passes)), subst IsReady (sym k) (once_ready e1 e2 i1 i2 r f.passes))
-
-pub ahead_is : (a b : Lookahead) (e s : Engine) (i t : Held) → b ≡ a → s ≡ e → t ≡ i → IsLookahead a e i.pending → IsLookahead b s t.pending
-ahead_is a b e s i t f g k h =
-    subst (λ (c : Lookahead). IsLookahead c s t.pending) (sym f) (subst (λ (d : Engine). IsLookahead a d t.pending) (sym g) (subst (λ (j : Held). IsLookahead a e j.pending) (sym k) h))

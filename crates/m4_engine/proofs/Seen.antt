@@ -5,7 +5,7 @@ use Rattle.std.specs.Prelude.{suc, nat_lt, not, ◌&&◌, length, Result, Ok, Er
 use Rattle.m4_state.specs.State.{State}
 use Rattle.m4_engine.specs.declared.front.First.{First}
 use Rattle.m4_engine.specs.Plain.{IsFirst, FirstLies}
-use Rattle.m4_input.specs.Pending.{Pending, text_of, name_of, newlines_in, line_of, consumed}
+use Rattle.m4_input.specs.Pending.{Pending, text_of, newlines_in, consumed}
 use Rattle.m4_input.specs.Paren.{paren_in, paren_at}
 use Rattle.m4_input.specs.declared.front.Answer.{Answer}
 use Rattle.m4_input.specs.Input.{answer_of, longer}
@@ -23,7 +23,7 @@ use Rattle.m4_engine.specs.declared.turned.Turned.{Turned}
 use Rattle.m4_engine.specs.declared.turned.TurnFault.{TurnFault}
 use Rattle.m4_engine.specs.Expansion.{Call, Limits, place_at, issued, reading, put_text}
 use Rattle.m4_engine.specs.Expand.{call, call_of, take_call, call_without_list, take_name}
-use Rattle.m4_engine.specs.Lookahead.{IsMeaning, IsAhead, KnowsNothing, IsLookaheadOf, placed_ahead}
+use Rattle.m4_engine.specs.Lookahead.{IsMeaning, IsAhead, KnowsNothing, placed_ahead}
 use Rattle.m4_engine.specs.Engine.{Engine, outer_of, here_of, allows_call, is_bare, configuration, put_in, with_text}
 use Rattle.m4_engine.specs.Engine.{with_one_call, with_made, is_deep_in}
 use Rattle.m4_engine.specs.Turns.{step, MayFollow, Extended, IsAt, Moves}
@@ -52,12 +52,6 @@ leaves_same e e1 h i j =
     ap (λ n. leaves_by n e.limits (length e.open_calls)) (sym h)
     ∙ ap (λ l. leaves_by e1.calls l (length e.open_calls)) (sym i)
     ∙ ap (leaves_by e1.calls e1.limits) (sym j)
-
--- an engine with other output or another argument has the same lookahead
-pub seen_same : (a : Lookahead) (e e1 : Engine) (room : Bool) (p : Pending) → room ≡ allows_call e → e1.state ≡ e.state → e1.calls ≡ e.calls → e1.limits ≡ e.limits → length e1.open_calls ≡ length e.open_calls → IsLookaheadOf a e.state room p → IsLookahead a e1 p
-seen_same a e e1 room p r s h i j k =
-    subst (λ (t : State). IsLookaheadOf a t (allows_call e1) p) (sym s)
-    (subst (λ (v : Bool). IsLookaheadOf a e.state v p) (r ∙ leaves_same e e1 h i j) k)
 
 -- what was seen after some bytes of a text, if the limits allow as many calls as before
 pub ahead_by : (a : Lookahead) (e e1 : Engine) (room m : Bool) (x y : List ℕ) (f : First) → room ≡ allows_call e
@@ -147,13 +141,6 @@ named_at e e1 p q p' (Ok u) m bare name f h w =
     subst (λ (v : Bool). Moves v e1 p' u (λ z more o l. step (outer_of e.open_calls) (take_name (top_of e.state name) name (longer z more q) (here_of o l e (longer z more p))))) f
     (h name (place_at p) (λ z more. longer z more p) (λ z more. refl) w)
 named_at e e1 p q p' (Err x) m bare name f h w = tt
-
--- a meaning at a place that is given by its parts
-pub meaning_at : (m : Meaning) (bare : Bool) (s : State) (name file : List ℕ) (line : ℕ) (p : Pending) → file ≡ name_of p → line ≡ line_of p → IsMeaning m bare s name (record { file = file; line = line }) → IsMeaning m bare s name (place_at p)
-meaning_at m bare s name file line p f g h =
-    subst (λ (x : Place). IsMeaning m bare s name x) (place_of p)
-    (subst (λ (l : ℕ). IsMeaning m bare s name (record { file = name_of p; line = l })) g
-    (subst (λ (x : List ℕ). IsMeaning m bare s name (record { file = x; line = line })) f h))
 
 -- a text that is called with no list
 pub expansion_moves : (e e1 : Engine) (m : Meaning) (x : List ℕ) (bare listed : Bool) (p p' : Pending)

@@ -449,15 +449,6 @@ freeze_broke old new s e out reported frozen frozen' l v i k o f =
       }),
     )
 
--- memory ran out before the frozen text was begun
-pub freeze_lacked : (old new : SessionState) (e : Stop) (out reported frozen frozen' : Option (List ℕ)) → IsOpen old
-    → old.saved ≡ [] → e ≡ stops.Ended causes.OutOfMemory → new.over ≡ Some causes.OutOfMemory → frozen' ≡ frozen
-    → FreezeGives old new
-    (record { two = writers out out reported reported; frozen_old = frozen; frozen_new = frozen' }) (Err e)
-freeze_lacked old new e out reported frozen frozen' l v k o f =
-    subst (λ (x : Stop). FreezeGives old new (record { two = writers out out reported reported; frozen_old = frozen; frozen_new = frozen' }) (Err x)) (sym k)
-    (broke_off true old new (writers out out reported reported) causes.OutOfMemory l v o refl (nothing_begun out _), f)
-
 -- the end of a run, of the writers of output and messages
 pub close_ends : (freezes : Bool) (old new : SessionState) (w : Three (Option (List ℕ))) (r : Result Unit Stop) → CloseGives freezes old new w r → EndGives freezes old new w.two r
 close_ends true old new w r h = h.0

@@ -437,9 +437,6 @@ by_answer n (Ok wrapped) none one h = h
 by_answer n (Err stops.Finished) none one h = h
 by_answer n (Err (stops.Ended cause)) none one h = h
 
-pub ended_wrote : (n : ℕ) (r : Result Bool Stop) (d : Ending) (none one : Type 0) → d ≡ ending_by n r → ByAnswer r none one → ByCause d.cause none one
-ended_wrote n r d none one j h = subst (λ (y : Ending). ByCause y.cause none one) (sym j) (by_answer n r none one h)
-
 spared_answer : (cause : Cause) (two two' : Contents) (frozen frozen' : Option (List ℕ)) → Spares cause (record { two = two; frozen_old = frozen; frozen_new = frozen' }) → Spares cause (record { two = two'; frozen_old = frozen; frozen_new = frozen' })
 spared_answer causes.Done two two' frozen frozen' h = tt
 spared_answer causes.Write two two' frozen frozen' h = tt
@@ -530,9 +527,6 @@ reload_begun o file out out' (Err (stops.Ended causes.Read)) h = absurd h
 reload_begun o file out out' (Err (stops.Ended (causes.Frozen fault))) h = tt
 reload_begun o file out out' (Err (stops.Ended causes.Write)) h = tt
 reload_begun o file out out' (Err (stops.Ended causes.OutOfMemory)) h = absurd h
-
-pub reload_refused : (o : Options) (file : Option Script) (out out' : Option (List ℕ)) (st : Result SessionState Stop) (fault : FrozenFault) → ReloadGives o file out out' st → st ≡ Err (stops.Ended (causes.Frozen fault)) → out' ≡ out
-reload_refused o file out out' st fault h e = (subst (ReloadGives o file out out') e h).0
 
 -- what a fresh run begins with
 fresh_by : (o : Options) (out : Option (List ℕ)) (st : Result SessionState Stop) → IfOk st (λ s. s ≡ fresh_session o) → IfErr st (λ e. e ≡ stops.Ended causes.OutOfMemory) → BeginGives (start_of o.prefix None) o out out st

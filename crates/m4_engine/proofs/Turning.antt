@@ -1,5 +1,5 @@
 -- Turning: a turn is what the token at the front makes of it, whatever follows the bytes in hand.
-use Rattle.std.proofs.Common.{◌≡◌, ◌⊎◌, inl, inr, ℕ, Bool, List, [], ◌∷◌, drop, Option, Some, None, refl, sym, ap}
+use Rattle.std.proofs.Common.{◌≡◌, ◌⊎◌, inl, inr, ℕ, Bool, List, drop, Option, Some, None, refl, sym, ap}
 use Rattle.std.proofs.Common.{◌∙◌, subst}
 use Rattle.std.specs.Prelude.{Result, Ok, Err, IfOk}
 use Rattle.m4_state.specs.declared.definition.Def.{Def}
@@ -22,15 +22,15 @@ use Rattle.m4_builtins.specs.Messages.{error}
 use Rattle.m4_engine.specs.declared.turned.Turned.{Turned}
 use Rattle.m4_engine.specs.declared.turned.TurnFault.{TurnFault}
 use Rattle.m4_engine.specs.declared.turned.Turned.TheVariants as turns
-use Rattle.m4_engine.specs.Nesting.{GoOn, Halted}
-use Rattle.m4_engine.specs.OpenCalls.{Stops, Goes}
-use Rattle.m4_engine.specs.Expansion.{Call, Ends, place_at, put_token, reading}
+use Rattle.m4_engine.specs.Nesting.{Halted}
+use Rattle.m4_engine.specs.OpenCalls.{Stops}
+use Rattle.m4_engine.specs.Expansion.{Call, Ends, place_at}
 use Rattle.m4_engine.specs.Expand.{take_call, take_end, take_name, take_token, take_front, call_of, unended_text}
 use Rattle.m4_engine.specs.Expand.{unended_cause}
 use Rattle.m4_engine.specs.Engine.{Engine, so_far_of, mode_of, outer_of, here_of, configuration, with_engine_message}
-use Rattle.m4_engine.specs.Engine.{with_text, with_token, put_token_in, IsReady}
+use Rattle.m4_engine.specs.Engine.{with_text, IsReady}
 use Rattle.m4_engine.specs.Turns.{step, moved, MayFollow, Extended, Stays, Moves, Makes, Steps, Turns, Needs}
-use Rattle.m4_engine.proofs.Acts.{result_by, turned_steps, turned_makes, text_limits, token_limits}
+use Rattle.m4_engine.proofs.Acts.{result_by, turned_steps, turned_makes, text_limits}
 use Rattle.m4_engine.proofs.Calling.{failed_at}
 use Rattle.m4_engine.proofs.Longer.{found_longer, broken_longer}
 use Rattle.m4_engine.proofs.Named.{place_of_file}
@@ -118,18 +118,6 @@ list_undecided e i d name n f s t u = record {
 pub no_definition : (q c : Delimiters) (m : Bool) (x : List ℕ) (t : Token) (n : ℕ) (d : Def) → scan q c m x ≡ Found t n → t ≡ Definition d → ⊥
 unfolding NoDefinition
 no_definition q c m x t n d e h = subst NoDefinition e (scan_plain q c m x) d h
-
--- a definition goes where it goes
-token_goes : (cs : List Call) (d : Def) (e : Engine) (p before : Pending) (o m : List ℕ) → e.open_calls ≡ cs → step (outer_of cs) (GoOn (put_token d (reading p (here_of o m (record e { open_calls = cs }) before)))) ≡ Goes (configuration o m (put_token_in cs d (record e { open_calls = cs })) p)
-token_goes [] d e p before o m h = refl
-token_goes (c ∷ cs) d e p before o m h = refl
-
-pub definition_moves : (e e1 : Engine) (d : Def) (p p1 : Pending) → p.definition ≡ Some d → p1 ≡ record p { definition = None } → e1 ≡ with_token d e → Moves p.may_follow e1 p1 turns.GoesOn (λ z more o m. moved (configuration o m e (longer z more p)))
-definition_moves e e1 d p p1 h g k = λ z more c o m.
-    ap (λ x. step (outer_of e.open_calls) (take_front (front_from x (e.state).quotes (e.state).comments (longer z more p)) (here_of o m e (longer z more p)))) h
-    ∙ token_goes e.open_calls d e (record (longer z more p) { definition = None }) (longer z more p) o m refl
-    ∙ ap (λ (x : Pending). Goes (configuration o m (with_token d e) (longer z more x))) (sym g)
-    ∙ ap (λ (x : Engine). Goes (configuration o m x (longer z more p1))) (sym k)
 
 -- ---- whole turns
 
@@ -248,17 +236,6 @@ pub list_turn : (e : Engine) (i : Held) (d : Def) (name : List ℕ) (n : ℕ) �
     → paren_in (e.state).quotes (e.state).comments (i.pending).may_follow (drop n (text_of i.pending)) ≡ Unknown
     → Turns (Ok turns.NeedsMore) e e i i
 list_turn e i d name n r f s t u = needs_turn e i r (list_undecided e i d name n f s t u)
-
--- a definition
-pub definition_turn : (e e1 : Engine) (d : Def) (i j : Held) → IsReady i → (i.pending).definition ≡ Some d → j ≡ record i { pending = record i.pending { definition = None } } → e1 ≡ with_token d e → Turns (Ok turns.GoesOn) e e1 i j
-definition_turn e e1 d i j r h g k =
-    subst (λ (j : Held). Turns (Ok turns.GoesOn) e e1 i j) (sym g)
-    (record {
-      moves = definition_moves e e1 d i.pending (record i.pending { definition = None }) h refl k;
-      ready = record { ready = record { sound = r.sound; front = tt }; follows = refl; file = refl };
-      limits = ap (λ (d : Engine). d.limits) k ∙ token_limits e.open_calls d e;
-      made = tt;
-    })
 
 -- no definition was removed
 pub none_removed : (i j : Held) → (i.pending).definition ≡ None → j ≡ record i { pending = record i.pending { definition = None } } → j ≡ i

@@ -15,7 +15,7 @@ use Rattle.m4_input.specs.declared.token.Token.{Token}
 use Rattle.m4_input.specs.Pending.{Pending, text_of, consumed}
 use Rattle.m4_input.specs.Token.{Taken, front_by, front_from}
 use Rattle.m4_input.specs.Input.{Held, longer, all_read, after_line, Reads, Asks, wants_line, IsLasting, Stopped}
-use Rattle.m4_input.specs.Input.{StopAsks, IsLeft, wants_token, NextGives, SkipGives}
+use Rattle.m4_input.specs.Input.{StopAsks, wants_token, NextGives}
 use Rattle.m4_input.specs.Blocks.{BlockGives, LooksAt, LineGives}
 use Rattle.m4_input.proofs.Calls.{reads_nothing, asks_nothing}
 use Rattle.m4_input.proofs.Decided.{scan_open, line_open, no_newline}
@@ -182,15 +182,6 @@ skipped_more s a b old h k new x p came r g n =
         rest = rest_dropped y came p ∙ ap all_read (sym now);
       },
     )
-
-pub skipped_stops : (s a b : Option Script) (old h k new : Held) (x : List ℕ) (p : Pending) (f : InputFault) → HasSkipped s a old h x p → LineGives h k false → BlockGives a b k new (Err f) → SkipGives s b old new (Err f)
-skipped_stops s a b old h k new x p f r g n =
-    let d = dropped s a old h k x p r g in
-    let m = asked_stops wants_line s a b old k new x p f d.0 (line_open p d.1) d.1 n in
-    skip_err s b old new x p f m.0 m.1 (inr (d.1, m.2 ∙ d.2))
-  where
-    skip_err : (s b : Option Script) (old new : Held) (x : List ℕ) (p : Pending) (f : InputFault) → Stopped f s b old new x p → StopAsks wants_line f old x p → IsLeft p new.pending → SkipGives s b old new (Err f)
-    skip_err s b old new x p f u v w = (x, p, u, v, w)
 
 -- more may follow after so many more blocks, or nothing
 abbrev pub blocks_left : Bool → ℕ → ℕ

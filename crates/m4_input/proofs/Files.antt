@@ -1,5 +1,5 @@
 -- Files: bytes of which the first were pushed, when some are consumed, put before them or come after them.
-use Rattle.std.proofs.Common.{◌≡◌, ℕ, zero, suc, ◌+◌, ◌-◌, ◌≤◌, List, [], ◌∷◌, ◌++◌, length, take, drop, refl, sym, ap, ◌∙◌, arith}
+use Rattle.std.proofs.Common.{◌≡◌, ℕ, zero, suc, ◌+◌, ◌-◌, ◌≤◌, List, [], ◌∷◌, ◌++◌, length, take, drop, sym, ap, ◌∙◌, arith}
 use Rattle.std.proofs.lemmas.List.{drop-drop, length-take-le, take-append-le, drop-append-le}
 use Rattle.std.proofs.lemmas.List.Sums.{sum_by-take-drop}
 use Rattle.std.proofs.Math.Seq.{take-append-add, drop-append-add, take-nil}

@@ -337,9 +337,6 @@ scan_so q c (b ∷ y) k e n = (b, y, refl, ap (λ i. scan_kind i q c true b y) e
 pub name_begins : (q c : Delimiters) (x : List ℕ) → kind_in q c x ≡ NameHere → NameIsOpen q c 0 x
 name_begins q c x e = record { kind = e; within = omega arith; same = λ z. (let n : ℕ = run_length is_name_byte (x ++ z) in let i : n ≡ 0 + n = omega arith in i) }
 
-pub comment_begins : (q c : Delimiters) (x : List ℕ) → kind_in q c x ≡ CommentHere → length c.begin ≤ length x → CommentIsOpen q c 0 x
-comment_begins q c x e l = record { kind = e; long = l; within = omega arith; same = λ z. sym (no_further (before c.end (drop (length c.begin) x ++ z))) }
-
 pub string_begins : (q c : Delimiters) (x : List ℕ) → kind_in q c x ≡ StringHere → length q.begin ≤ length x → StringIsOpen q c 0 0 x
 string_begins q c x e l = record { kind = e; long = l; passed = none_passed q true 0 (drop (length q.begin) x) }
 

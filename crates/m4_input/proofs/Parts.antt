@@ -2,9 +2,8 @@
 use Rattle.std.proofs.Common.{◌≡◌, ℕ, zero, suc, ◌+◌, ◌-◌, ◌<◌, ◌≤◌, List, [], ◌∷◌, ◌++◌, length, take, drop, refl}
 use Rattle.std.proofs.Common.{sym, ap, ◌∙◌, arith, length-append, min}
 use Rattle.std.proofs.Math.ListN.{drop_of_length-le}
-use Rattle.std.proofs.Math.Seq.{take-add, drop-nil}
+use Rattle.std.proofs.Math.Seq.{take-add}
 use Rattle.m4_input.specs.Pending.{counted, newlines_in}
-use Rattle.std.proofs.lemmas.List.{append-nil}
 use Rattle.std.proofs.lemmas.List.Sums.{sum_by-append}
 use Rattle.std.specs.Prelude.{cond, ◌==◌, ◌^◌}
 use Rattle.m4_input.specs.Ascii.{newline}
@@ -43,20 +42,6 @@ counted_twice n a b = omega arith
 pub counted_is : (n a : ℕ) → n < 2 ^ 64 → min (n + a) (2 ^ 64 - 1) ≡ counted n a
 counted_is n a h = omega arith
 
--- what is left where all that is taken was pushed
-pub pushed_after : (t : HeldText) (p : List ℕ) (n : ℕ) → n ≤ length t.pushed → p ≡ drop n t.pushed → record t { pushed = p } ≡ text_after n t
-pushed_after t p n h e =
-    let none : 0 ≡ n - length t.pushed = omega arith in
-    ap (λ (q : List ℕ). let u : HeldText = record { pushed = q; unread = t.unread; newlines = t.newlines } in u) e
-    ∙ ap (λ m. let u : HeldText = record { pushed = drop n t.pushed; unread = t.unread; newlines = m } in u) (sym (counted_none t.newlines))
-    ∙ ap (λ m. let u : HeldText = record { pushed = drop n t.pushed; unread = drop m t.unread; newlines = counted t.newlines (newlines_in (take m t.unread)) } in u) none
-
--- a list that is as long as the part that it replaces
-pub refilled : (n : ℕ) (x y : List ℕ) → length x ≡ n → take n (x ++ y) ≡ x
-refilled n x y h =
-    let none : n - length x ≡ 0 = omega arith in
-    take_parts n x y ∙ ap (λ m. take n x ++ take m y) none ∙ append-nil (take n x) ∙ take_long n x (omega arith)
-
 -- text that is stored separately at the start is consumed, and then some of the rest
 pub apart_taken : (x : List ℕ) (t : HeldText) (n : ℕ) → length x ≤ n → text_after (n - length x) t ≡ text_after n (record t { pushed = x ++ t.pushed })
 apart_taken x t n h =
@@ -66,16 +51,3 @@ apart_taken x t n h =
     sym (drop_parts n x t.pushed ∙ ap (λ (z : List ℕ). z ++ drop (n - length x) t.pushed) (drop_of_length-le x (omega arith))) in
     ap (λ i. let u : HeldText = record { pushed = drop (n - length x) t.pushed; unread = drop i t.unread; newlines = counted t.newlines (newlines_in (take i t.unread)) } in u) m
     ∙ ap (λ (z : List ℕ). let u : HeldText = record { pushed = z; unread = drop (n - length (x ++ t.pushed)) t.unread; newlines = counted t.newlines (newlines_in (take (n - length (x ++ t.pushed)) t.unread)) } in u) p
-
-pub apart_left : (x y : List ℕ) (n : ℕ) → n ≤ length x → drop n x ++ y ≡ drop n (x ++ y)
-apart_left x y n h =
-    let e : 0 ≡ n - length x = omega arith in
-    ap (λ m. drop n x ++ drop m y) e ∙ sym (drop_parts n x y)
-
--- only bytes of the file are consumed
-pub file_after : (m : ℕ) (f : HeldText) (u : List ℕ) (k : ℕ) → u ≡ drop m f.unread → k ≡ counted f.newlines (newlines_in (take m f.unread)) → record { pushed = []; unread = u; newlines = k } ≡ text_after m (record { pushed = []; unread = f.unread; newlines = f.newlines })
-file_after m f u k e h =
-    let none : m ≡ m - 0 = omega arith in
-    ap (λ (x : List ℕ). let t : HeldText = record { pushed = []; unread = x; newlines = k } in t) (e ∙ ap (λ i. drop i f.unread) none)
-    ∙ ap (λ i. let t : HeldText = record { pushed = []; unread = drop (m - 0) f.unread; newlines = i } in t) (h ∙ ap (λ i. counted f.newlines (newlines_in (take i f.unread))) none)
-    ∙ ap (λ (x : List ℕ). let t : HeldText = record { pushed = x; unread = drop (m - 0) f.unread; newlines = counted f.newlines (newlines_in (take (m - 0) f.unread)) } in t) (sym (drop-nil m))

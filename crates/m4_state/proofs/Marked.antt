@@ -1,11 +1,10 @@
 -- Marked: the names of a table have marks, also after it changed.
-use Rattle.std.proofs.Common.{◌≡◌, List, ℕ, [], ◌∷◌, ◌++◌, Bool, true, false, not, refl, sym, ap, subst, ◌∙◌, T}
+use Rattle.std.proofs.Common.{◌≡◌, List, ℕ, [], ◌∷◌, Bool, true, false, not, refl, sym, subst, ◌∙◌, T}
 use Rattle.std.specs.Prelude.{Option, Some, None, Result, Ok, Err, OnOk, OnErr, unwrap_or}
-use Rattle.std.specs.List.{AllByRecursion}
 use Rattle.std.specs.FinMap.{find, put}
 use Rattle.std.specs.Str.{bytes_eq}
 use Rattle.m4_state.specs.declared.definition.Def.{Def}
-use Rattle.m4_state.specs.Table.{Pair, Pairs, byte_order, stack_at, without, with_stack, without_top, but_last}
+use Rattle.m4_state.specs.Table.{Pairs, byte_order, stack_at, without, with_stack, without_top, but_last}
 use Rattle.m4_state.specs.Marks.{is_marked, IsMarkedBy, AreMarked}
 use Rattle.std.specs.Cmp.Lexicographic.{nat_list_cmp_total}
 use Rattle.m4_state.proofs.Pairs.{AllByRecursion-put, AllByRecursion-find}

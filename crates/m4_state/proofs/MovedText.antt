@@ -169,10 +169,6 @@ module _ (n c : ℤ) (ds : List Diversion) (sorted : IsTrue (is_sorted int_cmp d
   is_there : find int_cmp n ds ≡ Some (text_at ds n)
   is_there = some_found n (find int_cmp n ds) some
 
-  -- so it can be swapped out
-  pub is_found_before : find int_cmp n ds ≢ None
-  is_found_before none = let bad : Some (text_at ds n) ≡ None = sym is_there ∙ none in absurd cc
-
   module _ (es : List Diversion) (empty : List ℕ) (is_empty : empty ≡ []) (written : es ≡ put int_cmp n empty ds) where
     out : es ≡ put int_cmp n [] ds
     out = written ∙ ap (λ (x : List ℕ). put int_cmp n x ds) is_empty

@@ -142,9 +142,23 @@ static LONG: &str = "abcdefghijklmnopqrstuvwxyz01234";
 
 static PUTS: [PutRow; 8] = [
     ("one byte", "abcd", Way::Copied, 2, "x", "put axcd"),
-    ("from the first on", "abcd", Way::Copied, 3, "xyz", "put xyzd"),
+    (
+        "from the first on",
+        "abcd",
+        Way::Copied,
+        3,
+        "xyz",
+        "put xyzd",
+    ),
     ("at the end", "abcd", Way::Shared, 4, "xy", "put abxy"),
-    ("more than are there", "abcd", Way::Copied, 2, "xyz", "left abcd"),
+    (
+        "more than are there",
+        "abcd",
+        Way::Copied,
+        2,
+        "xyz",
+        "left abcd",
+    ),
     ("no byte", "abcd", Way::Copied, 0, "", "put abcd"),
     (
         "in a buffer of the text's own",

@@ -2,7 +2,7 @@ use Rattle.std.proofs.Common.{◌≡◌, ◌+◌, ◌-◌, List, ℕ, take, drop
 use Rattle.std.proofs.lemmas.List.{drop-drop, take-append-drop}
 use Rattle.m4_input.specs.Pending.{counted, newlines_in}
 use Rattle.m4_input.specs.FileView.{left_in, split_at}
-use Rattle.m4_input.specs.Text.{HeldText, text_in, text_after}
+use Rattle.m4_input.specs.Text.{text_in, text_after}
 use Rattle.m4_input.proofs.Parts.{counted_none}
 use Rattle.m4_input.proofs.Files.{taken, no_newlines_between}
 use Rattle.m4_input.proofs.file.File.pass.Goals as goal

@@ -1,6 +1,6 @@
-use Rattle.std.proofs.Common.{◌≡◌, ◌≤◌, ◌+◌, ◌-◌, ◌++◌, [], List, ℕ, length, ap, ◌∙◌, sym, arith, length-append}
+use Rattle.std.proofs.Common.{◌≡◌, ◌+◌, ◌-◌, ◌++◌, [], List, ℕ, length, ap, ◌∙◌, sym, arith, length-append}
 use Rattle.std.proofs.lemmas.List.{nil_from_length}
-use Rattle.m4_input.specs.Text.{HeldText, joined, with_text, text_in, text_after}
+use Rattle.m4_input.specs.Text.{joined, with_text, text_in, text_after}
 use Rattle.m4_input.specs.TextView.{view_of}
 use Rattle.m4_input.proofs.Joins.{joined_push, joined_length, text_first, first_taken}
 use Rattle.m4_input.proofs.text.Text.consume_across.Goals as goal

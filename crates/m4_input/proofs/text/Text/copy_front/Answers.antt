@@ -37,8 +37,8 @@ segments-preserved c =
       copied ∙ ap (λ (x : List ℕ). take c.args.most (x ++ c.rest-in-Some.result.now)) c.segments.invariant.1
           ∙ take_more c.args.most done c.rest-in-Some.result.now ∙ ap (λ (x : List ℕ). take c.args.most (done ++ x)) c.rest-in-Some.ensures,
       ap (λ (x : List ℕ). x ++ text_in (c.self.inside.file))
-      (append_assoc done next (joined c.in-Some.others.now) ∙ ap (λ (x : List ℕ). done ++ x) (sym (joined_push c.in-Some.others.now next))
-      ∙ ap (λ (x : List (List ℕ)). done ++ joined x) (sym c.in-Some.ensures.cases.0))
+          (append_assoc done next (joined c.in-Some.others.now) ∙ ap (λ (x : List ℕ). done ++ x) (sym (joined_push c.in-Some.others.now next))
+          ∙ ap (λ (x : List (List ℕ)). done ++ joined x) (sym c.in-Some.ensures.cases.0))
           ∙ c.segments.invariant.2,
     )
 

@@ -1,4 +1,4 @@
-use Rattle.std.proofs.Common.{◌≡◌, ◌≤◌, ◌<◌, ◌++◌, ◌+◌, ◌-◌, [], ◌∷◌, List, ℕ, suc, length, take, ap, sym, refl, ◌∙◌, arith, append_assoc, length-append}
+use Rattle.std.proofs.Common.{◌≡◌, ◌++◌, ◌+◌, ◌-◌, [], List, ℕ, suc, length, take, ap, sym, refl, ◌∙◌, arith, append_assoc, length-append}
 use Rattle.std.proofs.Math.ListN.{set}
 use Rattle.std.proofs.lemmas.List.{nil_from_length}
 use Rattle.std.specs.Vec.{vec_len}
@@ -33,10 +33,10 @@ invariant_of-self-in-Some-pop c =
     ∙ ap (λ (x : List ℕ). length x + length (joined front)) put ∙ ap (λ n. n + length (joined front)) (length-append top s) in (
       (omega (arith, whole, c.len-len.ensures.len, c.self.invariant), omega (arith, whole, c.len-len.ensures.len, c.self.invariant)),
       λ e.
-      let none : length c.in-Some-pop.next ≡ 0 = ap length e in
-      let gone : below ≡ [] = c.self.invariant.1 (nil_from_length top (omega (arith, none, long))) in
-      let no : length below ≡ 0 = ap length gone in
-      absurd (omega (arith, no, l)),
+          let none : length c.in-Some-pop.next ≡ 0 = ap length e in
+          let gone : below ≡ [] = c.self.invariant.1 (nil_from_length top (omega (arith, none, long))) in
+          let no : length below ≡ 0 = ap length gone in
+          absurd (omega (arith, no, l)),
     )
 
 pub returns-in-Some-pop : goal.returns-in-Some-pop

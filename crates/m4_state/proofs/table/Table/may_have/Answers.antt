@@ -1,4 +1,4 @@
-use Rattle.std.proofs.Common.{◌≡◌, sym, ap, ◌∙◌, []}
+use Rattle.std.proofs.Common.{sym, ap, ◌∙◌}
 use Rattle.m4_state.specs.Table.{stack_at}
 use Rattle.m4_state.specs.Entries.{in_order}
 use Rattle.m4_state.proofs.Marked.{unmarked_absent}
