@@ -130,9 +130,8 @@ impl State {
         self.table.stack(name)
     }
 
-    /// Returns the top definition of a name, which is a valid one. Most words of a text have no mark in the table. Not
-    /// inlined: a loop over tokens then has the registers for itself.
-    #[inline(never)]
+    /// Returns the top definition of a name, which is a valid one. Most words of a text have no mark in the table.
+    #[inline(always)]
     pub fn top(&self, name: &[u8]) -> Option<&Def>
         // exact steps: the last of the record's definitions of the name
         ensures top { option_copied result ≡ top_of self.now name.now }
