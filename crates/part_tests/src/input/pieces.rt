@@ -2,7 +2,7 @@
 
 use super::steps::{PLAIN, Row, Step, tried};
 
-static ROWS: [Row; 5] = [
+static ROWS: [Row; 7] = [
     Row {
         name: "a name whose first byte is the last of a text, and whose next is the file's",
         file: "b c",
@@ -26,14 +26,27 @@ static ROWS: [Row; 5] = [
             Step::Push("`"),
             Step::Push("a"),
             Step::Push("n"),
-            Step::Hand,
             Step::Next,
             Step::Next,
             Step::Next,
             Step::SeesParen,
             Step::Hand,
         ],
-        want: "more\n[na`cd')(e]\nname na\nstring cd\nbyte )\nlist\n[(e]\n",
+        want: "more\nname na\nstring cd\nbyte )\nlist\n[(e]\n",
+        ..PLAIN
+    },
+    Row {
+        name: "texts, the last one first, and then the file",
+        file: "d\ne",
+        steps: &[
+            Step::More,
+            Step::Push("c"),
+            Step::Push("`"),
+            Step::Push("a"),
+            Step::TakeAll,
+            Step::Line,
+        ],
+        want: "more\n[a`cd\ne]\nline 2\n",
         ..PLAIN
     },
     Row {
@@ -57,16 +70,29 @@ static ROWS: [Row; 5] = [
             Step::Take(1),
             Step::PushMany(5_000),
             Step::Take(4_998),
-            Step::Hand,
             Step::Push("x\n"),
-            Step::Hand,
             Step::Line,
             Step::PushMany(20_000),
             Step::Take(20_006),
             Step::Hand,
             Step::Line,
         ],
-        want: "more\n[xxb\nc]\n[x\nxxb\nc]\nline 1\n[c]\nline 2\n",
+        want: "more\nline 1\n[c]\nline 2\n",
+        ..PLAIN
+    },
+    Row {
+        name: "a short text before a long one of which some was read",
+        file: "ab\nc",
+        steps: &[
+            Step::More,
+            Step::Take(1),
+            Step::PushMany(5_000),
+            Step::Take(4_998),
+            Step::Push("x\n"),
+            Step::TakeAll,
+            Step::Line,
+        ],
+        want: "more\n[x\nxxb\nc]\nline 2\n",
         ..PLAIN
     },
     Row {
@@ -81,11 +107,12 @@ static ROWS: [Row; 5] = [
             Step::Hand,
             Step::Line,
             Step::Push("longer "),
-            Step::Hand,
             Step::Line,
             Step::Next,
+            Step::Next,
+            Step::Hand,
         ],
-        want: "more\n[ab\nc]\nline 1\n[x\nc]\nline 2\n[longer x\nc]\nline 2\nname longer\n",
+        want: "more\n[ab\nc]\nline 1\n[x\nc]\nline 2\nline 2\nname longer\nbyte  \n[x\nc]\n",
         ..PLAIN
     },
 ];

@@ -51,7 +51,9 @@ pub enum Step {
     Push(&'static str),
     PushMany(usize),
     PushDefinition(Given),
-    /// The bytes in hand, the line, the file's name, and how many bytes the reader returned.
+    /// Removes all bytes in hand, and reports them.
+    TakeAll,
+    /// The bytes in hand that are contiguous, the line, the file's name, and how many bytes the reader returned.
     Hand,
     Line,
     Name,
@@ -285,24 +287,44 @@ fn list_after(
     }
 }
 
-/// Returns the bytes in hand.
+/// Returns the bytes in hand that are contiguous: all of them, if no text is on the stack.
 pub fn in_hand(alloc: Global, input: &Input) -> Result<Vec<u8>, AllocError>
     ensures { IfOk result (λ hand. length hand.items ≤ length (text_of input.now.pending)) }
 {
-    let mut hand = Vec::new(alloc);
-    let _others = input.copy_front(usize::MAX, &mut hand)?;
-    Ok(hand)
+    match input.front() {
+        Some((front, _)) => Vec::from_slice(alloc, front),
+        None => Ok(Vec::new(alloc)),
+    }
 }
 
-/// Adds the bytes in hand.
-pub fn describe_hand(alloc: Global, input: &Input, report: &mut Report) {
-    match in_hand(alloc, input) {
-        Ok(hand) => {
-            report.pair(b"[", &hand);
+// How many texts are on the stack at most.
+const TEXTS: usize = 8;
+
+// Removes all bytes in hand, text by text, and returns them.
+fn take_all(alloc: Global, input: &mut Input) -> Result<Vec<u8>, AllocError> {
+    let mut all = Vec::new(alloc);
+    for _ in 0..TEXTS {
+        let front = in_hand(alloc, input)?;
+        all.extend_from_slice(&front)?;
+        input.consume(front.len());
+    }
+    Ok(all)
+}
+
+// Adds some bytes, if there was memory for them.
+fn describe_bytes(bytes: Result<Vec<u8>, AllocError>, report: &mut Report) {
+    match bytes {
+        Ok(bytes) => {
+            report.pair(b"[", &bytes);
             report.add(b"]\n");
         }
         Err(AllocError) => report.refuse(),
     }
+}
+
+/// Adds the bytes in hand that are contiguous.
+pub fn describe_hand(alloc: Global, input: &Input, report: &mut Report) {
+    describe_bytes(in_hand(alloc, input), report);
 }
 
 /// Adds the line.
@@ -340,10 +362,14 @@ fn take_definition(input: &mut Input, report: &mut Report) {
     report.add(b"\n");
 }
 
-// Removes so many bytes, or all if there are fewer.
+// Removes so many bytes, or all if there are fewer, text by text.
 fn take_front(alloc: Global, input: &mut Input, n: usize) -> Result<(), AllocError> {
-    let len = in_hand(alloc, input)?.len().min(n);
-    input.consume(len);
+    let mut left = n;
+    for _ in 0..TEXTS {
+        let len = in_hand(alloc, input)?.len().min(left);
+        input.consume(len);
+        left = left.saturating_sub(len);
+    }
     Ok(())
 }
 
@@ -398,6 +424,7 @@ fn answer_in_hand(alloc: Global, input: &mut Input, step: Step, report: &mut Rep
         Step::Push(text) => put(alloc, input, text.as_bytes(), report),
         Step::PushMany(count) => put_many(alloc, input, count, report),
         Step::PushDefinition(given) => put_definition(alloc, input, given, report),
+        Step::TakeAll => describe_bytes(take_all(alloc, input), report),
         Step::Hand => describe_hand(alloc, input, report),
         Step::Line => describe_line(input, report),
         Step::Name => describe_name(input, report),

@@ -138,7 +138,7 @@ type PutRow = (
 );
 
 // A text of one byte more than is held in place.
-static LONG: &str = "abcdefghijklmnopqrstuvwxyz01234";
+const LONG: &str = "abcdefghijklmnopqrstuvwxyz01234";
 
 static PUTS: [PutRow; 8] = [
     ("one byte", "abcd", Way::Copied, 2, "x", "put axcd"),
@@ -190,9 +190,11 @@ static PUTS: [PutRow; 8] = [
 fn put(alloc: Global, row: &PutRow) -> Result<Vec<u8>, AllocError> {
     let mut text = held(alloc, row.1.as_bytes(), row.2)?;
     let at = row.3.min(text.as_slice().len());
-    let was_put = text.put_before(at, row.4.as_bytes());
-    let word: &[u8] = if was_put { b"put " } else { b"left " };
-    joined(alloc, &[word, text.as_slice()])
+    if text.put_before(at, row.4.as_bytes()) {
+        joined(alloc, &[b"put ", text.as_slice()])
+    } else {
+        joined(alloc, &[b"left ", text.as_slice()])
+    }
 }
 
 #[test]
