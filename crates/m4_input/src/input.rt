@@ -13,6 +13,7 @@ ghost use Rattle.m4_state.specs.Device.{Script};
 ghost use Rattle.m4_input.specs.DelimsView.{pair_of};
 ghost use Rattle.m4_input.specs.Pending.{consumed, line_of, name_of, newlines_in, text_of};
 ghost use Rattle.m4_input.specs.Look.{scan_of};
+ghost use Rattle.m4_input.specs.Paren.{paren_in};
 ghost use Rattle.m4_input.specs.Token.{scan};
 ghost use Rattle.m4_input.specs.declared.front.Answer.TheVariants.{Unknown};
 ghost use Rattle.m4_input.specs.declared.front.Scan.TheVariants.{NeedsMore};
@@ -91,7 +92,7 @@ impl Drop for Input {
 impl Input {
     ghost use Rattle.m4_input.specs.Input.{Held, IsLasting, unread_file, wrapped_text, with_pushed, all_read};
     ghost use Rattle.m4_input.specs.Input.{NextGives, ParenGives, SkipGives, failures_after};
-    ghost use Rattle.m4_input.specs.Blocks.{BlockGives, TokenGives, LooksAt, ListGives, LineGives, IsInFront};
+    ghost use Rattle.m4_input.specs.Blocks.{BlockGives, TokenGives, LooksAt, LineGives, IsInFront};
     ghost use Rattle.m4_input.specs.Text.{LiesIn};
     ghost use Rattle.m4_input.specs.OpenToken.{IsOpenAt};
     ghost use Rattle.m4_input.specs.InputView.{fault_of};
@@ -173,21 +174,27 @@ impl Input {
         }
     }
 
-    /// Returns the bytes at the start that are contiguous, and whether others in hand come after them. Returns `None`
-    /// if a definition comes before them.
+    /// Returns bytes at the start in one slice, and whether others in hand come after them. If so, there are more than
+    /// `looked` of them: those that are contiguous, or a copy of more. Returns `None` if a definition comes before them.
     #[doc(hidden)]
     #[inline(always)]
-    pub fn front(&self) -> Option<(&[u8], bool)>
-        ensures text { IfSome result (λ r. IsInFront self.now.pending r.0.now (r.1 || self.now.pending.may_follow)) }
-        ensures all { IfSome result (λ r. r.1 ≡ false → r.0.now ≡ text_of self.now.pending) }
-        ensures some { IfSome result (λ r. r.1 ≡ true → 0 < length r.0.now) }
-        ensures first { IfSome result (λ r. self.now.pending.definition ≡ None) }
-        ensures none { IfNone result (self.now.pending.definition ≢ None) }
+    pub fn front<'a>(
+        &'a self,
+        looked: usize,
+        copy: &'a mut Vec<u8>,
+    ) -> Result<Option<(&'a [u8], bool)>, AllocError>
+        ensures text { IfOk result (λ o. IfSome o (λ r. IsInFront self.now.pending r.0.now
+            (r.1 || self.now.pending.may_follow))) }
+        ensures all { IfOk result (λ o. IfSome o (λ r. r.1 ≡ false → r.0.now ≡ text_of self.now.pending)) }
+        ensures longer { IfOk result (λ o. IfSome o (λ r. r.1 ≡ true → looked < length r.0.now)) }
+        ensures first { IfOk result (λ o. IfSome o (λ r. self.now.pending.definition ≡ None)) }
+        ensures none { IfOk result (λ o. IfNone o (self.now.pending.definition ≢ None)) }
     {
         if self.definition.is_some() {
-            return None;
+            return Ok(None);
         }
-        Some(self.text.front())
+        let front = self.text.longer_front(looked, copy)?;
+        Ok(Some(front))
     }
 
     /// Puts the bytes at the start that are contiguous, if they are few, before those that come after them, so that
@@ -330,7 +337,7 @@ impl Input {
             return Ok(false);
         }
         'blocks: loop {
-            match self.list_after(0, delims) {
+            match self.list_in_front(delims) {
                 Ok(Answer::Yes) => return Ok(true),
                 Ok(Answer::No) => return Ok(false),
                 Ok(Answer::Unknown) => {
@@ -457,81 +464,47 @@ impl Input {
         }
     }
 
-    /// Returns the first token of the bytes in hand: by the bytes that are contiguous, if these decide it.
+    /// Returns the first token of the bytes in hand, by as many of them as decide it.
     fn look_in_front(&self, delims: &Delims<'_>) -> Result<Scan, AllocError>
         ensures value { IfOk result (λ s. s ≡ scan (pair_of delims.now.quotes) (pair_of delims.now.comments)
             self.now.pending.may_follow (text_of self.now.pending)) }
         ensures within { IfOk result (λ s. LiesIn (length (text_of self.now.pending)) s) }
     {
-        let (text, more) = self.text.front();
-        if !more {
-            let look = first_token(text, delims, self.may_follow);
-            return copied(self.alloc, look, text);
-        }
-        let look = first_token(text, delims, true);
-        if is_open(look) {
-            return self.look_across(text.len(), delims);
-        }
-        copied(self.alloc, look, text)
-    }
-
-    /// Returns the first token, which the first `fewer` bytes leave open: more bytes are joined, twice as many at each
-    /// look, so that each byte of a token is copied and looked at only a few times.
-    fn look_across(&self, fewer: usize, delims: &Delims<'_>) -> Result<Scan, AllocError>
-        ensures value { IfOk result (λ s. s ≡ scan (pair_of delims.now.quotes) (pair_of delims.now.comments)
-            self.now.pending.may_follow (text_of self.now.pending)) }
-        ensures within { IfOk result (λ s. LiesIn (length (text_of self.now.pending)) s) }
-    {
-        let all = self.text.len();
-        let mut len = all.min(fewer.max(64));
-        let mut front = Vec::new(self.alloc);
-        'joins: while len < all {
-            let _others = self.text.copy_front(len, &mut front)?;
-            let look = first_token(front.as_slice(), delims, true);
-            if !is_open(look) {
-                return copied(self.alloc, look, front.as_slice());
+        let mut copy = Vec::new(self.alloc);
+        let mut looked = 0;
+        'fronts: loop {
+            let (text, others) = self.text.longer_front(looked, &mut copy)?;
+            if !others {
+                let look = first_token(text, delims, self.may_follow);
+                return copied(self.alloc, look, text);
             }
-            len = all.min(len.saturating_add(len.max(64)));
+            let look = first_token(text, delims, true);
+            if !is_open(look) {
+                return copied(self.alloc, look, text);
+            }
+            looked = text.len();
         }
-        let _others = self.text.copy_front(all, &mut front)?;
-        let look = first_token(front.as_slice(), delims, self.may_follow);
-        copied(self.alloc, look, front.as_slice())
     }
 
-    /// Returns whether an argument list follows the first n bytes in hand; `Unknown` if bytes that may follow
-    /// decide it. Consumes nothing. Manual: "Macro invocation".
-    pub fn list_after(&self, n: usize, delims: &Delims<'_>) -> Result<Answer, AllocError>
-        requires { n ≤ length (text_of self.now.pending) }
-        // exact steps: whether a list follows, by the bytes in hand
-        ensures { IfOk result (λ answer. ListGives (pair_of delims.now.quotes) (pair_of delims.now.comments) n
-            self.now.pending answer) }
+    /// Returns whether an argument list comes first, by as many bytes in hand as decide it; `Unknown` if bytes that may
+    /// follow decide it. Manual: "Macro invocation".
+    fn list_in_front(&self, delims: &Delims<'_>) -> Result<Answer, AllocError>
+        ensures { IfOk result (λ answer. paren_in (pair_of delims.now.quotes) (pair_of delims.now.comments)
+            self.now.pending.may_follow (text_of self.now.pending) ≡ answer) }
     {
-        let (text, more) = self.text.front();
-        if !more {
-            return Ok(list_follows(text.split_at(n).1, delims, self.may_follow));
-        }
-        if n < text.len() {
-            let answer = list_follows(text.split_at(n).1, delims, true);
+        let mut copy = Vec::new(self.alloc);
+        let mut looked = 0;
+        'fronts: loop {
+            let (text, others) = self.text.longer_front(looked, &mut copy)?;
+            if !others {
+                return Ok(list_follows(text, delims, self.may_follow));
+            }
+            let answer = list_follows(text, delims, true);
             if !is_unknown(answer) {
                 return Ok(answer);
             }
+            looked = text.len();
         }
-        self.list_across(n, delims)
-    }
-
-    /// Returns the same by a copy of enough bytes that no delimiter is cut.
-    fn list_across(&self, n: usize, delims: &Delims<'_>) -> Result<Answer, AllocError>
-        requires { n ≤ length (text_of self.now.pending) }
-        ensures { IfOk result (λ answer. ListGives (pair_of delims.now.quotes) (pair_of delims.now.comments) n
-            self.now.pending answer) }
-    {
-        // For the proof alone: a length has 64 bits.
-        let _small = self.text.len();
-        let longest = delims.quotes.0.len().max(delims.comments.0.len()).max(1);
-        let mut front = Vec::new(self.alloc);
-        let others = self.text.copy_front(n.saturating_add(longest), &mut front)?;
-        let rest = front.as_slice().split_at(n).1;
-        Ok(list_follows(rest, delims, others || self.may_follow))
     }
 
     /// Discards a definition and the rest of the line as far as it is in hand. Returns whether that was all of

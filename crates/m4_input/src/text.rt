@@ -23,6 +23,9 @@ const MOST_BELOW: usize = 1 << 62;
 /// A text of at most so many bytes is put before the bytes that come next. To copy it takes less than a segment.
 const SHORT: usize = 30;
 
+/// How many bytes at least are copied, so that a token across two texts is contiguous.
+const LEAST_COPIED: usize = 64;
+
 /// The greatest capacity of a buffer that is kept.
 const LARGEST_KEPT: usize = 65536;
 
@@ -128,10 +131,30 @@ impl Text {
         }
     }
 
-    /// Copies the first bytes, at most `most`. Returns whether others come after them. Inlined, since a pass calls it
-    /// for each short result.
+    /// Returns bytes at the start in one slice, and whether others in hand come after them. If so, there are more than
+    /// `looked` of them: the bytes that are contiguous, or a copy of twice as many as `looked`. So a token that lies
+    /// across several texts is looked at in time that is in proportion to its length.
     #[inline(always)]
-    pub fn copy_front(&self, most: usize, copy: &mut Vec<u8>) -> Result<bool, AllocError>
+    pub fn longer_front<'a>(
+        &'a self,
+        looked: usize,
+        copy: &'a mut Vec<u8>,
+    ) -> Result<(&'a [u8], bool), AllocError>
+        ensures begins { IfOk result (λ r. r.0.now ≡ take (length r.0.now) (text_in self.now)) }
+        ensures all { IfOk result (λ r. r.1 ≡ false → r.0.now ≡ text_in self.now) }
+        ensures longer { IfOk result (λ r. r.1 ≡ true → looked < length r.0.now) }
+    {
+        let (text, others) = self.front();
+        if !others || looked < text.len() {
+            return Ok((text, others));
+        }
+        let others = self.copy_front(looked.saturating_add(looked.max(LEAST_COPIED)), copy)?;
+        Ok((copy.as_slice(), others))
+    }
+
+    /// Copies the first bytes, at most `most`. Returns whether others come after them.
+    #[inline(never)]
+    fn copy_front(&self, most: usize, copy: &mut Vec<u8>) -> Result<bool, AllocError>
         ensures bytes { OnOk result (copy.new.items ≡ take most (text_in self.now)) }
         ensures others { IfOk result (λ b. b ≡ nat_lt most (length (text_in self.now))) }
     {
