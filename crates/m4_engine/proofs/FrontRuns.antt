@@ -1,12 +1,15 @@
 -- FrontRuns: tokens that are found in the bytes at the front are found in all bytes in hand.
-use Rattle.std.proofs.Common.{◌≡◌, ⊎_elim, inl, inr, ℕ, ◌+◌, ◌-◌, ◌≤◌, Bool, true, false, List, [], ◌∷◌, ◌++◌, None}
+use Rattle.std.proofs.Common.{◌≡◌, ⊎_elim, inl, inr, ℕ, ◌+◌, ◌-◌, ◌≤◌, Bool, true, false, List, [], ◌∷◌, ◌++◌, Some, None}
 use Rattle.std.proofs.Common.{append-nil, refl, sym, ap, ◌∙◌, subst, take, drop, length, length-append, arith}
 use Rattle.std.proofs.lemmas.List.{take-append-le, drop-append-le, length-drop}
 use Rattle.m4_state.specs.State.{State, top_of}
 use Rattle.m4_state.specs.declared.delimiters.Delimiters.{Delimiters}
 use Rattle.m4_input.specs.declared.token.Token.{Token}
-use Rattle.m4_input.specs.declared.token.Token.TheVariants.{Name, Str, Comment, Byte}
-use Rattle.m4_input.specs.declared.front.Scan.TheVariants.{Found, NeedsMore}
+use Rattle.m4_input.specs.declared.token.Token.TheVariants.{Name, Str, Comment, Byte, End}
+use Rattle.m4_input.specs.declared.front.Scan.{Scan}
+use Rattle.m4_input.specs.declared.front.Scan.TheVariants.{Found, Broken, NeedsMore}
+use Rattle.m4_state.specs.declared.builtin.Builtin.TheVariants.{Dnl}
+use Rattle.m4_state.specs.declared.definition.Def.TheVariants.{Builtin}
 use Rattle.m4_input.specs.declared.front.Answer.TheVariants.{Unknown}
 use Rattle.m4_input.specs.Token.{scan}
 use Rattle.m4_input.specs.Paren.{paren_in}
@@ -14,25 +17,25 @@ use Rattle.m4_input.specs.Input.{answer_of}
 use Rattle.m4_input.proofs.OpenEnd.{scan_stays, scan_fits, paren_in_stays}
 use Rattle.m4_engine.specs.Expansion.{Call}
 use Rattle.m4_engine.specs.Plain.{IsPlain, ArePlain, IsPlainRun}
-use Rattle.m4_engine.specs.Lookahead.{IsMeaning, IsAhead, IsLookaheadOf, place_in}
+use Rattle.m4_engine.specs.Lookahead.{IsExpansion, IsCalled, IsNamed, IsAhead, IsLookaheadOf, place_in}
 use Rattle.m4_engine.specs.declared.lookahead.Lookahead.{Lookahead}
 use Rattle.m4_engine.specs.declared.lookahead.Lookahead.TheVariants as aheads
 use Rattle.m4_builtins.specs.declared.place.Place.{Place}
 use Rattle.m4_input.proofs.Parts.{drop_parts}
-use Rattle.std.specs.Prelude.{◌&&◌, not, ◌<◌}
+use Rattle.std.specs.Prelude.{◌<◌, ◌||◌}
 use Rattle.m4_engine.specs.Collected.{IsText, IsListToken, AreListTokens, IsListRun}
 use Rattle.std.proofs.lemmas.List.{take-append-drop}
 use Rattle.m4_input.specs.Pending.{Pending, text_of, consumed}
 use Rattle.m4_input.specs.Blocks.{IsInFront}
 use Rattle.m4_engine.specs.Turns.{MayFollow}
 
--- a token that is decided, with more bytes after it
+-- what is decided, with more bytes after it
+decided_on : (q c : Delimiters) (more : Bool) (x z : List ℕ) (v : Scan) → (v ≡ NeedsMore → ⊥) → scan q c true x ≡ v → scan q c more (x ++ z) ≡ v
+decided_on q c more x z v n e =
+    ⊎_elim (λ (h : scan q c true x ≡ NeedsMore). absurd (n (sym e ∙ h))) (λ h. h ∙ e) (scan_stays q c more x z)
+
 found_on : (q c : Delimiters) (more : Bool) (x z : List ℕ) (t : Token) (n : ℕ) → scan q c true x ≡ Found t n → scan q c more (x ++ z) ≡ Found t n
-found_on q c more x z t n e =
-    ⊎_elim (λ (h : scan q c true x ≡ NeedsMore). absurd (no (sym e ∙ h))) (λ h. h ∙ e) (scan_stays q c more x z)
-  where
-    no : Found t n ≡ NeedsMore → ⊥
-    no h = cc
+found_on q c more x z t n e = decided_on q c more x z (Found t n) (λ h. cc) e
 
 paren_on : (q c : Delimiters) (more : Bool) (x z : List ℕ) (l : Bool) → paren_in q c true x ≡ answer_of l → paren_in q c more (x ++ z) ≡ answer_of l
 paren_on q c more x z l e =
@@ -98,25 +101,38 @@ pub list_run_on : (s : State) (m more : Bool) (n : ℕ) (c d : Call) (x z : List
 list_run_on s true more n c d x z f h = (h.0, tokens_on s more h.0 c d x z h.1, h.2)
 list_run_on s false more n c d x z f h = closed_on (λ b (y : List ℕ). IsListRun s b n c d y) x z more f h
 
-ahead_decided_on : (s : State) (room more : Bool) (a : Lookahead) (x z : List ℕ) (at : Place) → IsAhead a s room true x at → IsAhead a s room more (x ++ z) at
-ahead_decided_on s room more aheads.Unknown x z at h = tt
-ahead_decided_on s room more aheads.Passed x z at h = tt
-ahead_decided_on s room more aheads.Open x z at h = tt
-ahead_decided_on s room more (aheads.Byte b) x z at h =
-    (found_on s.quotes s.comments more x z (Byte b) 1 h.0, let all : length (x ++ z) ≡ length x + length z = length-append x z in omega (arith, all, h.1))
-ahead_decided_on s room more (aheads.Named n) x z at h =
-    let same : take n.len (x ++ z) ≡ take n.len x = take-append-le n.len x z h.within in
+named_on : (s : State) (more : Bool) (n : ℕ) (listed : Bool) (x z : List ℕ) → IsNamed n listed s true x → IsNamed n listed s more (x ++ z)
+named_on s more n listed x z h =
+    let same : take n (x ++ z) ≡ take n x = take-append-le n x z h.within in
     let all : length (x ++ z) ≡ length x + length z = length-append x z in
     record {
-      scanned = found_on s.quotes s.comments more x z (Name (take n.len x)) n.len h.scanned ∙ ap (λ (y : List ℕ). Found (Name y) n.len) (sym same);
+      scanned = found_on s.quotes s.comments more x z (Name (take n x)) n h.scanned ∙ ap (λ (y : List ℕ). Found (Name y) n) (sym same);
       within = omega (arith, all, h.within);
-      list = ap (paren_in s.quotes s.comments more) (drop-append-le n.len x z h.within) ∙ paren_on s.quotes s.comments more (drop n.len x) z n.listed h.list;
-      meaning = subst (λ (y : List ℕ). IsMeaning n.meaning (not n.listed && room) s y at) (sym same) h.meaning;
+      list = ap (paren_in s.quotes s.comments more) (drop-append-le n x z h.within) ∙ paren_on s.quotes s.comments more (drop n x) z listed h.list;
     }
 
-ahead_on : (s : State) (room m more : Bool) (a : Lookahead) (x z : List ℕ) (at : Place) → MayFollow m z more → IsAhead a s room m x at → IsAhead a s room more (x ++ z) at
-ahead_on s room true more a x z at f h = ahead_decided_on s room more a x z at h
-ahead_on s room false more a x z at f h = closed_on (λ b (y : List ℕ). IsAhead a s room b y at) x z more f h
+-- the name has the same bytes
+same_name : (P : List ℕ → Type 0) (n : ℕ) (x z : List ℕ) → n ≤ length x → P (take n x) → P (take n (x ++ z))
+same_name P n x z k h = subst P (sym (take-append-le n x z k)) h
+
+ahead_on : (s : State) (room more : Bool) (a : Lookahead) (x z : List ℕ) (at : Place) → (a ≡ aheads.Undecided → ⊥) → IsAhead a s room true x at → IsAhead a s room more (x ++ z) at
+ahead_on s room more aheads.Definition x z at u h = absurd h
+ahead_on s room more (aheads.Text n t) x z at u h =
+    let all : length (x ++ z) ≡ length x + length z = length-append x z in
+    let fits : n ≤ length x = h.1 in
+    (text_on s more n t x z h.0, omega (arith, all, fits))
+ahead_on s room more (aheads.Byte b) x z at u h =
+    let all : length (x ++ z) ≡ length x + length z = length-append x z in
+    (found_on s.quotes s.comments more x z (Byte b) 1 h.0, omega (arith, all, h.1))
+ahead_on s room more (aheads.Expansion n t) x z at u h =
+    (named_on s more n false x z h.0, h.1, same_name (IsExpansion t s) n x z (h.0).within h.2)
+ahead_on s room more (aheads.LineSkip n) x z at u h =
+    (named_on s more n false x z h.0, h.1, same_name (λ (y : List ℕ). top_of s y ≡ Some (Builtin Dnl)) n x z (h.0).within h.2)
+ahead_on s room more (aheads.Call n listed c) x z at u h =
+    (named_on s more n listed x z h.0, same_name (λ (y : List ℕ). IsCalled c s y at) n x z (h.0).within h.1)
+ahead_on s room more aheads.End x z at u h = found_on s.quotes s.comments more x z End 0 h
+ahead_on s room more (aheads.Unended what) x z at u h = decided_on s.quotes s.comments more x z (Broken what) (λ e. cc) h
+ahead_on s room more aheads.Undecided x z at u h = absurd (u refl)
 
 -- the bytes after those at the front
 pub record After (p : Pending) (x : List ℕ) (m : Bool) : Type 0 where
@@ -154,30 +170,41 @@ found_after q c p m n x t l h k g =
     by false z f g = closed_on (λ b (y : List ℕ). scan q c b y ≡ Found t l) (drop n x) z p.may_follow f g
 
 -- what was seen after n bytes is seen at the front once these were consumed
-ahead_there : (a : Lookahead) (s : State) (room : Bool) (p : Pending) (at : Place) → p.definition ≡ None → at ≡ place_in p → IsAhead a s room p.may_follow (text_of p) at → IsLookaheadOf a s room p
-ahead_there aheads.Unknown s room p at f e h = tt
-ahead_there aheads.Passed s room p at f e h = tt
-ahead_there aheads.Open s room p at f e h = tt
-ahead_there (aheads.Byte b) s room p at f e h = (f, h)
-ahead_there (aheads.Named n) s room p at f e h = (f, subst (λ (v : Place). IsAhead (aheads.Named n) s room p.may_follow (text_of p) v) e h)
+ahead_there : (a : Lookahead) (s : State) (room : Bool) (p : Pending) → p.definition ≡ None → IsAhead a s room p.may_follow (text_of p) (place_in p) → IsLookaheadOf a s room p
+ahead_there aheads.Definition s room p f h = absurd h
+ahead_there (aheads.Text n t) s room p f h = (f, h)
+ahead_there (aheads.Byte b) s room p f h = (f, h)
+ahead_there (aheads.Expansion n t) s room p f h = (f, h)
+ahead_there (aheads.LineSkip n) s room p f h = (f, h)
+ahead_there (aheads.Call n listed c) s room p f h = (f, h)
+ahead_there aheads.End s room p f h = (f, h)
+ahead_there (aheads.Unended what) s room p f h = (f, h)
+ahead_there aheads.Undecided s room p f h = (f, h)
 
-pub ahead_front : (a : Lookahead) (s : State) (room : Bool) (p : Pending) (m : Bool) (n : ℕ) (x : List ℕ) → IsInFront p x m → n ≤ length x → IsAhead a s room m (drop n x) (place_in (consumed n p)) → IsLookaheadOf a s room (consumed n p)
-ahead_front a s room p m n x h k g =
+-- the bytes that are left of those at the front come first once the others were consumed
+pub front_left : (p : Pending) (m : Bool) (n : ℕ) (x : List ℕ) → IsInFront p x m → n ≤ length x → (rest : List ℕ) × (text_of (consumed n p) ≡ drop n x ++ rest)
+front_left p m n x h k =
     let r = after p x m h in
-    let rest : text_of (consumed n p) ≡ drop n x ++ r.rest = sym (drop_parts n p.pushed p.unread) ∙ ap (drop n) r.all ∙ drop-append-le n x r.rest k in
-    ahead_there a s room (consumed n p) (place_in (consumed n p)) refl refl
-    (subst (λ (y : List ℕ). IsAhead a s room p.may_follow y (place_in (consumed n p))) (sym rest) (ahead_on s room m p.may_follow a (drop n x) r.rest (place_in (consumed n p)) r.follows g))
+    (r.rest, sym (drop_parts n p.pushed p.unread) ∙ ap (drop n) r.all ∙ drop-append-le n x r.rest k)
+
+pub ahead_front : (a : Lookahead) (s : State) (room : Bool) (p : Pending) (others : Bool) (n : ℕ) (x : List ℕ)
+    → IsInFront p x (others || p.may_follow) → (others ≡ false → x ≡ text_of p) → n ≤ length x
+    → (a ≡ aheads.Undecided → others ≡ false)
+    → IsAhead a s room (others || p.may_follow) (drop n x) (place_in (consumed n p))
+    → IsLookaheadOf a s room (consumed n p)
+ahead_front a s room p false n x h all k u g =
+    ahead_there a s room (consumed n p) refl
+    (subst (λ (y : List ℕ). IsAhead a s room p.may_follow y (place_in (consumed n p))) (ap (drop n) (all refl) ∙ drop_parts n p.pushed p.unread) g)
+ahead_front a s room p true n x h all k u g =
+    let l = front_left p true n x h k in
+    ahead_there a s room (consumed n p) refl
+    (subst (λ (y : List ℕ). IsAhead a s room p.may_follow y (place_in (consumed n p))) (sym l.1)
+    (ahead_on s room p.may_follow a (drop n x) l.0 (place_in (consumed n p)) (λ e. absurd (no (u e))) g))
+  where
+    no : true ≡ false → ⊥
+    no e = cc
 
 -- what is left is less, if some bytes were passed
-pub front_falls : (p : Pending) (m : Bool) (n : ℕ) (x : List ℕ) → IsInFront p x m → 0 < length x → n ≤ length x → drop n x ≡ [] → length (text_of (consumed n p)) < length (text_of p)
-front_falls p m n x h some k e =
-    let r = after p x m h in
-    let rest : length (text_of (consumed n p)) ≡ length (text_of p) - n = ap length (sym (drop_parts n p.pushed p.unread)) ∙ length-drop n (text_of p) in
-    let all : length (text_of p) ≡ length x + length r.rest = ap length r.all ∙ length-append x r.rest in
-    let none : length x - n ≡ 0 = sym (length-drop n x) ∙ ap length e in
-    omega (arith, rest, all, none)
-
--- so it is if some were
 pub front_less : (p : Pending) (m : Bool) (n : ℕ) (x : List ℕ) → IsInFront p x m → 0 < n → n ≤ length x → length (text_of (consumed n p)) < length (text_of p)
 front_less p m n x h some k =
     let r = after p x m h in

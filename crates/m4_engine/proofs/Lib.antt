@@ -1,6 +1,7 @@
 pub mod Bounds
 pub mod Beside
 pub mod MachineIsNesting
+mod Measures
 mod Missed
 pub mod TurnsCounted
 pub mod CallsFall

@@ -1,5 +1,5 @@
 -- Passing: tokens that are text are put where they go at once as turns would put them there.
-use Rattle.std.specs.Prelude.{if◌then◌else◌}
+use Rattle.std.specs.Prelude.{if◌then◌else◌, ◌||◌}
 use Rattle.std.specs.Cmp.{int_cmp_total, tied_itself}
 use Rattle.std.specs.Ordering.{int_cmp}
 use Rattle.std.specs.FinMap.{put}
@@ -7,7 +7,7 @@ use Rattle.std.specs.FinMap.Entries.{by_order, find-put}
 use Rattle.m4_state.specs.State.{State, Diversion, appended, with_text, text_at, holds_text}
 use Rattle.std.proofs.Common.{◌≡◌, ◌⊎◌, inl, inr, Bool, true, false, cond, ℕ, zero, suc, ℤ, pos, negsuc, Ordering, Less}
 use Rattle.std.proofs.Common.{Equal, Greater, unwrap_or, ◌+◌, ◌-◌, ◌<◌, ◌≤◌, List, [], ◌∷◌, ◌++◌, Option, None, take}
-use Rattle.std.proofs.Common.{drop, length, refl, sym, ap, ◌∙◌, subst, arith, append-nil, append_assoc}
+use Rattle.std.proofs.Common.{drop, length, refl, sym, ap, ◌∙◌, subst, arith, append-nil, append_assoc, length-append}
 use Rattle.std.proofs.Math.Seq.{take-add}
 use Rattle.m4_state.specs.declared.definition.Def.{Def}
 use Rattle.m4_input.specs.declared.front.Scan.TheVariants.{Found}
@@ -19,7 +19,6 @@ use Rattle.m4_engine.specs.Collected.{IsText, IsListToken, AreListTokens, bytes_
 use Rattle.m4_input.specs.Input.{Held, longer}
 use Rattle.m4_input.proofs.Consumed.{consumed_twice}
 use Rattle.m4_input.proofs.Parts.{drop_parts, counted_none}
-use Rattle.m4_engine.specs.declared.lookahead.Lookahead.{Lookahead}
 use Rattle.m4_engine.specs.declared.turned.Turned.TheVariants as turns
 use Rattle.m4_engine.specs.Nesting.{Turn, GoOn}
 use Rattle.m4_engine.specs.OpenCalls.{take_turn, Goes}
@@ -29,15 +28,17 @@ use Rattle.m4_engine.specs.Engine.{Engine, put_in, here_of, outer_of, configurat
 use Rattle.m4_engine.specs.Moments.{Moment, Next, moved, Comes}
 use Rattle.m4_engine.specs.Turns.{MayFollow, Moves}
 use Rattle.m4_engine.specs.Passes.{PassesPlain, PassesInner, PassesString, PassesOnce, ArePasses, Passes, PassesText}
-use Rattle.m4_engine.specs.Passes.{PassesBy, PassesFront, IsLookahead, PutsToken}
+use Rattle.m4_engine.specs.Passes.{PassesBy, PassesFront, EndsAt, PutsToken}
 use Rattle.m4_input.specs.Blocks.{IsInFront}
 use Rattle.m4_builtins.specs.declared.place.Place.{Place}
-use Rattle.m4_engine.specs.declared.lookahead.Lookahead.TheVariants as aheads
-use Rattle.m4_engine.specs.Lookahead.{IsLookaheadOf, placed_ahead, place_in}
-use Rattle.m4_engine.proofs.FrontRuns.{plain_front, list_front, found_after, take_in_front, ahead_front, front_falls}
+use Rattle.m4_engine.specs.declared.lookahead.PassEnd.{PassEnd}
+use Rattle.m4_engine.specs.declared.lookahead.PassEnd.TheVariants as ends
+use Rattle.m4_engine.specs.Lookahead.{EndsBy, placed_end, place_in}
+use Rattle.m4_engine.proofs.FrontRuns.{plain_front, list_front, found_after, take_in_front, ahead_front, front_left}
 use Rattle.m4_engine.proofs.FrontRuns.{front_less}
 use Rattle.m4_engine.proofs.Longer.{found_longer}
 use Rattle.m4_engine.proofs.LoopKeeps.{turns_of, turn_falls}
+use Rattle.m4_engine.proofs.Measures.{measure, measure_falls}
 use Rattle.m4_engine.proofs.Moments.{on_from}
 use Rattle.m4_engine.proofs.PlainRuns.{plain_more}
 
@@ -455,34 +456,59 @@ further (s ∷ ss) e e1 e2 i i1 i2 h g =
 pub passes_on : (e e1 e2 : Engine) (i i1 i2 : Held) → Passes e e1 i i1 → PassesOnce e1 e2 i1 i2 → Passes e e2 i i2
 passes_on e e1 e2 i i1 i2 h g = further h.0 e e1 e2 i i1 i2 h.1 g
 
-placed_passed : (at : Place) (a : Lookahead) → placed_ahead at a ≡ aheads.Passed → a ≡ aheads.Passed
-placed_passed at aheads.Unknown h = absurd cc
-placed_passed at aheads.Passed h = refl
-placed_passed at aheads.Open h = absurd cc
-placed_passed at (aheads.Byte b) h = absurd cc
-placed_passed at (aheads.Named n) h = absurd cc
+-- the end of a pass over a text in front of an input
+end_at : (e : PassEnd) (new : Engine) (p : Pending) (others : Bool) (looked n : ℕ) (x : List ℕ)
+    → IsInFront p x (others || p.may_follow) → (others ≡ false → x ≡ text_of p) → (others ≡ true → looked < length x)
+    → p.definition ≡ None → n ≤ length x
+    → EndsBy n e new.state (allows_call new) (others || p.may_follow) others (drop n x) (place_in (consumed n p))
+    → EndsAt e looked new p (consumed n p)
+end_at (ends.At a) new p others looked n x h all longer d k r = ahead_front a new.state (allows_call new) p others n x h all k r.1 r.0
+end_at (ends.Further len) new p others looked n x h all longer d k r =
+    let l = front_left p (others || p.may_follow) n x h k in
+    let left : length (text_of (consumed n p)) ≡ length (drop n x) + length l.0 = ap length l.1 ∙ length-append (drop n x) l.0 in
+    let fits : len ≤ length (drop n x) = r.0 in
+    (omega (arith, left, fits), some n h k r.1)
+  where
+    some : (n : ℕ) → IsInFront p x (others || p.may_follow) → n ≤ length x
+        → (0 < n) ⊎ ((others ≡ true) × (len ≡ length (drop n x)))
+        → (length (text_of (consumed n p)) < length (text_of p))
+        ⊎ ((length (text_of (consumed n p)) ≡ length (text_of p)) × (looked < len))
+    some zero h k (inl q) = absurd (omega (arith, q))
+    some zero h k (inr q) =
+        let more : looked < length x = longer q.0 in
+        let same : len ≡ length x = q.1 in
+        inr (ap (λ (r : Pending). length (text_of r)) (consumed_none p d), omega (arith, more, same))
+    some (suc n) h k q = inl (front_less p (others || p.may_follow) (suc n) x h (omega arith) k)
 
 -- a pass over a text in front of an input
-pub front_passed : (a b : Lookahead) (old new : Engine) (i j : Held) (n : ℕ) (x : List ℕ) (others more : Bool) → IsInFront i.pending x more → (others ≡ true → 0 < length x) → (i.pending).definition ≡ None
-    → PassesBy n a x others more old new → j ≡ record i { pending = consumed n i.pending } → b ≡ placed_ahead (place_in j.pending) a → PassesFront b old new i j
-front_passed a b old new i j n x others more h some f r g e =
+pub front_passed : (e f : PassEnd) (old new : Engine) (i j : Held) (looked n : ℕ) (x : List ℕ) (others more : Bool)
+    → more ≡ (others || (i.pending).may_follow) → IsInFront i.pending x (others || (i.pending).may_follow)
+    → (others ≡ false → x ≡ text_of i.pending) → (others ≡ true → looked < length x) → (i.pending).definition ≡ None
+    → PassesBy n e x others more old new → j ≡ record i { pending = consumed n i.pending }
+    → f ≡ placed_end (place_in j.pending) e → PassesFront f looked old new i j
+front_passed e f old new i j looked n x others more m h all longer d r g k =
     let next : Pending = consumed n i.pending in
-    let same : b ≡ placed_ahead (place_in next) a = e ∙ ap (λ (k : Held). placed_ahead (place_in k.pending) a) g in
-    let there : IsLookaheadOf (placed_ahead (place_in next) a) new.state (allows_call new) next = ahead_front (placed_ahead (place_in next) a) new.state (allows_call new) i.pending more n x h r.within (r.ahead (place_in next)) in
+    let may : Bool = others || (i.pending).may_follow in
+    let same : f ≡ placed_end (place_in next) e = k ∙ ap (λ (v : Held). placed_end (place_in v.pending) e) g in
     record {
-      passes = passes_text old new i j more n x h f r.within r.passes g;
-      ahead = subst (λ (c : Lookahead). IsLookahead c new j.pending) (sym same) (subst (λ (k : Held). IsLookahead (placed_ahead (place_in next) a) new k.pending) (sym g) there);
-      some = λ k.
-          subst (λ (v : Held). length (text_of v.pending) < length (text_of i.pending)) (sym g)
-          (falls (r.passed (placed_passed (place_in next) a (sym same ∙ k))));
-      first = λ k. ap (λ (v : Held). (v.pending).definition) g;
+      passes = passes_text old new i j may n x h d r.within (subst (λ (v : Bool). PassesText v n x old new) m r.passes) g;
+      end = subst (λ (v : PassEnd). EndsAt v looked new i.pending j.pending) (sym same)
+          (subst (λ (v : Held). EndsAt (placed_end (place_in next) e) looked new i.pending v.pending) (sym g)
+          (end_at (placed_end (place_in next) e) new i.pending others looked n x h all longer d r.within
+          (subst (λ (v : Bool). EndsBy n (placed_end (place_in next) e) new.state (allows_call new) v others (drop n x) (place_in next)) m (r.end (place_in next)))));
     }
-  where
-    falls : (0 < n) ⊎ ((others ≡ true) × (drop n x ≡ [])) → length (text_of (consumed n i.pending)) < length (text_of i.pending)
-    falls (inl q) = front_less i.pending more n x h q r.within
-    falls (inr q) = front_falls i.pending more n x h (some q.0) r.within q.1
 
 -- a further pass over a front
-pub passed_front : (a : Lookahead) (e e1 e2 s : Engine) (i i1 i2 t : Held) → Passes e e1 i i1 → IsReady i1 → PassesFront a e1 e2 i1 i2 → s ≡ e2 → t ≡ i2 → Passes e s i t × IsReady t
-passed_front a e e1 e2 s i i1 i2 t h r f g k =
-    (subst (λ (d : Engine). Passes e d i t) (sym g) (subst (λ (j : Held). Passes e e2 i j) (sym k) (passes_on e e1 e2 i i1 i2 h f.passes)), subst IsReady (sym k) (once_ready e1 e2 i1 i2 r f.passes))
+pub passed_front : (f : PassEnd) (looked : ℕ) (e e1 e2 : Engine) (i i1 i2 t : Held) → Passes e e1 i i1 → IsReady i1 → PassesFront f looked e1 e2 i1 i2 → t ≡ i2 → Passes e e2 i t × IsReady t
+passed_front f looked e e1 e2 i i1 i2 t h r k g =
+    (subst (λ (j : Held). Passes e e2 i j) (sym g) (passes_on e e1 e2 i i1 i2 h k.passes), subst IsReady (sym g) (once_ready e1 e2 i1 i2 r k.passes))
+
+-- a pass that ends where further bytes are looked at
+pub ends_further : (f : PassEnd) (looked k : ℕ) (e1 e2 : Engine) (i1 i2 t : Held) → f ≡ ends.Further k → t ≡ i2 → PassesFront f looked e1 e2 i1 i2 → EndsAt (ends.Further k) looked e2 i1.pending t.pending
+ends_further f looked k e1 e2 i1 i2 t h g r =
+    subst (λ (v : PassEnd). EndsAt v looked e2 i1.pending t.pending) h (subst (λ (j : Held). EndsAt f looked e2 i1.pending j.pending) (sym g) r.end)
+
+pub measure_less : (f : PassEnd) (looked k : ℕ) (e1 e2 : Engine) (i1 i2 t : Held) → f ≡ ends.Further k → t ≡ i2 → looked ≤ length (text_of i1.pending) → PassesFront f looked e1 e2 i1 i2 → measure (length (text_of t.pending)) k < measure (length (text_of i1.pending)) looked
+measure_less f looked k e1 e2 i1 i2 t h g l r =
+    let e = ends_further f looked k e1 e2 i1 i2 t h g r in
+    measure_falls (length (text_of t.pending)) (length (text_of i1.pending)) looked k l e.0 e.1

@@ -1,5 +1,5 @@
 -- Turning: a turn is what the token at the front makes of it, whatever follows the bytes in hand.
-use Rattle.std.proofs.Common.{◌≡◌, ◌⊎◌, inl, inr, ℕ, Bool, List, drop, Option, Some, None, refl, sym, ap}
+use Rattle.std.proofs.Common.{◌≡◌, ◌⊎◌, inl, inr, ℕ, Bool, List, take, drop, Option, Some, None, refl, sym, ap}
 use Rattle.std.proofs.Common.{◌∙◌, subst}
 use Rattle.std.specs.Prelude.{Result, Ok, Err, IfOk}
 use Rattle.m4_state.specs.declared.definition.Def.{Def}
@@ -29,6 +29,8 @@ use Rattle.m4_engine.specs.Expand.{take_call, take_end, take_name, take_token, t
 use Rattle.m4_engine.specs.Expand.{unended_cause}
 use Rattle.m4_engine.specs.Engine.{Engine, so_far_of, mode_of, outer_of, here_of, configuration, with_engine_message}
 use Rattle.m4_engine.specs.Engine.{with_text, IsReady}
+use Rattle.m4_engine.specs.Collected.{IsText}
+use Rattle.m4_engine.specs.Plain.{IsUndecided}
 use Rattle.m4_engine.specs.Turns.{step, moved, MayFollow, Extended, Stays, Moves, Makes, Steps, Turns, Needs}
 use Rattle.m4_engine.proofs.Acts.{result_by, turned_steps, turned_makes, text_limits}
 use Rattle.m4_engine.proofs.Calling.{failed_at}
@@ -114,11 +116,6 @@ list_undecided e i d name n f s t u = record {
       ∙ ap (λ v. step (outer_of e.open_calls) (take_call v c q (here_of o m e p))) (list_there (e.state).quotes (e.state).comments p q n Unknown refl u);
 }
 
--- a text has no definition as a token
-pub no_definition : (q c : Delimiters) (m : Bool) (x : List ℕ) (t : Token) (n : ℕ) (d : Def) → scan q c m x ≡ Found t n → t ≡ Definition d → ⊥
-unfolding NoDefinition
-no_definition q c m x t n d e h = subst NoDefinition e (scan_plain q c m x) d h
-
 -- ---- whole turns
 
 -- a token of so many bytes was consumed, and a step acted on it
@@ -145,11 +142,6 @@ pub found_steps_at : (e e1 : Engine) (t : Token) (n : ℕ) (i k j : Held) (r : R
     → Steps r e e1 k j to → Turns r e e1 i j
 found_steps_at e e1 t n i k j r d s g m st =
     found_steps e e1 t n i k j r d s g (subst (λ (v : Bool). IfOk r (λ u. Moves v e1 j.pending u (λ z more o m. step (outer_of e.open_calls) (take_token t (longer z more k.pending) (here_of o m e (longer z more i.pending)))))) (ap (λ (h : Held). (h.pending).may_follow) g) m) st
-
--- the steps of a machine that is the same
-pub steps_from : (e d e1 : Engine) (k j : Held) (r : Result Turned TurnFault) → d ≡ e → {to : Turned → Type 0} → Steps r d e1 k j to → Steps r e e1 k j (λ t. Unit {0})
-steps_from e d e1 k j (Ok t) h st = record { moves = tt; ready = st.ready; limits = subst (λ (x : Engine). e1.limits ≡ x.limits) h st.limits; made = st.made }
-steps_from e d e1 k j (Err x) h st = record { moves = tt; ready = tt; limits = tt; made = tt }
 
 -- the input after a token
 after_token : (i : Held) (n : ℕ) → IsReady i → Stays i (record i { pending = consumed n i.pending })
@@ -211,49 +203,30 @@ end_turn e e1 n i r q d s k = turned_makes e e1 i r q (turn_found e e1 End n i.p
     at_it (Err x) h = tt
 
 -- a string or a comment without an end
-pub broken_turn : (e e1 : Engine) (what : Unended) (line : ℕ) (i j : Held) (r : Result Turned TurnFault) → IsReady i
+pub broken_turn : (e e1 : Engine) (what : Unended) (line : ℕ) (i : Held) (r : Result Turned TurnFault) → IsReady i
     → (i.pending).definition ≡ None
     → scan (e.state).quotes (e.state).comments (i.pending).may_follow (text_of i.pending) ≡ Broken what
-    → line ≡ line_of i.pending → j ≡ i
+    → line ≡ line_of i.pending
     → Makes r e e1 (λ t. (may : Bool) (p : Pending) (before : Extended)
-    → ((z : List ℕ) (more : Bool) → (before z more).file ≡ (j.pending).file)
+    → ((z : List ℕ) (more : Bool) → (before z more).file ≡ (i.pending).file)
     → Moves may e1 p t (λ z more o m. step (outer_of e.open_calls)
-    (take_front (Refused what line) (here_of o m e (before z more))))) → Turns r e e1 i j
-broken_turn e e1 what line i j r q d s l g k =
-    subst (λ (j : Held). Turns r e e1 i j) (sym g)
-    (turned_makes e e1 i r q (turn_unended e e1 what line i.pending j.pending i.pending r d s l (ap (λ (h : Held). (h.pending).file) g) k.moves) k)
+    (take_front (Refused what line) (here_of o m e (before z more))))) → Turns r e e1 i i
+broken_turn e e1 what line i r q d s l k =
+    turned_makes e e1 i r q (turn_unended e e1 what line i.pending i.pending i.pending r d s l refl k.moves) k
 
 -- more bytes are needed
 needs_turn : (e : Engine) (i : Held) → IsReady i → Needs e e i i → Turns (Ok turns.NeedsMore) e e i i
 needs_turn e i r n = record { moves = tt; ready = record { ready = r; follows = refl; file = refl }; limits = refl; made = n }
 
-pub token_turn : (e : Engine) (i j : Held) → IsReady i → (i.pending).definition ≡ None → scan (e.state).quotes (e.state).comments (i.pending).may_follow (text_of i.pending) ≡ NeedsMore → j ≡ i → Turns (Ok turns.NeedsMore) e e i j
-token_turn e i j r d s g = subst (λ (j : Held). Turns (Ok turns.NeedsMore) e e i j) (sym g) (needs_turn e i r (token_undecided e i d s))
+-- a token that is text
+pub text_taken : (e e1 : Engine) (n : ℕ) (t : List ℕ) (i j : Held) → IsReady i → (i.pending).definition ≡ None
+    → IsText e.state (i.pending).may_follow n t (text_of i.pending) → j ≡ record i { pending = consumed n i.pending }
+    → e1 ≡ with_text t e → Turns (Ok turns.GoesOn) e e1 i j
+text_taken e e1 n t i j r d (inl s) g k = string_turn e e1 t (Str t) n i j (inl refl) r d s g k
+text_taken e e1 n t i j r d (inr (inl s)) g k = word_turn e e1 t n i j r d s.0 s.1 g k
+text_taken e e1 n t i j r d (inr (inr s)) g k = string_turn e e1 t (Comment t) n i j (inr refl) r d s g k
 
-pub list_turn : (e : Engine) (i : Held) (d : Def) (name : List ℕ) (n : ℕ) → IsReady i → (i.pending).definition ≡ None
-    → scan (e.state).quotes (e.state).comments (i.pending).may_follow (text_of i.pending) ≡ Found (Name name) n
-    → top_of e.state name ≡ Some d
-    → paren_in (e.state).quotes (e.state).comments (i.pending).may_follow (drop n (text_of i.pending)) ≡ Unknown
-    → Turns (Ok turns.NeedsMore) e e i i
-list_turn e i d name n r f s t u = needs_turn e i r (list_undecided e i d name n f s t u)
-
--- no definition was removed
-pub none_removed : (i j : Held) → (i.pending).definition ≡ None → j ≡ record i { pending = record i.pending { definition = None } } → j ≡ i
-none_removed i j h g = g ∙ ap (λ (o : Option Def). let p : Pending = record i.pending { definition = o } in let k : Held = record i { pending = p } in k) (sym h)
-
-pub turns_from : (e e1 : Engine) (i k j : Held) (r : Result Turned TurnFault) → k ≡ i → Turns r e e1 k j → Turns r e e1 i j
-turns_from e e1 i k j r g t = subst (λ (i : Held). Turns r e e1 i j) g t
-
--- a token that was recognised was consumed, and a step acted on it
-pub seen_steps : (e e1 : Engine) (t : Token) (i k j : Held) (r : Result Turned TurnFault)
-    → (k.pending).may_follow ≡ (i.pending).may_follow → (k.pending).file ≡ (i.pending).file
-    → ((z : List ℕ) (more : Bool) → MayFollow (i.pending).may_follow z more
-    → token_at (e.state).quotes (e.state).comments (longer z more i.pending) ≡ Taken t (longer z more k.pending))
-    → IfOk r (λ u. Moves (k.pending).may_follow e1 j.pending u
-    (λ z more o m. step (outer_of e.open_calls)
-    (take_token t (longer z more k.pending) (here_of o m e (longer z more i.pending))))) → {to : Turned → Type 0}
-    → Steps r e e1 k j to → Turns r e e1 i j
-seen_steps e e1 t i k j r f g front m st =
-    turned_steps e e1 i k j r f g
-    (turn_taken e e1 t i.pending k.pending j.pending r front
-    (subst (λ (v : Bool). IfOk r (λ u. Moves v e1 j.pending u (λ z more o m. step (outer_of e.open_calls) (take_token t (longer z more k.pending) (here_of o m e (longer z more i.pending)))))) f m)) refl st
+-- the bytes in hand don't decide the token, or whether a list follows
+pub undecided_turn : (e : Engine) (i : Held) → IsReady i → (i.pending).definition ≡ None → IsUndecided e.state (i.pending).may_follow (text_of i.pending) → Turns (Ok turns.NeedsMore) e e i i
+undecided_turn e i r d (inl s) = needs_turn e i r (token_undecided e i d s)
+undecided_turn e i r d (inr s) = needs_turn e i r (list_undecided e i s.1 (take s.0 (text_of i.pending)) s.0 d s.2 s.3 s.4)

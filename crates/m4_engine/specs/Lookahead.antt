@@ -1,84 +1,88 @@
--- Lookahead: the next token, as far as it was recognised before a turn consumes it.
+-- Lookahead: the next token, as it was recognised before a turn consumes it.
 -- Not believed: it connects the code with `Expand`; the turns' lemmas prove that they agree.
--- Words: IsMeaning, Fits, placed, placed_ahead, place_in, IsNamed, IsAhead, KnowsNothing, IsLookaheadOf.
-use Rattle.std.specs.Prelude.{◌≡◌, ◌&&◌, ◌<◌, ◌≤◌, not, Bool, true, ℕ, List, [], None, Some, length, take, drop}
+-- Words: IsExpansion, IsCalled, MeansName, placed, placed_end, place_in, IsNamed, IsAhead, EndsBy, IsLookaheadOf.
+use Rattle.std.specs.Prelude.{◌≡◌, ◌≢◌, ◌<◌, ◌≤◌, ◌⊎◌, Bool, true, false, ℕ, List, [], None, Some, length, take, drop}
 use Rattle.m4_state.specs.declared.builtin.Builtin.TheVariants.{Dnl}
 use Rattle.m4_state.specs.declared.definition.Def.TheVariants.{Text, Builtin}
 use Rattle.m4_state.specs.State.{State, top_of}
-use Rattle.m4_input.specs.declared.front.Scan.TheVariants.{Found}
-use Rattle.m4_input.specs.declared.token.Token.TheVariants.{Name, Byte}
+use Rattle.m4_input.specs.declared.front.Scan.TheVariants.{Found, Broken}
+use Rattle.m4_input.specs.declared.token.Token.TheVariants.{Name, Byte, End}
 use Rattle.m4_input.specs.Pending.{Pending, text_of, name_of, line_of}
 use Rattle.m4_input.specs.Token.{scan}
 use Rattle.m4_input.specs.Paren.{paren_in}
 use Rattle.m4_input.specs.Input.{answer_of}
 use Rattle.m4_builtins.specs.declared.place.Place.{Place}
 use Rattle.m4_builtins.specs.Subst.{subst}
+use Rattle.m4_engine.specs.Collected.{IsText}
+use Rattle.m4_engine.specs.Expansion.{Call}
 use Rattle.m4_engine.specs.Expand.{call_of}
-use Rattle.m4_engine.specs.declared.lookahead.Meaning.{Meaning}
-use Rattle.m4_engine.specs.declared.lookahead.Meaning.TheVariants as meanings
-use Rattle.m4_engine.specs.declared.lookahead.Named.{Named}
+use Rattle.m4_engine.specs.Plain.{IsUndecided}
 use Rattle.m4_engine.specs.declared.lookahead.Lookahead.{Lookahead}
 use Rattle.m4_engine.specs.declared.lookahead.Lookahead.TheVariants as aheads
+use Rattle.m4_engine.specs.declared.lookahead.PassEnd.{PassEnd}
+use Rattle.m4_engine.specs.declared.lookahead.PassEnd.TheVariants as ends
 
--- the meaning of a name that is read at a place; `bare` says that it is called without a list
-abbrev pub IsMeaning : Meaning → Bool → State → List ℕ → Place → Type 0
-IsMeaning (meanings.Expansion x) bare s name place =
-    (bare ≡ true) × (text : List ℕ) × (top_of s name ≡ Some (Text text)) × (x ≡ subst text name [] s.quotes)
-IsMeaning meanings.LineSkip bare s name place = (bare ≡ true) × (top_of s name ≡ Some (Builtin Dnl))
-IsMeaning (meanings.Call c) bare s name place =
-    (top_of s name ≡ Some c.definition) × (c.name ≡ name) × (c.place ≡ place)
+-- x is the expansion of a text macro that is called without a list
+abbrev pub IsExpansion : List ℕ → State → List ℕ → Type 0
+IsExpansion x s name = (text : List ℕ) × (top_of s name ≡ Some (Text text)) × (x ≡ subst text name [] s.quotes)
+
+-- c is the call of a name that is read at a place, with no argument yet
+abbrev pub IsCalled : Call → State → List ℕ → Place → Type 0
+IsCalled c s name at =
+    (top_of s name ≡ Some c.definition) × (c.name ≡ name) × (c.place ≡ at)
     × (c ≡ call_of c.definition c.name c.place)
 
--- what a call does is known only if it is bare, and a call has no argument yet
-abbrev pub Fits : Meaning → Bool → Type 0
-Fits (meanings.Expansion x) bare = bare ≡ true
-Fits meanings.LineSkip bare = bare ≡ true
-Fits (meanings.Call c) bare = c ≡ call_of c.definition c.name c.place
+-- a name with a definition, after which a list follows or not; `room` says that the limits allow a call
+abbrev pub MeansName : Lookahead → State → Bool → Bool → List ℕ → Place → Type 0
+MeansName (aheads.Expansion n x) s room listed name at =
+    (n ≡ length name) × (listed ≡ false) × (room ≡ true) × IsExpansion x s name
+MeansName (aheads.LineSkip n) s room listed name at =
+    (n ≡ length name) × (listed ≡ false) × (room ≡ true) × (top_of s name ≡ Some (Builtin Dnl))
+MeansName (aheads.Call n l c) s room listed name at = (n ≡ length name) × (l ≡ listed) × IsCalled c s name at
+MeansName a s room listed name at = ⊥
 
--- a meaning with the place of its call
-abbrev pub placed : Place → Meaning → Meaning
-placed at (meanings.Expansion x) = meanings.Expansion x
-placed at meanings.LineSkip = meanings.LineSkip
-placed at (meanings.Call c) = meanings.Call (record c { place = at })
+-- a lookahead with the place of its call
+abbrev pub placed : Place → Lookahead → Lookahead
+placed at (aheads.Call n listed c) = aheads.Call n listed (record c { place = at })
+placed at a = a
 
-abbrev pub placed_ahead : Place → Lookahead → Lookahead
-placed_ahead at aheads.Unknown = aheads.Unknown
-placed_ahead at aheads.Passed = aheads.Passed
-placed_ahead at aheads.Open = aheads.Open
-placed_ahead at (aheads.Byte b) = aheads.Byte b
-placed_ahead at (aheads.Named n) = aheads.Named (record n { meaning = placed at n.meaning })
+abbrev pub placed_end : Place → PassEnd → PassEnd
+placed_end at (ends.At a) = ends.At (placed at a)
+placed_end at (ends.Further n) = ends.Further n
 
 -- the place of the first byte of what is pending
 abbrev pub place_in : Pending → Place
 place_in p = record { file = name_of p; line = line_of p }
 
--- a name with a definition is the first token of a text, at a place; `room` says that the limits allow a call
-pub record IsNamed (n : Named) (s : State) (room : Bool) (m : Bool) (x : List ℕ) (at : Place) : Type 0 where
-  pub scanned : scan s.quotes s.comments m x ≡ Found (Name (take n.len x)) n.len
-  pub within : n.len ≤ length x
-  pub list : paren_in s.quotes s.comments m (drop n.len x) ≡ answer_of n.listed
-  pub meaning : IsMeaning n.meaning (not n.listed && room) s (take n.len x) at
+-- the first token of a text is a name of n bytes, after which a list follows or not
+pub record IsNamed (n : ℕ) (listed : Bool) (s : State) (m : Bool) (x : List ℕ) : Type 0 where
+  pub scanned : scan s.quotes s.comments m x ≡ Found (Name (take n x)) n
+  pub within : n ≤ length x
+  pub list : paren_in s.quotes s.comments m (drop n x) ≡ answer_of listed
 
 -- the lookahead is right for the first token of a text, at a place
 abbrev pub IsAhead : Lookahead → State → Bool → Bool → List ℕ → Place → Type 0
-IsAhead aheads.Unknown s room m x at = Unit {0}
-IsAhead aheads.Passed s room m x at = Unit {0}
-IsAhead aheads.Open s room m x at = Unit {0}
+IsAhead aheads.Definition s room m x at = ⊥
+IsAhead (aheads.Text n t) s room m x at = IsText s m n t x × (n ≤ length x)
 IsAhead (aheads.Byte b) s room m x at = (scan s.quotes s.comments m x ≡ Found (Byte b) 1) × (0 < length x)
-IsAhead (aheads.Named n) s room m x at = IsNamed n s room m x at
+IsAhead (aheads.Expansion n t) s room m x at =
+    IsNamed n false s m x × (room ≡ true) × IsExpansion t s (take n x)
+IsAhead (aheads.LineSkip n) s room m x at =
+    IsNamed n false s m x × (room ≡ true) × (top_of s (take n x) ≡ Some (Builtin Dnl))
+IsAhead (aheads.Call n listed c) s room m x at = IsNamed n listed s m x × IsCalled c s (take n x) at
+IsAhead aheads.End s room m x at = scan s.quotes s.comments m x ≡ Found End 0
+IsAhead (aheads.Unended what) s room m x at = scan s.quotes s.comments m x ≡ Broken what
+IsAhead aheads.Undecided s room m x at = IsUndecided s m x
 
--- nothing is known about the next token
-abbrev pub KnowsNothing : Lookahead → Type 0
-KnowsNothing (aheads.Byte b) = ⊥
-KnowsNothing (aheads.Named n) = ⊥
-KnowsNothing a = Unit {0}
+-- after n bytes that were passed x is left of a text, which others in hand may follow: the lookahead is right, or all
+-- of x leaves the token open, or something was passed
+abbrev pub EndsBy : ℕ → PassEnd → State → Bool → Bool → Bool → List ℕ → Place → Type 0
+EndsBy n (ends.At a) s room m others x at =
+    IsAhead a s room m x at × (a ≡ aheads.Undecided → others ≡ false)
+EndsBy n (ends.Further k) s room m others x at =
+    (k ≤ length x) × ((0 < n) ⊎ ((others ≡ true) × (k ≡ length x)))
 
 -- the lookahead is right for the next token
 abbrev pub IsLookaheadOf : Lookahead → State → Bool → Pending → Type 0
-IsLookaheadOf aheads.Unknown s room p = Unit {0}
-IsLookaheadOf aheads.Passed s room p = Unit {0}
-IsLookaheadOf aheads.Open s room p = Unit {0}
-IsLookaheadOf (aheads.Byte b) s room p =
-    (p.definition ≡ None) × IsAhead (aheads.Byte b) s room p.may_follow (text_of p) (place_in p)
-IsLookaheadOf (aheads.Named n) s room p =
-    (p.definition ≡ None) × IsAhead (aheads.Named n) s room p.may_follow (text_of p) (place_in p)
+IsLookaheadOf aheads.Definition s room p = p.definition ≢ None
+IsLookaheadOf a s room p = (p.definition ≡ None) × IsAhead a s room p.may_follow (text_of p) (place_in p)

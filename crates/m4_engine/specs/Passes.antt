@@ -11,8 +11,9 @@ use Rattle.m4_builtins.specs.declared.place.Place.{Place}
 use Rattle.m4_engine.specs.Expansion.{Call}
 use Rattle.m4_input.specs.Input.{Held}
 use Rattle.m4_engine.specs.declared.lookahead.Lookahead.{Lookahead}
-use Rattle.m4_engine.specs.declared.lookahead.Lookahead.TheVariants as aheads
-use Rattle.m4_engine.specs.Lookahead.{IsLookaheadOf, IsAhead, placed_ahead}
+use Rattle.m4_engine.specs.declared.lookahead.PassEnd.{PassEnd}
+use Rattle.m4_engine.specs.declared.lookahead.PassEnd.TheVariants as ends
+use Rattle.m4_engine.specs.Lookahead.{IsLookaheadOf, EndsBy, placed_end}
 use Rattle.m4_engine.specs.Engine.{Engine, put_in, allows_call}
 
 -- outside of calls, with no definition before the text: its first tokens, which are plain text, were added where text
@@ -85,17 +86,21 @@ PassesText m n x old new =
     × (scan (old.state).quotes (old.state).comments m (drop k x) ≡ Found (Str t) l) × (n ≡ k + l)
     × (old.open_calls ≡ []) × (new ≡ put_in [] t (put_in [] (take k x) old))))
 
--- a pass over a text, which others in hand may follow, and more bytes may; the lookahead is right, once its place is
--- set
-pub record PassesBy (n : ℕ) (a : Lookahead) (x : List ℕ) (others more : Bool) (old new : Engine) : Type 0 where
+-- a pass over a text, which others in hand may follow, and more bytes may; its end is right, once its place is set
+pub record PassesBy (n : ℕ) (e : PassEnd) (x : List ℕ) (others more : Bool) (old new : Engine) : Type 0 where
   pub passes : PassesText more n x old new
   pub within : n ≤ length x
-  pub ahead : (at : Place) → IsAhead (placed_ahead at a) new.state (allows_call new) more (drop n x) at
-  pub passed : a ≡ aheads.Passed → (0 < n) ⊎ ((others ≡ true) × (drop n x ≡ []))
+  pub end : (at : Place) → EndsBy n (placed_end at e) new.state (allows_call new) more others (drop n x) at
 
--- a pass over the front of an input; if all of it was passed, that was some
-pub record PassesFront (a : Lookahead) (old new : Engine) (i j : Held) : Type 0 where
+-- a pass over the front of an input ends at the next token, or some bytes were passed, or more of them were looked at
+abbrev pub EndsAt : PassEnd → ℕ → Engine → Pending → Pending → Type 0
+EndsAt (ends.At a) looked e before after = IsLookahead a e after
+EndsAt (ends.Further k) looked e before after =
+    (k ≤ length (text_of after))
+    × ((length (text_of after) < length (text_of before))
+    ⊎ ((length (text_of after) ≡ length (text_of before)) × (looked < k)))
+
+-- a pass over the front of an input, of which `looked` bytes don't decide the first token
+pub record PassesFront (e : PassEnd) (looked : ℕ) (old new : Engine) (i j : Held) : Type 0 where
   pub passes : PassesOnce old new i j
-  pub ahead : IsLookahead a new j.pending
-  pub some : a ≡ aheads.Passed → length (text_of j.pending) < length (text_of i.pending)
-  pub first : a ≡ aheads.Open → (j.pending).definition ≡ None
+  pub end : EndsAt e looked new i.pending j.pending

@@ -1,12 +1,14 @@
 -- Plain: tokens at the start of a text that expand to themselves.
 -- Not believed: it only says which turns a run may make at once, by the tokens of `scan`. If more bytes may follow
 -- (`m`), only tokens that they can't change are meant.
--- Words: IsPlain, total, ArePlain, IsPlainRun, IsFirst, FirstLies, IsTextOf.
+-- Words: IsPlain, total, ArePlain, IsPlainRun, IsUndecided, IsFirst, FirstLies, IsTextOf.
 use Rattle.std.specs.Prelude.{◌≡◌, ◌<◌, ◌≤◌, ℕ, ◌+◌, Bool, List, [], ◌∷◌, Some, None, take, drop, ◌⊎◌}
 use Rattle.m4_state.specs.Definition.{IsDefinition}
+use Rattle.m4_state.specs.declared.definition.Def.{Def}
 use Rattle.m4_state.specs.State.{State, top_of}
-use Rattle.m4_input.specs.declared.token.Token.TheVariants.{Name, Str, Comment, Byte}
-use Rattle.m4_input.specs.declared.front.Scan.TheVariants.{Found}
+use Rattle.m4_input.specs.declared.token.Token.TheVariants.{Name, Str, Comment, Byte, End}
+use Rattle.m4_input.specs.declared.front.Answer.TheVariants.{Unknown}
+use Rattle.m4_input.specs.declared.front.Scan.TheVariants.{Found, Broken, NeedsMore}
 use Rattle.m4_input.specs.Token.{scan}
 use Rattle.m4_input.specs.Paren.{paren_in}
 use Rattle.m4_input.specs.Input.{answer_of}
@@ -34,6 +36,13 @@ ArePlain s m (n ∷ ns) x = IsPlain s m n x × ArePlain s m ns (drop n x)
 abbrev pub IsPlainRun : State → Bool → ℕ → List ℕ → Type 0
 IsPlainRun s m n x = (lens : List ℕ) × ArePlain s m lens x × (total lens ≡ n)
 
+-- further bytes can change the first token, or decide whether a list follows a name that has a definition
+abbrev pub IsUndecided : State → Bool → List ℕ → Type 0
+IsUndecided s m x =
+    (scan s.quotes s.comments m x ≡ NeedsMore)
+    ⊎ ((n : ℕ) × (d : Def) × (scan s.quotes s.comments m x ≡ Found (Name (take n x)) n)
+    × (top_of s (take n x) ≡ Some d) × (paren_in s.quotes s.comments m (drop n x) ≡ Unknown))
+
 -- the result of one look at the first token
 abbrev pub IsFirst : State → Bool → List ℕ → First → Type 0
 IsFirst s m x (firsts.Text n) =
@@ -44,7 +53,9 @@ IsFirst s m x (firsts.Quoted begin len all) = scan s.quotes s.comments m x ≡ F
 IsFirst s m x (firsts.Called n listed d) =
     (scan s.quotes s.comments m x ≡ Found (Name (take n x)) n) × (top_of s (take n x) ≡ Some d.now)
     × (paren_in s.quotes s.comments m (drop n x) ≡ answer_of listed) × IsDefinition d.now
-IsFirst s m x firsts.Other = Unit {0}
+IsFirst s m x firsts.End = scan s.quotes s.comments m x ≡ Found End 0
+IsFirst s m x (firsts.Unended what) = scan s.quotes s.comments m x ≡ Broken what
+IsFirst s m x firsts.Undecided = IsUndecided s m x
 
 -- the first token is inside a text of m bytes
 abbrev pub FirstLies : ℕ → First → Type 0
@@ -52,7 +63,9 @@ FirstLies m (firsts.Text n) = (0 < n) × (n ≤ m)
 FirstLies m (firsts.Byte b) = 0 < m
 FirstLies m (firsts.Quoted begin len all) = (begin + len ≤ m) × (all ≤ m)
 FirstLies m (firsts.Called n listed d) = n ≤ m
-FirstLies m firsts.Other = Unit {0}
+FirstLies m firsts.End = Unit {0}
+FirstLies m (firsts.Unended what) = Unit {0}
+FirstLies m firsts.Undecided = Unit {0}
 
 -- the text of the first token, which has n bytes: that of a string, or all of a plain token
 abbrev pub IsTextOf : State → Bool → ℕ → ℕ → ℕ → List ℕ → Type 0

@@ -12,7 +12,7 @@ ghost use Rattle.m4_input.specs.declared.token.Token.TheVariants.{Comment};
 ghost use Rattle.m4_engine.specs.Plain.{IsPlainRun, IsFirst, FirstLies, IsTextOf};
 
 use m4_input::delims::Delims;
-use m4_input::front::{Answer, Look};
+use m4_input::front::{Answer, Look, Unended};
 use m4_input::look::{first_token, list_follows, may_begin, plain_token};
 use m4_state::definition::Def;
 use m4_state::state::State;
@@ -28,61 +28,63 @@ pub enum First<'a> {
     Quoted(usize, usize, usize),
     /// A name with a definition: its length, whether an argument list follows it, and the definition.
     Called(usize, bool, &'a Def),
-    /// Any other token, bytes that may begin with a delimiter, or a token that further bytes can change.
-    Other,
+    /// The end of the input.
+    End,
+    /// A string or a comment that the input does not end.
+    Unended(Unended),
+    /// A token that further bytes can change, or a name after which they decide whether a list follows.
+    Undecided,
 }
 
-/// Counts the bytes of the plain tokens at the start, and returns the token after them. It does not look
-/// at the token after the one that reaches `most`.
+/// Counts the bytes of the plain tokens at the start, and returns the token after them; `None` if no bytes come after
+/// them, or a delimiter may begin with the next one. It does not look at the token after the one that reaches `most`.
 #[inline(always)]
 pub fn plain_run<'a>(
     text: &[u8],
     state: &'a State,
     may_follow: bool,
     most: usize,
-) -> (usize, First<'a>)
+) -> (usize, Option<First<'a>>)
     // exact steps: tokens of the definition `scan`, each a name without a definition or a byte
     ensures plain { IsPlainRun state.now may_follow result.0 text.now }
     ensures within { result.0 ≤ length text.now }
-    ensures after { IsFirst state.now may_follow (drop result.0 text.now) result.1 }
-    ensures lies { FirstLies (length (drop result.0 text.now)) result.1 }
+    ensures after { IfSome result.1 (λ f. IsFirst state.now may_follow (drop result.0 text.now) f) }
+    ensures lies { IfSome result.1 (λ f. FirstLies (length (drop result.0 text.now)) f) }
 {
     let delims = Delims::of(state);
     let mut len = 0;
     while len < most {
         match first_plain(text.split_at(len).1, state, &delims, may_follow) {
-            First::Text(n) => len += n,
-            First::Byte(_) => len += 1,
-            First::Other => {
+            Some(First::Text(n)) => len += n,
+            Some(First::Byte(_)) => len += 1,
+            Some(first) => return (len, Some(first)),
+            None => {
                 let comment = comment_len(text.split_at(len).1, state, &delims, may_follow);
                 if comment == 0 {
-                    return (len, First::Other);
+                    return (len, None);
                 }
                 len += comment;
             }
-            first => return (len, first),
         }
     }
-    (len, First::Other)
+    (len, None)
 }
 
-/// Returns the first token; `Other` if it may be a string or a comment, or if further bytes can change it.
+/// Returns the first token; `None` if there are no bytes, or a delimiter may begin with the first one.
 #[inline(always)]
-pub fn first_plain<'a>(
+fn first_plain<'a>(
     text: &[u8],
     state: &'a State,
     delims: &Delims<'_>,
     may_follow: bool,
-) -> First<'a>
+) -> Option<First<'a>>
     requires quotes { pair_of delims.now.quotes ≡ state.now.quotes }
     requires comments { pair_of delims.now.comments ≡ state.now.comments }
-    ensures first { IsFirst state.now may_follow text.now result }
-    ensures lies { FirstLies (length text.now) result }
+    ensures first { IfSome result (λ f. IsFirst state.now may_follow text.now f) }
+    ensures lies { IfSome result (λ f. FirstLies (length text.now) f) }
 {
-    match plain_token(text, delims, may_follow) {
-        Some(look) => first_of(look, text, state, delims, may_follow),
-        None => First::Other,
-    }
+    let look = plain_token(text, delims, may_follow)?;
+    Some(first_of(look, text, state, delims, may_follow))
 }
 
 /// Counts the bytes of the comment at the start; 0 if there is none.
@@ -132,13 +134,15 @@ fn first_of<'a>(
             match list_follows(after, delims, may_follow) {
                 Answer::Yes => First::Called(len, true, definition),
                 Answer::No => First::Called(len, false, definition),
-                Answer::Unknown => First::Other,
+                Answer::Unknown => First::Undecided,
             }
         }
         Look::Byte(byte) => First::Byte(byte),
         Look::Quoted(begin, len, all) => First::Quoted(begin, len, all),
         Look::Comment(len) => First::Text(len),
-        Look::End | Look::Unended(_) | Look::NeedsMore => First::Other,
+        Look::End => First::End,
+        Look::Unended(what) => First::Unended(what),
+        Look::NeedsMore => First::Undecided,
     }
 }
 
@@ -172,6 +176,6 @@ pub fn text_of(first: &First<'_>) -> Option<(usize, usize, usize)>
         First::Quoted(begin, len, all) => Some((*begin, *len, *all)),
         First::Text(len) => Some((0, *len, *len)),
         First::Byte(_) => Some((0, 1, 1)),
-        First::Called(..) | First::Other => None,
+        First::Called(..) | First::End | First::Unended(_) | First::Undecided => None,
     }
 }

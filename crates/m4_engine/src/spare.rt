@@ -50,6 +50,11 @@ impl Spare {
         }
     }
 
+    /// Returns the allocator of the calls.
+    pub fn alloc(&self) -> Global {
+        self.alloc
+    }
+
     /// Returns a call with no argument read yet. Its place is to be set.
     #[inline(always)]
     pub fn call(&mut self, name: &[u8], definition: &Def) -> Result<OpenCall, AllocError>

@@ -176,7 +176,7 @@ impl Machine {
             (call_turn false c (longer z more input.old.pending) (here_of o m self.old (before z more))))) }
     {
         self.count();
-        self.take_text(text, input)
+        self.push_text(text, input)
     }
 
     /// Counts a call of the builtin that skips the rest of the line. The call is a token of the argument around it.
@@ -211,7 +211,7 @@ impl Machine {
                 .effect
                 .expand(text, call.name(), call.arguments(), quotes)?;
             self.spare.keep(call);
-            return self.take_text(expansion, input);
+            return self.push_text(expansion, input);
         }
         self.call_builtin(call, input)
     }
@@ -262,7 +262,7 @@ impl Machine {
 
     /// Pushes a text with its arguments substituted: it is read before everything else.
     #[inline(always)]
-    fn take_text(&mut self, text: Bytes, input: &mut Input) -> Result<Turned, TurnFault>
+    fn push_text(&mut self, text: Bytes, input: &mut Input) -> Result<Turned, TurnFault>
         requires { IsTaken input.old }
         ensures { Steps result self.old self.new input.old input.new
             (λ t. (c : Call) (x : List ℕ) → c.definition ≡ Text x → text ≡ subst x c.name c.done self.old.state.quotes

@@ -99,10 +99,12 @@ impl Machine {
     }
 
     /// Expands the bytes in hand as far as they decide. Writes messages as they arise, output in blocks, and all
-    /// of both where more bytes are needed. If the rest of a line is to be discarded, that is done first.
+    /// of both where more bytes are needed. If the rest of a line is to be discarded, that is done first. `copy` is a
+    /// buffer for bytes of a token that lies across several texts.
     fn expand_in_hand<O: ByteSink, M: ByteSink>(
         &mut self,
         wanted: Wanted,
+        copy: &mut Vec<u8>,
         input: &mut Input,
         out: &mut O,
         messages: &mut M,
@@ -124,7 +126,7 @@ impl Machine {
             return InHand::Needs(Wanted::Line);
         }
         'turns: loop {
-            let Ok(lookahead) = self.pass_plain(input) else {
+            let Ok(lookahead) = self.pass_plain(input, copy) else {
                 return InHand::Ends(Cause::OutOfMemory);
             };
             let earlier = self.output.len();
@@ -204,9 +206,10 @@ impl Machine {
         ensures read { ReadsBy result (R.failures reader.old) (R.failures reader.new) }
         ensures counted { FailsBy result (both O.failures M.failures out.old out.new messages.old messages.new) }
     {
+        let mut copy = Vec::new(self.alloc);
         let mut wanted = Wanted::Token;
         'blocks: loop {
-            match self.expand_in_hand(wanted, input, out, messages) {
+            match self.expand_in_hand(wanted, &mut copy, input, out, messages) {
                 InHand::Ends(cause) => return cause,
                 InHand::Needs(more) => wanted = more,
             }

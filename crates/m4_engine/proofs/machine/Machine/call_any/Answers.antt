@@ -17,13 +17,13 @@ returns-in-Text c = record {
       let made = c.in_ok-expansion.expansion in
       let p = c.args.input.now.pending in
       let moves = subst
-      (λ (x : Engine). IfOk c.take_text.result
+      (λ (x : Engine). IfOk c.push_text.result
       (λ t. (k : Call) (y : List ℕ) → k.definition ≡ Text y → made
       ≡ substituted y k.name k.done x.state.quotes
-      → Moves p.may_follow c.take_text.new.self c.take_text.new.input.pending t
+      → Moves p.may_follow c.push_text.new.self c.push_text.new.input.pending t
       (λ z more o m. called_within x.open_calls k (here_of o m x (longer z more p))))) c.self.view_is
-      c.take_text.ensures.moves in
-      called_as p.may_follow c.args.self.now c.take_text.new.self made text c.args.call (λ z more. longer z more p) c.take_text.new.input.pending c.take_text.result moves (search rules)
+      c.push_text.ensures.moves in
+      called_as p.may_follow c.args.self.now c.push_text.new.self made text c.args.call (λ z more. longer z more p) c.push_text.new.input.pending c.push_text.result moves (search rules)
       (substituted_by text made _ c.args.call.name _ c.args.call.done (pair_of c.quotes-quotes.result) _ (c.in_ok-expansion.ensures.text) (search rules) (search rules) (search rules) (search rules));
   ready = search rules;
   limits = search rules;

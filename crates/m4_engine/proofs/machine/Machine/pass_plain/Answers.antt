@@ -1,32 +1,35 @@
-use Rattle.std.proofs.Common.{◌≡◌, refl, ◌∙◌}
-use Rattle.m4_input.specs.Input.{Held}
-use Rattle.m4_engine.specs.Passes.{Passes}
-use Rattle.m4_engine.proofs.Passing.{passed_front}
+use Rattle.std.proofs.Common.{refl}
+use Rattle.m4_engine.proofs.Passing.{passed_front, ends_further, measure_less}
 use Rattle.m4_engine.proofs.machine.Machine.pass_plain.Goals as goal
-use Rattle.m4_engine.proofs.machine.Machine.pass_plain.Goals.{in_default-via-in-Open+then-may_join+else-join, in_default-via-in-Open+else-may_join, in_default-via-in_default}
 
-pub fronts-preserved-in-Passed-1 : goal.fronts-preserved-in-Passed-1
-fronts-preserved-in-Passed-1 c =
+pub returns-in-At-clause-passes : goal.returns-in-At-clause-passes
+returns-in-At-clause-passes c =
     let h = c.fronts.invariant in
-    let r = passed_front c.in_ok-lookahead.lookahead c.args.self.now c.fronts.self c.pass_front.new.self c.pass_front.new.self c.args.input.now c.fronts.input c.pass_front.new.input c.pass_front.new.input
-    h.passes h.ready c.in_ok-lookahead.ensures refl refl in
-    record { passes = r.0; ready = r.1 }
+    (passed_front c.in_ok-lookahead.field-0 c.fronts.looked c.args.self.now c.fronts.self c.pass_front.new.self c.args.input.now c.fronts.input c.pass_front.new.input c.pass_front.new.input
+    h.passes h.ready c.in_ok-lookahead.ensures refl).0
+
+pub fronts-smaller-then-len-gt0 : goal.fronts-smaller-then-len-gt0
+fronts-smaller-then-len-gt0 c =
+    measure_less c.in_ok-lookahead.field-0 c.fronts.looked c.in-Further.len c.fronts.self c.pass_front.new.self c.fronts.input c.pass_front.new.input c.join-joined.new.self
+    c.in-Further.is c.join-joined.ensures c.fronts.invariant.looked c.in_ok-lookahead.ensures
+
+pub fronts-preserved-then-len-gt0 : goal.fronts-preserved-then-len-gt0
+fronts-preserved-then-len-gt0 c =
+    let h = c.fronts.invariant in
+    let r = passed_front c.in_ok-lookahead.field-0 c.fronts.looked c.args.self.now c.fronts.self c.pass_front.new.self c.args.input.now c.fronts.input c.pass_front.new.input c.join-joined.new.self
+    h.passes h.ready c.in_ok-lookahead.ensures c.join-joined.ensures in
+    let e = ends_further c.in_ok-lookahead.field-0 c.fronts.looked c.in-Further.len c.fronts.self c.pass_front.new.self c.fronts.input c.pass_front.new.input c.join-joined.new.self c.in-Further.is c.join-joined.ensures c.in_ok-lookahead.ensures in
+    record { passes = r.0; ready = r.1; looked = e.0 }
+
+pub fronts-smaller : goal.fronts-smaller
+fronts-smaller c =
+    measure_less c.in_ok-lookahead.field-0 c.fronts.looked c.in-Further.len c.fronts.self c.pass_front.new.self c.fronts.input c.pass_front.new.input c.pass_front.new.input
+    c.in-Further.is refl c.fronts.invariant.looked c.in_ok-lookahead.ensures
 
 pub fronts-preserved : goal.fronts-preserved
 fronts-preserved c =
     let h = c.fronts.invariant in
-    let r = passed_front c.in_ok-lookahead.lookahead c.args.self.now c.fronts.self c.pass_front.new.self c.pass_front.new.self c.args.input.now c.fronts.input c.pass_front.new.input c.join.new.self
-    h.passes h.ready c.in_ok-lookahead.ensures refl c.join.ensures in
-    record { passes = r.0; ready = r.1 }
-
-pub returns-in_default-clause-passes : goal.returns-in_default-clause-passes
-returns-in_default-clause-passes c =
-    let h = c.fronts.invariant in
-    let over : (t : Held) → t ≡ c.pass_front.new.input → Passes c.args.self.now c.pass_front.new.self c.args.input.now t =
-    λ t k. (passed_front c.in_ok-lookahead.lookahead c.args.self.now c.fronts.self c.pass_front.new.self c.pass_front.new.self c.args.input.now c.fronts.input c.pass_front.new.input t
-    h.passes h.ready c.in_ok-lookahead.ensures refl k).0 in
-    elim c.in_default.branch [
-      | in_default-via-in-Open+then-may_join+else-join w ↦ over c.in_default.input (w.input-is ∙ w.join.ensures)
-      | in_default-via-in-Open+else-may_join w ↦ over c.in_default.input w.input-is
-      | in_default-via-in_default w ↦ over c.in_default.input w.input-is
-    ]
+    let r = passed_front c.in_ok-lookahead.field-0 c.fronts.looked c.args.self.now c.fronts.self c.pass_front.new.self c.args.input.now c.fronts.input c.pass_front.new.input c.pass_front.new.input
+    h.passes h.ready c.in_ok-lookahead.ensures refl in
+    let e = ends_further c.in_ok-lookahead.field-0 c.fronts.looked c.in-Further.len c.fronts.self c.pass_front.new.self c.fronts.input c.pass_front.new.input c.pass_front.new.input c.in-Further.is refl c.in_ok-lookahead.ensures in
+    record { passes = r.0; ready = r.1; looked = e.0 }

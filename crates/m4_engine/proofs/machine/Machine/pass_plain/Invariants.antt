@@ -1,8 +1,8 @@
-use Rattle.std.proofs.Common.{length, ◌+◌, ◌*◌}
-use Rattle.std.specs.Prelude.{cond}
+use Rattle.std.proofs.Common.{length, ◌≤◌}
 use Rattle.m4_input.specs.Pending.{text_of}
 use Rattle.m4_engine.specs.Engine.{IsReady}
 use Rattle.m4_engine.specs.Passes.{Passes}
+use Rattle.m4_engine.proofs.Measures.{measure}
 use Rattle.m4_engine.proofs.machine.Machine.pass_plain.Given as goal
 
 -- what was passed so far
@@ -10,8 +10,9 @@ abbrev pub invariant-fronts : goal.invariant-fronts
 invariant-fronts l = record {
   passes : Passes l.fn.self l.self l.fn.input l.input;
   ready : IsReady l.input;
+  looked : l.looked ≤ length (text_of (l.input).pending);
 }
 
--- each pass but the one after a join leaves fewer bytes
+-- each pass leaves fewer bytes, or looks at more of them
 abbrev pub decreases-fronts : goal.decreases-fronts
-decreases-fronts l = 2 * length (text_of (l.input).pending) + cond l.may_join 1 0
+decreases-fronts l = measure (length (text_of (l.input).pending)) l.looked

@@ -1,33 +1,113 @@
-use Rattle.std.proofs.Common.{rules, take}
+use Rattle.std.proofs.Common.{◌≡◌, List, ℕ, None, false, rules, ap, subst, take}
 use Rattle.m4_input.specs.Pending.{text_of}
+use Rattle.m4_input.specs.Input.{Held, answer_of}
+use Rattle.m4_input.specs.Paren.{paren_at}
 use Rattle.m4_input.specs.declared.token.Token.TheVariants.{Name, Byte}
-use Rattle.m4_engine.specs.Engine.{is_bare}
-use Rattle.m4_engine.proofs.Acts.{turned_steps}
-use Rattle.m4_engine.proofs.Seen.{byte_front, name_front, name_list, name_means, name_is_inline, named_at}
-use Rattle.m4_engine.proofs.Turning.{seen_steps, turn_taken}
+use Rattle.m4_input.proofs.Names.{name_has_none}
+use Rattle.m4_builtins.specs.declared.place.Place.{Place}
+use Rattle.std.specs.Prelude.{Ok}
+use Rattle.m4_engine.specs.declared.turned.Turned.TheVariants as turns
+use Rattle.m4_engine.specs.declared.lookahead.Lookahead.{Lookahead}
+use Rattle.m4_engine.specs.Lookahead.{IsCalled}
+use Rattle.m4_engine.specs.Passes.{IsLookahead}
+use Rattle.m4_engine.proofs.Named.{place_of}
+use Rattle.m4_engine.proofs.Seen.{room_allows, list_there, expansion_moves, line_skips, called_moves}
+use Rattle.m4_engine.proofs.Turning.{found_steps_at, end_turn, broken_turn, undecided_turn}
 use Rattle.m4_engine.proofs.machine.Machine.turn.Goals as goal
 
 pub returns-in-Byte : goal.returns-in-Byte
 returns-in-Byte c =
-    seen_steps c.args.self.now c.take_byte.new.self (Byte c.in-Byte.byte) c.args.input.now c.consume.new.self c.take_byte.new.input c.take_byte.result (search rules) (search rules)
-    (byte_front c.args.lookahead c.args.self.now c.args.input.now.pending c.consume.new.self.pending c.in-Byte.byte c.in-Byte.is (search rules) c.requires.lookahead) c.take_byte.ensures.moves c.take_byte.ensures
-
-pub take_named-requires-clause-list : goal.take_named-requires-clause-list
-take_named-requires-clause-list c = name_list c.args.lookahead c.args.self.now c.args.input.now.pending c.pass.new.self.pending c.in-Named.named c.in-Named.is (search rules) c.requires.lookahead
-
-pub returns-in-Named : goal.returns-in-Named
-returns-in-Named c =
     let e = c.args.self.now in
-    let n = c.in-Named.named in
+    let h = subst (λ (v : Lookahead). IsLookahead v e c.args.input.now.pending) c.in-Byte.is c.requires.lookahead in
+    found_steps_at e c.take_byte.new.self (Byte c.in-Byte.byte) 1 c.args.input.now c.consume.new.self c.take_byte.new.input c.take_byte.result h.0 h.1.0 c.consume.ensures c.take_byte.ensures.moves c.take_byte.ensures
+
+pub returns-in-Expansion : goal.returns-in-Expansion
+returns-in-Expansion c =
+    let e = c.args.self.now in
     let p = c.args.input.now.pending in
     let q = c.pass.new.self.pending in
-    let name = take n.len (text_of p) in
-    turned_steps e c.take_named.new.self c.args.input.now c.pass.new.self c.take_named.new.input c.take_named.result (search rules) (search rules)
-    (turn_taken e c.take_named.new.self (Name name) p q c.take_named.new.input.pending c.take_named.result
-    (name_front c.args.lookahead e p q n c.in-Named.is (search rules) c.requires.lookahead)
-    (named_at e c.take_named.new.self p q c.take_named.new.input.pending c.take_named.result n.meaning (is_bare n.listed e) name (search rules) c.take_named.ensures.moves
-    (name_means c.args.lookahead e p n c.in-Named.is c.requires.lookahead))) (search rules) c.take_named.ensures
+    let n = c.in-Expansion.len in
+    let name : List ℕ = take n (text_of p) in
+    let h = subst (λ (v : Lookahead). IsLookahead v e p) c.in-Expansion.is c.requires.lookahead in
+    let rest : q.definition ≡ None = ap (λ (i : Held). (i.pending).definition) c.pass.ensures in
+    let list : paren_at e.state.quotes e.state.comments q ≡ answer_of false = list_there e.state.quotes e.state.comments p q n (answer_of false) (ap (λ (i : Held). i.pending) c.pass.ensures) (h.1.0).list in
+    found_steps_at e c.take_expansion.new.self (Name name) n c.args.input.now c.pass.new.self c.take_expansion.new.input c.take_expansion.result h.0 (h.1.0).scanned c.pass.ensures
+    (expansion_moves e c.take_expansion.new.self c.in-Expansion.text name p q c.take_expansion.new.input.pending c.take_expansion.result rest list h.1.2 c.take_expansion.ensures.moves)
+    c.take_expansion.ensures
+
+pub returns-in-LineSkip : goal.returns-in-LineSkip
+returns-in-LineSkip c =
+    let e = c.args.self.now in
+    let p = c.args.input.now.pending in
+    let k = c.pass-in-LineSkip.new.self in
+    let q = k.pending in
+    let n = c.in-LineSkip.len in
+    let name : List ℕ = take n (text_of p) in
+    let h = subst (λ (v : Lookahead). IsLookahead v e p) c.in-LineSkip.is c.requires.lookahead in
+    let rest : q.definition ≡ None = ap (λ (i : Held). (i.pending).definition) c.pass-in-LineSkip.ensures in
+    let list : paren_at e.state.quotes e.state.comments q ≡ answer_of false = list_there e.state.quotes e.state.comments p q n (answer_of false) (ap (λ (i : Held). i.pending) c.pass-in-LineSkip.ensures) (h.1.0).list in
+    let room = room_allows e h.1.1 in
+    found_steps_at e c.take_line_skip.new.self (Name name) n c.args.input.now k k (Ok turns.SkipsLine) h.0 (h.1.0).scanned c.pass-in-LineSkip.ensures
+    (line_skips e c.take_line_skip.new.self name p q rest list room.0 room.1 c.take_line_skip.ensures h.1.2)
+    {to = λ t. Unit {0}} (record { moves = tt; ready = search rules; limits = search rules; made = tt })
+
+pub returns-in-Call : goal.returns-in-Call
+returns-in-Call c =
+    let e = c.args.self.now in
+    let p = c.args.input.now.pending in
+    let q = c.pass-in-Call.new.self.pending in
+    let n = c.in-Call.len in
+    let name : List ℕ = take n (text_of p) in
+    let h = subst (λ (v : Lookahead). IsLookahead v e p) c.in-Call.is c.requires.lookahead in
+    found_steps_at e c.take_name.new.self (Name name) n c.args.input.now c.pass-in-Call.new.self c.take_name.new.input c.take_name.result h.0 (h.1.0).scanned c.pass-in-Call.ensures
+    (called_moves e c.take_name.new.self c.in-Call.call name p q c.take_name.new.input.pending c.take_name.result
+    (subst (λ (v : Place). IsCalled c.in-Call.call e.state name v) (place_of p) h.1.1) c.take_name.ensures.moves)
+    c.take_name.ensures
 
 -- a name has no newline
 pub pass-requires-clause-inline : goal.pass-requires-clause-inline
-pass-requires-clause-inline c = name_is_inline c.args.lookahead c.args.self.now c.args.input.now.pending c.in-Named.named c.in-Named.is c.requires.lookahead
+pass-requires-clause-inline c =
+    let e = c.args.self.now in
+    let p = c.args.input.now.pending in
+    let h = subst (λ (v : Lookahead). IsLookahead v e p) c.in-Expansion.is c.requires.lookahead in
+    name_has_none e.state.quotes e.state.comments p.may_follow (text_of p) _ c.in-Expansion.len (h.1.0).scanned
+
+pub pass-requires-in-LineSkip-clause-inline : goal.pass-requires-in-LineSkip-clause-inline
+pass-requires-in-LineSkip-clause-inline c =
+    let e = c.args.self.now in
+    let p = c.args.input.now.pending in
+    let h = subst (λ (v : Lookahead). IsLookahead v e p) c.in-LineSkip.is c.requires.lookahead in
+    name_has_none e.state.quotes e.state.comments p.may_follow (text_of p) _ c.in-LineSkip.len (h.1.0).scanned
+
+pub pass-requires-in-Call-clause-inline : goal.pass-requires-in-Call-clause-inline
+pass-requires-in-Call-clause-inline c =
+    let e = c.args.self.now in
+    let p = c.args.input.now.pending in
+    let h = subst (λ (v : Lookahead). IsLookahead v e p) c.in-Call.is c.requires.lookahead in
+    name_has_none e.state.quotes e.state.comments p.may_follow (text_of p) _ c.in-Call.len (h.1.0).scanned
+
+pub take_name-requires-clause-list : goal.take_name-requires-clause-list
+take_name-requires-clause-list c =
+    let e = c.args.self.now in
+    let p = c.args.input.now.pending in
+    let h = subst (λ (v : Lookahead). IsLookahead v e p) c.in-Call.is c.requires.lookahead in
+    list_there e.state.quotes e.state.comments p c.pass-in-Call.new.self.pending c.in-Call.len (answer_of c.in-Call.listed) (ap (λ (i : Held). i.pending) c.pass-in-Call.ensures) (h.1.0).list
+
+pub returns-in-Undecided : goal.returns-in-Undecided
+returns-in-Undecided c =
+    let e = c.args.self.now in
+    let h = subst (λ (v : Lookahead). IsLookahead v e c.args.input.now.pending) c.in-Undecided.is c.requires.lookahead in
+    undecided_turn e c.args.input.now c.requires.ready h.0 h.1
+
+pub returns-in-End : goal.returns-in-End
+returns-in-End c =
+    let e = c.args.self.now in
+    let h = subst (λ (v : Lookahead). IsLookahead v e c.args.input.now.pending) c.in-End.is c.requires.lookahead in
+    end_turn e c.take_end.new.self 0 c.args.input.now c.take_end.result c.requires.ready h.0 h.1 c.take_end.ensures
+
+pub returns-in-Unended : goal.returns-in-Unended
+returns-in-Unended c =
+    let e = c.args.self.now in
+    let i = c.args.input.now in
+    let h = subst (λ (v : Lookahead). IsLookahead v e i.pending) c.in-Unended.is c.requires.lookahead in
+    broken_turn e c.take_unended.new.self c.in-Unended.what c.line.result i c.take_unended.result c.requires.ready h.0 h.1 c.line.ensures c.take_unended.ensures
