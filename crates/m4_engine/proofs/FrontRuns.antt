@@ -17,10 +17,9 @@ use Rattle.m4_input.specs.Input.{answer_of}
 use Rattle.m4_input.proofs.OpenEnd.{scan_stays, scan_fits, paren_in_stays}
 use Rattle.m4_engine.specs.Expansion.{Call}
 use Rattle.m4_engine.specs.Plain.{IsPlain, ArePlain, IsPlainRun}
-use Rattle.m4_engine.specs.Lookahead.{IsExpansion, IsCalled, IsNamed, IsAhead, IsLookaheadOf, place_in}
+use Rattle.m4_engine.specs.Lookahead.{IsExpansion, IsCalled, IsNamed, IsAhead, IsLookaheadOf}
 use Rattle.m4_engine.specs.declared.lookahead.Lookahead.{Lookahead}
 use Rattle.m4_engine.specs.declared.lookahead.Lookahead.TheVariants as aheads
-use Rattle.m4_builtins.specs.declared.place.Place.{Place}
 use Rattle.m4_input.proofs.Parts.{drop_parts}
 use Rattle.std.specs.Prelude.{◌<◌, ◌||◌}
 use Rattle.m4_engine.specs.Collected.{IsText, IsListToken, AreListTokens, IsListRun}
@@ -115,24 +114,25 @@ named_on s more n listed x z h =
 same_name : (P : List ℕ → Type 0) (n : ℕ) (x z : List ℕ) → n ≤ length x → P (take n x) → P (take n (x ++ z))
 same_name P n x z k h = subst P (sym (take-append-le n x z k)) h
 
-ahead_on : (s : State) (room more : Bool) (a : Lookahead) (x z : List ℕ) (at : Place) → (a ≡ aheads.Undecided → ⊥) → IsAhead a s room true x at → IsAhead a s room more (x ++ z) at
-ahead_on s room more aheads.Definition x z at u h = absurd h
-ahead_on s room more (aheads.Text n t) x z at u h =
+ahead_on : (s : State) (room more : Bool) (a : Lookahead) (x z : List ℕ) → (a ≡ aheads.Undecided → ⊥) → IsAhead a s room true x → IsAhead a s room more (x ++ z)
+ahead_on s room more aheads.Definition x z u h = absurd h
+ahead_on s room more (aheads.Text n t) x z u h =
     let all : length (x ++ z) ≡ length x + length z = length-append x z in
     let fits : n ≤ length x = h.1 in
     (text_on s more n t x z h.0, omega (arith, all, fits))
-ahead_on s room more (aheads.Byte b) x z at u h =
+ahead_on s room more (aheads.Byte b) x z u h =
     let all : length (x ++ z) ≡ length x + length z = length-append x z in
     (found_on s.quotes s.comments more x z (Byte b) 1 h.0, omega (arith, all, h.1))
-ahead_on s room more (aheads.Expansion n t) x z at u h =
+ahead_on s room more (aheads.Expansion n t) x z u h =
     (named_on s more n false x z h.0, h.1, same_name (IsExpansion t s) n x z (h.0).within h.2)
-ahead_on s room more (aheads.LineSkip n) x z at u h =
+ahead_on s room more (aheads.LineSkip n) x z u h =
     (named_on s more n false x z h.0, h.1, same_name (λ (y : List ℕ). top_of s y ≡ Some (Builtin Dnl)) n x z (h.0).within h.2)
-ahead_on s room more (aheads.Call n listed c) x z at u h =
-    (named_on s more n listed x z h.0, same_name (λ (y : List ℕ). IsCalled c s y at) n x z (h.0).within h.1)
-ahead_on s room more aheads.End x z at u h = found_on s.quotes s.comments more x z End 0 h
-ahead_on s room more (aheads.Unended what) x z at u h = decided_on s.quotes s.comments more x z (Broken what) (λ e. cc) h
-ahead_on s room more aheads.Undecided x z at u h = absurd (u refl)
+ahead_on s room more (aheads.Call n listed c) x z u h =
+    (named_on s more n listed x z h.0, same_name (IsCalled c s) n x z (h.0).within h.1)
+ahead_on s room more aheads.End x z u h = found_on s.quotes s.comments more x z End 0 h
+ahead_on s room more (aheads.Unended what) x z u h = decided_on s.quotes s.comments more x z (Broken what) (λ e. cc) h
+ahead_on s room more aheads.Undecided x z u h = absurd (u refl)
+ahead_on s room more (aheads.Further k) x z u h = absurd h
 
 -- the bytes after those at the front
 pub record After (p : Pending) (x : List ℕ) (m : Bool) : Type 0 where
@@ -170,7 +170,7 @@ found_after q c p m n x t l h k g =
     by false z f g = closed_on (λ b (y : List ℕ). scan q c b y ≡ Found t l) (drop n x) z p.may_follow f g
 
 -- what was seen after n bytes is seen at the front once these were consumed
-ahead_there : (a : Lookahead) (s : State) (room : Bool) (p : Pending) → p.definition ≡ None → IsAhead a s room p.may_follow (text_of p) (place_in p) → IsLookaheadOf a s room p
+ahead_there : (a : Lookahead) (s : State) (room : Bool) (p : Pending) → p.definition ≡ None → IsAhead a s room p.may_follow (text_of p) → IsLookaheadOf a s room p
 ahead_there aheads.Definition s room p f h = absurd h
 ahead_there (aheads.Text n t) s room p f h = (f, h)
 ahead_there (aheads.Byte b) s room p f h = (f, h)
@@ -180,6 +180,7 @@ ahead_there (aheads.Call n listed c) s room p f h = (f, h)
 ahead_there aheads.End s room p f h = (f, h)
 ahead_there (aheads.Unended what) s room p f h = (f, h)
 ahead_there aheads.Undecided s room p f h = (f, h)
+ahead_there (aheads.Further k) s room p f h = absurd h
 
 -- the bytes that are left of those at the front come first once the others were consumed
 pub front_left : (p : Pending) (m : Bool) (n : ℕ) (x : List ℕ) → IsInFront p x m → n ≤ length x → (rest : List ℕ) × (text_of (consumed n p) ≡ drop n x ++ rest)
@@ -190,16 +191,16 @@ front_left p m n x h k =
 pub ahead_front : (a : Lookahead) (s : State) (room : Bool) (p : Pending) (others : Bool) (n : ℕ) (x : List ℕ)
     → IsInFront p x (others || p.may_follow) → (others ≡ false → x ≡ text_of p) → n ≤ length x
     → (a ≡ aheads.Undecided → others ≡ false)
-    → IsAhead a s room (others || p.may_follow) (drop n x) (place_in (consumed n p))
+    → IsAhead a s room (others || p.may_follow) (drop n x)
     → IsLookaheadOf a s room (consumed n p)
 ahead_front a s room p false n x h all k u g =
     ahead_there a s room (consumed n p) refl
-    (subst (λ (y : List ℕ). IsAhead a s room p.may_follow y (place_in (consumed n p))) (ap (drop n) (all refl) ∙ drop_parts n p.pushed p.unread) g)
+    (subst (λ (y : List ℕ). IsAhead a s room p.may_follow y) (ap (drop n) (all refl) ∙ drop_parts n p.pushed p.unread) g)
 ahead_front a s room p true n x h all k u g =
     let l = front_left p true n x h k in
     ahead_there a s room (consumed n p) refl
-    (subst (λ (y : List ℕ). IsAhead a s room p.may_follow y (place_in (consumed n p))) (sym l.1)
-    (ahead_on s room p.may_follow a (drop n x) l.0 (place_in (consumed n p)) (λ e. absurd (no (u e))) g))
+    (subst (λ (y : List ℕ). IsAhead a s room p.may_follow y) (sym l.1)
+    (ahead_on s room p.may_follow a (drop n x) l.0 (λ e. absurd (no (u e))) g))
   where
     no : true ≡ false → ⊥
     no e = cc

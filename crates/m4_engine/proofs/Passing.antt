@@ -28,12 +28,11 @@ use Rattle.m4_engine.specs.Engine.{Engine, put_in, here_of, outer_of, configurat
 use Rattle.m4_engine.specs.Moments.{Moment, Next, moved, Comes}
 use Rattle.m4_engine.specs.Turns.{MayFollow, Moves}
 use Rattle.m4_engine.specs.Passes.{PassesPlain, PassesInner, PassesString, PassesOnce, ArePasses, Passes, PassesText}
-use Rattle.m4_engine.specs.Passes.{PassesBy, PassesFront, EndsAt, PutsToken}
+use Rattle.m4_engine.specs.Passes.{PassesBy, PassesFront, IsLookahead, EndsAt, PutsToken}
 use Rattle.m4_input.specs.Blocks.{IsInFront}
-use Rattle.m4_builtins.specs.declared.place.Place.{Place}
-use Rattle.m4_engine.specs.declared.lookahead.PassEnd.{PassEnd}
-use Rattle.m4_engine.specs.declared.lookahead.PassEnd.TheVariants as ends
-use Rattle.m4_engine.specs.Lookahead.{EndsBy, placed_end, place_in}
+use Rattle.m4_engine.specs.declared.lookahead.Lookahead.{Lookahead}
+use Rattle.m4_engine.specs.declared.lookahead.Lookahead.TheVariants as aheads
+use Rattle.m4_engine.specs.Lookahead.{IsAhead, EndsBy}
 use Rattle.m4_engine.proofs.FrontRuns.{plain_front, list_front, found_after, take_in_front, ahead_front, front_left}
 use Rattle.m4_engine.proofs.FrontRuns.{front_less}
 use Rattle.m4_engine.proofs.Longer.{found_longer}
@@ -457,58 +456,91 @@ pub passes_on : (e e1 e2 : Engine) (i i1 i2 : Held) → Passes e e1 i i1 → Pas
 passes_on e e1 e2 i i1 i2 h g = further h.0 e e1 e2 i i1 i2 h.1 g
 
 -- the end of a pass over a text in front of an input
-end_at : (e : PassEnd) (new : Engine) (p : Pending) (others : Bool) (looked n : ℕ) (x : List ℕ)
-    → IsInFront p x (others || p.may_follow) → (others ≡ false → x ≡ text_of p) → (others ≡ true → looked < length x)
-    → p.definition ≡ None → n ≤ length x
-    → EndsBy n e new.state (allows_call new) (others || p.may_follow) others (drop n x) (place_in (consumed n p))
-    → EndsAt e looked new p (consumed n p)
-end_at (ends.At a) new p others looked n x h all longer d k r = ahead_front a new.state (allows_call new) p others n x h all k r.1 r.0
-end_at (ends.Further len) new p others looked n x h all longer d k r =
-    let l = front_left p (others || p.may_follow) n x h k in
-    let left : length (text_of (consumed n p)) ≡ length (drop n x) + length l.0 = ap length l.1 ∙ length-append (drop n x) l.0 in
-    let fits : len ≤ length (drop n x) = r.0 in
-    (omega (arith, left, fits), some n h k r.1)
-  where
-    some : (n : ℕ) → IsInFront p x (others || p.may_follow) → n ≤ length x
-        → (0 < n) ⊎ ((others ≡ true) × (len ≡ length (drop n x)))
-        → (length (text_of (consumed n p)) < length (text_of p))
-        ⊎ ((length (text_of (consumed n p)) ≡ length (text_of p)) × (looked < len))
-    some zero h k (inl q) = absurd (omega (arith, q))
-    some zero h k (inr q) =
-        let more : looked < length x = longer q.0 in
-        let same : len ≡ length x = q.1 in
-        inr (ap (λ (r : Pending). length (text_of r)) (consumed_none p d), omega (arith, more, same))
-    some (suc n) h k q = inl (front_less p (others || p.may_follow) (suc n) x h (omega arith) k)
+ends_at : (a : Lookahead) (e : Engine) (p q : Pending) (looked : ℕ) → IsLookahead a e q → EndsAt a looked e p q
+ends_at (aheads.Further k) e p q looked h = absurd h.1
+ends_at aheads.Definition e p q looked h = h
+ends_at (aheads.Text n t) e p q looked h = h
+ends_at (aheads.Byte b) e p q looked h = h
+ends_at (aheads.Expansion n t) e p q looked h = h
+ends_at (aheads.LineSkip n) e p q looked h = h
+ends_at (aheads.Call n listed c) e p q looked h = h
+ends_at aheads.End e p q looked h = h
+ends_at (aheads.Unended what) e p q looked h = h
+ends_at aheads.Undecided e p q looked h = h
+
+-- and one that is not further on is the next token
+pub found_by : (a : Lookahead) (looked : ℕ) (e : Engine) (p q : Pending) → ((k : ℕ) → a ≡ aheads.Further k → ⊥) → EndsAt a looked e p q → IsLookahead a e q
+found_by (aheads.Further k) looked e p q n h = absurd (n k refl)
+found_by aheads.Definition looked e p q n h = h
+found_by (aheads.Text l t) looked e p q n h = h
+found_by (aheads.Byte b) looked e p q n h = h
+found_by (aheads.Expansion l t) looked e p q n h = h
+found_by (aheads.LineSkip l) looked e p q n h = h
+found_by (aheads.Call l listed c) looked e p q n h = h
+found_by aheads.End looked e p q n h = h
+found_by (aheads.Unended what) looked e p q n h = h
+found_by aheads.Undecided looked e p q n h = h
+
+module _ (e : Engine) (p : Pending) (others : Bool) (looked n : ℕ) (x : List ℕ)
+    (h : IsInFront p x (others || p.may_follow)) (all : others ≡ false → x ≡ text_of p)
+    (longer : others ≡ true → looked < length x) (d : p.definition ≡ None) (k : n ≤ length x) where
+  -- a token was found, or others come after the bytes that were looked at
+  found_at : (a : Lookahead) → IsAhead a e.state (allows_call e) (others || p.may_follow) (drop n x) → (a ≡ aheads.Undecided → others ≡ false) → EndsAt a looked e p (consumed n p)
+  found_at a g u = ends_at a e p (consumed n p) looked (ahead_front a e.state (allows_call e) p others n x h all k u g)
+
+  end_at : (a : Lookahead) → EndsBy n a e.state (allows_call e) (others || p.may_follow) others (drop n x) → EndsAt a looked e p (consumed n p)
+  end_at (aheads.Further len) r =
+      let l = front_left p (others || p.may_follow) n x h k in
+      let left : length (text_of (consumed n p)) ≡ length (drop n x) + length l.0 = ap length l.1 ∙ length-append (drop n x) l.0 in
+      let fits : len ≤ length (drop n x) = r.0 in
+      (omega (arith, left, fits), some n h k r.1)
+    where
+      some : (n : ℕ) → IsInFront p x (others || p.may_follow) → n ≤ length x
+          → (0 < n) ⊎ ((others ≡ true) × (len ≡ length (drop n x)))
+          → (length (text_of (consumed n p)) < length (text_of p))
+          ⊎ ((length (text_of (consumed n p)) ≡ length (text_of p)) × (looked < len))
+      some zero h k (inl q) = absurd (omega (arith, q))
+      some zero h k (inr q) =
+          let more : looked < length x = longer q.0 in
+          let same : len ≡ length x = q.1 in
+          inr (ap (λ (r : Pending). length (text_of r)) (consumed_none p d), omega (arith, more, same))
+      some (suc n) h k q = inl (front_less p (others || p.may_follow) (suc n) x h (omega arith) k)
+  end_at aheads.Definition r = found_at aheads.Definition r.0 r.1
+  end_at (aheads.Text m t) r = found_at (aheads.Text m t) r.0 r.1
+  end_at (aheads.Byte b) r = found_at (aheads.Byte b) r.0 r.1
+  end_at (aheads.Expansion m t) r = found_at (aheads.Expansion m t) r.0 r.1
+  end_at (aheads.LineSkip m) r = found_at (aheads.LineSkip m) r.0 r.1
+  end_at (aheads.Call m listed c) r = found_at (aheads.Call m listed c) r.0 r.1
+  end_at aheads.End r = found_at aheads.End r.0 r.1
+  end_at (aheads.Unended what) r = found_at (aheads.Unended what) r.0 r.1
+  end_at aheads.Undecided r = found_at aheads.Undecided r.0 r.1
 
 -- a pass over a text in front of an input
-pub front_passed : (e f : PassEnd) (old new : Engine) (i j : Held) (looked n : ℕ) (x : List ℕ) (others more : Bool)
+pub front_passed : (a : Lookahead) (old new : Engine) (i j : Held) (looked n : ℕ) (x : List ℕ) (others more : Bool)
     → more ≡ (others || (i.pending).may_follow) → IsInFront i.pending x (others || (i.pending).may_follow)
     → (others ≡ false → x ≡ text_of i.pending) → (others ≡ true → looked < length x) → (i.pending).definition ≡ None
-    → PassesBy n e x others more old new → j ≡ record i { pending = consumed n i.pending }
-    → f ≡ placed_end (place_in j.pending) e → PassesFront f looked old new i j
-front_passed e f old new i j looked n x others more m h all longer d r g k =
-    let next : Pending = consumed n i.pending in
+    → PassesBy n a x others more old new → j ≡ record i { pending = consumed n i.pending }
+    → PassesFront a looked old new i j
+front_passed a old new i j looked n x others more m h all longer d r g =
     let may : Bool = others || (i.pending).may_follow in
-    let same : f ≡ placed_end (place_in next) e = k ∙ ap (λ (v : Held). placed_end (place_in v.pending) e) g in
     record {
       passes = passes_text old new i j may n x h d r.within (subst (λ (v : Bool). PassesText v n x old new) m r.passes) g;
-      end = subst (λ (v : PassEnd). EndsAt v looked new i.pending j.pending) (sym same)
-          (subst (λ (v : Held). EndsAt (placed_end (place_in next) e) looked new i.pending v.pending) (sym g)
-          (end_at (placed_end (place_in next) e) new i.pending others looked n x h all longer d r.within
-          (subst (λ (v : Bool). EndsBy n (placed_end (place_in next) e) new.state (allows_call new) v others (drop n x) (place_in next)) m (r.end (place_in next)))));
+      end = subst (λ (v : Held). EndsAt a looked new i.pending v.pending) (sym g)
+          (end_at new i.pending others looked n x h all longer d r.within a
+          (subst (λ (v : Bool). EndsBy n a new.state (allows_call new) v others (drop n x)) m r.end));
     }
 
 -- a further pass over a front
-pub passed_front : (f : PassEnd) (looked : ℕ) (e e1 e2 : Engine) (i i1 i2 t : Held) → Passes e e1 i i1 → IsReady i1 → PassesFront f looked e1 e2 i1 i2 → t ≡ i2 → Passes e e2 i t × IsReady t
-passed_front f looked e e1 e2 i i1 i2 t h r k g =
+pub passed_front : (a : Lookahead) (looked : ℕ) (e e1 e2 : Engine) (i i1 i2 t : Held) → Passes e e1 i i1 → IsReady i1 → PassesFront a looked e1 e2 i1 i2 → t ≡ i2 → Passes e e2 i t × IsReady t
+passed_front a looked e e1 e2 i i1 i2 t h r k g =
     (subst (λ (j : Held). Passes e e2 i j) (sym g) (passes_on e e1 e2 i i1 i2 h k.passes), subst IsReady (sym g) (once_ready e1 e2 i1 i2 r k.passes))
 
 -- a pass that ends where further bytes are looked at
-pub ends_further : (f : PassEnd) (looked k : ℕ) (e1 e2 : Engine) (i1 i2 t : Held) → f ≡ ends.Further k → t ≡ i2 → PassesFront f looked e1 e2 i1 i2 → EndsAt (ends.Further k) looked e2 i1.pending t.pending
-ends_further f looked k e1 e2 i1 i2 t h g r =
-    subst (λ (v : PassEnd). EndsAt v looked e2 i1.pending t.pending) h (subst (λ (j : Held). EndsAt f looked e2 i1.pending j.pending) (sym g) r.end)
+pub ends_further : (a : Lookahead) (looked k : ℕ) (e1 e2 : Engine) (i1 i2 t : Held) → a ≡ aheads.Further k → t ≡ i2 → PassesFront a looked e1 e2 i1 i2 → EndsAt (aheads.Further k) looked e2 i1.pending t.pending
+ends_further a looked k e1 e2 i1 i2 t h g r =
+    subst (λ (v : Lookahead). EndsAt v looked e2 i1.pending t.pending) h (subst (λ (j : Held). EndsAt a looked e2 i1.pending j.pending) (sym g) r.end)
 
-pub measure_less : (f : PassEnd) (looked k : ℕ) (e1 e2 : Engine) (i1 i2 t : Held) → f ≡ ends.Further k → t ≡ i2 → looked ≤ length (text_of i1.pending) → PassesFront f looked e1 e2 i1 i2 → measure (length (text_of t.pending)) k < measure (length (text_of i1.pending)) looked
-measure_less f looked k e1 e2 i1 i2 t h g l r =
-    let e = ends_further f looked k e1 e2 i1 i2 t h g r in
+pub measure_less : (a : Lookahead) (looked k : ℕ) (e1 e2 : Engine) (i1 i2 t : Held) → a ≡ aheads.Further k → t ≡ i2 → looked ≤ length (text_of i1.pending) → PassesFront a looked e1 e2 i1 i2 → measure (length (text_of t.pending)) k < measure (length (text_of i1.pending)) looked
+measure_less a looked k e1 e2 i1 i2 t h g l r =
+    let e = ends_further a looked k e1 e2 i1 i2 t h g r in
     measure_falls (length (text_of t.pending)) (length (text_of i1.pending)) looked k l e.0 e.1

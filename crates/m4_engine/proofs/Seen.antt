@@ -1,31 +1,27 @@
 -- Seen: what was seen of the first token of a text, as a turn takes it.
 use Rattle.std.proofs.Common.{◌≡◌, ◌⊎◌, inl, inr, arith, Some, None, ℕ, Bool, true, false, List, [], ◌∷◌, ◌++◌, append-nil, append_assoc, refl}
-use Rattle.std.proofs.Common.{sym, ap, ◌∙◌, subst, take, drop}
+use Rattle.std.proofs.Common.{sym, ap, ◌∙◌, subst, drop}
 use Rattle.std.specs.Prelude.{suc, nat_lt, not, ◌&&◌, ◌<◌, ◌≤◌, length, Option, Result, Ok, Err, IfOk, IfSome}
 use Rattle.m4_state.specs.State.{State}
 use Rattle.m4_engine.specs.declared.front.First.{First}
 use Rattle.m4_engine.specs.Plain.{IsFirst}
-use Rattle.m4_input.specs.Pending.{Pending, text_of, newlines_in, consumed}
+use Rattle.m4_input.specs.Pending.{Pending, text_of, consumed}
 use Rattle.m4_input.specs.Paren.{paren_in, paren_at}
 use Rattle.m4_input.specs.declared.front.Answer.{Answer}
 use Rattle.m4_input.specs.Input.{answer_of, longer}
-use Rattle.m4_input.specs.Token.{Taken, token_at}
-use Rattle.m4_input.specs.declared.token.Token.TheVariants.{Name, Byte}
-use Rattle.m4_input.proofs.Names.{name_has_none}
 use Rattle.m4_input.proofs.Parts.{drop_parts}
 use Rattle.m4_builtins.specs.declared.place.Place.{Place}
 use Rattle.m4_builtins.specs.Act.{needs_list}
-use Rattle.m4_engine.specs.declared.lookahead.PassEnd.{PassEnd}
-use Rattle.m4_engine.specs.declared.lookahead.PassEnd.TheVariants as ends
+use Rattle.m4_engine.specs.declared.lookahead.Lookahead.{Lookahead}
+use Rattle.m4_engine.specs.declared.lookahead.Lookahead.TheVariants as aheads
 use Rattle.m4_engine.specs.declared.turned.Turned.{Turned}
 use Rattle.m4_engine.specs.declared.turned.TurnFault.{TurnFault}
 use Rattle.m4_engine.specs.Expansion.{Call, Limits, place_at, issued, reading, put_text}
 use Rattle.m4_engine.specs.Expand.{call, call_of, take_call, call_without_list, take_name}
-use Rattle.m4_engine.specs.Lookahead.{IsExpansion, IsCalled, EndsBy, placed_end}
-use Rattle.m4_engine.specs.Engine.{Engine, outer_of, here_of, allows_call, is_bare, configuration, put_in, with_text}
+use Rattle.m4_engine.specs.Lookahead.{IsExpansion, IsCalled, EndsBy}
+use Rattle.m4_engine.specs.Engine.{Engine, outer_of, here_of, allows_call, configuration, put_in, with_text}
 use Rattle.m4_engine.specs.Engine.{with_one_call, with_made, is_deep_in}
-use Rattle.m4_engine.specs.Turns.{step, MayFollow, Extended, IsAt, Moves}
-use Rattle.m4_engine.specs.Passes.{IsLookahead}
+use Rattle.m4_engine.specs.Turns.{step, Extended, Moves}
 use Rattle.m4_state.specs.State.{top_of}
 use Rattle.m4_builtins.specs.Subst.{subst as substituted}
 use Rattle.m4_state.specs.declared.builtin.Builtin.TheVariants.{Dnl}
@@ -37,8 +33,8 @@ use Rattle.m4_engine.specs.OpenCalls.{Goes}
 use Rattle.m4_state.specs.declared.delimiters.Delimiters.{Delimiters}
 use Rattle.m4_engine.proofs.Acts.{moves_by, called_skips}
 use Rattle.m4_engine.proofs.Bare.{bare_goes}
-use Rattle.m4_engine.proofs.Longer.{found_longer, paren_longer}
-use Rattle.m4_engine.proofs.Named.{place_of, named}
+use Rattle.m4_engine.proofs.Longer.{paren_longer}
+use Rattle.m4_engine.proofs.Named.{named}
 
 -- whether the limits leave a call, by what that depends on
 abbrev leaves_by : ℕ → Limits → ℕ → Bool
@@ -51,24 +47,32 @@ leaves_same e e1 h i j =
     ∙ ap (leaves_by e1.calls e1.limits) (sym j)
 
 -- the end of a pass is right also if more bytes were passed
-pub ends_on : (n k : ℕ) (e : PassEnd) (s : State) (room m others : Bool) (x : List ℕ) (at : Place) → n ≤ k → EndsBy n e s room m others x at → EndsBy k e s room m others x at
-ends_on n k (ends.At a) s room m others x at f h = h
-ends_on n k (ends.Further l) s room m others x at f h = (h.0, by h.1)
+pub ends_on : (n k : ℕ) (a : Lookahead) (s : State) (room m others : Bool) (x : List ℕ) → n ≤ k → EndsBy n a s room m others x → EndsBy k a s room m others x
+ends_on n k (aheads.Further l) s room m others x f h = (h.0, by h.1)
   where
     by : (0 < n) ⊎ ((others ≡ true) × (l ≡ length x)) → (0 < k) ⊎ ((others ≡ true) × (l ≡ length x))
     by (inl g) = inl (omega (arith, g, f))
     by (inr g) = inr g
+ends_on n k aheads.Definition s room m others x f h = h
+ends_on n k (aheads.Text l t) s room m others x f h = h
+ends_on n k (aheads.Byte b) s room m others x f h = h
+ends_on n k (aheads.Expansion l t) s room m others x f h = h
+ends_on n k (aheads.LineSkip l) s room m others x f h = h
+ends_on n k (aheads.Call l listed c) s room m others x f h = h
+ends_on n k aheads.End s room m others x f h = h
+ends_on n k (aheads.Unended what) s room m others x f h = h
+ends_on n k aheads.Undecided s room m others x f h = h
 
 -- what was seen after some bytes of a text, if the limits allow as many calls as before
-pub end_by : (p : PassEnd) (n : ℕ) (e e1 : Engine) (room m others : Bool) (x y : List ℕ) (f : First) → room ≡ allows_call e
+pub end_by : (a : Lookahead) (n : ℕ) (e e1 : Engine) (room m others : Bool) (x y : List ℕ) (f : First) → room ≡ allows_call e
     → e1.calls ≡ e.calls → e1.limits ≡ e.limits → length e1.open_calls ≡ length e.open_calls → y ≡ x
     → IsFirst e1.state m y f
-    → ((m : Bool) (at : Place) → IsFirst e1.state m y f → EndsBy 0 (placed_end at p) e1.state room m others y at)
-    → (at : Place) → EndsBy n (placed_end at p) e1.state (allows_call e1) m others x at
-end_by p n e e1 room m others x y f r h i j t g k = λ at.
-    ends_on 0 n (placed_end at p) e1.state (allows_call e1) m others x at (omega arith)
-    (subst (λ (v : Bool). EndsBy 0 (placed_end at p) e1.state v m others x at) (r ∙ leaves_same e e1 h i j)
-    (subst (λ (z : List ℕ). EndsBy 0 (placed_end at p) e1.state room m others z at) t (k m at g)))
+    → ((m : Bool) → IsFirst e1.state m y f → EndsBy 0 a e1.state room m others y)
+    → EndsBy n a e1.state (allows_call e1) m others x
+end_by a n e e1 room m others x y f r h i j t g k =
+    ends_on 0 n a e1.state (allows_call e1) m others x (omega arith)
+    (subst (λ (v : Bool). EndsBy 0 a e1.state v m others x) (r ∙ leaves_same e e1 h i j)
+    (subst (λ (z : List ℕ). EndsBy 0 a e1.state room m others z) t (k m g)))
 
 -- what was seen, if anything was
 pub seen_first : (s : State) (m : Bool) (x y : List ℕ) (o : Option First) (f : First) → o ≡ Some f → y ≡ x → IfSome o (λ g. IsFirst s m x g) → IsFirst s m y f
@@ -123,35 +127,27 @@ line_skips e e1 name p q d i room shallow g v =
     (bare_goes q.may_follow e (with_one_call e) e1 c (λ z more. longer z more q) q (Ok turns.SkipsLine) room shallow refl
     (λ z more t o l. called_skips (with_one_call e) e1 c a (longer z more q) refl refl refl g o l) (λ z more. longer z more p))
 
--- a call that is made
-pub made_moves : (e e1 : Engine) (c : Call) (listed : Bool) (p p' : Pending) (r : Result Turned TurnFault)
-    → p.definition ≡ None → paren_at (e.state).quotes (e.state).comments p ≡ answer_of listed
-    → (listed ≡ false → needs_list c.definition ≡ false)
-    → IfOk r (λ u. (before : Extended)
-    → Moves p.may_follow e1 p' u
-    (λ z more o l. step (outer_of e.open_calls)
-    (call listed c (longer z more p) (here_of o l e (before z more)))))
-    → IfOk r (λ u. (name : List ℕ) (at : Place) (before : Extended) → IsAt at before → IsCalled c e.state name at
-    → Moves p.may_follow e1 p' u
-    (λ z more o l. step (outer_of e.open_calls)
-    (take_name (top_of e.state name) name (longer z more p) (here_of o l e (before z more)))))
-made_moves e e1 c listed p p' (Ok u) q i j k = λ name at before b v.
-    let d = c.definition in
-    let same : c ≡ call_of d name at = v.3 ∙ ap (λ (x : List ℕ). call_of d x c.place) v.1 ∙ ap (call_of d name) v.2 in
-    moves_by p.may_follow e1 p' u _ _ (λ z more t o l. named e d name listed (longer z more p) (before z more) at o l (sym v.0) (paren_longer (e.state).quotes (e.state).comments p listed z more q i t) j (sym (b z more))
-    ∙ ap (λ (c : Call). step (outer_of e.open_calls) (call listed c (longer z more p) (here_of o l e (before z more)))) (sym same)) (k before)
-made_moves e e1 c listed p p' (Err y) q i j k = tt
+-- the call of a name, once its place is set
+pub called_at : (c d : Call) (at : Place) (s : State) (name : List ℕ) → d ≡ record c { place = at } → IsCalled c s name → IsCalled d s name
+called_at c d at s name h v =
+    subst (λ (k : Call). IsCalled k s name) (sym h) (v.0, v.1, ap (λ (k : Call). let l : Call = record k { place = at } in l) v.2)
 
--- as it is taken after its name
-pub called_moves : (e e1 : Engine) (c : Call) (name : List ℕ) (p q p' : Pending) (r : Result Turned TurnFault)
-    → IsCalled c e.state name (place_at p)
-    → IfOk r (λ u. (name : List ℕ) (at : Place) (before : Extended) → IsAt at before → IsCalled c e.state name at
+-- a call that is made
+pub made_moves : (e e1 : Engine) (c : Call) (listed : Bool) (name : List ℕ) (p q p' : Pending)
+    (r : Result Turned TurnFault) → q.definition ≡ None
+    → paren_at (e.state).quotes (e.state).comments q ≡ answer_of listed
+    → (listed ≡ false → needs_list c.definition ≡ false) → IsCalled c e.state name → c.place ≡ place_at p
+    → IfOk r (λ u. (before : Extended)
     → Moves q.may_follow e1 p' u
     (λ z more o l. step (outer_of e.open_calls)
-    (take_name (top_of e.state name) name (longer z more q) (here_of o l e (before z more)))))
+    (call listed c (longer z more q) (here_of o l e (before z more)))))
     → NameMoves q.may_follow e e1 p q p' r name
-called_moves e e1 c name p q p' (Ok u) v k = k name (place_at p) (λ z more. longer z more p) (λ z more. refl) v
-called_moves e e1 c name p q p' (Err y) v k = tt
+made_moves e e1 c listed name p q p' (Ok u) d i j v at k =
+    let f = c.definition in
+    let same : c ≡ call_of f name (place_at p) = v.2 ∙ ap (λ (x : List ℕ). call_of f x c.place) v.1 ∙ ap (call_of f name) at in
+    moves_by q.may_follow e1 p' u _ _ (λ z more t o l. named e f name listed (longer z more q) (longer z more p) (place_at p) o l (sym v.0) (paren_longer (e.state).quotes (e.state).comments q listed z more d i t) j refl
+    ∙ ap (λ (c : Call). step (outer_of e.open_calls) (call listed c (longer z more q) (here_of o l e (longer z more p)))) (sym same)) (k (λ z more. longer z more p))
+made_moves e e1 c listed name p q p' (Err y) d i j v at k = tt
 
 -- text goes where it goes
 text_goes : (cs : List Call) (x : List ℕ) (e : Engine) (p before : Pending) (o m : List ℕ) → e.open_calls ≡ cs → step (outer_of cs) (GoOn (put_text x (reading p (here_of o m (record e { open_calls = cs }) before)))) ≡ Goes (configuration o m (put_in cs x (record e { open_calls = cs })) p)
@@ -159,23 +155,20 @@ text_goes [] x e p before o m h = rw (append_assoc o e.output (issued (e.state).
 text_goes (c ∷ cs) x e p before o m h = rw (append-nil (o ++ e.output)) refl
 
 -- a name that needs a list and has none is text
-pub bare_moves : (e e1 : Engine) (h : Call) (p : Pending) → p.definition ≡ None
-    → paren_at (e.state).quotes (e.state).comments p ≡ answer_of false
-    → needs_list h.definition ≡ true → e1 ≡ with_text h.name e → (name : List ℕ) (at : Place) (before : Extended)
-    → IsAt at before → IsCalled h e.state name at
-    → Moves p.may_follow e1 p turns.GoesOn
-    (λ z more o l. step (outer_of e.open_calls)
-    (take_name (top_of e.state name) name (longer z more p) (here_of o l e (before z more))))
-bare_moves e e1 h p q i n g name at before b v = λ z more t o l.
-    let s = here_of o l e (before z more) in
-    let d = h.definition in
-    let c : Call = call_of d name (place_at (before z more)) in
-    ap (λ t. step (outer_of e.open_calls) (take_name t name (longer z more p) s)) v.0
-    ∙ ap (λ t. step (outer_of e.open_calls) (take_call t c (longer z more p) s)) (paren_longer (e.state).quotes (e.state).comments p false z more q i t)
-    ∙ ap (λ t. step (outer_of e.open_calls) (call_without_list t c (longer z more p) s)) n
-    ∙ text_goes e.open_calls name e (longer z more p) (before z more) o l refl
-    ∙ ap (λ (x : List ℕ). Goes (configuration o l (with_text x e) (longer z more p))) (sym v.1)
-    ∙ ap (λ (x : Engine). Goes (configuration o l x (longer z more p))) (sym g)
+pub bare_moves : (e e1 : Engine) (h : Call) (name : List ℕ) (p q : Pending) → q.definition ≡ None
+    → paren_at (e.state).quotes (e.state).comments q ≡ answer_of false
+    → needs_list h.definition ≡ true → e1 ≡ with_text h.name e → IsCalled h e.state name
+    → NameMoves q.may_follow e e1 p q q (Ok turns.GoesOn) name
+bare_moves e e1 h name p q d i n g v = λ z more t o l.
+    let s = here_of o l e (longer z more p) in
+    let f = h.definition in
+    let c : Call = call_of f name (place_at (longer z more p)) in
+    ap (λ t. step (outer_of e.open_calls) (take_name t name (longer z more q) s)) v.0
+    ∙ ap (λ t. step (outer_of e.open_calls) (take_call t c (longer z more q) s)) (paren_longer (e.state).quotes (e.state).comments q false z more d i t)
+    ∙ ap (λ t. step (outer_of e.open_calls) (call_without_list t c (longer z more q) s)) n
+    ∙ text_goes e.open_calls name e (longer z more q) (longer z more p) o l refl
+    ∙ ap (λ (x : List ℕ). Goes (configuration o l (with_text x e) (longer z more q))) (sym v.1)
+    ∙ ap (λ (x : Engine). Goes (configuration o l x (longer z more q))) (sym g)
 
 -- a name without a definition is text
 pub word_moves : (e e1 : Engine) (name : List ℕ) (p : Pending) → top_of e.state name ≡ None → e1 ≡ with_text name e

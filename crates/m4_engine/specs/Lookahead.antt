@@ -1,17 +1,16 @@
 -- Lookahead: the next token, as it was recognised before a turn consumes it.
 -- Not believed: it connects the code with `Expand`; the turns' lemmas prove that they agree.
--- Words: IsExpansion, IsCalled, MeansName, placed, placed_end, place_in, IsNamed, IsAhead, EndsBy, IsLookaheadOf.
+-- Words: IsExpansion, IsCalled, MeansName, IsNamed, IsAhead, EndsBy, IsLookaheadOf.
 use Rattle.std.specs.Prelude.{◌≡◌, ◌≢◌, ◌<◌, ◌≤◌, ◌⊎◌, Bool, true, false, ℕ, List, [], None, Some, length, take, drop}
 use Rattle.m4_state.specs.declared.builtin.Builtin.TheVariants.{Dnl}
 use Rattle.m4_state.specs.declared.definition.Def.TheVariants.{Text, Builtin}
 use Rattle.m4_state.specs.State.{State, top_of}
 use Rattle.m4_input.specs.declared.front.Scan.TheVariants.{Found, Broken}
 use Rattle.m4_input.specs.declared.token.Token.TheVariants.{Name, Byte, End}
-use Rattle.m4_input.specs.Pending.{Pending, text_of, name_of, line_of}
+use Rattle.m4_input.specs.Pending.{Pending, text_of}
 use Rattle.m4_input.specs.Token.{scan}
 use Rattle.m4_input.specs.Paren.{paren_in}
 use Rattle.m4_input.specs.Input.{answer_of}
-use Rattle.m4_builtins.specs.declared.place.Place.{Place}
 use Rattle.m4_builtins.specs.Subst.{subst}
 use Rattle.m4_engine.specs.Collected.{IsText}
 use Rattle.m4_engine.specs.Expansion.{Call}
@@ -19,40 +18,24 @@ use Rattle.m4_engine.specs.Expand.{call_of}
 use Rattle.m4_engine.specs.Plain.{IsUndecided}
 use Rattle.m4_engine.specs.declared.lookahead.Lookahead.{Lookahead}
 use Rattle.m4_engine.specs.declared.lookahead.Lookahead.TheVariants as aheads
-use Rattle.m4_engine.specs.declared.lookahead.PassEnd.{PassEnd}
-use Rattle.m4_engine.specs.declared.lookahead.PassEnd.TheVariants as ends
 
 -- x is the expansion of a text macro that is called without a list
 abbrev pub IsExpansion : List ℕ → State → List ℕ → Type 0
 IsExpansion x s name = (text : List ℕ) × (top_of s name ≡ Some (Text text)) × (x ≡ subst text name [] s.quotes)
 
--- c is the call of a name that is read at a place, with no argument yet
-abbrev pub IsCalled : Call → State → List ℕ → Place → Type 0
-IsCalled c s name at =
-    (top_of s name ≡ Some c.definition) × (c.name ≡ name) × (c.place ≡ at)
-    × (c ≡ call_of c.definition c.name c.place)
+-- c is the call of a name, with no argument yet, at some place
+abbrev pub IsCalled : Call → State → List ℕ → Type 0
+IsCalled c s name =
+    (top_of s name ≡ Some c.definition) × (c.name ≡ name) × (c ≡ call_of c.definition c.name c.place)
 
 -- a name with a definition, after which a list follows or not; `room` says that the limits allow a call
-abbrev pub MeansName : Lookahead → State → Bool → Bool → List ℕ → Place → Type 0
-MeansName (aheads.Expansion n x) s room listed name at =
+abbrev pub MeansName : Lookahead → State → Bool → Bool → List ℕ → Type 0
+MeansName (aheads.Expansion n x) s room listed name =
     (n ≡ length name) × (listed ≡ false) × (room ≡ true) × IsExpansion x s name
-MeansName (aheads.LineSkip n) s room listed name at =
+MeansName (aheads.LineSkip n) s room listed name =
     (n ≡ length name) × (listed ≡ false) × (room ≡ true) × (top_of s name ≡ Some (Builtin Dnl))
-MeansName (aheads.Call n l c) s room listed name at = (n ≡ length name) × (l ≡ listed) × IsCalled c s name at
-MeansName a s room listed name at = ⊥
-
--- a lookahead with the place of its call
-abbrev pub placed : Place → Lookahead → Lookahead
-placed at (aheads.Call n listed c) = aheads.Call n listed (record c { place = at })
-placed at a = a
-
-abbrev pub placed_end : Place → PassEnd → PassEnd
-placed_end at (ends.At a) = ends.At (placed at a)
-placed_end at (ends.Further n) = ends.Further n
-
--- the place of the first byte of what is pending
-abbrev pub place_in : Pending → Place
-place_in p = record { file = name_of p; line = line_of p }
+MeansName (aheads.Call n l c) s room listed name = (n ≡ length name) × (l ≡ listed) × IsCalled c s name
+MeansName a s room listed name = ⊥
 
 -- the first token of a text is a name of n bytes, after which a list follows or not
 pub record IsNamed (n : ℕ) (listed : Bool) (s : State) (m : Bool) (x : List ℕ) : Type 0 where
@@ -60,29 +43,29 @@ pub record IsNamed (n : ℕ) (listed : Bool) (s : State) (m : Bool) (x : List �
   pub within : n ≤ length x
   pub list : paren_in s.quotes s.comments m (drop n x) ≡ answer_of listed
 
--- the lookahead is right for the first token of a text, at a place
-abbrev pub IsAhead : Lookahead → State → Bool → Bool → List ℕ → Place → Type 0
-IsAhead aheads.Definition s room m x at = ⊥
-IsAhead (aheads.Text n t) s room m x at = IsText s m n t x × (n ≤ length x)
-IsAhead (aheads.Byte b) s room m x at = (scan s.quotes s.comments m x ≡ Found (Byte b) 1) × (0 < length x)
-IsAhead (aheads.Expansion n t) s room m x at =
+-- the lookahead is right for the first token of a text
+abbrev pub IsAhead : Lookahead → State → Bool → Bool → List ℕ → Type 0
+IsAhead aheads.Definition s room m x = ⊥
+IsAhead (aheads.Text n t) s room m x = IsText s m n t x × (n ≤ length x)
+IsAhead (aheads.Byte b) s room m x = (scan s.quotes s.comments m x ≡ Found (Byte b) 1) × (0 < length x)
+IsAhead (aheads.Expansion n t) s room m x =
     IsNamed n false s m x × (room ≡ true) × IsExpansion t s (take n x)
-IsAhead (aheads.LineSkip n) s room m x at =
+IsAhead (aheads.LineSkip n) s room m x =
     IsNamed n false s m x × (room ≡ true) × (top_of s (take n x) ≡ Some (Builtin Dnl))
-IsAhead (aheads.Call n listed c) s room m x at = IsNamed n listed s m x × IsCalled c s (take n x) at
-IsAhead aheads.End s room m x at = scan s.quotes s.comments m x ≡ Found End 0
-IsAhead (aheads.Unended what) s room m x at = scan s.quotes s.comments m x ≡ Broken what
-IsAhead aheads.Undecided s room m x at = IsUndecided s m x
+IsAhead (aheads.Call n listed c) s room m x = IsNamed n listed s m x × IsCalled c s (take n x)
+IsAhead aheads.End s room m x = scan s.quotes s.comments m x ≡ Found End 0
+IsAhead (aheads.Unended what) s room m x = scan s.quotes s.comments m x ≡ Broken what
+IsAhead aheads.Undecided s room m x = IsUndecided s m x
+IsAhead (aheads.Further k) s room m x = ⊥
 
 -- after n bytes that were passed x is left of a text, which others in hand may follow: the lookahead is right, or all
 -- of x leaves the token open, or something was passed
-abbrev pub EndsBy : ℕ → PassEnd → State → Bool → Bool → Bool → List ℕ → Place → Type 0
-EndsBy n (ends.At a) s room m others x at =
-    IsAhead a s room m x at × (a ≡ aheads.Undecided → others ≡ false)
-EndsBy n (ends.Further k) s room m others x at =
+abbrev pub EndsBy : ℕ → Lookahead → State → Bool → Bool → Bool → List ℕ → Type 0
+EndsBy n (aheads.Further k) s room m others x =
     (k ≤ length x) × ((0 < n) ⊎ ((others ≡ true) × (k ≡ length x)))
+EndsBy n a s room m others x = IsAhead a s room m x × (a ≡ aheads.Undecided → others ≡ false)
 
 -- the lookahead is right for the next token
 abbrev pub IsLookaheadOf : Lookahead → State → Bool → Pending → Type 0
 IsLookaheadOf aheads.Definition s room p = p.definition ≢ None
-IsLookaheadOf a s room p = (p.definition ≡ None) × IsAhead a s room p.may_follow (text_of p) (place_in p)
+IsLookaheadOf a s room p = (p.definition ≡ None) × IsAhead a s room p.may_follow (text_of p)

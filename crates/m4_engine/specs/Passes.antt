@@ -1,19 +1,17 @@
 -- Passes: tokens that call nothing, taken many at once, as the turns that they stand for.
 -- Not believed: it connects the engine's passes with its turns.
-use Rattle.std.specs.Prelude.{◌≡◌, None, ℕ, ◌+◌, Bool, true, List, [], ◌∷◌, length, take, drop, ◌<◌, ◌≤◌, ◌⊎◌}
+use Rattle.std.specs.Prelude.{◌≡◌, None, ℕ, ◌+◌, Bool, List, [], ◌∷◌, length, take, drop, ◌<◌, ◌≤◌, ◌⊎◌}
 use Rattle.m4_input.specs.Pending.{Pending, text_of, consumed}
 use Rattle.m4_input.specs.declared.front.Scan.TheVariants.{Found}
 use Rattle.m4_input.specs.declared.token.Token.TheVariants.{Str}
 use Rattle.m4_input.specs.Token.{scan}
 use Rattle.m4_engine.specs.Plain.{IsPlain, total, ArePlain, IsPlainRun}
 use Rattle.m4_engine.specs.Collected.{IsListRun}
-use Rattle.m4_builtins.specs.declared.place.Place.{Place}
 use Rattle.m4_engine.specs.Expansion.{Call}
 use Rattle.m4_input.specs.Input.{Held}
 use Rattle.m4_engine.specs.declared.lookahead.Lookahead.{Lookahead}
-use Rattle.m4_engine.specs.declared.lookahead.PassEnd.{PassEnd}
-use Rattle.m4_engine.specs.declared.lookahead.PassEnd.TheVariants as ends
-use Rattle.m4_engine.specs.Lookahead.{IsLookaheadOf, EndsBy, placed_end}
+use Rattle.m4_engine.specs.declared.lookahead.Lookahead.TheVariants as aheads
+use Rattle.m4_engine.specs.Lookahead.{IsLookaheadOf, EndsBy}
 use Rattle.m4_engine.specs.Engine.{Engine, put_in, allows_call}
 
 -- outside of calls, with no definition before the text: its first tokens, which are plain text, were added where text
@@ -86,21 +84,21 @@ PassesText m n x old new =
     × (scan (old.state).quotes (old.state).comments m (drop k x) ≡ Found (Str t) l) × (n ≡ k + l)
     × (old.open_calls ≡ []) × (new ≡ put_in [] t (put_in [] (take k x) old))))
 
--- a pass over a text, which others in hand may follow, and more bytes may; its end is right, once its place is set
-pub record PassesBy (n : ℕ) (e : PassEnd) (x : List ℕ) (others more : Bool) (old new : Engine) : Type 0 where
+-- a pass over a text, which others in hand may follow, and more bytes may; the lookahead after it is right
+pub record PassesBy (n : ℕ) (a : Lookahead) (x : List ℕ) (others more : Bool) (old new : Engine) : Type 0 where
   pub passes : PassesText more n x old new
   pub within : n ≤ length x
-  pub end : (at : Place) → EndsBy n (placed_end at e) new.state (allows_call new) more others (drop n x) at
+  pub end : EndsBy n a new.state (allows_call new) more others (drop n x)
 
 -- a pass over the front of an input ends at the next token, or some bytes were passed, or more of them were looked at
-abbrev pub EndsAt : PassEnd → ℕ → Engine → Pending → Pending → Type 0
-EndsAt (ends.At a) looked e before after = IsLookahead a e after
-EndsAt (ends.Further k) looked e before after =
+abbrev pub EndsAt : Lookahead → ℕ → Engine → Pending → Pending → Type 0
+EndsAt (aheads.Further k) looked e before after =
     (k ≤ length (text_of after))
     × ((length (text_of after) < length (text_of before))
     ⊎ ((length (text_of after) ≡ length (text_of before)) × (looked < k)))
+EndsAt a looked e before after = IsLookahead a e after
 
 -- a pass over the front of an input, of which `looked` bytes don't decide the first token
-pub record PassesFront (e : PassEnd) (looked : ℕ) (old new : Engine) (i j : Held) : Type 0 where
+pub record PassesFront (a : Lookahead) (looked : ℕ) (old new : Engine) (i j : Held) : Type 0 where
   pub passes : PassesOnce old new i j
-  pub end : EndsAt e looked new i.pending j.pending
+  pub end : EndsAt a looked new i.pending j.pending

@@ -389,6 +389,7 @@ impl OpenCall {
     }
 
     /// Ends the argument; returns whether definitions in it were dropped.
+    #[inline(always)]
     #[tactic(auto, using(crate::proofs::Calls::done_valid, crate::proofs::Calls::text_argument))]
     pub fn end_argument(&mut self) -> Result<bool, AllocError>
         requires { self.old.parentheses ≡ 0 }

@@ -1,12 +1,10 @@
 //! The next token, as it was recognised when the tokens before it were passed.
 
-ghost use Rattle.std.specs.Prelude.{◌≡◌, ◌+◌, ◌≤◌, Some, Bool, IfOk, OnOk, length, take, drop};
+ghost use Rattle.std.specs.Prelude.{◌≡◌, ◌+◌, ◌≤◌, Some, Bool, IfOk, length, take, drop};
 ghost use Rattle.m4_state.specs.Definition.{IsDefinition};
 ghost use Rattle.m4_state.specs.State.{top_of};
-ghost use Rattle.m4_input.specs.Pending.{name_of, line_of};
-ghost use Rattle.m4_builtins.specs.declared.place.Place.{Place};
 ghost use Rattle.m4_engine.specs.Plain.{IsFirst, FirstLies};
-ghost use Rattle.m4_engine.specs.Lookahead.{EndsBy, MeansName, placed, placed_end, place_in};
+ghost use Rattle.m4_engine.specs.Lookahead.{EndsBy, MeansName};
 ghost use Rattle.m4_engine.specs.declared.lookahead.Lookahead.TheVariants as aheads;
 
 use crate::call::OpenCall;
@@ -15,12 +13,10 @@ use crate::spare::Spare;
 use crate::turned::TurnFault;
 use m4_builtins::effect_buffer::EffectBuffer;
 use m4_input::front::Unended;
-use m4_input::input::Input;
 use m4_state::builtin::Builtin;
 use m4_state::bytes::Bytes;
 use m4_state::definition::Def;
 use m4_state::state::State;
-use std::alloc::AllocError;
 
 /// The next token. A turn acts on it.
 #[derive(Drop)]
@@ -44,21 +40,14 @@ pub enum Lookahead {
     Unended(Unended),
     /// The bytes in hand don't decide the token, or whether a list follows a name.
     Undecided,
-}
-
-/// Where a pass over tokens ends.
-#[derive(Drop)]
-pub enum PassEnd {
-    /// At a token that a turn acts on.
-    At(Lookahead),
-    /// Other bytes in hand come next, and so many at the start were looked at and don't decide the token.
+    /// It is to be looked for further on: so many bytes at the start were looked at, and others in hand come after them.
     Further(usize),
 }
 
 impl Lookahead {
     /// Returns the lookahead for a name with this definition. If the name is called without a list, and the limits
     /// allow a call (`room`), the expansion of a text macro is known, and `dnl`, which many lines end with. A call's
-    /// place is to be set.
+    /// place is not known yet.
     #[inline(always)]
     fn of_name(
         spare: &mut Spare,
@@ -71,7 +60,7 @@ impl Lookahead {
     ) -> Result<Lookahead, TurnFault>
         requires top { top_of state.now name.now ≡ Some definition.now }
         requires valid { IsDefinition definition.now }
-        ensures means { IfOk result (λ a. (at : Place) → MeansName (placed at a) state.now room listed name.now at) }
+        ensures means { IfOk result (λ a. MeansName a state.now room listed name.now) }
         ensures same { effect.new ≡ effect.old }
     {
         let bare = !listed && room;
@@ -87,17 +76,6 @@ impl Lookahead {
             }
         }
     }
-
-    /// Sets the place of a call: the first place that was not read yet.
-    #[inline(always)]
-    pub fn set_place(&mut self, input: &Input) -> Result<(), AllocError>
-        ensures { OnOk result (self.new ≡ placed (place_in input.now.pending) self.old) }
-    {
-        if let Lookahead::Call(_, _, call) = self {
-            call.set_place(input.share_name()?, input.line());
-        }
-        Ok(())
-    }
 }
 
 /// Copies the text of a token, which lies in these bytes. Not inlined, since a pass puts most texts where they go.
@@ -108,7 +86,7 @@ fn copied(
     begin: usize,
     len: usize,
     all: usize,
-) -> Result<Lookahead, AllocError>
+) -> Result<Lookahead, TurnFault>
     requires { begin + len ≤ length text.now }
     ensures { IfOk result (λ a. a ≡ aheads.Text all (take len (drop begin text.now))) }
 {
@@ -116,9 +94,9 @@ fn copied(
     Ok(Lookahead::Text(all, copy))
 }
 
-impl PassEnd {
-    /// Returns the end of a pass that comes to this first token of a text. Others in hand may follow the text; `room`
-    /// says whether the limits allow a call. A call's place is to be set.
+impl Lookahead {
+    /// Returns the lookahead for this first token of a text. Others in hand may follow the text; `room` says whether the
+    /// limits allow a call. A call's place is not known yet.
     #[inline(always)]
     pub fn of(
         spare: &mut Spare,
@@ -128,37 +106,25 @@ impl PassEnd {
         first: First<'_>,
         text: &[u8],
         others: bool,
-    ) -> Result<PassEnd, TurnFault>
+    ) -> Result<Lookahead, TurnFault>
         requires first { (m : Bool) × IsFirst state.now m text.now first }
         requires lies { FirstLies (length text.now) first }
-        ensures end { IfOk result (λ e. (m : Bool) (at : Place) → IsFirst state.now m text.now first.entry
-            → EndsBy 0 (placed_end at e) state.now room m others text.now at) }
+        ensures end { IfOk result (λ a. (m : Bool) → IsFirst state.now m text.now first.entry
+            → EndsBy 0 a state.now room m others text.now) }
         ensures same { effect.new ≡ effect.old }
     {
-        let lookahead = match first {
+        match first {
             First::Called(len, listed, definition) => {
                 let name = text.split_at(len).0;
-                Lookahead::of_name(spare, effect, state, room, listed, name, definition)?
+                Lookahead::of_name(spare, effect, state, room, listed, name, definition)
             }
-            First::Byte(byte) => Lookahead::Byte(byte),
-            First::Undecided if others => return Ok(PassEnd::Further(text.len())),
-            First::Undecided => Lookahead::Undecided,
-            First::Text(len) => copied(spare, text, 0, len, len)?,
-            First::Quoted(begin, len, all) => copied(spare, text, begin, len, all)?,
-            First::End => Lookahead::End,
-            First::Unended(what) => Lookahead::Unended(what),
-        };
-        Ok(PassEnd::At(lookahead))
-    }
-
-    /// Sets the place of a call that the pass came to: the first place that was not read yet.
-    #[inline(always)]
-    pub fn set_place(&mut self, input: &Input) -> Result<(), AllocError>
-        ensures { OnOk result (self.new ≡ placed_end (place_in input.now.pending) self.old) }
-    {
-        if let PassEnd::At(lookahead) = self {
-            lookahead.set_place(input)?;
+            First::Byte(byte) => Ok(Lookahead::Byte(byte)),
+            First::Undecided if others => Ok(Lookahead::Further(text.len())),
+            First::Undecided => Ok(Lookahead::Undecided),
+            First::Text(len) => copied(spare, text, 0, len, len),
+            First::Quoted(begin, len, all) => copied(spare, text, begin, len, all),
+            First::End => Ok(Lookahead::End),
+            First::Unended(what) => Ok(Lookahead::Unended(what)),
         }
-        Ok(())
     }
 }

@@ -5,15 +5,14 @@
 //! hand come after them, the next pass takes a longer text.
 
 ghost use Rattle.std.specs.Prelude.{◌≡◌, ◌≢◌, ◌≤◌, ◌||◌, [], pos, IfOk, OnOk, length, drop};
-ghost use Rattle.m4_builtins.specs.declared.place.Place.{Place};
 ghost use Rattle.m4_engine.specs.Engine.{IsReady, allows_call};
-ghost use Rattle.m4_engine.specs.Lookahead.{EndsBy, placed_end};
+ghost use Rattle.m4_engine.specs.Lookahead.{EndsBy};
 ghost use Rattle.m4_engine.specs.Passes.{IsLookahead, PassesBy, PassesFront, Passes, PutsToken};
 
 use super::driver::OUTPUT_BLOCK;
 use crate::collect::collect;
 use crate::front::{first_in_list, plain_run, text_of};
-use crate::lookahead::{Lookahead, PassEnd};
+use crate::lookahead::Lookahead;
 use crate::machine::Machine;
 use crate::turned::TurnFault;
 use m4_input::delims::Delims;
@@ -45,12 +44,12 @@ impl Machine {
         let mut looked = 0;
         'fronts: loop {
             match self.pass_front(looked, input, copy)? {
-                PassEnd::At(lookahead) => return Ok(lookahead),
-                PassEnd::Further(len) => {
+                Lookahead::Further(len) => {
                     // To make few bytes contiguous takes less time than to copy them.
                     let _joined = len > 0 && input.join();
                     looked = len;
                 }
+                lookahead => return Ok(lookahead),
             }
         }
     }
@@ -62,29 +61,28 @@ impl Machine {
         looked: usize,
         input: &mut Input,
         copy: &mut Vec<u8>,
-    ) -> Result<PassEnd, TurnFault>
+    ) -> Result<Lookahead, TurnFault>
         requires { IsReady input.old }
-        ensures { IfOk result (λ e. PassesFront e looked self.old self.new input.old input.new) }
+        ensures { IfOk result (λ a. PassesFront a looked self.old self.new input.old input.new) }
     {
         let Some((text, others)) = input.front(looked, copy)? else {
-            return Ok(PassEnd::At(Lookahead::Definition));
+            return Ok(Lookahead::Definition);
         };
         let more = may_follow(input, others);
-        let (len, mut end) = self.pass_text(text, others, more)?;
+        let (len, lookahead) = self.pass_text(text, others, more)?;
         input.consume(len);
-        end.set_place(input)?;
-        Ok(end)
+        Ok(lookahead)
     }
 
     /// Passes the tokens at the start of a text, which others in hand may follow; `more` says whether any bytes may.
-    /// Returns how many bytes were passed, and what comes after them.
+    /// Returns how many bytes were passed, and the lookahead for what comes after them.
     #[inline(always)]
     fn pass_text(
         &mut self,
         text: &[u8],
         others: bool,
         more: bool,
-    ) -> Result<(usize, PassEnd), TurnFault>
+    ) -> Result<(usize, Lookahead), TurnFault>
         ensures { IfOk result (λ r. PassesBy r.0 r.1 text.now others more self.old self.new) }
     {
         if self.innermost.is_some() {
@@ -103,7 +101,7 @@ impl Machine {
         text: &[u8],
         others: bool,
         more: bool,
-    ) -> Result<(usize, PassEnd), TurnFault>
+    ) -> Result<(usize, Lookahead), TurnFault>
         requires outside { self.old.open_calls ≡ [] }
         requires undiverted { self.old.state.current ≡ pos 0 }
         ensures { IfOk result (λ r. PassesBy r.0 r.1 text.now others more self.old self.new) }
@@ -113,10 +111,10 @@ impl Machine {
         let (passed, rest) = text.split_at(len);
         append(&mut self.output, passed)?;
         let Some(first) = first else {
-            let (token, end) = self.pass_rare(rest, others, more)?;
-            return Ok((len + token, end));
+            let (token, lookahead) = self.pass_rare(rest, others, more)?;
+            return Ok((len + token, lookahead));
         };
-        let end = PassEnd::of(
+        let lookahead = Lookahead::of(
             &mut self.spare,
             &mut self.effect,
             &self.state,
@@ -125,11 +123,11 @@ impl Machine {
             rest,
             others,
         )?;
-        Ok((len, end))
+        Ok((len, lookahead))
     }
 
     /// Passes the first token of a text, outside of calls, if it calls nothing and no block of output is full. Returns
-    /// how many bytes were passed, and what comes after them. Not inlined, since this is for tokens with whose first
+    /// how many bytes were passed, and the lookahead for what comes after them. Not inlined, since this is for tokens with whose first
     /// byte a delimiter may begin, and for ends of texts.
     #[inline(never)]
     fn pass_rare(
@@ -137,22 +135,22 @@ impl Machine {
         text: &[u8],
         others: bool,
         more: bool,
-    ) -> Result<(usize, PassEnd), TurnFault>
+    ) -> Result<(usize, Lookahead), TurnFault>
         requires outside { self.old.open_calls ≡ [] }
         ensures puts { IfOk result (λ r. PutsToken more r.0 text.now self.old self.new) }
         ensures within { IfOk result (λ r. r.0 ≤ length text.now) }
-        ensures end { IfOk result (λ r. (at : Place) → EndsBy r.0 (placed_end at r.1) self.new.state
-            (allows_call self.new) more others (drop r.0 text.now) at) }
+        ensures end { IfOk result (λ r. EndsBy r.0 r.1 self.new.state (allows_call self.new) more others
+            (drop r.0 text.now)) }
     {
         let room = self.allows_call();
         let first = first_in_list(text, &self.state, &Delims::of(&self.state), more);
         if self.output.len() < OUTPUT_BLOCK {
             if let Some((begin, len, all)) = text_of(&first) {
                 self.put_text(text.split_at(begin).1.split_at(len).0)?;
-                return Ok((all, PassEnd::Further(0)));
+                return Ok((all, Lookahead::Further(0)));
             }
         }
-        let end = PassEnd::of(
+        let lookahead = Lookahead::of(
             &mut self.spare,
             &mut self.effect,
             &self.state,
@@ -161,7 +159,7 @@ impl Machine {
             text,
             others,
         )?;
-        Ok((0, end))
+        Ok((0, lookahead))
     }
 
     /// The same as `pass_output` where text goes to a diversion or is dropped. The token after the passed ones is looked
@@ -172,7 +170,7 @@ impl Machine {
         text: &[u8],
         others: bool,
         more: bool,
-    ) -> Result<(usize, PassEnd), TurnFault>
+    ) -> Result<(usize, Lookahead), TurnFault>
         requires outside { self.old.open_calls ≡ [] }
         requires diverted { self.old.state.current ≢ pos 0 }
         ensures { IfOk result (λ r. PassesBy r.0 r.1 text.now others more self.old self.new) }
@@ -180,8 +178,8 @@ impl Machine {
         let (len, _) = plain_run(text, &self.state, more, OUTPUT_BLOCK);
         let (passed, rest) = text.split_at(len);
         self.state.append(passed)?;
-        let (token, end) = self.pass_rare(rest, others, more)?;
-        Ok((len + token, end))
+        let (token, lookahead) = self.pass_rare(rest, others, more)?;
+        Ok((len + token, lookahead))
     }
 
     /// The same in a list: the tokens are collected into the innermost call.
@@ -191,17 +189,17 @@ impl Machine {
         text: &[u8],
         others: bool,
         more: bool,
-    ) -> Result<(usize, PassEnd), TurnFault>
+    ) -> Result<(usize, Lookahead), TurnFault>
         requires { self.old.open_calls ≢ [] }
         ensures { IfOk result (λ r. PassesBy r.0 r.1 text.now others more self.old self.new) }
     {
         let room = self.allows_call();
         let Some(call) = &mut self.innermost else {
-            return Ok((0, PassEnd::Further(0)));
+            return Ok((0, Lookahead::Further(0)));
         };
         let (len, first) = collect(call, text, &self.state, more)?;
         let rest = text.split_at(len).1;
-        let end = PassEnd::of(
+        let lookahead = Lookahead::of(
             &mut self.spare,
             &mut self.effect,
             &self.state,
@@ -210,6 +208,6 @@ impl Machine {
             rest,
             others,
         )?;
-        Ok((len, end))
+        Ok((len, lookahead))
     }
 }

@@ -1,18 +1,13 @@
 //! One turn of an expansion: consumes the first pending token and acts on it.
 //! Manual: "Macro invocation", "How m4 copies input to output".
 
-ghost use Rattle.std.specs.Prelude.{◌≡◌, ◌≢◌, ◌<◌, ◌≤◌, List, ℕ, None, Some, Ok, length};
-ghost use Rattle.m4_input.specs.Paren.{paren_at};
-ghost use Rattle.m4_input.specs.Input.{answer_of, longer};
+ghost use Rattle.std.specs.Prelude.{◌≡◌, ◌≢◌, ◌≤◌, None, length, take};
 ghost use Rattle.m4_input.specs.Pending.{text_of};
-ghost use Rattle.m4_builtins.specs.declared.place.Place.{Place};
-ghost use Rattle.m4_state.specs.State.{top_of};
 ghost use Rattle.m4_engine.specs.Collected.{IsText};
-ghost use Rattle.m4_engine.specs.Engine.{IsReady, here_of, outer_of};
-ghost use Rattle.m4_engine.specs.Expand.{take_name, call_of};
-ghost use Rattle.m4_engine.specs.Lookahead.{IsCalled};
+ghost use Rattle.m4_engine.specs.Engine.{IsReady};
+ghost use Rattle.m4_engine.specs.Lookahead.{IsCalled, IsNamed};
 ghost use Rattle.m4_engine.specs.Passes.{IsLookahead};
-ghost use Rattle.m4_engine.specs.Turns.{Moves, IsTaken, Steps, Turns, Extended, IsAt, step};
+ghost use Rattle.m4_engine.specs.Turns.{Turns};
 
 use crate::call::OpenCall;
 use crate::lookahead::Lookahead;
@@ -45,15 +40,14 @@ impl Machine {
                 self.take_line_skip();
                 Ok(Turned::SkipsLine)
             }
-            Lookahead::Call(len, listed, call) => {
-                input.pass(len);
-                self.take_name(call, listed, input)
-            }
+            Lookahead::Call(len, listed, call) => self.take_name(len, listed, call, input),
             Lookahead::Undecided => Ok(Turned::NeedsMore),
             Lookahead::Text(len, text) => self.take_text(len, text, input),
             Lookahead::Definition => self.take_definition(input),
             Lookahead::End => self.take_end(),
             Lookahead::Unended(what) => self.take_unended(what, input.line(), input),
+            // A pass looks for it.
+            Lookahead::Further(_) => unreachable!(),
         }
     }
 
@@ -87,27 +81,25 @@ impl Machine {
         }
     }
 
-    /// Acts on a name with a definition, which was consumed: makes its call, opens its list, or adds it as text if it
-    /// is recognised only with a list and none follows.
+    /// Consumes a name of this length with a definition, whose call this is but for its place: makes the call, opens its
+    /// list, or adds the name as text if it is recognised only with a list and none follows.
     #[inline(always)]
     fn take_name(
         &mut self,
-        call: OpenCall,
+        len: usize,
         listed: bool,
+        call: OpenCall,
         input: &mut Input,
     ) -> Result<Turned, TurnFault>
-        requires input { IsTaken input.old }
-        requires list { paren_at self.old.state.quotes self.old.state.comments input.old.pending
-            ≡ answer_of listed }
-        requires fresh { call ≡ call_of call.definition call.name call.place }
-        ensures { Steps result self.old self.new input.old input.new
-            (λ t. (name : List ℕ) (at : Place) (before : Extended)
-            → IsAt at before → IsCalled call self.old.state name at
-            → Moves input.old.pending.may_follow self.new input.new.pending t
-            (λ z more o m. step (outer_of self.old.open_calls)
-            (take_name (top_of self.old.state name) name (longer z more input.old.pending)
-            (here_of o m self.old (before z more))))) }
+        requires ready { IsReady input.old }
+        requires first { input.old.pending.definition ≡ None }
+        requires named { IsNamed len listed self.old.state input.old.pending.may_follow (text_of input.old.pending) }
+        requires called { IsCalled call self.old.state (take len (text_of input.old.pending)) }
+        ensures { Turns result self.old self.new input.old input.new }
     {
+        let mut call = call;
+        call.set_place(input.share_name()?, input.line());
+        input.pass(len);
         if !listed && needs_list(call.definition()) {
             self.put_text(call.name())?;
             return Ok(Turned::GoesOn);

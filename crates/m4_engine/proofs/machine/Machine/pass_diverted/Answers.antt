@@ -2,7 +2,7 @@ use Rattle.std.proofs.Common.{◌≡◌, ◌≤◌, ◌+◌, ◌-◌, List, ℕ,
 use Rattle.std.proofs.lemmas.List.{length-drop, drop-drop}
 use Rattle.m4_state.specs.State.{appended}
 use Rattle.m4_engine.specs.Engine.{Engine, allows_call}
-use Rattle.m4_engine.specs.Lookahead.{EndsBy, placed_end}
+use Rattle.m4_engine.specs.Lookahead.{EndsBy}
 use Rattle.m4_engine.specs.Passes.{PassesBy, PutsToken}
 use Rattle.m4_engine.specs.MachineView.{engine_view}
 use Rattle.m4_engine.proofs.Seen.{ends_on}
@@ -23,12 +23,11 @@ returns c =
     let rest : length c.split_at.result.1.now ≡ length x - k = ap length c.split_at.ensures.back ∙ length-drop k x in
     let within : k ≤ length x = c.plain_run-len.ensures.within in
     let left : drop n c.split_at.result.1.now ≡ drop (k + n) x = ap (drop n) c.split_at.ensures.back ∙ drop-drop n k x in
-    subst (λ (e : Engine). PassesBy (k + n) c.in_ok-token.end x c.args.others c.args.more e new) c.self.view_is (record {
+    subst (λ (e : Engine). PassesBy (k + n) c.in_ok-token.lookahead x c.args.others c.args.more e new) c.self.view_is (record {
       passes = text_and_token old mid new c.args.more k n x c.plain_run-len.ensures.plain (search rules)
           (diversion_is old (take k x) c.append.new.self (search rules) put)
           (subst (λ (y : List ℕ). PutsToken c.args.more n y mid new) c.split_at.ensures.back c.in_ok-token.ensures.puts);
       within = omega (arith, less, rest, within);
-      end = λ at.
-          ends_on n (k + n) (placed_end at c.in_ok-token.end) new.state (allows_call new) c.args.more c.args.others (drop (k + n) x) at (omega arith)
-          (subst (λ (y : List ℕ). EndsBy n (placed_end at c.in_ok-token.end) new.state (allows_call new) c.args.more c.args.others y at) left (c.in_ok-token.ensures.end at));
+      end = ends_on n (k + n) c.in_ok-token.lookahead new.state (allows_call new) c.args.more c.args.others (drop (k + n) x) (omega arith)
+          (subst (λ (y : List ℕ). EndsBy n c.in_ok-token.lookahead new.state (allows_call new) c.args.more c.args.others y) left c.in_ok-token.ensures.end);
     })

@@ -1,4 +1,4 @@
-use Rattle.std.proofs.Common.{◌≡◌, ◌<◌, ◌||◌, List, ℕ, Bool, true, false, None, length, subst, rules}
+use Rattle.std.proofs.Common.{◌≡◌, ◌<◌, ◌||◌, List, ℕ, Bool, true, false, None, length, subst}
 use Rattle.std.specs.Prelude.{Option, IfSome}
 use Rattle.std.specs.Borrow.{Bor}
 use Rattle.m4_input.specs.Blocks.{IsInFront}
@@ -10,10 +10,10 @@ pub returns : goal.returns
 returns c =
     let i = c.args.input.now in
     let front = c.in_ok-text.ensures in
-    front_passed c.in_ok-len.end c.set_place.new.self c.args.self.now c.pass_text.new.self i c.consume.new.self c.args.looked c.in_ok-len.len c.in-Some.text.now c.in-Some.others c.may_follow-more.result
+    front_passed c.in_ok-len.lookahead c.args.self.now c.pass_text.new.self i c.consume.new.self c.args.looked c.in_ok-len.len c.in-Some.text.now c.in-Some.others c.may_follow-more.result
     c.may_follow-more.ensures
     (subst (λ (o : Option (Bor (List ℕ) × Bool)). IfSome o (λ r. IsInFront i.pending r.0.now (r.1 || i.pending.may_follow))) c.in-Some.is front.text)
     (subst (λ (o : Option (Bor (List ℕ) × Bool)). IfSome o (λ r. r.1 ≡ false → r.0.now ≡ text_of i.pending)) c.in-Some.is front.all)
     (subst (λ (o : Option (Bor (List ℕ) × Bool)). IfSome o (λ r. r.1 ≡ true → c.args.looked < length r.0.now)) c.in-Some.is front.longer)
     (subst (λ (o : Option (Bor (List ℕ) × Bool)). IfSome o (λ r. i.pending.definition ≡ None)) c.in-Some.is front.first)
-    c.in_ok-len.ensures c.consume.ensures (search rules)
+    c.in_ok-len.ensures c.consume.ensures

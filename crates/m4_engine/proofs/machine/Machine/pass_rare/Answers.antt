@@ -19,7 +19,7 @@ returns-in-Some-clause-puts c =
     (c.in_ok-put_text.ensures ∙ ap (λ (cs : List Call). put_in cs c.split_at-in-Some.result.0.now old) c.requires.outside ∙ ap (λ (y : List ℕ). put_in [] y old) text)
 
 pub returns-in-Some-clause-end : goal.returns-in-Some-clause-end
-returns-in-Some-clause-end c = λ at. (
+returns-in-Some-clause-end c = (
   omega arith,
   inl (text_some c.self.inside.state c.args.more c.in-Some.begin c.in-Some.len c.in-Some.all c.args.text.now
       (c.in-Some.ensures.text c.self.inside.state c.args.more c.args.text.now c.first_in_list-first.ensures.first)),

@@ -4,14 +4,11 @@ use Rattle.m4_input.specs.Input.{Held, answer_of}
 use Rattle.m4_input.specs.Paren.{paren_at}
 use Rattle.m4_input.specs.declared.token.Token.TheVariants.{Name, Byte}
 use Rattle.m4_input.proofs.Names.{name_has_none}
-use Rattle.m4_builtins.specs.declared.place.Place.{Place}
 use Rattle.std.specs.Prelude.{Ok}
 use Rattle.m4_engine.specs.declared.turned.Turned.TheVariants as turns
 use Rattle.m4_engine.specs.declared.lookahead.Lookahead.{Lookahead}
-use Rattle.m4_engine.specs.Lookahead.{IsCalled}
 use Rattle.m4_engine.specs.Passes.{IsLookahead}
-use Rattle.m4_engine.proofs.Named.{place_of}
-use Rattle.m4_engine.proofs.Seen.{room_allows, list_there, expansion_moves, line_skips, called_moves}
+use Rattle.m4_engine.proofs.Seen.{room_allows, list_there, expansion_moves, line_skips}
 use Rattle.m4_engine.proofs.Turning.{found_steps_at, end_turn, broken_turn, undecided_turn}
 use Rattle.m4_engine.proofs.machine.Machine.turn.Goals as goal
 
@@ -51,19 +48,6 @@ returns-in-LineSkip c =
     (line_skips e c.take_line_skip.new.self name p q rest list room.0 room.1 c.take_line_skip.ensures h.1.2)
     {to = λ t. Unit {0}} (record { moves = tt; ready = search rules; limits = search rules; made = tt })
 
-pub returns-in-Call : goal.returns-in-Call
-returns-in-Call c =
-    let e = c.args.self.now in
-    let p = c.args.input.now.pending in
-    let q = c.pass-in-Call.new.self.pending in
-    let n = c.in-Call.len in
-    let name : List ℕ = take n (text_of p) in
-    let h = subst (λ (v : Lookahead). IsLookahead v e p) c.in-Call.is c.requires.lookahead in
-    found_steps_at e c.take_name.new.self (Name name) n c.args.input.now c.pass-in-Call.new.self c.take_name.new.input c.take_name.result h.0 (h.1.0).scanned c.pass-in-Call.ensures
-    (called_moves e c.take_name.new.self c.in-Call.call name p q c.take_name.new.input.pending c.take_name.result
-    (subst (λ (v : Place). IsCalled c.in-Call.call e.state name v) (place_of p) h.1.1) c.take_name.ensures.moves)
-    c.take_name.ensures
-
 -- a name has no newline
 pub pass-requires-clause-inline : goal.pass-requires-clause-inline
 pass-requires-clause-inline c =
@@ -79,19 +63,11 @@ pass-requires-in-LineSkip-clause-inline c =
     let h = subst (λ (v : Lookahead). IsLookahead v e p) c.in-LineSkip.is c.requires.lookahead in
     name_has_none e.state.quotes e.state.comments p.may_follow (text_of p) _ c.in-LineSkip.len (h.1.0).scanned
 
-pub pass-requires-in-Call-clause-inline : goal.pass-requires-in-Call-clause-inline
-pass-requires-in-Call-clause-inline c =
-    let e = c.args.self.now in
-    let p = c.args.input.now.pending in
-    let h = subst (λ (v : Lookahead). IsLookahead v e p) c.in-Call.is c.requires.lookahead in
-    name_has_none e.state.quotes e.state.comments p.may_follow (text_of p) _ c.in-Call.len (h.1.0).scanned
+pub take_name-requires-clause-named : goal.take_name-requires-clause-named
+take_name-requires-clause-named c = (subst (λ (v : Lookahead). IsLookahead v c.args.self.now c.args.input.now.pending) c.in-Call.is c.requires.lookahead).1.0
 
-pub take_name-requires-clause-list : goal.take_name-requires-clause-list
-take_name-requires-clause-list c =
-    let e = c.args.self.now in
-    let p = c.args.input.now.pending in
-    let h = subst (λ (v : Lookahead). IsLookahead v e p) c.in-Call.is c.requires.lookahead in
-    list_there e.state.quotes e.state.comments p c.pass-in-Call.new.self.pending c.in-Call.len (answer_of c.in-Call.listed) (ap (λ (i : Held). i.pending) c.pass-in-Call.ensures) (h.1.0).list
+pub take_name-requires-clause-called : goal.take_name-requires-clause-called
+take_name-requires-clause-called c = (subst (λ (v : Lookahead). IsLookahead v c.args.self.now c.args.input.now.pending) c.in-Call.is c.requires.lookahead).1.1
 
 pub returns-in-Undecided : goal.returns-in-Undecided
 returns-in-Undecided c =
