@@ -127,8 +127,10 @@ ahead_on s room more (aheads.Expansion n t) x z u h =
     (named_on s more n false x z h.0, h.1, same_name (IsExpansion t s) n x z (h.0).within h.2)
 ahead_on s room more (aheads.LineSkip n) x z u h =
     (named_on s more n false x z h.0, h.1, same_name (λ (y : List ℕ). top_of s y ≡ Some (Builtin Dnl)) n x z (h.0).within h.2)
-ahead_on s room more (aheads.Call n listed c) x z u h =
-    (named_on s more n listed x z h.0, same_name (IsCalled c s) n x z (h.0).within h.1)
+ahead_on s room more (aheads.Call n c) x z u h =
+    (named_on s more n false x z h.0, same_name (IsCalled c s) n x z (h.0).within h.1)
+ahead_on s room more (aheads.List n c) x z u h =
+    (named_on s more n true x z h.0, same_name (IsCalled c s) n x z (h.0).within h.1)
 ahead_on s room more aheads.End x z u h = found_on s.quotes s.comments more x z End 0 h
 ahead_on s room more (aheads.Unended what) x z u h = decided_on s.quotes s.comments more x z (Broken what) (λ e. cc) h
 ahead_on s room more aheads.Undecided x z u h = absurd (u refl)
@@ -176,7 +178,8 @@ ahead_there (aheads.Text n t) s room p f h = (f, h)
 ahead_there (aheads.Byte b) s room p f h = (f, h)
 ahead_there (aheads.Expansion n t) s room p f h = (f, h)
 ahead_there (aheads.LineSkip n) s room p f h = (f, h)
-ahead_there (aheads.Call n listed c) s room p f h = (f, h)
+ahead_there (aheads.Call n c) s room p f h = (f, h)
+ahead_there (aheads.List n c) s room p f h = (f, h)
 ahead_there aheads.End s room p f h = (f, h)
 ahead_there (aheads.Unended what) s room p f h = (f, h)
 ahead_there aheads.Undecided s room p f h = (f, h)

@@ -34,7 +34,8 @@ MeansName (aheads.Expansion n x) s room listed name =
     (n ≡ length name) × (listed ≡ false) × (room ≡ true) × IsExpansion x s name
 MeansName (aheads.LineSkip n) s room listed name =
     (n ≡ length name) × (listed ≡ false) × (room ≡ true) × (top_of s name ≡ Some (Builtin Dnl))
-MeansName (aheads.Call n l c) s room listed name = (n ≡ length name) × (l ≡ listed) × IsCalled c s name
+MeansName (aheads.Call n c) s room listed name = (n ≡ length name) × (listed ≡ false) × IsCalled c s name
+MeansName (aheads.List n c) s room listed name = (n ≡ length name) × (listed ≡ true) × IsCalled c s name
 MeansName a s room listed name = ⊥
 
 -- the first token of a text is a name of n bytes, after which a list follows or not
@@ -52,7 +53,8 @@ IsAhead (aheads.Expansion n t) s room m x =
     IsNamed n false s m x × (room ≡ true) × IsExpansion t s (take n x)
 IsAhead (aheads.LineSkip n) s room m x =
     IsNamed n false s m x × (room ≡ true) × (top_of s (take n x) ≡ Some (Builtin Dnl))
-IsAhead (aheads.Call n listed c) s room m x = IsNamed n listed s m x × IsCalled c s (take n x)
+IsAhead (aheads.Call n c) s room m x = IsNamed n false s m x × IsCalled c s (take n x)
+IsAhead (aheads.List n c) s room m x = IsNamed n true s m x × IsCalled c s (take n x)
 IsAhead aheads.End s room m x = scan s.quotes s.comments m x ≡ Found End 0
 IsAhead (aheads.Unended what) s room m x = scan s.quotes s.comments m x ≡ Broken what
 IsAhead aheads.Undecided s room m x = IsUndecided s m x

@@ -17,6 +17,7 @@ use m4_state::builtin::Builtin;
 use m4_state::bytes::Bytes;
 use m4_state::definition::Def;
 use m4_state::state::State;
+use std::alloc::AllocError;
 
 /// The next token. A turn acts on it.
 #[derive(Drop)]
@@ -32,8 +33,10 @@ pub enum Lookahead {
     /// The name of the builtin that skips the rest of the line, without a list: its length. No call needs memory for
     /// it.
     LineSkip(usize),
-    /// Any other name with a definition: its length, whether a list follows it, and the call.
-    Call(usize, bool, OpenCall),
+    /// Any other name with a definition, without a list: its length, and the call.
+    Call(usize, OpenCall),
+    /// A name with a definition, which a list follows: its length, and the call.
+    List(usize, OpenCall),
     /// The end of the input.
     End,
     /// A string or a comment that the input does not end.
@@ -72,26 +75,24 @@ impl Lookahead {
             Def::Builtin(Builtin::Dnl) if bare => Ok(Lookahead::LineSkip(name.len())),
             _ => {
                 let call = spare.call(name, definition)?;
-                Ok(Lookahead::Call(name.len(), listed, call))
+                if listed {
+                    Ok(Lookahead::List(name.len(), call))
+                } else {
+                    Ok(Lookahead::Call(name.len(), call))
+                }
             }
         }
     }
 }
 
-/// Copies the text of a token, which lies in these bytes. Not inlined, since a pass puts most texts where they go.
+/// Copies the text of a token, which begins after so many bytes. Not inlined, since a pass puts most texts where they
+/// go.
 #[inline(never)]
-fn copied(
-    spare: &Spare,
-    text: &[u8],
-    begin: usize,
-    len: usize,
-    all: usize,
-) -> Result<Lookahead, TurnFault>
+fn copied(spare: &Spare, text: &[u8], begin: usize, len: usize) -> Result<Bytes, AllocError>
     requires { begin + len ≤ length text.now }
-    ensures { IfOk result (λ a. a ≡ aheads.Text all (take len (drop begin text.now))) }
+    ensures { IfOk result (λ b. b ≡ take len (drop begin text.now)) }
 {
-    let copy = Bytes::from_slice(spare.alloc(), text.split_at(begin).1.split_at(len).0)?;
-    Ok(Lookahead::Text(all, copy))
+    Bytes::from_slice(spare.alloc(), text.split_at(begin).1.split_at(len).0)
 }
 
 impl Lookahead {
@@ -121,8 +122,14 @@ impl Lookahead {
             First::Byte(byte) => Ok(Lookahead::Byte(byte)),
             First::Undecided if others => Ok(Lookahead::Further(text.len())),
             First::Undecided => Ok(Lookahead::Undecided),
-            First::Text(len) => copied(spare, text, 0, len, len),
-            First::Quoted(begin, len, all) => copied(spare, text, begin, len, all),
+            First::Text(len) => {
+                let copy = copied(spare, text, 0, len)?;
+                Ok(Lookahead::Text(len, copy))
+            }
+            First::Quoted(begin, len, all) => {
+                let copy = copied(spare, text, begin, len)?;
+                Ok(Lookahead::Text(all, copy))
+            }
             First::End => Ok(Lookahead::End),
             First::Unended(what) => Ok(Lookahead::Unended(what)),
         }

@@ -161,6 +161,7 @@ impl Machine {
     }
 
     /// Opens a list: its call becomes the innermost.
+    #[inline(always)]
     pub fn open_list(&mut self, call: OpenCall) -> Result<(), AllocError>
         ensures { OnOk result (self.new ≡ with_open_call call self.old) }
     {

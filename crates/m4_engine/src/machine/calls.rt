@@ -148,6 +148,7 @@ impl Machine {
     }
 
     /// Consumes the parenthesis that opens a list. It was recognised as a token, so it is one byte.
+    #[inline(always)]
     fn take_parenthesis(&self, input: &mut Input)
         requires ready { IsReady input.old }
         requires paren_follows { paren_at self.now.state.quotes self.now.state.comments input.old.pending

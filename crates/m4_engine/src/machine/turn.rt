@@ -40,7 +40,8 @@ impl Machine {
                 self.take_line_skip();
                 Ok(Turned::SkipsLine)
             }
-            Lookahead::Call(len, listed, call) => self.take_name(len, listed, call, input),
+            Lookahead::Call(len, call) => self.take_name(len, false, call, input),
+            Lookahead::List(len, call) => self.take_name(len, true, call, input),
             Lookahead::Undecided => Ok(Turned::NeedsMore),
             Lookahead::Text(len, text) => self.take_text(len, text, input),
             Lookahead::Definition => self.take_definition(input),

@@ -69,6 +69,12 @@ take_name-requires-clause-named c = (subst (λ (v : Lookahead). IsLookahead v c.
 pub take_name-requires-clause-called : goal.take_name-requires-clause-called
 take_name-requires-clause-called c = (subst (λ (v : Lookahead). IsLookahead v c.args.self.now c.args.input.now.pending) c.in-Call.is c.requires.lookahead).1.1
 
+pub take_name-requires-in-List-clause-named : goal.take_name-requires-in-List-clause-named
+take_name-requires-in-List-clause-named c = (subst (λ (v : Lookahead). IsLookahead v c.args.self.now c.args.input.now.pending) c.in-List.is c.requires.lookahead).1.0
+
+pub take_name-requires-in-List-clause-called : goal.take_name-requires-in-List-clause-called
+take_name-requires-in-List-clause-called c = (subst (λ (v : Lookahead). IsLookahead v c.args.self.now c.args.input.now.pending) c.in-List.is c.requires.lookahead).1.1
+
 pub returns-in-Undecided : goal.returns-in-Undecided
 returns-in-Undecided c =
     let e = c.args.self.now in
