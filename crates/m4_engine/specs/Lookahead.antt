@@ -1,6 +1,6 @@
 -- Lookahead: the next token, as it was recognised before a turn consumes it.
 -- Not believed: it connects the code with `Expand`; the turns' lemmas prove that they agree.
--- Words: IsExpansion, IsCalled, MeansName, IsNamed, IsAhead, EndsBy, IsLookaheadOf.
+-- Words: IsExpansion, IsCalled, MeansBare, IsNamed, IsAhead, EndsBy, IsLookaheadOf.
 use Rattle.std.specs.Prelude.{◌≡◌, ◌≢◌, ◌<◌, ◌≤◌, ◌⊎◌, Bool, true, false, ℕ, List, [], None, Some, length, take, drop}
 use Rattle.m4_state.specs.declared.builtin.Builtin.TheVariants.{Dnl}
 use Rattle.m4_state.specs.declared.definition.Def.TheVariants.{Text, Builtin}
@@ -28,15 +28,13 @@ abbrev pub IsCalled : Call → State → List ℕ → Type 0
 IsCalled c s name =
     (top_of s name ≡ Some c.definition) × (c.name ≡ name) × (c ≡ call_of c.definition c.name c.place)
 
--- a name with a definition, after which a list follows or not; `room` says that the limits allow a call
-abbrev pub MeansName : Lookahead → State → Bool → Bool → List ℕ → Type 0
-MeansName (aheads.Expansion n x) s room listed name =
-    (n ≡ length name) × (listed ≡ false) × (room ≡ true) × IsExpansion x s name
-MeansName (aheads.LineSkip n) s room listed name =
-    (n ≡ length name) × (listed ≡ false) × (room ≡ true) × (top_of s name ≡ Some (Builtin Dnl))
-MeansName (aheads.Call n c) s room listed name = (n ≡ length name) × (listed ≡ false) × IsCalled c s name
-MeansName (aheads.List n c) s room listed name = (n ≡ length name) × (listed ≡ true) × IsCalled c s name
-MeansName a s room listed name = ⊥
+-- a name with a definition, which no list follows; `room` says that the limits allow a call
+abbrev pub MeansBare : Lookahead → State → Bool → List ℕ → Type 0
+MeansBare (aheads.Expansion n x) s room name = (n ≡ length name) × (room ≡ true) × IsExpansion x s name
+MeansBare (aheads.LineSkip n) s room name =
+    (n ≡ length name) × (room ≡ true) × (top_of s name ≡ Some (Builtin Dnl))
+MeansBare (aheads.Call n c) s room name = (n ≡ length name) × IsCalled c s name
+MeansBare a s room name = ⊥
 
 -- the first token of a text is a name of n bytes, after which a list follows or not
 pub record IsNamed (n : ℕ) (listed : Bool) (s : State) (m : Bool) (x : List ℕ) : Type 0 where

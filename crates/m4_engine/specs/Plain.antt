@@ -7,11 +7,10 @@ use Rattle.m4_state.specs.Definition.{IsDefinition}
 use Rattle.m4_state.specs.declared.definition.Def.{Def}
 use Rattle.m4_state.specs.State.{State, top_of}
 use Rattle.m4_input.specs.declared.token.Token.TheVariants.{Name, Str, Comment, Byte, End}
-use Rattle.m4_input.specs.declared.front.Answer.TheVariants.{Unknown}
+use Rattle.m4_input.specs.declared.front.Answer.TheVariants.{Yes, No, Unknown}
 use Rattle.m4_input.specs.declared.front.Scan.TheVariants.{Found, Broken, NeedsMore}
 use Rattle.m4_input.specs.Token.{scan}
 use Rattle.m4_input.specs.Paren.{paren_in}
-use Rattle.m4_input.specs.Input.{answer_of}
 use Rattle.m4_engine.specs.declared.front.First.{First}
 use Rattle.m4_engine.specs.declared.front.First.TheVariants as firsts
 
@@ -50,9 +49,12 @@ IsFirst s m x (firsts.Text n) =
     ⊎ (scan s.quotes s.comments m x ≡ Found (Comment (take n x)) n)
 IsFirst s m x (firsts.Byte b) = (scan s.quotes s.comments m x ≡ Found (Byte b) 1) × (take 1 x ≡ b ∷ [])
 IsFirst s m x (firsts.Quoted begin len all) = scan s.quotes s.comments m x ≡ Found (Str (take len (drop begin x))) all
-IsFirst s m x (firsts.Called n listed d) =
+IsFirst s m x (firsts.Called n d) =
     (scan s.quotes s.comments m x ≡ Found (Name (take n x)) n) × (top_of s (take n x) ≡ Some d.now)
-    × (paren_in s.quotes s.comments m (drop n x) ≡ answer_of listed) × IsDefinition d.now
+    × (paren_in s.quotes s.comments m (drop n x) ≡ No) × IsDefinition d.now
+IsFirst s m x (firsts.Listed n d) =
+    (scan s.quotes s.comments m x ≡ Found (Name (take n x)) n) × (top_of s (take n x) ≡ Some d.now)
+    × (paren_in s.quotes s.comments m (drop n x) ≡ Yes) × IsDefinition d.now
 IsFirst s m x firsts.End = scan s.quotes s.comments m x ≡ Found End 0
 IsFirst s m x (firsts.Unended what) = scan s.quotes s.comments m x ≡ Broken what
 IsFirst s m x firsts.Undecided = IsUndecided s m x
@@ -62,7 +64,8 @@ abbrev pub FirstLies : ℕ → First → Type 0
 FirstLies m (firsts.Text n) = (0 < n) × (n ≤ m)
 FirstLies m (firsts.Byte b) = 0 < m
 FirstLies m (firsts.Quoted begin len all) = (begin + len ≤ m) × (all ≤ m)
-FirstLies m (firsts.Called n listed d) = n ≤ m
+FirstLies m (firsts.Called n d) = n ≤ m
+FirstLies m (firsts.Listed n d) = n ≤ m
 FirstLies m firsts.End = Unit {0}
 FirstLies m (firsts.Unended what) = Unit {0}
 FirstLies m firsts.Undecided = Unit {0}

@@ -74,7 +74,8 @@ fn collect_first(
             Ok(len)
         }
         First::Byte(byte) => collect_byte(call, byte, text, delims),
-        First::Called(..) | First::End | First::Unended(_) | First::Undecided => Ok(0),
+        First::Called(..) | First::Listed(..) => Ok(0),
+        First::End | First::Unended(_) | First::Undecided => Ok(0),
     }
 }
 

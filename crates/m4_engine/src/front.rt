@@ -26,8 +26,10 @@ pub enum First<'a> {
     Byte(u8),
     /// A string: the lengths of its begin-quote, of its text, and of all of it.
     Quoted(usize, usize, usize),
-    /// A name with a definition: its length, whether an argument list follows it, and the definition.
-    Called(usize, bool, &'a Def),
+    /// A name with a definition, without an argument list: its length, and the definition.
+    Called(usize, &'a Def),
+    /// A name with a definition, which an argument list follows: its length, and the definition.
+    Listed(usize, &'a Def),
     /// The end of the input.
     End,
     /// A string or a comment that the input does not end.
@@ -132,8 +134,8 @@ fn first_of<'a>(
             };
             let after = text.split_at(len).1;
             match list_follows(after, delims, may_follow) {
-                Answer::Yes => First::Called(len, true, definition),
-                Answer::No => First::Called(len, false, definition),
+                Answer::Yes => First::Listed(len, definition),
+                Answer::No => First::Called(len, definition),
                 Answer::Unknown => First::Undecided,
             }
         }
@@ -176,6 +178,7 @@ pub fn text_of(first: &First<'_>) -> Option<(usize, usize, usize)>
         First::Quoted(begin, len, all) => Some((*begin, *len, *all)),
         First::Text(len) => Some((0, *len, *len)),
         First::Byte(_) => Some((0, 1, 1)),
-        First::Called(..) | First::End | First::Unended(_) | First::Undecided => None,
+        First::Called(..) | First::Listed(..) => None,
+        First::End | First::Unended(_) | First::Undecided => None,
     }
 }

@@ -4,7 +4,7 @@ ghost use Rattle.std.specs.Prelude.{◌≡◌, ◌+◌, ◌≤◌, Some, Bool, I
 ghost use Rattle.m4_state.specs.Definition.{IsDefinition};
 ghost use Rattle.m4_state.specs.State.{top_of};
 ghost use Rattle.m4_engine.specs.Plain.{IsFirst, FirstLies};
-ghost use Rattle.m4_engine.specs.Lookahead.{EndsBy, MeansName};
+ghost use Rattle.m4_engine.specs.Lookahead.{EndsBy, MeansBare};
 ghost use Rattle.m4_engine.specs.declared.lookahead.Lookahead.TheVariants as aheads;
 
 use crate::call::OpenCall;
@@ -48,39 +48,29 @@ pub enum Lookahead {
 }
 
 impl Lookahead {
-    /// Returns the lookahead for a name with this definition. If the name is called without a list, and the limits
-    /// allow a call (`room`), the expansion of a text macro is known, and `dnl`, which many lines end with. A call's
-    /// place is not known yet.
+    /// Returns the lookahead for a name with this definition that is called without a list. If the limits allow a call
+    /// (`room`), the expansion of a text macro is known, and `dnl`, which many lines end with.
     #[inline(always)]
-    fn of_name(
+    fn bare(
         spare: &mut Spare,
         effect: &mut EffectBuffer,
         state: &State,
         room: bool,
-        listed: bool,
         name: &[u8],
         definition: &Def,
     ) -> Result<Lookahead, TurnFault>
         requires top { top_of state.now name.now ≡ Some definition.now }
         requires valid { IsDefinition definition.now }
-        ensures means { IfOk result (λ a. MeansName a state.now room listed name.now) }
+        ensures means { IfOk result (λ a. MeansBare a state.now room name.now) }
         ensures same { effect.new ≡ effect.old }
     {
-        let bare = !listed && room;
         match definition {
-            Def::Text(text) if bare => {
+            Def::Text(text) if room => {
                 let expansion = effect.expand(text, name, &[], state.quotes())?;
                 Ok(Lookahead::Expansion(name.len(), expansion))
             }
-            Def::Builtin(Builtin::Dnl) if bare => Ok(Lookahead::LineSkip(name.len())),
-            _ => {
-                let call = spare.call(name, definition)?;
-                if listed {
-                    Ok(Lookahead::List(name.len(), call))
-                } else {
-                    Ok(Lookahead::Call(name.len(), call))
-                }
-            }
+            Def::Builtin(Builtin::Dnl) if room => Ok(Lookahead::LineSkip(name.len())),
+            _ => Ok(Lookahead::Call(name.len(), spare.call(name, definition)?)),
         }
     }
 }
@@ -115,11 +105,14 @@ impl Lookahead {
         ensures same { effect.new ≡ effect.old }
     {
         match first {
-            First::Called(len, listed, definition) => {
-                let name = text.split_at(len).0;
-                Lookahead::of_name(spare, effect, state, room, listed, name, definition)
-            }
             First::Byte(byte) => Ok(Lookahead::Byte(byte)),
+            First::Listed(len, definition) => {
+                let call = spare.call(text.split_at(len).0, definition)?;
+                Ok(Lookahead::List(len, call))
+            }
+            First::Called(len, definition) => {
+                Lookahead::bare(spare, effect, state, room, text.split_at(len).0, definition)
+            }
             First::Undecided if others => Ok(Lookahead::Further(text.len())),
             First::Undecided => Ok(Lookahead::Undecided),
             First::Text(len) => {
