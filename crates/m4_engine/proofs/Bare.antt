@@ -1,6 +1,6 @@
 -- Bare: a text that is called with no list, as the definitions' move.
 use Rattle.std.proofs.Common.{◌≡◌, ℕ, Bool, true, false, List, [], Some, None, refl, sym, ap, ◌∙◌}
-use Rattle.std.specs.Prelude.{nat_lt, not, ◌&&◌, Result, Ok, Err, IfOk}
+use Rattle.std.specs.Prelude.{nat_lt, Result, Ok, Err, IfOk}
 use Rattle.m4_state.specs.declared.definition.Def.{Def}
 use Rattle.m4_state.specs.declared.definition.Def.TheVariants.{Text}
 use Rattle.m4_state.specs.declared.delimiters.Delimiters.{Delimiters}
@@ -15,7 +15,7 @@ use Rattle.m4_engine.specs.declared.turned.TurnFault.{TurnFault}
 use Rattle.m4_engine.specs.declared.turned.Turned.TheVariants as turns
 use Rattle.m4_engine.specs.Expansion.{Call}
 use Rattle.m4_engine.specs.Expand.{call}
-use Rattle.m4_engine.specs.Engine.{Engine, outer_of, here_of, with_one_call, with_made, is_deep_in, is_bare}
+use Rattle.m4_engine.specs.Engine.{Engine, outer_of, here_of, with_one_call, with_made, is_deep_in}
 use Rattle.m4_engine.specs.Turns.{called_within, step, Extended, Pushes, Moves}
 use Rattle.m4_engine.proofs.Acts.{called_goes}
 use Rattle.m4_engine.proofs.Calling.{bare_made}
@@ -73,13 +73,3 @@ pub expanded_goes : (may : Bool) (e e2 e1 : Engine) (x : List ℕ) (p : Extended
 expanded_goes may e e2 e1 x p p' (Ok t) room shallow k h = λ c y d s.
     bare_goes may e e2 e1 c p p' (Ok t) room shallow k (h c y d (s ∙ sym (ap (λ (d : Engine). substituted y c.name c.done (d.state).quotes) k)))
 expanded_goes may e e2 e1 x p p' (Err f) room shallow k h = tt
-
--- a call that is bare has no list, and the limits leave it
-pub bare_fits : (listed : Bool) (e : Engine) → is_bare listed e ≡ true → (listed ≡ false) × (nat_lt e.calls (e.limits).calls ≡ true) × (is_deep_in e ≡ false)
-bare_fits listed e h = by_parts listed (nat_lt e.calls (e.limits).calls) (is_deep_in e) h
-  where
-    by_parts : (l r d : Bool) → not l && (r && not d) ≡ true → (l ≡ false) × (r ≡ true) × (d ≡ false)
-    by_parts true r d e = cc
-    by_parts false false d e = cc
-    by_parts false true true e = cc
-    by_parts false true false e = (refl, refl, refl)

@@ -89,7 +89,7 @@ takes_nothing e i s out reported d r = record {
   flushed = record { output = d.output; messages = d.messages };
 }
 
--- what was written since is told by a later turn, if anything was
+-- what was written since is shown by a later turn, if anything was
 pub marked_since : (w : Wanted) (e0 e : Engine) (q p : Pending) (o m x y : List ℕ) → Marked wanted.Token e0 q o m → Leads wanted.Token e0 q w e p o m → IsMarked w e p x y → Marked wanted.Token e0 q (o ++ x) (m ++ y)
 marked_since w e0 e q p o m x y k l (inr n) = mark_then wanted.Token w e0 e q p o m x y l n
 marked_since w e0 e q p o m x y k l (inl n) =
@@ -150,7 +150,7 @@ leads_more w e0 e q p o m y came f l = record {
   limits = l.limits;
 }
 
--- the same turn tells what was written
+-- the same turn shows what was written
 mark_longer : (e0 : Engine) (q : Pending) (o m y : List ℕ) (came : Bool) → q.may_follow ≡ true → Marked wanted.Token e0 q o m → Marked wanted.Token e0 (longer y came q) o m
 mark_longer e0 q o m y came f k = record {
   at = k.at;
@@ -295,7 +295,7 @@ ended_all e0 e e' p0 i before after out0 reported0 out reported out' reported' w
       subst (λ (y : Ended). Expanded e0 e' y cause (writers out0 out' reported0 reported')) (sym same) x;
 }
 
--- ---- a turn that tells what was written
+-- ---- a turn that shows what was written
 
 -- the machine before its first turn
 idle_start : (e : Engine) (p : Pending) (a b : List ℕ) → IsIdle e
@@ -459,7 +459,7 @@ module _ (e0 e e' : Engine) (p0 : Pending) (i j k : Held) (before a b : Option S
     so = λ z more c. broken_by (t.o ++ h.o) (t.m ++ h.m) (input_expansion e0 (longer z more (longer (t.x ++ g.x) true p0))) out0 out' reported0 reported' both_written (kept_after z more);
   }
 
-  -- a turn of the expansion of all bytes tells what was written
+  -- a turn of the expansion of all bytes shows what was written
   lacked_told : StepBreaks e0 p0 before b (writers out0 out' reported0 reported')
   lacked_told =
       let s : Taking e0 p0 before a out0 reported0 v e' j out' reported' = needs_more e0 e e' p0 i j before a out0 reported0 out reported out' reported' w v t h in

@@ -1,4 +1,4 @@
--- Marks: the turn that tells what was written, kept while a run goes on.
+-- Marks: the turn that shows what was written, kept while a run goes on.
 use Rattle.std.proofs.Common.{◌≡◌, inl, inr, Bool, ℕ, List, [], ◌++◌, refl, sym, ap, ◌∙◌, subst, append-nil}
 use Rattle.std.proofs.Common.{append_assoc, Option}
 use Rattle.m4_input.specs.Pending.{Pending, text_of, line_length}

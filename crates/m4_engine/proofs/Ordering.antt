@@ -1,4 +1,4 @@
--- Ordering: the step that tells what a call of a session wrote, if it was broken off.
+-- Ordering: the step that shows what a call of a session wrote, if it was broken off.
 use Rattle.std.proofs.Common.{◌≡◌, ◌≢◌, inl, inr, Bool, true, false, ℕ, List, [], ◌∷◌, ◌++◌, Option, None}
 use Rattle.std.proofs.Common.{refl, sym, ap, ◌∙◌, subst, append-nil, append_assoc}
 use Rattle.std.specs.Prelude.{Result, Ok, Err}
@@ -71,7 +71,7 @@ told_answer e p before after w P causes.NestingLimit f h = tt
 
 -- ---- a call in which nothing was written
 
--- the first turn of an expansion tells that
+-- the first turn of an expansion shows that
 pub nothing_told : (start : Expansion) (o m : List ℕ) (out0 out reported0 reported : Option (List ℕ))
     → (start.so_far).output ≡ o ++ [] → (start.so_far).messages ≡ m ++ [] → out ≡ with_bytes out0 o
     → reported ≡ with_bytes reported0 m

@@ -293,9 +293,6 @@ diverted_put e x h =
     ap (λ (o : List ℕ). let d : Engine = record e { state = appended e.state x; output = e.output ++ o } in d) (not_issued (e.state).current x h)
     ∙ ap (λ (o : List ℕ). let d : Engine = record e { state = appended e.state x; output = o } in d) (append-nil e.output)
 
-pub text_diverted : (old new : Engine) (m : Bool) (n : ℕ) (x : List ℕ) → IsPlainRun old.state m n x → old.open_calls ≡ [] → ((old.state).current ≡ pos 0 → ⊥) → new ≡ record old { state = appended old.state (take n x) } → PassesText m n x old new
-text_diverted old new m n x r o u e = inl (r, o, e ∙ sym (diverted_put old (take n x) u))
-
 -- the text of a token that calls nothing
 pub token_put : (m : Bool) (begin len n : ℕ) (x : List ℕ) (old new : Engine) → IsTextOf old.state m begin len n x → new ≡ put_in [] (take len (drop begin x)) old → PutsToken m n x old new
 token_put m begin len n x old new (inl f) e = inr (inl (take len (drop begin x), f, e))

@@ -37,11 +37,6 @@ plain_byte s o k b x y r e h = plain_more s o k 1 x r (subst (IsPlain s o 1) e (
 pub plain_comment : (s : State) (o : Bool) (k n : ℕ) (x y : List ℕ) → IsPlainRun s o k x → y ≡ drop k x → scan s.quotes s.comments o y ≡ Found (Comment (take n y)) n → IsPlainRun s o (k + n) x
 plain_comment s o k n x y r e h = plain_more s o k n x r (subst (IsPlain s o n) e (inr (inr h)))
 
--- a text that calls nothing is plain
-pub plain_is : (s : State) (o : Bool) (n : ℕ) (x : List ℕ) → IsFirst s o x (firsts.Text n) → IsPlain s o n x
-plain_is s o n x (inl h) = inl h
-plain_is s o n x (inr h) = inr (inr h)
-
 -- each token that is text has a byte
 found_some : (q c : Delimiters) (m : Bool) (x : List ℕ) (v : Scan) → scan q c m x ≡ v → HasBytes v
 found_some q c m x v e = subst HasBytes e (scan_bytes q c m x)

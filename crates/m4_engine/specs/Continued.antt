@@ -64,7 +64,7 @@ pub record Marked (w : Wanted) (old : Engine) (p : Pending) (o m : List ℕ) : T
       × ((made_by (moved (configuration (a ++ before) (b ++ reported) at (longer z more q)))).messages
       ≡ (b ++ (reported ++ own)) ++ later)
 
--- nothing was written, or a turn tells what was
+-- nothing was written, or a turn shows what was
 abbrev pub IsMarked : Wanted → Engine → Pending → List ℕ → List ℕ → Type 0
 IsMarked w old p o m = ((o ≡ []) × (m ≡ [])) ⊎ Marked w old p o m
 
@@ -115,7 +115,7 @@ pub record HandBreaks (w : Wanted) (old : Engine) (p : Pending) (c : Contents) :
   pub made : (z : List ℕ) (more : Bool) → MayFollow p.may_follow z more → (a b : List ℕ)
       → HasMade (a ++ o) (b ++ m) (so_far_in (comes_to w (configuration a b old (longer z more p))))
 
--- a writer or an allocation failed: a turn tells what was written
+-- a writer or an allocation failed: a turn shows what was written
 pub record BreaksInOrder (w : Wanted) (old : Engine) (p : Pending) (c : Contents) : Type 0 where
   pub o : List ℕ
   pub m : List ℕ

@@ -179,7 +179,3 @@ engine_at s calls nesting = record {
 -- whether the limits allow a call
 abbrev pub allows_call : Engine → Bool
 allows_call e = nat_lt e.calls (e.limits).calls && not (is_deep_in e)
-
--- whether a text macro is called without a list, within the limits
-abbrev pub is_bare : Bool → Engine → Bool
-is_bare listed e = not listed && allows_call e

@@ -89,7 +89,7 @@ abbrev pub progress_before : Engine → Progress
 progress_before e = record { so_far = made_before e; over = None; any_missing = false }
 
 -- the expansion was broken off: the reader gave x, so that q is in hand of the input; and whatever follows q, a turn
--- tells what was written
+-- shows what was written
 pub record StepBreaks (old : Engine) (p : Pending) (before after : Option Script) (w : Contents) : Type 0 where
   pub x : List ℕ
   pub q : Pending

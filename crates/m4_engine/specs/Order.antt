@@ -3,7 +3,7 @@
 -- Words: IsBetween, IsStepOf, InSources, IsTurnOfRound, InRounds, InSomeRound, InEnd, IsStepOfRun, InOrder, InOrderBy,
 -- preceded, Breaks, BreaksBy, FileBreaks.
 -- A run is made of steps: the turns of its expansions, and the messages on sources that can't be opened. Where a
--- writer or an allocation fails, one step tells what was written: all output made before it was, and no message that
+-- writer or an allocation fails, one step shows what was written: all output made before it was, and no message that
 -- was made after it.
 use Rattle.std.specs.Prelude.{◌≡◌, ◌≢◌, ◌⊎◌, ℕ, zero, suc, false, List, [], ◌∷◌, ◌++◌, Option, None, Result, Err}
 use Rattle.m4_state.specs.Device.{Script, with_bytes, HasBegun}
@@ -69,7 +69,7 @@ abbrev pub IsStepOfRun : Limits → List Source → Progress → RunSoFar → Ru
 IsStepOfRun limits ss p before later =
     InSources limits ss p before later ⊎ InEnd limits (after_sources limits ss p) before later
 
--- no message was written, or a step tells what was
+-- no message was written, or a step shows what was
 abbrev pub InOrder : Limits → List Source → Progress → Contents → Type 0
 InOrder limits ss p w =
     (w.messages_new ≡ w.messages_old)
@@ -87,7 +87,7 @@ preceded o m p = record p {
   so_far = record p.so_far { output = o ++ (p.so_far).output; messages = m ++ (p.so_far).messages };
 }
 
--- a call of a session that was broken off: whatever was written before it, one of these steps tells what was
+-- a call of a session that was broken off: whatever was written before it, one of these steps shows what was
 abbrev pub Breaks : (Progress → RunSoFar → RunSoFar → Type 0) → Progress → Contents → Type 0
 Breaks IsStep p w =
     (o m : List ℕ) (out messages : Option (List ℕ))

@@ -2,8 +2,7 @@
 -- Not believed: it connects the code with `Expand`; the turns' lemmas prove that they agree.
 use Rattle.std.specs.Prelude.{◌≡◌, Option, None, ℕ, Bool, true, false, List, [], ◌∷◌, Result, IfOk, OnOk}
 use Rattle.m4_input.specs.Pending.{Pending, text_of, line_length}
-use Rattle.m4_builtins.specs.declared.place.Place.{Place}
-use Rattle.m4_engine.specs.Expansion.{Call, Kept, Expansion, Ended, Ends, NeedsInput, place_at}
+use Rattle.m4_engine.specs.Expansion.{Call, Kept, Expansion, Ended, Ends, NeedsInput}
 use Rattle.m4_input.specs.declared.pushed.Pushed.{Pushed}
 use Rattle.m4_input.specs.Input.{Held, longer}
 use Rattle.m4_engine.specs.declared.ending.Cause.{Cause}
@@ -36,10 +35,6 @@ Moving = List ℕ → Bool → List ℕ → List ℕ → Move Expansion Kept End
 -- a pending input, by what follows the bytes in hand
 abbrev pub Extended : Type 0
 Extended = List ℕ → Bool → Pending
-
--- whatever follows, it starts at this place
-abbrev pub IsAt : Place → Extended → Type 0
-IsAt at before = (z : List ℕ) (more : Bool) → place_at (before z more) ≡ at
 
 -- a call's value, if it has one, is read before everything else, whatever follows
 abbrev pub Pushes : Pending → Pending → Option Pushed → Type 0

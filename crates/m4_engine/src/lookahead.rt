@@ -43,7 +43,7 @@ pub enum Lookahead {
     Unended(Unended),
     /// The bytes in hand don't decide the token, or whether a list follows a name.
     Undecided,
-    /// It is to be looked for further on: so many bytes at the start were looked at, and others in hand come after them.
+    /// Not found yet: so many bytes at the start were looked at, and others in hand come after them.
     Further(usize),
 }
 
@@ -86,8 +86,8 @@ fn copied(spare: &Spare, text: &[u8], begin: usize, len: usize) -> Result<Bytes,
 }
 
 impl Lookahead {
-    /// Returns the lookahead for this first token of a text. Others in hand may follow the text; `room` says whether the
-    /// limits allow a call. A call's place is not known yet.
+    /// Returns the lookahead for this first token of a text. Others in hand may follow the text; `room` says whether
+    /// the limits allow a call. A call's place is not known yet.
     #[inline(always)]
     pub fn of(
         spare: &mut Spare,

@@ -4,7 +4,8 @@ use Rattle.std.specs.Prelude.{◌≡◌, ◌≤◌, ◌^◌, [], ◌++◌, lengt
 use Rattle.m4_input.specs.declared.text.Text.TheInside.{Inside}
 use Rattle.m4_input.specs.Text.{HeldText, with_text, joined}
 
--- the fields: the segment that is read first, those below it, and the file with the texts that were put before its bytes
+-- the fields: the segment that is read first, those below it, and the file with the texts that were put before its
+-- bytes
 abbrev pub view_of : Inside → HeldText
 view_of t = with_text (t.top ++ joined t.below.items) t.file
 

@@ -175,7 +175,8 @@ impl Input {
     }
 
     /// Returns bytes at the start in one slice, and whether others in hand come after them. If so, there are more than
-    /// `looked` of them: those that are contiguous, or a copy of more. Returns `None` if a definition comes before them.
+    /// `looked` of them: those that are contiguous, or a copy of more, in `copy`. Returns `None` if a definition comes
+    /// before them, and `AllocError` if there is no memory for the copy. Manual: "How m4 copies input to output".
     #[doc(hidden)]
     #[inline(always)]
     pub fn front<'a>(

@@ -127,8 +127,8 @@ impl Machine {
     }
 
     /// Passes the first token of a text, outside of calls, if it calls nothing and no block of output is full. Returns
-    /// how many bytes were passed, and the lookahead for what comes after them. Not inlined, since this is for tokens with whose first
-    /// byte a delimiter may begin, and for ends of texts.
+    /// how many bytes were passed, and the lookahead for what comes after them. Not inlined, since it is for ends of
+    /// texts, and for tokens with whose first byte a delimiter may begin.
     #[inline(never)]
     fn pass_rare(
         &mut self,
@@ -162,8 +162,8 @@ impl Machine {
         Ok((0, lookahead))
     }
 
-    /// The same as `pass_output` where text goes to a diversion or is dropped. The token after the passed ones is looked
-    /// at again, since to divert text ends what was borrowed of the state.
+    /// The same as `pass_output` where text goes to a diversion or is dropped. The token after the plain ones is looked
+    /// at again, since the text is added to the state first, of which that look borrowed.
     #[inline(never)]
     fn pass_diverted(
         &mut self,

@@ -82,8 +82,8 @@ impl Machine {
         }
     }
 
-    /// Consumes a name of this length with a definition, whose call this is but for its place: makes the call, opens its
-    /// list, or adds the name as text if it is recognised only with a list and none follows.
+    /// Consumes a name of this length with a definition, whose call this is but for its place. Makes the call, opens
+    /// its list, or adds the name as text if it is recognised only with a list and none follows.
     #[inline(always)]
     fn take_name(
         &mut self,

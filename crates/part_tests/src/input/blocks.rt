@@ -138,28 +138,13 @@ static CUT: [Row; 5] = [
     },
 ];
 
-static LISTS: [Row; 6] = [
-    Row {
-        name: "a list is decided by the byte after a name",
-        file: "f(g h",
-        steps: &[Step::More, Step::List(1), Step::List(3), Step::List(5)],
-        want: "more\nlist\nno list\nunknown\n",
-        ..PLAIN
-    },
+static LISTS: [Row; 4] = [
     Row {
         name: "no list follows at the end of the file",
         file: "f",
-        steps: &[Step::More, Step::List(1), Step::More, Step::List(1)],
-        want: "more\nunknown\nend\nno list\n",
-        ..PLAIN
-    },
-    Row {
-        name: "a parenthesis that may begin a comment",
-        comments: STARS,
-        file: "f(x",
-        blocks: &[2],
-        steps: &[Step::More, Step::List(1), Step::More, Step::List(1)],
-        want: "more\nunknown\nmore\nlist\n",
+        blocks: &[1],
+        steps: &[Step::Next, Step::SeesParen],
+        want: "name f\nno list\n",
         ..PLAIN
     },
     Row {
@@ -167,8 +152,8 @@ static LISTS: [Row; 6] = [
         comments: STARS,
         file: "f(*",
         blocks: &[2],
-        steps: &[Step::More, Step::List(1), Step::More, Step::List(1)],
-        want: "more\nunknown\nmore\nno list\n",
+        steps: &[Step::Next, Step::SeesParen],
+        want: "name f\nno list\n",
         ..PLAIN
     },
     Row {

@@ -1,6 +1,7 @@
 //! The bytes in hand: a block of a file, without the bytes that were removed, and the texts that are pushed before it.
 
 use super::steps::{PLAIN, Row, Step, tried};
+use crate::given::Given;
 
 static ROWS: [Row; 7] = [
     Row {
@@ -117,7 +118,59 @@ static ROWS: [Row; 7] = [
     },
 ];
 
+// A text that is longer than one that is put before the bytes that come next.
+const LETTERS: &str = "abcdefghijklmnopqrstuvwxyzabcdefghij";
+
+// Slices of the bytes in hand, longer than so many bytes if others come after them.
+static FRONTS: [Row; 4] = [
+    Row {
+        name: "all of a file is in one slice",
+        file: "ab",
+        steps: &[Step::More, Step::Front(0), Step::Front(2)],
+        want: "more\n[ab] all\n[ab] all\n",
+        ..PLAIN
+    },
+    Row {
+        name: "a text, and with the bytes after it",
+        file: "12",
+        steps: &[
+            Step::More,
+            Step::Push(LETTERS),
+            Step::Front(0),
+            Step::Front(35),
+            Step::Front(36),
+        ],
+        want: "more\n[abcdefghijklmnopqrstuvwxyzabcdefghij] others\n\
+            [abcdefghijklmnopqrstuvwxyzabcdefghij] others\n[abcdefghijklmnopqrstuvwxyzabcdefghij12] all\n",
+        ..PLAIN
+    },
+    Row {
+        name: "two texts and a file",
+        file: "12",
+        steps: &[
+            Step::More,
+            Step::Push(LETTERS),
+            Step::Push(LETTERS),
+            Step::Front(36),
+        ],
+        want: "more\n[abcdefghijklmnopqrstuvwxyzabcdefghijabcdefghijklmnopqrstuvwxyzabcdefghij12] all\n",
+        ..PLAIN
+    },
+    Row {
+        name: "a definition comes first",
+        file: "12",
+        steps: &[
+            Step::More,
+            Step::PushDefinition(Given::Named("dnl")),
+            Step::Front(0),
+        ],
+        want: "more\na definition\n",
+        ..PLAIN
+    },
+];
+
 #[test]
 fn bytes_in_hand(rt: HostRuntime) {
     tried(&rt, rt.alloc(), &ROWS);
+    tried(&rt, rt.alloc(), &FRONTS);
 }

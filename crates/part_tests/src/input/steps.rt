@@ -9,7 +9,7 @@ use crate::report::{Report, repeated};
 use crate::shows::agrees_by;
 use m4_input::delims::Delims;
 use m4_input::fault::InputFault;
-use m4_input::front::{Answer, Scan};
+use m4_input::front::Scan;
 use m4_input::input::Input;
 use m4_input::pushed::Pushed;
 use m4_input::token::Token;
@@ -29,8 +29,8 @@ pub enum Step {
     Look,
     /// Asks until the first token is decided.
     Decide,
-    /// Whether a list follows so many bytes.
-    List(usize),
+    /// More of the bytes in hand than so many, in one slice, and whether others come after them.
+    Front(usize),
     /// Skips the rest of the line as far as it is in hand.
     Skip,
     /// The next token, for which the input asks by itself.
@@ -269,29 +269,12 @@ fn add_rest(
     }
 }
 
-// Returns whether a list follows so many bytes.
-fn list_after(
-    alloc: Global,
-    input: &Input,
-    n: usize,
-    delims: &Delims<'_>,
-) -> Result<&'static [u8], AllocError> {
-    let hand = in_hand(alloc, input)?;
-    if n > hand.len() {
-        return Ok(b"too few bytes\n");
-    }
-    match input.list_after(n, delims)? {
-        Answer::Yes => Ok(b"list\n"),
-        Answer::No => Ok(b"no list\n"),
-        Answer::Unknown => Ok(b"unknown\n"),
-    }
-}
-
 /// Returns the bytes in hand that are contiguous: all of them, if no text is on the stack.
 pub fn in_hand(alloc: Global, input: &Input) -> Result<Vec<u8>, AllocError>
     ensures { IfOk result (λ hand. length hand.items ≤ length (text_of input.now.pending)) }
 {
-    match input.front() {
+    let mut copy = Vec::new(alloc);
+    match input.front(0, &mut copy)? {
         Some((front, _)) => Vec::from_slice(alloc, front),
         None => Ok(Vec::new(alloc)),
     }
@@ -318,6 +301,19 @@ fn describe_bytes(bytes: Result<Vec<u8>, AllocError>, report: &mut Report) {
             report.pair(b"[", &bytes);
             report.add(b"]\n");
         }
+        Err(AllocError) => report.refuse(),
+    }
+}
+
+// Adds how many bytes are in front, if these are more than so many or all, and whether others come after them.
+fn describe_front(alloc: Global, input: &Input, looked: usize, report: &mut Report) {
+    let mut copy = Vec::new(alloc);
+    match input.front(looked, &mut copy) {
+        Ok(Some((front, others))) => {
+            report.pair(b"[", front);
+            report.add(if others { b"] others\n" } else { b"] all\n" });
+        }
+        Ok(None) => report.add(b"a definition\n"),
         Err(AllocError) => report.refuse(),
     }
 }
@@ -425,6 +421,7 @@ fn answer_in_hand(alloc: Global, input: &mut Input, step: Step, report: &mut Rep
         Step::PushMany(count) => put_many(alloc, input, count, report),
         Step::PushDefinition(given) => put_definition(alloc, input, given, report),
         Step::TakeAll => describe_bytes(take_all(alloc, input), report),
+        Step::Front(looked) => describe_front(alloc, input, looked, report),
         Step::Hand => describe_hand(alloc, input, report),
         Step::Line => describe_line(input, report),
         Step::Name => describe_name(input, report),
@@ -446,10 +443,6 @@ fn answer(
         Step::Token => add_line(ask_token(input, reader, delims), report),
         Step::Look => add_found(input, reader, delims, false, report),
         Step::Decide => add_found(input, reader, delims, true, report),
-        Step::List(n) => match list_after(alloc, input, n, delims) {
-            Ok(answer) => report.add(answer),
-            Err(AllocError) => report.refuse(),
-        },
         Step::Next => {
             let _ends = add_next(input, reader, delims, report);
         }

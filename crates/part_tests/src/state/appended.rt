@@ -1,4 +1,4 @@
-//! Bytes that are appended to a vector, all of a text or its first ones; texts, however they are held; bytes that are put
+//! Bytes that are appended to a vector, all of a text or its first ones; texts, however they are held; bytes put
 //! into a text before a place.
 
 use crate::report::joined;
