@@ -14,6 +14,7 @@ pub mod Joins
 pub mod NumbersFit
 pub mod Replaced
 pub mod RowsTaken
+pub mod RunsOn
 pub mod SortedTexts
 pub mod TableRows
 pub mod TextRows

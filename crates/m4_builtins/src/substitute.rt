@@ -60,6 +60,8 @@ pub(crate) fn substitute_with(
         return Ok(text.share_with(buffer)?);
     }
     buffer.clear();
+    // The result mostly has about as many bytes.
+    buffer.reserve(bytes.len())?;
     substitute_onto(buffer, bytes, name, list, quotes)?;
     Ok(Bytes::take_from(buffer))
 }
@@ -118,21 +120,26 @@ fn push_plain(out: &mut Vec<u8>, text: &[u8]) -> Result<usize, AllocError>
     Ok(plain)
 }
 
-/// Counts the bytes before the first dollar, sixteen at a time while there are as many.
+/// Counts the bytes before the first dollar, sixteen at a time if there are as many. The last sixteen may overlap those
+/// before them.
 #[inline(always)]
 fn plain_len(bytes: &[u8]) -> usize
     ensures value { result ≡ run_length (λ b. not (b == dollar)) bytes.now }
     ensures within { result ≤ length bytes.now }
 {
-    let mut k = 0;
-    while bytes.len() - k >= LANES {
-        let plain = len_before(b'$', bytes, k);
-        if plain < LANES {
-            return k + plain;
-        }
-        k += LANES;
+    if bytes.len() < LANES {
+        return plain_len_by_bytes(bytes);
     }
-    k + plain_len_by_bytes(bytes.split_at(k).1)
+    let mut k = 0;
+    while k < bytes.len() {
+        let at = k.min(bytes.len() - LANES);
+        let plain = len_before(b'$', bytes, at);
+        if plain < LANES {
+            return at + plain;
+        }
+        k = at + LANES;
+    }
+    k
 }
 
 /// The same byte by byte.

@@ -1,5 +1,5 @@
 -- PlainRuns: plain tokens in order.
-use Rattle.std.proofs.Common.{◌≡◌, ◌<◌, inl, inr, Bool, ℕ, ◌+◌, List, [], ◌∷◌, ◌++◌, take, drop, sym, ap, ◌∙◌, subst, arith}
+use Rattle.std.proofs.Common.{◌≡◌, ◌<◌, inl, inr, Bool, ℕ, ◌+◌, List, [], ◌∷◌, ◌++◌, take, drop, refl, sym, ap, ◌∙◌, subst, arith}
 use Rattle.std.proofs.lemmas.List.{drop-drop}
 use Rattle.m4_state.specs.State.{State}
 use Rattle.m4_state.specs.declared.delimiters.Delimiters.{Delimiters}
@@ -9,6 +9,7 @@ use Rattle.m4_input.specs.declared.front.Scan.TheVariants.{Found}
 use Rattle.m4_input.specs.Token.{scan}
 use Rattle.m4_input.proofs.Consumed.{HasBytes, scan_bytes}
 use Rattle.m4_engine.specs.declared.front.First.TheVariants as firsts
+use Rattle.m4_engine.specs.Collected.{IsBlankByte}
 use Rattle.m4_engine.specs.Plain.{IsPlain, total, ArePlain, IsPlainRun, IsFirst, IsTextOf}
 
 -- a token more
@@ -32,6 +33,11 @@ plain_text s o k n x y r e (inr h) = plain_more s o k n x r (subst (IsPlain s o 
 -- a byte more
 pub plain_byte : (s : State) (o : Bool) (k b : ℕ) (x y : List ℕ) → IsPlainRun s o k x → y ≡ drop k x → IsFirst s o y (firsts.Byte b) → IsPlainRun s o (k + 1) x
 plain_byte s o k b x y r e h = plain_more s o k 1 x r (subst (IsPlain s o 1) e (inr (inl (b, h.0, h.1))))
+
+-- a space more
+pub plain_space : (s : State) (o : Bool) (k : ℕ) (x y : List ℕ) → IsPlainRun s o k x → y ≡ drop k x → y ≡ 32 ∷ drop 1 y → IsBlankByte s.quotes s.comments 32 → IsPlainRun s o (k + 1) x
+plain_space s o k x y r e h b =
+    plain_byte s o k 32 x y r e (subst (λ (z : List ℕ). IsFirst s o z (firsts.Byte 32)) (sym h) (b.alone o (drop 1 y), refl))
 
 -- a comment more
 pub plain_comment : (s : State) (o : Bool) (k n : ℕ) (x y : List ℕ) → IsPlainRun s o k x → y ≡ drop k x → scan s.quotes s.comments o y ≡ Found (Comment (take n y)) n → IsPlainRun s o (k + n) x

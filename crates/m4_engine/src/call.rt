@@ -151,14 +151,11 @@ fn argument(bytes: Vec<u8>, tokens: Vec<Def>) -> Result<Arg, AllocError>
 }
 
 impl OpenCall {
-    /// Creates a call with no argument read yet. Its place is to be set.
-    pub fn new(alloc: Global, name: &[u8], definition: &Def) -> Result<OpenCall, AllocError>
-        requires { IsDefinition definition.now }
-        ensures { IfOk result (λ c. c ≡ call_of definition.now name.now c.place) }
-    {
+    /// Creates a call without a name, a definition or memory, for `renew`.
+    pub fn blank(alloc: Global) -> Result<OpenCall, AllocError> {
         let parts = Parts {
-            definition: definition.share()?,
-            name: Bytes::from_slice(alloc, name)?,
+            definition: Def::Text(Bytes::empty()),
+            name: Bytes::empty(),
             place: Place {
                 file: Bytes::empty(),
                 line: 0,
@@ -176,14 +173,16 @@ impl OpenCall {
         })
     }
 
-    /// Makes this a call with no argument read yet, and keeps its memory and its place.
-    pub fn renew(&mut self, name: &[u8], definition: &Def) -> Result<(), AllocError>
-        requires { IsDefinition definition.now }
-        ensures { OnOk result (self.new ≡ call_of definition.now name.now self.old.place) }
+    /// Makes this a call of the name that the first `len` bytes are, with no argument read yet, and keeps its memory and
+    /// its place.
+    pub fn renew(&mut self, text: &[u8], len: usize, definition: &Def) -> Result<(), AllocError>
+        requires valid { IsDefinition definition.now }
+        requires within { len ≤ length text.now }
+        ensures { OnOk result (self.new ≡ call_of definition.now (take len text.now) self.old.place) }
     {
         self.clear();
         let alloc = *self.parts.bytes.allocator();
-        self.parts.name = Bytes::from_slice(alloc, name)?;
+        self.parts.name = Bytes::from_front(alloc, text, len)?;
         self.parts.definition = definition.share()?;
         Ok(())
     }

@@ -9,14 +9,13 @@ ghost use Rattle.m4_input.specs.declared.front.Scan.TheVariants.{Found};
 ghost use Rattle.m4_input.specs.declared.token.Token.TheVariants.{Byte};
 ghost use Rattle.m4_engine.specs.Plain.{IsFirst, FirstLies};
 ghost use Rattle.m4_engine.specs.Args.{role_of};
-ghost use Rattle.m4_engine.specs.Collected.{IsBlankByte, AreBlankBytes, IsListRun};
+ghost use Rattle.m4_engine.specs.Collected.{AreBlankBytes, IsListRun};
 
 use crate::call::OpenCall;
-use crate::front::{First, first_in_list};
+use crate::front::{First, first_in_list, is_plain_space};
 use crate::role::Role;
 use crate::text_bytes::text_len;
 use m4_input::delims::Delims;
-use m4_input::look::may_begin;
 use m4_state::state::State;
 use std::alloc::AllocError;
 
@@ -120,14 +119,6 @@ fn collect_text(call: &mut OpenCall, text: &[u8], delims: &Delims<'_>) -> Result
     let len = 1 + text_len(text.split_at(1).1, delims);
     call.put_front(text, len)?;
     Ok(len)
-}
-
-/// Returns whether a byte is a space with which no delimiter begins: a token of its own, whatever follows it.
-#[inline(always)]
-fn is_plain_space(byte: u8, delims: &Delims<'_>) -> bool
-    ensures { result ≡ true → IsBlankByte (pair_of delims.now.quotes) (pair_of delims.now.comments) byte }
-{
-    byte == b' ' && !may_begin(byte, &delims.comments) && !may_begin(byte, &delims.quotes)
 }
 
 /// Counts the spaces at the start. Before an argument's first token they are dropped, so they are passed together.

@@ -2,13 +2,14 @@
 //! them, so it can consume many at once. The look at the front of the text is that of `m4_input`, with the flag
 //! whether more bytes may follow; names are looked up here.
 
-ghost use Rattle.std.specs.Prelude.{◌≡◌, ◌<◌, ◌≤◌, ◌+◌, ℕ, Bool, List, IfSome, length, take, drop};
+ghost use Rattle.std.specs.Prelude.{◌≡◌, ◌<◌, ◌≤◌, ◌+◌, ℕ, Bool, true, List, IfSome, length, take, drop};
 ghost use Rattle.m4_state.specs.State.{State as Specified};
 ghost use Rattle.m4_input.specs.DelimsView.{pair_of};
 ghost use Rattle.m4_input.specs.Look.{scan_of, LookLies};
 ghost use Rattle.m4_input.specs.Token.{scan};
 ghost use Rattle.m4_input.specs.declared.front.Scan.TheVariants.{Found};
 ghost use Rattle.m4_input.specs.declared.token.Token.TheVariants.{Comment};
+ghost use Rattle.m4_engine.specs.Collected.{IsBlankByte};
 ghost use Rattle.m4_engine.specs.Plain.{IsPlainRun, IsFirst, FirstLies, IsTextOf};
 
 use m4_input::delims::Delims;
@@ -54,10 +55,11 @@ pub fn plain_run<'a>(
     ensures lies { IfSome result.1 (λ f. FirstLies (length (drop result.0 text.now)) f) }
 {
     let delims = Delims::of(state);
+    let spaced = has_plain_space(state);
     let mut len = 0;
     while len < most {
         match first_plain(text.split_at(len).1, state, &delims, may_follow) {
-            Some(First::Text(n)) => len += n,
+            Some(First::Text(n)) => len = with_space(text, len + n, spaced),
             Some(First::Byte(_)) => len += 1,
             Some(first) => return (len, Some(first)),
             None => {
@@ -70,6 +72,38 @@ pub fn plain_run<'a>(
         }
     }
     (len, None)
+}
+
+/// Returns whether a byte is a space with which no delimiter begins: a token of its own, whatever follows it.
+#[inline(always)]
+pub fn is_plain_space(byte: u8, delims: &Delims<'_>) -> bool
+    ensures { result ≡ true → IsBlankByte (pair_of delims.now.quotes) (pair_of delims.now.comments) byte }
+{
+    byte == b' ' && !may_begin(byte, &delims.comments) && !may_begin(byte, &delims.quotes)
+}
+
+/// Returns whether each space is a token of its own.
+#[inline(always)]
+fn has_plain_space(state: &State) -> bool
+    ensures { result ≡ true → IsBlankByte state.now.quotes state.now.comments 32 }
+{
+    is_plain_space(b' ', &Delims::of(state))
+}
+
+/// Returns the length of a run of plain tokens and of the space after it, if there is one and each space is a token
+/// (`spaced`). Most words have a space after them, and to look at it as at any token takes longer.
+#[inline(always)]
+fn with_space(text: &[u8], len: usize, spaced: bool) -> usize
+    requires { len ≤ length text.now }
+    ensures plain { (s : Specified) (m : Bool) → IsPlainRun s m len text.now
+        → (spaced ≡ true → IsBlankByte s.quotes s.comments 32) → IsPlainRun s m result text.now }
+    ensures more { len ≤ result }
+    ensures within { result ≤ length text.now }
+{
+    match text.split_at(len).1.first() {
+        Some(b' ') if spaced => len + 1,
+        _ => len,
+    }
 }
 
 /// Returns the first token; `None` if there are no bytes, or a delimiter may begin with the first one.

@@ -48,29 +48,32 @@ pub enum Lookahead {
 }
 
 impl Lookahead {
-    /// Returns the lookahead for a name with this definition that is called without a list. If the limits allow a call
-    /// (`room`), the expansion of a text macro is known, and `dnl`, which many lines end with.
+    /// Returns the lookahead for the name that the first `len` bytes are, called without a list, with this definition.
+    /// If the limits allow a call (`room`), the expansion of a text macro is known, and `dnl`, which many lines end with.
     #[inline(always)]
     fn bare(
         spare: &mut Spare,
         effect: &mut EffectBuffer,
         state: &State,
         room: bool,
-        name: &[u8],
+        text: &[u8],
+        len: usize,
         definition: &Def,
     ) -> Result<Lookahead, TurnFault>
-        requires top { top_of state.now name.now ≡ Some definition.now }
+        requires top { top_of state.now (take len text.now) ≡ Some definition.now }
         requires valid { IsDefinition definition.now }
-        ensures means { IfOk result (λ a. MeansBare a state.now room name.now) }
+        requires within { len ≤ length text.now }
+        ensures means { IfOk result (λ a. MeansBare a state.now room (take len text.now)) }
         ensures same { effect.new ≡ effect.old }
     {
         match definition {
-            Def::Text(text) if room => {
-                let expansion = effect.expand(text, name, &[], state.quotes())?;
-                Ok(Lookahead::Expansion(name.len(), expansion))
+            Def::Text(body) if room => {
+                let name = text.split_at(len).0;
+                let expansion = effect.expand(body, name, &[], state.quotes())?;
+                Ok(Lookahead::Expansion(len, expansion))
             }
-            Def::Builtin(Builtin::Dnl) if room => Ok(Lookahead::LineSkip(name.len())),
-            _ => Ok(Lookahead::Call(name.len(), spare.call(name, definition)?)),
+            Def::Builtin(Builtin::Dnl) if room => Ok(Lookahead::LineSkip(len)),
+            _ => Ok(Lookahead::Call(len, spare.call(text, len, definition)?)),
         }
     }
 }
@@ -107,11 +110,11 @@ impl Lookahead {
         match first {
             First::Byte(byte) => Ok(Lookahead::Byte(byte)),
             First::Listed(len, definition) => {
-                let call = spare.call(text.split_at(len).0, definition)?;
+                let call = spare.call(text, len, definition)?;
                 Ok(Lookahead::List(len, call))
             }
             First::Called(len, definition) => {
-                Lookahead::bare(spare, effect, state, room, text.split_at(len).0, definition)
+                Lookahead::bare(spare, effect, state, room, text, len, definition)
             }
             First::Undecided if others => Ok(Lookahead::Further(text.len())),
             First::Undecided => Ok(Lookahead::Undecided),

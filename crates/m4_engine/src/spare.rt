@@ -1,6 +1,6 @@
 //! Calls that were made, kept for the memory that later calls need. Manual: "Macro arguments".
 
-ghost use Rattle.std.specs.Prelude.{◌≡◌, [], IfOk};
+ghost use Rattle.std.specs.Prelude.{◌≡◌, ◌≤◌, [], IfOk, length, take};
 ghost use Rattle.m4_state.specs.Definition.{IsDefinition};
 ghost use Rattle.m4_engine.specs.Expand.{call_of};
 
@@ -55,20 +55,24 @@ impl Spare {
         self.alloc
     }
 
-    /// Returns a call with no argument read yet. Its place is to be set.
+    /// Returns a call of the name that the first `len` bytes are, with no argument read yet. Its place is to be set.
     #[inline(always)]
-    pub fn call(&mut self, name: &[u8], definition: &Def) -> Result<OpenCall, AllocError>
-        requires { IsDefinition definition.now }
-        ensures { IfOk result (λ c. c ≡ call_of definition.now name.now c.place) }
+    pub fn call(
+        &mut self,
+        text: &[u8],
+        len: usize,
+        definition: &Def,
+    ) -> Result<OpenCall, AllocError>
+        requires valid { IsDefinition definition.now }
+        requires within { len ≤ length text.now }
+        ensures { IfOk result (λ c. c ≡ call_of definition.now (take len text.now) c.place) }
     {
-        match self.calls.pop() {
-            Some(kept) => {
-                let mut call = kept;
-                call.renew(name, definition)?;
-                Ok(call)
-            }
-            None => OpenCall::new(self.alloc, name, definition),
-        }
+        let mut call = match self.calls.pop() {
+            Some(kept) => kept,
+            None => OpenCall::blank(self.alloc)?,
+        };
+        call.renew(text, len, definition)?;
+        Ok(call)
     }
 
     /// Keeps a call that was made. If there is no memory to keep it in, it is dropped.

@@ -19,6 +19,9 @@ use std::marker::Model;
 /// How many bytes a reader is asked for at a time.
 const SOURCE_BLOCK: usize = 4096;
 
+/// How many bytes of room for results are before the first block. Later ones come after bytes that were read.
+const ROOM: usize = 1024;
+
 /// Bytes of a file, how many of them were read, and how many newlines of the file were read. Of the bytes that are left
 /// the first `pushed` were pushed, over bytes of the file.
 #[derive(Drop)]
@@ -100,12 +103,26 @@ fn move_to_front(bytes: &mut Vec<u8>, at: usize)
 /// Appends bytes for which there is room.
 fn append_in_room(bytes: &mut Vec<u8>, more: &[u8])
     requires { vec_len bytes.old + length more.now ≤ vec_capacity bytes.old }
-    ensures { bytes.new.items ≡ bytes.old.items ++ more.now }
+    ensures items { bytes.new.items ≡ bytes.old.items ++ more.now }
+    ensures len { vec_len bytes.new ≡ vec_len bytes.old + length more.now }
+    ensures capacity { vec_capacity bytes.old ≤ vec_capacity bytes.new }
 {
     match bytes.extend_from_slice(more) {
         Ok(()) => {}
         Err(AllocError) => unreachable!(),
     }
+}
+
+/// Makes room for the first block, after that for results. Returns where the block begins.
+fn make_first_room(bytes: &mut Vec<u8>) -> Result<usize, AllocError>
+    requires { bytes.old.items ≡ [] }
+    ensures within { IfOk result (λ n. n ≡ vec_len bytes.new) }
+    ensures room { OnOk result (vec_len bytes.new + block ≤ vec_capacity bytes.new) }
+    ensures err { OnErr result (bytes.new.items ≡ []) }
+{
+    bytes.reserve(ROOM + SOURCE_BLOCK)?;
+    append_in_room(bytes, &[0; ROOM]);
+    Ok(ROOM)
 }
 
 /// Makes room for a block at the end. Returns where the bytes from a position on are then.
@@ -117,6 +134,9 @@ fn make_room(bytes: &mut Vec<u8>, at: usize) -> Result<usize, AllocError>
     ensures err { OnErr result (bytes.new.items ≡ bytes.old.items) }
 {
     let len = bytes.len();
+    if len == 0 {
+        return make_first_room(bytes);
+    }
     let is_full = bytes.capacity() < len.saturating_add(SOURCE_BLOCK);
     if is_full && at >= (len - at).saturating_add(SOURCE_BLOCK) {
         move_to_front(bytes, at);

@@ -165,6 +165,7 @@ impl Input {
     }
 
     /// Returns the file's name, shared; empty in wrapped text.
+    #[inline(always)]
     pub fn share_name(&self) -> Result<Bytes, AllocError>
         ensures { IfOk result (λ b. b ≡ name_of self.now.pending) }
     {

@@ -21,7 +21,7 @@ use std::marker::Model;
 const MOST_BELOW: usize = 1 << 62;
 
 /// A text of at most so many bytes is put before the bytes that come next. To copy it takes less than a segment.
-const SHORT: usize = 30;
+const SHORT: usize = 128;
 
 /// How many bytes at least are copied, so that a token across two texts is contiguous.
 const LEAST_COPIED: usize = 64;
@@ -50,10 +50,10 @@ impl Model for Text {
     ghost invariant = { IsHeld };
 }
 
-/// Keeps the buffer of a segment that is read to its end, if it has one of its own and is not large.
+/// Keeps the buffer of a text that is read or copied, if it had one of its own and that is not large.
 #[inline(always)]
-fn keep(buffer: &mut Vec<u8>, spent: Segment) {
-    if let Some(kept) = spent.buffer() {
+fn keep(buffer: &mut Vec<u8>, spent: Option<Vec<u8>>) {
+    if let Some(kept) = spent {
         if kept.capacity() <= LARGEST_KEPT {
             *buffer = kept;
         }
@@ -193,6 +193,7 @@ impl Text {
     {
         let len = text.as_slice().len();
         if len <= SHORT && self.put_before(text.as_slice()) {
+            keep(&mut self.buffer, text.buffer());
             return Ok(());
         }
         if len > LONGEST_SEGMENT {
@@ -343,11 +344,11 @@ impl Text {
                 Some(next) => {
                     self.held -= next.len();
                     let spent = std::mem::replace(&mut self.top, next);
-                    keep(&mut self.buffer, spent);
+                    keep(&mut self.buffer, spent.buffer());
                 }
                 None => {
                     let spent = std::mem::replace(&mut self.top, Segment::spent());
-                    keep(&mut self.buffer, spent);
+                    keep(&mut self.buffer, spent.buffer());
                     self.file.consume(left);
                     return;
                 }

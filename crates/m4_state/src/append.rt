@@ -5,7 +5,7 @@ ghost use Rattle.std.specs.Prelude.{◌≡◌, ◌≤◌, ◌++◌, ◌-◌, OnO
 
 use std::alloc::AllocError;
 
-/// How many bytes are copied at once.
+/// How many bytes are copied at once: those of a register of the processor, or of two.
 const COPIED: usize = 16;
 
 /// Appends a text. One of a byte or two, as most quotes and many arguments are, takes no call that copies.
@@ -33,11 +33,24 @@ pub fn append_front(out: &mut Vec<u8>, text: &[u8], len: usize) -> Result<(), Al
     ensures ok { OnOk result (out.new.items ≡ out.old.items ++ take len text.now) }
     ensures err { OnErr result (out.new.items ≡ out.old.items) }
 {
-    if len > COPIED || text.len() < COPIED {
-        return append(out, text.split_at(len).0);
+    if len <= COPIED && text.len() >= COPIED {
+        append_piece(out, text.split_at(COPIED).0, len)
+    } else if len <= 2 * COPIED && text.len() >= 2 * COPIED {
+        append_piece(out, text.split_at(2 * COPIED).0, len)
+    } else {
+        append(out, text.split_at(len).0)
     }
+}
+
+/// Appends all of a piece, and cuts off what comes after its first `len` bytes.
+#[inline(always)]
+fn append_piece(out: &mut Vec<u8>, piece: &[u8], len: usize) -> Result<(), AllocError>
+    requires { len ≤ length piece.now }
+    ensures ok { OnOk result (out.new.items ≡ out.old.items ++ take len piece.now) }
+    ensures err { OnErr result (out.new.items ≡ out.old.items) }
+{
     let old = out.len();
-    out.extend_from_slice(text.split_at(COPIED).0)?;
+    out.extend_from_slice(piece)?;
     out.truncate(old + len);
     Ok(())
 }

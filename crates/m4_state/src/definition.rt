@@ -20,7 +20,8 @@ pub enum Def {
 impl Def {
     ghost use Rattle.m4_state.specs.Definition.{length_of, IsSizedDefinition};
 
-    /// Returns a copy.
+    /// Returns a copy, which shares a long text.
+    #[inline(always)]
     pub fn share(&self) -> Result<Def, AllocError>
         ensures { IfOk result (λ d. d ≡ self.now) }
     {

@@ -2,46 +2,83 @@
 
 ghost use Rattle.std.specs.Prelude.{◌≡◌, ◌<◌, ◌^◌, [], length, IfOk};
 
-use crate::bytes::Bytes;
 use std::alloc::{AllocError, Global};
+use std::marker::Model;
+
+/// The bytes of a begin or an end. They are always in a buffer, so that a look at them takes no test of where they are.
+#[derive(Drop)]
+pub struct Delimiter {
+    bytes: Vec<u8>,
+}
+
+impl Model for Delimiter {
+    ghost use Rattle.std.specs.Prelude.{List, ℕ};
+
+    ghost Value = { List ℕ };
+
+    ghost view = { λ d. d.bytes.items };
+}
+
+impl Delimiter {
+    /// Copies the bytes.
+    fn from_slice(alloc: Global, bytes: &[u8]) -> Result<Delimiter, AllocError>
+        ensures { IfOk result (λ d. d ≡ bytes.now) }
+    {
+        let mut kept = Vec::new(alloc);
+        kept.extend_from_slice(bytes)?;
+        Ok(Delimiter { bytes: kept })
+    }
+
+    /// Returns the bytes.
+    #[inline(always)]
+    pub fn as_slice(&self) -> &[u8]
+        ensures { result.now ≡ self.now }
+    {
+        self.bytes.as_slice()
+    }
+}
 
 /// The begin and the end of a quoted string, or of a comment. Both are empty if it is disabled.
 #[derive(Drop)]
 pub struct Delimiters {
-    pub begin: Bytes,
-    pub end: Bytes,
+    pub begin: Delimiter,
+    pub end: Delimiter,
 }
 
 impl Delimiters {
     ghost use Rattle.m4_state.specs.Delimiters.{default_quotes, default_comments, chosen, IsPaired, IsSizedPair};
 
+    /// Copies a begin and an end.
+    fn copied(alloc: Global, begin: &[u8], end: &[u8]) -> Result<Delimiters, AllocError>
+        ensures { IfOk result (λ d. d ≡ record { begin = begin.now; end = end.now }) }
+    {
+        Ok(Delimiters {
+            begin: Delimiter::from_slice(alloc, begin)?,
+            end: Delimiter::from_slice(alloc, end)?,
+        })
+    }
+
     /// Returns the quotes of a new state: a backquote and an apostrophe.
     pub(crate) fn default_quotes(alloc: Global) -> Result<Delimiters, AllocError>
         ensures { IfOk result (λ d. d ≡ default_quotes) }
     {
-        Ok(Delimiters {
-            begin: Bytes::from_slice(alloc, b"`")?,
-            end: Bytes::from_slice(alloc, b"'")?,
-        })
+        Delimiters::copied(alloc, b"`", b"'")
     }
 
     /// Returns the comment delimiters of a new state: a number sign and a newline.
     pub(crate) fn default_comments(alloc: Global) -> Result<Delimiters, AllocError>
         ensures { IfOk result (λ d. d ≡ default_comments) }
     {
-        Ok(Delimiters {
-            begin: Bytes::from_slice(alloc, b"#")?,
-            end: Bytes::from_slice(alloc, b"\n")?,
-        })
+        Delimiters::copied(alloc, b"#", b"\n")
     }
 
     /// Returns quotes with this begin and end.
     pub(crate) fn chosen_quotes(
         alloc: Global,
-        begin: Bytes,
-        end: Bytes,
+        begin: &[u8],
+        end: &[u8],
     ) -> Result<Delimiters, AllocError>
-        ensures chosen { IfOk result (λ d. d ≡ chosen default_quotes begin end) }
+        ensures chosen { IfOk result (λ d. d ≡ chosen default_quotes begin.now end.now) }
         ensures valid { IfOk result (λ d. IsPaired d × IsSizedPair d) }
     {
         Delimiters::with_default(alloc, begin, end, b"'")
@@ -50,32 +87,33 @@ impl Delimiters {
     /// Returns comment delimiters with this begin and end.
     pub(crate) fn chosen_comments(
         alloc: Global,
-        begin: Bytes,
-        end: Bytes,
+        begin: &[u8],
+        end: &[u8],
     ) -> Result<Delimiters, AllocError>
-        ensures chosen { IfOk result (λ d. d ≡ chosen default_comments begin end) }
+        ensures chosen { IfOk result (λ d. d ≡ chosen default_comments begin.now end.now) }
         ensures valid { IfOk result (λ d. IsPaired d × IsSizedPair d) }
     {
         Delimiters::with_default(alloc, begin, end, b"\n")
     }
+
     /// Returns delimiters; if only the end is empty, it is the default end.
     fn with_default(
         alloc: Global,
-        begin: Bytes,
-        end: Bytes,
+        begin: &[u8],
+        end: &[u8],
         default_end: &[u8],
     ) -> Result<Delimiters, AllocError>
         requires { (0 < length default_end.now) × (length default_end.now < 2 ^ 64) }
-        ensures chosen { IfOk result (λ d. d ≡ chosen (record { begin = []; end = default_end.now }) begin end) }
+        ensures chosen { IfOk result (λ d. d ≡ chosen (record { begin = []; end = default_end.now }) begin.now end.now) }
         ensures valid { IfOk result (λ d. IsPaired d × IsSizedPair d) }
     {
-        let end = if begin.as_slice().is_empty() {
-            Bytes::empty()
-        } else if end.as_slice().is_empty() {
-            Bytes::from_slice(alloc, default_end)?
+        let end = if begin.is_empty() {
+            &[]
+        } else if end.is_empty() {
+            default_end
         } else {
             end
         };
-        Ok(Delimiters { begin, end })
+        Delimiters::copied(alloc, begin, end)
     }
 }

@@ -270,7 +270,7 @@ impl State {
         ensures ok { OnOk result (self.new ≡ with_quotes self.old begin end) }
         ensures err { OnErr result (self.new ≡ self.old) }
     {
-        self.quotes = Delimiters::chosen_quotes(self.alloc, begin, end)?;
+        self.quotes = Delimiters::chosen_quotes(self.alloc, begin.as_slice(), end.as_slice())?;
         Ok(())
     }
 
@@ -280,7 +280,7 @@ impl State {
         ensures ok { OnOk result (self.new ≡ with_comments self.old begin end) }
         ensures err { OnErr result (self.new ≡ self.old) }
     {
-        self.comments = Delimiters::chosen_comments(self.alloc, begin, end)?;
+        self.comments = Delimiters::chosen_comments(self.alloc, begin.as_slice(), end.as_slice())?;
         Ok(())
     }
 

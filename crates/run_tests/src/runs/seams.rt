@@ -92,6 +92,78 @@ static RESULTS: [Row; 4] = [
     ),
 ];
 
+// Results that are put before the bytes that come next, and those that are too long for it.
+static LONG_RESULTS: [Row; 4] = [
+    (
+        "short results in a text of more than 128 bytes, whose end is a part of a name",
+        "define(`s',`a')define(`ab',`yes')define(`long',`ten words of a text that is longer than all that i\
+         s put before other text, since it has more than a hundred and twenty-eight bytes in all, s()b s()'\
+         )dnl\nlong()b\nlong()s()b s()long()\n",
+        "ten words of a text that is longer than all that is put before other text, since it has more than \
+         a hundred and twenty-eight bytes in all, yes yes\nten words of a text that is longer than all that\
+         \x20is put before other text, since it has more than a hundred and twenty-eight bytes in all, yes \
+         as()b along()\n",
+        "",
+        DONE,
+    ),
+    (
+        "a text of more than 128 bytes without a dollar, whose end is a part of a name",
+        "define(`t',`ten words of a text that is longer than all that is put before other text, since it ha\
+         s more than a hundred and twenty-eight bytes in all, ab')define(`abc',`yes')define(`e',`')dnl\nt()\
+         c t()e()c\n",
+        "ten words of a text that is longer than all that is put before other text, since it has more than \
+         a hundred and twenty-eight bytes in all, yes ten words of a text that is longer than all that is p\
+         ut before other text, since it has more than a hundred and twenty-eight bytes in all, abe()c\n",
+        "",
+        DONE,
+    ),
+    (
+        "results of 31 to 128 bytes, with newlines and calls, one in another",
+        "define(`m',`[a text of some forty bytes: $1]\n')define(`w',`m(`m($1)')m($1) of it ')dnl\nw(x)__lin\
+         e__ m(m(m()))__line__\n",
+        "[a text of some forty bytes: [a text of some forty bytes: x]\n]\n[a text of some forty bytes: x]\n\
+         \x20of it 3 [a text of some forty bytes: [a text of some forty bytes: [a text of some forty bytes:\
+         \x20]\n]\n]\n3\n",
+        "",
+        DONE,
+    ),
+    (
+        "a long result between two short ones, with a list across all",
+        "define(`o',`f(')define(`l',`ten words of a text that is longer than all that is put before other t\
+         ext, since it has more than a hundred and twenty-eight bytes in all, ')define(`e',`)')define(`f',`\
+         <$1>')dnl\no()l()e() f(l()`'l())f\n",
+        "<ten words of a text that is longer than all that is put before other text> <ten words of a text t\
+         hat is longer than all that is put before other text><>\n",
+        "",
+        DONE,
+    ),
+];
+
+// Spaces after words, with which delimiters begin or end.
+static SPACES: [Row; 3] = [
+    (
+        "spaces with which a comment begins",
+        "define(`b',`X')changecom(` ',`;')dnl\na b;b,a b;b\n",
+        "a b;X,a b;X\n",
+        "",
+        DONE,
+    ),
+    (
+        "spaces with which a string begins",
+        "define(`b',`X')changequote(` ',`;')a b;b,a b;b\n",
+        "abX,abX\n",
+        "",
+        DONE,
+    ),
+    (
+        "spaces with which a string ends",
+        "define(`b',`X')changequote(`[',` ')dnl\na [b b,[b c [b [b  b\n",
+        "a bX,bc bb X\n",
+        "",
+        DONE,
+    ),
+];
+
 static ARGUMENTS: [Row; 5] = [
     (
         "an argument of several texts",
@@ -174,6 +246,16 @@ fn tokens_across_texts(rt: HostRuntime) {
 #[test]
 fn results_before_other_text(rt: HostRuntime) {
     compare(&rt, &RESULTS);
+}
+
+#[test]
+fn long_results_before_other_text(rt: HostRuntime) {
+    compare(&rt, &LONG_RESULTS);
+}
+
+#[test]
+fn delimiters_with_spaces(rt: HostRuntime) {
+    compare(&rt, &SPACES);
 }
 
 #[test]

@@ -21,7 +21,7 @@ returns-in-Ok-take-clause-gives g c =
       small,
       ap (nat_lt 0) (sym lx),
       (λ e. let z : c.in-Ok-take.n ≡ 0 = sym lx ∙ ap length e in c.in-Ok-take.ensures.end (ap Ok z)),
-      ap (λ (y : List ℕ). split_at f.pushed (drop c.in-Ok.at y) f.newlines) c.append_in_room.ensures
+      ap (λ (y : List ℕ). split_at f.pushed (drop c.in-Ok.at y) f.newlines) c.append_in_room.ensures.items
           ∙ ap (λ (y : List ℕ). split_at f.pushed y f.newlines) (drop-append-le c.in-Ok.at b1 x within ∙ ap (λ (y : List ℕ). y ++ x) same)
           ∙ block_added f.pushed f.newlines (left_in f) x c.self.invariant.1
           ∙ ap (λ (t : HeldText). let u : HeldText = record t { unread = t.unread ++ x } in u) c.self.view_is,
