@@ -59,7 +59,7 @@ pub fn run<R: ByteSource, O: ByteSink, M: ByteSink, Z: ByteSink>(
     ran.ending
 }
 
-/// The end of a run, and what is left of it.
+/// The ending of a run, and its session.
 #[doc(hidden)]
 #[derive(Drop)]
 pub struct Ran {
@@ -125,9 +125,9 @@ fn begin<R: ByteSource, O: ByteSink>(
     frozen: &mut Option<R>,
     out: &mut O,
 ) -> Result<Session, Stop>
-    ensures begins { (file : Option Script) → DescribesFrozen R.script frozen.old file
+    ensures gives { (file : Option Script) → DescribesFrozen R.script frozen.old file
         → BeginGives (start_of options.prefix file) options (O.contents out.old) (O.contents out.new) result }
-    ensures begun { Begins options (O.contents out.old) (O.contents out.new) result }
+    ensures begins { Begins options (O.contents out.old) (O.contents out.new) result }
     ensures fails { BeginFails R.failures result frozen.old frozen.new
         × MessageWriteFails result (O.failures out.old) (O.failures out.new) }
 {
