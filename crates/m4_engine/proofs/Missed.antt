@@ -13,12 +13,12 @@ use Rattle.m4_engine.specs.declared.stop.Stop.{Stop}
 use Rattle.m4_engine.specs.declared.stop.Stop.TheVariants as stops
 use Rattle.m4_engine.specs.Expansion.{Ends}
 use Rattle.m4_engine.specs.Run.{status_of}
-use Rattle.m4_engine.specs.RunSources.{MissedBy, any_unopened, is_unopened}
+use Rattle.m4_engine.specs.RunSources.{MissedBy, MissedIn, any_unopened, is_unopened}
 use Rattle.m4_engine.specs.Session.{IsBegun, IsLeft, MissingGives, SessionState, how_by, status_at}
 use Rattle.m4_engine.specs.WholeRun.{ending_by}
 use Rattle.m4_engine.proofs.Reading.{rest_kept}
 use Rattle.m4_engine.proofs.Readers.{or_turn}
-use Rattle.m4_engine.proofs.Whole.{left_over}
+use Rattle.m4_engine.proofs.Whole.{StatusIs, left_over}
 
 or_none : (b : Bool) → (b || false) ≡ b
 or_none true = refl
@@ -122,3 +122,16 @@ left_exited xs ys new (Err (stops.Ended cause)) d code l j c h =
       ap (λ (y : Ending). y.status) j ∙ ap (λ (o : Option Cause). status_of (how_by o) new.any_missing) (left_over new cause l ∙ ap (λ (z : Cause). Some z) k),
       h (ap (λ (z : Cause). Err (stops.Ended z)) k),
     )
+
+-- the status of a run, by its cause and by the sources that count
+status_by : {R : Type 0} (xs ys : List (RunSource R)) (d : Ending) (cause : Cause) → d.cause ≡ cause → StatusIs (any_unopened xs) d
+    → ((code : ℕ) → d.cause ≡ causes.Exited code → ExitedWith code xs ys d)
+    → (any_missing : Bool) × (d.status ≡ status_of (Ends cause) any_missing) × MissedIn cause xs ys any_missing
+status_by xs ys d causes.Done e s x = (s.0, s.1 ∙ ap (λ (z : Cause). status_of (Ends z) s.0) e, s.2 e)
+status_by xs ys d (causes.Exited code) e s x = x code e
+status_by xs ys d cause e s x = (s.0, s.1 ∙ ap (λ (z : Cause). status_of (Ends z) s.0) e, tt)
+
+pub status_so : {R : Type 0} (xs ys : List (RunSource R)) (d : Ending) → StatusIs (any_unopened xs) d
+    → ((code : ℕ) → d.cause ≡ causes.Exited code → ExitedWith code xs ys d)
+    → (any_missing : Bool) × (d.status ≡ status_of (Ends d.cause) any_missing) × MissedIn d.cause xs ys any_missing
+status_so xs ys d s x = status_by xs ys d d.cause refl s x

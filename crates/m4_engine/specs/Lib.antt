@@ -24,7 +24,6 @@ pub mod Writers
 pub mod Expands
 pub mod Continued
 pub mod ReadsOn
-pub mod RunKept
 pub mod RunSources
 pub mod Session
 pub mod Order
@@ -33,3 +32,5 @@ pub mod SessionView
 pub mod WholeRun
 pub mod OnePass
 pub mod SourcesRead
+pub mod RunSteps
+pub mod RunPromises

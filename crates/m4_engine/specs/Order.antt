@@ -49,7 +49,7 @@ pub record IsTurnOfRound (limits : Limits) (p : Progress) (before later : RunSoF
       (expansion_of limits (record p.so_far { saved = [] }) (wrapped_pending (joined_back (p.so_far).saved)))
       before later
 
--- a turn of the round that comes after so many others
+-- a turn of the round after n others
 abbrev pub InRounds : ℕ → Limits → Progress → RunSoFar → RunSoFar → Type 0
 InRounds zero limits p before later = IsTurnOfRound limits p before later
 InRounds (suc n) limits p before later =

@@ -1,7 +1,7 @@
 -- RunSources: the definitions' sources for those of a run, by the bytes that their readers deliver.
 -- Believed. Manual: "Command line files". Words: whole, source_of, ExtendsRead, ExtendsSource, DescribeSources,
--- any_unopened, MissedBefore, MissedBy, AllPairs, AnyFailed, is_sound, ReadersFailBy, AllConsumeOnly, DescribesFrozen,
--- FrozenFailsBy.
+-- any_unopened, MissedBefore, MissedBy, MissedIn, AllPairs, AnyFailed, is_sound, ReadersFailBy, AllConsumeOnly,
+-- DescribesFrozen, FrozenFailsBy.
 use Rattle.std.specs.Prelude.{◌≡◌, ℕ, Bool, true, false, List, [], ◌∷◌, ◌++◌, map, Option, Some, None, ◌⊎◌, ◌||◌}
 use Rattle.m4_state.specs.Device.{Script, after_bytes, one_more, IsAtFault}
 use Rattle.m4_frozen.specs.declared.fault.FrozenKind.TheVariants as kinds
@@ -94,6 +94,12 @@ pub record MissedBefore {R : Type 0} (before after : List (RunSource R)) (any_mi
 abbrev pub MissedBy : {R : Type 0} → List (RunSource R) → List (RunSource R) → Bool → Type 0
 MissedBy before after any_missing =
     MissedBefore before after any_missing ⊎ (any_missing ≡ any_unopened before)
+
+-- by the cause: of a run that read everything all sources count, after `m4exit` those before the one that called it
+abbrev pub MissedIn : {R : Type 0} → Cause → List (RunSource R) → List (RunSource R) → Bool → Type 0
+MissedIn causes.Done before after any_missing = any_missing ≡ any_unopened before
+MissedIn (causes.Exited code) before after any_missing = MissedBy before after any_missing
+MissedIn cause before after any_missing = Unit {0}
 
 -- P relates the elements at each position of two lists, which are equally long
 abbrev pub AllPairs : {A : Type 0} → (A → A → Type 0) → List A → List A → Type 0

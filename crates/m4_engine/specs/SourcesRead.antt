@@ -1,7 +1,7 @@
 -- SourcesRead: how far each step of a run has read its sources.
 -- Not believed: it connects a session's calls with `OnePass`.
--- Words: EndsWithin, SourceGives, SourcesGive, RunReached.
-use Rattle.std.specs.Prelude.{◌≡◌, ℕ, Bool, List, Option, Some, Result, Ok, Err}
+-- Words: EndsWithin, SourceGives, SourcesGive, RunReached, ReadsSource, ReadsSources, ReadsToEnd.
+use Rattle.std.specs.Prelude.{◌≡◌, ◌≢◌, ℕ, Bool, List, [], Option, Some, Result, Ok, Err}
 use Rattle.m4_state.specs.Device.{Script}
 use Rattle.m4_engine.specs.declared.ending.Cause.{Cause}
 use Rattle.m4_engine.specs.declared.ending.Cause.TheVariants as causes
@@ -10,9 +10,10 @@ use Rattle.m4_engine.specs.declared.stop.Stop.TheVariants as stops
 use Rattle.m4_engine.specs.declared.source.Source.{Source as RunSource}
 use Rattle.m4_engine.specs.Expansion.{Ends}
 use Rattle.m4_engine.specs.File.{Source, Opened, after_source, after_sources}
-use Rattle.m4_engine.specs.RunSources.{script_of}
+use Rattle.m4_engine.specs.RunSources.{script_of, ConsumesOnly, AllConsumeOnly}
 use Rattle.m4_engine.specs.Settled.{settled_in}
 use Rattle.m4_engine.specs.Session.{SessionState, progress_of, Completed}
+use Rattle.m4_engine.specs.SessionFailures.{SourceFails, SourcesFail}
 use Rattle.m4_engine.specs.Writers.{Contents}
 use Rattle.m4_engine.specs.OnePass.{IsRead, IsCurrent, AreRead, AskedAt, EndedBy, Reached, IsPast}
 
@@ -57,3 +58,24 @@ RunReached script before after old w (Err (stops.Ended causes.Done)) = ⊥
 RunReached script before after old w (Err (stops.Ended (causes.Frozen fault))) = ⊥
 RunReached script before after old w (Err (stops.Ended cause)) =
     Reached script before after old.limits (progress_of old) cause w
+
+-- a source is read: how far, whether its reader failed, and that nothing but bytes was taken of it
+pub record ReadsSource {R : Type 0} (script : R → Option Script) (failures : R → ℕ) (before after : RunSource R)
+    (old new : SessionState) (w : Contents) (r : Result Unit Stop) : Type 0 where
+  pub reached : SourceGives script before after old new w r
+  pub failed : SourceFails script failures r before after
+  pub taken : ConsumesOnly script before after
+
+-- the same of all sources, in order
+pub record ReadsSources {R : Type 0} (script : R → Option Script) (failures : R → ℕ) (before after : List (RunSource R))
+    (old new : SessionState) (w : Contents) (r : Result Unit Stop) : Type 0 where
+  pub reached : SourcesGive script before after old new w r
+  pub failed : SourcesFail script failures r before after
+  pub taken : AllConsumeOnly script before after
+
+-- the same of a run from its sources to its end
+pub record ReadsToEnd {R : Type 0} (script : R → Option Script) (failures : R → ℕ) (before after : List (RunSource R))
+    (old : SessionState) (w : Contents) (r : Result Bool Stop) : Type 0 where
+  pub reached : before ≢ [] → RunReached script before after old w r
+  pub failed : SourcesFail script failures r before after
+  pub taken : AllConsumeOnly script before after

@@ -2,7 +2,7 @@
 
 use crate::ending::Cause;
 
-/// What an expansion needs more bytes for.
+/// The purpose for which an expansion needs more bytes.
 #[derive(Clone, Copy)]
 pub enum Wanted {
     /// The next token, or whether a list follows a name.

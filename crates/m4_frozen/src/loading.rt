@@ -34,7 +34,7 @@ pub struct Loaded {
     pub issued: Bytes,
 }
 
-// Written out, so that a caller's proof sees one call and not the drop of each field.
+// Written out so that a caller's proof contains one call, not the drop of each field.
 impl Drop for Loaded {
     fn drop(self) {
         let Loaded {
@@ -66,7 +66,7 @@ pub(crate) struct Loading {
     begun: Option<Begun>,
 }
 
-// Written out, so that a caller's proof sees one call and not the drop of each field.
+// Written out so that a caller's proof contains one call, not the drop of each field.
 impl Drop for Loading {
     fn drop(self) {
         let Loading {

@@ -115,7 +115,7 @@ fn few_digits(bytes: &[u8]) -> Option<(u64, &[u8])>
     }
 }
 
-/// The same with blanks before it, or with any number of digits.
+/// Reads a length of any number of digits, with blanks before it or none; returns it and the bytes after it.
 #[inline(never)]
 #[tactic(auto, unfolding(crate::specs::ReaderSteps::length_at))]
 fn any_length(bytes: &[u8]) -> Result<(u64, &[u8]), Refusal>

@@ -58,7 +58,7 @@ fn count_newlines(bytes: &[u8]) -> usize
 /// bytes.
 const COUNTED_AT_ONCE: usize = 255;
 
-/// The same for any number of bytes. Not inlined, so that the loop has the registers for itself.
+/// Counts the newlines of any number of bytes. Not inlined, so that the loop has the registers for itself.
 #[inline(never)]
 fn count_each_newline(bytes: &[u8]) -> usize
     ensures { result ≡ newlines_in bytes.now }
@@ -73,7 +73,7 @@ fn count_each_newline(bytes: &[u8]) -> usize
     count + usize::from(count_few(rest))
 }
 
-/// The same for at most 255 bytes, whose newlines one byte can count.
+/// Counts the newlines of at most 255 bytes, so that one byte can hold the count.
 #[inline(always)]
 fn count_few(bytes: &[u8]) -> u8
     requires { length bytes.now ≤ 255 }

@@ -101,7 +101,7 @@ pub fn find(text: &[u8], delimiter: &[u8]) -> Option<usize>
     }
 }
 
-/// The same by a comparison at each byte.
+/// Counts the bytes before the first such delimiter, by a comparison at each byte.
 fn find_long(text: &[u8], delimiter: &[u8]) -> Option<usize>
     ensures value { result ≡ before delimiter.now text.now }
     ensures within { IfSome result (λ n. n + length delimiter.now ≤ length text.now) }

@@ -52,7 +52,7 @@ impl Model for State {
     ghost invariant = { λ s. IsState (view_of s) × IsSized (view_of s) };
 }
 
-// Written out, so that a caller's proof sees one call and not the drop of each field.
+// Written out so that a caller's proof contains one call, not the drop of each field.
 impl Drop for State {
     fn drop(self) {
         let State {
@@ -143,7 +143,7 @@ impl State {
         self.top_in_table(name)
     }
 
-    /// The same by a look into the table.
+    /// Returns the top definition of a name, by a look into the table.
     #[inline(never)]
     fn top_in_table(&self, name: &[u8]) -> Option<&Def>
         ensures top { option_copied result ≡ top_of self.now name.now }
@@ -183,7 +183,7 @@ impl State {
         self.push_borrowed(name.as_slice(), def)
     }
 
-    /// The same with a borrowed name, which is copied only if it is new: a name of the input needs no copy first.
+    /// Pushes a definition on those of a borrowed name. The name is copied only if it is new.
     #[doc(hidden)]
     pub fn push_borrowed(&mut self, name: &[u8], def: Def) -> Result<(), StateFault>
         requires { IsDefinition def }
@@ -194,8 +194,8 @@ impl State {
         Ok(())
     }
 
-    /// The same with the copy of a text: the bytes before `middle` are the name, those from there on the text. A
-    /// directive has both in one slice.
+    /// Pushes a copy of a text on the definitions of a name: the bytes before `middle` are the name, those from there
+    /// on the text. A directive has both in one slice.
     #[doc(hidden)]
     pub fn push_text(&mut self, bytes: &[u8], middle: usize) -> Result<(), StateFault>
         requires { middle ≤ length bytes.now }
@@ -217,7 +217,7 @@ impl State {
         self.define_borrowed(name.as_slice(), def)
     }
 
-    /// The same with a borrowed name, which is copied only if it is new.
+    /// Replaces the top definition of a borrowed name, or adds the first one. The name is copied only if it is new.
     #[doc(hidden)]
     pub fn define_borrowed(&mut self, name: &[u8], def: Def) -> Result<(), StateFault>
         requires { IsDefinition def }

@@ -125,7 +125,7 @@ impl<'a, R: Files + Alloc<A = Global>, I, W, E> StdWorld<'a, R, I, W, E> {
             }
             let _closed = self.spare.replace(None);
         }
-        if !may_open(self.rt, path) {
+        if !can_be_opened(self.rt, path) {
             return None;
         }
         let alloc = self.rt.alloc();
@@ -155,7 +155,7 @@ fn open_file<R: Files>(rt: &R, path: &str) -> io::Result<<R as Files>::File> {
 
 /// Returns whether a file can be opened later. Only a regular file is opened to find out: if another one, such as a
 /// pipe, is closed again, its writer may fail.
-fn may_open<R: Files>(rt: &R, path: &str) -> bool {
+fn can_be_opened<R: Files>(rt: &R, path: &str) -> bool {
     match fs::metadata(rt, path) {
         Ok(data) if data.is_file() => match open_file(rt, path) {
             Ok(_file) => true,

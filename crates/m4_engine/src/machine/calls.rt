@@ -200,7 +200,7 @@ impl Machine {
         self.call_any(call, input)
     }
 
-    /// The same. A text's expansion has the memory of the effect.
+    /// Makes a call whose arguments are complete. A text's expansion has the memory of the effect.
     #[inline(always)]
     fn call_any(&mut self, call: OpenCall, input: &mut Input) -> Result<Turned, TurnFault>
         requires { IsTaken input.old }

@@ -94,7 +94,7 @@ impl Machine {
         }
     }
 
-    /// The same outside of calls, where text goes to the output.
+    /// Passes at most one token outside of calls, where text goes to the output.
     #[inline(always)]
     fn pass_output(
         &mut self,
@@ -162,8 +162,8 @@ impl Machine {
         Ok((0, lookahead))
     }
 
-    /// The same as `pass_output` where text goes to a diversion or is dropped. The token after the plain ones is looked
-    /// at again, since the text is added to the state first, of which that look borrowed.
+    /// Passes tokens outside of calls, where text goes to a diversion or is dropped. The token after the plain ones is
+    /// looked at again, since the text is added to the state first, of which that look borrowed.
     #[inline(never)]
     fn pass_diverted(
         &mut self,
@@ -182,7 +182,7 @@ impl Machine {
         Ok((len + token, lookahead))
     }
 
-    /// The same in a list: the tokens are collected into the innermost call.
+    /// Passes tokens in a list: they are collected into the innermost call.
     #[inline(always)]
     fn pass_inner(
         &mut self,

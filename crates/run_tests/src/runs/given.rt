@@ -113,7 +113,7 @@ pub struct Seen {
     pub ending: Ending,
 }
 
-// Written out, so that a caller's proof sees one call and not the drop of each field.
+// Written out so that a caller's proof contains one call, not the drop of each field.
 impl Drop for Seen {
     fn drop(self) {
         let Seen {

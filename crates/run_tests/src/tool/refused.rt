@@ -31,7 +31,7 @@ struct Left {
     status: u8,
 }
 
-// Written out, so that a caller's proof sees one call and not the drop of each field.
+// Written out so that a caller's proof contains one call, not the drop of each field.
 impl Drop for Left {
     fn drop(self) {
         let Left {

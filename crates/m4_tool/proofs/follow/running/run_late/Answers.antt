@@ -33,4 +33,4 @@ returns-clause-torn g c = λ whole files input names script ss n t e cause.
 pub returns-clause-read : goal.returns-clause-read
 returns-clause-read g c = λ files input names n e.
     run_fails g.W.Reader.ByteSource.script g.W.Reader.ByteSource.failures files input names c.args.sources.now c.run_keeping-ran.new.sources
-    c.run_keeping-ran.result.ending.cause n c.run_keeping-ran.ensures.taken c.run_keeping-ran.ensures.read e
+    c.run_keeping-ran.result.ending.cause n c.run_keeping-ran.ensures.taken c.run_keeping-ran.ensures.read.0 e

@@ -1,0 +1,83 @@
+-- RunPromises: what a run promises, by its readers, its writers and its ending; a field for each promise.
+-- Believed. Manual: "Invoking m4", "Command line files", "Fast loading of frozen state".
+-- Words: RunCall, ForInputs, IsRun.
+use Rattle.std.specs.Prelude.{◌≡◌, ℕ, Bool, true, false, List, Option}
+use Rattle.m4_state.specs.Device.{Script}
+use Rattle.m4_state.specs.State.{IsSized}
+use Rattle.m4_frozen.specs.declared.fault.FrozenFault.{FrozenFault}
+use Rattle.m4_engine.specs.declared.ending.Cause.TheVariants as causes
+use Rattle.m4_engine.specs.declared.ending.Ending.{Ending}
+use Rattle.m4_engine.specs.declared.options.Options.{Options}
+use Rattle.m4_engine.specs.declared.source.Source.{Source as RunSource}
+use Rattle.m4_engine.specs.Carries.{frozen_state}
+use Rattle.m4_engine.specs.Expansion.{Ends}
+use Rattle.m4_engine.specs.File.{Source}
+use Rattle.m4_engine.specs.OnePass.{OnePass}
+use Rattle.m4_engine.specs.Order.{InOrderBy}
+use Rattle.m4_engine.specs.Run.{run, status_of}
+use Rattle.m4_engine.specs.RunSources.{AllConsumeOnly, DescribeSources, DescribesFrozen, FrozenFailsBy, MissedIn}
+use Rattle.m4_engine.specs.RunSources.{ReadersFailBy}
+use Rattle.m4_engine.specs.Session.{FreezeLeaves}
+use Rattle.m4_engine.specs.Start.{start_of}
+use Rattle.m4_engine.specs.WholeRun.{NothingIsDone, RunGives}
+use Rattle.m4_engine.specs.Writers.{Spares, Three, ThreeFailBy}
+
+-- a run's options, its readers before it and after it, the bytes and the failures of its three writers, and the writer
+-- of the frozen text before it and after it
+pub record RunCall (R Z : Type 0) : Type 0 where
+  pub options : Options
+  pub file_old : Option R
+  pub file_new : Option R
+  pub sources_old : List (RunSource R)
+  pub sources_new : List (RunSource R)
+  pub contents : Three (Option (List ℕ))
+  pub failures : Three ℕ
+  pub freeze_old : Z
+  pub freeze_new : Z
+
+-- P is so of the frozen file and of the sources of a run: of those with the readers' bytes, and of any sources that
+-- start with the bytes that were read
+abbrev pub ForInputs : {R Z : Type 0} → (R → Option Script) → RunCall R Z → (Option Script → List Source → Type 0)
+    → Type 0
+ForInputs script c P =
+    (file : Option Script) → DescribesFrozen script c.file_old file
+    → (ss : List Source) → DescribeSources script c.sources_old c.sources_new ss → P file ss
+
+-- the promises of a run, by the bytes and the failures of its readers, and by whether each put of the frozen text is
+-- taken whole or not at all
+pub record IsRun {R Z : Type 0} (script : R → Option Script) (failures : R → ℕ) (takes_whole : Bool) (c : RunCall R Z)
+    (e : Ending) : Type 0 where
+  -- whole run: the bytes written and the ending are those of the definition of a run
+  pub gives : ForInputs script c (λ file ss. RunGives (run c.options file ss) e c.contents)
+  -- whole run: the status of its cause, where 0 becomes 1 if a source wasn't opened; after `m4exit` those sources count
+  -- that came before the one that called it
+  pub status : (any_missing : Bool) × (e.status ≡ status_of (Ends e.cause) any_missing)
+      × MissedIn e.cause c.sources_old c.sources_new any_missing
+  -- whole run: a frozen state is sized
+  pub sized : ForInputs script c (λ file ss. e.cause ≡ causes.Done → (c.options).freeze ≡ true
+      → IsSized (frozen_state c.options (start_of (c.options).prefix file) ss))
+  -- torn files: if each put of the frozen text is taken whole, a write fault leaves nothing of it, or a torn beginning
+  pub torn : takes_whole ≡ true → ForInputs script c (λ file ss. e.cause ≡ causes.Write
+      → FreezeLeaves (frozen_state c.options (start_of (c.options).prefix file) ss) (c.contents).frozen_old
+      (c.contents).frozen_new)
+  -- safe and total: a read fault is reported if a reader failed in this call, after all its bytes, and only then; a read
+  -- fault of a frozen file only if its reader failed in this call
+  pub read : ReadersFailBy script failures e.cause c.sources_old c.sources_new
+      × FrozenFailsBy failures e.cause c.file_old c.file_new
+  -- safe and total: a write fault is reported only if a writer failed in this call
+  pub write : ThreeFailBy e.cause c.failures c.contents
+  -- whole run: each reader delivered a prefix of its known bytes
+  pub taken : AllConsumeOnly script c.sources_old c.sources_new
+  -- one pass: the sources are read in order, each only as far as the bytes in hand leave the run open; all that these
+  -- settle is written before further bytes are asked for
+  pub one_pass : (file : Option Script) → DescribesFrozen script c.file_old file
+      → OnePass script c.sources_old c.sources_new c.options (start_of (c.options).prefix file) e.cause (c.contents).two
+  -- in order: where a writer or an allocation breaks the run off, a message was written only if all output was that the
+  -- run had made before it
+  pub order : ForInputs script c (λ file ss. InOrderBy e.cause c.options (start_of (c.options).prefix file) ss
+      (c.contents).two)
+  -- faults leave beginnings: if a frozen file is refused, no source is read and nothing is written
+  pub refused : (fault : FrozenFault) → e.cause ≡ causes.Frozen fault
+      → NothingIsDone c.sources_old c.sources_new c.contents
+  -- whole run: only a run that freezes, and reached its end, uses the writer of the frozen text
+  pub spared : ((c.options).freeze ≡ false → c.freeze_new ≡ c.freeze_old) × Spares e.cause c.contents

@@ -1,0 +1,76 @@
+-- RunSteps: what the steps of a run write, and what they leave of its session and its writers.
+-- Not believed: it connects a session's calls with `RunPromises`.
+-- Words: Begins, WritesInOrder, WritesEnd, WritesToEnd, state_at_end, FreezesState, UsesWriters, MarksUnopened,
+-- MarksAnyUnopened.
+use Rattle.std.specs.Prelude.{◌≡◌, ℕ, Bool, true, false, List, Option, Result, Err, OnOk, ◌||◌}
+use Rattle.m4_state.specs.State.{State, IsSized}
+use Rattle.m4_frozen.specs.declared.fault.FrozenFault.{FrozenFault}
+use Rattle.m4_engine.specs.declared.ending.Cause.TheVariants as causes
+use Rattle.m4_engine.specs.declared.options.Options.{Options}
+use Rattle.m4_engine.specs.declared.stop.Stop.{Stop}
+use Rattle.m4_engine.specs.declared.stop.Stop.TheVariants as stops
+use Rattle.m4_engine.specs.declared.source.Source.{Source as RunSource}
+use Rattle.m4_engine.specs.Expansion.{RunSoFar}
+use Rattle.m4_engine.specs.File.{Source, Progress, after_sources}
+use Rattle.m4_engine.specs.Wraps.{after_wraps}
+use Rattle.m4_engine.specs.Order.{InEnd, IsStepOfRun, Breaks, BreaksBy}
+use Rattle.m4_engine.specs.RunSources.{MissedBy, any_unopened, is_unopened}
+use Rattle.m4_engine.specs.Session.{SessionState, IsBegun, GoesTo, CloseGives, FreezeLeaves, progress_of, status_at}
+use Rattle.m4_engine.specs.SessionFailures.{ThreeFail, SparesBy}
+use Rattle.m4_engine.specs.WholeRun.{RunGives, result_after, ending_by}
+use Rattle.m4_engine.specs.Writers.{Contents, Three}
+
+-- a run begins from some state, or ends; if its frozen file is refused, nothing was written
+pub record Begins (o : Options) (out_old out_new : Option (List ℕ)) (r : Result SessionState Stop) : Type 0 where
+  pub begun : IsBegun o r
+  pub refused : (fault : FrozenFault) → r ≡ Err (stops.Ended (causes.Frozen fault)) → out_new ≡ out_old
+
+-- a session goes to this progress and writes its output and messages; if it is broken off, one of these steps shows in
+-- which order
+pub record WritesInOrder (p : Progress) (IsStep : Progress → RunSoFar → RunSoFar → Type 0) (old new : SessionState)
+    (w : Contents) (r : Result Unit Stop) : Type 0 where
+  pub goes : GoesTo p old new w r
+  pub order : BreaksBy r (Breaks IsStep (progress_of old) w)
+
+-- the same of the end of a run
+pub record WritesEnd (freezes : Bool) (old new : SessionState) (w : Three (Option (List ℕ))) (r : Result Unit Stop)
+    : Type 0 where
+  pub gives : CloseGives freezes old new w r
+  pub order : BreaksBy r (Breaks (InEnd old.limits) (progress_of old) w.two)
+
+-- the same of these sources and of the end after them
+pub record WritesToEnd (freezes : Bool) (ss : List Source) (old new : SessionState) (w : Three (Option (List ℕ)))
+    (r : Result Bool Stop) : Type 0 where
+  pub gives : RunGives (result_after freezes old.limits ss (after_sources old.limits ss (progress_of old)))
+      (ending_by (status_at new) r) w
+  pub order : BreaksBy r (Breaks (IsStepOfRun old.limits ss) (progress_of old) w.two)
+
+-- the state of a run after these sources and the texts that they saved
+abbrev pub state_at_end : SessionState → List Source → State
+state_at_end old ss = ((after_wraps old.limits (after_sources old.limits ss (progress_of old))).so_far).state
+
+-- a run freezes this state, which is sized; if each put is taken whole, a write fault leaves nothing of its text, or a
+-- torn beginning
+pub record FreezesState (takes_whole freezes : Bool) (s : State) (frozen_old frozen_new : Option (List ℕ))
+    (r : Result Bool Stop) : Type 0 where
+  pub sized : OnOk r (freezes ≡ true → IsSized s)
+  pub torn : takes_whole ≡ true → r ≡ Err (stops.Ended causes.Write) → FreezeLeaves s frozen_old frozen_new
+
+-- a writer failed if the call ends by a write fault; the writer of the frozen text is used only by a run that freezes,
+-- and not if another fault ends it
+pub record UsesWriters {A Z : Type 0} (freezes : Bool) (old new : Z) (f : Three ℕ) (w : Three (Option (List ℕ)))
+    (r : Result A Stop) : Type 0 where
+  pub failed : ThreeFail r f w
+  pub spared : freezes ≡ false → new ≡ old
+  pub spared_by : SparesBy r w
+
+-- a source was read, and it is marked whether it or one before it wasn't opened; one that calls `m4exit` was opened
+pub record MarksUnopened {R : Type 0} (source : RunSource R) (old new : Bool) (r : Result Unit Stop) : Type 0 where
+  pub read : OnOk r (new ≡ (is_unopened source || old))
+  pub exited : (code : ℕ) → r ≡ Err (stops.Ended (causes.Exited code)) → (is_unopened source ≡ false) × (new ≡ old)
+
+-- the same of all sources; after `m4exit` those before the one that called it are marked
+pub record MarksAnyUnopened {A R : Type 0} (before after : List (RunSource R)) (old new : Bool) (r : Result A Stop)
+    : Type 0 where
+  pub read : OnOk r (new ≡ (any_unopened before || old))
+  pub exited : (code : ℕ) → r ≡ Err (stops.Ended (causes.Exited code)) → old ≡ false → MissedBy before after new
