@@ -34,26 +34,6 @@ use m4_state::device::ByteSource;
 use std::alloc::{AllocError, Global};
 use std::marker::Model;
 
-/// Returns whether a look decided no token.
-fn is_open(look: Look) -> bool
-    ensures { result ≡ false → (x : List ℕ) → scan_of look x ≡ NeedsMore → ⊥ }
-{
-    match look {
-        Look::NeedsMore => true,
-        _ => false,
-    }
-}
-
-/// Returns whether the answer is open.
-fn is_unknown(answer: Answer) -> bool
-    ensures { result ≡ false → answer ≡ Unknown → ⊥ }
-{
-    match answer {
-        Answer::Unknown => true,
-        _ => false,
-    }
-}
-
 /// A file or wrapped text that is being read, with the values that calls pushed before it.
 pub struct Input {
     alloc: Global,
@@ -475,12 +455,8 @@ impl Input {
         let mut looked = 0;
         'fronts: loop {
             let (text, others) = self.text.longer_front(looked, &mut copy)?;
-            if !others {
-                let look = first_token(text, delims, self.may_follow);
-                return copied(self.alloc, look, text);
-            }
-            let look = first_token(text, delims, true);
-            if !is_open(look) {
+            let look = first_token(text, delims, others | self.may_follow);
+            if !others || look != Look::NeedsMore {
                 return copied(self.alloc, look, text);
             }
             looked = text.len();
@@ -497,11 +473,8 @@ impl Input {
         let mut looked = 0;
         'fronts: loop {
             let (text, others) = self.text.longer_front(looked, &mut copy)?;
-            if !others {
-                return Ok(list_follows(text, delims, self.may_follow));
-            }
-            let answer = list_follows(text, delims, true);
-            if !is_unknown(answer) {
+            let answer = list_follows(text, delims, others | self.may_follow);
+            if !others || answer != Answer::Unknown {
                 return Ok(answer);
             }
             looked = text.len();
