@@ -72,7 +72,7 @@ impl Drop for Input {
 impl Input {
     ghost use Rattle.m4_input.specs.Input.{Held, IsLasting, unread_file, wrapped_text, with_pushed, all_read};
     ghost use Rattle.m4_input.specs.Input.{NextGives, ParenGives, SkipGives, failures_after};
-    ghost use Rattle.m4_input.specs.Blocks.{BlockGives, TokenGives, LooksAt, LineGives, IsInFront};
+    ghost use Rattle.m4_input.specs.Blocks.{BlockGives, TokenGives, LineGives, IsInFront};
     ghost use Rattle.m4_input.specs.Text.{LiesIn};
     ghost use Rattle.m4_input.specs.OpenToken.{IsOpenAt};
     ghost use Rattle.m4_input.specs.InputView.{fault_of};
@@ -285,15 +285,16 @@ impl Input {
             return Ok(Token::Definition(def));
         }
         'blocks: loop {
-            match self.look(delims)? {
-                Scan::Found(token, len) => {
+            match self.look(delims) {
+                Ok(Scan::Found(token, len)) => {
                     self.consume(len);
                     return Ok(token);
                 }
-                Scan::Broken(what) => return Err(self.end_inside(what)),
-                Scan::NeedsMore => {
+                Ok(Scan::Broken(what)) => return Err(self.end_inside(what)),
+                Ok(Scan::NeedsMore) => {
                     let _came = self.more(reader)?;
                 }
+                Err(AllocError) => return Err(self.stop(InputFault::OutOfMemory)),
             }
         }
     }
@@ -429,24 +430,10 @@ impl Input {
         self.definition.take()
     }
 
-    /// Returns the first token of the bytes in hand, without a definition that comes before them; `NeedsMore`
-    /// if bytes that may follow can change it. Consumes nothing. Returns `OutOfMemory` if an allocation fails;
-    /// so does each later call. Manual: "Lexical and syntactic conventions".
-    pub fn look(&mut self, delims: &Delims<'_>) -> Result<Scan, InputFault>
-        requires { self.old.fault ≡ None }
-        // exact steps: the first token of the bytes in hand
-        ensures gives { LooksAt (pair_of delims.now.quotes) (pair_of delims.now.comments)
-            self.old self.new result }
-        ensures within { IfOk result (λ found. LiesIn (length (text_of self.old.pending)) found) }
-    {
-        match self.look_in_front(delims) {
-            Ok(found) => Ok(found),
-            Err(AllocError) => Err(self.stop(InputFault::OutOfMemory)),
-        }
-    }
-
-    /// Returns the first token of the bytes in hand, by as many of them as decide it.
-    fn look_in_front(&self, delims: &Delims<'_>) -> Result<Scan, AllocError>
+    /// Returns the first token of the bytes in hand, without a definition that comes before them, by as many of them
+    /// as decide it; `NeedsMore` if bytes that may follow can change it. Consumes nothing. Returns `AllocError` if an
+    /// allocation fails. Manual: "Lexical and syntactic conventions".
+    pub fn look(&self, delims: &Delims<'_>) -> Result<Scan, AllocError>
         ensures value { IfOk result (λ s. s ≡ scan (pair_of delims.now.quotes) (pair_of delims.now.comments)
             self.now.pending.may_follow (text_of self.now.pending)) }
         ensures within { IfOk result (λ s. LiesIn (length (text_of self.now.pending)) s) }
