@@ -220,14 +220,14 @@ module _ (q c : Delimiters) (s a : Option Script) (old h : Held) (x : List ℕ) 
 
   pub token_found : (new : Held) (t : Token) (n : ℕ) → found ≡ Found t n → new ≡ record h { pending = consumed n h.pending } → NextGives q c s a old new (Ok t)
   token_found new t n e g = (
-        x,
-        h.pending,
-        r.reads,
-        ap (λ (o : Option Def). front_from o q c h.pending) plain ∙ ap (front_by h.pending) (sym look ∙ e) ∙ ap (λ (i : Held). Taken t i.pending) (sym g),
-        r.first,
-        ap (λ (i : Held). i.fault) g ∙ r.sound,
-        r.asks,
-      )
+    x,
+    h.pending,
+    r.reads,
+    ap (λ (o : Option Def). front_from o q c h.pending) plain ∙ ap (front_by h.pending) (sym look ∙ e) ∙ ap (λ (i : Held). Taken t i.pending) (sym g),
+    r.first,
+    ap (λ (i : Held). i.fault) g ∙ r.sound,
+    r.asks,
+  )
 
   pub token_more : (b : Option Script) (new : Held) (came : Bool) → found ≡ NeedsMore → BlockGives a b h new (Ok came) → (z : List ℕ) × HasAsked (wants_token q c) s b old new z new.pending × ((new.pending).definition ≡ None)
   token_more b new came e g =

@@ -26,6 +26,7 @@ pub enum StringSoFar {
 const NEAR: usize = 64;
 
 /// Follows a string through a text, before which `depth` nested strings are open: from quote to quote.
+#[inline(always)]
 fn follow_quoted(text: &[u8], depth: usize, begin: u8, end: u8) -> StringSoFar
     requires { depth + length text.now < 2 ^ 64 }
     ensures { (m : Bool) → IsStringSoFar (record { begin = begin ∷ []; end = end ∷ [] }) m depth text.now result }
@@ -88,6 +89,7 @@ fn first_far(one: u8, other: u8, text: &[u8]) -> Option<usize>
 }
 
 /// Follows a string through a text, before which `depth` nested strings are open.
+#[inline(always)]
 pub fn follow_string(text: &[u8], depth: usize, quotes: &Pair<'_>, may_follow: bool) -> StringSoFar
     requires begin { 0 < length quotes.now.0.now }
     requires small { depth + length text.now < 2 ^ 64 }
