@@ -13,10 +13,10 @@ use Rattle.m4_input.specs.declared.front.Scan.{Scan}
 use Rattle.m4_input.specs.declared.front.Scan.TheVariants.{Found, NeedsMore}
 use Rattle.m4_input.specs.declared.token.Token.{Token}
 use Rattle.m4_input.specs.Pending.{Pending, text_of, consumed}
-use Rattle.m4_input.specs.Token.{Taken, front_by, front_from}
+use Rattle.m4_input.specs.Token.{Taken, front_by, front_from, scan}
 use Rattle.m4_input.specs.Input.{Held, longer, all_read, after_line, Reads, Asks, wants_line, IsLasting, Stopped}
 use Rattle.m4_input.specs.Input.{StopAsks, wants_token, NextGives}
-use Rattle.m4_input.specs.Blocks.{BlockGives, LooksAt, LineGives}
+use Rattle.m4_input.specs.Blocks.{BlockGives, LineGives}
 use Rattle.m4_input.proofs.Calls.{reads_nothing, asks_nothing}
 use Rattle.m4_input.proofs.Decided.{scan_open, line_open, no_newline}
 use Rattle.m4_input.proofs.Lines.{line_after_block, rest_dropped}
@@ -211,41 +211,38 @@ stopped_before wants s h f e l = (
 )
 
 -- a look at the first token, and what follows it
-module _ (q c : Delimiters) (s a : Option Script) (old h k : Held) (x : List ℕ) (found : Scan) (r : HasAsked (wants_token q c) s a old h x h.pending) (plain : (h.pending).definition ≡ None) (look : LooksAt q c h k (Ok found)) where
+module _ (q c : Delimiters) (s a : Option Script) (old h : Held) (x : List ℕ) (found : Scan) (r : HasAsked (wants_token q c) s a old h x h.pending) (plain : (h.pending).definition ≡ None) (look : found ≡ scan q c (h.pending).may_follow (text_of h.pending)) where
   pub token_open : found ≡ NeedsMore → (h.pending).may_follow ≡ true
-  token_open e = scan_open q c (h.pending).may_follow (text_of h.pending) (look.1 ∙ e)
+  token_open e = scan_open q c (h.pending).may_follow (text_of h.pending) (sym look ∙ e)
 
   token_wanted : found ≡ NeedsMore → wants_token q c h.pending
-  token_wanted e = ap (λ (o : Option Def). front_from o q c h.pending) plain ∙ ap (front_by h.pending) (look.1 ∙ e)
+  token_wanted e = ap (λ (o : Option Def). front_from o q c h.pending) plain ∙ ap (front_by h.pending) (sym look ∙ e)
 
-  pub token_found : (new : Held) (t : Token) (n : ℕ) → found ≡ Found t n → new ≡ record k { pending = consumed n k.pending } → NextGives q c s a old new (Ok t)
-  token_found new t n e f =
-      let g : new ≡ record h { pending = consumed n h.pending } = f ∙ ap (λ (i : Held). record i { pending = consumed n i.pending }) look.0 in (
-        x,
-        h.pending,
-        r.reads,
-        ap (λ (o : Option Def). front_from o q c h.pending) plain ∙ ap (front_by h.pending) (look.1 ∙ e) ∙ ap (λ (i : Held). Taken t i.pending) (sym g),
-        r.first,
-        ap (λ (i : Held). i.fault) g ∙ r.sound,
-        r.asks,
-      )
+  pub token_found : (new : Held) (t : Token) (n : ℕ) → found ≡ Found t n → new ≡ record h { pending = consumed n h.pending } → NextGives q c s a old new (Ok t)
+  token_found new t n e g = (
+    x,
+    h.pending,
+    r.reads,
+    ap (λ (o : Option Def). front_from o q c h.pending) plain ∙ ap (front_by h.pending) (sym look ∙ e) ∙ ap (λ (i : Held). Taken t i.pending) (sym g),
+    r.first,
+    ap (λ (i : Held). i.fault) g ∙ r.sound,
+    r.asks,
+  )
 
-  pub token_more : (b : Option Script) (new : Held) (came : Bool) → found ≡ NeedsMore → BlockGives a b k new (Ok came) → (z : List ℕ) × HasAsked (wants_token q c) s b old new z new.pending × ((new.pending).definition ≡ None)
+  pub token_more : (b : Option Script) (new : Held) (came : Bool) → found ≡ NeedsMore → BlockGives a b h new (Ok came) → (z : List ℕ) × HasAsked (wants_token q c) s b old new z new.pending × ((new.pending).definition ≡ None)
   token_more b new came e g =
-      let g1 : BlockGives a b h new (Ok came) = subst (λ (i : Held). BlockGives a b i new (Ok came)) look.0 g in
-      let m = asked_more (wants_token q c) s a b old h new x h.pending came r (token_open e) (token_wanted e) g1 in (
+      let m = asked_more (wants_token q c) s a b old h new x h.pending came r (token_open e) (token_wanted e) g in (
         x ++ m.0,
         subst (HasAsked (wants_token q c) s b old new (x ++ m.0)) (sym m.2) m.1,
         ap (λ (p : Pending). p.definition) m.2 ∙ plain,
       )
 
-  stopped_there : (b : Option Script) (new : Held) (f : InputFault) → found ≡ NeedsMore → BlockGives a b k new (Err f) → Stopped f s b old new x new.pending × StopAsks (wants_token q c) f old x new.pending
+  stopped_there : (b : Option Script) (new : Held) (f : InputFault) → found ≡ NeedsMore → BlockGives a b h new (Err f) → Stopped f s b old new x new.pending × StopAsks (wants_token q c) f old x new.pending
   stopped_there b new f e g =
-      let g1 : BlockGives a b h new (Err f) = subst (λ (i : Held). BlockGives a b i new (Err f)) look.0 g in
-      let m = asked_stops (wants_token q c) s a b old h new x h.pending f r (token_open e) (token_wanted e) g1 in
+      let m = asked_stops (wants_token q c) s a b old h new x h.pending f r (token_open e) (token_wanted e) g in
       subst (λ (p : Pending). Stopped f s b old new x p × StopAsks (wants_token q c) f old x p) (sym m.2) (m.0, m.1)
 
-  pub token_stops : (b : Option Script) (new : Held) (f : InputFault) → found ≡ NeedsMore → BlockGives a b k new (Err f) → NextGives q c s b old new (Err f)
+  pub token_stops : (b : Option Script) (new : Held) (f : InputFault) → found ≡ NeedsMore → BlockGives a b h new (Err f) → NextGives q c s b old new (Err f)
   token_stops b new (faults.EndInString line) e g = absurd g
   token_stops b new (faults.EndInComment line) e g = absurd g
   token_stops b new faults.Read e g = let m = stopped_there b new faults.Read e g in (x, m.0, m.1)

@@ -13,6 +13,7 @@ use Rattle.m4_input.specs.declared.front.Mark.TheVariants.{EndQuote, BeginQuote,
 use Rattle.m4_input.specs.declared.front.Scan.TheVariants.{NeedsMore}
 use Rattle.m4_input.specs.declared.open_token.OpenToken.{OpenToken}
 use Rattle.m4_input.specs.declared.open_token.OpenToken.TheVariants as opens
+use Rattle.m4_input.specs.declared.strings.StringSoFar.{StringSoFar}
 use Rattle.m4_input.specs.declared.strings.StringSoFar.TheVariants as string_so_far
 use Rattle.m4_input.specs.Ascii.{is_name_byte}
 use Rattle.m4_input.specs.Pending.{one_more}
@@ -23,7 +24,7 @@ use Rattle.m4_input.specs.OpenToken.{StringIsOpen, IsOpenAt, StaysOpen, CommentG
 use Rattle.m4_input.proofs.Scans.{on_mark, level_at, passed_mark, further_further, one_further, before_step}
 use Rattle.m4_input.proofs.Scans.{begins_length, mark_down, mark_up}
 use Rattle.m4_input.proofs.OpenEnd.{mark_stays, front_stays, begins_none, long_not_cut}
-use Rattle.m4_input.proofs.ShortQuotes.{short, same_mark, short_level}
+use Rattle.m4_input.proofs.ShortQuotes.{short, same_mark, same_level}
 
 further_none : (k : ℕ) (o : Option ℕ) → o ≡ None → further k o ≡ None
 further_none k o e = ap (further k) e
@@ -203,20 +204,18 @@ module _ (b e : ℕ) where
       passed_level (short b e) false n x 0 k (passed_so (short b e) false n x 0 k s) ∙ ap (further k) here ∙ ap Some there
 
 -- the same, if the quotes have a name
-pub short_reached : (q : Delimiters) (b e : ℕ) (o : Bool) (n : ℕ) (x : List ℕ) (m : ℕ) → q.begin ≡ b ∷ [] → q.end ≡ e ∷ [] → HasPassed (record { begin = b ∷ []; end = e ∷ [] }) true n x m (length x) → IsStringSoFar q o n x (string_so_far.Open (length x) m)
-short_reached q b e o n x m h g s =
-    all_reached q o n x m (length x) (passed_so q o n x m (length x)
-    (subst (λ (y : List ℕ). HasPassed (record { begin = q.begin; end = y }) true n x m (length x)) (sym g)
-    (subst (λ (y : List ℕ). HasPassed (record { begin = y; end = e ∷ [] }) true n x m (length x)) (sym h) s))) (omega arith)
+-- quotes of one byte each are never cut, so a string was followed to its end or to that of the text
+pub short_reached : (b e : ℕ) (o : Bool) (n : ℕ) (x : List ℕ) (m : ℕ) → HasPassed (short b e) true n x m (length x) → IsStringSoFar (short b e) o n x (string_so_far.Open (length x) m)
+short_reached b e o n x m s = all_reached (short b e) o n x m (length x) (passed_so (short b e) o n x m (length x) s) (omega arith)
 
-pub short_ended : (q : Delimiters) (b e : ℕ) (o : Bool) (n : ℕ) (x : List ℕ) (k : ℕ) → q.begin ≡ b ∷ [] → q.end ≡ e ∷ [] → level (record { begin = b ∷ []; end = e ∷ [] }) false n 0 x ≡ Some k → k + 1 ≤ length x → IsStringSoFar q o n x (string_so_far.Ends k)
-short_ended q b e o n x k h g l w =
-    let one : length q.end ≡ 1 = ap length g in
-    (sym (short_level q b e o n x h g) ∙ l, omega arith)
+pub short_ended : (b e : ℕ) (o : Bool) (n : ℕ) (x : List ℕ) (k : ℕ) → level (short b e) false n 0 x ≡ Some k → k + 1 ≤ length x → IsStringSoFar (short b e) o n x (string_so_far.Ends k)
+short_ended b e o n x k l w = (same_level b e o n 0 x ∙ l, w)
 
--- a string that was followed to the end of a text
-pub unended_all : (q : Delimiters) (n : ℕ) (x : List ℕ) (m : ℕ) → HasPassed q true n x m (length x) → level q false n 0 x ≡ None
-unended_all q n x m s = (all_reached q false n x m (length x) (passed_so q false n x m (length x) s) (omega arith)).1
+-- the same, if the quotes have a name
+pub short_so_far : (q : Delimiters) (b e : ℕ) (o : Bool) (n : ℕ) (x : List ℕ) (r : StringSoFar) → q.begin ≡ b ∷ [] → q.end ≡ e ∷ [] → IsStringSoFar (record { begin = b ∷ []; end = e ∷ [] }) o n x r → IsStringSoFar q o n x r
+short_so_far q b e o n x r h g s =
+    subst (λ (y : List ℕ). IsStringSoFar (record { begin = q.begin; end = y }) o n x r) (sym g)
+    (subst (λ (y : List ℕ). IsStringSoFar (record { begin = y; end = e ∷ [] }) o n x r) (sym h) s)
 
 pub all_followed : (q : Delimiters) (n : ℕ) (x : List ℕ) (m k : ℕ) → HasPassed q true n x m k → length x ≤ k → HasPassed q true n x m (length x)
 all_followed q n x m k s h = let w : k ≤ length x = s.within in let e : k ≡ length x = omega arith in subst (HasPassed q true n x m) e s

@@ -1,15 +1,13 @@
 -- Blocks: what an input has in hand of its file, and what it asks its reader for.
--- Believed. Manual: "How m4 copies input to output". Words: BlockGives, IsOpenAfter, TokenBlocks, TokenGives, LooksAt,
--- LineGives, IsInFront.
+-- Believed. Manual: "How m4 copies input to output". Words: BlockGives, IsOpenAfter, TokenBlocks, TokenGives, LineGives,
+-- IsInFront.
 use Rattle.std.specs.Prelude.{◌≡◌, ◌⊎◌, ◌≤◌, nat_lt, ℕ, Bool, true, false, List, [], ◌++◌, Option, Some, None, Result}
 use Rattle.std.specs.Prelude.{Ok, Err, length, take}
 use Rattle.m4_state.specs.Device.{Script, after_bytes, IsAtEnd, IsAtFault}
 use Rattle.m4_state.specs.declared.delimiters.Delimiters.{Delimiters}
 use Rattle.m4_input.specs.declared.fault.InputFault.{InputFault}
 use Rattle.m4_input.specs.declared.fault.InputFault.TheVariants as faults
-use Rattle.m4_input.specs.declared.front.Scan.{Scan}
 use Rattle.m4_input.specs.Pending.{Pending, text_of}
-use Rattle.m4_input.specs.Token.{scan}
 use Rattle.m4_input.specs.Input.{Held, longer, Reads, block, wants_token, after_line, all_read}
 
 -- one question to the reader: a block of its bytes comes after those in hand, or its end was met and the
@@ -54,13 +52,6 @@ TokenGives q c before after old new (Err faults.Read) =
     TokenStops q c before after old new faults.Read × IsAtFault after
 TokenGives q c before after old new (Err faults.OutOfMemory) = TokenStops q c before after old new faults.OutOfMemory
 TokenGives q c before after old new (Err fault) = ⊥
-
--- the first token of the bytes in hand; nothing is consumed
-abbrev pub LooksAt : Delimiters → Delimiters → Held → Held → Result Scan InputFault → Type 0
-LooksAt q c old new (Ok found) =
-    (new ≡ old) × (scan q c (old.pending).may_follow (text_of old.pending) ≡ found)
-LooksAt q c old new (Err faults.OutOfMemory) = new ≡ record old { fault = Some faults.OutOfMemory }
-LooksAt q c old new (Err fault) = ⊥
 
 -- the rest of the line is dropped as far as it is in hand: all of it, or more of it may come
 abbrev pub LineGives : Held → Held → Bool → Type 0

@@ -1,6 +1,6 @@
 -- OpenToken: a token that a text begins and does not end, as far as it was looked at.
 -- Not believed: it connects `more_of_token` with `scan`, so that a token over many blocks is looked at once.
--- Words: further, kind_in, MayCome, HasPassed, IsStringAfter, IsStringSoFar, NameIsOpen, CommentIsOpen, StringIsOpen,
+-- Words: further, kind_in, MayCome, HasPassed, IsStringSoFar, NameIsOpen, CommentIsOpen, StringIsOpen,
 -- IsOpenAt, StaysOpen, CommentGoesOn.
 use Rattle.std.specs.Prelude.{◌≡◌, ◌≤◌, ◌+◌, ℕ, Bool, true, false, List, [], ◌∷◌, ◌++◌, Option, Some, None, length}
 use Rattle.std.specs.Prelude.{drop}
@@ -8,8 +8,6 @@ use Rattle.m4_state.specs.declared.delimiters.Delimiters.{Delimiters}
 use Rattle.m4_input.specs.declared.front.Kind.{Kind}
 use Rattle.m4_input.specs.declared.front.Kind.TheVariants.{CommentHere, NameHere, StringHere, Undecided}
 use Rattle.m4_input.specs.declared.front.Scan.TheVariants.{NeedsMore}
-use Rattle.m4_input.specs.declared.strings.StringAfter.{StringAfter}
-use Rattle.m4_input.specs.declared.strings.StringAfter.TheVariants as string_after
 use Rattle.m4_input.specs.declared.strings.StringSoFar.{StringSoFar}
 use Rattle.m4_input.specs.declared.strings.StringSoFar.TheVariants as string_so_far
 use Rattle.m4_input.specs.declared.open_token.OpenToken.{OpenToken}
@@ -40,12 +38,7 @@ pub record HasPassed (q : Delimiters) (may_follow : Bool) (n : ℕ) (x : List �
   pub same : (p : Bool) (z : List ℕ) → MayCome may_follow p z
       → level q p n 0 (x ++ z) ≡ further k (level q p m 0 (drop k x ++ z))
 
--- where a string with n nested strings open is after x, whatever comes after x
-abbrev pub IsStringAfter : Delimiters → ℕ → List ℕ → StringAfter → Type 0
-IsStringAfter q n x (string_after.Ends k) = (level q false n 0 x ≡ Some k) × (k + 1 ≤ length x)
-IsStringAfter q n x (string_after.Open m) = HasPassed q true n x m (length x)
-
--- the same where the end of x may cut a quote
+-- where a string with n nested strings open is after x, whose end may cut a quote
 abbrev pub IsStringSoFar : Delimiters → Bool → ℕ → List ℕ → StringSoFar → Type 0
 IsStringSoFar q may_follow n x (string_so_far.Ends k) =
     (level q may_follow n 0 x ≡ Some k) × (k + length q.end ≤ length x)

@@ -34,26 +34,6 @@ use m4_state::device::ByteSource;
 use std::alloc::{AllocError, Global};
 use std::marker::Model;
 
-/// Returns whether a look decided no token.
-fn is_open(look: Look) -> bool
-    ensures { result ≡ false → (x : List ℕ) → scan_of look x ≡ NeedsMore → ⊥ }
-{
-    match look {
-        Look::NeedsMore => true,
-        _ => false,
-    }
-}
-
-/// Returns whether the answer is open.
-fn is_unknown(answer: Answer) -> bool
-    ensures { result ≡ false → answer ≡ Unknown → ⊥ }
-{
-    match answer {
-        Answer::Unknown => true,
-        _ => false,
-    }
-}
-
 /// A file or wrapped text that is being read, with the values that calls pushed before it.
 pub struct Input {
     alloc: Global,
@@ -92,7 +72,7 @@ impl Drop for Input {
 impl Input {
     ghost use Rattle.m4_input.specs.Input.{Held, IsLasting, unread_file, wrapped_text, with_pushed, all_read};
     ghost use Rattle.m4_input.specs.Input.{NextGives, ParenGives, SkipGives, failures_after};
-    ghost use Rattle.m4_input.specs.Blocks.{BlockGives, TokenGives, LooksAt, LineGives, IsInFront};
+    ghost use Rattle.m4_input.specs.Blocks.{BlockGives, TokenGives, LineGives, IsInFront};
     ghost use Rattle.m4_input.specs.Text.{LiesIn};
     ghost use Rattle.m4_input.specs.OpenToken.{IsOpenAt};
     ghost use Rattle.m4_input.specs.InputView.{fault_of};
@@ -306,15 +286,16 @@ impl Input {
             return Ok(Token::Definition(def));
         }
         'blocks: loop {
-            match self.look(delims)? {
-                Scan::Found(token, len) => {
+            match self.look(delims) {
+                Ok(Scan::Found(token, len)) => {
                     self.consume(len);
                     return Ok(token);
                 }
-                Scan::Broken(what) => return Err(self.end_inside(what)),
-                Scan::NeedsMore => {
+                Ok(Scan::Broken(what)) => return Err(self.end_inside(what)),
+                Ok(Scan::NeedsMore) => {
                     let _came = self.more(reader)?;
                 }
+                Err(AllocError) => return Err(self.stop(InputFault::OutOfMemory)),
             }
         }
     }
@@ -450,24 +431,10 @@ impl Input {
         self.definition.take()
     }
 
-    /// Returns the first token of the bytes in hand, without a definition that comes before them; `NeedsMore`
-    /// if bytes that may follow can change it. Consumes nothing. Returns `OutOfMemory` if an allocation fails;
-    /// so does each later call. Manual: "Lexical and syntactic conventions".
-    pub fn look(&mut self, delims: &Delims<'_>) -> Result<Scan, InputFault>
-        requires { self.old.fault ≡ None }
-        // exact steps: the first token of the bytes in hand
-        ensures gives { LooksAt (pair_of delims.now.quotes) (pair_of delims.now.comments)
-            self.old self.new result }
-        ensures within { IfOk result (λ found. LiesIn (length (text_of self.old.pending)) found) }
-    {
-        match self.look_in_front(delims) {
-            Ok(found) => Ok(found),
-            Err(AllocError) => Err(self.stop(InputFault::OutOfMemory)),
-        }
-    }
-
-    /// Returns the first token of the bytes in hand, by as many of them as decide it.
-    fn look_in_front(&self, delims: &Delims<'_>) -> Result<Scan, AllocError>
+    /// Returns the first token of the bytes in hand, without a definition that comes before them, by as many of them
+    /// as decide it; `NeedsMore` if bytes that may follow can change it. Consumes nothing. Returns `AllocError` if an
+    /// allocation fails. Manual: "Lexical and syntactic conventions".
+    pub fn look(&self, delims: &Delims<'_>) -> Result<Scan, AllocError>
         ensures value { IfOk result (λ s. s ≡ scan (pair_of delims.now.quotes) (pair_of delims.now.comments)
             self.now.pending.may_follow (text_of self.now.pending)) }
         ensures within { IfOk result (λ s. LiesIn (length (text_of self.now.pending)) s) }
@@ -476,12 +443,8 @@ impl Input {
         let mut looked = 0;
         'fronts: loop {
             let (text, others) = self.text.longer_front(looked, &mut copy)?;
-            if !others {
-                let look = first_token(text, delims, self.may_follow);
-                return copied(self.alloc, look, text);
-            }
-            let look = first_token(text, delims, true);
-            if !is_open(look) {
+            let look = first_token(text, delims, others | self.may_follow);
+            if !others || look != Look::NeedsMore {
                 return copied(self.alloc, look, text);
             }
             looked = text.len();
@@ -498,11 +461,8 @@ impl Input {
         let mut looked = 0;
         'fronts: loop {
             let (text, others) = self.text.longer_front(looked, &mut copy)?;
-            if !others {
-                return Ok(list_follows(text, delims, self.may_follow));
-            }
-            let answer = list_follows(text, delims, true);
-            if !is_unknown(answer) {
+            let answer = list_follows(text, delims, others | self.may_follow);
+            if !others || answer != Answer::Unknown {
                 return Ok(answer);
             }
             looked = text.len();

@@ -16,7 +16,7 @@ use crate::delims::{Delims, Pair};
 use crate::front::{Answer, Kind, Look, Unended};
 use crate::scan::{kind, may_open, opens};
 use crate::slice::{find, is_letter_byte, single, word_len};
-use crate::strings::{StringSoFar, follow_string, quoted_len};
+use crate::strings::{StringSoFar, follow_string};
 
 /// Returns the first token of a text, if no delimiter can begin with its first byte. This takes no search.
 #[inline(always)]
@@ -68,21 +68,20 @@ fn name_token(text: &[u8], may_follow: bool) -> Look
     }
 }
 
-/// Returns the first token of a text, if its first byte alone decides that it is a string: the quotes have one byte
-/// each, and neither a comment nor a name can begin with that byte.
+/// Returns the first token of a text, if its first byte alone decides that it is a string: the begin-quote has one
+/// byte, and neither a comment nor a name can begin with it.
 #[inline(always)]
 fn quoted_token(text: &[u8], delims: &Delims<'_>, may_follow: bool) -> Option<Look>
     ensures value { IfSome result (λ l. scan (pair_of delims.now.quotes) (pair_of delims.now.comments)
         may_follow text.now ≡ scan_of l text.now) }
     ensures lies { IfSome result (λ l. LookLies text.now l) }
 {
-    let (first, rest) = text.split_first()?;
+    let first = text.first()?;
     let begin = single(delims.quotes.0)?;
-    let end = single(delims.quotes.1)?;
     if *first != begin || is_letter_byte(*first) || may_begin(*first, &delims.comments) {
         return None;
     }
-    Some(short_string(rest, begin, end, may_follow))
+    Some(look_at_string(text, &delims.quotes, may_follow))
 }
 
 /// Returns the first token of a text, by its kind.
@@ -121,6 +120,7 @@ fn look_at_comment(text: &[u8], pair: &Pair<'_>, may_follow: bool) -> Look
 }
 
 /// Returns the string at the start of a text, without its outermost quotes.
+#[inline(always)]
 fn look_at_string(text: &[u8], pair: &Pair<'_>, may_follow: bool) -> Look
     requires starts { length pair.now.0.now ≤ length text.now }
     requires begin { 0 < length pair.now.0.now }
@@ -181,19 +181,6 @@ pub fn may_begin(first: u8, pair: &Pair<'_>) -> bool
     match pair.0.first() {
         Some(byte) => *byte == first,
         None => false,
-    }
-}
-
-/// Returns the string whose begin-quote comes before these bytes. Its quotes have one byte each.
-#[inline(always)]
-fn short_string(rest: &[u8], begin: u8, end: u8, may_follow: bool) -> Look
-    ensures value { string_at (record { begin = begin ∷ []; end = end ∷ [] }) may_follow (begin ∷ rest.now)
-        ≡ scan_of result (begin ∷ rest.now) }
-    ensures lies { LookLies (begin ∷ rest.now) result }
-{
-    match quoted_len(rest, begin, end) {
-        None => without_end(Unended::InString, may_follow),
-        Some(len) => Look::Quoted(1, len, len + 2),
     }
 }
 

@@ -1,10 +1,10 @@
 //! Where a string ends, with the strings that are nested in it counted, so that it takes one pass.
 //! Manual: "Quoted strings".
 
-ghost use Rattle.std.specs.Prelude.{◌≡◌, ◌+◌, ◌^◌, ◌<◌, ◌≤◌, ◌∷◌, [], false, IfSome, length};
+ghost use Rattle.std.specs.Prelude.{◌≡◌, ◌+◌, ◌^◌, ◌<◌, ◌≤◌, ◌∷◌, [], Bool, IfSome, length};
 ghost use Rattle.m4_input.specs.DelimsView.{pair_of};
-ghost use Rattle.m4_input.specs.OpenToken.{IsStringAfter, IsStringSoFar};
-ghost use Rattle.m4_input.specs.Token.{level, mark_at};
+ghost use Rattle.m4_input.specs.OpenToken.{IsStringSoFar};
+ghost use Rattle.m4_input.specs.Token.{mark_at};
 ghost use Rattle.memchr.specs.Find.{IsFirstByte, is_byte2};
 
 use crate::delims::Pair;
@@ -12,15 +12,6 @@ use crate::front::Mark;
 use crate::lanes::{LANES, len_before_either};
 use crate::slice::{cut, single, starts};
 use memchr::memchr2;
-
-/// Where a string is after a text.
-#[derive(Clone, Copy)]
-pub enum StringAfter {
-    /// It ends in the text: how many bytes come before the end-quote that closes it.
-    Ends(usize),
-    /// It goes on: how many nested strings are open after the text.
-    Open(usize),
-}
 
 /// Where a string is after a text whose end may cut a quote.
 #[derive(Clone, Copy)]
@@ -35,9 +26,10 @@ pub enum StringSoFar {
 const NEAR: usize = 64;
 
 /// Follows a string through a text, before which `depth` nested strings are open: from quote to quote.
-pub fn follow_quoted(text: &[u8], depth: usize, begin: u8, end: u8) -> StringAfter
+#[inline(always)]
+fn follow_quoted(text: &[u8], depth: usize, begin: u8, end: u8) -> StringSoFar
     requires { depth + length text.now < 2 ^ 64 }
-    ensures { IsStringAfter (record { begin = begin ∷ []; end = end ∷ [] }) depth text.now result }
+    ensures { (m : Bool) → IsStringSoFar (record { begin = begin ∷ []; end = end ∷ [] }) m depth text.now result }
 {
     let mut nested = depth;
     let mut k = 0usize;
@@ -46,13 +38,13 @@ pub fn follow_quoted(text: &[u8], depth: usize, begin: u8, end: u8) -> StringAft
         if text[k] != end {
             nested += 1;
         } else if nested == 0 {
-            return StringAfter::Ends(k);
+            return StringSoFar::Ends(k);
         } else {
             nested -= 1;
         }
         k += 1;
     }
-    StringAfter::Open(nested)
+    StringSoFar::Open(text.len(), nested)
 }
 
 /// Returns how many bytes of a text are looked at sixteen at a time: none if it has fewer.
@@ -96,18 +88,8 @@ fn first_far(one: u8, other: u8, text: &[u8]) -> Option<usize>
     memchr2(one, other, text)
 }
 
-/// Counts the bytes before the end-quote that closes the string.
-pub fn quoted_len(text: &[u8], begin: u8, end: u8) -> Option<usize>
-    ensures value { result ≡ level (record { begin = begin ∷ []; end = end ∷ [] }) false 0 0 text.now }
-    ensures within { IfSome result (λ n. n + 1 ≤ length text.now) }
-{
-    match follow_quoted(text, 0, begin, end) {
-        StringAfter::Ends(len) => Some(len),
-        StringAfter::Open(_) => None,
-    }
-}
-
 /// Follows a string through a text, before which `depth` nested strings are open.
+#[inline(always)]
 pub fn follow_string(text: &[u8], depth: usize, quotes: &Pair<'_>, may_follow: bool) -> StringSoFar
     requires begin { 0 < length quotes.now.0.now }
     requires small { depth + length text.now < 2 ^ 64 }
@@ -115,10 +97,7 @@ pub fn follow_string(text: &[u8], depth: usize, quotes: &Pair<'_>, may_follow: b
 {
     match (single(quotes.0), single(quotes.1)) {
         // Quotes of one byte are never cut.
-        (Some(begin), Some(end)) => match follow_quoted(text, depth, begin, end) {
-            StringAfter::Ends(len) => StringSoFar::Ends(len),
-            StringAfter::Open(nested) => StringSoFar::Open(text.len(), nested),
-        },
+        (Some(begin), Some(end)) => follow_quoted(text, depth, begin, end),
         _ => follow_by_marks(text, depth, quotes, may_follow),
     }
 }

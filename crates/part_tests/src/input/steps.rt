@@ -160,9 +160,12 @@ fn ask_token(
 
 // Looks at the first token, or returns the fault of an earlier step.
 fn look(input: &mut Input, delims: &Delims<'_>) -> Result<Scan, InputFault> {
-    match input.fault() {
-        Some(fault) => Err(fault),
-        None => input.look(delims),
+    if let Some(fault) = input.fault() {
+        return Err(fault);
+    }
+    match input.look(delims) {
+        Ok(found) => Ok(found),
+        Err(AllocError) => Err(InputFault::OutOfMemory),
     }
 }
 

@@ -1,8 +1,7 @@
-use Rattle.std.proofs.Common.{◌≡◌, ◌∷◌, List, ℕ, false, sym, ap, subst, ◌∙◌, rules}
+use Rattle.std.proofs.Common.{◌≡◌, ◌∷◌, List, ℕ, false, sym, ap, drop, subst, ◌∙◌, rules}
 use Rattle.m4_input.specs.Ascii.{is_letter}
 use Rattle.m4_input.specs.DelimsView.{pair_of}
-use Rattle.m4_input.specs.Look.{scan_of, LookLies}
-use Rattle.m4_input.specs.Token.{starts_with, may_start, scan}
+use Rattle.m4_input.specs.Token.{starts_with, may_start, string_at, scan}
 use Rattle.m4_input.proofs.Looks.{string_first}
 use Rattle.m4_input.proofs.look.quoted_token.Goals as goal
 
@@ -11,16 +10,15 @@ returns c =
     let q = pair_of c.args.delims.now.quotes in
     let k = pair_of c.args.delims.now.comments in
     let m = c.args.may_follow in
+    let x = c.args.text.now in
     let b = c.in_ok-begin.begin in
-    let y = c.in_ok-first.rest.now in
-    let look = c.short_string.result in
+    let y = drop 1 x in
     let same : c.in_ok-first.first.now ≡ b = c.if-first-begin.false in
-    let whole : b ∷ y ≡ c.args.text.now = ap (λ a. a ∷ y) (sym same) ∙ (search rules) in
+    let whole : b ∷ y ≡ x = ap (λ a. a ∷ y) (sym same) ∙ (search rules) in
     let letter : is_letter b ≡ false = ap is_letter (sym same) ∙ sym c.is_letter_byte.ensures ∙ c.if-is_letter_byte.false in
     let starts : starts_with k (b ∷ y) ≡ false = subst (λ a. starts_with k (a ∷ y) ≡ false) same (c.may_begin.ensures.starts c.if-may_begin.false y) in
     let may : may_start k m (b ∷ y) ≡ false = subst (λ a. may_start k m (a ∷ y) ≡ false) same (c.may_begin.ensures.may c.if-may_begin.false m y) in
     record {
-      value = subst (λ (x : List ℕ). scan q k m x ≡ scan_of look x) whole
-          (string_first b c.in_ok-end.end q k m y c.in_ok-begin.ensures.some c.in_ok-end.ensures.some letter starts may ∙ c.short_string.ensures.value);
-      lies = subst (λ (x : List ℕ). LookLies x look) whole c.short_string.ensures.lies;
+      value = subst (λ (x : List ℕ). scan q k m x ≡ string_at q m x) whole (string_first b q k m y c.in_ok-begin.ensures.some letter starts may) ∙ c.look_at_string.ensures.value;
+      lies = c.look_at_string.ensures.lies;
     }

@@ -1,13 +1,15 @@
 use Rattle.std.proofs.Common.{true, ◌+◌, ◌∷◌, [], sym, subst}
 use Rattle.m4_state.specs.declared.delimiters.Delimiters.{Delimiters}
 use Rattle.m4_input.specs.OpenToken.{HasPassed}
+use Rattle.m4_input.proofs.OpenTokens.{short_reached, short_ended}
 use Rattle.m4_input.proofs.QuoteSearch.{found_begin, found_end, found_close, none_found}
 use Rattle.m4_input.proofs.strings.follow_quoted.Goals.{then-text-k, else-text-k+else-nested-eq0}
 use Rattle.m4_input.proofs.strings.follow_quoted.Goals as goal
 
 pub returns-then-nested-eq0 : goal.returns-then-nested-eq0
-returns-then-nested-eq0 c =
-    found_close c.args.begin c.args.end c.args.depth c.args.text.now c.quotes.nested c.quotes.k c.in-Some.plain c.quotes.invariant c.in-Some.ensures c.if-text-k.false c.if-nested-eq0.true
+returns-then-nested-eq0 c m =
+    let found = found_close c.args.begin c.args.end c.args.depth c.args.text.now c.quotes.nested c.quotes.k c.in-Some.plain c.quotes.invariant c.in-Some.ensures c.if-text-k.false c.if-nested-eq0.true in
+    short_ended c.args.begin c.args.end m c.args.depth c.args.text.now (c.quotes.k + c.in-Some.plain) found.0 found.1
 
 pub quotes-preserved : goal.quotes-preserved
 quotes-preserved c =
@@ -20,4 +22,5 @@ quotes-preserved c =
     ]
 
 pub returns : goal.returns
-returns c = none_found c.args.begin c.args.end c.args.depth c.args.text.now c.quotes.nested c.quotes.k c.quotes.invariant c.in_default.ensures
+returns c m =
+    short_reached c.args.begin c.args.end m c.args.depth c.args.text.now c.quotes.nested (none_found c.args.begin c.args.end c.args.depth c.args.text.now c.quotes.nested c.quotes.k c.quotes.invariant c.in_default.ensures)

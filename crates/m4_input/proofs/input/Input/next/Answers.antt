@@ -33,20 +33,20 @@ returns-in-Some-clause-gives g c =
     let l : IsLasting c.in-Some.fault = subst (λ (o : Option InputFault). IfSome o IsLasting) c.in-Some.is c.self.invariant in
     next_again (pair_of c.args.delims.now.quotes) (pair_of c.args.delims.now.comments) (g.R.ByteSource.script c.args.reader.now) c.args.self.now c.in-Some.fault e l
 
-pub returns-in-Found-clause-gives : goal.returns-in-Found-clause-gives
-returns-in-Found-clause-gives g c =
+pub returns-in-Ok-Found-clause-gives : goal.returns-in-Ok-Found-clause-gives
+returns-in-Ok-Found-clause-gives g c =
     let i = c.blocks-2.invariant in
     token_found (pair_of c.args.delims.now.quotes) (pair_of c.args.delims.now.comments) (g.R.ByteSource.script c.args.reader.now) (g.R.ByteSource.script c.blocks-2.reader)
-    c.args.self.now c.blocks-2.self c.look.new.self i.0.0 c.in_ok-token.field-0 i.0.1 i.1 c.in_ok-token.ensures.gives c.consume.new.self c.in-Found.token c.in-Found.len c.in-Found.is c.consume.ensures
+    c.args.self.now c.blocks-2.self i.0.0 c.in-Ok-Found.field-0 i.0.1 i.1 c.in-Ok-Found.ensures.value c.consume.new.self c.in-Ok-Found.token c.in-Ok-Found.len c.in-Ok-Found.field-0-is c.consume.ensures
 
 pub blocks-2-smaller : goal.blocks-2-smaller
 blocks-2-smaller g c =
     let i = c.blocks-2.invariant in
     let may = token_open (pair_of c.args.delims.now.quotes) (pair_of c.args.delims.now.comments) (g.R.ByteSource.script c.args.reader.now) (g.R.ByteSource.script c.blocks-2.reader)
-    c.args.self.now c.blocks-2.self c.look.new.self i.0.0 c.in_ok-token.field-0 i.0.1 i.1 c.in_ok-token.ensures.gives c.in-NeedsMore.is in
-    let came = came_is (g.R.ByteSource.script c.blocks-2.reader) (g.R.ByteSource.script c.more.new.reader) c.look.new.self c.more.new.self c.in_ok-_came-in-NeedsMore._came c.in_ok-_came-in-NeedsMore.ensures.gives in
+    c.args.self.now c.blocks-2.self i.0.0 c.in-Ok-NeedsMore.field-0 i.0.1 i.1 c.in-Ok-NeedsMore.ensures.value c.in-Ok-NeedsMore.field-0-is in
+    let came = came_is (g.R.ByteSource.script c.blocks-2.reader) (g.R.ByteSource.script c.more.new.reader) c.blocks-2.self c.more.new.self c.in_ok-_came-in-Ok-NeedsMore._came c.in_ok-_came-in-Ok-NeedsMore.ensures.gives in
     blocks_fall ((c.blocks-2.self).pending).may_follow ((c.more.new.self).pending).may_follow (g.R.ByteSource.takes_left c.blocks-2.reader) (g.R.ByteSource.takes_left c.more.new.reader) may
-    (λ e. c.in_ok-_came-in-NeedsMore.ensures.falls (ap Ok (sym came ∙ e)))
+    (λ e. c.in_ok-_came-in-Ok-NeedsMore.ensures.falls (ap Ok (sym came ∙ e)))
 
 pub blocks-2-preserved : goal.blocks-2-preserved
 blocks-2-preserved g c =
@@ -55,11 +55,11 @@ blocks-2-preserved g c =
     let new : Held = c.more.new.self in
     let n : ℕ = g.R.ByteSource.failures c.blocks-2.reader in
     let m = token_more (pair_of c.args.delims.now.quotes) (pair_of c.args.delims.now.comments) (g.R.ByteSource.script c.args.reader.now) (g.R.ByteSource.script c.blocks-2.reader)
-    c.args.self.now h c.look.new.self i.0.0 c.in_ok-token.field-0 i.0.1 i.1 c.in_ok-token.ensures.gives (g.R.ByteSource.script c.more.new.reader) new c.in_ok-_came-in-NeedsMore._came c.in-NeedsMore.is c.in_ok-_came-in-NeedsMore.ensures.gives in
-    let kept : (c.look.new.self).fault ≡ None = ap (λ (j : Held). j.fault) c.in_ok-token.ensures.gives.0 ∙ i.0.1.sound in (
+    c.args.self.now h i.0.0 c.in-Ok-NeedsMore.field-0 i.0.1 i.1 c.in-Ok-NeedsMore.ensures.value (g.R.ByteSource.script c.more.new.reader) new c.in_ok-_came-in-Ok-NeedsMore._came c.in-Ok-NeedsMore.field-0-is c.in_ok-_came-in-Ok-NeedsMore.ensures.gives in
+    let kept : (c.blocks-2.self).fault ≡ None = i.0.1.sound in (
       (m.0, m.1),
       m.2,
-      c.in_ok-_came-in-NeedsMore.ensures.counted
+      c.in_ok-_came-in-Ok-NeedsMore.ensures.counted
           ∙ ap (λ (o : Option InputFault). failures_after o new.fault n) kept
           ∙ ap (λ (o : Option InputFault). failures_after None o n) m.1.sound
           ∙ i.2,
@@ -82,12 +82,12 @@ blocks-2-init g c =
     )
 
 -- the question failed
-pub returns-in_err-_came-in-NeedsMore-clause-gives : goal.returns-in_err-_came-in-NeedsMore-clause-gives
-returns-in_err-_came-in-NeedsMore-clause-gives g c =
+pub returns-in_err-_came-in-Ok-NeedsMore-clause-gives : goal.returns-in_err-_came-in-Ok-NeedsMore-clause-gives
+returns-in_err-_came-in-Ok-NeedsMore-clause-gives g c =
     let i = c.blocks-2.invariant in
-    let f : InputFault = c.in_err-_came-in-NeedsMore.field-0.0 in
+    let f : InputFault = c.in_err-_came-in-Ok-NeedsMore.field-0.0 in
     let stops : NextGives (pair_of c.args.delims.now.quotes) (pair_of c.args.delims.now.comments) (g.R.ByteSource.script c.args.reader.now) (g.R.ByteSource.script c.more.new.reader) c.args.self.now c.more.new.self (Err f) =
     token_stops (pair_of c.args.delims.now.quotes) (pair_of c.args.delims.now.comments) (g.R.ByteSource.script c.args.reader.now) (g.R.ByteSource.script c.blocks-2.reader)
-    c.args.self.now c.blocks-2.self c.look.new.self i.0.0 c.in_ok-token.field-0 i.0.1 i.1 c.in_ok-token.ensures.gives (g.R.ByteSource.script c.more.new.reader) c.more.new.self f c.in-NeedsMore.is c.in_err-_came-in-NeedsMore.ensures.gives in
-    let same : Err f ≡ c.from_residual-in_err-_came-in-NeedsMore.result = search rules in
+    c.args.self.now c.blocks-2.self i.0.0 c.in-Ok-NeedsMore.field-0 i.0.1 i.1 c.in-Ok-NeedsMore.ensures.value (g.R.ByteSource.script c.more.new.reader) c.more.new.self f c.in-Ok-NeedsMore.field-0-is c.in_err-_came-in-Ok-NeedsMore.ensures.gives in
+    let same : Err f ≡ c.from_residual.result = search rules in
     subst (NextGives (pair_of c.args.delims.now.quotes) (pair_of c.args.delims.now.comments) (g.R.ByteSource.script c.args.reader.now) (g.R.ByteSource.script c.more.new.reader) c.args.self.now c.more.new.self) same stops

@@ -1,6 +1,6 @@
 use Rattle.std.proofs.Common.{◌-◌, ◌≤◌, length}
 use Rattle.m4_input.specs.Pending.{text_of}
-use Rattle.m4_input.proofs.input.Input.look_in_front.Given as goal
+use Rattle.m4_input.proofs.input.Input.look.Given as goal
 
 -- no more bytes were looked at than there are
 abbrev pub invariant-fronts : goal.invariant-fronts
