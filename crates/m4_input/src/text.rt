@@ -21,7 +21,7 @@ use std::marker::Model;
 const MOST_BELOW: usize = 1 << 62;
 
 /// A text of at most so many bytes is put before the bytes that come next. To copy it takes less than a segment.
-const SHORT: usize = 128;
+const MOST_PUT_BEFORE: usize = 128;
 
 /// How many bytes at least are copied, so that a token across two texts is contiguous.
 const LEAST_COPIED: usize = 64;
@@ -192,7 +192,7 @@ impl Text {
         ensures err { OnErr result (self.new ≡ self.old) }
     {
         let len = text.as_slice().len();
-        if len <= SHORT && self.put_before(text.as_slice()) {
+        if len <= MOST_PUT_BEFORE && self.put_before(text.as_slice()) {
             keep(&mut self.buffer, text.buffer());
             return Ok(());
         }
@@ -262,7 +262,7 @@ impl Text {
         ensures { self.new ≡ self.old }
     {
         let rest = self.top.rest();
-        if rest.len() > SHORT {
+        if rest.len() > MOST_PUT_BEFORE {
             return false;
         }
         let Some(next) = self.below.last_mut() else {
