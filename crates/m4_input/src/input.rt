@@ -435,6 +435,7 @@ impl Input {
     /// as decide it; `NeedsMore` if bytes that may follow can change it. Consumes nothing. Returns `AllocError` if an
     /// allocation fails. Manual: "Lexical and syntactic conventions".
     pub fn look(&self, delims: &Delims<'_>) -> Result<Scan, AllocError>
+        // exact steps: the first token of the bytes in hand
         ensures value { IfOk result (λ s. s ≡ scan (pair_of delims.now.quotes) (pair_of delims.now.comments)
             self.now.pending.may_follow (text_of self.now.pending)) }
         ensures within { IfOk result (λ s. LiesIn (length (text_of self.now.pending)) s) }
