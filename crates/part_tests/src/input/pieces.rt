@@ -119,7 +119,8 @@ static ROWS: [Row; 7] = [
 ];
 
 // A text that is longer than one that is put before the bytes that come next.
-const LETTERS: &str = "abcdefghijklmnopqrstuvwxyzabcdefghij";
+const LETTERS: &str = "abcdefghijklmnopqrstuvwxyzabcdefghijklmnopqrstuvwxyz\
+    abcdefghijklmnopqrstuvwxyzabcdefghijklmnopqrstuvwxyzabcdefghijklmnopqrstuvwxyz";
 
 // Slices of the bytes in hand, longer than so many bytes if others come after them.
 static FRONTS: [Row; 4] = [
@@ -137,11 +138,15 @@ static FRONTS: [Row; 4] = [
             Step::More,
             Step::Push(LETTERS),
             Step::Front(0),
-            Step::Front(35),
-            Step::Front(36),
+            Step::Front(129),
+            Step::Front(130),
         ],
-        want: "more\n[abcdefghijklmnopqrstuvwxyzabcdefghij] others\n\
-            [abcdefghijklmnopqrstuvwxyzabcdefghij] others\n[abcdefghijklmnopqrstuvwxyzabcdefghij12] all\n",
+        want: "more\n[abcdefghijklmnopqrstuvwxyzabcdefghijklmnopqrstuvwxyz\
+            abcdefghijklmnopqrstuvwxyzabcdefghijklmnopqrstuvwxyzabcdefghijklmnopqrstuvwxyz] others\n\
+            [abcdefghijklmnopqrstuvwxyzabcdefghijklmnopqrstuvwxyz\
+            abcdefghijklmnopqrstuvwxyzabcdefghijklmnopqrstuvwxyzabcdefghijklmnopqrstuvwxyz] others\n\
+            [abcdefghijklmnopqrstuvwxyzabcdefghijklmnopqrstuvwxyz\
+            abcdefghijklmnopqrstuvwxyzabcdefghijklmnopqrstuvwxyzabcdefghijklmnopqrstuvwxyz12] all\n",
         ..PLAIN
     },
     Row {
@@ -151,9 +156,12 @@ static FRONTS: [Row; 4] = [
             Step::More,
             Step::Push(LETTERS),
             Step::Push(LETTERS),
-            Step::Front(36),
+            Step::Front(131),
         ],
-        want: "more\n[abcdefghijklmnopqrstuvwxyzabcdefghijabcdefghijklmnopqrstuvwxyzabcdefghij12] all\n",
+        want: "more\n[abcdefghijklmnopqrstuvwxyzabcdefghijklmnopqrstuvwxyz\
+            abcdefghijklmnopqrstuvwxyzabcdefghijklmnopqrstuvwxyzabcdefghijklmnopqrstuvwxyz\
+            abcdefghijklmnopqrstuvwxyzabcdefghijklmnopqrstuvwxyz\
+            abcdefghijklmnopqrstuvwxyzabcdefghijklmnopqrstuvwxyzabcdefghijklmnopqrstuvwxyz12] all\n",
         ..PLAIN
     },
     Row {
