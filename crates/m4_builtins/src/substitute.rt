@@ -142,7 +142,7 @@ fn plain_len(bytes: &[u8]) -> usize
     k
 }
 
-/// The same byte by byte.
+/// Counts the bytes before the first dollar, byte by byte.
 #[inline(always)]
 fn plain_len_by_bytes(bytes: &[u8]) -> usize
     ensures value { result ≡ run_length (λ b. not (b == dollar)) bytes.now }
@@ -314,7 +314,7 @@ pub(crate) fn push_quoted(
     }
 }
 
-/// The same with quotes of one byte each.
+/// Appends the arguments, each between quotes of one byte.
 #[inline(never)]
 #[tactic(auto, using(crate::proofs::Joins::joined_step))]
 fn push_all_between(out: &mut Vec<u8>, args: &[Arg], begin: u8, end: u8) -> Result<(), AllocError>
@@ -344,7 +344,7 @@ fn push_between(out: &mut Vec<u8>, text: &[u8], begin: u8, end: u8) -> Result<()
     Ok(())
 }
 
-/// The same with any quotes.
+/// Appends the arguments, each between any quotes.
 #[inline(never)]
 #[tactic(auto, using(crate::proofs::Joins::joined_step))]
 fn push_each_quoted(

@@ -149,7 +149,8 @@ file_told old e any_missing over finished name i before after w cause result o l
     (subst (λ (x : Result Unit Stop). BreaksBy x (FileBreaks e.limits (progress_of (session_of e any_missing None finished)) name before after w)) (sym r)
     (told_answer e (unread_file name).pending before after w _ cause (file_breaks e any_missing name before after w) k)))
 
-round_breaks : (e ea : Engine) (any_missing : Bool) (before after : Option Script) (w : Contents) → e.saved ≢ [] → ea ≡ record e { saved = [] } → StepBreaks ea (wrapped_pending (joined_back e.saved)) before after w → Breaks (IsTurnOfRound e.limits) (progress_of (session_of e any_missing None false)) w
+round_breaks : (e ea : Engine) (any_missing : Bool) (before after : Option Script) (w : Contents) → e.saved ≢ [] → ea ≡ record e { saved = [] }
+    → StepBreaks ea (wrapped_pending (joined_back e.saved)) before after w → Breaks (IsTurnOfRound e.limits) (progress_of (session_of e any_missing None false)) w
 round_breaks e ea any_missing before after w n a r = λ o m out messages f g.
     let p : Pending = wrapped_pending (joined_back e.saved) in
     let c = closed_rest p r.q before after r.x refl r.reads in

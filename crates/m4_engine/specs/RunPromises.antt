@@ -60,8 +60,8 @@ pub record IsRun {R Z : Type 0} (script : R → Option Script) (failures : R →
   pub torn : takes_whole ≡ true → ForInputs script c (λ file ss. e.cause ≡ causes.Write
       → FreezeLeaves (frozen_state c.options (start_of (c.options).prefix file) ss) (c.contents).frozen_old
       (c.contents).frozen_new)
-  -- safe and total: a read fault is reported if a reader failed in this call, after all its bytes, and only then; a read
-  -- fault of a frozen file only if its reader failed in this call
+  -- safe and total: a read fault is reported if a reader failed in this call, after all its bytes, and only then; a
+  -- read fault of a frozen file only if its reader failed in this call
   pub read : ReadersFailBy script failures e.cause c.sources_old c.sources_new
       × FrozenFailsBy failures e.cause c.file_old c.file_new
   -- safe and total: a write fault is reported only if a writer failed in this call

@@ -173,8 +173,8 @@ impl OpenCall {
         })
     }
 
-    /// Makes this a call of the name that the first `len` bytes are, with no argument read yet, and keeps its memory and
-    /// its place.
+    /// Makes this a call of the name that the first `len` bytes are, with no argument read yet. Its memory and its place
+    /// stay.
     pub fn renew(&mut self, text: &[u8], len: usize, definition: &Def) -> Result<(), AllocError>
         requires valid { IsDefinition definition.now }
         requires within { len ≤ length text.now }

@@ -49,7 +49,8 @@ pub enum Lookahead {
 
 impl Lookahead {
     /// Returns the lookahead for the name that the first `len` bytes are, called without a list, with this definition.
-    /// If the limits allow a call (`room`), the expansion of a text macro is known, and `dnl`, which many lines end with.
+    /// If the limits allow a call (`room`), the expansion of a text macro is known, and `dnl`, with which many lines
+    /// end.
     #[inline(always)]
     fn bare(
         spare: &mut Spare,

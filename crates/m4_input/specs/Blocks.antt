@@ -1,6 +1,6 @@
 -- Blocks: what an input has in hand of its file, and what it asks its reader for.
--- Believed. Manual: "How m4 copies input to output". Words: BlockGives, IsOpenAfter, TokenBlocks, TokenGives, LineGives,
--- IsInFront.
+-- Believed. Manual: "How m4 copies input to output".
+-- Words: BlockGives, IsOpenAfter, TokenBlocks, TokenGives, LineGives, IsInFront.
 use Rattle.std.specs.Prelude.{◌≡◌, ◌⊎◌, ◌≤◌, nat_lt, ℕ, Bool, true, false, List, [], ◌++◌, Option, Some, None, Result}
 use Rattle.std.specs.Prelude.{Ok, Err, length, take}
 use Rattle.m4_state.specs.Device.{Script, after_bytes, IsAtEnd, IsAtFault}

@@ -102,7 +102,7 @@ pub fn follow_string(text: &[u8], depth: usize, quotes: &Pair<'_>, may_follow: b
     }
 }
 
-/// The same for quotes of any length: from mark to mark.
+/// Follows a string with quotes of any length: from mark to mark.
 fn follow_by_marks(text: &[u8], depth: usize, quotes: &Pair<'_>, may_follow: bool) -> StringSoFar
     requires begin { 0 < length quotes.now.0.now }
     requires small { depth + length text.now < 2 ^ 64 }

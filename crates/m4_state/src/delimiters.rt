@@ -104,7 +104,8 @@ impl Delimiters {
         default_end: &[u8],
     ) -> Result<Delimiters, AllocError>
         requires { (0 < length default_end.now) × (length default_end.now < 2 ^ 64) }
-        ensures chosen { IfOk result (λ d. d ≡ chosen (record { begin = []; end = default_end.now }) begin.now end.now) }
+        ensures chosen { IfOk result (λ d. d
+            ≡ chosen (record { begin = []; end = default_end.now }) begin.now end.now) }
         ensures valid { IfOk result (λ d. IsPaired d × IsSizedPair d) }
     {
         let end = if begin.is_empty() {

@@ -16,7 +16,8 @@ returns c =
     let new : Engine = record old { output = c.append.new.out.items } in
     let n = c.plain_run-len.result.0 in
     let x = c.args.text.now in
-    let after : IsFirst c.self.inside.state c.args.more c.split_at.result.1.now c.in-Some.first = seen_first c.self.inside.state c.args.more (drop c.plain_run-len.result.0 c.args.text.now) c.split_at.result.1.now c.plain_run-len.result.1 c.in-Some.first c.in-Some.is c.split_at.ensures.back c.plain_run-len.ensures.after in
+    let after : IsFirst c.self.inside.state c.args.more c.split_at.result.1.now c.in-Some.first =
+    seen_first c.self.inside.state c.args.more (drop c.plain_run-len.result.0 c.args.text.now) c.split_at.result.1.now c.plain_run-len.result.1 c.in-Some.first c.in-Some.is c.split_at.ensures.back c.plain_run-len.ensures.after in
     subst (λ (e : Engine). PassesBy n c.in_ok-lookahead.lookahead x c.args.others c.args.more e new) c.self.view_is (record {
       passes = text_output old new c.args.more n x c.plain_run-len.ensures.plain (search rules) (search rules) (search rules);
       within = c.plain_run-len.ensures.within;
