@@ -3,7 +3,7 @@ use Rattle.std.proofs.Common.{◌≡◌, ◌+◌, ◌<◌, ◌≤◌, ◌∷◌,
 use Rattle.std.proofs.Common.{length, refl, sym, ap, ◌∙◌, arith, eqb, eq-eqb}
 use Rattle.std.proofs.Math.Bool.{and-true}
 use Rattle.std.proofs.lemmas.Bool.{ne_eqb, eqb-true}
-use Rattle.std.specs.Prelude.{IfSome}
+use Rattle.std.specs.Prelude.{IfSome, slice_get}
 use Rattle.memchr.specs.Find.{Passes, is_byte, IsFirstByte}
 use Rattle.m4_input.specs.Pending.{one_more}
 use Rattle.m4_input.specs.Token.{begins, before}
@@ -37,3 +37,11 @@ module _ (b : ℕ) where
   pub first_within : (x : List ℕ) (r : Option ℕ) → IsFirstByte (is_byte b) x r → IfSome r (λ n. n + 1 ≤ length x)
   first_within x None h = tt
   first_within x (Some k) h = let high : k < length x = h.0.high in omega arith
+
+  pub here_first : (x : List ℕ) (a : ℕ) → slice_get x 0 ≡ Some a → a ≡ b → (Some 0 ≡ before (b ∷ []) x) × (1 ≤ length x)
+  here_first [] a e h = cc
+  here_first (c ∷ x) a e h = let f : c ≡ a = cc in (sym (before_here c x (f ∙ h)), omega arith)
+
+  pub none_left : (x : List ℕ) → slice_get x 0 ≡ None → before (b ∷ []) x ≡ None
+  none_left [] e = refl
+  none_left (a ∷ x) e = cc
