@@ -1,13 +1,20 @@
 -- EffectView: the meaning of the fields of an effect.
 -- Not believed: it only connects the code with specs/Acted.antt. Words: effect_view, IsEffect.
-use Rattle.std.specs.Prelude.{◌≡◌, false}
+use Rattle.std.specs.Prelude.{◌≡◌, Bool, true, false, List, ℕ, Option, Some}
+use Rattle.m4_input.specs.declared.pushed.Pushed.{Pushed}
+use Rattle.m4_input.specs.declared.pushed.Pushed.TheVariants as pushes
 use Rattle.m4_builtins.specs.declared.effect_buffer.EffectBuffer.TheInside.{Inside}
 use Rattle.m4_builtins.specs.declared.effect.Effect.{Effect}
 use Rattle.m4_builtins.specs.Acted.{IsPushed, nothing}
 
+-- the value that is inserted: the text in the buffer, if it was made there
+abbrev pub inserted : Bool → List ℕ → Option Pushed → Option Pushed
+inserted true text push = Some (pushes.Text text)
+inserted false text push = push
+
 abbrev pub effect_view : Inside → Effect
 effect_view e = record {
-  push = e.push;
+  push = inserted e.is_made e.buffer.items e.push;
   messages = e.messages;
   output = e.output;
   wrap = e.wrap;
@@ -17,5 +24,5 @@ effect_view e = record {
 
 -- without more to do, there is at most a value to insert, and a definition that is inserted is valid
 pub record IsEffect (e : Inside) : Type 0 where
-  pub more : e.has_more ≡ false → effect_view e ≡ record nothing { push = e.push }
+  pub more : e.has_more ≡ false → effect_view e ≡ record nothing { push = (effect_view e).push }
   pub push : IsPushed e.push

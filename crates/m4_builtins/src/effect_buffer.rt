@@ -1,23 +1,25 @@
 //! An effect that calls fill in turn, with the memory of the ones before.
 
-ghost use Rattle.std.specs.Prelude.{◌≡◌, ◌++◌, [], OnOk, IfOk, Some, None, true, false, option_copied};
+ghost use Rattle.std.specs.Prelude.{◌≡◌, ◌++◌, [], OnOk, IfSome, Some, None, true, false, option_copied};
 ghost use Rattle.m4_input.specs.DelimsView.{pair_of};
 
 use crate::args::Arg;
 use crate::effect::Effect;
 use crate::fault::BuiltinFault;
-use crate::substitute::substitute_with;
+use crate::substitute::{is_plain, substitute_onto};
 use m4_input::pushed::Pushed;
+use m4_state::append::append;
 use m4_state::bytes::Bytes;
 use m4_state::definition::Def;
 use std::alloc::{AllocError, Global};
 use std::marker::Model;
 
 /// An [`Effect`] that the engine keeps. Calls fill it in turn, so that most of them ask for no memory: a text that is
-/// made has the memory of `buffer`, which the run gives back when that text was read. `has_more` is false if inserting
-/// a value is all that is left to do, as after most calls. A definition that is inserted is valid.
+/// made is in `buffer` until it is inserted, and mostly it is copied from there (`is_made`). `has_more` is false if
+/// inserting a value is all that is left to do, as after most calls. A definition that is inserted is valid.
 pub struct EffectBuffer {
     push: Option<Pushed>,
+    is_made: bool,
     buffer: Vec<u8>,
     has_more: bool,
     messages: Bytes,
@@ -43,6 +45,7 @@ impl Drop for EffectBuffer {
     fn drop(self) {
         let EffectBuffer {
             push: _push,
+            is_made: _is_made,
             buffer: _buffer,
             has_more: _has_more,
             messages: _messages,
@@ -67,6 +70,7 @@ impl EffectBuffer {
     {
         EffectBuffer {
             push: None,
+            is_made: false,
             buffer: Vec::new(alloc),
             has_more: false,
             messages: Bytes::empty(),
@@ -83,7 +87,8 @@ impl EffectBuffer {
     {
         let EffectBuffer {
             push,
-            buffer: _buffer,
+            is_made,
+            buffer,
             has_more: _has_more,
             messages,
             output,
@@ -91,6 +96,11 @@ impl EffectBuffer {
             skip,
             exit,
         } = self;
+        let push = if is_made {
+            Some(Pushed::Text(Bytes::from(buffer)))
+        } else {
+            push
+        };
         Effect {
             push,
             messages,
@@ -106,6 +116,7 @@ impl EffectBuffer {
         ensures { self.new ≡ nothing }
     {
         self.push = None;
+        self.is_made = false;
         if self.has_more {
             self.clear_more();
         }
@@ -141,7 +152,20 @@ impl EffectBuffer {
     pub fn lend(&mut self, buffer: Vec<u8>)
         ensures { self.new ≡ self.old }
     {
-        self.buffer = buffer;
+        if !self.is_made {
+            self.buffer = buffer;
+        }
+    }
+
+    /// Returns the text that is inserted before the input, if it was made here.
+    pub fn made_text(&self) -> Option<&[u8]>
+        ensures { IfSome result (λ x. self.now.push ≡ Some (pushes.Text x.now)) }
+    {
+        if self.is_made {
+            Some(&self.buffer)
+        } else {
+            None
+        }
     }
 
     /// Removes the value that is inserted before the input, and returns it. A definition is valid.
@@ -150,22 +174,12 @@ impl EffectBuffer {
         ensures valid { IsPushed result }
         ensures rest { self.new ≡ record self.old { push = None } }
     {
+        if self.is_made {
+            self.is_made = false;
+            self.push = None;
+            return Some(Pushed::Text(Bytes::take_from(&mut self.buffer)));
+        }
         self.push.take()
-    }
-
-    /// Returns a text with a call's name and arguments substituted, by these quotes, in the memory of the effect.
-    pub fn expand(
-        &mut self,
-        text: &Bytes,
-        name: &[u8],
-        list: &[Arg],
-        quotes: (&[u8], &[u8]),
-    ) -> Result<Bytes, BuiltinFault>
-        // exact steps: the text with the arguments substituted
-        ensures text { IfOk result (λ b. b ≡ subst text.now name.now list.now (pair_of quotes.entry)) }
-        ensures stays { self.new ≡ self.old }
-    {
-        substitute_with(&mut self.buffer, text, name, list, quotes)
     }
 
     /// Returns the messages to be written.
@@ -226,29 +240,55 @@ impl EffectBuffer {
         ensures { self.new ≡ record self.old { push = Some (pushes.Text text.items) } }
     {
         self.buffer = text;
-        self.push = Some(Pushed::Text(Bytes::take_from(&mut self.buffer)));
-    }
-
-    /// Inserts this text before the input.
-    pub(crate) fn give_text(&mut self, text: Bytes)
-        ensures { self.new ≡ record self.old { push = Some (pushes.Text text) } }
-    {
-        self.push = Some(Pushed::Text(text));
+        self.is_made = true;
     }
 
     /// Inserts a copy of a text before the input.
     pub(crate) fn give_copy(&mut self, text: &[u8]) -> Result<(), AllocError>
         ensures { OnOk result (self.new ≡ record self.old { push = Some (pushes.Text text.now) }) }
     {
-        self.push = Some(Pushed::Text(Bytes::copy_with(&mut self.buffer, text)?));
+        self.buffer.clear();
+        append(&mut self.buffer, text)?;
+        self.is_made = true;
         Ok(())
     }
 
-    /// Inserts a text before the input, shared if it is long.
+    /// Inserts a text before the input, shared if others may share it.
     pub(crate) fn give_shared(&mut self, text: &Bytes) -> Result<(), AllocError>
         ensures { OnOk result (self.new ≡ record self.old { push = Some (pushes.Text text.now) }) }
     {
-        self.push = Some(Pushed::Text(text.share_with(&mut self.buffer)?));
+        match text.shared()? {
+            Some(shared) => {
+                self.is_made = false;
+                self.push = Some(Pushed::Text(shared));
+                Ok(())
+            }
+            None => self.give_copy(text.as_slice()),
+        }
+    }
+
+    /// Inserts a text with a call's name and arguments substituted, by these quotes. It is the text itself, shared, if
+    /// it has no dollar.
+    pub(crate) fn give_expansion(
+        &mut self,
+        text: &Bytes,
+        name: &[u8],
+        list: &[Arg],
+        quotes: (&[u8], &[u8]),
+    ) -> Result<(), BuiltinFault>
+        // exact steps: the text with the arguments substituted
+        ensures { OnOk result (self.new ≡ record self.old
+            { push = Some (pushes.Text (subst text.now name.now list.now (pair_of quotes.entry))) }) }
+    {
+        let bytes = text.as_slice();
+        if is_plain(bytes) {
+            return Ok(self.give_shared(text)?);
+        }
+        self.buffer.clear();
+        // The result mostly has about as many bytes.
+        self.buffer.reserve(bytes.len())?;
+        substitute_onto(&mut self.buffer, bytes, name, list, quotes)?;
+        self.is_made = true;
         Ok(())
     }
 
@@ -268,6 +308,7 @@ impl EffectBuffer {
         requires { IsDefinition definition }
         ensures { self.new ≡ record self.old { push = Some (pushes.Definition definition) } }
     {
+        self.is_made = false;
         self.push = Some(Pushed::Definition(definition));
     }
 

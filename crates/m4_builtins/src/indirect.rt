@@ -50,8 +50,7 @@ pub(crate) fn start<'a>(
 {
     match def {
         Def::Text(text) => {
-            let expansion = effect.expand(text, name, list, state.quotes())?;
-            effect.give_text(expansion);
+            effect.give_expansion(text, name, list, state.quotes())?;
             Ok(Step::Done)
         }
         Def::Builtin(builtin) => Ok(Step::On(*builtin, list)),

@@ -1,7 +1,8 @@
 //! Substitution: replaces `$0`, `$1`, `$#`, `$*` and `$@` in a text by a call's name and arguments.
 
 ghost use Rattle.std.specs.Prelude.{◌≡◌, ◌==◌, ◌≤◌, ◌^◌, [], ◌∷◌, ◌++◌, IfOk, OnOk, ℕ, ◌+◌, ◌<◌, length, map, not};
-ghost use Rattle.std.specs.Prelude.{decimal, take, drop, IfSome};
+ghost use Rattle.std.specs.Prelude.{decimal, take, drop, IfSome, true, List};
+ghost use Rattle.m4_state.specs.declared.delimiters.Delimiters.{Delimiters};
 ghost use Rattle.m4_input.specs.Ascii.{dollar, is_digit};
 ghost use Rattle.m4_input.specs.Token.{run_length};
 ghost use Rattle.m4_input.specs.DelimsView.{pair_of};
@@ -41,29 +42,13 @@ pub fn substitute(
     Ok(Bytes::from(out))
 }
 
-/// Returns the same, for a text of a definition: the text itself, shared, if it has no dollar, or else one with the
-/// memory of a buffer whose contents are discarded.
+/// Returns whether a text has no dollar, so that it is its own expansion.
 #[inline(always)]
-pub(crate) fn substitute_with(
-    buffer: &mut Vec<u8>,
-    text: &Bytes,
-    name: &[u8],
-    list: &[Arg],
-    quotes: (&[u8], &[u8]),
-) -> Result<Bytes, BuiltinFault>
-    // exact steps: the text with the arguments substituted
-    ensures { IfOk result (λ b. b ≡ subst text.now name.now list.now (pair_of quotes.entry)) }
+pub fn is_plain(text: &[u8]) -> bool
+    ensures { result ≡ true → (name : List ℕ) (list : List Arg) (quotes : Delimiters)
+        → subst text.now name list quotes ≡ text.now }
 {
-    let bytes = text.as_slice();
-    let plain = plain_len(bytes);
-    if plain == bytes.len() {
-        return Ok(text.share_with(buffer)?);
-    }
-    buffer.clear();
-    // The result mostly has about as many bytes.
-    buffer.reserve(bytes.len())?;
-    substitute_onto(buffer, bytes, name, list, quotes)?;
-    Ok(Bytes::take_from(buffer))
+    plain_len(text) == text.len()
 }
 
 /// Appends a text with the name and the arguments of a call substituted, as [`substitute`] does.

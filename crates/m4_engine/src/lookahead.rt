@@ -2,7 +2,7 @@
 
 ghost use Rattle.std.specs.Prelude.{◌≡◌, ◌+◌, ◌≤◌, Some, Bool, IfOk, length, take, drop};
 ghost use Rattle.m4_state.specs.Definition.{IsDefinition};
-ghost use Rattle.m4_state.specs.State.{top_of};
+ghost use Rattle.m4_state.specs.State.{State as Specified, top_of};
 ghost use Rattle.m4_engine.specs.Plain.{IsFirst, FirstLies};
 ghost use Rattle.m4_engine.specs.Lookahead.{EndsBy, MeansBare};
 ghost use Rattle.m4_engine.specs.declared.lookahead.Lookahead.TheVariants as aheads;
@@ -10,8 +10,7 @@ ghost use Rattle.m4_engine.specs.declared.lookahead.Lookahead.TheVariants as ahe
 use crate::call::OpenCall;
 use crate::front::First;
 use crate::spare::Spare;
-use crate::turned::TurnFault;
-use m4_builtins::effect_buffer::EffectBuffer;
+use m4_builtins::substitute::is_plain;
 use m4_input::front::Unended;
 use m4_state::builtin::Builtin;
 use m4_state::bytes::Bytes;
@@ -28,7 +27,7 @@ pub enum Lookahead {
     Text(usize, Bytes),
     /// A byte that belongs to no other token.
     Byte(u8),
-    /// The name of a text macro that is called without a list: its length, and the expansion.
+    /// The name of a text macro that is called without a list, and whose text has no dollar: its length, and the text.
     Expansion(usize, Bytes),
     /// The name of the builtin that skips the rest of the line, without a list: its length. No call needs memory for
     /// it.
@@ -49,29 +48,24 @@ pub enum Lookahead {
 
 impl Lookahead {
     /// Returns the lookahead for the name that the first `len` bytes are, called without a list, with this definition.
-    /// If the limits allow a call (`room`), the expansion of a text macro is known, and `dnl`, with which many lines
-    /// end.
+    /// If the limits allow a call (`room`), the expansion of a text without a dollar is known, and `dnl`, with which many
+    /// lines end.
     #[inline(always)]
     fn bare(
         spare: &mut Spare,
-        effect: &mut EffectBuffer,
-        state: &State,
         room: bool,
         text: &[u8],
         len: usize,
         definition: &Def,
-    ) -> Result<Lookahead, TurnFault>
-        requires top { top_of state.now (take len text.now) ≡ Some definition.now }
+    ) -> Result<Lookahead, AllocError>
         requires valid { IsDefinition definition.now }
         requires within { len ≤ length text.now }
-        ensures means { IfOk result (λ a. MeansBare a state.now room (take len text.now)) }
-        ensures same { effect.new ≡ effect.old }
+        ensures { IfOk result (λ a. (s : Specified) → top_of s (take len text.now) ≡ Some definition.now
+            → MeansBare a s room (take len text.now)) }
     {
         match definition {
-            Def::Text(body) if room => {
-                let name = text.split_at(len).0;
-                let expansion = effect.expand(body, name, &[], state.quotes())?;
-                Ok(Lookahead::Expansion(len, expansion))
+            Def::Text(body) if room && is_plain(body.as_slice()) => {
+                Ok(Lookahead::Expansion(len, body.share()?))
             }
             Def::Builtin(Builtin::Dnl) if room => Ok(Lookahead::LineSkip(len)),
             _ => Ok(Lookahead::Call(len, spare.call(text, len, definition)?)),
@@ -95,18 +89,16 @@ impl Lookahead {
     #[inline(always)]
     pub fn of(
         spare: &mut Spare,
-        effect: &mut EffectBuffer,
         state: &State,
         room: bool,
         first: First<'_>,
         text: &[u8],
         others: bool,
-    ) -> Result<Lookahead, TurnFault>
+    ) -> Result<Lookahead, AllocError>
         requires first { (m : Bool) × IsFirst state.now m text.now first }
         requires lies { FirstLies (length text.now) first }
-        ensures end { IfOk result (λ a. (m : Bool) → IsFirst state.now m text.now first.entry
+        ensures { IfOk result (λ a. (m : Bool) → IsFirst state.now m text.now first.entry
             → EndsBy 0 a state.now room m others text.now) }
-        ensures same { effect.new ≡ effect.old }
     {
         match first {
             First::Byte(byte) => Ok(Lookahead::Byte(byte)),
@@ -115,7 +107,7 @@ impl Lookahead {
                 Ok(Lookahead::List(len, call))
             }
             First::Called(len, definition) => {
-                Lookahead::bare(spare, effect, state, room, text, len, definition)
+                Lookahead::bare(spare, room, text, len, definition)
             }
             First::Undecided if others => Ok(Lookahead::Further(text.len())),
             First::Undecided => Ok(Lookahead::Undecided),

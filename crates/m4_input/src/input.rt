@@ -76,6 +76,7 @@ impl Input {
     ghost use Rattle.m4_input.specs.Text.{LiesIn};
     ghost use Rattle.m4_input.specs.OpenToken.{IsOpenAt};
     ghost use Rattle.m4_input.specs.InputView.{fault_of};
+    ghost use Rattle.m4_input.specs.declared.pushed.Pushed.TheVariants as pushes;
 
     /// Creates the input of a file that is read from its start.
     pub fn file(alloc: Global, name: Bytes) -> Input
@@ -261,6 +262,19 @@ impl Input {
             Pushed::Definition(def) => self.definition = Some(def),
         }
         Ok(())
+    }
+
+    /// Inserts a short text at the start, if it can be copied to directly before the bytes that come next. Returns whether
+    /// it did.
+    #[doc(hidden)]
+    #[inline(always)]
+    pub fn put_before(&mut self, text: &[u8]) -> bool
+        requires { self.old.pending.definition ≡ None }
+        ensures put { result ≡ true
+            → self.new ≡ record self.old { pending = with_pushed (pushes.Text text.now) self.old.pending } }
+        ensures left { result ≡ false → self.new ≡ self.old }
+    {
+        self.text.put_before(text)
     }
 
     /// Returns the first token and consumes it. Returns `EndInString` or `EndInComment` if the input ends

@@ -191,24 +191,25 @@ impl Text {
         ensures ok { OnOk result (self.new ≡ with_text text self.old) }
         ensures err { OnErr result (self.new ≡ self.old) }
     {
-        let len = text.as_slice().len();
-        if len <= MOST_PUT_BEFORE && self.put_before(text.as_slice()) {
+        if self.put_before(text.as_slice()) {
             keep(&mut self.buffer, text.buffer());
             return Ok(());
         }
-        if len > LONGEST_SEGMENT {
+        if text.as_slice().len() > LONGEST_SEGMENT {
             return Err(AllocError);
         }
         self.push_segment(Segment::of(text))
     }
 
-    /// Puts a text before the bytes that come next, over bytes that were read, if it can. Returns whether it did.
+    /// Puts a short text before the bytes that come next, over bytes that were read, if it can. Returns whether it did.
     #[inline(always)]
-    fn put_before(&mut self, text: &[u8]) -> bool
+    pub fn put_before(&mut self, text: &[u8]) -> bool
         ensures put { result ≡ true → self.new ≡ with_text text.now self.old }
         ensures left { result ≡ false → self.new ≡ self.old }
     {
-        if self.top.len() == 0 {
+        if text.len() > MOST_PUT_BEFORE {
+            false
+        } else if self.top.len() == 0 {
             self.file.put_before(text)
         } else {
             self.top.put_before(text)

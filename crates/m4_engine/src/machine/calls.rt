@@ -51,15 +51,19 @@ fn act_on_call(
     Ok(())
 }
 
-/// Pushes the value of a call, if it has one.
+/// Pushes the value of a call, if it has one. A short text that the call made is copied to its place.
 #[tactic(auto, using(crate::proofs::Inputs::pushed, crate::proofs::Inputs::nothing_pushed))]
-fn push_value(input: &mut Input, value: Option<Pushed>) -> Result<(), TurnFault>
+fn push_value(input: &mut Input, effect: &mut EffectBuffer) -> Result<(), TurnFault>
     requires input { IsTaken input.old }
-    requires valid { IsPushed value }
-    ensures pushes { OnOk result (Pushes input.old.pending input.new.pending value) }
+    ensures pushes { OnOk result (Pushes input.old.pending input.new.pending effect.old.push) }
     ensures stays { OnOk result (Stays input.old input.new) }
 {
-    let Some(value) = value else {
+    if let Some(text) = effect.made_text() {
+        if input.put_before(text) {
+            return Ok(());
+        }
+    }
+    let Some(value) = effect.take_push() else {
         return Ok(());
     };
     match input.push_front(value) {
@@ -190,36 +194,19 @@ impl Machine {
         self.begin_argument();
     }
 
-    /// Makes a call whose arguments are complete.
+    /// Makes a call whose arguments are complete. A text that it makes has the memory of the effect.
     #[inline(never)]
     pub(super) fn call(&mut self, call: OpenCall, input: &mut Input) -> Result<Turned, TurnFault>
         requires { IsTaken input.old }
         ensures { StepsBy result self.old self.new input.old input.new (called_within self.old.open_calls call) }
     {
         self.lend(input);
-        self.call_any(call, input)
+        self.make_call(call, input)
     }
 
-    /// Makes a call whose arguments are complete. A text's expansion has the memory of the effect.
+    /// Acts on a call whose arguments are complete, and pushes its value.
     #[inline(always)]
-    fn call_any(&mut self, call: OpenCall, input: &mut Input) -> Result<Turned, TurnFault>
-        requires { IsTaken input.old }
-        ensures { StepsBy result self.old self.new input.old input.new (called_within self.old.open_calls call) }
-    {
-        if let Def::Text(text) = call.definition() {
-            let quotes = self.state.quotes();
-            let expansion = self
-                .effect
-                .expand(text, call.name(), call.arguments(), quotes)?;
-            self.spare.keep(call);
-            return self.push_text(expansion, input);
-        }
-        self.call_builtin(call, input)
-    }
-
-    /// Makes the call of a builtin or of a placeholder whose arguments are complete.
-    #[inline(never)]
-    fn call_builtin(&mut self, call: OpenCall, input: &mut Input) -> Result<Turned, TurnFault>
+    fn make_call(&mut self, call: OpenCall, input: &mut Input) -> Result<Turned, TurnFault>
         requires { IsTaken input.old }
         ensures { StepsBy result self.old self.new input.old input.new (called_within self.old.open_calls call) }
     {
@@ -241,11 +228,11 @@ impl Machine {
                 self.begin_argument();
                 return Ok(Turned::SkipsLine);
             }
-            push_value(input, self.effect.take_push())?;
+            push_value(input, &mut self.effect)?;
             self.begin_argument();
             return Ok(Turned::GoesOn);
         }
-        push_value(input, self.effect.take_push())?;
+        push_value(input, &mut self.effect)?;
         self.begin_argument();
         Ok(Turned::GoesOn)
     }

@@ -114,15 +114,7 @@ impl Machine {
             let (token, lookahead) = self.pass_rare(rest, others, more)?;
             return Ok((len + token, lookahead));
         };
-        let lookahead = Lookahead::of(
-            &mut self.spare,
-            &mut self.effect,
-            &self.state,
-            room,
-            first,
-            rest,
-            others,
-        )?;
+        let lookahead = Lookahead::of(&mut self.spare, &self.state, room, first, rest, others)?;
         Ok((len, lookahead))
     }
 
@@ -150,15 +142,7 @@ impl Machine {
                 return Ok((all, Lookahead::Further(0)));
             }
         }
-        let lookahead = Lookahead::of(
-            &mut self.spare,
-            &mut self.effect,
-            &self.state,
-            room,
-            first,
-            text,
-            others,
-        )?;
+        let lookahead = Lookahead::of(&mut self.spare, &self.state, room, first, text, others)?;
         Ok((0, lookahead))
     }
 
@@ -199,15 +183,7 @@ impl Machine {
         };
         let (len, first) = collect(call, text, &self.state, more)?;
         let rest = text.split_at(len).1;
-        let lookahead = Lookahead::of(
-            &mut self.spare,
-            &mut self.effect,
-            &self.state,
-            room,
-            first,
-            rest,
-            others,
-        )?;
+        let lookahead = Lookahead::of(&mut self.spare, &self.state, room, first, rest, others)?;
         Ok((len, lookahead))
     }
 }

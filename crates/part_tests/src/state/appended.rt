@@ -57,8 +57,8 @@ enum Way {
     Moved,
     MovedToShare,
     Taken,
-    CopiedWith,
     Shared,
+    SharedSlice,
     SharedFromItsOwn,
     Put,
     PutOverItsOwn,
@@ -70,8 +70,8 @@ static WAYS: [Way; 10] = [
     Way::Moved,
     Way::MovedToShare,
     Way::Taken,
-    Way::CopiedWith,
     Way::Shared,
+    Way::SharedSlice,
     Way::SharedFromItsOwn,
     Way::Put,
     Way::PutOverItsOwn,
@@ -97,6 +97,14 @@ fn middle(alloc: Global, text: &[u8]) -> Result<Bytes, AllocError> {
     whole.part(1, len - 2)
 }
 
+// Shares a text, or copies it where it is in no slice that others may share.
+fn shared_or_copied(text: Bytes) -> Result<Bytes, AllocError> {
+    match text.shared()? {
+        Some(shared) => Ok(shared),
+        None => text.share(),
+    }
+}
+
 // Puts a text over another one.
 fn put_over(alloc: Global, mut text: Bytes, bytes: &[u8]) -> Result<Bytes, AllocError> {
     let mut vector = Vec::from_slice(alloc, bytes)?;
@@ -112,9 +120,9 @@ fn held(alloc: Global, text: &[u8], way: Way) -> Result<Bytes, AllocError> {
         Way::Moved => Ok(Bytes::from(buffer)),
         Way::MovedToShare => Bytes::from_vec(buffer),
         Way::Taken => Ok(Bytes::take_from(&mut buffer)),
-        Way::CopiedWith => Bytes::copy_with(&mut buffer, text),
         Way::Shared => Bytes::from_vec(buffer)?.share(),
-        Way::SharedFromItsOwn => Bytes::from(buffer).share_with(&mut Vec::new(alloc)),
+        Way::SharedSlice => shared_or_copied(Bytes::from_vec(buffer)?),
+        Way::SharedFromItsOwn => shared_or_copied(Bytes::from(buffer)),
         Way::Put => put_over(alloc, Bytes::empty(), text),
         Way::PutOverItsOwn => put_over(alloc, Bytes::from(buffer), text),
         Way::Part => middle(alloc, text),

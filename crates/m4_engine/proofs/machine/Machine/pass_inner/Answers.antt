@@ -20,7 +20,7 @@ returns c =
     subst (λ (e : Engine). PassesBy n c.in_ok-lookahead.lookahead x c.args.others c.args.more e new) c.self.view_is (record {
       passes = inr (inl (c.in-Some.call, c.collect.new.call, cs, c.in_ok-len.ensures.collected, inside, refl));
       within = c.in_ok-len.ensures.within;
-      end = end_by c.in_ok-lookahead.lookahead n old new c.allows_call-room.result c.args.more c.args.others (drop n x) c.split_at.result.1.now c.in_ok-len.first (search rules) refl refl (ap length (sym inside)) c.split_at.ensures.back after c.in_ok-lookahead.ensures.end;
+      end = end_by c.in_ok-lookahead.lookahead n old new c.allows_call-room.result c.args.more c.args.others (drop n x) c.split_at.result.1.now c.in_ok-len.first (search rules) refl refl (ap length (sym inside)) c.split_at.ensures.back after c.in_ok-lookahead.ensures;
     })
 
 pub of-requires-clause-first : goal.of-requires-clause-first

@@ -21,7 +21,7 @@ returns c =
     subst (λ (e : Engine). PassesBy n c.in_ok-lookahead.lookahead x c.args.others c.args.more e new) c.self.view_is (record {
       passes = text_output old new c.args.more n x c.plain_run-len.ensures.plain (search rules) (search rules) (search rules);
       within = c.plain_run-len.ensures.within;
-      end = end_by c.in_ok-lookahead.lookahead n old new c.allows_call-room.result c.args.more c.args.others (drop n x) c.split_at.result.1.now c.in-Some.first (search rules) refl refl refl c.split_at.ensures.back after c.in_ok-lookahead.ensures.end;
+      end = end_by c.in_ok-lookahead.lookahead n old new c.allows_call-room.result c.args.more c.args.others (drop n x) c.split_at.result.1.now c.in-Some.first (search rules) refl refl refl c.split_at.ensures.back after c.in_ok-lookahead.ensures;
     })
 
 pub of-requires-clause-first : goal.of-requires-clause-first

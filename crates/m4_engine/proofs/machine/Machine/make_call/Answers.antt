@@ -7,7 +7,7 @@ use Rattle.m4_builtins.specs.Acted.{Acted, nothing}
 use Rattle.m4_engine.specs.Engine.{Engine, with_made}
 use Rattle.m4_engine.specs.Expand.{with_saved, with_value}
 use Rattle.m4_engine.proofs.Acts.{made_and_begun, called_goes, called_skips, called_exits}
-use Rattle.m4_engine.proofs.machine.Machine.call_builtin.Goals as goal
+use Rattle.m4_engine.proofs.machine.Machine.make_call.Goals as goal
 
 pub returns-in-Some : goal.returns-in-Some
 returns-in-Some c = record {
@@ -43,7 +43,7 @@ pub returns-then-has_more : goal.returns-then-has_more
 returns-then-has_more c = record {
   moves = λ z more k o m.
       let a : Acted = record { state = c.act_on_call.new.state; effect = c.act_on_call.new.effect } in
-      let pushed : c.take_push.result ≡ c.act_on_call.new.effect.push = search rules in
+      let pushed : c.put_more.new.effect.push ≡ c.act_on_call.new.effect.push = search rules in
       let plain : c.begin_argument-then-has_more.new.self ≡ with_made [] [] None (record c.args.self.now { state = a.state; messages = c.put_more.new.messages.items; output = c.put_more.new.output.items; saved = c.put_more.new.saved.items }) = search rules in
       let made = plain ∙ made_and_begun c.args.self.now a.state a.effect _ _ _
       (c.in_ok-put_more.ensures.messages ∙ ap (λ (x : Engine). x.messages ++ (a.effect).messages) c.self.view_is)
@@ -62,13 +62,12 @@ returns c = record {
   moves = λ z more k o m.
       let e = c.args.self.now in
       let a : Acted = record { state = c.act_on_call.new.state; effect = c.act_on_call.new.effect } in
-      let pushed : c.take_push-2.result ≡ c.act_on_call.new.effect.push = search rules in
       let none : a.effect ≡ record nothing { push = (a.effect).push } = c.has_more.ensures (search rules) in
       let plain : c.begin_argument-2.new.self ≡ with_made [] [] None (record e { state = a.state }) = search rules in
       called_goes e c.begin_argument-2.new.self c.args.call a (longer z more c.args.input.now.pending) (longer z more c.push_value-2.new.input.pending) (search rules)
       (ap (λ (v : Effect). v.exit) none) (ap (λ (v : Effect). v.skip) none)
       (plain ∙ ap (λ (v : Effect). with_made v.messages v.output v.wrap (record e { state = a.state })) (sym none))
-      (subst (λ (v : Option Pushed). with_value v (longer z more c.args.input.now.pending) ≡ longer z more c.push_value-2.new.input.pending) pushed (c.in_ok-push_value-2.ensures.pushes z more)) o m;
+      (c.in_ok-push_value-2.ensures.pushes z more) o m;
   ready = search rules;
   limits = search rules;
   made = search rules;
