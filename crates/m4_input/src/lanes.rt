@@ -26,14 +26,6 @@ fn first_lane(marks: u64) -> usize
     }
 }
 
-/// Returns a bit for each lane: whether it is this byte. The lowest bit is for the first lane.
-#[inline(always)]
-fn equal_marks(lanes: u8x16, byte: u8) -> u64
-    ensures { result ≡ mask_l (map (λ (b : ℕ). b == byte) lanes) }
-{
-    lanes.simd_eq(u8x16::splat(byte)).to_bitmask()
-}
-
 /// Returns a bit for each lane: whether its byte is one of these two.
 #[inline(always)]
 fn either_marks(lanes: u8x16, one: u8, other: u8) -> u64
@@ -54,18 +46,6 @@ fn other_marks(lanes: u8x16) -> u64
     (letters.simd_ge(u8x16::splat(26))
         & digits.simd_ge(u8x16::splat(10))
         & lanes.simd_ne(u8x16::splat(b'_'))).to_bitmask()
-}
-
-/// Counts the bytes from a place on before the first one of this value, among sixteen; 16 if there is none.
-#[inline(always)]
-pub fn len_before(byte: u8, text: &[u8], at: usize) -> usize
-    requires room { at + 16 ≤ length text.now }
-    ensures within { result ≤ 16 }
-    ensures ends { result < 16 → run_length (λ b. not (b == byte)) (drop at text.now) ≡ result }
-    ensures passes { result ≡ 16 → run_length (λ b. not (b == byte)) (drop at text.now)
-        ≡ 16 + run_length (λ b. not (b == byte)) (drop (at + 16) text.now) }
-{
-    first_lane(equal_marks(u8x16::from_slice(&text[at..]), byte))
 }
 
 /// Counts the bytes from a place on before the first one of these two values, among sixteen; 16 if there is none.

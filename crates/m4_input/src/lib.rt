@@ -7,7 +7,7 @@
 //!
 //! For users of the crate: `Input::file`, `wrapped`, `next`, `sees_paren`, `skip_line`, `push_front`, `line` and
 //! `name`, with [`delims`], [`token`], [`pushed`] and [`fault`]. For the engine, which takes many tokens at once: the
-//! calls of `Input` on the bytes in hand, with [`front`], [`look`] and [`lanes`].
+//! calls of `Input` on the bytes in hand, with [`front`] and [`look`].
 #![tactic(auto)]
 
 pub mod delims;
@@ -15,7 +15,7 @@ pub mod fault;
 mod file;
 pub mod front;
 pub mod input;
-pub mod lanes;
+mod lanes;
 pub mod look;
 mod open_token;
 pub mod pushed;

@@ -66,13 +66,7 @@ pub fn find_byte(text: &[u8], byte: u8) -> Option<usize>
     ensures value { result ≡ before (byte ∷ []) text.now }
     ensures within { IfSome result (λ n. n + 1 ≤ length text.now) }
 {
-    let first = text.first()?;
-    // The rest of a line is often its newline alone, which takes less than a search takes to start.
-    if *first == byte {
-        Some(0)
-    } else {
-        memchr(byte, text)
-    }
+    memchr(byte, text)
 }
 
 /// Returns whether a text begins with a delimiter.
