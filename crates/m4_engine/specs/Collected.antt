@@ -1,6 +1,6 @@
 -- Collected: tokens of a list that change the innermost open call alone.
 -- Not believed: it only says which turns a run may make at once, by the tokens of `scan`.
--- Words: TakesByte, IsTextByte, AreTextBytes, IsBlankByte, AreBlankBytes, IsText, IsListToken, AreListTokens, bytes_in,
+-- Words: TakesByte, IsListEnd, IsTextByte, AreTextBytes, IsBlankByte, AreBlankBytes, IsText, IsListToken, AreListTokens, bytes_in,
 -- IsListRun.
 use Rattle.std.specs.Prelude.{◌≡◌, ℕ, ◌+◌, Bool, true, false, List, [], ◌∷◌, ◌++◌, drop, None, ◌⊎◌}
 use Rattle.m4_state.specs.declared.delimiters.Delimiters.{Delimiters}
@@ -10,7 +10,9 @@ use Rattle.m4_input.specs.declared.front.Scan.TheVariants.{Found}
 use Rattle.m4_input.specs.Token.{scan}
 use Rattle.m4_engine.specs.Nesting.{GoOn}
 use Rattle.m4_engine.specs.Expansion.{Call, Collecting, Expansion}
-use Rattle.m4_engine.specs.declared.role.Role.TheVariants.{Blank, Other}
+use Rattle.m4_engine.specs.declared.role.Role.TheVariants.{Blank, Closing, Other, Separator}
+use Rattle.m4_engine.specs.declared.role.ListEnd.{ListEnd}
+use Rattle.m4_engine.specs.declared.role.ListEnd.TheVariants as ends
 use Rattle.m4_engine.specs.Args.{role_of, take_byte}
 
 -- a byte that belongs to no other token makes d of the open call c, and has no other effect
@@ -18,6 +20,11 @@ abbrev pub TakesByte : ℕ → Call → Call → Type 0
 TakesByte b c d =
     (s : Expansion) → s.mode ≡ Collecting c
     → take_byte (role_of b c) b c s ≡ GoOn (record s { mode = Collecting d })
+
+-- a byte of the open call c ends its argument or its list
+abbrev pub IsListEnd : ListEnd → ℕ → Call → Type 0
+IsListEnd ends.Argument b c = (role_of b c ≡ Separator) × (c.parentheses ≡ 0)
+IsListEnd ends.List b c = (role_of b c ≡ Closing) × (c.parentheses ≡ 0)
 
 -- a byte is a token of its own, whatever follows it, and text in each argument that has begun
 pub record IsTextByte (q k : Delimiters) (b : ℕ) : Type 0 where

@@ -4,18 +4,18 @@
 //! most calls ask for no memory.
 
 ghost use Rattle.std.specs.Prelude.{◌≡◌, ◌<◌, ◌≤◌, ◌+◌, ◌-◌, suc, OnErr, ◌++◌, ◌∷◌, [], true, false, nat_lt, Ok, OnOk};
-ghost use Rattle.std.specs.Prelude.{IfOk, length, take};
+ghost use Rattle.std.specs.Prelude.{IfOk, IfSome, None, length, take};
 ghost use Rattle.std.specs.List.{AllByRecursion};
 ghost use Rattle.m4_state.specs.Definition.{IsDefinition};
 ghost use Rattle.m4_builtins.specs.Args.{IsArg};
 ghost use Rattle.m4_builtins.specs.declared.args.Arg.TheVariants as arguments;
 ghost use Rattle.m4_input.specs.Ascii.{open_parenthesis, close_parenthesis};
 ghost use Rattle.m4_engine.specs.Args.{role_of, argument_of, dropped_if_any, with_argument};
-ghost use Rattle.m4_engine.specs.Collected.{TakesByte};
+ghost use Rattle.m4_engine.specs.Collected.{TakesByte, IsListEnd};
 ghost use Rattle.m4_engine.specs.Engine.{IsCall, warning_if_dropped};
 ghost use Rattle.m4_engine.specs.Expand.{call_of};
 
-use crate::role::Role;
+use crate::role::{ListEnd, Role};
 use m4_builtins::args::Arg;
 use m4_builtins::place::Place;
 use m4_state::append::{append, append_front};
@@ -432,24 +432,25 @@ impl OpenCall {
         Ok(drops)
     }
 
-    /// Acts on a byte that belongs to no other token, unless it closes the list, or ends an argument that drops
-    /// definitions. Returns whether it did.
+    /// Acts on a byte that belongs to no other token, unless it ends an argument that drops definitions, or closes the
+    /// list. Returns the end that was left.
     #[inline(always)]
-    pub fn take_byte(&mut self, byte: u8) -> Result<bool, AllocError>
+    pub fn take_byte(&mut self, byte: u8) -> Result<Option<ListEnd>, AllocError>
         // exact steps: the byte's effect by its role, which is one on the call alone
-        ensures taken { result ≡ Ok true → TakesByte byte self.old self.new }
-        ensures left { result ≡ Ok false → self.new ≡ self.old }
+        ensures taken { result ≡ Ok None → TakesByte byte self.old self.new }
+        ensures left { IfOk result (λ o. IfSome o (λ end. IsListEnd end byte self.old × (self.new ≡ self.old))) }
     {
         match self.role(byte) {
             Role::Blank => {}
             Role::Opening => self.put_opening()?,
             Role::Closing if self.is_nested() => self.put_closing()?,
-            Role::Separator if !self.drops() => {
+            Role::Closing => return Ok(Some(ListEnd::List)),
+            Role::Separator if self.drops() => return Ok(Some(ListEnd::Argument)),
+            Role::Separator => {
                 let _drops_nothing = self.end_argument()?;
             }
-            Role::Closing | Role::Separator => return Ok(false),
             Role::Other => self.put(&[byte])?,
         }
-        Ok(true)
+        Ok(None)
     }
 }

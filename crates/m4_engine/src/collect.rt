@@ -95,8 +95,7 @@ fn collect_byte(
     if call.role(byte) == Role::Other {
         return collect_text(call, text, delims);
     }
-    let taken = call.take_byte(byte)?;
-    if !taken {
+    if let Some(_left) = call.take_byte(byte)? {
         return Ok(0);
     }
     if call.has_begun() {

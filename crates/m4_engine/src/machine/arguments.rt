@@ -7,7 +7,7 @@ ghost use Rattle.m4_engine.specs.Turns.{IsTaken, StepsBy, close_in, step};
 ghost use Rattle.m4_engine.specs.Expand.{take_other};
 
 use crate::machine::Machine;
-use crate::role::Role;
+use crate::role::ListEnd;
 use crate::turned::{TurnFault, Turned};
 use m4_builtins::messages::dropped_message;
 use m4_input::input::Input;
@@ -24,15 +24,14 @@ impl Machine {
             self.put_text(&[byte])?;
             return Ok(Turned::GoesOn);
         };
-        match call.role(byte) {
-            Role::Blank => {}
-            Role::Opening => call.put_opening()?,
-            Role::Closing if call.is_nested() => call.put_closing()?,
-            Role::Closing => return self.take_closing(input),
-            Role::Separator => self.end_argument()?,
-            Role::Other => self.put_text(&[byte])?,
+        match call.take_byte(byte)? {
+            None => Ok(Turned::GoesOn),
+            Some(ListEnd::Argument) => {
+                self.end_argument()?;
+                Ok(Turned::GoesOn)
+            }
+            Some(ListEnd::List) => self.take_closing(input),
         }
-        Ok(Turned::GoesOn)
     }
 
     /// Ends the current argument of the innermost call.

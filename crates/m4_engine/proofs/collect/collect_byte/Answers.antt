@@ -5,8 +5,8 @@ use Rattle.m4_engine.specs.Collected.{AreBlankBytes}
 use Rattle.m4_engine.proofs.ListRuns.{byte_and_blanks, byte_taken, byte_left}
 use Rattle.m4_engine.proofs.collect.collect_byte.Goals as goal
 
-pub returns-then-not-taken-clause-collected : goal.returns-then-not-taken-clause-collected
-returns-then-not-taken-clause-collected c = λ s m q k h. byte_left s m c.args.call.now c.take_byte.new.self c.args.text.now (search rules)
+pub returns-in-Some-clause-collected : goal.returns-in-Some-clause-collected
+returns-in-Some-clause-collected c = λ s m q k h. byte_left s m c.args.call.now c.take_byte.new.self c.args.text.now (search rules)
 
 pub returns-then-has_begun-clause-collected : goal.returns-then-has_begun-clause-collected
 returns-then-has_begun-clause-collected c = λ s m q k h. byte_taken s m c.args.byte c.args.call.now c.take_byte.new.self c.args.text.now h (search rules)
