@@ -15,7 +15,7 @@ use crate::fault::BuiltinFault;
 use itoa::Buffer;
 use m4_state::append::{append, append_front};
 use m4_state::bytes::Bytes;
-use memchr::memchr;
+use m4_state::lanes::{LANES, len_before};
 use std::alloc::{AllocError, Global};
 
 /// Returns a text with the name and the arguments of a call substituted, by the current quotes. Takes
@@ -105,13 +105,39 @@ fn push_plain(out: &mut Vec<u8>, text: &[u8]) -> Result<usize, AllocError>
     Ok(plain)
 }
 
-/// Counts the bytes before the first dollar.
+/// Counts the bytes before the first dollar, sixteen at a time if there are as many. The last sixteen may overlap those
+/// before them.
 #[inline(always)]
 fn plain_len(bytes: &[u8]) -> usize
     ensures value { result ≡ run_length (λ b. not (b == dollar)) bytes.now }
     ensures within { result ≤ length bytes.now }
 {
-    memchr(b'$', bytes).unwrap_or(bytes.len())
+    if bytes.len() < LANES {
+        return plain_len_by_bytes(bytes);
+    }
+    let mut k = 0;
+    while k < bytes.len() {
+        let at = k.min(bytes.len() - LANES);
+        let plain = len_before(b'$', bytes, at);
+        if plain < LANES {
+            return at + plain;
+        }
+        k = at + LANES;
+    }
+    k
+}
+
+/// Counts the bytes before the first dollar, byte by byte.
+#[inline(always)]
+fn plain_len_by_bytes(bytes: &[u8]) -> usize
+    ensures value { result ≡ run_length (λ b. not (b == dollar)) bytes.now }
+    ensures within { result ≤ length bytes.now }
+{
+    let mut k = 0;
+    while k < bytes.len() && bytes[k] != b'$' {
+        k += 1;
+    }
+    k
 }
 
 /// Appends the replacement of a dollar; returns how many of the following bytes it used.

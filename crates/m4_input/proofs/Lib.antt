@@ -6,7 +6,7 @@ pub mod Parts
 pub mod Lines
 pub mod Scanned
 pub mod ByteTables
-pub mod Marks
+pub mod Prefixes
 pub mod Names
 pub mod Calls
 pub mod Decided

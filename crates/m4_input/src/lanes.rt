@@ -1,30 +1,13 @@
-//! Looks at sixteen bytes together. Most names, strings and pieces of a text are short, and to look at their bytes one
-//! by one takes longer. The callers look at a text of fewer bytes themselves.
+//! Where a name or a quote is among sixteen bytes, which are looked at together (`m4_state::lanes`).
 
-ghost use Rattle.std.specs.Prelude.{◌≡◌, ◌==◌, ◌+◌, ◌<◌, ◌≤◌, ℕ, Bool, List, not, drop, length, map};
-ghost use Rattle.std.specs.List.{prefix_len};
+ghost use Rattle.std.specs.Prelude.{◌≡◌, ◌+◌, ◌<◌, ◌≤◌, ℕ, not, length, map};
 ghost use Rattle.std.specs.Simd.Lanes.{mask_l};
 ghost use Rattle.memchr.specs.Find.{Nowhere, Passes, is_byte2};
 ghost use Rattle.m4_input.specs.Ascii.{is_name_byte};
 ghost use Rattle.m4_input.specs.Token.{run_length};
 
+use m4_state::lanes::first_lane;
 use std::simd::prelude::*;
-
-/// How many bytes are looked at together.
-pub const LANES: usize = 16;
-
-/// Returns the first lane that is marked, or 16 if none is.
-#[inline(always)]
-fn first_lane(marks: u64) -> usize
-    ensures { (p : ℕ → Bool) (x : List ℕ) → length x ≡ 16 → marks ≡ mask_l (map p x)
-        → result ≡ prefix_len (λ b. not (p b)) x }
-{
-    if marks == 0 {
-        LANES
-    } else {
-        marks.trailing_zeros() as usize
-    }
-}
 
 /// Returns a bit for each lane: whether its byte is one of these two.
 #[inline(always)]
@@ -50,7 +33,7 @@ fn other_marks(lanes: u8x16) -> u64
 
 /// Counts the bytes from a place on before the first one of these two values, among sixteen; 16 if there is none.
 #[inline(always)]
-pub(crate) fn len_before_either(one: u8, other: u8, text: &[u8], at: usize) -> usize
+pub fn len_before_either(one: u8, other: u8, text: &[u8], at: usize) -> usize
     requires room { at + 16 ≤ length text.now }
     ensures within { result ≤ 16 }
     ensures none { Nowhere (Passes (is_byte2 one other) text.now) at (at + result) }
@@ -61,7 +44,7 @@ pub(crate) fn len_before_either(one: u8, other: u8, text: &[u8], at: usize) -> u
 
 /// Returns the length of the name at the start, or 16 if it has sixteen bytes or more.
 #[inline(always)]
-pub(crate) fn short_word_len(text: &[u8]) -> usize
+pub fn short_word_len(text: &[u8]) -> usize
     requires room { 16 ≤ length text.now }
     ensures within { result ≤ 16 }
     ensures value { result < 16 → result ≡ run_length is_name_byte text.now }

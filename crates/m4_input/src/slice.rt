@@ -5,7 +5,8 @@ ghost use Rattle.m4_input.specs.Ascii.{is_letter, is_name_byte};
 ghost use Rattle.m4_input.specs.Pending.{line_length};
 ghost use Rattle.m4_input.specs.Token.{begins, is_cut, run_length, before};
 
-use crate::lanes::{LANES, short_word_len};
+use crate::lanes::short_word_len;
+use m4_state::lanes::LANES;
 use memchr::memchr;
 
 // A byte that may occur in a name is at its own place, and a comma is at all others. To look a byte up takes half the

@@ -9,8 +9,9 @@ ghost use Rattle.memchr.specs.Find.{IsFirstByte, is_byte2};
 
 use crate::delims::Pair;
 use crate::front::Mark;
-use crate::lanes::{LANES, len_before_either};
+use crate::lanes::len_before_either;
 use crate::slice::{cut, single, starts};
+use m4_state::lanes::LANES;
 use memchr::memchr2;
 
 /// Where a string is after a text whose end may cut a quote.

@@ -15,6 +15,7 @@ mod diverted;
 mod entries;
 pub mod fault;
 mod key;
+pub mod lanes;
 mod marks;
 pub mod memory;
 pub mod named;

@@ -1,7 +1,8 @@
-use Rattle.std.proofs.Common.{◌≡◌, ℕ, Bool, true, false, not, refl, sym}
+use Rattle.std.proofs.Common.{◌≡◌, ℕ, Bool, true, false, not, refl, sym, ◌∙◌}
 use Rattle.std.proofs.lemmas.Simd.{length-chunk, run_in_chunk_le}
 use Rattle.m4_input.specs.Ascii.{is_name_byte}
-use Rattle.m4_input.proofs.Marks.{run_ends}
+use Rattle.m4_state.proofs.LaneMarks.{run_ends}
+use Rattle.m4_input.proofs.Prefixes.{run_is_prefix}
 use Rattle.m4_input.proofs.lanes.short_word_len.Goals as goal
 
 twice : (v : Bool) → v ≡ not (not v)
@@ -19,5 +20,6 @@ returns-clause-within c =
 pub returns-clause-value : goal.returns-clause-value
 returns-clause-value c = λ inside.
     let x = c.args.text.now in
-    sym (run_ends is_other is_name_byte (λ b. twice (is_name_byte b)) x 0 _ c.requires.room
+    sym (run_is_prefix is_name_byte x
+    ∙ run_ends is_other is_name_byte (λ b. twice (is_name_byte b)) x 0 _ c.requires.room
     (c.first_lane.ensures is_other _ (length-chunk 0 16 x c.requires.room) c.other_marks.ensures) inside)

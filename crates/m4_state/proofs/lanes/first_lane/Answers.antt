@@ -2,7 +2,7 @@ use Rattle.std.proofs.Common.{cond, eqb, sym, ap, ◌∙◌, arith}
 use Rattle.std.proofs.lemmas.Simd.{first_set_mask_l}
 use Rattle.std.proofs.lemmas.Bool.{eq-eqb, ne_eqb}
 use lib.Count.{count_trailing_zeros}
-use Rattle.m4_input.proofs.lanes.first_lane.Goals as goal
+use Rattle.m4_state.proofs.lanes.first_lane.Goals as goal
 
 pub returns-then-marks-eq0 : goal.returns-then-marks-eq0
 returns-then-marks-eq0 c p x long is =
