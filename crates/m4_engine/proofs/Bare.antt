@@ -3,8 +3,6 @@ use Rattle.std.proofs.Common.{◌≡◌, ℕ, Bool, true, false, List, [], Some,
 use Rattle.std.specs.Prelude.{nat_lt, Result, Ok, Err, IfOk}
 use Rattle.m4_state.specs.declared.definition.Def.{Def}
 use Rattle.m4_state.specs.declared.definition.Def.TheVariants.{Text}
-use Rattle.m4_state.specs.declared.delimiters.Delimiters.{Delimiters}
-use Rattle.m4_builtins.specs.declared.args.Arg.{Arg}
 use Rattle.m4_input.specs.declared.pushed.Pushed.TheVariants as pushes
 use Rattle.m4_input.specs.Pending.{Pending}
 use Rattle.m4_input.specs.Input.{longer}
@@ -40,25 +38,6 @@ pub bare_goes : (may : Bool) (e e2 e1 : Engine) (c : Call) (p : Extended) (p' : 
     → Moves may e1 p' t (λ z more o m. step (outer_of e.open_calls)
     (call false c (p z more) (here_of o m e (before z more)))))
 bare_goes may e e2 e1 c p p' r room shallow k h = bare_made may e e2 e1 c false p p' r refl room k (ap is_deep_in k ∙ shallow) h
-
--- a text with the same arguments put in
-pub substituted_by : (t x n name : List ℕ) (l list : List Arg) (q r : Delimiters) → x ≡ substituted t n l q → n ≡ name → l ≡ list → q.begin ≡ r.begin → q.end ≡ r.end → x ≡ substituted t name list r
-substituted_by t x n name l list q r h i j f g =
-    h
-    ∙ ap (λ (y : List ℕ). substituted t y l q) i
-    ∙ ap (λ (y : List Arg). substituted t name y q) j
-    ∙ ap (λ (y : List ℕ). let d : Delimiters = record { begin = y; end = q.end } in substituted t name list d) f
-    ∙ ap (λ (y : List ℕ). let d : Delimiters = record { begin = r.begin; end = y } in substituted t name list d) g
-
--- a text that some calls give is what one of them gives
-pub called_as : (may : Bool) (e e1 : Engine) (x y : List ℕ) (c : Call) (p : Extended) (p' : Pending)
-    (r : Result Turned TurnFault)
-    → IfOk r (λ t. (k : Call) (z : List ℕ) → k.definition ≡ Text z → x ≡ substituted z k.name k.done (e.state).quotes
-    → Moves may e1 p' t (λ z more o m. called_within e.open_calls k (here_of o m e (p z more))))
-    → c.definition ≡ Text y → x ≡ substituted y c.name c.done (e.state).quotes
-    → IfOk r (λ t. Moves may e1 p' t (λ z more o m. called_within e.open_calls c (here_of o m e (p z more))))
-called_as may e e1 x y c p p' (Ok t) h d s = h c y d s
-called_as may e e1 x y c p p' (Err f) h d s = tt
 
 -- the same after a call with no list, within the limits
 pub expanded_goes : (may : Bool) (e e2 e1 : Engine) (x : List ℕ) (p : Extended) (p' : Pending)

@@ -16,7 +16,6 @@ ghost use Rattle.m4_builtins.specs.Subst.{subst};
 ghost use Rattle.m4_state.specs.declared.definition.Def.TheVariants.{Text};
 ghost use Rattle.m4_engine.specs.Expansion.{Call};
 ghost use Rattle.m4_engine.specs.Expand.{with_saved, call as call_turn, call_of};
-ghost use Rattle.m4_input.specs.declared.pushed.Pushed.TheVariants as pushes;
 
 use crate::call::OpenCall;
 use crate::machine::Machine;
@@ -51,6 +50,21 @@ fn act_on_call(
     Ok(())
 }
 
+/// Pushes a value: it is read before everything else.
+#[inline(always)]
+#[tactic(auto, using(crate::proofs::Inputs::pushed))]
+fn push(input: &mut Input, value: Pushed) -> Result<(), TurnFault>
+    requires input { IsTaken input.old }
+    requires valid { IsPushed (Some value) }
+    ensures pushes { OnOk result (Pushes input.old.pending input.new.pending (Some value)) }
+    ensures stays { OnOk result (Stays input.old input.new) }
+{
+    match input.push_front(value) {
+        Ok(()) => Ok(()),
+        Err(fault) => Err(TurnFault::of(fault)),
+    }
+}
+
 /// Pushes the value of a call, if it has one. A short text that the call made is copied to its place.
 #[tactic(auto, using(crate::proofs::Inputs::pushed, crate::proofs::Inputs::nothing_pushed))]
 fn push_value(input: &mut Input, effect: &mut EffectBuffer) -> Result<(), TurnFault>
@@ -63,26 +77,9 @@ fn push_value(input: &mut Input, effect: &mut EffectBuffer) -> Result<(), TurnFa
             return Ok(());
         }
     }
-    let Some(value) = effect.take_push() else {
-        return Ok(());
-    };
-    match input.push_front(value) {
-        Ok(()) => Ok(()),
-        Err(fault) => Err(TurnFault::of(fault)),
-    }
-}
-
-/// Pushes the expansion of a call.
-#[inline(always)]
-#[tactic(auto, using(crate::proofs::Inputs::pushed))]
-fn push_expansion(input: &mut Input, text: Bytes) -> Result<(), TurnFault>
-    requires { IsTaken input.old }
-    ensures pushes { OnOk result (Pushes input.old.pending input.new.pending (Some (pushes.Text text))) }
-    ensures stays { OnOk result (Stays input.old input.new) }
-{
-    match input.push_front(Pushed::Text(text)) {
-        Ok(()) => Ok(()),
-        Err(fault) => Err(TurnFault::of(fault)),
+    match effect.take_push() {
+        Some(value) => push(input, value),
+        None => Ok(()),
     }
 }
 
@@ -181,7 +178,9 @@ impl Machine {
             (call_turn false c (longer z more input.old.pending) (here_of o m self.old (before z more))))) }
     {
         self.count();
-        self.push_text(text, input)
+        push(input, Pushed::Text(text))?;
+        self.begin_argument();
+        Ok(Turned::GoesOn)
     }
 
     /// Counts a call of the builtin that skips the rest of the line. The call is a token of the argument around it.
@@ -246,21 +245,6 @@ impl Machine {
         if !self.effect.has_memory() {
             self.effect.lend(input.take_buffer());
         }
-    }
-
-    /// Pushes a text with its arguments substituted: it is read before everything else.
-    #[inline(always)]
-    fn push_text(&mut self, text: Bytes, input: &mut Input) -> Result<Turned, TurnFault>
-        requires { IsTaken input.old }
-        ensures { Steps result self.old self.new input.old input.new
-            (λ t. (c : Call) (x : List ℕ) → c.definition ≡ Text x → text ≡ subst x c.name c.done self.old.state.quotes
-            → Moves input.old.pending.may_follow self.new input.new.pending t
-            (λ z more o m. called_within self.old.open_calls c
-            (here_of o m self.old (longer z more input.old.pending)))) }
-    {
-        push_expansion(input, text)?;
-        self.begin_argument();
-        Ok(Turned::GoesOn)
     }
 
     /// Marks the argument that contains a call as begun, and gives the call around it memory for it.
