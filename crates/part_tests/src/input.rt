@@ -7,7 +7,6 @@ ghost use Rattle.std.specs.Prelude.{◌≡◌, None};
 mod blocks;
 mod calls;
 mod delims;
-mod lanes;
 mod looks;
 mod pieces;
 mod steps;

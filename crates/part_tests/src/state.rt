@@ -4,4 +4,5 @@ mod appended;
 mod builtins;
 mod delimiters;
 mod diversions;
+mod lanes;
 mod names;

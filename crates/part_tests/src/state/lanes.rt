@@ -1,7 +1,7 @@
 //! The bytes before the next one of a kind, sixteen looked at together.
 
 use crate::shows::shows;
-use m4_input::lanes::{LANES, len_before};
+use m4_state::lanes::{LANES, len_before};
 use std::alloc::{AllocError, Global};
 
 // A row's name, a text, the place from which it is looked at, and the bytes that come before a dollar.
