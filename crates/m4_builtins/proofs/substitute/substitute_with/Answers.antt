@@ -1,5 +1,5 @@
 use Rattle.std.proofs.Common.{◌≡◌, map, ◌∙◌, sym, rules}
-use Rattle.m4_input.specs.DelimsView.{pair_of}
+use Rattle.m4_builtins.specs.QuotesView.{pair_of}
 use Rattle.m4_builtins.specs.Args.{text_of_arg}
 use Rattle.m4_builtins.proofs.Joins.{all_plain}
 use Rattle.m4_builtins.proofs.substitute.substitute_with.Goals as goal

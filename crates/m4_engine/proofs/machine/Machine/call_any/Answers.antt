@@ -1,7 +1,7 @@
 use Rattle.std.proofs.Common.{◌≡◌, List, ℕ, subst, rules}
 use Rattle.std.specs.Prelude.{IfOk}
 use Rattle.m4_state.specs.declared.definition.Def.TheVariants.{Text}
-use Rattle.m4_input.specs.DelimsView.{pair_of}
+use Rattle.m4_builtins.specs.QuotesView.{pair_of}
 use Rattle.m4_input.specs.Input.{longer}
 use Rattle.m4_builtins.specs.Subst.{subst as substituted}
 use Rattle.m4_engine.specs.Expansion.{Call}
