@@ -21,4 +21,5 @@ pub mod Act
 pub mod Steps
 pub mod Numbers
 pub mod EffectView
+pub mod QuotesView
 pub mod Warned

@@ -1,7 +1,7 @@
 //! An effect that calls fill in turn, with the memory of the ones before.
 
 ghost use Rattle.std.specs.Prelude.{◌≡◌, ◌++◌, [], OnOk, IfSome, Some, None, true, false, option_copied};
-ghost use Rattle.m4_input.specs.DelimsView.{pair_of};
+ghost use Rattle.m4_builtins.specs.QuotesView.{pair_of};
 
 use crate::args::Arg;
 use crate::effect::Effect;

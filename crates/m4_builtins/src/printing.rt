@@ -2,7 +2,7 @@
 //! "Displaying macro definitions", "Printing error messages", "Printing current location".
 
 ghost use Rattle.std.specs.Prelude.{◌≡◌, ◌++◌, IfOk, OnOk, option_copied};
-ghost use Rattle.m4_input.specs.DelimsView.{pair_of};
+ghost use Rattle.m4_builtins.specs.QuotesView.{pair_of};
 ghost use Rattle.m4_builtins.specs.Acted.{nothing};
 ghost use Rattle.m4_builtins.specs.Printing as spec;
 ghost use Rattle.m4_builtins.specs.Args.{texts_of};

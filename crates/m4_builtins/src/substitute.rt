@@ -5,7 +5,7 @@ ghost use Rattle.std.specs.Prelude.{decimal, take, drop, IfSome, true, List};
 ghost use Rattle.m4_state.specs.declared.delimiters.Delimiters.{Delimiters};
 ghost use Rattle.m4_input.specs.Ascii.{dollar, is_digit};
 ghost use Rattle.m4_input.specs.Token.{run_length};
-ghost use Rattle.m4_input.specs.DelimsView.{pair_of};
+ghost use Rattle.m4_builtins.specs.QuotesView.{pair_of};
 ghost use Rattle.m4_builtins.specs.Args.{text_of_arg, texts_of, joined, quoted};
 ghost use Rattle.m4_builtins.specs.Subst.{subst, after_dollar, number_of, nth_text, all_quoted};
 ghost use Rattle.m4_builtins.specs.Numbers.{IsNumber};

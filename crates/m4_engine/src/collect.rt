@@ -3,7 +3,6 @@
 //! look does not decide. Manual: "Macro arguments", "Quoting arguments".
 
 ghost use Rattle.std.specs.Prelude.{◌≡◌, ◌<◌, ◌≤◌, ℕ, Bool, true, IfOk, length, take, drop};
-ghost use Rattle.m4_input.specs.DelimsView.{pair_of};
 ghost use Rattle.m4_input.specs.Token.{scan};
 ghost use Rattle.m4_input.specs.declared.front.Scan.TheVariants.{Found};
 ghost use Rattle.m4_input.specs.declared.token.Token.TheVariants.{Byte};
@@ -57,8 +56,8 @@ fn collect_first(
     delims: &Delims<'_>,
 ) -> Result<usize, AllocError>
     requires lies { FirstLies (length text.now) first.now }
-    ensures collected { IfOk result (λ n. (s : State) (m : Bool) → pair_of delims.now.quotes ≡ s.quotes
-        → pair_of delims.now.comments ≡ s.comments
+    ensures collected { IfOk result (λ n. (s : State) (m : Bool) → delims.now.quotes.now ≡ s.quotes
+        → delims.now.comments.now ≡ s.comments
         → IsFirst s m text.now first.now → IsListRun s m n call.old call.new text.now) }
     ensures within { IfOk result (λ n. n ≤ length text.now) }
 {
@@ -87,8 +86,8 @@ fn collect_byte(
     delims: &Delims<'_>,
 ) -> Result<usize, AllocError>
     requires { 0 < length text.now }
-    ensures collected { IfOk result (λ n. (s : State) (m : Bool) → pair_of delims.now.quotes ≡ s.quotes
-        → pair_of delims.now.comments ≡ s.comments
+    ensures collected { IfOk result (λ n. (s : State) (m : Bool) → delims.now.quotes.now ≡ s.quotes
+        → delims.now.comments.now ≡ s.comments
         → scan s.quotes s.comments m text.now ≡ Found (Byte byte) 1 → IsListRun s m n call.old call.new text.now) }
     ensures within { IfOk result (λ n. n ≤ length text.now) }
 {
@@ -109,8 +108,8 @@ fn collect_byte(
 #[inline(always)]
 fn collect_text(call: &mut OpenCall, text: &[u8], delims: &Delims<'_>) -> Result<usize, AllocError>
     requires { 0 < length text.now }
-    ensures collected { IfOk result (λ n. (s : State) (m : Bool) (b : ℕ) → pair_of delims.now.quotes ≡ s.quotes
-        → pair_of delims.now.comments ≡ s.comments
+    ensures collected { IfOk result (λ n. (s : State) (m : Bool) (b : ℕ) → delims.now.quotes.now ≡ s.quotes
+        → delims.now.comments.now ≡ s.comments
         → scan s.quotes s.comments m text.now ≡ Found (Byte b) 1 → role_of b call.old ≡ Role.Other
         → IsListRun s m n call.old call.new text.now) }
     ensures within { IfOk result (λ n. n ≤ length text.now) }
@@ -123,7 +122,7 @@ fn collect_text(call: &mut OpenCall, text: &[u8], delims: &Delims<'_>) -> Result
 /// Counts the spaces at the start. Before an argument's first token they are dropped, so they are passed together.
 #[inline(always)]
 fn plain_spaces_len(text: &[u8], delims: &Delims<'_>) -> usize
-    ensures bytes { AreBlankBytes (pair_of delims.now.quotes) (pair_of delims.now.comments) (take result text.now) }
+    ensures bytes { AreBlankBytes delims.now.quotes.now delims.now.comments.now (take result text.now) }
     ensures within { result ≤ length text.now }
 {
     let mut k = 0;

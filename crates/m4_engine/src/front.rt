@@ -4,7 +4,6 @@
 
 ghost use Rattle.std.specs.Prelude.{◌≡◌, ◌<◌, ◌≤◌, ◌+◌, ℕ, Bool, true, List, IfSome, length, take, drop};
 ghost use Rattle.m4_state.specs.State.{State as Specified};
-ghost use Rattle.m4_input.specs.DelimsView.{pair_of};
 ghost use Rattle.m4_input.specs.Look.{scan_of, LookLies};
 ghost use Rattle.m4_input.specs.Token.{scan};
 ghost use Rattle.m4_input.specs.declared.front.Scan.TheVariants.{Found};
@@ -77,9 +76,9 @@ pub fn plain_run<'a>(
 /// Returns whether a byte is a space with which no delimiter begins: a token of its own, whatever follows it.
 #[inline(always)]
 pub fn is_plain_space(byte: u8, delims: &Delims<'_>) -> bool
-    ensures { result ≡ true → IsBlankByte (pair_of delims.now.quotes) (pair_of delims.now.comments) byte }
+    ensures { result ≡ true → IsBlankByte delims.now.quotes.now delims.now.comments.now byte }
 {
-    byte == b' ' && !may_begin(byte, &delims.comments) && !may_begin(byte, &delims.quotes)
+    byte == b' ' && !may_begin(byte, delims.comments) && !may_begin(byte, delims.quotes)
 }
 
 /// Returns whether each space is a token of its own.
@@ -114,8 +113,8 @@ fn first_plain<'a>(
     delims: &Delims<'_>,
     may_follow: bool,
 ) -> Option<First<'a>>
-    requires quotes { pair_of delims.now.quotes ≡ state.now.quotes }
-    requires comments { pair_of delims.now.comments ≡ state.now.comments }
+    requires quotes { delims.now.quotes.now ≡ state.now.quotes }
+    requires comments { delims.now.comments.now ≡ state.now.comments }
     ensures first { IfSome result (λ f. IsFirst state.now may_follow text.now f) }
     ensures lies { IfSome result (λ f. FirstLies (length text.now) f) }
 {
@@ -126,8 +125,8 @@ fn first_plain<'a>(
 /// Counts the bytes of the comment at the start; 0 if there is none.
 #[inline(never)]
 fn comment_len(text: &[u8], state: &State, delims: &Delims<'_>, may_follow: bool) -> usize
-    requires quotes { pair_of delims.now.quotes ≡ state.now.quotes }
-    requires comments { pair_of delims.now.comments ≡ state.now.comments }
+    requires quotes { delims.now.quotes.now ≡ state.now.quotes }
+    requires comments { delims.now.comments.now ≡ state.now.comments }
     ensures comment { 0 < result → scan state.now.quotes state.now.comments may_follow text.now
         ≡ Found (Comment (take result text.now)) result }
     ensures within { result ≤ length text.now }
@@ -135,7 +134,7 @@ fn comment_len(text: &[u8], state: &State, delims: &Delims<'_>, may_follow: bool
     let Some(first) = text.first() else {
         return 0;
     };
-    if !may_begin(*first, &delims.comments) {
+    if !may_begin(*first, delims.comments) {
         return 0;
     }
     match first_token(text, delims, may_follow) {
@@ -153,8 +152,8 @@ fn first_of<'a>(
     delims: &Delims<'_>,
     may_follow: bool,
 ) -> First<'a>
-    requires quotes { pair_of delims.now.quotes ≡ state.now.quotes }
-    requires comments { pair_of delims.now.comments ≡ state.now.comments }
+    requires quotes { delims.now.quotes.now ≡ state.now.quotes }
+    requires comments { delims.now.comments.now ≡ state.now.comments }
     requires value { scan state.now.quotes state.now.comments may_follow text.now ≡ scan_of look text.now }
     requires lies { LookLies text.now look }
     ensures first { IsFirst state.now may_follow text.now result }
@@ -190,8 +189,8 @@ pub fn first_in_list<'a>(
     delims: &Delims<'_>,
     may_follow: bool,
 ) -> First<'a>
-    requires quotes { pair_of delims.now.quotes ≡ state.now.quotes }
-    requires comments { pair_of delims.now.comments ≡ state.now.comments }
+    requires quotes { delims.now.quotes.now ≡ state.now.quotes }
+    requires comments { delims.now.comments.now ≡ state.now.comments }
     // exact steps: the token of the definition `scan`, with the definition of its name
     ensures first { IsFirst state.now may_follow text.now result }
     ensures lies { FirstLies (length text.now) result }

@@ -2,12 +2,12 @@
 //! Manual: "Macro arguments".
 
 ghost use Rattle.std.specs.Prelude.{◌≡◌, ◌<◌, ◌≤◌, ◌∷◌, ℕ, Bool, true, false, List, get_or, length, take};
-ghost use Rattle.m4_input.specs.DelimsView.{pair_of};
 ghost use Rattle.m4_input.specs.Token.{starts_with, may_start};
 ghost use Rattle.m4_engine.specs.Collected.{IsTextByte, AreTextBytes};
 ghost use Rattle.m4_engine.specs.declared.text_bytes.TheConstants.{CLASSES};
 
 use m4_input::delims::Delims;
+use m4_state::delimiters::Delimiters;
 
 // The class of each byte. Letters, the underscore, parentheses and the comma are of class 0, and so are the bytes
 // with which delimiters mostly begin; digits are of class 2, and all others of class 1. So a byte whose class is above
@@ -24,14 +24,14 @@ static CLASSES: [u8; 256] = *b"\
 
 /// Returns the class of the byte with which a pair of delimiters begins; the least one if it is disabled.
 #[inline(always)]
-fn class_of(pair: &(&[u8], &[u8])) -> u8
+fn class_of(pair: &Delimiters) -> u8
     ensures least { 48 ≤ result }
     ensures starts { (b : ℕ) → result < get_or CLASSES b 0 → (y : List ℕ)
-        → starts_with (pair_of pair.now) (b ∷ y) ≡ false }
+        → starts_with pair.now (b ∷ y) ≡ false }
     ensures may { (b : ℕ) → result < get_or CLASSES b 0 → (m : Bool) (y : List ℕ)
-        → may_start (pair_of pair.now) m (b ∷ y) ≡ false }
+        → may_start pair.now m (b ∷ y) ≡ false }
 {
-    match pair.0.first() {
+    match pair.begin.as_slice().first() {
         Some(byte) => CLASSES[*byte as usize].max(b'0'),
         None => b'0',
     }
@@ -41,17 +41,17 @@ fn class_of(pair: &(&[u8], &[u8])) -> u8
 #[inline(always)]
 fn greatest_class(delims: &Delims<'_>) -> u8
     ensures { (b : ℕ) → b < 256 → result < get_or CLASSES b 0
-        → IsTextByte (pair_of delims.now.quotes) (pair_of delims.now.comments) b }
+        → IsTextByte delims.now.quotes.now delims.now.comments.now b }
 {
-    let comments = class_of(&delims.comments);
-    let quotes = class_of(&delims.quotes);
+    let comments = class_of(delims.comments);
+    let quotes = class_of(delims.quotes);
     comments.max(quotes)
 }
 
 /// Counts the bytes at the start that are text in an argument that has begun.
 #[inline(always)]
 pub fn text_len(text: &[u8], delims: &Delims<'_>) -> usize
-    ensures bytes { AreTextBytes (pair_of delims.now.quotes) (pair_of delims.now.comments) (take result text.now) }
+    ensures bytes { AreTextBytes delims.now.quotes.now delims.now.comments.now (take result text.now) }
     ensures within { result ≤ length text.now }
 {
     let greatest = greatest_class(delims);

@@ -1,15 +1,16 @@
 -- Scans: scanning a text from its front, byte by byte.
 use Rattle.std.proofs.Common.{◌≡◌, ℕ, zero, suc, ◌+◌, ◌-◌, ◌<◌, ◌≤◌, Bool, true, false, ◌&&◌, List, [], ◌∷◌, length}
 use Rattle.std.proofs.Common.{drop, Option, Some, None, refl, sym, ap, ◌∙◌, arith, nat_eq, get_or}
+use Rattle.std.proofs.lemmas.Grind.{common_steps}
 use Rattle.std.proofs.lemmas.List.{drop_more}
 use Rattle.m4_state.specs.declared.delimiters.Delimiters.{Delimiters}
-use Rattle.std.specs.Prelude.{◌==◌}
+use Rattle.std.specs.Prelude.{◌==◌, nat_lt}
 use Rattle.std.specs.List.{starts_with}
 use Rattle.m4_input.specs.declared.front.Mark.{Mark}
 use Rattle.m4_input.specs.declared.front.Mark.TheVariants.{EndQuote, BeginQuote, PlainByte, CutQuote}
 use Rattle.m4_input.specs.Pending.{one_more}
 use Rattle.m4_input.specs.OpenToken.{further}
-use Rattle.m4_input.specs.Token.{begins, before, level, mark_at, mark_by}
+use Rattle.m4_input.specs.Token.{begins, is_cut, before, level, mark_at, mark_by}
 
 pub before_step : (e x : List ℕ) (b : ℕ) → begins e (b ∷ x) ≡ false → before e (b ∷ x) ≡ one_more (before e x)
 before_step e x b h = rw (h, before) refl
@@ -19,6 +20,16 @@ pub starts_begins : (d x : List ℕ) → starts_with nat_eq x d ≡ begins d x
 starts_begins [] x = refl
 starts_begins (b ∷ d) [] = refl
 starts_begins (b ∷ d) (c ∷ x) = ap (λ v. (b == c) && v) (starts_begins d x)
+
+-- a delimiter that does not begin with the first byte of a text is not at its start, and is not cut by its end
+pub none_begun : (d : List ℕ) (b : ℕ) → starts_with nat_eq d (b ∷ []) ≡ false → (y : List ℕ) → nat_lt 0 (length d) && begins d (b ∷ y) ≡ false
+none_begun [] b e y = refl
+none_begun (a ∷ d) b e y = grind (arith, common_steps, e)
+
+pub none_cut : (d : List ℕ) (b : ℕ) → starts_with nat_eq d (b ∷ []) ≡ false → (m : Bool) (y : List ℕ) → m && (nat_lt 0 (length d) && is_cut (b ∷ y) d) ≡ false
+none_cut d b e false y = refl
+none_cut [] b e true y = refl
+none_cut (a ∷ d) b e true y = grind (arith, common_steps, e)
 
 further_one_more : (k : ℕ) (o : Option ℕ) → further k (one_more o) ≡ further (k + 1) o
 further_one_more k None = refl

@@ -1,5 +1,4 @@
 pub mod Ascii
-pub mod DelimsView
 pub mod Pending
 pub mod Token
 pub mod Look

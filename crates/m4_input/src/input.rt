@@ -10,7 +10,6 @@
 ghost use Rattle.std.specs.Prelude.{◌≡◌, ◌<◌, ◌≤◌, List, ℕ, Some, None, OnOk, OnErr, IfOk, IfErr, IfSome, Ok, Err};
 ghost use Rattle.std.specs.Prelude.{true, false, [], ◌||◌, ◌≢◌, IfNone, length, take};
 ghost use Rattle.m4_state.specs.Device.{Script};
-ghost use Rattle.m4_input.specs.DelimsView.{pair_of};
 ghost use Rattle.m4_input.specs.Pending.{consumed, line_of, name_of, newlines_in, text_of};
 ghost use Rattle.m4_input.specs.Look.{scan_of};
 ghost use Rattle.m4_input.specs.Paren.{paren_in};
@@ -288,7 +287,7 @@ impl Input {
         delims: &Delims<'_>,
     ) -> Result<Token, InputFault>
         // exact steps: the token, and the rest after it; the reader was asked only where the token was open
-        ensures gives { NextGives (pair_of delims.now.quotes) (pair_of delims.now.comments)
+        ensures gives { NextGives delims.now.quotes.now delims.now.comments.now
             (R.script reader.old) (R.script reader.new) self.old self.new result }
         ensures counted { R.failures reader.new
             ≡ failures_after self.old.fault self.new.fault (R.failures reader.old) }
@@ -322,7 +321,7 @@ impl Input {
         delims: &Delims<'_>,
     ) -> Result<bool, InputFault>
         // exact steps: whether a list follows; the reader was asked only where that was open
-        ensures gives { ParenGives (pair_of delims.now.quotes) (pair_of delims.now.comments)
+        ensures gives { ParenGives delims.now.quotes.now delims.now.comments.now
             (R.script reader.old) (R.script reader.new) self.old self.new result }
         ensures counted { R.failures reader.new
             ≡ failures_after self.old.fault self.new.fault (R.failures reader.old) }
@@ -400,7 +399,7 @@ impl Input {
         requires sound { self.old.fault ≡ None }
         // exact steps: blocks of the reader after the bytes in hand, or its end; a further one only where the first
         // token was open
-        ensures gives { TokenGives (pair_of delims.now.quotes) (pair_of delims.now.comments)
+        ensures gives { TokenGives delims.now.quotes.now delims.now.comments.now
             (R.script reader.old) (R.script reader.new) self.old self.new result }
         // the reader is at its end, or bytes came, which they do only a limited number of times
         ensures falls { result ≡ Ok tt → self.new.pending.may_follow ≡ true
@@ -428,7 +427,7 @@ impl Input {
     /// allocation fails.
     fn open_token(&self, delims: &Delims<'_>) -> Option<OpenToken>
         ensures { IfSome result (λ o. (self.now.pending.definition ≡ None)
-            × IsOpenAt (pair_of delims.now.quotes) (pair_of delims.now.comments) o (text_of self.now.pending)) }
+            × IsOpenAt delims.now.quotes.now delims.now.comments.now o (text_of self.now.pending)) }
     {
         if self.definition.is_some() {
             return None;
@@ -448,9 +447,8 @@ impl Input {
     /// Returns the first token of the bytes in hand, without a definition that comes before them, by as many of them
     /// as decide it; `NeedsMore` if bytes that may follow can change it. Consumes nothing. Returns `AllocError` if an
     /// allocation fails. Manual: "Lexical and syntactic conventions".
-    pub fn look(&self, delims: &Delims<'_>) -> Result<Scan, AllocError>
-        // exact steps: the first token of the bytes in hand
-        ensures value { IfOk result (λ s. s ≡ scan (pair_of delims.now.quotes) (pair_of delims.now.comments)
+    fn look(&self, delims: &Delims<'_>) -> Result<Scan, AllocError>
+        ensures value { IfOk result (λ s. s ≡ scan delims.now.quotes.now delims.now.comments.now
             self.now.pending.may_follow (text_of self.now.pending)) }
         ensures within { IfOk result (λ s. LiesIn (length (text_of self.now.pending)) s) }
     {
@@ -469,7 +467,7 @@ impl Input {
     /// Returns whether an argument list comes first, by as many bytes in hand as decide it; `Unknown` if bytes that may
     /// follow decide it. Manual: "Macro invocation".
     fn list_in_front(&self, delims: &Delims<'_>) -> Result<Answer, AllocError>
-        ensures { IfOk result (λ answer. paren_in (pair_of delims.now.quotes) (pair_of delims.now.comments)
+        ensures { IfOk result (λ answer. paren_in delims.now.quotes.now delims.now.comments.now
             self.now.pending.may_follow (text_of self.now.pending) ≡ answer) }
     {
         let mut copy = Vec::new(self.alloc);

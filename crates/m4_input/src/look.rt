@@ -6,27 +6,27 @@
 
 ghost use Rattle.std.specs.Prelude.{◌≡◌, ◌<◌, ◌≤◌, ◌∷◌, [], Bool, List, ℕ, false, IfSome, length, drop};
 ghost use Rattle.m4_input.specs.Ascii.{is_name_byte};
-ghost use Rattle.m4_input.specs.DelimsView.{pair_of};
 ghost use Rattle.m4_input.specs.Look.{scan_of, LookLies};
 ghost use Rattle.m4_input.specs.Paren.{paren_in};
 ghost use Rattle.m4_input.specs.Token.{starts_with, may_start, run_length, unended, name_at, comment_at, string_at};
 ghost use Rattle.m4_input.specs.Token.{scan};
 
-use crate::delims::{Delims, Pair};
+use crate::delims::Delims;
 use crate::front::{Answer, Kind, Look, Unended};
 use crate::scan::{kind, may_open, opens};
 use crate::slice::{find, is_letter_byte, single, word_len};
 use crate::strings::{StringSoFar, follow_string};
+use m4_state::delimiters::Delimiters;
 
 /// Returns the first token of a text, if no delimiter can begin with its first byte. This takes no search.
 #[inline(always)]
 pub fn plain_token(text: &[u8], delims: &Delims<'_>, may_follow: bool) -> Option<Look>
-    ensures value { IfSome result (λ l. scan (pair_of delims.now.quotes) (pair_of delims.now.comments)
+    ensures value { IfSome result (λ l. scan delims.now.quotes.now delims.now.comments.now
         may_follow text.now ≡ scan_of l text.now) }
     ensures lies { IfSome result (λ l. LookLies text.now l) }
 {
     let (first, _) = text.split_first()?;
-    if may_begin(*first, &delims.comments) || may_begin(*first, &delims.quotes) {
+    if may_begin(*first, delims.comments) || may_begin(*first, delims.quotes) {
         None
     } else if is_letter_byte(*first) {
         Some(name_token(text, may_follow))
@@ -40,7 +40,7 @@ pub fn plain_token(text: &[u8], delims: &Delims<'_>, may_follow: bool) -> Option
 #[inline(always)]
 pub fn first_token(text: &[u8], delims: &Delims<'_>, may_follow: bool) -> Look
     // exact steps: what the definition of the first token decides
-    ensures value { scan (pair_of delims.now.quotes) (pair_of delims.now.comments) may_follow text.now
+    ensures value { scan delims.now.quotes.now delims.now.comments.now may_follow text.now
         ≡ scan_of result text.now }
     ensures lies { LookLies text.now result }
 {
@@ -72,22 +72,22 @@ fn name_token(text: &[u8], may_follow: bool) -> Look
 /// byte, and neither a comment nor a name can begin with it.
 #[inline(always)]
 fn quoted_token(text: &[u8], delims: &Delims<'_>, may_follow: bool) -> Option<Look>
-    ensures value { IfSome result (λ l. scan (pair_of delims.now.quotes) (pair_of delims.now.comments)
+    ensures value { IfSome result (λ l. scan delims.now.quotes.now delims.now.comments.now
         may_follow text.now ≡ scan_of l text.now) }
     ensures lies { IfSome result (λ l. LookLies text.now l) }
 {
     let first = text.first()?;
-    let begin = single(delims.quotes.0)?;
-    if *first != begin || is_letter_byte(*first) || may_begin(*first, &delims.comments) {
+    let begin = single(delims.quotes.begin.as_slice())?;
+    if *first != begin || is_letter_byte(*first) || may_begin(*first, delims.comments) {
         return None;
     }
-    Some(look_at_string(text, &delims.quotes, may_follow))
+    Some(look_at_string(text, delims.quotes, may_follow))
 }
 
 /// Returns the first token of a text, by its kind.
 #[inline(never)]
 fn look_by_kind(text: &[u8], delims: &Delims<'_>, may_follow: bool) -> Look
-    ensures value { scan (pair_of delims.now.quotes) (pair_of delims.now.comments) may_follow text.now
+    ensures value { scan delims.now.quotes.now delims.now.comments.now may_follow text.now
         ≡ scan_of result text.now }
     ensures lies { LookLies text.now result }
 {
@@ -99,38 +99,41 @@ fn look_by_kind(text: &[u8], delims: &Delims<'_>, may_follow: bool) -> Look
         };
     };
     match kind(text, delims, may_follow, *first) {
-        Kind::CommentHere => look_at_comment(text, &delims.comments, may_follow),
+        Kind::CommentHere => look_at_comment(text, delims.comments, may_follow),
         Kind::NameHere => name_token(text, may_follow),
-        Kind::StringHere => look_at_string(text, &delims.quotes, may_follow),
+        Kind::StringHere => look_at_string(text, delims.quotes, may_follow),
         Kind::ByteHere => Look::Byte(*first),
         Kind::Undecided => Look::NeedsMore,
     }
 }
 
 /// Returns the comment at the start of a text, with its delimiters.
-fn look_at_comment(text: &[u8], pair: &Pair<'_>, may_follow: bool) -> Look
-    requires { length pair.now.0.now ≤ length text.now }
-    ensures value { comment_at (pair_of pair.now) may_follow text.now ≡ scan_of result text.now }
+fn look_at_comment(text: &[u8], pair: &Delimiters, may_follow: bool) -> Look
+    requires { length pair.now.begin ≤ length text.now }
+    ensures value { comment_at pair.now may_follow text.now ≡ scan_of result text.now }
     ensures lies { LookLies text.now result }
 {
-    match find(text.split_at(pair.0.len()).1, pair.1) {
+    let begin = pair.begin.as_slice().len();
+    let end = pair.end.as_slice();
+    match find(text.split_at(begin).1, end) {
         None => without_end(Unended::InComment, may_follow),
-        Some(n) => Look::Comment(pair.0.len() + (n + pair.1.len())),
+        Some(n) => Look::Comment(begin + (n + end.len())),
     }
 }
 
 /// Returns the string at the start of a text, without its outermost quotes.
 #[inline(always)]
-fn look_at_string(text: &[u8], pair: &Pair<'_>, may_follow: bool) -> Look
-    requires starts { length pair.now.0.now ≤ length text.now }
-    requires begin { 0 < length pair.now.0.now }
-    ensures value { string_at (pair_of pair.now) may_follow text.now ≡ scan_of result text.now }
+fn look_at_string(text: &[u8], pair: &Delimiters, may_follow: bool) -> Look
+    requires starts { length pair.now.begin ≤ length text.now }
+    requires begin { 0 < length pair.now.begin }
+    ensures value { string_at pair.now may_follow text.now ≡ scan_of result text.now }
     ensures lies { LookLies text.now result }
 {
-    let begin = pair.0.len();
+    let begin = pair.begin.as_slice().len();
+    let end = pair.end.as_slice();
     match follow_string(text.split_at(begin).1, 0, pair, may_follow) {
         StringSoFar::Open(_, _) => without_end(Unended::InString, may_follow),
-        StringSoFar::Ends(n) => Look::Quoted(begin, n, begin + (n + pair.1.len())),
+        StringSoFar::Ends(n) => Look::Quoted(begin, n, begin + (n + end.len())),
     }
 }
 
@@ -139,7 +142,7 @@ fn look_at_string(text: &[u8], pair: &Pair<'_>, may_follow: bool) -> Look
 #[inline(always)]
 pub fn list_follows(text: &[u8], delims: &Delims<'_>, may_follow: bool) -> Answer
     // exact steps: whether a list follows
-    ensures { paren_in (pair_of delims.now.quotes) (pair_of delims.now.comments) may_follow text.now ≡ result }
+    ensures { paren_in delims.now.quotes.now delims.now.comments.now may_follow text.now ≡ result }
 {
     match text.first() {
         Some(b'(') => {}
@@ -148,7 +151,7 @@ pub fn list_follows(text: &[u8], delims: &Delims<'_>, may_follow: bool) -> Answe
         None => return Answer::No,
     }
     // Hardly ever does a delimiter begin with a parenthesis.
-    if may_begin(b'(', &delims.comments) || may_begin(b'(', &delims.quotes) {
+    if may_begin(b'(', delims.comments) || may_begin(b'(', delims.quotes) {
         list_by_delimiters(text, delims, may_follow)
     } else {
         Answer::Yes
@@ -159,10 +162,10 @@ pub fn list_follows(text: &[u8], delims: &Delims<'_>, may_follow: bool) -> Answe
 #[inline(never)]
 fn list_by_delimiters(text: &[u8], delims: &Delims<'_>, may_follow: bool) -> Answer
     requires { text.now ≡ 40 ∷ drop 1 text.now }
-    ensures { paren_in (pair_of delims.now.quotes) (pair_of delims.now.comments) may_follow text.now ≡ result }
+    ensures { paren_in delims.now.quotes.now delims.now.comments.now may_follow text.now ≡ result }
 {
-    let comments = &delims.comments;
-    let quotes = &delims.quotes;
+    let comments = delims.comments;
+    let quotes = delims.quotes;
     if opens(text, comments) || opens(text, quotes) {
         Answer::No
     } else if may_open(text, comments, may_follow) || may_open(text, quotes, may_follow) {
@@ -174,14 +177,11 @@ fn list_by_delimiters(text: &[u8], delims: &Delims<'_>, may_follow: bool) -> Ans
 
 /// Returns whether the first of two delimiters begins with this byte.
 #[inline(always)]
-pub fn may_begin(first: u8, pair: &Pair<'_>) -> bool
-    ensures starts { result ≡ false → (y : List ℕ) → starts_with (pair_of pair.now) (first ∷ y) ≡ false }
-    ensures may { result ≡ false → (m : Bool) (y : List ℕ) → may_start (pair_of pair.now) m (first ∷ y) ≡ false }
+pub fn may_begin(first: u8, pair: &Delimiters) -> bool
+    ensures starts { result ≡ false → (y : List ℕ) → starts_with pair.now (first ∷ y) ≡ false }
+    ensures may { result ≡ false → (m : Bool) (y : List ℕ) → may_start pair.now m (first ∷ y) ≡ false }
 {
-    match pair.0.first() {
-        Some(byte) => *byte == first,
-        None => false,
-    }
+    pair.begin.begins_with(first)
 }
 
 /// Returns a token that has no end in the bytes that are available.

@@ -5,7 +5,6 @@
 //! Manual: "Names", "Quoted strings", "Comments".
 
 ghost use Rattle.std.specs.Prelude.{◌≡◌, ◌<◌, ◌^◌, IfSome, length};
-ghost use Rattle.m4_input.specs.DelimsView.{pair_of};
 ghost use Rattle.m4_input.specs.OpenToken.{IsOpenAt, StaysOpen, CommentGoesOn};
 ghost use Rattle.m4_input.specs.Text.{text_in};
 
@@ -46,7 +45,7 @@ impl Text {
     /// Returns the first token if it may continue in bytes that follow; none of its bytes counts as looked at. Also
     /// returns `None` if an allocation fails.
     pub fn open_token(&self, alloc: Global, delims: &Delims<'_>) -> Option<OpenToken>
-        ensures { IfSome result (λ o. IsOpenAt (pair_of delims.now.quotes) (pair_of delims.now.comments) o
+        ensures { IfSome result (λ o. IsOpenAt delims.now.quotes.now delims.now.comments.now o
             (text_in self.now)) }
     {
         let mut copy = Vec::new(alloc);
@@ -68,8 +67,8 @@ impl Text {
         token: OpenToken,
         delims: &Delims<'_>,
     ) -> Option<OpenToken>
-        requires { IsOpenAt (pair_of delims.now.quotes) (pair_of delims.now.comments) token (text_in self.now) }
-        ensures { IfSome result (λ o. StaysOpen (pair_of delims.now.quotes) (pair_of delims.now.comments) o
+        requires { IsOpenAt delims.now.quotes.now delims.now.comments.now token (text_in self.now) }
+        ensures { IfSome result (λ o. StaysOpen delims.now.quotes.now delims.now.comments.now o
             (text_in self.now)) }
     {
         // For the proof alone: a length has 64 bits.
@@ -84,13 +83,13 @@ impl Text {
                 Some(OpenToken::Name(at + rest.len()))
             }
             OpenToken::Comment(at) => {
-                let rest = self.bytes_from(delims.comments.0.len() + at, &mut copy)?;
-                let further = comment_goes_on(rest, delims.comments.1)?;
+                let rest = self.bytes_from(delims.comments.begin.as_slice().len() + at, &mut copy)?;
+                let further = comment_goes_on(rest, delims.comments.end.as_slice())?;
                 Some(OpenToken::Comment(at + further))
             }
             OpenToken::Quoted(at, depth) => {
-                let rest = self.bytes_from(delims.quotes.0.len() + at, &mut copy)?;
-                match follow_string(rest, depth, &delims.quotes, true) {
+                let rest = self.bytes_from(delims.quotes.begin.as_slice().len() + at, &mut copy)?;
+                match follow_string(rest, depth, delims.quotes, true) {
                     StringSoFar::Ends(_) => None,
                     StringSoFar::Open(further, nested) => Some(OpenToken::Quoted(
                         at + further,

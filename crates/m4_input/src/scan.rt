@@ -2,53 +2,55 @@
 //! that they could change. Manual: "Quoted strings", "Comments", "Names".
 
 ghost use Rattle.std.specs.Prelude.{◌≡◌, ◌+◌, ◌<◌, ◌≤◌, ◌∷◌, IfSome, IfOk, IsTrue, length, take, drop};
-ghost use Rattle.m4_input.specs.DelimsView.{pair_of};
 ghost use Rattle.m4_input.specs.Token.{starts_with, may_start, kind_of};
 ghost use Rattle.m4_input.specs.Look.{scan_of, LookLies};
 ghost use Rattle.m4_input.specs.Text.{LiesIn};
 
-use crate::delims::{Delims, Pair};
+use crate::delims::Delims;
 use crate::front::{Kind, Look, Scan};
 use crate::slice::{cut, is_letter_byte, starts};
 use crate::token::Token;
 use m4_state::bytes::Bytes;
+use m4_state::delimiters::Delimiters;
 use std::alloc::{AllocError, Global};
 
 /// Returns whether a text begins with a pair that is enabled.
-pub fn opens(text: &[u8], pair: &Pair<'_>) -> bool
-    ensures value { result ≡ starts_with (pair_of pair.now) text.now }
+pub fn opens(text: &[u8], pair: &Delimiters) -> bool
+    ensures value { result ≡ starts_with pair.now text.now }
     ensures within { IsTrue result
-        → (0 < length pair.now.0.now) × (length pair.now.0.now ≤ length text.now) }
+        → (0 < length pair.now.begin) × (length pair.now.begin ≤ length text.now) }
 {
-    !pair.0.is_empty() && starts(text, pair.0)
+    let begin = pair.begin.as_slice();
+    !begin.is_empty() && starts(text, begin)
 }
 
 /// Returns whether a text may turn out to begin with the pair once more bytes follow.
-pub fn may_open(text: &[u8], pair: &Pair<'_>, may_follow: bool) -> bool
-    ensures { result ≡ may_start (pair_of pair.now) may_follow text.now }
+pub fn may_open(text: &[u8], pair: &Delimiters, may_follow: bool) -> bool
+    ensures { result ≡ may_start pair.now may_follow text.now }
 {
-    may_follow && !pair.0.is_empty() && cut(text, pair.0)
+    let begin = pair.begin.as_slice();
+    may_follow && !begin.is_empty() && cut(text, begin)
 }
 
 /// Returns the kind of token with which a text begins.
 pub fn kind(text: &[u8], delims: &Delims<'_>, may_follow: bool, first: u8) -> Kind
     requires { text.now ≡ first ∷ drop 1 text.now }
-    ensures value { result ≡ kind_of (pair_of delims.now.quotes) (pair_of delims.now.comments)
+    ensures value { result ≡ kind_of delims.now.quotes.now delims.now.comments.now
         may_follow first (drop 1 text.now) }
     ensures comment { result ≡ Kind.CommentHere
-        → length delims.now.comments.0.now ≤ length text.now }
-    ensures string { result ≡ Kind.StringHere → (0 < length delims.now.quotes.0.now)
-        × (length delims.now.quotes.0.now ≤ length text.now) }
+        → length delims.now.comments.now.begin ≤ length text.now }
+    ensures string { result ≡ Kind.StringHere → (0 < length delims.now.quotes.now.begin)
+        × (length delims.now.quotes.now.begin ≤ length text.now) }
 {
-    if opens(text, &delims.comments) {
+    if opens(text, delims.comments) {
         Kind::CommentHere
-    } else if may_open(text, &delims.comments, may_follow) {
+    } else if may_open(text, delims.comments, may_follow) {
         Kind::Undecided
     } else if is_letter_byte(first) {
         Kind::NameHere
-    } else if opens(text, &delims.quotes) {
+    } else if opens(text, delims.quotes) {
         Kind::StringHere
-    } else if may_open(text, &delims.quotes, may_follow) {
+    } else if may_open(text, delims.quotes, may_follow) {
         Kind::Undecided
     } else {
         Kind::ByteHere

@@ -2,15 +2,14 @@
 //! Manual: "Quoted strings".
 
 ghost use Rattle.std.specs.Prelude.{◌≡◌, ◌+◌, ◌^◌, ◌<◌, ◌≤◌, ◌∷◌, [], Bool, IfSome, length};
-ghost use Rattle.m4_input.specs.DelimsView.{pair_of};
 ghost use Rattle.m4_input.specs.OpenToken.{IsStringSoFar};
 ghost use Rattle.m4_input.specs.Token.{mark_at};
 ghost use Rattle.memchr.specs.Find.{IsFirstByte, is_byte2};
 
-use crate::delims::Pair;
 use crate::front::Mark;
 use crate::lanes::len_before_either;
 use crate::slice::{cut, single, starts};
+use m4_state::delimiters::Delimiters;
 use m4_state::lanes::LANES;
 use memchr::memchr2;
 
@@ -91,12 +90,20 @@ fn first_far(one: u8, other: u8, text: &[u8]) -> Option<usize>
 
 /// Follows a string through a text, before which `depth` nested strings are open.
 #[inline(always)]
-pub fn follow_string(text: &[u8], depth: usize, quotes: &Pair<'_>, may_follow: bool) -> StringSoFar
-    requires begin { 0 < length quotes.now.0.now }
+pub fn follow_string(
+    text: &[u8],
+    depth: usize,
+    quotes: &Delimiters,
+    may_follow: bool,
+) -> StringSoFar
+    requires begin { 0 < length quotes.now.begin }
     requires small { depth + length text.now < 2 ^ 64 }
-    ensures { IsStringSoFar (pair_of quotes.now) may_follow depth text.now result }
+    ensures { IsStringSoFar quotes.now may_follow depth text.now result }
 {
-    match (single(quotes.0), single(quotes.1)) {
+    match (
+        single(quotes.begin.as_slice()),
+        single(quotes.end.as_slice()),
+    ) {
         // Quotes of one byte are never cut.
         (Some(begin), Some(end)) => follow_quoted(text, depth, begin, end),
         _ => follow_by_marks(text, depth, quotes, may_follow),
@@ -104,10 +111,10 @@ pub fn follow_string(text: &[u8], depth: usize, quotes: &Pair<'_>, may_follow: b
 }
 
 /// Follows a string with quotes of any length: from mark to mark.
-fn follow_by_marks(text: &[u8], depth: usize, quotes: &Pair<'_>, may_follow: bool) -> StringSoFar
-    requires begin { 0 < length quotes.now.0.now }
+fn follow_by_marks(text: &[u8], depth: usize, quotes: &Delimiters, may_follow: bool) -> StringSoFar
+    requires begin { 0 < length quotes.now.begin }
     requires small { depth + length text.now < 2 ^ 64 }
-    ensures { IsStringSoFar (pair_of quotes.now) may_follow depth text.now result }
+    ensures { IsStringSoFar quotes.now may_follow depth text.now result }
 {
     let mut open = depth;
     let mut k = 0usize;
@@ -119,11 +126,11 @@ fn follow_by_marks(text: &[u8], depth: usize, quotes: &Pair<'_>, may_follow: boo
                 }
                 open -= 1;
                 // An empty end-quote is found at each byte, and consumes it.
-                k += quotes.1.len().max(1);
+                k += quotes.end.as_slice().len().max(1);
             }
             Mark::BeginQuote => {
                 open += 1;
-                k += quotes.0.len();
+                k += quotes.begin.as_slice().len();
             }
             Mark::PlainByte => k += 1,
             Mark::CutQuote => return StringSoFar::Open(k, open),
@@ -133,16 +140,18 @@ fn follow_by_marks(text: &[u8], depth: usize, quotes: &Pair<'_>, may_follow: boo
 }
 
 /// Returns the mark with which a text in a string begins.
-fn mark(text: &[u8], quotes: &Pair<'_>, may_follow: bool) -> Mark
-    ensures value { result ≡ mark_at (pair_of quotes.now) may_follow text.now }
-    ensures ends { result ≡ Mark.EndQuote → length quotes.now.1.now ≤ length text.now }
-    ensures begins { result ≡ Mark.BeginQuote → length quotes.now.0.now ≤ length text.now }
+fn mark(text: &[u8], quotes: &Delimiters, may_follow: bool) -> Mark
+    ensures value { result ≡ mark_at quotes.now may_follow text.now }
+    ensures ends { result ≡ Mark.EndQuote → length quotes.now.end ≤ length text.now }
+    ensures begins { result ≡ Mark.BeginQuote → length quotes.now.begin ≤ length text.now }
 {
-    if starts(text, quotes.1) {
+    let begin = quotes.begin.as_slice();
+    let end = quotes.end.as_slice();
+    if starts(text, end) {
         Mark::EndQuote
-    } else if may_follow && (cut(text, quotes.1) || cut(text, quotes.0)) {
+    } else if may_follow && (cut(text, end) || cut(text, begin)) {
         Mark::CutQuote
-    } else if starts(text, quotes.0) {
+    } else if starts(text, begin) {
         Mark::BeginQuote
     } else {
         Mark::PlainByte

@@ -1,22 +1,40 @@
 //! A pair of delimiters, of quotes or of comments.
 
-ghost use Rattle.std.specs.Prelude.{◌≡◌, ◌<◌, ◌^◌, [], length, IfOk};
+ghost use Rattle.std.specs.Prelude.{◌≡◌, ◌<◌, ◌^◌, ◌∷◌, [], get_or, length, nat_eq, IfOk};
+ghost use Rattle.std.specs.List.{starts_with};
 
 use std::alloc::{AllocError, Global};
 use std::marker::Model;
 
+/// A number that no byte has.
+const NO_BYTE: u16 = 256;
+
 /// The bytes of a begin or an end. They are always in a buffer, so that a look at them takes no test of where they are.
+/// The first byte is also kept as a number, so that one comparison decides whether a byte may begin the delimiter.
 #[derive(Drop)]
 pub struct Delimiter {
+    first: u16,
     bytes: Vec<u8>,
 }
 
 impl Model for Delimiter {
-    ghost use Rattle.std.specs.Prelude.{List, ℕ};
+    ghost use Rattle.std.specs.Prelude.{◌≡◌, List, ℕ, get_or};
 
     ghost Value = { List ℕ };
 
     ghost view = { λ d. d.bytes.items };
+
+    ghost invariant = { λ d. d.first ≡ get_or d.bytes.items 0 256 };
+}
+
+/// Returns the first of some bytes as a number; `NO_BYTE` if there are none.
+fn first_number(bytes: &[u8]) -> u16
+    ensures { result ≡ get_or bytes.now 0 256 }
+{
+    match bytes.first() {
+        Some(byte) => *byte as u16,
+        None => NO_BYTE,
+    }
 }
 
 impl Delimiter {
@@ -26,7 +44,18 @@ impl Delimiter {
     {
         let mut kept = Vec::new(alloc);
         kept.extend_from_slice(bytes)?;
-        Ok(Delimiter { bytes: kept })
+        Ok(Delimiter {
+            first: first_number(bytes),
+            bytes: kept,
+        })
+    }
+
+    /// Returns whether the bytes begin with this one: `false` if there are none.
+    #[inline(always)]
+    pub fn begins_with(&self, byte: u8) -> bool
+        ensures { result ≡ starts_with nat_eq self.now (byte ∷ []) }
+    {
+        byte as u16 == self.first
     }
 
     /// Returns the bytes.

@@ -263,6 +263,24 @@ impl State {
         (self.comments.begin.as_slice(), self.comments.end.as_slice())
     }
 
+    /// Returns the quotes as a pair of delimiters.
+    #[doc(hidden)]
+    #[inline(always)]
+    pub fn quote_pair(&self) -> &Delimiters
+        ensures { result.now ≡ self.now.quotes }
+    {
+        &self.quotes
+    }
+
+    /// Returns the comment delimiters as a pair.
+    #[doc(hidden)]
+    #[inline(always)]
+    pub fn comment_pair(&self) -> &Delimiters
+        ensures { result.now ≡ self.now.comments }
+    {
+        &self.comments
+    }
+
     /// Sets the quotes. An empty begin disables them; if only the end is empty, it is the default end.
     /// Manual: "Changing the quote characters".
     pub fn set_quotes(&mut self, begin: Bytes, end: Bytes) -> Result<(), StateFault>

@@ -59,6 +59,20 @@ pub fn start(alloc: Global, fresh: bool) -> Result<State, StateFault> {
     }
 }
 
+/// Returns a state without names, with these quotes and comment delimiters.
+pub fn delimited(
+    alloc: Global,
+    quotes: (&str, &str),
+    comments: (&str, &str),
+) -> Result<State, StateFault> {
+    let mut state = State::empty(alloc)?;
+    let (begin, end) = pair(alloc, quotes.0, quotes.1)?;
+    state.set_quotes(begin, end)?;
+    let (begin, end) = pair(alloc, comments.0, comments.1)?;
+    state.set_comments(begin, end)?;
+    Ok(state)
+}
+
 /// Returns a pair of strings.
 pub fn pair(alloc: Global, begin: &str, end: &str) -> Result<(Bytes, Bytes), AllocError> {
     Ok((

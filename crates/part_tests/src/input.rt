@@ -15,7 +15,6 @@ mod tokens;
 use crate::given::describe_definition;
 use crate::report::{Report, printed};
 use crate::shows::shows;
-use m4_input::delims::Delims;
 use m4_input::fault::InputFault;
 use m4_input::input::Input;
 use m4_input::pushed::Pushed;
@@ -25,12 +24,6 @@ use std::alloc::{AllocError, Global};
 
 // How many bytes a reader returns at a time.
 const BLOCKS: [usize; 4] = [1, 2, 3, 4096];
-
-// The delimiters of a new state.
-const USUAL: Delims<'static> = Delims {
-    quotes: (b"`", b"'"),
-    comments: (b"#", b"\n"),
-};
 
 // Adds a token: its kind and its text.
 fn describe(token: &Token, report: &mut Report) {

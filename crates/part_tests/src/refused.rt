@@ -38,11 +38,6 @@ const CANONICAL: &[u8] =
 
 const LISTED: &[u8] = b"quotes ` '\ncomments # \\0a\ntext ab 3\ndiversion 2 4\ncurrent 2\n";
 
-const DELIMS: Delims<'static> = Delims {
-    quotes: (b"`", b"'"),
-    comments: (b"#", b"\n"),
-};
-
 /// Whether a call was refused and left what was there, or was done and left its result. None if what it is given could
 /// not be made.
 type Outcome = Option<Left>;
@@ -261,8 +256,13 @@ fn frozen_texts_do_not_begin(rt: HostRuntime) {
 }
 
 // Returns whether the next token is this name; none if that is refused.
-fn next_is(input: &mut Input, reader: &mut MemSource<'_>, name: &[u8]) -> Option<bool> {
-    match input.next(reader, &DELIMS) {
+fn next_is(
+    input: &mut Input,
+    reader: &mut MemSource<'_>,
+    delims: &Delims<'_>,
+    name: &[u8],
+) -> Option<bool> {
+    match input.next(reader, delims) {
         Ok(Token::Name(found)) => Some(found.as_slice() == name),
         Ok(_) => Some(false),
         Err(_) => None,
@@ -271,6 +271,7 @@ fn next_is(input: &mut Input, reader: &mut MemSource<'_>, name: &[u8]) -> Option
 
 // Pushes a text in front of a file. If that is refused, the file's first token is the next one.
 fn put_in_front(alloc: Global) -> Outcome {
+    let state = State::empty(alloc).ok()?;
     let mut input = Input::file(alloc, Bytes::from_slice(alloc, b"a.m4").ok()?);
     let mut reader = MemSource::new(b"file ", 4096, false);
     let text = Bytes::from_slice(alloc, NAME).ok()?;
@@ -280,7 +281,7 @@ fn put_in_front(alloc: Global) -> Outcome {
     } else {
         b"a_name_of_more_than_thirty_lettersfile"
     };
-    let found = next_is(&mut input, &mut reader, wanted)?;
+    let found = next_is(&mut input, &mut reader, &Delims::of(&state), wanted)?;
     Some(judged(refused, refused && found, !refused && found))
 }
 
@@ -294,9 +295,9 @@ fn is_refused<T: Drop>(answer: Result<T, InputFault>) -> bool {
 }
 
 // Returns whether each call that can fail does so by want of memory.
-fn has_stopped(input: &mut Input, reader: &mut MemSource<'_>) -> bool {
-    let next = is_refused(input.next(reader, &DELIMS));
-    let listed = is_refused(input.sees_paren(reader, &DELIMS));
+fn has_stopped(input: &mut Input, reader: &mut MemSource<'_>, delims: &Delims<'_>) -> bool {
+    let next = is_refused(input.next(reader, delims));
+    let listed = is_refused(input.sees_paren(reader, delims));
     let skipped = is_refused(input.skip_line(reader));
     let _no_definition = input.take_definition();
     let pushed = is_refused(input.push_front(Pushed::Text(Bytes::empty())));
@@ -305,12 +306,14 @@ fn has_stopped(input: &mut Input, reader: &mut MemSource<'_>) -> bool {
 
 // Takes a long name. If that is refused, each later call is.
 fn taken(alloc: Global) -> Outcome {
+    let state = State::empty(alloc).ok()?;
+    let delims = Delims::of(&state);
     let mut input = Input::file(alloc, Bytes::from_slice(alloc, b"a.m4").ok()?);
     let mut reader = MemSource::new(b"a_name_of_more_than_thirty_letters ", 4096, false);
-    match input.next(&mut reader, &DELIMS) {
+    match input.next(&mut reader, &delims) {
         Ok(Token::Name(found)) => Some(judged(false, false, found.as_slice() == NAME)),
         Err(InputFault::OutOfMemory) => {
-            let lasts = has_stopped(&mut input, &mut reader);
+            let lasts = has_stopped(&mut input, &mut reader, &delims);
             Some(judged(true, lasts, false))
         }
         _ => Some(Left::Wrong),
@@ -319,15 +322,17 @@ fn taken(alloc: Global) -> Outcome {
 
 // Skips a line, for which a block is read. If that is refused, each later call is.
 fn skipped(alloc: Global) -> Outcome {
+    let state = State::empty(alloc).ok()?;
+    let delims = Delims::of(&state);
     let mut input = Input::file(alloc, Bytes::from_slice(alloc, b"a.m4").ok()?);
     let mut reader = MemSource::new(b"line\n(", 4096, false);
     match input.skip_line(&mut reader) {
         Ok(()) => {
-            let listed = input.sees_paren(&mut reader, &DELIMS);
+            let listed = input.sees_paren(&mut reader, &delims);
             Some(judged(false, false, matches!(listed, Ok(true))))
         }
         Err(InputFault::OutOfMemory) => {
-            let lasts = has_stopped(&mut input, &mut reader);
+            let lasts = has_stopped(&mut input, &mut reader, &delims);
             Some(judged(true, lasts, false))
         }
         Err(_) => Some(Left::Wrong),
@@ -336,12 +341,14 @@ fn skipped(alloc: Global) -> Outcome {
 
 // Looks for a list, for which a block is read. If that is refused, each later call is.
 fn seen(alloc: Global) -> Outcome {
+    let state = State::empty(alloc).ok()?;
+    let delims = Delims::of(&state);
     let mut input = Input::file(alloc, Bytes::from_slice(alloc, b"a.m4").ok()?);
     let mut reader = MemSource::new(b"(", 4096, false);
-    match input.sees_paren(&mut reader, &DELIMS) {
+    match input.sees_paren(&mut reader, &delims) {
         Ok(listed) => Some(judged(false, false, listed)),
         Err(InputFault::OutOfMemory) => {
-            let lasts = has_stopped(&mut input, &mut reader);
+            let lasts = has_stopped(&mut input, &mut reader, &delims);
             Some(judged(true, lasts, false))
         }
         Err(_) => Some(Left::Wrong),

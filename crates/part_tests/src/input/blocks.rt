@@ -35,7 +35,7 @@ static IN_HAND: [Row; 7] = [
     Row {
         name: "an empty file",
         steps: &[Step::Look, Step::More, Step::Look],
-        want: "needs more\nend\n0: end\n",
+        want: "needs more\nend\nend\n",
         ..PLAIN
     },
     Row {
@@ -43,14 +43,14 @@ static IN_HAND: [Row; 7] = [
         file: "abc d",
         blocks: &[3],
         steps: &[Step::More, Step::Look, Step::More, Step::Look, Step::Hand],
-        want: "more\nneeds more\nmore\n3: name abc\n[abc d]\n",
+        want: "more\nneeds more\nmore\nname abc\n[abc d]\n",
         ..PLAIN
     },
     Row {
         name: "a word ends with the file",
         file: "abc",
         steps: &[Step::More, Step::Look, Step::More, Step::Look],
-        want: "more\nneeds more\nend\n3: name abc\n",
+        want: "more\nneeds more\nend\nname abc\n",
         ..PLAIN
     },
     Row {
@@ -58,7 +58,7 @@ static IN_HAND: [Row; 7] = [
         file: "+a",
         blocks: &[1],
         steps: &[Step::More, Step::Look, Step::Taken],
-        want: "more\n1: byte +\ntaken 1\n",
+        want: "more\nbyte +\ntaken 1\n",
         ..PLAIN
     },
     Row {
@@ -73,7 +73,7 @@ static IN_HAND: [Row; 7] = [
             Step::Decide,
             Step::Taken,
         ],
-        want: "needs more\nmore\nneeds more\n2: name ab\ntaken 2\n",
+        want: "needs more\nmore\nneeds more\nname ab\ntaken 2\n",
         ..PLAIN
     },
     Row {
@@ -93,7 +93,7 @@ static CUT: [Row; 5] = [
         file: "<x",
         blocks: &[1],
         steps: &[Step::More, Step::Look, Step::More, Step::Look],
-        want: "more\nneeds more\nmore\n1: byte <\n",
+        want: "more\nneeds more\nmore\nbyte <\n",
         ..PLAIN
     },
     Row {
@@ -109,7 +109,7 @@ static CUT: [Row; 5] = [
             Step::Decide,
             Step::Taken,
         ],
-        want: "more\nneeds more\nmore\nneeds more\n5: comment (*a*)\ntaken 5\n",
+        want: "more\nneeds more\nmore\nneeds more\ncomment (*a*)\ntaken 5\n",
         ..PLAIN
     },
     Row {
@@ -118,14 +118,14 @@ static CUT: [Row; 5] = [
         file: "<<a>>b",
         blocks: &[4],
         steps: &[Step::More, Step::Look, Step::More, Step::Look],
-        want: "more\nneeds more\nmore\n5: string a\n",
+        want: "more\nneeds more\nmore\nstring a of 5\n",
         ..PLAIN
     },
     Row {
         name: "a string without an end",
         file: "\n`a",
         steps: &[Step::More, Step::Skip, Step::Look, Step::More, Step::Look],
-        want: "more\nall of the line\nneeds more\nend\nno end\n",
+        want: "more\nall of the line\nneeds more\nend\nstring without an end\n",
         ..PLAIN
     },
     Row {
@@ -133,7 +133,7 @@ static CUT: [Row; 5] = [
         file: "`a `b' c'd",
         blocks: &[1],
         steps: &[Step::Decide, Step::Taken],
-        want: "9: string a `b' c\ntaken 9\n",
+        want: "string a `b' c of 9\ntaken 9\n",
         ..PLAIN
     },
 ];
@@ -206,7 +206,7 @@ static LINES: [Row; 6] = [
             Step::Line,
             Step::Look,
         ],
-        want: "more\npart of the line\nend\nall of the line\nline 1\n0: end\n",
+        want: "more\npart of the line\nend\nall of the line\nline 1\nend\n",
         ..PLAIN
     },
     Row {
@@ -275,7 +275,7 @@ static TOKENS: [Row; 9] = [
         file: "`a `b' c'd",
         blocks: &[1],
         steps: &[Step::More, Step::Token, Step::Taken, Step::Look],
-        want: "more\nasked\ntaken 9\n9: string a `b' c\n",
+        want: "more\nasked\ntaken 9\nstring a `b' c of 9\n",
         ..PLAIN
     },
     Row {
@@ -290,7 +290,7 @@ static TOKENS: [Row; 9] = [
             Step::Taken,
             Step::Look,
         ],
-        want: "more\nasked\nasked\ntaken 10\n10: string a<<b>>\n",
+        want: "more\nasked\nasked\ntaken 10\nstring a<<b>> of 10\n",
         ..PLAIN
     },
     Row {
@@ -298,7 +298,7 @@ static TOKENS: [Row; 9] = [
         file: "#ab\nc",
         blocks: &[1],
         steps: &[Step::More, Step::Token, Step::Taken, Step::Look],
-        want: "more\nasked\ntaken 4\n4: comment #ab\n\n",
+        want: "more\nasked\ntaken 4\ncomment #ab\n\n",
         ..PLAIN
     },
     Row {
@@ -307,7 +307,7 @@ static TOKENS: [Row; 9] = [
         file: "(**a*)b",
         blocks: &[2],
         steps: &[Step::More, Step::Token, Step::Taken, Step::Look],
-        want: "more\nasked\ntaken 6\n6: comment (**a*)\n",
+        want: "more\nasked\ntaken 6\ncomment (**a*)\n",
         ..PLAIN
     },
     Row {
@@ -315,7 +315,7 @@ static TOKENS: [Row; 9] = [
         file: "abc d",
         blocks: &[1],
         steps: &[Step::More, Step::Token, Step::Taken, Step::Look],
-        want: "more\nasked\ntaken 4\n3: name abc\n",
+        want: "more\nasked\ntaken 4\nname abc\n",
         ..PLAIN
     },
     Row {
@@ -331,7 +331,7 @@ static TOKENS: [Row; 9] = [
         file: "`ab",
         blocks: &[1],
         steps: &[Step::More, Step::Token, Step::Hand, Step::Look],
-        want: "more\nasked\n[`ab]\nno end\n",
+        want: "more\nasked\n[`ab]\nstring without an end\n",
         ..PLAIN
     },
     Row {
@@ -348,7 +348,7 @@ static TOKENS: [Row; 9] = [
         file: "cd e",
         blocks: &[1],
         steps: &[Step::Push("ab"), Step::Token, Step::Taken, Step::Look],
-        want: "asked\ntaken 3\n4: name abcd\n",
+        want: "asked\ntaken 3\nname abcd\n",
         ..PLAIN
     },
 ];
@@ -359,28 +359,28 @@ static LONG: [Row; 4] = [
         name: "a string",
         file: "`a `b\nc' d'+",
         steps: &[Step::Decide],
-        want: "11: string a `b\nc' d\n",
+        want: "string a `b\nc' d of 11\n",
         ..BLOCKED
     },
     Row {
         name: "a comment",
         file: "# a `b c\n+",
         steps: &[Step::Decide],
-        want: "9: comment # a `b c\n\n",
+        want: "comment # a `b c\n\n",
         ..BLOCKED
     },
     Row {
         name: "a name",
         file: "abc_123+",
         steps: &[Step::Decide],
-        want: "7: name abc_123\n",
+        want: "name abc_123\n",
         ..BLOCKED
     },
     Row {
         name: "a byte",
         file: "+",
         steps: &[Step::Decide],
-        want: "1: byte +\n",
+        want: "byte +\n",
         ..BLOCKED
     },
 ];

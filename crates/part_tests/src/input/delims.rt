@@ -21,9 +21,17 @@ fn delims_of(alloc: Global) -> Result<Vec<u8>, AllocError> {
     match bracketed(alloc) {
         Ok(state) => {
             let delims = Delims::of(&state);
-            let (begin, end) = delims.quotes;
-            let (hash, newline) = delims.comments;
-            joined(alloc, &[begin, end, hash, newline])
+            let quotes = delims.quotes;
+            let comments = delims.comments;
+            joined(
+                alloc,
+                &[
+                    quotes.begin.as_slice(),
+                    quotes.end.as_slice(),
+                    comments.begin.as_slice(),
+                    comments.end.as_slice(),
+                ],
+            )
         }
         Err(StateFault::OutOfMemory) => Err(AllocError),
     }

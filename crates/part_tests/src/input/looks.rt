@@ -1,9 +1,10 @@
 //! A look at the front of a text: its first token, whose lengths it gives without a copy, and whether a list
 //! follows. Manual: "Names", "Quoted strings", "Comments", "Macro invocation".
 
-use super::USUAL;
+use crate::given::empty_state;
 use crate::report::Report;
 use crate::shows::shows;
+use m4_input::delims::Delims;
 use m4_input::front::{Answer, Look, Unended};
 use m4_input::look::{first_token, list_follows, plain_token};
 use std::alloc::{AllocError, Global};
@@ -71,8 +72,8 @@ fn add_part(text: &[u8], at: usize, len: usize, report: &mut Report) {
     }
 }
 
-// Adds a token.
-fn describe(look: Look, text: &[u8], report: &mut Report) {
+/// Adds a token.
+pub fn describe_look(look: Look, text: &[u8], report: &mut Report) {
     match look {
         Look::Name(len) => {
             report.add(b"name ");
@@ -98,10 +99,12 @@ fn describe(look: Look, text: &[u8], report: &mut Report) {
 // Reports the first token of a text; `plain` before it if the look that takes no search finds it, too.
 fn look_of(alloc: Global, text: &[u8], may_follow: bool) -> Result<Vec<u8>, AllocError> {
     let mut report = Report::new(alloc);
-    if plain_token(text, &USUAL, may_follow).is_some() {
+    let state = empty_state(alloc)?;
+    let usual = Delims::of(&state);
+    if plain_token(text, &usual, may_follow).is_some() {
         report.add(b"plain ");
     }
-    describe(first_token(text, &USUAL, may_follow), text, &mut report);
+    describe_look(first_token(text, &usual, may_follow), text, &mut report);
     report.text()
 }
 
@@ -126,7 +129,8 @@ static LISTS: [(&str, &[u8], &[u8], &[u8]); 4] = [
 // Reports an answer.
 fn answer_of(alloc: Global, text: &[u8], may_follow: bool) -> Result<Vec<u8>, AllocError> {
     let mut report = Report::new(alloc);
-    match list_follows(text, &USUAL, may_follow) {
+    let state = empty_state(alloc)?;
+    match list_follows(text, &Delims::of(&state), may_follow) {
         Answer::Yes => report.add(b"yes"),
         Answer::No => report.add(b"no"),
         Answer::Unknown => report.add(b"unknown"),

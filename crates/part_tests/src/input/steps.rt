@@ -3,17 +3,20 @@
 ghost use Rattle.std.specs.Prelude.{◌≡◌, ◌≤◌, None, IfOk, length};
 ghost use Rattle.m4_input.specs.Pending.{text_of};
 
+use super::looks::describe_look;
 use super::{BLOCKS, describe, describe_fault, push};
-use crate::given::{Given, describe_definition, made};
+use crate::given::{Given, delimited, describe_definition, made};
 use crate::report::{Report, repeated};
 use crate::shows::agrees_by;
 use m4_input::delims::Delims;
 use m4_input::fault::InputFault;
-use m4_input::front::Scan;
+use m4_input::front::Look;
 use m4_input::input::Input;
+use m4_input::look::first_token;
 use m4_input::pushed::Pushed;
 use m4_input::token::Token;
 use m4_state::bytes::Bytes;
+use m4_state::fault::StateFault;
 use m4_state::memory::MemSource;
 use std::alloc::{AllocError, Global};
 use std::process::Abort;
@@ -106,24 +109,14 @@ pub const NONE: Pair = ("", "");
 // More tokens than any row has.
 const MOST: usize = 20;
 
+// More bytes than are in hand where a row looks at them.
+const IN_HAND: usize = 64;
+
 // Adds a result that is a line.
 fn add_line(line: Result<&'static [u8], InputFault>, report: &mut Report) {
     match line {
         Ok(line) => report.add(line),
         Err(fault) => describe_fault(fault, report),
-    }
-}
-
-// Adds what the bytes in hand decide of the first token: its length, and the token.
-fn describe_found(found: &Scan, report: &mut Report) {
-    match found {
-        Scan::Found(token, len) => {
-            report.number(*len);
-            report.add(b": ");
-            describe(token, report);
-        }
-        Scan::Broken(_what) => report.add(b"no end\n"),
-        Scan::NeedsMore => report.add(b"needs more\n"),
     }
 }
 
@@ -158,50 +151,48 @@ fn ask_token(
     Ok(b"asked\n")
 }
 
-// Looks at the first token, or returns the fault of an earlier step.
-fn look(input: &mut Input, delims: &Delims<'_>) -> Result<Scan, InputFault> {
+// Adds the first token if the bytes in hand decide it, or the fault of an earlier step. Returns whether it did.
+fn add_decided(alloc: Global, input: &Input, delims: &Delims<'_>, report: &mut Report) -> bool {
     if let Some(fault) = input.fault() {
-        return Err(fault);
+        describe_fault(fault, report);
+        return true;
     }
-    match input.look(delims) {
-        Ok(found) => Ok(found),
-        Err(AllocError) => Err(InputFault::OutOfMemory),
-    }
-}
-
-// Asks until the first token is decided, at most a hundred times.
-fn decide(
-    input: &mut Input,
-    reader: &mut MemSource<'_>,
-    delims: &Delims<'_>,
-) -> Result<Scan, InputFault> {
-    for _ in 0..100 {
-        match look(input, delims)? {
-            Scan::NeedsMore => {
-                let _answer = ask(input, reader)?;
+    let mut copy = Vec::new(alloc);
+    match input.front(IN_HAND, &mut copy) {
+        Ok(Some((text, others))) => {
+            let look = first_token(text, delims, others | input.may_follow());
+            if look == Look::NeedsMore {
+                return false;
             }
-            found => return Ok(found),
+            describe_look(look, text, report);
+            report.add(b"\n");
         }
+        Ok(None) => report.add(b"a definition\n"),
+        Err(AllocError) => report.refuse(),
     }
-    Ok(Scan::NeedsMore)
+    true
 }
 
-// Adds the first token, or a fault; asks for blocks until it is decided, or not.
-fn add_found(
+// Adds what the bytes in hand decide of the first token.
+fn add_look(alloc: Global, input: &Input, delims: &Delims<'_>, report: &mut Report) {
+    if !add_decided(alloc, input, delims, report) {
+        report.add(b"needs more\n");
+    }
+}
+
+// Asks until the first token is decided, at most a hundred times, and adds it.
+fn decide(
+    alloc: Global,
     input: &mut Input,
     reader: &mut MemSource<'_>,
     delims: &Delims<'_>,
-    asks: bool,
     report: &mut Report,
 ) {
-    let found = if asks {
-        decide(input, reader, delims)
-    } else {
-        look(input, delims)
-    };
-    match found {
-        Ok(found) => describe_found(&found, report),
-        Err(fault) => describe_fault(fault, report),
+    for _ in 0..100 {
+        if add_decided(alloc, input, delims, report) {
+            break;
+        }
+        let _answer = ask(input, reader);
     }
 }
 
@@ -444,8 +435,8 @@ fn answer(
     match step {
         Step::More => add_line(ask(input, reader), report),
         Step::Token => add_line(ask_token(input, reader, delims), report),
-        Step::Look => add_found(input, reader, delims, false, report),
-        Step::Decide => add_found(input, reader, delims, true, report),
+        Step::Look => add_look(alloc, input, delims, report),
+        Step::Decide => decide(alloc, input, reader, delims, report),
         Step::Next => {
             let _ends = add_next(input, reader, delims, report);
         }
@@ -459,24 +450,22 @@ fn answer(
 }
 
 // Adds the results of a row's steps.
-fn see(alloc: Global, row: &Row, block: usize, name: Bytes, report: &mut Report) {
+fn see(alloc: Global, row: &Row, block: usize, report: &mut Report) -> Result<(), StateFault> {
     let mut reader = MemSource::new(row.file.as_bytes(), block.max(1), row.fails);
-    let mut input = Input::file(alloc, name);
-    let delims = Delims {
-        quotes: (row.quotes.0.as_bytes(), row.quotes.1.as_bytes()),
-        comments: (row.comments.0.as_bytes(), row.comments.1.as_bytes()),
-    };
+    let mut input = Input::file(alloc, Bytes::from_slice(alloc, b"a.m4")?);
+    let state = delimited(alloc, row.quotes, row.comments)?;
+    let delims = Delims::of(&state);
     for step in row.steps {
         answer(alloc, &mut input, &mut reader, &delims, *step, report);
     }
+    Ok(())
 }
 
 // Compares the results of a row's steps with the expected ones.
 fn tried_in(rt: &impl Abort, alloc: Global, row: &Row, block: usize) {
     let mut report = Report::new(alloc);
-    match Bytes::from_slice(alloc, b"a.m4") {
-        Ok(name) => see(alloc, row, block, name, &mut report),
-        Err(AllocError) => report.refuse(),
+    if let Err(StateFault::OutOfMemory) = see(alloc, row, block, &mut report) {
+        report.refuse();
     }
     let want = Vec::from_slice(alloc, row.want.as_bytes());
     agrees_by(rt, row.name, block, want, report.text());

@@ -2,7 +2,7 @@
 
 use super::steps::{BLOCKED, NONE, Row, Step, tried};
 
-static ROWS: [Row; 11] = [
+static ROWS: [Row; 10] = [
     Row {
         name: "a name is the longest run of letters, digits and underscores",
         file: "foo+_x1-9Z",
@@ -54,15 +54,6 @@ static ROWS: [Row; 11] = [
         file: "`a'#",
         steps: &[Step::Rest],
         want: "byte `\nname a\nbyte '\nbyte #\nend\n",
-        ..BLOCKED
-    },
-    Row {
-        name: "an end-quote that is empty",
-        quotes: ("`", ""),
-        comments: NONE,
-        file: "`ab",
-        steps: &[Step::Rest],
-        want: "string \nname ab\nend\n",
         ..BLOCKED
     },
     Row {

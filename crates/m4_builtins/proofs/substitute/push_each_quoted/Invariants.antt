@@ -1,6 +1,6 @@
 use Rattle.std.proofs.Common.{◌≡◌, ◌++◌, [], ◌∷◌, drop, map}
 use Rattle.m4_input.specs.Ascii.{comma}
-use Rattle.m4_input.specs.DelimsView.{pair_of}
+use Rattle.m4_builtins.specs.QuotesView.{pair_of}
 use Rattle.m4_builtins.specs.Args.{text_of_arg, quoted}
 use Rattle.m4_builtins.specs.Subst.{all_quoted}
 use Rattle.m4_builtins.proofs.Joins.{joined_rest}

@@ -1,5 +1,5 @@
 use Rattle.std.proofs.Common.{map}
-use Rattle.m4_input.specs.DelimsView.{pair_of}
+use Rattle.m4_builtins.specs.QuotesView.{pair_of}
 use Rattle.m4_builtins.specs.Args.{text_of_arg}
 use Rattle.m4_builtins.proofs.Joins.{front_plain, front_dollar}
 use Rattle.m4_builtins.proofs.substitute.push_front.Goals as goal

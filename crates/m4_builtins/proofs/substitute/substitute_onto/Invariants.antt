@@ -1,5 +1,5 @@
 use Rattle.std.proofs.Common.{◌≡◌, ◌++◌, length}
-use Rattle.m4_input.specs.DelimsView.{pair_of}
+use Rattle.m4_builtins.specs.QuotesView.{pair_of}
 use Rattle.m4_builtins.specs.Subst.{subst}
 use Rattle.m4_builtins.proofs.substitute.substitute_onto.Given as goal
 

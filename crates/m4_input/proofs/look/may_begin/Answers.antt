@@ -1,9 +1,9 @@
-use Rattle.std.proofs.Common.{arith}
-use Rattle.std.proofs.lemmas.Grind.{common_steps}
+use Rattle.std.proofs.Common.{sym, ◌∙◌}
+use Rattle.m4_input.proofs.Scans.{none_begun, none_cut}
 use Rattle.m4_input.proofs.look.may_begin.Goals as goal
 
-pub returns-in-Some-clause-starts : goal.returns-in-Some-clause-starts
-returns-in-Some-clause-starts c = grind (arith, common_steps)
+pub returns-clause-starts : goal.returns-clause-starts
+returns-clause-starts c e = none_begun c.args.pair.now.begin c.args.first (sym c.begins_with.ensures ∙ e)
 
-pub returns-in-Some-clause-may : goal.returns-in-Some-clause-may
-returns-in-Some-clause-may c = grind (arith, common_steps)
+pub returns-clause-may : goal.returns-clause-may
+returns-clause-may c e = none_cut c.args.pair.now.begin c.args.first (sym c.begins_with.ensures ∙ e)

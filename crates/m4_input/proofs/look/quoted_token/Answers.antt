@@ -1,14 +1,13 @@
 use Rattle.std.proofs.Common.{◌≡◌, ◌∷◌, List, ℕ, false, sym, ap, drop, subst, ◌∙◌, rules}
 use Rattle.m4_input.specs.Ascii.{is_letter}
-use Rattle.m4_input.specs.DelimsView.{pair_of}
 use Rattle.m4_input.specs.Token.{starts_with, may_start, string_at, scan}
 use Rattle.m4_input.proofs.Looks.{string_first}
 use Rattle.m4_input.proofs.look.quoted_token.Goals as goal
 
 pub returns : goal.returns
 returns c =
-    let q = pair_of c.args.delims.now.quotes in
-    let k = pair_of c.args.delims.now.comments in
+    let q = c.args.delims.now.quotes.now in
+    let k = c.args.delims.now.comments.now in
     let m = c.args.may_follow in
     let x = c.args.text.now in
     let b = c.in_ok-begin.begin in
@@ -19,6 +18,6 @@ returns c =
     let starts : starts_with k (b ∷ y) ≡ false = subst (λ a. starts_with k (a ∷ y) ≡ false) same (c.may_begin.ensures.starts c.if-may_begin.false y) in
     let may : may_start k m (b ∷ y) ≡ false = subst (λ a. may_start k m (a ∷ y) ≡ false) same (c.may_begin.ensures.may c.if-may_begin.false m y) in
     record {
-      value = subst (λ (x : List ℕ). scan q k m x ≡ string_at q m x) whole (string_first b q k m y c.in_ok-begin.ensures.some letter starts may) ∙ c.look_at_string.ensures.value;
+      value = subst (λ (x : List ℕ). scan q k m x ≡ string_at q m x) whole (string_first b q k m y (sym c.as_slice.ensures ∙ c.in_ok-begin.ensures.some) letter starts may) ∙ c.look_at_string.ensures.value;
       lies = c.look_at_string.ensures.lies;
     }

@@ -1,5 +1,4 @@
 use Rattle.std.proofs.Common.{◌≡◌, true, rules}
-use Rattle.m4_input.specs.DelimsView.{pair_of}
 use Rattle.m4_input.specs.Pending.{text_of}
 use Rattle.m4_input.specs.declared.front.Answer.TheVariants.{Unknown}
 use Rattle.m4_input.proofs.Fronts.{list_decided}
@@ -12,5 +11,5 @@ returns-then-not-others c =
       | then-not-others-via-then-not-others w ↦ search rules
       | then-not-others-via-else-not-others+then-ne w ↦ λ o. search rules
     ] in
-    list_decided (pair_of c.args.delims.now.quotes) (pair_of c.args.delims.now.comments) c.args.self.now.pending.may_follow c.in_ok-text.others c.in_ok-text.text.now
+    list_decided c.args.delims.now.quotes.now c.args.delims.now.comments.now c.args.self.now.pending.may_follow c.in_ok-text.others c.in_ok-text.text.now
     (text_of c.args.self.now.pending) c.list_follows-answer.result (search rules) (search rules) (search rules) known

@@ -1,5 +1,4 @@
 use Rattle.std.proofs.Common.{◌≡◌, ◌<◌, ◌≤◌, ℕ, Bool, true, None, Ok, sym, ap, ◌∙◌, subst, arith}
-use Rattle.m4_input.specs.DelimsView.{pair_of}
 use Rattle.m4_input.specs.Pending.{text_of}
 use Rattle.m4_input.specs.Text.{text_in}
 use Rattle.m4_input.specs.Token.{scan}
@@ -11,8 +10,8 @@ use Rattle.m4_input.proofs.input.Input.more_of_token.Goals as goal
 -- the token that was open, in the bytes in hand with the block
 pub still_open-requires : goal.still_open-requires
 still_open-requires g c =
-    let q = pair_of c.args.delims.now.quotes in
-    let d = pair_of c.args.delims.now.comments in
+    let q = c.args.delims.now.quotes.now in
+    let d = c.args.delims.now.comments.now in
     let i = c.blocks-2.invariant in
     let o : IsOpenAt q d c.blocks-2.token (text_of c.more-in-blocks-2.new.self.pending) =
     open_then q d (g.R.ByteSource.script c.args.reader.now) (g.R.ByteSource.script c.blocks-2.reader) (g.R.ByteSource.script c.more-in-blocks-2.new.reader)
@@ -21,8 +20,8 @@ still_open-requires g c =
 
 pub blocks-2-preserved : goal.blocks-2-preserved
 blocks-2-preserved g c =
-    let q = pair_of c.args.delims.now.quotes in
-    let d = pair_of c.args.delims.now.comments in
+    let q = c.args.delims.now.quotes.now in
+    let d = c.args.delims.now.comments.now in
     let i = c.blocks-2.invariant in
     let n : ℕ = g.R.ByteSource.failures c.blocks-2.reader in
     let new : Held = c.more-in-blocks-2.new.self in
@@ -47,8 +46,8 @@ blocks-2-preserved g c =
 -- no token was open
 pub returns-in_default-clause-gives : goal.returns-in_default-clause-gives
 returns-in_default-clause-gives g c =
-    let q = pair_of c.args.delims.now.quotes in
-    let d = pair_of c.args.delims.now.comments in
+    let q = c.args.delims.now.quotes.now in
+    let d = c.args.delims.now.comments.now in
     let s = g.R.ByteSource.script c.args.reader.now in
     come_more q d s s (g.R.ByteSource.script c.more.new.reader) c.args.self.now c.args.self.now c.more.new.self _ c.in_ok-_came._came
     (none_came q d s c.args.self.now c.requires.open c.requires.sound) c.in_ok-_came.ensures.gives
@@ -57,14 +56,14 @@ returns-in_default-clause-gives g c =
 pub returns-then-not-branch-clause-gives : goal.returns-then-not-branch-clause-gives
 returns-then-not-branch-clause-gives g c =
     let i = c.blocks-2.invariant in
-    come_more (pair_of c.args.delims.now.quotes) (pair_of c.args.delims.now.comments) (g.R.ByteSource.script c.args.reader.now) (g.R.ByteSource.script c.blocks-2.reader) (g.R.ByteSource.script c.more-in-blocks-2.new.reader)
+    come_more c.args.delims.now.quotes.now c.args.delims.now.comments.now (g.R.ByteSource.script c.args.reader.now) (g.R.ByteSource.script c.blocks-2.reader) (g.R.ByteSource.script c.more-in-blocks-2.new.reader)
     c.args.self.now c.blocks-2.self c.more-in-blocks-2.new.self i.0.0 c.in_ok-more.field-0 i.0.1 c.in_ok-more.ensures.gives
 
 -- the token is closed
 pub returns-in-None-clause-gives : goal.returns-in-None-clause-gives
 returns-in-None-clause-gives g c =
     let i = c.blocks-2.invariant in
-    come_more (pair_of c.args.delims.now.quotes) (pair_of c.args.delims.now.comments) (g.R.ByteSource.script c.args.reader.now) (g.R.ByteSource.script c.blocks-2.reader) (g.R.ByteSource.script c.more-in-blocks-2.new.reader)
+    come_more c.args.delims.now.quotes.now c.args.delims.now.comments.now (g.R.ByteSource.script c.args.reader.now) (g.R.ByteSource.script c.blocks-2.reader) (g.R.ByteSource.script c.more-in-blocks-2.new.reader)
     c.args.self.now c.blocks-2.self c.more-in-blocks-2.new.self i.0.0 c.in_ok-more.field-0 i.0.1 c.in_ok-more.ensures.gives
 
 pub returns-in-None-clause-falls : goal.returns-in-None-clause-falls

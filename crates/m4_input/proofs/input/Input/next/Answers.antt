@@ -1,7 +1,6 @@
 use Rattle.std.proofs.Common.{◌≡◌, Option, Some, None, Ok, sym, ap, subst}
 use Rattle.m4_state.specs.declared.definition.Def.{Def}
 use Rattle.m4_input.specs.declared.token.Token.TheVariants.{Definition}
-use Rattle.m4_input.specs.DelimsView.{pair_of}
 use Rattle.m4_input.specs.Input.{Held, NextGives}
 use Rattle.m4_input.specs.InputView.{view_of}
 use Rattle.m4_input.proofs.Calls.{definition_taken}
@@ -16,8 +15,8 @@ use Rattle.m4_input.proofs.input.Input.next.Goals as goal
 -- the first token was a definition
 pub returns-in-Some-take-clause-gives : goal.returns-in-Some-take-clause-gives
 returns-in-Some-take-clause-gives g c =
-    let q = pair_of c.args.delims.now.quotes in
-    let r = pair_of c.args.delims.now.comments in
+    let q = c.args.delims.now.quotes.now in
+    let r = c.args.delims.now.comments.now in
     let s = g.R.ByteSource.script c.args.reader.now in
     let old : Held = view_of c.self.inside in
     let new : Held = record old { pending = record old.pending { definition = c.take.new.self } } in
@@ -31,18 +30,18 @@ pub returns-in-Some-clause-gives : goal.returns-in-Some-clause-gives
 returns-in-Some-clause-gives g c =
     let e : (c.args.self.now).fault ≡ Some c.in-Some.fault = ap (λ (h : Held). h.fault) (sym c.self.view_is) ∙ c.in-Some.is in
     let l : IsLasting c.in-Some.fault = subst (λ (o : Option InputFault). IfSome o IsLasting) c.in-Some.is c.self.invariant in
-    next_again (pair_of c.args.delims.now.quotes) (pair_of c.args.delims.now.comments) (g.R.ByteSource.script c.args.reader.now) c.args.self.now c.in-Some.fault e l
+    next_again c.args.delims.now.quotes.now c.args.delims.now.comments.now (g.R.ByteSource.script c.args.reader.now) c.args.self.now c.in-Some.fault e l
 
 pub returns-in-Ok-Found-clause-gives : goal.returns-in-Ok-Found-clause-gives
 returns-in-Ok-Found-clause-gives g c =
     let i = c.blocks-2.invariant in
-    token_found (pair_of c.args.delims.now.quotes) (pair_of c.args.delims.now.comments) (g.R.ByteSource.script c.args.reader.now) (g.R.ByteSource.script c.blocks-2.reader)
+    token_found c.args.delims.now.quotes.now c.args.delims.now.comments.now (g.R.ByteSource.script c.args.reader.now) (g.R.ByteSource.script c.blocks-2.reader)
     c.args.self.now c.blocks-2.self i.0.0 c.in-Ok-Found.field-0 i.0.1 i.1 c.in-Ok-Found.ensures.value c.consume.new.self c.in-Ok-Found.token c.in-Ok-Found.len c.in-Ok-Found.field-0-is c.consume.ensures
 
 pub blocks-2-smaller : goal.blocks-2-smaller
 blocks-2-smaller g c =
     let i = c.blocks-2.invariant in
-    let may = token_open (pair_of c.args.delims.now.quotes) (pair_of c.args.delims.now.comments) (g.R.ByteSource.script c.args.reader.now) (g.R.ByteSource.script c.blocks-2.reader)
+    let may = token_open c.args.delims.now.quotes.now c.args.delims.now.comments.now (g.R.ByteSource.script c.args.reader.now) (g.R.ByteSource.script c.blocks-2.reader)
     c.args.self.now c.blocks-2.self i.0.0 c.in-Ok-NeedsMore.field-0 i.0.1 i.1 c.in-Ok-NeedsMore.ensures.value c.in-Ok-NeedsMore.field-0-is in
     let came = came_is (g.R.ByteSource.script c.blocks-2.reader) (g.R.ByteSource.script c.more.new.reader) c.blocks-2.self c.more.new.self c.in_ok-_came-in-Ok-NeedsMore._came c.in_ok-_came-in-Ok-NeedsMore.ensures.gives in
     blocks_fall ((c.blocks-2.self).pending).may_follow ((c.more.new.self).pending).may_follow (g.R.ByteSource.takes_left c.blocks-2.reader) (g.R.ByteSource.takes_left c.more.new.reader) may
@@ -54,7 +53,7 @@ blocks-2-preserved g c =
     let h : Held = c.blocks-2.self in
     let new : Held = c.more.new.self in
     let n : ℕ = g.R.ByteSource.failures c.blocks-2.reader in
-    let m = token_more (pair_of c.args.delims.now.quotes) (pair_of c.args.delims.now.comments) (g.R.ByteSource.script c.args.reader.now) (g.R.ByteSource.script c.blocks-2.reader)
+    let m = token_more c.args.delims.now.quotes.now c.args.delims.now.comments.now (g.R.ByteSource.script c.args.reader.now) (g.R.ByteSource.script c.blocks-2.reader)
     c.args.self.now h i.0.0 c.in-Ok-NeedsMore.field-0 i.0.1 i.1 c.in-Ok-NeedsMore.ensures.value (g.R.ByteSource.script c.more.new.reader) new c.in_ok-_came-in-Ok-NeedsMore._came c.in-Ok-NeedsMore.field-0-is c.in_ok-_came-in-Ok-NeedsMore.ensures.gives in
     let kept : (c.blocks-2.self).fault ≡ None = i.0.1.sound in (
       (m.0, m.1),
@@ -67,8 +66,8 @@ blocks-2-preserved g c =
 
 pub blocks-2-init : goal.blocks-2-init
 blocks-2-init g c =
-    let q = pair_of c.args.delims.now.quotes in
-    let r = pair_of c.args.delims.now.comments in
+    let q = c.args.delims.now.quotes.now in
+    let r = c.args.delims.now.comments.now in
     let s = g.R.ByteSource.script c.args.reader.now in
     let v : Held = view_of c.self.inside in
     let h : Held = record v { pending = record v.pending { definition = c.take.new.self } } in
@@ -86,8 +85,8 @@ pub returns-in_err-_came-in-Ok-NeedsMore-clause-gives : goal.returns-in_err-_cam
 returns-in_err-_came-in-Ok-NeedsMore-clause-gives g c =
     let i = c.blocks-2.invariant in
     let f : InputFault = c.in_err-_came-in-Ok-NeedsMore.field-0.0 in
-    let stops : NextGives (pair_of c.args.delims.now.quotes) (pair_of c.args.delims.now.comments) (g.R.ByteSource.script c.args.reader.now) (g.R.ByteSource.script c.more.new.reader) c.args.self.now c.more.new.self (Err f) =
-    token_stops (pair_of c.args.delims.now.quotes) (pair_of c.args.delims.now.comments) (g.R.ByteSource.script c.args.reader.now) (g.R.ByteSource.script c.blocks-2.reader)
+    let stops : NextGives c.args.delims.now.quotes.now c.args.delims.now.comments.now (g.R.ByteSource.script c.args.reader.now) (g.R.ByteSource.script c.more.new.reader) c.args.self.now c.more.new.self (Err f) =
+    token_stops c.args.delims.now.quotes.now c.args.delims.now.comments.now (g.R.ByteSource.script c.args.reader.now) (g.R.ByteSource.script c.blocks-2.reader)
     c.args.self.now c.blocks-2.self i.0.0 c.in-Ok-NeedsMore.field-0 i.0.1 i.1 c.in-Ok-NeedsMore.ensures.value (g.R.ByteSource.script c.more.new.reader) c.more.new.self f c.in-Ok-NeedsMore.field-0-is c.in_err-_came-in-Ok-NeedsMore.ensures.gives in
     let same : Err f ≡ c.from_residual.result = search rules in
-    subst (NextGives (pair_of c.args.delims.now.quotes) (pair_of c.args.delims.now.comments) (g.R.ByteSource.script c.args.reader.now) (g.R.ByteSource.script c.more.new.reader) c.args.self.now c.more.new.self) same stops
+    subst (NextGives c.args.delims.now.quotes.now c.args.delims.now.comments.now (g.R.ByteSource.script c.args.reader.now) (g.R.ByteSource.script c.more.new.reader) c.args.self.now c.more.new.self) same stops

@@ -4,7 +4,6 @@ use Rattle.m4_input.specs.declared.fault.InputFault.{InputFault}
 use Rattle.std.proofs.Common.{◌++◌}
 use Rattle.m4_state.specs.declared.definition.Def.{Def}
 use Rattle.m4_input.specs.declared.front.Answer.TheVariants.{Unknown}
-use Rattle.m4_input.specs.DelimsView.{pair_of}
 use Rattle.m4_input.specs.Pending.{Pending, text_of}
 use Rattle.m4_input.specs.Paren.{paren_in, paren_from}
 use Rattle.m4_input.specs.Input.{Held, IsLasting, wants_list, failures_after}
@@ -16,14 +15,14 @@ pub returns-in-Some-clause-gives : goal.returns-in-Some-clause-gives
 returns-in-Some-clause-gives g c =
     let e : (c.args.self.now).fault ≡ Some c.in-Some.fault = ap (λ (h : Held). h.fault) (sym c.self.view_is) ∙ c.in-Some.is in
     let l : IsLasting c.in-Some.fault = subst (λ (o : Option InputFault). IfSome o IsLasting) c.in-Some.is c.self.invariant in
-    let k = stopped_before (wants_list (pair_of c.args.delims.now.quotes) (pair_of c.args.delims.now.comments)) (g.R.ByteSource.script c.args.reader.now) c.args.self.now c.in-Some.fault e l in
+    let k = stopped_before (wants_list c.args.delims.now.quotes.now c.args.delims.now.comments.now) (g.R.ByteSource.script c.args.reader.now) c.args.self.now c.in-Some.fault e l in
     ([], k.0, k.1)
 
 pub blocks-2-preserved : goal.blocks-2-preserved
 blocks-2-preserved g c =
     let i = c.blocks-2.invariant in
-    let q = pair_of c.args.delims.now.quotes in
-    let r = pair_of c.args.delims.now.comments in
+    let q = c.args.delims.now.quotes.now in
+    let r = c.args.delims.now.comments.now in
     let h : Held = c.blocks-2.self in
     let new : Held = c.more.new.self in
     let s = g.R.ByteSource.script c.args.reader.now in

@@ -1,13 +1,12 @@
 use Rattle.std.proofs.Common.{◌≡◌, List, ℕ}
 use Rattle.std.proofs.Common.{None}
-use Rattle.m4_input.specs.DelimsView.{pair_of}
 use Rattle.m4_input.specs.Input.{wants_list}
 use Rattle.m4_input.proofs.Blocks.{HasAsked, blocks_left}
 use Rattle.m4_input.proofs.input.Input.sees_paren.Given as goal
 
 abbrev pub invariant-blocks-2 : goal.invariant-blocks-2
 invariant-blocks-2 g l =
-    ((x : List ℕ) × HasAsked (wants_list (pair_of l.delims.quotes) (pair_of l.delims.comments)) (g.R.ByteSource.script l.initial.reader) (g.R.ByteSource.script l.reader) l.initial.self l.self x (l.self).pending)
+    ((x : List ℕ) × HasAsked (wants_list l.delims.quotes.now l.delims.comments.now) (g.R.ByteSource.script l.initial.reader) (g.R.ByteSource.script l.reader) l.initial.self l.self x (l.self).pending)
     × (((l.self).pending).definition ≡ None)
     × (g.R.ByteSource.failures l.reader ≡ g.R.ByteSource.failures l.initial.reader)
 
