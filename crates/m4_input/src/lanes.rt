@@ -1,5 +1,5 @@
-//! Looks at sixteen bytes together. Most names, strings and pieces of a text are short, and to look at their bytes one
-//! by one takes longer. The callers look at a text of fewer bytes themselves.
+//! Searches in sixteen bytes at once. Most names, strings and pieces of a text are short, and to look at their bytes
+//! one by one takes longer. The callers search a text of fewer bytes themselves.
 
 ghost use Rattle.std.specs.Prelude.{◌≡◌, ◌==◌, ◌+◌, ◌<◌, ◌≤◌, ℕ, Bool, List, not, drop, length, map};
 ghost use Rattle.std.specs.List.{prefix_len};
@@ -10,7 +10,7 @@ ghost use Rattle.m4_input.specs.Token.{run_length};
 
 use std::simd::prelude::*;
 
-/// How many bytes are looked at together.
+/// The number of bytes that are searched at once.
 pub const LANES: usize = 16;
 
 /// Returns the first lane that is marked, or 16 if none is.
