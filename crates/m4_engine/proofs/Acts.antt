@@ -1,7 +1,6 @@
 -- Acts: what a call leaves is what the definitions' move leaves.
 use Rattle.std.proofs.Common.{◌≡◌, Bool, true, false, Some, None, ◌++◌, length, ℕ, List, [], ◌∷◌, refl, sym, ap, ◌∙◌}
 use Rattle.std.proofs.Common.{append-nil, append_assoc}
-use Rattle.m4_state.specs.declared.definition.Def.{Def}
 use Rattle.m4_state.specs.State.{State}
 use Rattle.m4_input.specs.Pending.{Pending, text_of, line_length}
 use Rattle.m4_input.specs.Input.{Held, longer}
@@ -20,7 +19,7 @@ use Rattle.m4_engine.specs.Expansion.{Call, Limits, Expansion, Kept, Ended, read
 use Rattle.m4_engine.specs.Expand.{turn, join, effected, skip_line, skip_or_push, with_saved, with_value, with_acted}
 use Rattle.m4_engine.specs.Expand.{mode_after_call}
 use Rattle.m4_engine.specs.Engine.{Engine, so_far_of, mode_of, kept_in, outer_of, here_of, configuration, begun_in}
-use Rattle.m4_engine.specs.Engine.{with_made, ending_in, ending_argument, with_open_call, put_in, put_token_in}
+use Rattle.m4_engine.specs.Engine.{with_made, ending_in, ending_argument, with_open_call, put_in}
 use Rattle.m4_engine.specs.Engine.{IsReady}
 use Rattle.m4_engine.specs.Turns.{called_within, close_in, step, moved, Makes, IsMade, StaysBy, Steps, IsTurned}
 use Rattle.m4_engine.specs.Turns.{Turns, MayFollow, Moving, Extended, line_move, Moves}
@@ -192,7 +191,3 @@ turned_makes e e1 i (Err x) r h m = record { moves = tt; ready = tt; limits = tt
 pub text_limits : (cs : List Call) (x : List ℕ) (e : Engine) → (put_in cs x e).limits ≡ e.limits
 text_limits [] x e = refl
 text_limits (c ∷ cs) x e = refl
-
-pub token_limits : (cs : List Call) (d : Def) (e : Engine) → (put_token_in cs d e).limits ≡ e.limits
-token_limits [] d e = refl
-token_limits (c ∷ cs) d e = refl

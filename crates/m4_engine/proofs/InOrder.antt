@@ -41,7 +41,6 @@ use Rattle.m4_input.proofs.Consumed.{NoDefinition, scan_plain}
 use Rattle.m4_builtins.specs.Args.{IsArg}
 use Rattle.m4_builtins.specs.Act.{IsPushed, needs_list}
 use Rattle.m4_builtins.proofs.ActKeeps.{act_keeps, act_pushes}
-use Rattle.m4_engine.specs.Engine.{IsFront}
 use Rattle.m4_frozen.specs.Directive.{Directive, Quotes, Comments, Text, Builtin as NamedBuiltin, Diversion}
 use Rattle.m4_frozen.specs.Spells.{SpellsAll, SpellsOne}
 use Rattle.m4_frozen.specs.Denote.{with_directive, definition_named, builtin_or_placeholder}
@@ -260,11 +259,6 @@ front_valid : (o : Option Def) (q c : Delimiters) (p : Pending) → ValidToken o
 unfolding FrontValid ValidToken
 front_valid (Some d) q c p h = (token_here d h, tt)
 front_valid None q c p h = front_by_valid p (scan q c p.may_follow (text_of p)) (scan_plain q c p.may_follow (text_of p))
-
-is_valid : (o : Option Def) → IsFront o → ValidToken o
-unfolding ValidToken
-is_valid None h = tt
-is_valid (Some d) h = h
 
 take_front_valid : (v : Front) (s : Expansion) → FrontValid v → Valid s → ValidTurn (take_front v s)
 unfolding FrontValid ValidTurn

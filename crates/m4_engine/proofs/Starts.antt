@@ -513,21 +513,6 @@ reload_begins tells reader frozen o file out out' st i t h =
     subst (λ (y : Option Script). BeginGives (start_of o.prefix y) o out out' st) (sym k.2)
     (reload_by o k.0 out out' st (subst (λ (y : Option Script). ReloadGives o y out out' st) k.1 h))
 
-pub reload_begun : (o : Options) (file : Option Script) (out out' : Option (List ℕ)) (st : Result SessionState Stop) → ReloadGives o file out out' st → IsBegun o st
-reload_begun o file out out' (Ok new) h = (h.0, h.3)
-reload_begun o file out out' (Err stops.Finished) h = absurd h
-reload_begun o file out out' (Err (stops.Ended causes.Done)) h = absurd h
-reload_begun o file out out' (Err (stops.Ended (causes.Exited n))) h = absurd h
-reload_begun o file out out' (Err (stops.Ended causes.EndInString)) h = absurd h
-reload_begun o file out out' (Err (stops.Ended causes.EndInComment)) h = absurd h
-reload_begun o file out out' (Err (stops.Ended causes.EndInArguments)) h = absurd h
-reload_begun o file out out' (Err (stops.Ended causes.ExpansionLimit)) h = absurd h
-reload_begun o file out out' (Err (stops.Ended causes.NestingLimit)) h = absurd h
-reload_begun o file out out' (Err (stops.Ended causes.Read)) h = absurd h
-reload_begun o file out out' (Err (stops.Ended (causes.Frozen fault))) h = tt
-reload_begun o file out out' (Err (stops.Ended causes.Write)) h = tt
-reload_begun o file out out' (Err (stops.Ended causes.OutOfMemory)) h = absurd h
-
 -- what a fresh run begins with
 fresh_by : (o : Options) (out : Option (List ℕ)) (st : Result SessionState Stop) → IfOk st (λ s. s ≡ fresh_session o) → IfErr st (λ e. e ≡ stops.Ended causes.OutOfMemory) → BeginGives (start_of o.prefix None) o out out st
 fresh_by o out (Ok s) f e = (fresh o.prefix, [], refl, f, with_bytes-nil out)
@@ -540,10 +525,6 @@ pub fresh_begins : {R : Type 0} (tells : R → Option Script) (frozen : Option R
 fresh_begins tells frozen o file out st i t f e =
     let k : file ≡ None = subst (λ (y : Option _). DescribesFrozen tells y file) i t in
     subst (λ (y : Option Script). BeginGives (start_of o.prefix y) o out out st) (sym k) (fresh_by o out st f e)
-
-pub fresh_begun : (o : Options) (st : Result SessionState Stop) → IfOk st (λ s. s ≡ fresh_session o) → IfErr st (λ e. e ≡ stops.Ended causes.OutOfMemory) → IsBegun o st
-fresh_begun o (Ok s) f e = (fresh o.prefix, f)
-fresh_begun o (Err x) f e = subst (λ (y : Stop). IsBegun o (Err y)) (sym e) tt
 
 -- the end of a run leaves the session over, by the cause that is answered
 end_left : (freezes : Bool) (old new : SessionState) (w : Contents) (e : Stop) → IsOpen old → EndGives freezes old new w (Err e) → IsLeft {A = Bool} new (Err e)

@@ -1,7 +1,7 @@
 //! A call whose arguments are being collected. Manual: "Macro arguments", "Quoting arguments".
 //!
-//! A call is kept in a box, with its memory, and the next one takes it. So a call is moved by its address, and
-//! most calls ask for no memory.
+//! A call is in a box, which is kept with its memory for the next call. So a call is moved by its address, and most
+//! calls ask for no memory.
 
 ghost use Rattle.std.specs.Prelude.{◌≡◌, ◌<◌, ◌≤◌, ◌+◌, ◌-◌, suc, OnErr, ◌++◌, ◌∷◌, [], true, false, nat_lt, Ok, OnOk};
 ghost use Rattle.std.specs.Prelude.{IfOk, IfSome, None, length, take};
@@ -31,8 +31,8 @@ pub struct OpenCall {
 }
 
 /// The parts of an open call: its definition, name and place as they were when its name was read, so that no open call
-/// changes if a definition does. The first `count` arguments are complete; those after them are of earlier calls, and
-/// are kept for their memory.
+/// changes if a definition does. The first `count` arguments are complete. The others are of earlier calls, and are
+/// kept for their memory.
 #[derive(Drop)]
 struct Parts {
     definition: Def,
@@ -66,8 +66,9 @@ impl Drop for OpenCall {
     }
 }
 
-/// A longer text has memory that it shares. It is dropped when its call was made. A shorter one has a buffer of its
-/// own, which the next argument takes: to copy so few bytes takes less than the memory that sharing them needs.
+/// The greatest length of an argument that has a buffer of its own, which is kept for the next argument. A longer one
+/// is shared, and is dropped when its call was made. To copy few bytes takes less time than the memory that sharing
+/// needs.
 const LARGEST_COPIED: usize = 256;
 
 /// Returns an argument that needs no memory.
@@ -78,7 +79,7 @@ fn blank() -> Arg
     Arg::Text(Bytes::empty())
 }
 
-/// Drops the arguments that are large, and the definitions.
+/// Drops the large texts and the definitions among the arguments.
 fn drop_large(args: &mut [Arg]) {
     for arg in args.iter_mut() {
         let is_large = match arg {
@@ -91,8 +92,8 @@ fn drop_large(args: &mut [Arg]) {
     }
 }
 
-/// Puts a text after the first `count` arguments, if a text of an earlier call is there, whose memory the buffer
-/// then has. Returns whether it did, and if so the buffer is empty.
+/// Puts the bytes after the first `count` arguments, if a text of an earlier call is there. The buffer is then empty,
+/// and has the memory of that text. Returns whether it did.
 #[inline(always)]
 fn put_text_at(args: &mut Vec<Arg>, count: usize, bytes: &mut Vec<u8>) -> bool
     ensures put { result ≡ true → take (count + 1) args.new.items
@@ -113,7 +114,7 @@ fn put_text_at(args: &mut Vec<Arg>, count: usize, bytes: &mut Vec<u8>) -> bool
     }
 }
 
-/// Puts an argument after the first `count` ones.
+/// Stores an argument after the first `count` ones.
 #[inline(always)]
 fn put_at(args: &mut Vec<Arg>, count: usize, arg: Arg) -> Result<(), AllocError>
     requires { count ≤ length args.old.items }
@@ -129,7 +130,7 @@ fn put_at(args: &mut Vec<Arg>, count: usize, arg: Arg) -> Result<(), AllocError>
     Ok(())
 }
 
-/// Makes an argument of what was collected.
+/// Returns the argument that was collected, from its bytes and its definitions.
 #[inline(always)]
 fn argument(bytes: Vec<u8>, tokens: Vec<Def>) -> Result<Arg, AllocError>
     requires { AllByRecursion IsDefinition tokens.items }
@@ -173,8 +174,7 @@ impl OpenCall {
         })
     }
 
-    /// Makes this a call of the name that the first `len` bytes are, with no argument read yet. Its memory and its place
-    /// stay.
+    /// Makes this a call of the name in the first `len` bytes, with no argument read yet. Keeps its memory and place.
     pub fn renew(&mut self, text: &[u8], len: usize, definition: &Def) -> Result<(), AllocError>
         requires valid { IsDefinition definition.now }
         requires within { len ≤ length text.now }
@@ -206,8 +206,8 @@ impl OpenCall {
         self.parts.tokens.clear();
     }
 
-    /// Makes sure that the memory that is kept is of at most so many arguments, and of nothing that is large. The
-    /// contents are dropped by `renew`.
+    /// Drops the memory of all but the first `most` arguments, and of anything large, if there is such memory. The rest
+    /// of the contents is dropped by `renew`.
     #[inline(always)]
     pub fn shed(&mut self, most: usize) {
         let is_long = self.parts.args.len() > most;
@@ -216,7 +216,7 @@ impl OpenCall {
         }
     }
 
-    /// Drops the memory of all but so many arguments, and of what is large.
+    /// Drops the memory of all but the first `most` arguments, and of anything large.
     #[inline(never)]
     fn shed_memory(&mut self, most: usize) {
         let alloc = *self.parts.bytes.allocator();
@@ -236,7 +236,7 @@ impl OpenCall {
         self.parts.args.is_empty()
     }
 
-    /// Takes the memory of the arguments of a call that was made.
+    /// Moves the memory for arguments here from a call that was made.
     #[inline(never)]
     pub fn take_memory(&mut self, made: &mut OpenCall)
         requires { self.old.done ≡ [] }
@@ -287,14 +287,14 @@ impl OpenCall {
         self.parts.parentheses > 0
     }
 
-    /// Returns whether the argument has begun: until then white space is dropped.
+    /// Returns whether the argument has begun. Until it has, white space is dropped.
     pub fn has_begun(&self) -> bool
         ensures { result ≡ self.now.begun }
     {
         self.parts.begun
     }
 
-    /// Marks the argument as begun: from now on white space belongs to it.
+    /// Marks the argument as begun, so that white space now belongs to it.
     pub fn mark_begun(&mut self)
         ensures { self.new ≡ record self.old { begun = true } }
     {
@@ -387,7 +387,7 @@ impl OpenCall {
         }
     }
 
-    /// Ends the argument; returns whether definitions in it were dropped.
+    /// Ends the argument, and returns whether definitions in it were dropped.
     #[inline(always)]
     #[tactic(auto, using(crate::proofs::Calls::done_valid, crate::proofs::Calls::text_argument))]
     pub fn end_argument(&mut self) -> Result<bool, AllocError>

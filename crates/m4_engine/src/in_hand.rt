@@ -1,4 +1,4 @@
-//! The outcome of an expansion of the bytes in hand.
+//! The outcome of an expansion of the bytes in hand, and the purpose for which it needs more.
 
 use crate::ending::Cause;
 

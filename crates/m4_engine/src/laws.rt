@@ -16,7 +16,7 @@ pub fn expand_rules()
     ensures { ExpandRules }
 {}
 
-/// Whatever the turns of an expansion lead to comes to what the whole expansion comes to.
+/// From each moment that the turns of an expansion lead to, the expansion has the same result as from its start.
 pub fn moments_lead()
     // in order: each moment of an expansion leads to its result
     ensures { MomentsLead }

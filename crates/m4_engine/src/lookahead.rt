@@ -1,4 +1,4 @@
-//! The next token, as it was recognised when the tokens before it were passed.
+//! The next token, as it was found when the tokens before it were passed.
 
 ghost use Rattle.std.specs.Prelude.{◌≡◌, ◌+◌, ◌≤◌, Some, Bool, IfOk, length, take, drop};
 ghost use Rattle.m4_state.specs.Definition.{IsDefinition};
@@ -42,14 +42,14 @@ pub enum Lookahead {
     Unended(Unended),
     /// The bytes in hand don't decide the token, or whether a list follows a name.
     Undecided,
-    /// Not found yet: so many bytes at the start were looked at, and others in hand come after them.
+    /// Not found yet: this many bytes at the start were looked at, and others in hand come after them.
     Further(usize),
 }
 
 impl Lookahead {
-    /// Returns the lookahead for the name that the first `len` bytes are, called without a list, with this definition.
-    /// If the limits allow a call (`room`), the expansion of a text without a dollar is known, and `dnl`, with which many
-    /// lines end.
+    /// Returns the lookahead for a name with this definition, without a list: the first `len` bytes. If the limits
+    /// allow a call (`room`), a text without a dollar is its own expansion, and `dnl`, with which many lines end, needs
+    /// no call in memory.
     #[inline(always)]
     fn bare(
         spare: &mut Spare,
@@ -73,8 +73,8 @@ impl Lookahead {
     }
 }
 
-/// Copies the text of a token, which begins after so many bytes. Not inlined, since a pass puts most texts where they
-/// go.
+/// Copies the text of a token, `len` bytes after the first `begin` ones. Not inlined, since a pass copies most texts
+/// directly to their destination.
 #[inline(never)]
 fn copied(spare: &Spare, text: &[u8], begin: usize, len: usize) -> Result<Bytes, AllocError>
     requires { begin + len ≤ length text.now }
@@ -84,8 +84,8 @@ fn copied(spare: &Spare, text: &[u8], begin: usize, len: usize) -> Result<Bytes,
 }
 
 impl Lookahead {
-    /// Returns the lookahead for this first token of a text. Others in hand may follow the text; `room` says whether
-    /// the limits allow a call. A call's place is not known yet.
+    /// Returns the lookahead for this first token of a text. `room` is whether the limits allow a call, and `others`
+    /// whether other bytes in hand follow the text. The place of a call is not set yet.
     #[inline(always)]
     pub fn of(
         spare: &mut Spare,

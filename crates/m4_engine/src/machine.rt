@@ -44,7 +44,7 @@ pub struct Machine {
     messages: Vec<u8>,
     saved: Vec<Bytes>,
     spare: Spare,
-    // The effect of the call that is made, or of the last one, whose memory the next one takes.
+    // The effect of the call that is made, or of the last one, which is kept for its memory.
     effect: EffectBuffer,
 }
 
@@ -80,7 +80,7 @@ impl Drop for Machine {
     }
 }
 
-/// Joins the texts, the last one first.
+/// Returns the texts joined, the last one first.
 fn join_back(alloc: Global, texts: Vec<Bytes>) -> Result<Bytes, AllocError>
     ensures { IfOk result (λ x. x ≡ joined_back texts.items) }
 {
@@ -133,7 +133,7 @@ impl Machine {
         Ok(())
     }
 
-    /// Appends a definition to the innermost argument. Outside of calls it is dropped.
+    /// Appends a definition to the innermost argument. Outside of calls it drops the definition.
     pub fn put_token(&mut self, definition: Def) -> Result<(), AllocError>
         requires { IsDefinition definition }
         ensures { OnOk result (self.new ≡ with_token definition self.old) }

@@ -13,6 +13,7 @@ ghost use Rattle.m4_engine.specs.SessionFailures.{ReadFails, ReloadFails, WriteF
 use crate::ending::Cause;
 use crate::machine::Machine;
 use crate::options::Options;
+use crate::source::put_unopened;
 use crate::stop::Stop;
 use m4_frozen::fault::WriteFault;
 use m4_frozen::reading::read_frozen;
@@ -22,11 +23,11 @@ use m4_state::bytes::Bytes;
 use m4_state::device::{ByteSink, ByteSource, DeviceFault};
 use m4_state::memory::MemSource;
 use m4_state::state::State;
-use m4_state::transfer::{write_all, write_pieces};
+use m4_state::transfer::write_all;
 use std::alloc::Global;
 use std::marker::Model;
 
-/// A run between two calls.
+/// A run that is made call by call, between two of them.
 pub struct Session {
     machine: Machine,
     any_missing: bool,
@@ -51,7 +52,7 @@ impl Drop for Session {
     fn drop(self) {
         let Session {
             machine: _machine,
-            any_missing: _missed,
+            any_missing: _any_missing,
             over: _over,
             finished: _finished,
         } = self;
@@ -150,7 +151,7 @@ impl Session {
         ensures gives { FileGives name (R.script reader.old) (R.script reader.new) self.old self.new
             (both O.contents M.contents out.old out.new messages.old messages.new)
             result }
-        // in order: where it is broken off, a message was written only if all output was that was made before it
+        // in order: if it is broken off, a message was written only if all output was that was made before it
         ensures order { BreaksBy result (FileBreaks self.old.limits (progress_of self.old) name
             (R.script reader.old) (R.script reader.new)
             (both O.contents M.contents out.old out.new messages.old messages.new)) }
@@ -202,7 +203,7 @@ impl Session {
         if !self.is_open() {
             return Err(Stop::Finished);
         }
-        if let Err(DeviceFault) = write_pieces(messages, &[b"m4: cannot open `", name, b"'\n"]) {
+        if let Err(DeviceFault) = put_unopened(name, messages) {
             return Err(self.end(Cause::Write));
         }
         self.any_missing = true;
@@ -271,7 +272,7 @@ impl Session {
         ensures gives { FinishGives self.old self.new
             (both O.contents M.contents out.old out.new messages.old messages.new)
             result }
-        // in order: where it is broken off, a message was written only if all output was that was made before it
+        // in order: if it is broken off, a message was written only if all output was that was made before it
         ensures order { BreaksBy result (Breaks (InEnd self.old.limits) (progress_of self.old)
             (both O.contents M.contents out.old out.new messages.old messages.new)) }
         // safe and total: a write fault is returned only if a writer failed in this call
@@ -304,7 +305,7 @@ impl Session {
             (all_three O.contents M.contents Z.contents
             out.old out.new messages.old messages.new freeze_to.old freeze_to.new)
             result }
-        // in order: where it is broken off, a message was written only if all output was that was made before it
+        // in order: if it is broken off, a message was written only if all output was that was made before it
         ensures order { BreaksBy result (Breaks (InEnd self.old.limits) (progress_of self.old)
             (both O.contents M.contents out.old out.new messages.old messages.new)) }
         // torn files: if each put is taken whole, a write fault leaves nothing of the frozen text, or a torn beginning

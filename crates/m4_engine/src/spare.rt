@@ -18,8 +18,8 @@ const LONGEST: usize = 4096;
 /// How many arguments any other call keeps at most.
 const USUAL: usize = 8;
 
-/// Calls without contents. They keep their memory. There are as many as were open at one time, so that to keep all of
-/// them takes no more than was needed then.
+/// Calls that were made, kept for their memory. There are at most as many as were open at one time, so keeping them
+/// takes no more memory than was needed then.
 pub struct Spare {
     alloc: Global,
     calls: Vec<OpenCall>,
@@ -55,7 +55,7 @@ impl Spare {
         self.alloc
     }
 
-    /// Returns a call of the name that the first `len` bytes are, with no argument read yet. Its place is to be set.
+    /// Returns a call of the name in the first `len` bytes, with no argument read yet. The caller sets its place.
     #[inline(always)]
     pub fn call(
         &mut self,
@@ -84,8 +84,8 @@ impl Spare {
         let _kept = self.calls.push(kept);
     }
 
-    /// Gives an open call the memory of the call that was made last, if it has none for its arguments yet. Calls that
-    /// nest deep are made one after another, the innermost first, so that one memory serves all of them.
+    /// Moves the memory of the call that was made last to an open call, if that has none for its arguments yet. Deeply
+    /// nested calls are made one after another, the innermost first, so that one memory serves all of them.
     #[inline(always)]
     pub fn lend(&mut self, call: &mut OpenCall)
         ensures { call.new ≡ call.old }
@@ -95,7 +95,7 @@ impl Spare {
         }
     }
 
-    /// Gives it the memory of the call that was made last.
+    /// Moves the memory of the call that was made last to an open call.
     #[inline(never)]
     fn lend_last(&mut self, call: &mut OpenCall)
         requires { call.old.done ≡ [] }

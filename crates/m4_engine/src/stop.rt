@@ -1,4 +1,4 @@
-//! Why a call of a session returns no success.
+//! Why a call of a session fails.
 
 ghost use Rattle.std.specs.Prelude.{◌≡◌};
 ghost use Rattle.m4_engine.specs.Session.{status_after};

@@ -22,7 +22,8 @@ pub enum Turned {
     Ends(TurnEnd),
 }
 
-/// Why a turn ends the expansion: the causes that an input gives. One is returned by each turn, so it is small.
+/// Why a turn ends the expansion: the causes other than faults of devices, memory and frozen files. Kept small, since
+/// every turn returns one.
 #[derive(Clone, Copy)]
 pub enum TurnEnd {
     /// Everything was read.

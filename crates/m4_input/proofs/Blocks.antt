@@ -71,16 +71,6 @@ stops_so s a b old h new x f r e n = (
   ap (λ (k : Held). k.fault) n,
 )
 
-pub block_stops : (s a b : Option Script) (old h new : Held) (x : List ℕ) (f : InputFault) → HasRead s a old h x → BlockGives a b h new (Err f) → Stopped f s b old new x new.pending
-block_stops s a b old h new x (faults.EndInString line) r g = absurd g
-block_stops s a b old h new x (faults.EndInComment line) r g = absurd g
-block_stops s a b old h new x faults.Read r g =
-    let k = stops_so s a b old h new x faults.Read r g.0 g.2 in
-    record { lasting = tt; reads = k.0; first = λ e i. g.1; again = λ i e. (let no : None ≡ Some i = sym r.first ∙ e in cc); answered = k.1 }
-block_stops s a b old h new x faults.OutOfMemory r g =
-    let k = stops_so s a b old h new x faults.OutOfMemory r g.0 g.1 in
-    record { lasting = tt; reads = k.0; first = λ e i. cc; again = λ i e. (let no : None ≡ Some i = sym r.first ∙ e in cc); answered = k.1 }
-
 -- the same where the call asks only while this is left open; p is all that was in hand
 pub record HasAsked (wants : Pending → Type 0) (before after : Option Script) (old new : Held) (x : List ℕ) (p : Pending) : Type 0 where
   pub reads : Reads before after old.pending x p

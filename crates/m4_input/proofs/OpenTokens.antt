@@ -40,13 +40,6 @@ come : (o : Bool) → MayCome o o []
 come true = tt
 come false = (refl, refl)
 
-pub none_passed : (q : Delimiters) (o : Bool) (n : ℕ) (x : List ℕ) → HasPassed q o n x n 0
-none_passed q o n x = record {
-  within = omega arith;
-  low = omega arith;
-  same = λ p z c. sym (no_further (level q p n 0 (x ++ z)));
-}
-
 -- a mark of d bytes is passed
 passed_on : (q : Delimiters) (o : Bool) (n : ℕ) (x : List ℕ) (m k b i d : ℕ) → HasPassed q o n x m k
     → drop k x ≡ b ∷ drop (k + 1) x → 0 < d → d ≤ length (drop k x) → i ≤ suc m
@@ -335,9 +328,6 @@ scan_so q c (b ∷ y) k e n = (b, y, refl, ap (λ i. scan_kind i q c true b y) e
 -- a name that was not looked at, and so on
 pub name_begins : (q c : Delimiters) (x : List ℕ) → kind_in q c x ≡ NameHere → NameIsOpen q c 0 x
 name_begins q c x e = record { kind = e; within = omega arith; same = λ z. (let n : ℕ = run_length is_name_byte (x ++ z) in let i : n ≡ 0 + n = omega arith in i) }
-
-pub string_begins : (q c : Delimiters) (x : List ℕ) → kind_in q c x ≡ StringHere → length q.begin ≤ length x → StringIsOpen q c 0 0 x
-string_begins q c x e l = record { kind = e; long = l; passed = none_passed q true 0 (drop (length q.begin) x) }
 
 -- ---- what is open stays so
 

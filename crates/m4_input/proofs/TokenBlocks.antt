@@ -1,13 +1,11 @@
 -- TokenBlocks: blocks that are asked for while the first token is open.
-use Rattle.std.proofs.Common.{◌≡◌, inl, inr, ℕ, Bool, true, false, List, [], ◌++◌, Option, Some, None, refl, sym, ap}
+use Rattle.std.proofs.Common.{◌≡◌, inl, inr, ℕ, Bool, true, false, List, [], ◌++◌, Option, None, refl, sym, ap}
 use Rattle.std.proofs.Common.{◌∙◌, subst, append_assoc}
-use Rattle.std.specs.Prelude.{Ok, Err}
+use Rattle.std.specs.Prelude.{Ok}
 use Rattle.std.proofs.lemmas.List.{append-nil}
 use Rattle.m4_state.specs.Device.{Script, after_bytes}
 use Rattle.m4_state.proofs.CallerLaws.{after_bytes-append}
 use Rattle.m4_state.specs.declared.delimiters.Delimiters.{Delimiters}
-use Rattle.m4_input.specs.declared.fault.InputFault.{InputFault}
-use Rattle.m4_input.specs.declared.fault.InputFault.TheVariants as faults
 use Rattle.m4_state.specs.declared.definition.Def.{Def}
 use Rattle.m4_input.specs.declared.front.Scan.TheVariants.{NeedsMore}
 use Rattle.m4_input.specs.declared.open_token.OpenToken.{OpenToken}
@@ -15,7 +13,7 @@ use Rattle.m4_input.specs.Pending.{Pending, text_of}
 use Rattle.m4_input.specs.Token.{front_by, front_from, scan}
 use Rattle.m4_input.specs.Input.{Held, longer, wants_token}
 use Rattle.m4_input.specs.OpenToken.{IsOpenAt}
-use Rattle.m4_input.specs.Blocks.{BlockGives, IsOpenAfter, TokenStops, TokenGives}
+use Rattle.m4_input.specs.Blocks.{BlockGives, IsOpenAfter, TokenGives}
 use Rattle.m4_input.proofs.Blocks.{HasRead, none_read, block_follows, no_bytes}
 use Rattle.m4_input.proofs.OpenTokens.{longer_open}
 
@@ -77,26 +75,3 @@ module _ (q c : Delimiters) (s a b : Option Script) (old h new : Held) (x : List
         k.0,
         record { read = k.1; undecided = inr (subst (wants_token q c) p (wants_so q c new.pending still_none (k.1).may i)) },
       )
-
--- a question that failed
-pub come_stops : (q c : Delimiters) (s a b : Option Script) (old h new : Held) (x : List ℕ) (f : InputFault) → HasCome q c s a old h x → BlockGives a b h new (Err f) → TokenGives q c s b old new (Err f)
-come_stops q c s a b old h new x (faults.EndInString line) r g = absurd g
-come_stops q c s a b old h new x (faults.EndInComment line) r g = absurd g
-come_stops q c s a b old h new x faults.Read r g = (stops faults.Read g.0 g.2, g.1)
-  where
-    stops : (f : InputFault) → b ≡ a → new ≡ record h { fault = Some f } → TokenStops q c s b old new f
-    stops f e n = record {
-      x = x;
-      given = r.read.reads.given ∙ ap (after_bytes x) (sym e);
-      undecided = r.undecided;
-      stopped = n ∙ ap (λ (p : Pending). let i : Held = record { pending = p; fault = Some f } in i) (r.read.reads.in_hand ∙ ap (λ (v : Bool). longer x v old.pending) r.read.may);
-    }
-come_stops q c s a b old h new x faults.OutOfMemory r g = stops faults.OutOfMemory g.0 g.1
-  where
-    stops : (f : InputFault) → b ≡ a → new ≡ record h { fault = Some f } → TokenStops q c s b old new f
-    stops f e n = record {
-      x = x;
-      given = r.read.reads.given ∙ ap (after_bytes x) (sym e);
-      undecided = r.undecided;
-      stopped = n ∙ ap (λ (p : Pending). let i : Held = record { pending = p; fault = Some f } in i) (r.read.reads.in_hand ∙ ap (λ (v : Bool). longer x v old.pending) r.read.may);
-    }

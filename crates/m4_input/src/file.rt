@@ -1,8 +1,8 @@
 //! The bytes of one file that are in hand, and how many of them were read.
 //!
 //! Blocks of the file are appended to a buffer. If it is full, and more of its bytes were read than are left, the bytes
-//! left are moved to its front. So reading a file and moving its bytes takes time in proportion to the file. Bytes that
-//! were read are room for short texts that calls push.
+//! left are moved to its start. So reading a file and moving its bytes takes time in proportion to the file. A short
+//! text that a call pushes is written over bytes that were read.
 
 ghost use Rattle.std.specs.Prelude.{◌≡◌, ◌+◌, ◌<◌, ◌≤◌, ◌++◌, [], OnOk, OnErr, IfOk, Ok, true, false, length, take};
 ghost use Rattle.std.specs.Prelude.{drop, vec_len, vec_capacity, ◌-◌};
@@ -19,11 +19,11 @@ use std::marker::Model;
 /// How many bytes a reader is asked for at a time.
 const SOURCE_BLOCK: usize = 4096;
 
-/// How many bytes of room for results are before the first block. Later ones come after bytes that were read.
+/// The room for pushed texts before the first block, in bytes. Later blocks have bytes before them that were read.
 const ROOM: usize = 1024;
 
-/// Bytes of a file, how many of them were read, and how many newlines of the file were read. Of the bytes that are left
-/// the first `pushed` were pushed, over bytes of the file.
+/// Bytes of a file, how many of them were read, and how many newlines of the file were read. The first `pushed` of the
+/// bytes that are left were pushed, over bytes of the file.
 #[derive(Drop)]
 pub struct File {
     bytes: Vec<u8>,
@@ -54,8 +54,8 @@ fn count_newlines(bytes: &[u8]) -> usize
     }
 }
 
-/// In how many bytes newlines are counted at once. Their number fits into a byte, so one instruction looks at many
-/// bytes.
+/// The number of bytes in which newlines are counted at once. The count fits into a byte, so one instruction compares
+/// many bytes.
 const COUNTED_AT_ONCE: usize = 255;
 
 /// Counts the newlines of any number of bytes. Not inlined, so that the loop has the registers for itself.
@@ -86,7 +86,7 @@ fn count_few(bytes: &[u8]) -> u8
     count
 }
 
-/// Moves the bytes from a position on to the front.
+/// Moves the bytes from position `at` on to the start.
 fn move_to_front(bytes: &mut Vec<u8>, at: usize)
     requires within { at ≤ vec_len bytes.old }
     requires fits { vec_len bytes.old - at ≤ at }
@@ -113,7 +113,7 @@ fn append_in_room(bytes: &mut Vec<u8>, more: &[u8])
     }
 }
 
-/// Makes room for the first block, after that for results. Returns where the block begins.
+/// Makes room for pushed texts, and after it for the first block. Returns the position at which the block begins.
 fn make_first_room(bytes: &mut Vec<u8>) -> Result<usize, AllocError>
     requires { bytes.old.items ≡ [] }
     ensures within { IfOk result (λ n. n ≡ vec_len bytes.new) }
@@ -125,7 +125,7 @@ fn make_first_room(bytes: &mut Vec<u8>) -> Result<usize, AllocError>
     Ok(ROOM)
 }
 
-/// Makes room for a block at the end. Returns where the bytes from a position on are then.
+/// Makes room for a block at the end. Returns the new position of the bytes that were at position `at`.
 fn make_room(bytes: &mut Vec<u8>, at: usize) -> Result<usize, AllocError>
     requires { at ≤ vec_len bytes.old }
     ensures within { IfOk result (λ n. n ≤ vec_len bytes.new) }
@@ -149,7 +149,7 @@ fn make_room(bytes: &mut Vec<u8>, at: usize) -> Result<usize, AllocError>
 impl File {
     ghost use Rattle.m4_input.specs.Text.{TakesBlock, failures_by};
 
-    /// Creates a file with bytes in hand, none of which was read.
+    /// Creates a file of which these bytes are in hand, none of them read.
     pub fn of(bytes: Vec<u8>) -> File
         ensures { result ≡ record { pushed = []; unread = bytes.items; newlines = 0 } }
     {
@@ -161,8 +161,8 @@ impl File {
         }
     }
 
-    /// Asks a reader once: a block of its bytes is appended to the unread ones, or it is at its end. Returns
-    /// whether bytes came. If the reader or an allocation fails, nothing changes.
+    /// Asks a reader once, and appends a block of its bytes to the unread ones. Returns whether bytes came: if none
+    /// did, the reader is at its end. If the reader or an allocation fails, nothing changes.
     pub fn take_block<R: ByteSource>(&mut self, reader: &mut R) -> Result<bool, InputFault>
         ensures gives { TakesBlock (R.script reader.old) (R.script reader.new) self.old self.new result }
         ensures falls { result ≡ Ok true → R.takes_left reader.new < R.takes_left reader.old }
@@ -182,7 +182,7 @@ impl File {
         }
     }
 
-    /// Returns how many newlines were read.
+    /// Returns the number of newlines that were read.
     pub fn newlines(&self) -> usize
         ensures { result ≡ self.now.newlines }
     {
@@ -198,7 +198,7 @@ impl File {
         self.at == self.bytes.len()
     }
 
-    /// Returns the bytes.
+    /// Returns the bytes that are left.
     #[inline(always)]
     pub fn rest(&self) -> &[u8]
         ensures { result.now ≡ text_in self.now }
@@ -206,7 +206,7 @@ impl File {
         self.bytes.split_at(self.at).1
     }
 
-    /// Puts a text at the start, over bytes that were read, if there are as many. Returns whether it did.
+    /// Inserts a text at the start, over bytes that were read, if there are as many of these. Returns whether it did.
     #[inline(always)]
     pub fn put_before(&mut self, text: &[u8]) -> bool
         ensures put { result ≡ true → self.new ≡ with_text text.now self.old }
@@ -221,7 +221,7 @@ impl File {
         true
     }
 
-    /// Discards the first n bytes. Newlines count in those of the file.
+    /// Discards the first n bytes, and counts the newlines in those of the file.
     #[inline(always)]
     pub fn consume(&mut self, n: usize)
         requires { n ≤ length (text_in self.old) }
@@ -238,7 +238,7 @@ impl File {
         self.at += n;
     }
 
-    /// Discards the first n bytes, none of which is a newline, so that none of them is looked at.
+    /// Discards the first n bytes, none of which is a newline. It looks at none of them.
     #[inline(always)]
     pub fn pass(&mut self, n: usize)
         requires within { n ≤ length (text_in self.old) }

@@ -130,7 +130,7 @@ impl Input {
         }
     }
 
-    /// Returns whether bytes of the file may follow those in hand: the reader has not ended yet.
+    /// Returns whether bytes of the file may follow those in hand, since the reader has not ended yet.
     pub fn may_follow(&self) -> bool
         ensures { result ≡ self.now.pending.may_follow }
     {
@@ -179,7 +179,7 @@ impl Input {
         Ok(Some(front))
     }
 
-    /// Puts the bytes at the start that are contiguous, if they are few, before those that come after them, so that
+    /// Copies the bytes at the start that are contiguous, if they are few, before those that come after them, so that
     /// both are contiguous. Returns whether it did.
     #[doc(hidden)]
     pub fn join(&mut self) -> bool
@@ -364,8 +364,8 @@ impl Input {
         }
     }
 
-    /// Asks the reader once: a block of at most 4,096 bytes comes after the bytes in hand, or the reader is at
-    /// its end and the input is closed. Returns whether bytes came. Returns `Read` if the reader fails and
+    /// Asks the reader once, and appends a block of at most 4,096 bytes to those in hand. Returns whether bytes came:
+    /// if none did, the reader is at its end, and the input is closed. Returns `Read` if the reader fails and
     /// `OutOfMemory` if an allocation fails; no byte is lost then, and each later call returns the fault.
     pub fn more<R: ByteSource>(&mut self, reader: &mut R) -> Result<bool, InputFault>
         requires open { self.old.pending.may_follow ≡ true }
@@ -444,9 +444,8 @@ impl Input {
         self.definition.take()
     }
 
-    /// Returns the first token of the bytes in hand, without a definition that comes before them, by as many of them
-    /// as decide it; `NeedsMore` if bytes that may follow can change it. Consumes nothing. Returns `AllocError` if an
-    /// allocation fails. Manual: "Lexical and syntactic conventions".
+    /// Returns the first token of the bytes in hand, or `NeedsMore` if bytes that may follow can change it. A
+    /// definition before these bytes is passed over. Consumes nothing. Returns `AllocError` if an allocation fails.
     fn look(&self, delims: &Delims<'_>) -> Result<Scan, AllocError>
         ensures value { IfOk result (λ s. s ≡ scan delims.now.quotes.now delims.now.comments.now
             self.now.pending.may_follow (text_of self.now.pending)) }
@@ -464,8 +463,8 @@ impl Input {
         }
     }
 
-    /// Returns whether an argument list comes first, by as many bytes in hand as decide it; `Unknown` if bytes that may
-    /// follow decide it. Manual: "Macro invocation".
+    /// Returns whether an argument list comes first, or `Unknown` if bytes that may follow decide it.
+    /// Manual: "Macro invocation".
     fn list_in_front(&self, delims: &Delims<'_>) -> Result<Answer, AllocError>
         ensures { IfOk result (λ answer. paren_in delims.now.quotes.now delims.now.comments.now
             self.now.pending.may_follow (text_of self.now.pending) ≡ answer) }

@@ -1,4 +1,4 @@
-//! Where a name or a quote is among sixteen bytes, which are looked at together (`m4_state::lanes`).
+//! Searches in sixteen bytes at once: the length of a name, and the place of a quote (`m4_state::lanes`).
 
 ghost use Rattle.std.specs.Prelude.{◌≡◌, ◌+◌, ◌<◌, ◌≤◌, ℕ, not, length, map};
 ghost use Rattle.std.specs.Simd.Lanes.{mask_l};

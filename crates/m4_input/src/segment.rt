@@ -27,7 +27,7 @@ impl Model for Segment {
 }
 
 impl Segment {
-    /// Returns a text, none of which was read.
+    /// Creates the segment of a text, none of which was read.
     #[inline(always)]
     pub fn of(text: Bytes) -> Segment
         requires { length text ≤ 2 ^ 62 }
@@ -37,7 +37,7 @@ impl Segment {
         Segment { text, at: 0, end }
     }
 
-    /// Returns a segment that is read to its end.
+    /// Creates a segment that was read to its end.
     pub fn spent() -> Segment
         ensures { result ≡ [] }
     {
@@ -84,8 +84,8 @@ impl Segment {
         self.at += n;
     }
 
-    /// Puts a text at the start, over bytes that were read, if there are as many and no other text shares them.
-    /// Returns whether it did.
+    /// Inserts a text at the start, over bytes that were read, if there are as many of these and no other text shares
+    /// them. Returns whether it did.
     #[inline(always)]
     pub fn put_before(&mut self, text: &[u8]) -> bool
         ensures put { result ≡ true → self.new ≡ text.now ++ self.old }

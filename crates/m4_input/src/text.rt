@@ -1,9 +1,9 @@
 //! The bytes of an input: a stack of segments that calls pushed, and then the bytes of one file.
 //!
-//! The segment that is read first is held apart from those below it. When it is read to its end it is removed, and the
-//! next one takes its place, or a text that is pushed. A short text that is pushed is put over bytes that were read,
-//! directly before those that come next, so that these are still contiguous. Pushing a longer one copies nothing.
-//! Consuming bytes takes time in proportion to the number of segments that end in them.
+//! The segment that is read first is held apart from those below it. When it was read to its end, the next one takes
+//! its place, or a text that is pushed. A short text that is pushed is written over bytes that were read, directly
+//! before those that come next, so that it and they are contiguous. Pushing a longer one copies nothing. Consuming
+//! bytes takes time in proportion to the number of segments that end in them.
 
 ghost use Rattle.std.specs.Prelude.{◌≡◌, ◌≢◌, ◌<◌, ◌≤◌, ◌^◌, ◌++◌, ◌+◌, [], IfSome, IfOk, OnOk, OnErr, Ok, true, false};
 ghost use Rattle.std.specs.Prelude.{length, take, drop, nat_lt};
@@ -20,16 +20,17 @@ use std::marker::Model;
 /// The greatest length of all segments below the first one together.
 const MOST_BELOW: usize = 1 << 62;
 
-/// A text of at most so many bytes is put before the bytes that come next. To copy it takes less than a segment.
+/// The length up to which a pushed text is copied before the bytes that come next. A copy takes less time than a
+/// segment.
 const MOST_PUT_BEFORE: usize = 128;
 
-/// How many bytes at least are copied, so that a token across two texts is contiguous.
+/// The least number of bytes that are copied to make a token across two texts contiguous.
 const LEAST_COPIED: usize = 64;
 
 /// The greatest capacity of a buffer that is kept.
 const LARGEST_KEPT: usize = 65536;
 
-/// Pending bytes, and how many newlines of the file were read.
+/// The bytes of an input that are in hand, and how many newlines of the file were read.
 #[derive(Drop)]
 pub struct Text {
     top: Segment,
@@ -79,7 +80,7 @@ impl Text {
         Text::of_file(alloc, Vec::new(alloc))
     }
 
-    /// Creates a text with the bytes of a file, none of which was read.
+    /// Creates a text with these bytes of a file, none of which was read.
     pub fn of_file(alloc: Global, bytes: Vec<u8>) -> Text
         ensures { result ≡ record { pushed = []; unread = bytes.items; newlines = 0 } }
     {
@@ -92,8 +93,8 @@ impl Text {
         }
     }
 
-    /// Asks a reader once: a block of its bytes is appended to the unread ones, or it is at its end. Returns
-    /// whether bytes came. If the reader or an allocation fails, nothing changes.
+    /// Asks a reader once, and appends a block of its bytes to the unread ones. Returns whether bytes came: if none
+    /// did, the reader is at its end. If the reader or an allocation fails, nothing changes.
     pub fn take_block<R: ByteSource>(&mut self, reader: &mut R) -> Result<bool, InputFault>
         ensures gives { TakesBlock (R.script reader.old) (R.script reader.new) self.old self.new result }
         ensures falls { result ≡ Ok true → R.takes_left reader.new < R.takes_left reader.old }
@@ -102,7 +103,7 @@ impl Text {
         self.file.take_block(reader)
     }
 
-    /// Returns how many newlines of the file were read.
+    /// Returns the number of newlines of the file that were read.
     pub fn newlines(&self) -> usize
         ensures { result ≡ self.now.newlines }
     {
@@ -132,8 +133,8 @@ impl Text {
     }
 
     /// Returns bytes at the start in one slice, and whether others in hand come after them. If so, there are more than
-    /// `looked` of them: the bytes that are contiguous, or a copy of twice as many as `looked`. So a token that lies
-    /// across several texts is looked at in time that is in proportion to its length.
+    /// `looked` of them: the bytes that are contiguous, or a copy of twice as many as `looked`. So looking at a token
+    /// across several texts takes time in proportion to its length.
     #[inline(always)]
     pub fn longer_front<'a>(
         &'a self,
@@ -201,7 +202,7 @@ impl Text {
         self.push_segment(Segment::of(text))
     }
 
-    /// Puts a short text before the bytes that come next, over bytes that were read, if it can. Returns whether it did.
+    /// Inserts a short text before the bytes that come next, over bytes that were read, if it can. Returns whether it did.
     #[inline(always)]
     pub fn put_before(&mut self, text: &[u8]) -> bool
         ensures put { result ≡ true → self.new ≡ with_text text.now self.old }
@@ -256,7 +257,7 @@ impl Text {
         }
     }
 
-    /// Puts the rest of the first segment, if it is short, before the bytes that come after it, so that both are
+    /// Copies the rest of the first segment, if it is short, before the bytes that come after it, so that both are
     /// contiguous. Returns whether it did.
     #[inline(never)]
     pub fn join(&mut self) -> bool

@@ -1,5 +1,5 @@
-//! Looks at sixteen bytes together, for the searches of the crates above. Most names, strings and pieces of a text are
-//! short, and to look at their bytes one by one takes longer. The callers look at a text of fewer bytes themselves.
+//! Searches in sixteen bytes at once, for the crates above. Most names, strings and pieces of a text are short, and to
+//! look at their bytes one by one takes longer. The callers search a text of fewer bytes themselves.
 
 ghost use Rattle.std.specs.Prelude.{◌≡◌, ◌==◌, ◌+◌, ◌<◌, ◌≤◌, ℕ, Bool, List, not, drop, length, map};
 ghost use Rattle.std.specs.List.{prefix_len};
@@ -7,7 +7,7 @@ ghost use Rattle.std.specs.Simd.Lanes.{mask_l};
 
 use std::simd::prelude::*;
 
-/// How many bytes are looked at together.
+/// The number of bytes that are searched at once.
 pub const LANES: usize = 16;
 
 /// Returns the first lane that is marked, or 16 if none is.

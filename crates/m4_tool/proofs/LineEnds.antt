@@ -46,9 +46,6 @@ reports-append [] ys a b c f g h p q =
     reports-before ys a c f g h p.1 (subst (λ (m : Option (List ℕ)). Reports ys m c g h) p.0 q)
 reports-append (x ∷ xs) ys a b c f g h p q = (p.0, p.1, p.2, reports-append xs ys p.0 b c p.1 g h p.3 q)
 
-pub no_reports : (xs : List (List ℕ)) (a : Option (List ℕ)) (f : ℕ) → xs ≡ [] → Reports xs a a f f
-no_reports xs a f e = rw e (refl, grew_none f f refl)
-
 -- a run ended without a failure, and everything was flushed
 frozen_all : (k : FrozenKind) (r : RunResult) (e : Ending) (w : Contents) → frozen_failure k ≡ None → RefusedBy k r e w → WroteAll r e w
 frozen_all kinds.OutOfMemory r e w n g = absurd cc

@@ -1,5 +1,5 @@
 -- A file that is made when its first byte is written.
-use Rattle.std.proofs.Common.{◌≡◌, ◌<◌, ◌≤◌, ℕ, zero, suc, Bool, true, false, List, [], ◌∷◌, ◌++◌, length, take}
+use Rattle.std.proofs.Common.{◌≡◌, ◌<◌, ◌≤◌, ℕ, Bool, true, false, List, [], ◌∷◌, ◌++◌, length, take}
 use Rattle.std.proofs.Common.{Option, Some, None, refl, sym, ap, ◌∙◌, arith}
 use Rattle.std.specs.Prelude.{option_map, unwrap_or, if◌then◌else◌, Result, Ok, Err, OnOk, is_err}
 use Rattle.std.specs.Option.{ForSome}
@@ -81,12 +81,6 @@ some_put (b ∷ bs) more failures lt = refl
 pub tried_at : (name bytes more : List ℕ) (before now : Option Files) (failures : ℕ) → now ≡ option_map (with_file name (bytes ++ more)) before → 0 < length more → is_tried true failures (written true name now) ≡ true
 tried_at name bytes more None now failures e lt = rw (written_at name (bytes ++ more) None now e) refl
 tried_at name bytes more (Some f) now failures e lt = rw (written_at name (bytes ++ more) (Some f) now e) (some_put bytes more failures lt)
-
-pub tried_failed : (failures : ℕ) (text : Option (List ℕ)) → 0 < failures → is_tried true failures text ≡ true
-tried_failed failures None lt = refl
-tried_failed failures (Some (b ∷ bs)) lt = refl
-tried_failed zero (Some []) lt = absurd (omega (arith, lt))
-tried_failed (suc n) (Some []) lt = refl
 
 pub more_at : (name more : List ℕ) (before old mid now : Option Files) (created : Bool) → (b : Begun name before old mid created) → now ≡ option_map (with_more name more) mid → now ≡ option_map (with_file name (b.bytes ++ more)) before
 more_at name more before old mid now created b e = e ∙ ap (option_map (with_more name more)) b.files ∙ more_after name b.bytes more before

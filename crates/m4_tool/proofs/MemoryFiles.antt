@@ -1,8 +1,7 @@
 -- The files of a world in memory.
-use Rattle.std.proofs.Common.{◌≡◌, ◌<◌, ◌≤◌, ℕ, ◌+◌, true, false, List, ◌++◌, length, get_or, drop, Option, Some}
-use Rattle.std.proofs.Common.{None, refl, sym, ap, ◌∙◌}
+use Rattle.std.proofs.Common.{◌≡◌, ◌<◌, ℕ, true, List, ◌++◌, length, get_or, drop, Option, Some}
+use Rattle.std.proofs.Common.{refl, sym, ap, ◌∙◌}
 use Rattle.std.specs.Str.{bytes_eq}
-use Rattle.std.proofs.lemmas.List.{drop_all}
 use Rattle.m4_tool.specs.declared.given.Given.{Given}
 use Rattle.m4_tool.specs.World.{with_file, with_more}
 use Rattle.m4_tool.specs.Memory.{given_files, memory_files}
@@ -19,9 +18,3 @@ memory_longer name given old new more made gs n m e =
 
 pub given_here : (gs : List Given) (i : ℕ) (x : Given) (n : List ℕ) → i < length gs → bytes_eq n (get_or gs i x).name.now ≡ true → given_files gs n ≡ given_files (drop i gs) n → given_files gs n ≡ Some (record { bytes = (get_or gs i x).bytes.now; fails = (get_or gs i x).fails })
 given_here gs i x n lt t e = e ∙ ap (λ (xs : List Given). given_files xs n) (at_place gs i x lt) ∙ rw t refl
-
-pub given_past : (gs : List Given) (i : ℕ) (x : Given) (n : List ℕ) → i < length gs → bytes_eq n (get_or gs i x).name.now ≡ false → given_files gs n ≡ given_files (drop i gs) n → given_files gs n ≡ given_files (drop (i + 1) gs) n
-given_past gs i x n lt t e = e ∙ ap (λ (xs : List Given). given_files xs n) (at_place gs i x lt) ∙ rw t refl
-
-pub given_none : (gs : List Given) (i : ℕ) (n : List ℕ) → length gs ≤ i → given_files gs n ≡ given_files (drop i gs) n → given_files gs n ≡ None
-given_none gs i n le e = e ∙ ap (λ (xs : List Given). given_files xs n) (drop_all i gs le)

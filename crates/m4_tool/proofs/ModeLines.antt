@@ -1,6 +1,6 @@
 -- The end of a line with a mode.
-use Rattle.std.proofs.Common.{◌≡◌, ℕ, List, [], ◌∷◌, Option, Some, None, refl, sym, ap, ◌∙◌, subst}
-use Rattle.std.specs.Prelude.{option_map, unwrap_or, Result, Ok, Err, IfSome, Bool, true, false, codes}
+use Rattle.std.proofs.Common.{◌≡◌, ℕ, List, Option, Some, None, refl, sym, ap, ◌∙◌, subst}
+use Rattle.std.specs.Prelude.{option_map, unwrap_or, Result, Ok, Err, IfSome, Bool, true, false}
 use Rattle.m4_state.specs.Device.{Script, Puts, count_after}
 use Rattle.m4_state.specs.declared.device.DeviceFault.{DeviceFault}
 use Rattle.m4_engine.specs.File.{cannot_open}
@@ -10,13 +10,13 @@ use Rattle.m4_tool.specs.World.{Files}
 use Rattle.m4_tool.specs.ModeFault.{status_of}
 use Rattle.m4_tool.specs.declared.fault.ModeFault.TheVariants as faults
 use Rattle.m4_tool.specs.Modes.{IsOfDevice, ModeRuns, ReportsFault}
-use Rattle.m4_tool.specs.FailureCounts.{Counts, Grew, counts}
+use Rattle.m4_tool.specs.FailureCounts.{Counts, counts}
 use Rattle.m4_tool.specs.LineEnd.{Reports}
 use Rattle.m4_tool.specs.LineRun.{FlushedAs, ModeCloses}
 use Rattle.m4_tool.proofs.Counts.{flushed_grew, grew_after, grew_by, grew_none, rose_one, rose_then, then_any}
 use Rattle.m4_tool.specs.LineMode.{FlushedOr, ModeFailedAs, ModeFollows, OnlyMessagesRose, closed_lines}
 use Rattle.m4_tool.specs.LineMode.{closed_status, ends_of, fault_lines}
-use Rattle.m4_tool.proofs.LineEnds.{reports-append, reports-before, seen_from}
+use Rattle.m4_tool.proofs.LineEnds.{reports-append, seen_from}
 
 fault_reported : (end : Result (Unit {0}) ModeFault) (file : List ℕ) (m m' : Option (List ℕ)) (f f' : ℕ) → ReportsFault end file m m' f f' → Reports (fault_lines file end) m m' f f'
 fault_reported (Ok done) file m m' f f' h = (h.0, grew_none f f' h.1)
@@ -77,15 +77,3 @@ mode_missed mode file None put o o' m m1 m2 f f1 f2 answer w w' c d e p n k q = 
   files = q;
 }
 mode_missed mode file (Some x) put o o' m m1 m2 f f1 f2 answer w w' c d e p n k q = absurd cc
-
--- a mode whose last flush failed
-pub mode_failed : (status : ℕ) (o o' m m1 m2 : Option (List ℕ)) (f f1 f2 : ℕ) (c : Counts) → status ≡ 0 → o' ≡ o → m1 ≡ m → Grew f f1 → Reports (codes "m4: write fault\n" ∷ []) m1 m2 f1 f2 → FlushedAs false c → ModeCloses status 1 o o' m m2 f f2 c
-mode_failed status o o' m m1 m2 f f1 f2 c z e k l p h =
-    let q = reports-before (codes "m4: write fault\n" ∷ []) m m2 f f1 f2 l (subst (λ (x : Option (List ℕ)). Reports (codes "m4: write fault\n" ∷ []) x m2 f1 f2) k p) in
-    record {
-      flushed = false;
-      is_status = ap (λ (n : ℕ). closed_status n false) (sym z);
-      output = e;
-      reports = subst (λ (n : ℕ). Reports (closed_lines n false) m m2 f f2) (sym z) q;
-      counted = h;
-    }

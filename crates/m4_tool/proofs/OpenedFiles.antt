@@ -21,9 +21,6 @@ pub record Opening {R A : Type 0} (script : R → Option Script) (bytes_of : A �
   pub is : now ≡ Some left
   pub are : map (named_of script) sources ++ named_in files left (map bytes_of (drop i names)) ≡ named_in files input (map bytes_of names)
 
-pub none_opened : {R A : Type 0} (script : R → Option Script) (bytes_of : A → List ℕ) (files : Files) (input : Script) (names : List A) (now : Option Script) → now ≡ Some input → Opening script bytes_of files input names 0 [] now
-none_opened script bytes_of files input names now e = record { left = input; is = e; are = refl }
-
 pub one_opened : {R A : Type 0} (script : R → Option Script) (bytes_of : A → List ℕ) (files : Files) (input : Script) (names : List A) (i : ℕ) (sources : List (RunSource R)) (now now' : Option Script) (s : RunSource R) (d : A)
     → i < length names → (o : Opening script bytes_of files input names i sources now)
     → named_of script s ≡ named_at files o.left (bytes_of (get_or names i d)) → now' ≡ Some (input_after o.left (bytes_of (get_or names i d)))

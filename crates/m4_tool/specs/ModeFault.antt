@@ -6,6 +6,7 @@ use Rattle.m4_frozen.specs.declared.fault.FrozenKind.{FrozenKind}
 use Rattle.m4_frozen.specs.declared.fault.FrozenKind.TheVariants as kinds
 use Rattle.m4_frozen.specs.declared.fault.WriteFault.{WriteFault}
 use Rattle.m4_frozen.specs.declared.fault.WriteFault.TheVariants as writes
+use Rattle.m4_engine.specs.Run.{frozen_status}
 use Rattle.m4_tool.specs.declared.fault.ModeFault.{ModeFault}
 use Rattle.m4_tool.specs.declared.fault.ModeFault.TheVariants as faults
 use Rattle.m4_tool.specs.declared.followed.Failure.TheVariants as failures
@@ -45,13 +46,9 @@ fault_line file faults.Issues =
 fault_line file faults.Write = failure_line failures.Write
 fault_line file faults.OutOfMemory = failure_line failures.OutOfMemory
 
--- a newer format has a status of its own
-abbrev pub status_of_kind : FrozenKind → ℕ
-status_of_kind kinds.Newer = 63
-status_of_kind kind = 1
-
+-- for a frozen file the status of a run that starts from it
 abbrev pub status_of_fault : ModeFault → ℕ
-status_of_fault (faults.Frozen f) = status_of_kind f.kind
+status_of_fault (faults.Frozen f) = frozen_status f.kind
 status_of_fault fault = 1
 
 -- 0 if the mode did its work

@@ -1,4 +1,4 @@
-//! The end of a run: the report on its frozen file, and what failed.
+//! The end of a run: the report on its frozen file, and its failure.
 
 ghost use Rattle.std.specs.Prelude.{◌≡◌};
 ghost use Rattle.m4_state.specs.Device.{Puts, count_after};
@@ -26,7 +26,8 @@ pub(crate) fn put_refused<M: ByteSink>(
     }
 }
 
-/// Returns what failed in a run with this cause. `flushed`: whether its output and frozen text were flushed.
+/// Returns the failure of a run with this cause, if there was one. `flushed` is whether its output and frozen text were
+/// flushed.
 pub(crate) fn failure_of(cause: Cause, flushed: bool) -> Option<Failure>
     ensures { result ≡ failure_of cause flushed }
 {

@@ -5,8 +5,9 @@ ghost use Rattle.m4_state.specs.Device.{Puts, count_after};
 ghost use Rattle.m4_tool.specs.ModeFault.{fault_line, kind_text};
 ghost use Rattle.m4_tool.specs.declared.fault.ModeFault.TheVariants as faults;
 
-use crate::followed::Failure;
+use crate::followed::{FAILED, Failure};
 use itoa::Buffer;
+use m4_engine::ending::Cause;
 use m4_frozen::fault::{FrozenFault, FrozenKind, WriteFault};
 use m4_state::device::{ByteSink, DeviceFault};
 use m4_state::transfer::{write_all, write_pieces};
@@ -50,13 +51,13 @@ impl From<WriteFault> for ModeFault {
 impl ModeFault {
     ghost use Rattle.m4_tool.specs.ModeFault.{status_of_fault};
 
-    /// Returns the exit status: 63 for a newer format, otherwise 1.
+    /// Returns the exit status: for a frozen file that of a run which starts from it, otherwise 1.
     pub(crate) fn status(self) -> u8
         ensures { result ≡ status_of_fault self }
     {
         match self {
-            ModeFault::Frozen(fault) if fault.kind == FrozenKind::Newer => 63,
-            _ => 1,
+            ModeFault::Frozen(fault) => Cause::Frozen(fault).status(false),
+            _ => FAILED,
         }
     }
 

@@ -25,7 +25,8 @@ use crate::followed::{FAILED, Followed};
 use crate::line::Line;
 use crate::modes::{self, Mode};
 use crate::world::{Shows, World};
-use closing::{close, close_mode, close_unopened, put_unopened};
+use closing::{close, close_mode, close_unopened};
+use m4_engine::source::put_unopened;
 use m4_state::device::{ByteSink, ByteSource};
 use running::run_line;
 use std::alloc::Global;
@@ -145,8 +146,7 @@ fn run_mode<R: ByteSource, O: ByteSink, M: ByteSink>(
     }
 }
 
-/// Follows a line without a mode. If its frozen file can't be opened, that is reported, and nothing else
-/// is done.
+/// Follows a line without a mode. If its frozen file can't be opened, reports that, and does nothing else.
 fn follow_run<W: World, O: Shows, M: Shows>(
     alloc: Global,
     line: &Line,

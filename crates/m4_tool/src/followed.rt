@@ -1,4 +1,4 @@
-//! How a command line ends: what failed, if anything did, the line that reports it, and the status.
+//! How a command line ends: the failure, if there was one, the line that reports it, and the status.
 
 ghost use Rattle.std.specs.Prelude.{◌≡◌};
 ghost use Rattle.m4_tool.specs.Failure.{failure_line, status_after};
@@ -22,8 +22,8 @@ pub enum Failure {
 }
 
 impl Failure {
-    /// Returns the line that reports it. It is empty if the line for a frozen file reports it, or if that line is what
-    /// could not be written.
+    /// Returns the line that reports it. It is empty if the line for a frozen file reports it, or if that line could not
+    /// be written.
     pub(crate) fn line(self) -> &'static str
         ensures { result.now ≡ failure_line self }
     {
@@ -51,7 +51,7 @@ pub(crate) fn status_after(failure: Option<Failure>, status: u8) -> u8
 pub struct Followed<W> {
     /// The exit status.
     pub status: u8,
-    /// What failed, if anything did.
+    /// The failure, if there was one.
     pub failure: Option<Failure>,
     /// The world.
     pub world: W,

@@ -1,7 +1,7 @@
 //! The file to which a run freezes. It is created when its first byte is written.
 //!
-//! The file is one of a world: of the files of a process, or of any other. A contract that knows the files follows
-//! them by a type parameter, which stands for where the late file starts.
+//! The file is in a world: one of the files of a process, or of any other. A contract that knows the files follows them
+//! by a type parameter for the start of the late file.
 //! Manual: "Fast loading of frozen state".
 
 ghost use Rattle.std.specs.Prelude.{◌≡◌, ◌<◌, ℕ, List, [], Option, Some, None, false, true, IfOk, OnOk, OnErr};
@@ -21,7 +21,7 @@ use std::io;
 use std::marker::{Brand, PhantomData};
 use std::rt::Files as RuntimeFiles;
 
-/// Where a late file starts, for contracts: its name, and the world's files and count of failures before it.
+/// The start of a late file, for contracts: its name, and the world's files and count of failures before it.
 pub trait LateStart {
     /// The files before it; none if they are not known.
     ghost before: { Option Files };
@@ -73,8 +73,8 @@ impl<'a, R: RuntimeFiles + Alloc<A = Global>> LateFile<StdFiles<'a, R>, Brand> {
 }
 
 impl<W: World, K: LateStart> LateFile<W, K> {
-    /// Returns a sink over the file of this name in a world, which is not created yet. `K` is where it starts: a
-    /// generic caller hands it on, and the caller of that one picks it by `Brand`.
+    /// Returns a sink over the file of this name in a world, which is not created yet. `K` is its start: a generic
+    /// caller passes it on, and the caller of that one picks it by `Brand`.
     pub fn over(world: W, name: Bytes) -> LateFile<W, K>
         requires before { W.files world ≡ K.before }
         requires name { ForSome K.before (λ _. name ≡ K.name) }

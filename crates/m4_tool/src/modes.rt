@@ -111,7 +111,7 @@ fn list_file<R: ByteSource, O: ByteSink>(
     Ok(listed?)
 }
 
-/// Returns the status of an end, and prints its fault as a message.
+/// Returns the status of a mode that ended so, and writes the line of its fault.
 fn answer<M: ByteSink>(end: Result<(), ModeFault>, file: &[u8], messages: &mut M) -> u8
     ensures status { result ≡ status_of end }
     ensures reports { ReportsFault end file.now (M.contents messages.old) (M.contents messages.new)

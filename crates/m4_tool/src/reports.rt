@@ -13,7 +13,7 @@ pub fn report(rt: &impl Eprint, text: &str) -> u8
     FAILED
 }
 
-/// Does the same with the line of a failure.
+/// Prints the line of a failure on standard error, and returns the same status.
 pub fn report_failure(rt: &impl Eprint, failure: Failure) -> u8
     ensures { result ≡ FAILED }
 {

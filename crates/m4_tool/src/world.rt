@@ -1,5 +1,5 @@
-//! The world that a line meets: files that are opened by name, one that is made, standard input, and
-//! writers that are flushed.
+//! The world of a line: files that are opened by name, one that is made, standard input, and writers that
+//! are flushed.
 //!
 //! [`StdWorld`](crate::std_world::StdWorld) is the world of a process, of which contracts know no byte.
 //! [`MemWorld`](crate::mem_world::MemWorld) is a world in memory, of which they know all.

@@ -1,4 +1,4 @@
-//! Bytes of an argument list that are no other token: they collect an argument, end it, or close the list.
+//! Bytes of an argument list that are no other token: each extends an argument, ends it, or closes the list.
 //! Manual: "Macro arguments".
 
 ghost use Rattle.std.specs.Prelude.{◌≡◌, ◌<◌, Some, Ok, OnOk};
@@ -13,7 +13,7 @@ use m4_builtins::messages::dropped_message;
 use m4_input::input::Input;
 
 impl Machine {
-    /// Acts on a byte that belongs to no other token.
+    /// Acts on a byte that belongs to no other token, by its role in the list or, outside of calls, as text.
     #[inline(always)]
     pub(super) fn take_byte(&mut self, byte: u8, input: &mut Input) -> Result<Turned, TurnFault>
         requires { IsTaken input.old }
@@ -51,7 +51,7 @@ impl Machine {
         Ok(())
     }
 
-    /// Acts on the parenthesis that closes the innermost list: makes its call.
+    /// Closes the innermost list at its parenthesis, and makes its call.
     #[tactic(auto, using(crate::proofs::Acts::closing_result))]
     #[inline(always)]
     fn take_closing(&mut self, input: &mut Input) -> Result<Turned, TurnFault>

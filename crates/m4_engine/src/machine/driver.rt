@@ -38,7 +38,7 @@ fn cause_of_fault(fault: InputFault) -> Cause
 }
 
 impl Machine {
-    /// Flushes the buffers in the order in which they arose: the output of earlier turns, `earlier` bytes long,
+    /// Flushes the buffers in the order in which they were filled: the output of earlier turns, `earlier` bytes long,
     /// then the messages of the last turn, and then its own output.
     #[tactic(auto, using(crate::proofs::Begins::nothing_begun))]
     fn flush<O: ByteSink, M: ByteSink>(
@@ -99,8 +99,8 @@ impl Machine {
     }
 
     /// Expands the bytes in hand as far as they decide. Writes messages as they arise, output in blocks, and all
-    /// of both where more bytes are needed. If the rest of a line is to be discarded, that is done first. `copy` is a
-    /// buffer for bytes of a token that lies across several texts.
+    /// of both if more bytes are needed. If the rest of a line is to be discarded, it does that first. `copy` is a
+    /// buffer for a token that spans several texts.
     fn expand_in_hand<O: ByteSink, M: ByteSink>(
         &mut self,
         wanted: Wanted,
@@ -164,7 +164,7 @@ impl Machine {
         }
     }
 
-    /// Asks the reader for a block and, if the next token is wanted, for further ones while they leave it open.
+    /// Asks the reader for a block, and for further ones while they leave open the next token, if that is wanted.
     fn read_on<R: ByteSource>(
         &self,
         wanted: Wanted,
@@ -188,8 +188,8 @@ impl Machine {
         }
     }
 
-    /// Expands an input to its end. The reader is asked for a block only where the bytes in hand leave open how
-    /// the expansion continues, and all output and messages are flushed before.
+    /// Expands an input to its end. Asks the reader for a block only if the bytes in hand leave open how the expansion
+    /// continues, and flushes all output and messages before it asks.
     pub fn expand<R: ByteSource, O: ByteSink, M: ByteSink>(
         &mut self,
         input: &mut Input,

@@ -1,6 +1,5 @@
 //! The end of the input, also inside a string, a comment or a list. Manual: "Quoting input tokens", "Comments in m4
-//! input",
-//! "Macro arguments".
+//! input", "Macro arguments".
 
 ghost use Rattle.std.specs.Prelude.{◌≡◌, ◌<◌, Bool, List, ℕ, Some, Ok};
 ghost use Rattle.m4_input.specs.Token.{Refused};
@@ -17,7 +16,7 @@ use m4_input::front::Unended;
 use m4_input::input::Input;
 
 impl Machine {
-    /// Acts on the end of the input.
+    /// Ends the expansion at the end of the input. Inside a list it reports the error that the list has no end.
     pub(super) fn take_end(&mut self) -> Result<Turned, TurnFault>
         ensures { Makes result self.old self.new (λ t. (may : Bool) (p : Pending) (before : Extended)
             → Moves may self.new p t

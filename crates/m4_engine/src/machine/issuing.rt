@@ -1,4 +1,4 @@
-//! The end of a run: undiverts its diversions, or gives the state to freeze. Manual: "Undiverting
+//! The end of a run: undiverts its diversions, or returns the state to be frozen. Manual: "Undiverting
 //! output", "Fast loading of frozen state".
 
 ghost use Rattle.std.specs.Prelude.{◌≡◌, []};

@@ -60,7 +60,7 @@ impl Machine {
         self.report_limit(call.place(), self.most_nested, b" nested calls")
     }
 
-    /// Adds the error that a call exceeds a limit.
+    /// Adds the error that a call exceeds a limit. `what` is the text after the number.
     fn report_limit(&mut self, place: &Place, limit: u64, what: &[u8]) -> Result<(), TurnFault>
         ensures { OnOk result (self.new
             ≡ with_engine_message (error place.now (codes "more than " ++ decimal limit ++ what.now)) self.old) }

@@ -1,8 +1,8 @@
 //! A fast path for tokens that call nothing: many at once, outside of calls and in an argument list, without
 //! an intermediate copy. Manual: "How m4 copies input to output", "Macro arguments".
 //!
-//! A pass takes the tokens of one text: bytes at the start of the input. Where these leave a token open and others in
-//! hand come after them, the next pass takes a longer text.
+//! A pass consumes tokens of one text, the bytes at the start of the input. If they leave a token open and others in
+//! hand come after them, the next pass has a longer text.
 
 ghost use Rattle.std.specs.Prelude.{◌≡◌, ◌≢◌, ◌≤◌, ◌||◌, [], pos, IfOk, OnOk, length, drop};
 ghost use Rattle.m4_engine.specs.Engine.{IsReady, allows_call};
@@ -28,9 +28,9 @@ fn may_follow(input: &Input, others: bool) -> bool
 }
 
 impl Machine {
-    /// Consumes tokens at the start of the input that call nothing: up to a block of them outside of calls, wherever
-    /// text goes, and those that change the innermost call alone in a list. The effect is that of as many turns.
-    /// Returns the next token. `copy` is a buffer for bytes of a token that lies across several texts.
+    /// Consumes leading tokens that need no turn: outside of calls up to a block of plain text, and in a list the
+    /// tokens that only extend the innermost call. The effect is that of as many turns. Returns the next token. `copy`
+    /// is a buffer for a token that spans several texts.
     #[inline(always)]
     pub fn pass_plain(
         &mut self,
@@ -45,7 +45,7 @@ impl Machine {
         'fronts: loop {
             match self.pass_front(looked, input, copy)? {
                 Lookahead::Further(len) => {
-                    // To make few bytes contiguous takes less time than to copy them.
+                    // To join few bytes to the next ones takes less time than to copy both.
                     let _joined = len > 0 && input.join();
                     looked = len;
                 }
@@ -54,7 +54,7 @@ impl Machine {
         }
     }
 
-    /// Passes bytes at the start, more than `looked` of them if others come after them.
+    /// Passes tokens of the bytes at the start, which are more than `looked` if others come after them.
     #[inline(always)]
     fn pass_front(
         &mut self,
@@ -74,8 +74,8 @@ impl Machine {
         Ok(lookahead)
     }
 
-    /// Passes the tokens at the start of a text, which others in hand may follow; `more` says whether any bytes may.
-    /// Returns how many bytes were passed, and the lookahead for what comes after them.
+    /// Passes the tokens at the start of a text. `others` is whether other bytes in hand follow it, and `more` whether
+    /// any bytes may. Returns how many bytes were passed, and the lookahead for the token after them.
     #[inline(always)]
     fn pass_text(
         &mut self,
@@ -94,7 +94,7 @@ impl Machine {
         }
     }
 
-    /// Passes at most one token outside of calls, where text goes to the output.
+    /// Passes up to a block of tokens outside of calls, if text goes to the output.
     #[inline(always)]
     fn pass_output(
         &mut self,
@@ -119,8 +119,8 @@ impl Machine {
     }
 
     /// Passes the first token of a text, outside of calls, if it calls nothing and no block of output is full. Returns
-    /// how many bytes were passed, and the lookahead for what comes after them. Not inlined, since it is for ends of
-    /// texts, and for tokens with whose first byte a delimiter may begin.
+    /// how many bytes were passed, and the lookahead for the token after them. Not inlined, since it is for the ends of
+    /// texts, and for tokens whose first byte may begin a delimiter.
     #[inline(never)]
     fn pass_rare(
         &mut self,
@@ -146,8 +146,8 @@ impl Machine {
         Ok((0, lookahead))
     }
 
-    /// Passes tokens outside of calls, where text goes to a diversion or is dropped. The token after the plain ones is
-    /// looked at again, since the text is added to the state first, of which that look borrowed.
+    /// Passes tokens outside of calls, if text goes to a diversion or is dropped. The token after the plain ones is
+    /// looked at again: the first look borrows the state, which changes when the text is added to it.
     #[inline(never)]
     fn pass_diverted(
         &mut self,
@@ -166,7 +166,7 @@ impl Machine {
         Ok((len + token, lookahead))
     }
 
-    /// Passes tokens in a list: they are collected into the innermost call.
+    /// Passes tokens in a list, and collects them into the innermost call.
     #[inline(always)]
     fn pass_inner(
         &mut self,

@@ -18,8 +18,8 @@ use m4_input::input::Input;
 use m4_state::bytes::Bytes;
 
 impl Machine {
-    /// Makes one turn: consumes the first pending token and acts on it. If the bytes in hand don't decide it,
-    /// nothing is done.
+    /// Makes one turn: consumes the first pending token and acts on it. Does nothing if the bytes in hand don't decide
+    /// which token it is.
     #[inline(always)]
     pub fn turn(&mut self, lookahead: Lookahead, input: &mut Input) -> Result<Turned, TurnFault>
         requires ready { IsReady input.old }
@@ -52,7 +52,7 @@ impl Machine {
         }
     }
 
-    /// Consumes a token that is text, and puts the text where it goes.
+    /// Consumes a token that is text, and appends the text to the argument, the output or a diversion.
     #[inline(never)]
     fn take_text(&mut self, len: usize, text: Bytes, input: &mut Input) -> Result<Turned, TurnFault>
         requires ready { IsReady input.old }
@@ -66,7 +66,7 @@ impl Machine {
         Ok(Turned::GoesOn)
     }
 
-    /// Consumes the definition that comes first.
+    /// Consumes the definition that comes first, and appends it to the innermost argument.
     #[inline(never)]
     fn take_definition(&mut self, input: &mut Input) -> Result<Turned, TurnFault>
         requires ready { IsReady input.old }
@@ -82,8 +82,8 @@ impl Machine {
         }
     }
 
-    /// Consumes a name of this length with a definition, whose call this is but for its place. Makes the call, opens
-    /// its list, or adds the name as text if it is recognised only with a list and none follows.
+    /// Consumes a name of this length with a definition, and sets the place of its call. Makes the call or opens its
+    /// list. If the name is recognised only with a list and none follows, appends it as text.
     #[inline(always)]
     fn take_name(
         &mut self,

@@ -1,8 +1,6 @@
-//! Ends a line: flushes its outputs and the file that was made, and reports what was not reported yet.
+//! Ends a line: flushes its outputs and the file that was made, and reports its failure.
 
 ghost use Rattle.std.specs.Prelude.{◌≡◌, ◌≢◌, [], List, ℕ, None, Some, false, true};
-ghost use Rattle.m4_state.specs.Device.{Puts, count_after};
-ghost use Rattle.m4_engine.specs.File.{cannot_open};
 ghost use Rattle.m4_tool.specs.declared.followed.Failure.TheVariants as failures;
 ghost use Rattle.m4_tool.specs.Failure.{failure_lines};
 ghost use Rattle.m4_tool.specs.Line.{refusals, unreloaded};
@@ -14,11 +12,12 @@ use crate::endings::{failure_of, put_refused};
 use crate::followed::{FAILED, Failure, Followed, status_after};
 use crate::world::{Shows, World};
 use m4_engine::ending::{Cause, Ending};
-use m4_state::device::{ByteSink, DeviceFault};
-use m4_state::transfer::{write_all, write_pieces};
+use m4_engine::source::put_unopened;
+use m4_state::device::DeviceFault;
+use m4_state::transfer::write_all;
 
-/// Ends a line whose run had this ending: flushes everything, and reports what the run has not reported itself. `file`
-/// is the name of its frozen file. If a report can't be written, only the status shows it.
+/// Ends a line whose run had this ending: flushes everything, and reports a frozen file that was refused, and a failure.
+/// `file` is the name of its frozen file. If a report can't be written, only the status shows it.
 pub fn close<W: World, O: Shows, M: Shows>(
     ending: Ending,
     file: &[u8],
@@ -80,7 +79,7 @@ fn report_refusal<M: Shows>(cause: Cause, file: &[u8], messages: &mut M) -> bool
     }
 }
 
-/// Reports what failed in the run or in its last flushes, if something did.
+/// Reports the failure of the run or of its last flushes, if there was one.
 fn report_last<M: Shows>(failure: Option<Failure>, messages: &mut M)
     ensures reports { Reports (failure_lines failure) (M.contents messages.old) (M.contents messages.new)
         (M.failures messages.old) (M.failures messages.new) }
@@ -104,7 +103,7 @@ fn show_failure<M: Shows>(failure: Failure, messages: &mut M)
     }
 }
 
-/// Returns what failed. If nothing else did, that is `Report` unless the line for a refused file was reported.
+/// Returns this failure. If there is none, returns `Report` unless the line for a refused file was reported.
 fn failure_after(failure: Option<Failure>, is_reported: bool) -> Option<Failure>
     ensures { result ≡ failure_after failure is_reported }
 {
@@ -114,7 +113,7 @@ fn failure_after(failure: Option<Failure>, is_reported: bool) -> Option<Failure>
     }
 }
 
-/// Ends a line whose frozen file can't be opened. That is reported, and nothing else is done.
+/// Ends a line whose frozen file can't be opened: reports that, and does nothing else.
 pub fn close_unopened<W: World, O: Shows, M: Shows>(
     file: &[u8],
     world: W,
@@ -142,16 +141,8 @@ pub fn close_unopened<W: World, O: Shows, M: Shows>(
     close(ending, file, world, out, messages)
 }
 
-/// Writes the line for a file that can't be opened.
-pub fn put_unopened<M: ByteSink>(file: &[u8], messages: &mut M) -> Result<(), DeviceFault>
-    ensures puts { Puts result (M.contents messages.old) (M.contents messages.new) (cannot_open file.now) }
-    ensures counted { M.failures messages.new ≡ count_after result (M.failures messages.old) }
-{
-    write_pieces(messages, &[b"m4: cannot open `", file, b"'\n"])
-}
-
 /// Ends a line with a mode that returned this status: flushes everything, and reports a flush that fails unless the
-/// mode has failed itself.
+/// mode has failed itself. A mode that did its work ends as a run that read everything.
 pub fn close_mode<W: World, O: Shows, M: Shows>(
     status: u8,
     world: W,
@@ -167,24 +158,19 @@ pub fn close_mode<W: World, O: Shows, M: Shows>(
     ensures shown { result.failure ≡ None
         → AllShown O.shown O.contents M.shown M.contents W.kept W.files out.new messages.new result.world }
 {
-    let mut world = world;
-    let all_flushed = flush_all(&mut world, out, messages);
-    if status == 0 && !all_flushed {
-        show_failure(Failure::Write, messages);
-        return Followed {
-            status: FAILED,
-            failure: Some(Failure::Write),
-            world,
+    if status == 0 {
+        let ending = Ending {
+            status,
+            cause: Cause::Done,
+            wrapped: false,
         };
+        return close(ending, b"", world, out, messages);
     }
-    let failure = if all_flushed {
-        None
-    } else {
-        Some(Failure::Write)
-    };
+    let mut world = world;
+    let flushed = flush_all(&mut world, out, messages);
     Followed {
         status,
-        failure,
+        failure: failure_of(Cause::Done, flushed),
         world,
     }
 }

@@ -15,6 +15,7 @@ ghost use Rattle.m4_tool.specs.LineRun.{RanBy, RanCounts, named_in, named_of};
 ghost use Rattle.m4_tool.specs.TornFile.{TearsFile};
 
 use super::opening::sources_of;
+use crate::followed::FAILED;
 use crate::late::{LateFile, LateStart};
 use crate::line::Line;
 use crate::world::{Shows, World};
@@ -97,7 +98,7 @@ fn without_memory<W>(world: W) -> RunEnd<W>
 {
     RunEnd {
         ending: Ending {
-            status: 1,
+            status: FAILED,
             cause: Cause::OutOfMemory,
             wrapped: false,
         },
