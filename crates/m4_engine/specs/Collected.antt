@@ -1,7 +1,7 @@
 -- Collected: tokens of a list that change the innermost open call alone.
 -- Not believed: it only says which turns a run may make at once, by the tokens of `scan`.
--- Words: TakesByte, IsListEnd, IsTextByte, AreTextBytes, IsBlankByte, AreBlankBytes, IsText, IsListToken, AreListTokens, bytes_in,
--- IsListRun.
+-- Words: TakesByte, IsListEnd, IsTextByte, AreTextBytes, IsBlankByte, AreBlankBytes, IsText, IsListToken,
+-- AreListTokens, bytes_in, IsListRun.
 use Rattle.std.specs.Prelude.{◌≡◌, ℕ, ◌+◌, Bool, true, false, List, [], ◌∷◌, ◌++◌, drop, None, ◌⊎◌}
 use Rattle.m4_state.specs.declared.delimiters.Delimiters.{Delimiters}
 use Rattle.m4_state.specs.State.{State, top_of}

@@ -104,7 +104,7 @@ fn collect_byte(
     Ok(1 + spaces)
 }
 
-/// Collects the first byte, which is text, and the bytes after it that are.
+/// Collects the first byte, which is text, and the text bytes after it.
 #[inline(always)]
 fn collect_text(call: &mut OpenCall, text: &[u8], delims: &Delims<'_>) -> Result<usize, AllocError>
     requires { 0 < length text.now }

@@ -1,5 +1,5 @@
 //! Plain tokens: names without a definition, and bytes that are no other token. A run writes them as it reads
-//! them, so it can consume many at once. The look at the front of the text is that of `m4_input`, with the flag
+//! them, so it can consume many at once. The look at the start of the text is that of `m4_input`, with the flag
 //! whether more bytes may follow; names are looked up here.
 
 ghost use Rattle.std.specs.Prelude.{◌≡◌, ◌<◌, ◌≤◌, ◌+◌, ℕ, Bool, true, List, IfSome, length, take, drop};
@@ -20,7 +20,7 @@ use m4_state::state::State;
 /// The first token of a text, as far as one look decides it.
 #[derive(Clone, Copy)]
 pub enum First<'a> {
-    /// So many bytes that are text as they are: a name without a definition or, in a list, a comment.
+    /// This many bytes that are text as they are: a name without a definition or, in a list, a comment.
     Text(usize),
     /// A byte that belongs to no other token.
     Byte(u8),
@@ -143,7 +143,7 @@ fn comment_len(text: &[u8], state: &State, delims: &Delims<'_>, may_follow: bool
     }
 }
 
-/// Returns the first token by this look at it, with the definition of a name.
+/// Returns the token that this look found, with the definition of a name and whether a list follows it.
 #[inline(always)]
 fn first_of<'a>(
     look: Look,

@@ -263,8 +263,8 @@ impl Input {
         Ok(())
     }
 
-    /// Inserts a short text at the start, if it can be copied to directly before the bytes that come next. Returns whether
-    /// it did.
+    /// Inserts a short text at the start, if it can be copied to directly before the bytes that come next. Returns
+    /// whether it did.
     #[doc(hidden)]
     #[inline(always)]
     pub fn put_before(&mut self, text: &[u8]) -> bool

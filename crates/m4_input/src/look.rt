@@ -1,4 +1,4 @@
-//! One look at the front of a text: which token is it, and how long is it? Nothing is copied, and no name is
+//! One look at the start of a text: which token is first, and how long it is. Nothing is copied, and no name is
 //! looked up. If more bytes may follow (`may_follow`), nothing is decided that they could change.
 //!
 //! A run looks at each token of its text, so the look is inlined, and tests the first byte before it

@@ -1,4 +1,4 @@
-//! Tokens that the bytes in hand begin and do not end.
+//! Tokens that begin in the bytes in hand and have no end there.
 //!
 //! A token may span any number of blocks. After each of them only its bytes are looked at, and bytes of the token that
 //! were pushed are copied only for the first look, so that this takes time in proportion to the token.
@@ -27,8 +27,7 @@ pub enum OpenToken {
     Quoted(usize, usize),
 }
 
-/// Looks for the end of a comment. If there is none, returns the place from which on it may begin with bytes that
-/// follow.
+/// Returns the place at which the end of a comment may still begin with bytes that follow, if the text has no end.
 fn comment_goes_on(text: &[u8], end: &[u8]) -> Option<usize>
     ensures { IfSome result (λ n. CommentGoesOn end.now n text.now) }
 {

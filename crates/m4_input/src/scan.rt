@@ -24,7 +24,7 @@ pub fn opens(text: &[u8], pair: &Delimiters) -> bool
     !begin.is_empty() && starts(text, begin)
 }
 
-/// Returns whether a text may turn out to begin with the pair once more bytes follow.
+/// Returns whether a text may begin with the pair once more bytes follow.
 pub fn may_open(text: &[u8], pair: &Delimiters, may_follow: bool) -> bool
     ensures { result ≡ may_start pair.now may_follow text.now }
 {

@@ -1,4 +1,4 @@
-//! Tests on the bytes of one slice: how long is its name or line, and where is a delimiter?
+//! Searches in one slice: the length of its name or line, and the place of a delimiter.
 
 ghost use Rattle.std.specs.Prelude.{◌≡◌, ◌≢◌, ◌+◌, ◌<◌, ◌≤◌, ◌∷◌, [], List, ℕ, IfSome, IfNone, IsTrue, length};
 ghost use Rattle.m4_input.specs.Ascii.{is_letter, is_name_byte};

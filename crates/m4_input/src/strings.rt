@@ -1,4 +1,4 @@
-//! Where a string ends, with the strings that are nested in it counted, so that it takes one pass.
+//! Finds the end of a string in one pass, and counts the strings nested in it.
 //! Manual: "Quoted strings".
 
 ghost use Rattle.std.specs.Prelude.{◌≡◌, ◌+◌, ◌^◌, ◌<◌, ◌≤◌, ◌∷◌, [], Bool, IfSome, length};
@@ -13,19 +13,19 @@ use m4_state::delimiters::Delimiters;
 use m4_state::lanes::LANES;
 use memchr::memchr2;
 
-/// Where a string is after a text whose end may cut a quote.
+/// How far a string was followed through a text, whose end may cut a quote.
 #[derive(Clone, Copy)]
 pub enum StringSoFar {
     /// It ends in the text: how many bytes come before the end-quote that closes it.
     Ends(usize),
-    /// It goes on: how many bytes are decided, and how many nested strings are open after them.
+    /// It continues: how many bytes are decided, and how many nested strings are open after them.
     Open(usize, usize),
 }
 
 /// How many bytes are looked at, sixteen at a time, before a search begins. A search takes longer to start.
 const NEAR: usize = 64;
 
-/// Follows a string through a text, before which `depth` nested strings are open: from quote to quote.
+/// Follows a string from quote to quote through a text, before which `depth` nested strings are open.
 #[inline(always)]
 fn follow_quoted(text: &[u8], depth: usize, begin: u8, end: u8) -> StringSoFar
     requires { depth + length text.now < 2 ^ 64 }
@@ -80,7 +80,8 @@ fn first_of_two(one: u8, other: u8, text: &[u8]) -> Option<usize>
     Some(k + found)
 }
 
-/// Returns the same by a search. Not inlined, so that a short string does not pay for what a search prepares.
+/// Returns the place of the first of these two bytes by a search. Not inlined, so that a short string does not wait for
+/// the search's preparation.
 #[inline(never)]
 fn first_far(one: u8, other: u8, text: &[u8]) -> Option<usize>
     ensures { IsFirstByte (is_byte2 one other) text.now result }
@@ -110,7 +111,7 @@ pub fn follow_string(
     }
 }
 
-/// Follows a string with quotes of any length: from mark to mark.
+/// Follows a string with quotes of any length, from mark to mark.
 fn follow_by_marks(text: &[u8], depth: usize, quotes: &Delimiters, may_follow: bool) -> StringSoFar
     requires begin { 0 < length quotes.now.begin }
     requires small { depth + length text.now < 2 ^ 64 }

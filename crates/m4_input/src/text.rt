@@ -202,7 +202,8 @@ impl Text {
         self.push_segment(Segment::of(text))
     }
 
-    /// Inserts a short text before the bytes that come next, over bytes that were read, if it can. Returns whether it did.
+    /// Inserts a short text before the bytes that come next, over bytes that were read, if it can. Returns whether it
+    /// did.
     #[inline(always)]
     pub fn put_before(&mut self, text: &[u8]) -> bool
         ensures put { result ≡ true → self.new ≡ with_text text.now self.old }

@@ -22,8 +22,8 @@ pub enum Failure {
 }
 
 impl Failure {
-    /// Returns the line that reports it. It is empty if the line for a frozen file reports it, or if that line could not
-    /// be written.
+    /// Returns the line that reports it. It is empty if the line for a frozen file reports it, or if that line could
+    /// not be written.
     pub(crate) fn line(self) -> &'static str
         ensures { result.now ≡ failure_line self }
     {

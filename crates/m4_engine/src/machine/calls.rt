@@ -1,4 +1,4 @@
-//! Calls: one begins at its name, is made when its arguments are complete, and what it gives is pushed.
+//! Calls: a call begins at its name and is made when its arguments are complete. Its result is pushed.
 //! Manual: "Macro invocation", "Macro arguments".
 
 ghost use Rattle.std.specs.Prelude.{◌≡◌, ◌<◌, ◌≤◌, nat_lt, List, ℕ, [], ◌∷◌, ◌++◌, None, Some, Ok, OnOk, true, false};
@@ -83,7 +83,7 @@ fn push_value(input: &mut Input, effect: &mut EffectBuffer) -> Result<(), TurnFa
     }
 }
 
-/// Adds the messages, the output and the saved text that a call made to those before them. Its value is pushed later.
+/// Appends the messages, the output and the saved text of a call to the buffers. Its value is pushed later.
 /// Not inlined, since hardly any call makes them.
 #[inline(never)]
 fn put_more(
@@ -193,7 +193,7 @@ impl Machine {
         self.begin_argument();
     }
 
-    /// Makes a call whose arguments are complete. A text that it makes has the memory of the effect.
+    /// Makes a call whose arguments are complete. The effect has memory for a text that the call makes.
     #[inline(never)]
     pub(super) fn call(&mut self, call: OpenCall, input: &mut Input) -> Result<Turned, TurnFault>
         requires { IsTaken input.old }
@@ -236,7 +236,7 @@ impl Machine {
         Ok(Turned::GoesOn)
     }
 
-    /// Gives the effect the memory of a text that was read to its end, if it has none.
+    /// Moves to the effect the memory of a text that was read to its end, if it has none.
     #[inline(always)]
     fn lend(&mut self, input: &mut Input)
         ensures same { self.new ≡ self.old }

@@ -16,7 +16,7 @@ use m4_engine::source::put_unopened;
 use m4_state::device::DeviceFault;
 use m4_state::transfer::write_all;
 
-/// Ends a line whose run had this ending: flushes everything, and reports a frozen file that was refused, and a failure.
+/// Ends a line whose run had this ending: flushes everything, and reports a refused frozen file, and a failure.
 /// `file` is the name of its frozen file. If a report can't be written, only the status shows it.
 pub fn close<W: World, O: Shows, M: Shows>(
     ending: Ending,
