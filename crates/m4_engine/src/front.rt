@@ -13,7 +13,7 @@ ghost use Rattle.m4_engine.specs.Plain.{IsPlainRun, IsFirst, FirstLies, IsTextOf
 
 use m4_input::delims::Delims;
 use m4_input::front::{Answer, Look, Unended};
-use m4_input::look::{first_token, list_follows, may_begin, plain_token};
+use m4_input::look::{first_token, list_follows, plain_token};
 use m4_state::definition::Def;
 use m4_state::state::State;
 
@@ -78,7 +78,7 @@ pub fn plain_run<'a>(
 pub fn is_plain_space(byte: u8, delims: &Delims<'_>) -> bool
     ensures { result ≡ true → IsBlankByte delims.now.quotes.now delims.now.comments.now byte }
 {
-    byte == b' ' && !may_begin(byte, delims.comments) && !may_begin(byte, delims.quotes)
+    byte == b' ' && !delims.may_comment(byte) && !delims.may_quote(byte)
 }
 
 /// Returns whether each space is a token of its own.
@@ -134,7 +134,7 @@ fn comment_len(text: &[u8], state: &State, delims: &Delims<'_>, may_follow: bool
     let Some(first) = text.first() else {
         return 0;
     };
-    if !may_begin(*first, delims.comments) {
+    if !delims.may_comment(*first) {
         return 0;
     }
     match first_token(text, delims, may_follow) {

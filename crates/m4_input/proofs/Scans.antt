@@ -22,11 +22,11 @@ starts_begins (b ∷ d) [] = refl
 starts_begins (b ∷ d) (c ∷ x) = ap (λ v. (b == c) && v) (starts_begins d x)
 
 -- a delimiter that does not begin with the first byte of a text is not at its start, and is not cut by its end
-pub none_begun : (d : List ℕ) (b : ℕ) → starts_with nat_eq d (b ∷ []) ≡ false → (y : List ℕ) → nat_lt 0 (length d) && begins d (b ∷ y) ≡ false
+pub none_begun : (d : List ℕ) (b : ℕ) → nat_eq b (get_or d 0 256) ≡ false → (y : List ℕ) → nat_lt 0 (length d) && begins d (b ∷ y) ≡ false
 none_begun [] b e y = refl
 none_begun (a ∷ d) b e y = grind (arith, common_steps, e)
 
-pub none_cut : (d : List ℕ) (b : ℕ) → starts_with nat_eq d (b ∷ []) ≡ false → (m : Bool) (y : List ℕ) → m && (nat_lt 0 (length d) && is_cut (b ∷ y) d) ≡ false
+pub none_cut : (d : List ℕ) (b : ℕ) → nat_eq b (get_or d 0 256) ≡ false → (m : Bool) (y : List ℕ) → m && (nat_lt 0 (length d) && is_cut (b ∷ y) d) ≡ false
 none_cut d b e false y = refl
 none_cut [] b e true y = refl
 none_cut (a ∷ d) b e true y = grind (arith, common_steps, e)

@@ -26,7 +26,7 @@ pub fn plain_token(text: &[u8], delims: &Delims<'_>, may_follow: bool) -> Option
     ensures lies { IfSome result (λ l. LookLies text.now l) }
 {
     let (first, _) = text.split_first()?;
-    if may_begin(*first, delims.comments) || may_begin(*first, delims.quotes) {
+    if delims.may_comment(*first) || delims.may_quote(*first) {
         None
     } else if is_letter_byte(*first) {
         Some(name_token(text, may_follow))
@@ -78,7 +78,7 @@ fn quoted_token(text: &[u8], delims: &Delims<'_>, may_follow: bool) -> Option<Lo
 {
     let first = text.first()?;
     let begin = single(delims.quotes.begin.as_slice())?;
-    if *first != begin || is_letter_byte(*first) || may_begin(*first, delims.comments) {
+    if *first != begin || is_letter_byte(*first) || delims.may_comment(*first) {
         return None;
     }
     Some(look_at_string(text, delims.quotes, may_follow))
@@ -151,7 +151,7 @@ pub fn list_follows(text: &[u8], delims: &Delims<'_>, may_follow: bool) -> Answe
         None => return Answer::No,
     }
     // Hardly ever does a delimiter begin with a parenthesis.
-    if may_begin(b'(', delims.comments) || may_begin(b'(', delims.quotes) {
+    if delims.may_comment(b'(') || delims.may_quote(b'(') {
         list_by_delimiters(text, delims, may_follow)
     } else {
         Answer::Yes
@@ -173,15 +173,6 @@ fn list_by_delimiters(text: &[u8], delims: &Delims<'_>, may_follow: bool) -> Ans
     } else {
         Answer::Yes
     }
-}
-
-/// Returns whether the first of two delimiters begins with this byte.
-#[inline(always)]
-pub fn may_begin(first: u8, pair: &Delimiters) -> bool
-    ensures starts { result ≡ false → (y : List ℕ) → starts_with pair.now (first ∷ y) ≡ false }
-    ensures may { result ≡ false → (m : Bool) (y : List ℕ) → may_start pair.now m (first ∷ y) ≡ false }
-{
-    pair.begin.begins_with(first)
 }
 
 /// Returns a token that has no end in the bytes that are available.

@@ -1,7 +1,6 @@
 //! A pair of delimiters, of quotes or of comments.
 
-ghost use Rattle.std.specs.Prelude.{◌≡◌, ◌<◌, ◌^◌, ◌∷◌, [], get_or, length, nat_eq, IfOk};
-ghost use Rattle.std.specs.List.{starts_with};
+ghost use Rattle.std.specs.Prelude.{◌≡◌, ◌<◌, ◌^◌, [], get_or, length, IfOk};
 
 use std::alloc::{AllocError, Global};
 use std::marker::Model;
@@ -50,12 +49,12 @@ impl Delimiter {
         })
     }
 
-    /// Returns whether the bytes begin with this one: `false` if there are none.
+    /// Returns the first byte as a number; one that no byte has if there are none.
     #[inline(always)]
-    pub fn begins_with(&self, byte: u8) -> bool
-        ensures { result ≡ starts_with nat_eq self.now (byte ∷ []) }
+    pub fn first(&self) -> u16
+        ensures { result ≡ get_or self.now 0 256 }
     {
-        byte as u16 == self.first
+        self.first
     }
 
     /// Returns the bytes.

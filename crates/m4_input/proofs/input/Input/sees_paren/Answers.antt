@@ -3,11 +3,11 @@ use Rattle.std.specs.Prelude.{IfSome}
 use Rattle.m4_input.specs.declared.fault.InputFault.{InputFault}
 use Rattle.std.proofs.Common.{◌++◌}
 use Rattle.m4_state.specs.declared.definition.Def.{Def}
-use Rattle.m4_input.specs.declared.front.Answer.TheVariants.{Unknown}
+use Rattle.m4_input.specs.declared.front.Answer.TheVariants.{No, Unknown}
 use Rattle.m4_input.specs.Pending.{Pending, text_of}
-use Rattle.m4_input.specs.Paren.{paren_in, paren_from}
+use Rattle.m4_input.specs.Paren.{paren_in, paren_from, paren_at}
 use Rattle.m4_input.specs.Input.{Held, IsLasting, wants_list, failures_after}
-use Rattle.m4_input.proofs.Blocks.{HasAsked, asked_more, stopped_before}
+use Rattle.m4_input.proofs.Blocks.{HasAsked, none_asked, asked_more, stopped_before}
 use Rattle.m4_input.proofs.Decided.{paren_open}
 use Rattle.m4_input.proofs.input.Input.sees_paren.Goals as goal
 
@@ -42,4 +42,11 @@ blocks-2-preserved g c =
     )
 
 pub returns-then-is_some-clause-gives : goal.returns-then-is_some-clause-gives
-returns-then-is_some-clause-gives g c = search rules
+returns-then-is_some-clause-gives g c =
+    let q = c.args.delims.now.quotes.now in
+    let r = c.args.delims.now.comments.now in
+    let h : Held = c.args.self.now in
+    let sound : h.fault ≡ None = ap (λ (i : Held). i.fault) (sym c.self.view_is) ∙ c.in_default.is in
+    let k = none_asked (wants_list q r) (g.R.ByteSource.script c.args.reader.now) h sound in
+    let none : paren_at q r h.pending ≡ No = search rules in
+    ([], k.reads, none, sound, sound, k.asks)
