@@ -122,6 +122,54 @@ static ROWS: [Row; 7] = [
 const LETTERS: &str = "abcdefghijklmnopqrstuvwxyzabcdefghijklmnopqrstuvwxyz\
     abcdefghijklmnopqrstuvwxyzabcdefghijklmnopqrstuvwxyzabcdefghijklmnopqrstuvwxyz";
 
+// Texts that are copied to before the bytes in hand: short ones, if as many bytes were read.
+static PUTS: [Row; 3] = [
+    Row {
+        name: "a text before those of a file, and one that is too long",
+        file: "ab c",
+        steps: &[
+            Step::More,
+            Step::PutBefore("x"),
+            Step::PutBefore(LETTERS),
+            Step::Line,
+            Step::Next,
+            Step::Hand,
+        ],
+        want: "more\nput\nleft\nline 1\nname xab\n[ c]\n",
+        ..PLAIN
+    },
+    Row {
+        name: "a text before the rest of another that others may share",
+        file: "d",
+        steps: &[
+            Step::More,
+            Step::Push(LETTERS),
+            Step::PutBefore("1"),
+            Step::Take(2),
+            Step::PutBefore("12"),
+            Step::Take(4),
+            Step::NextLen,
+        ],
+        want: "more\nleft\nleft\na name of 125\n",
+        ..PLAIN
+    },
+    Row {
+        name: "newlines that are put before others count as no lines",
+        file: "a\nb",
+        steps: &[
+            Step::More,
+            Step::Take(2),
+            Step::PutBefore("\n\n"),
+            Step::Line,
+            Step::Take(2),
+            Step::Line,
+            Step::TakeAll,
+        ],
+        want: "more\nput\nline 2\nline 2\n[b]\n",
+        ..PLAIN
+    },
+];
+
 // Slices of the bytes in hand, longer than so many bytes if others come after them.
 static FRONTS: [Row; 4] = [
     Row {
@@ -181,4 +229,5 @@ static FRONTS: [Row; 4] = [
 fn bytes_in_hand(rt: HostRuntime) {
     tried(&rt, rt.alloc(), &ROWS);
     tried(&rt, rt.alloc(), &FRONTS);
+    tried(&rt, rt.alloc(), &PUTS);
 }

@@ -54,6 +54,8 @@ pub enum Step {
     Push(&'static str),
     PushMany(usize),
     PushDefinition(Given),
+    /// Copies a text to before the bytes in hand, if there is room, and reports whether there was.
+    PutBefore(&'static str),
     /// Removes all bytes in hand, and reports them.
     TakeAll,
     /// The bytes in hand that are contiguous, the line, the file's name, and how many bytes the reader returned.
@@ -380,6 +382,16 @@ fn put(alloc: Global, input: &mut Input, text: &[u8], report: &mut Report) {
     }
 }
 
+// Copies a text to before the bytes in hand.
+fn copy_before(input: &mut Input, text: &[u8], report: &mut Report) {
+    take_none(input, report);
+    if input.put_before(text) {
+        report.add(b"put\n");
+    } else {
+        report.add(b"left\n");
+    }
+}
+
 // Pushes so many letters.
 fn put_many(alloc: Global, input: &mut Input, count: usize, report: &mut Report) {
     match repeated(alloc, b'x', count) {
@@ -412,6 +424,7 @@ fn answer_in_hand(alloc: Global, input: &mut Input, step: Step, report: &mut Rep
             }
         }
         Step::Push(text) => put(alloc, input, text.as_bytes(), report),
+        Step::PutBefore(text) => copy_before(input, text.as_bytes(), report),
         Step::PushMany(count) => put_many(alloc, input, count, report),
         Step::PushDefinition(given) => put_definition(alloc, input, given, report),
         Step::TakeAll => describe_bytes(take_all(alloc, input), report),
