@@ -15,6 +15,7 @@ ghost use Rattle.m4_engine.specs.Collected.{TakesByte, IsListEnd};
 ghost use Rattle.m4_engine.specs.Engine.{IsCall, warning_if_dropped};
 ghost use Rattle.m4_engine.specs.Expand.{call_of};
 
+use crate::front::Named;
 use crate::role::{ListEnd, Role};
 use m4_builtins::args::Arg;
 use m4_builtins::place::Place;
@@ -174,16 +175,17 @@ impl OpenCall {
         })
     }
 
-    /// Makes this a call of the name in the first `len` bytes, with no argument read yet. Keeps its memory and place.
-    pub fn renew(&mut self, text: &[u8], len: usize, definition: &Def) -> Result<(), AllocError>
-        requires valid { IsDefinition definition.now }
-        requires within { len ≤ length text.now }
-        ensures { OnOk result (self.new ≡ call_of definition.now (take len text.now) self.old.place) }
+    /// Makes this a call of a name, with no argument read yet. Keeps its memory and place.
+    pub fn renew(&mut self, name: &Named<'_>) -> Result<(), AllocError>
+        requires valid { IsDefinition name.now.definition.now }
+        requires within { name.now.len ≤ length name.now.text.now }
+        ensures { OnOk result (self.new
+            ≡ call_of name.now.definition.now (take name.now.len name.now.text.now) self.old.place) }
     {
         self.clear();
         let alloc = *self.parts.bytes.allocator();
-        self.parts.name = Bytes::from_front(alloc, text, len)?;
-        self.parts.definition = definition.share()?;
+        self.parts.name = Bytes::from_front(alloc, name.text, name.len)?;
+        self.parts.definition = name.definition.share()?;
         Ok(())
     }
 

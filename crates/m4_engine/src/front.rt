@@ -38,6 +38,15 @@ pub enum First<'a> {
     Undecided,
 }
 
+/// A name with a definition: the first `len` bytes of a text. A call takes the text, since it copies a short name with
+/// the bytes after it.
+#[derive(Clone, Copy)]
+pub struct Named<'a> {
+    pub text: &'a [u8],
+    pub len: usize,
+    pub definition: &'a Def,
+}
+
 /// Counts the bytes of the plain tokens at the start, and returns the token after them; `None` if no bytes come after
 /// them, or a delimiter may begin with the next one. It does not look at the token after the one that reaches `most`.
 #[inline(always)]

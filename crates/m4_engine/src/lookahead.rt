@@ -8,7 +8,7 @@ ghost use Rattle.m4_engine.specs.Lookahead.{EndsBy, MeansBare};
 ghost use Rattle.m4_engine.specs.declared.lookahead.Lookahead.TheVariants as aheads;
 
 use crate::call::OpenCall;
-use crate::front::First;
+use crate::front::{First, Named};
 use crate::spare::Spare;
 use m4_builtins::substitute::is_plain;
 use m4_input::front::Unended;
@@ -47,28 +47,22 @@ pub enum Lookahead {
 }
 
 impl Lookahead {
-    /// Returns the lookahead for a name with this definition, without a list: the first `len` bytes. If the limits
-    /// allow a call (`room`), a text without a dollar is its own expansion, and `dnl`, with which many lines end, needs
-    /// no call in memory.
+    /// Returns the lookahead for a name with a definition, without a list. If the limits allow a call (`room`), a text
+    /// without a dollar is its own expansion, and `dnl`, with which many lines end, needs no call in memory.
     #[inline(always)]
-    fn bare(
-        spare: &mut Spare,
-        room: bool,
-        text: &[u8],
-        len: usize,
-        definition: &Def,
-    ) -> Result<Lookahead, AllocError>
-        requires valid { IsDefinition definition.now }
-        requires within { len ≤ length text.now }
-        ensures { IfOk result (λ a. (s : Specified) → top_of s (take len text.now) ≡ Some definition.now
-            → MeansBare a s room (take len text.now)) }
+    fn bare(spare: &mut Spare, room: bool, name: &Named<'_>) -> Result<Lookahead, AllocError>
+        requires valid { IsDefinition name.now.definition.now }
+        requires within { name.now.len ≤ length name.now.text.now }
+        ensures { IfOk result (λ a. (s : Specified)
+            → top_of s (take name.now.len name.now.text.now) ≡ Some name.now.definition.now
+            → MeansBare a s room (take name.now.len name.now.text.now)) }
     {
-        match definition {
+        match name.definition {
             Def::Text(body) if room && is_plain(body.as_slice()) => {
-                Ok(Lookahead::Expansion(len, body.share()?))
+                Ok(Lookahead::Expansion(name.len, body.share()?))
             }
-            Def::Builtin(Builtin::Dnl) if room => Ok(Lookahead::LineSkip(len)),
-            _ => Ok(Lookahead::Call(len, spare.call(text, len, definition)?)),
+            Def::Builtin(Builtin::Dnl) if room => Ok(Lookahead::LineSkip(name.len)),
+            _ => Ok(Lookahead::Call(name.len, spare.call(name)?)),
         }
     }
 }
@@ -103,11 +97,23 @@ impl Lookahead {
         match first {
             First::Byte(byte) => Ok(Lookahead::Byte(byte)),
             First::Listed(len, definition) => {
-                let call = spare.call(text, len, definition)?;
-                Ok(Lookahead::List(len, call))
+                let name = Named {
+                    text,
+                    len,
+                    definition,
+                };
+                Ok(Lookahead::List(len, spare.call(&name)?))
             }
             First::Called(len, definition) => {
-                Lookahead::bare(spare, room, text, len, definition)
+                Lookahead::bare(
+                    spare,
+                    room,
+                    &Named {
+                        text,
+                        len,
+                        definition,
+                    },
+                )
             }
             First::Undecided if others => Ok(Lookahead::Further(text.len())),
             First::Undecided => Ok(Lookahead::Undecided),

@@ -5,7 +5,7 @@ ghost use Rattle.m4_state.specs.Definition.{IsDefinition};
 ghost use Rattle.m4_engine.specs.Expand.{call_of};
 
 use crate::call::OpenCall;
-use m4_state::definition::Def;
+use crate::front::Named;
 use std::alloc::{AllocError, Global};
 use std::marker::Model;
 
@@ -55,23 +55,19 @@ impl Spare {
         self.alloc
     }
 
-    /// Returns a call of the name in the first `len` bytes, with no argument read yet. The caller sets its place.
+    /// Returns a call of a name, with no argument read yet. The caller sets its place.
     #[inline(always)]
-    pub fn call(
-        &mut self,
-        text: &[u8],
-        len: usize,
-        definition: &Def,
-    ) -> Result<OpenCall, AllocError>
-        requires valid { IsDefinition definition.now }
-        requires within { len ≤ length text.now }
-        ensures { IfOk result (λ c. c ≡ call_of definition.now (take len text.now) c.place) }
+    pub fn call(&mut self, name: &Named<'_>) -> Result<OpenCall, AllocError>
+        requires valid { IsDefinition name.now.definition.now }
+        requires within { name.now.len ≤ length name.now.text.now }
+        ensures { IfOk result (λ c. c
+            ≡ call_of name.now.definition.now (take name.now.len name.now.text.now) c.place) }
     {
         let mut call = match self.calls.pop() {
             Some(kept) => kept,
             None => OpenCall::blank(self.alloc)?,
         };
-        call.renew(text, len, definition)?;
+        call.renew(name)?;
         Ok(call)
     }
 
