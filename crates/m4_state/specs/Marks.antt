@@ -8,8 +8,8 @@ use Rattle.m4_state.specs.Table.{Pair, Pairs}
 -- the place of a name, by its length and three of its bytes
 abbrev pub place_of : List ℕ → ℕ
 place_of name =
-    (((get_or name 0 0 + 7 * get_or name (length name / 2) 0) + 61 * get_or name (length name - 1) 0)
-    + 211 * (length name % 64)) % 4096
+    (get_or name 0 0 + 8 * (get_or name (length name / 2) 0
+    + 8 * (get_or name (length name - 1) 0 + 8 * (length name % 8)))) % 4096
 
 abbrev pub is_marked : List Bool → List ℕ → Bool
 is_marked marks name = get_or marks (place_of name) false

@@ -39,7 +39,7 @@ fn place_of(name: &[u8]) -> usize
     let first = usize::from(name[0]);
     let middle = usize::from(name[len / 2]);
     let last = usize::from(name[len - 1]);
-    (first + 7 * middle + 61 * last + 211 * (len % 64)) % MARKS
+    (first + 8 * (middle + 8 * (last + 8 * (len % 8)))) % MARKS
 }
 
 impl Marks {
