@@ -13,7 +13,7 @@ ghost use Rattle.m4_input.specs.Pending.{newlines_in};
 use crate::fault::InputFault;
 use m4_state::append::put_before;
 use m4_state::device::{ByteSource, DeviceFault};
-use std::alloc::AllocError;
+use std::alloc::{AllocError, Global};
 use std::marker::Model;
 
 /// How many bytes a reader is asked for at a time.
@@ -149,12 +149,12 @@ fn make_room(bytes: &mut Vec<u8>, at: usize) -> Result<usize, AllocError>
 impl File {
     ghost use Rattle.m4_input.specs.Text.{TakesBlock, failures_by};
 
-    /// Creates a file of which these bytes are in hand, none of them read.
-    pub fn of(bytes: Vec<u8>) -> File
-        ensures { result ≡ record { pushed = []; unread = bytes.items; newlines = 0 } }
+    /// Creates a file of which no byte is in hand.
+    pub fn new(alloc: Global) -> File
+        ensures { result ≡ record { pushed = []; unread = []; newlines = 0 } }
     {
         File {
-            bytes,
+            bytes: Vec::new(alloc),
             at: 0,
             pushed: 0,
             newlines: 0,
@@ -221,31 +221,22 @@ impl File {
         true
     }
 
-    /// Discards the first n bytes, and counts the newlines in those of the file.
+    /// Discards the first n bytes, and counts the newlines in those of the file. It looks at none of them if there are
+    /// no newlines (`inline`).
     #[inline(always)]
-    pub fn consume(&mut self, n: usize)
-        requires { n ≤ length (text_in self.old) }
+    pub fn consume(&mut self, n: usize, inline: bool)
+        requires within { n ≤ length (text_in self.old) }
+        requires inline { inline ≡ true → newlines_in (take n (text_in self.old)) ≡ 0 }
         ensures { self.new ≡ text_after n self.old }
     {
-        if n <= self.pushed {
-            self.pushed -= n;
+        if inline || n <= self.pushed {
+            self.pushed = self.pushed.saturating_sub(n);
             self.at += n;
             return;
         }
         let read = self.rest().split_at(n).0.split_at(self.pushed).1;
         self.newlines = self.newlines.saturating_add(count_newlines(read));
         self.pushed = 0;
-        self.at += n;
-    }
-
-    /// Discards the first n bytes, none of which is a newline. It looks at none of them.
-    #[inline(always)]
-    pub fn pass(&mut self, n: usize)
-        requires within { n ≤ length (text_in self.old) }
-        requires inline { newlines_in (take n (text_in self.old)) ≡ 0 }
-        ensures { self.new ≡ text_after n self.old }
-    {
-        self.pushed = self.pushed.saturating_sub(n);
         self.at += n;
     }
 }

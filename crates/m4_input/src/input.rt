@@ -207,9 +207,9 @@ impl Input {
     {
         // There is hardly ever one, and the test takes less time than dropping none.
         if self.definition.is_some() {
-            self.drop_definition();
+            self.definition = None;
         }
-        self.text.consume(n);
+        self.text.consume(n, false);
     }
 
     /// Discards a definition and the first n bytes, none of which is a newline: those of a name.
@@ -222,17 +222,9 @@ impl Input {
         ensures { self.new ≡ record self.old { pending = consumed n self.old.pending } }
     {
         if self.definition.is_some() {
-            self.drop_definition();
+            self.definition = None;
         }
-        self.text.pass(n);
-    }
-
-    /// Discards a definition.
-    #[inline(never)]
-    fn drop_definition(&mut self)
-        ensures { self.new ≡ record self.old { pending = record self.old.pending { definition = None } } }
-    {
-        self.definition = None;
+        self.text.consume(n, true);
     }
 
     /// Inserts a value at the start, to be read before everything else. Returns `OutOfMemory` if an
@@ -506,14 +498,6 @@ impl Input {
         }
     }
 
-    /// Discards a definition and all bytes in hand.
-    fn drop_all(&mut self)
-        ensures { self.new ≡ record self.old { pending = all_read self.old.pending } }
-    {
-        let len = self.text.len();
-        self.consume(len);
-    }
-
     /// Records a fault that each later call returns.
     fn stop(&mut self, fault: InputFault) -> InputFault
         requires { IsLasting fault }
@@ -530,7 +514,8 @@ impl Input {
         ensures nothing { self.new ≡ record self.old { pending = all_read self.old.pending } }
     {
         let line = self.line();
-        self.drop_all();
+        let len = self.text.len();
+        self.consume(len);
         match what {
             Unended::InString => InputFault::EndInString { line },
             Unended::InComment => InputFault::EndInComment { line },

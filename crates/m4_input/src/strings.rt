@@ -47,25 +47,12 @@ fn follow_quoted(text: &[u8], depth: usize, begin: u8, end: u8) -> StringSoFar
     StringSoFar::Open(text.len(), nested)
 }
 
-/// Returns how many bytes of a text are looked at sixteen at a time: none if it has fewer.
-#[inline(always)]
-fn near_len(text: &[u8]) -> usize
-    ensures within { result ≤ length text.now }
-    ensures long { 0 < result → 16 ≤ length text.now }
-{
-    if text.len() < LANES {
-        0
-    } else {
-        text.len().min(NEAR)
-    }
-}
-
 /// Returns the place of the first of these two bytes: a search for it, after a look at the bytes that are near.
 #[inline(always)]
 fn first_of_two(one: u8, other: u8, text: &[u8]) -> Option<usize>
     ensures { IsFirstByte (is_byte2 one other) text.now result }
 {
-    let near = near_len(text);
+    let near = if text.len() < LANES { 0 } else { text.len().min(NEAR) };
     let mut k = 0usize;
     'lanes: while k < near {
         // The last sixteen bytes of a text may overlap those before them.

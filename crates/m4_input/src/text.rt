@@ -77,18 +77,11 @@ impl Text {
     pub fn new(alloc: Global) -> Text
         ensures { result ≡ record { pushed = []; unread = []; newlines = 0 } }
     {
-        Text::of_file(alloc, Vec::new(alloc))
-    }
-
-    /// Creates a text with these bytes of a file, none of which was read.
-    pub fn of_file(alloc: Global, bytes: Vec<u8>) -> Text
-        ensures { result ≡ record { pushed = []; unread = bytes.items; newlines = 0 } }
-    {
         Text {
             top: Segment::spent(),
             below: Vec::new(alloc),
             held: 0,
-            file: File::of(bytes),
+            file: File::new(alloc),
             buffer: Vec::new(alloc),
         }
     }
@@ -297,30 +290,15 @@ impl Text {
         buffer
     }
 
-    /// Discards the first n bytes.
+    /// Discards the first n bytes. None of them is looked at if there are no newlines among them (`inline`).
     #[inline(always)]
-    pub fn consume(&mut self, n: usize)
-        requires { n ≤ length (text_in self.old) }
-        ensures { self.new ≡ text_after n self.old }
-    {
-        if self.top.len() == 0 {
-            self.file.consume(n);
-        } else if n < self.top.len() {
-            self.top.pass(n);
-        } else {
-            self.consume_across(n);
-        }
-    }
-
-    /// Discards the first n bytes, none of which is a newline.
-    #[inline(always)]
-    pub fn pass(&mut self, n: usize)
+    pub fn consume(&mut self, n: usize, inline: bool)
         requires within { n ≤ length (text_in self.old) }
-        requires inline { newlines_in (take n (text_in self.old)) ≡ 0 }
+        requires inline { inline ≡ true → newlines_in (take n (text_in self.old)) ≡ 0 }
         ensures { self.new ≡ text_after n self.old }
     {
         if self.top.len() == 0 {
-            self.file.pass(n);
+            self.file.consume(n, inline);
         } else if n < self.top.len() {
             self.top.pass(n);
         } else {
@@ -352,7 +330,7 @@ impl Text {
                 None => {
                     let spent = std::mem::replace(&mut self.top, Segment::spent());
                     keep(&mut self.buffer, spent.buffer());
-                    self.file.consume(left);
+                    self.file.consume(left, false);
                     return;
                 }
             }

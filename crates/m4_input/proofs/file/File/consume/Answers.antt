@@ -3,9 +3,10 @@ use Rattle.std.proofs.lemmas.List.{drop-drop, take-append-drop}
 use Rattle.m4_input.specs.Pending.{counted, newlines_in}
 use Rattle.m4_input.specs.FileView.{left_in, split_at}
 use Rattle.m4_input.specs.Text.{text_in, text_after}
-use Rattle.m4_input.proofs.Parts.{counted_is}
-use Rattle.m4_input.proofs.Files.{between, taken, pushed_taken}
+use Rattle.m4_input.proofs.Parts.{counted_is, counted_none}
+use Rattle.m4_input.proofs.Files.{between, taken, pushed_taken, no_newlines_between}
 use Rattle.m4_input.proofs.file.File.consume.Goals as goal
+use Rattle.m4_input.proofs.file.File.consume.Goals.{then-inline-via-then-inline, then-inline-via-else-inline+then-n-self}
 
 pub returns : goal.returns
 returns c =
@@ -24,9 +25,20 @@ returns c =
     ∙ taken f.pushed n f.newlines c.saturating_add-self-inside.result left c.self.invariant.1 count
     ∙ ap (text_after n) c.self.view_is
 
-pub returns-then-n-self : goal.returns-then-n-self
-returns-then-n-self c =
+-- the bytes have no newlines, or none of them is the file's
+pub returns-then-inline : goal.returns-then-inline
+returns-then-inline c =
     let f = c.self.inside in
-    ap (λ (x : List ℕ). split_at (f.pushed - c.args.n) x f.newlines) (sym (drop-drop c.args.n f.at f.bytes.items))
-    ∙ pushed_taken f.pushed c.args.n f.newlines (left_in f) c.if-n-self.true c.self.invariant.1
-    ∙ ap (text_after c.args.n) c.self.view_is
+    let n = c.args.n in
+    let left : List ℕ = left_in f in
+    let all : text_in (c.args.self.now) ≡ left = ap text_in (sym c.self.view_is) ∙ take-append-drop f.pushed left in
+    let rest : split_at (f.pushed - n) (drop n left) f.newlines ≡ text_after n (split_at f.pushed left f.newlines) =
+    elim c.then-inline.branch [
+      then-inline-via-then-inline w ↦
+      taken f.pushed n f.newlines f.newlines left c.self.invariant.1
+      (sym (counted_none f.newlines) ∙ ap (counted f.newlines) (sym (no_newlines_between n f.pushed left (ap (λ (x : List ℕ). newlines_in (take n x)) (sym all) ∙ c.requires.inline w.if-inline.true))))
+      | then-inline-via-else-inline+then-n-self w ↦ pushed_taken f.pushed n f.newlines left w.if-n-self.true c.self.invariant.1
+    ] in
+    ap (λ k. split_at k (drop (f.at + n) f.bytes.items) f.newlines) c.saturating_sub-self-inside.ensures
+    ∙ ap (λ (x : List ℕ). split_at (f.pushed - n) x f.newlines) (sym (drop-drop n f.at f.bytes.items))
+    ∙ rest ∙ ap (text_after n) c.self.view_is
