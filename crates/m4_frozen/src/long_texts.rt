@@ -38,8 +38,9 @@ impl LongTexts {
         }
     }
 
-    /// Returns a long text. `after` is what comes after its directive: the long texts of the directives there are copied
-    /// together with it, since they are asked for next. So each takes its own length of memory, and hardly any besides.
+    /// Returns a long text. `after` is what comes after its directive: the long texts of the directives there are
+    /// copied together with it, since they are asked for next. So each takes its own length of memory, and hardly
+    /// any besides.
     pub(crate) fn share(
         &mut self,
         alloc: Global,
