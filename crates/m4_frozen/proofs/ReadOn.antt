@@ -21,7 +21,7 @@ use Rattle.m4_frozen.specs.declared.directive.Directive.{Directive as CodeDirect
 use Rattle.m4_frozen.specs.declared.directive.Directive.TheVariants as code
 use Rattle.m4_frozen.specs.Outcome.{Loads}
 use Rattle.m4_frozen.specs.Spells.{IsPair, IsSkippedLine, AreSkippedLines}
-use Rattle.m4_frozen.specs.ReaderSteps.{◌>>=◌, skip_lines, next_at, directive_at, directives_at, after_version}
+use Rattle.m4_frozen.specs.ReaderSteps.{◌>>=◌, skip_lines, next_at, directive_at, directives_at, after_version, pair_at}
 use Rattle.m4_frozen.specs.ReaderSteps.{file_at, is_settled}
 use Rattle.m4_frozen.proofs.ByteTests.{test}
 use Rattle.m4_frozen.specs.Underway.{IsAtDirective, Skips, with_front, left_at, HasRead, ReadAs}
@@ -265,6 +265,12 @@ directive_shrinks (b ∷ bs) after d inside (inl none) e = absurd cc
 directive_shrinks (b ∷ bs) after d inside (inr at) e =
     let k = directive_ok b bs (directive_at b bs) d after (directive_here b bs at.1) e in
     omega (arith, ap (λ (x : List ℕ). length x) k.2, length-append k.0 after)
+
+-- so has a text directive after its letter
+pub text_shrinks : (line after name text : List ℕ) → pair_at line ≡ Ok ((name, text), after) → length after < length (letter_T ∷ line)
+unfolding directive_at
+text_shrinks line after name text e =
+    directive_shrinks (letter_T ∷ line) after (Text name text) false (inr (refl, refl)) (rw e refl)
 
 -- a refusal at the version is the file's
 pub version_refused : (read bytes : List ℕ) (x : Refusal) (l : Loading)

@@ -1,10 +1,9 @@
 //! The long texts of directives that were read together, which share memory.
 
-ghost use Rattle.std.specs.Prelude.{◌≡◌, ◌≤◌, length, take, IfOk};
+ghost use Rattle.std.specs.Prelude.{◌≡◌, ◌<◌, ◌≤◌, length, take, IfOk, IfSome};
 
-use crate::directive::Directive;
-use crate::lines::skip_lines;
-use crate::reader::next_directive;
+use crate::reader::line_after;
+use crate::strings::joined_pair;
 use m4_state::bytes::Bytes;
 use std::alloc::{AllocError, Global};
 use std::marker::Model;
@@ -60,7 +59,7 @@ impl LongTexts {
     }
 }
 
-/// Returns a text, and directly after it the long texts of the directives that come after it.
+/// Returns a text, and directly after it the long texts of the directives that come next, up to one that has none.
 fn gather(alloc: Global, text: &[u8], after: &[u8]) -> Result<Bytes, AllocError>
     ensures begins { IfOk result (λ b. take (length text.now) b ≡ text.now) }
     ensures within { IfOk result (λ b. length text.now ≤ length b) }
@@ -68,19 +67,22 @@ fn gather(alloc: Global, text: &[u8], after: &[u8]) -> Result<Bytes, AllocError>
     let mut texts = Vec::with_capacity(alloc, text.len().saturating_add(after.len()))?;
     texts.extend_from_slice(text)?;
     let mut rest = after;
-    'directives: loop {
-        let (_inside, here) = skip_lines(false, rest);
-        let Ok(Some((directive, next))) = next_directive(here) else {
-            break;
-        };
-        if let Directive::Text(both, middle) = directive {
-            let text = both.split_at(middle).1;
-            if text.len() > LARGEST_UNSHARED {
-                texts.extend_from_slice(text)?;
-            }
-        }
+    'directives: while let Some((text, next)) = long_text(rest) {
+        texts.extend_from_slice(text)?;
         rest = next;
     }
     texts.shrink_to_fit();
     Bytes::from_vec(texts)
+}
+
+/// Returns the long text of the directive at the start, and what comes after that; `None` if there is none.
+fn long_text(bytes: &[u8]) -> Option<(&[u8], &[u8])>
+    ensures { IfSome result (λ r. length r.1.now < length bytes.now) }
+{
+    match joined_pair(line_after(b'T', bytes)?) {
+        Ok(((both, middle), next)) if both.len() - middle > LARGEST_UNSHARED => {
+            Some((both.split_at(middle).1, next))
+        }
+        _ => None,
+    }
 }
