@@ -9,7 +9,6 @@ pub mod FewDigits
 pub mod FirstFault
 pub mod LongestFront
 pub mod NamedRead
-pub mod PlacedTexts
 pub mod Settled
 pub mod Unsettled
 pub mod Answered

@@ -21,10 +21,10 @@ use Rattle.m4_frozen.specs.declared.directive.Directive.{Directive as CodeDirect
 use Rattle.m4_frozen.specs.declared.directive.Directive.TheVariants as code
 use Rattle.m4_frozen.specs.Outcome.{Loads}
 use Rattle.m4_frozen.specs.Spells.{IsPair, IsSkippedLine, AreSkippedLines}
-use Rattle.m4_frozen.specs.ReaderSteps.{◌>>=◌, skip_lines, next_at, directive_at, directives_at, after_version}
+use Rattle.m4_frozen.specs.ReaderSteps.{◌>>=◌, skip_lines, next_at, directive_at, directives_at, after_version, pair_at}
 use Rattle.m4_frozen.specs.ReaderSteps.{file_at, is_settled}
 use Rattle.m4_frozen.proofs.ByteTests.{test}
-use Rattle.m4_frozen.specs.Underway.{EndsWith, IsPlaced, IsAtDirective, Skips, with_front, left_at, HasRead, ReadAs}
+use Rattle.m4_frozen.specs.Underway.{IsAtDirective, Skips, with_front, left_at, HasRead, ReadAs}
 use Rattle.m4_frozen.specs.Underway.{IsRead, HasReadOne, HasAdvanced, HasPaused, Keeps, ReadsOne, IsWithin, PausesAt}
 use Rattle.m4_frozen.specs.Underway.{Advances, EndsSo, stays}
 use Rattle.m4_frozen.proofs.SkippedLines.{skip_lines-append}
@@ -257,35 +257,20 @@ has_read_directive (b ∷ bs) after d l new (inr at) v e s i =
       };
     }
 
--- a block ends with an end of its end
-pub ends_later : (block bytes rest : List ℕ) → EndsWith block bytes → (front : List ℕ) → bytes ≡ front ++ rest → EndsWith block rest
-ends_later block bytes rest ends front is = (ends.0 ++ front, ends.1 ∙ ap (λ (x : List ℕ). ends.0 ++ x) is ∙ simp append_assoc)
+-- a directive that is read has a byte at least
+pub directive_shrinks : (bytes after : List ℕ) (d : Directive) (inside : Bool) → IsAtDirective inside bytes
+    → next_at bytes ≡ Ok (Some (d, after)) → length after < length bytes
+directive_shrinks [] after d inside at e = absurd cc
+directive_shrinks (b ∷ bs) after d inside (inl none) e = absurd cc
+directive_shrinks (b ∷ bs) after d inside (inr at) e =
+    let k = directive_ok b bs (directive_at b bs) d after (directive_here b bs at.1) e in
+    omega (arith, ap (λ (x : List ℕ). length x) k.2, length-append k.0 after)
 
--- what was read of a directive ends with its strings and a newline
-spelled_pair : (letter : ℕ) (first second block front bytes one after : List ℕ) → IsPair letter first second one → bytes ≡ one ++ after → block ≡ front ++ bytes
-    → (end : List ℕ) × (length end ≡ length after + 1) × EndsWith block ((first ++ second) ++ end)
-spelled_pair letter first second block front bytes one after p is ends = (
-  newline ∷ after,
-  omega arith,
-  (
-    front ++ (letter ∷ p.first_number ++ p.blanks ++ comma ∷ p.second_number ++ newline ∷ []),
-    ends ∙ ap (λ (x : List ℕ). front ++ x) (is ∙ ap (λ (x : List ℕ). x ++ after) p.spelled) ∙ simp append_assoc,
-  ),
-)
-
--- where the strings of a directive are
-pub directive_placed : (block bytes after : List ℕ) (d : CodeDirective) (inside : Bool)
-    → IsAtDirective inside bytes → EndsWith block bytes → next_at bytes ≡ Ok (Some (directive_of d, after)) → IsPlaced d (length after) block
-directive_placed block bytes after (code.Quotes begin end) inside at ends e = tt
-directive_placed block bytes after (code.Comments begin end) inside at ends e = tt
-directive_placed block bytes after (code.Builtin name builtin) inside at ends e = tt
-directive_placed block bytes after (code.Diversion number text) inside at ends e = tt
-directive_placed block [] after (code.Text both middle) inside at ends e = absurd cc
-directive_placed block (b ∷ bs) after (code.Text both middle) inside (inl none) ends e = absurd cc
-directive_placed block (b ∷ bs) after (code.Text both middle) inside (inr at) ends e =
-    let k = directive_ok b bs (directive_at b bs) (Text (take middle both.now) (drop middle both.now)) after (directive_here b bs at.1) e in
-    let placed = spelled_pair letter_T (take middle both.now) (drop middle both.now) block ends.0 (b ∷ bs) (b ∷ k.0) after k.1 (ap (λ (xs : List ℕ). b ∷ xs) k.2) ends.1 in
-    (placed.0, placed.1, (placed.2.0, placed.2.1 ∙ ap (λ (x : List ℕ). placed.2.0 ++ (x ++ placed.0)) (take-append-drop middle both.now)))
+-- so has a text directive after its letter
+pub text_shrinks : (line after name text : List ℕ) → pair_at line ≡ Ok ((name, text), after) → length after < length (letter_T ∷ line)
+unfolding directive_at
+text_shrinks line after name text e =
+    directive_shrinks (letter_T ∷ line) after (Text name text) false (inr (refl, refl)) (rw e refl)
 
 -- a refusal at the version is the file's
 pub version_refused : (read bytes : List ℕ) (x : Refusal) (l : Loading)

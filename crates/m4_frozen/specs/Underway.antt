@@ -1,6 +1,6 @@
 -- Underway: the part of a file that was read so far, if its bytes arrive block by block.
 -- Not believed: private contracts cite it; `read_frozen` states the same for whole files.
--- Words: EndsWith, IsPlaced, Skips, HasRead, ReadsOne, PausesAt, Advances.
+-- Words: Skips, HasRead, ReadsOne, PausesAt, Advances.
 use Rattle.std.specs.Prelude.{◌≡◌, ℕ, ℤ, ◌+◌, ◌-◌, ◌<◌, ◌≤◌, Bool, true, false, List, [], ◌∷◌, ◌++◌, length, drop}
 use Rattle.std.specs.Prelude.{Option, Some, None, IfSome, Result, Ok, Err, ◌⊎◌}
 use Rattle.std.specs.Borrow.{Bor}
@@ -11,8 +11,6 @@ use Rattle.m4_frozen.specs.declared.fault.FrozenKind.TheVariants as kinds
 use Rattle.m4_frozen.specs.declared.fault.ReadStop.{ReadStop}
 use Rattle.m4_frozen.specs.declared.fault.ReadStop.TheVariants as stops
 use Rattle.m4_frozen.specs.declared.fault.Refusal.{Refusal}
-use Rattle.m4_frozen.specs.declared.directive.Directive.{Directive as CodeDirective}
-use Rattle.m4_frozen.specs.declared.directive.Directive.TheVariants as code
 use Rattle.m4_frozen.specs.declared.begun.Begun.{Begun}
 use Rattle.m4_frozen.specs.declared.begun.Begun.TheVariants as begun
 use Rattle.m4_frozen.specs.declared.begun.NamedText.{NamedText}
@@ -23,19 +21,6 @@ use Rattle.m4_frozen.specs.Directive.{Directive, Text, Diversion}
 use Rattle.m4_frozen.specs.Outcome.{Loads}
 use Rattle.m4_frozen.specs.ReaderSteps.{◌>>=◌, skip_lines, string_at, expect_byte, directives_at, after_version}
 use Rattle.m4_frozen.specs.ReaderSteps.{file_at, is_settled}
-
--- a block ends with these bytes
-abbrev pub EndsWith : List ℕ → List ℕ → Type 0
-EndsWith block bytes = (front : List ℕ) × (block ≡ front ++ bytes)
-
--- the strings of a text directive are in the block, `after` bytes before the end of which the directive ends
-abbrev pub IsPlaced : CodeDirective → ℕ → List ℕ → Type 0
-IsPlaced (code.Text both middle) after block = (end : List ℕ) × (length end ≡ after + 1)
-    × EndsWith block (both.now ++ end)
-IsPlaced (code.Quotes begin end) after block = Unit {0}
-IsPlaced (code.Comments begin end) after block = Unit {0}
-IsPlaced (code.Builtin name builtin) after block = Unit {0}
-IsPlaced (code.Diversion number text) after block = Unit {0}
 
 -- no line to skip is at the start; `inside`: the bytes begin inside a comment
 abbrev pub IsAtDirective : Bool → List ℕ → Type 0

@@ -8,7 +8,6 @@
 #![tactic(auto)]
 
 mod begun;
-mod block;
 mod directive;
 pub mod fault;
 mod held;
@@ -16,6 +15,7 @@ pub mod inspector;
 pub mod laws;
 mod lines;
 pub mod loading;
+mod long_texts;
 mod number;
 mod reader;
 pub mod reading;

@@ -10,10 +10,10 @@ ghost use Rattle.m4_frozen.specs.DirectiveView.{directive_of, IsJoined};
 ghost use Rattle.m4_frozen.specs.Underway as underway;
 
 use crate::begun::{Begun, NamedText};
-use crate::block::Block;
 use crate::directive::Directive;
 use crate::fault::{FrozenKind, ReadStop, Refusal, refused_at};
 use crate::lines::skip_lines;
+use crate::long_texts::{LARGEST_UNSHARED, LongTexts};
 use crate::reader::{after_version, line_after, next_directive, stays};
 use crate::strings::{diversion_head, expect_byte, pair_head};
 use m4_state::builtin::Builtin;
@@ -22,9 +22,6 @@ use m4_state::definition::Def;
 use m4_state::fault::StateFault;
 use m4_state::state::State;
 use std::alloc::{AllocError, Global};
-
-/// A text with more bytes is a part of the slice that all such texts of its block share.
-const LARGEST_UNSHARED: usize = 64;
 
 /// The result of loading a frozen file: a state, and the text to print before any input is read.
 pub struct Loaded {
@@ -64,6 +61,7 @@ pub(crate) struct Loading {
     inside: bool,
     /// The text of which only a part was read, if there is one.
     begun: Option<Begun>,
+    texts: LongTexts,
 }
 
 // Written out so that a caller's proof contains one call, not the drop of each field.
@@ -75,6 +73,7 @@ impl Drop for Loading {
             versioned: _versioned,
             inside: _inside,
             begun: _begun,
+            texts: _texts,
         } = self;
     }
 }
@@ -99,6 +98,7 @@ impl Loading {
             versioned: false,
             inside: false,
             begun: None,
+            texts: LongTexts::new(),
         })
     }
 
@@ -109,33 +109,26 @@ impl Loading {
     pub(crate) fn advance(&mut self, alloc: Global, bytes: &[u8]) -> Result<Pause, ReadStop>
         ensures { underway.ReadsOn (λ read. underway.IsRead read self.old) bytes.now self.new result }
     {
-        let mut block = Block::new(bytes);
         match self.begun.take() {
-            None => self.read_whole(alloc, &mut block, bytes),
+            None => self.read_whole(alloc, bytes),
             Some(Begun::Diversion(missing)) => {
                 let after = self.read_diverted(missing, bytes)?;
-                self.read_after(alloc, &mut block, after)
+                self.read_after(alloc, after)
             }
             Some(Begun::Name(text)) => {
                 let after = self.read_named(text, bytes)?;
-                self.read_after(alloc, &mut block, after)
+                self.read_after(alloc, after)
             }
         }
     }
 
     /// Reads the bytes after a text, or pauses if the text is not complete.
-    fn read_after(
-        &mut self,
-        alloc: Global,
-        block: &mut Block<'_>,
-        after: Option<&[u8]>,
-    ) -> Result<Pause, ReadStop>
+    fn read_after(&mut self, alloc: Global, after: Option<&[u8]>) -> Result<Pause, ReadStop>
         requires whole { IfSome after (λ _. self.old.begun ≡ None) }
-        requires ends { IfSome after (λ x. underway.EndsWith block.old x.now) }
         ensures { underway.ReadsRest after.entry self.old self.new result }
     {
         match after {
-            Some(after) => self.read_whole(alloc, block, after),
+            Some(after) => self.read_whole(alloc, after),
             None => Ok(Pause {
                 left: 0,
                 refusal: Some(refused_at(FrozenKind::PrematureEnd, &[])),
@@ -144,21 +137,15 @@ impl Loading {
     }
 
     /// Reads everything that is complete, if no text is open.
-    fn read_whole(
-        &mut self,
-        alloc: Global,
-        block: &mut Block<'_>,
-        bytes: &[u8],
-    ) -> Result<Pause, ReadStop>
+    fn read_whole(&mut self, alloc: Global, bytes: &[u8]) -> Result<Pause, ReadStop>
         requires whole { self.old.begun ≡ None }
-        requires ends { underway.EndsWith block.old bytes.now }
         ensures { underway.Advances bytes.now self.old self.new result }
     {
         let mut rest = bytes;
         loop {
             let (inside, here) = skip_lines(self.inside, rest);
             self.inside = inside;
-            let one = match self.read_one(alloc, block, here) {
+            let one = match self.read_one(alloc, here) {
                 Ok(one) => one,
                 Err(stop) => return self.pause_at(alloc, stop, here),
             };
@@ -176,19 +163,12 @@ impl Loading {
 
     /// Reads the version or a directive; the bytes begin with no line to skip. Returns the bytes after it,
     /// or none if there are no bytes.
-    fn read_one<'a>(
-        &mut self,
-        alloc: Global,
-        block: &mut Block<'_>,
-        bytes: &'a [u8],
-    ) -> Result<Option<&'a [u8]>, ReadStop>
+    fn read_one<'a>(&mut self, alloc: Global, bytes: &'a [u8]) -> Result<Option<&'a [u8]>, ReadStop>
         requires at_directive { underway.IsAtDirective self.old.inside bytes.now }
-        requires ends { underway.EndsWith block.old bytes.now }
-        ensures reads { underway.ReadsOne bytes.now self.old self.new result }
-        ensures stays { block.new ≡ block.old }
+        ensures { underway.ReadsOne bytes.now self.old self.new result }
     {
         if self.versioned {
-            return self.read_directive(alloc, block, bytes);
+            return self.read_directive(alloc, bytes);
         }
         let after = after_version(bytes)?;
         self.versioned = true;
@@ -199,19 +179,16 @@ impl Loading {
     fn read_directive<'a>(
         &mut self,
         alloc: Global,
-        block: &mut Block<'_>,
         bytes: &'a [u8],
     ) -> Result<Option<&'a [u8]>, ReadStop>
         requires at_directive { underway.IsAtDirective self.old.inside bytes.now }
         requires versioned { self.old.versioned ≡ true }
-        requires ends { underway.EndsWith block.old bytes.now }
-        ensures reads { underway.ReadsOne bytes.now self.old self.new result }
-        ensures stays { block.new ≡ block.old }
+        ensures { underway.ReadsOne bytes.now self.old self.new result }
     {
         match next_directive(bytes)? {
             None => Ok(None),
             Some((directive, after)) => {
-                self.apply(alloc, block, &directive, after.len())?;
+                self.apply(alloc, &directive, after)?;
                 Ok(Some(after))
             }
         }
@@ -361,19 +338,16 @@ impl Loading {
     fn apply(
         &mut self,
         alloc: Global,
-        block: &mut Block<'_>,
         directive: &Directive<'_>,
-        after: usize,
+        after: &[u8],
     ) -> Result<(), StateFault>
         requires joined { IsJoined directive.now }
-        requires placed { underway.IsPlaced directive.now after block.old }
         ensures applied { OnOk result (self.new ≡ record self.old {
           state = with_directive self.old.state (directive_of directive.now);
           issued = self.new.issued;
         }) }
         ensures issued { OnOk result (self.new.issued.items
             ≡ self.old.issued.items ++ issued_by (directive_of directive.now)) }
-        ensures stays { block.new ≡ block.old }
     {
         match directive {
             Directive::Quotes(begin, end) => self.state.set_quotes(
@@ -385,11 +359,9 @@ impl Loading {
                 Bytes::from_slice(alloc, end)?,
             ),
             Directive::Text(both, middle) if both.len() - *middle > LARGEST_UNSHARED => {
-                let len = both.len() - *middle;
-                let from = block.len() - (after + 1 + len);
-                let text = block.part(alloc, from, len)?;
-                self.state
-                    .push_borrowed(both.split_at(*middle).0, Def::Text(text))
+                let (name, text) = both.split_at(*middle);
+                let text = self.texts.share(alloc, text, after)?;
+                self.state.push_borrowed(name, Def::Text(text))
             }
             Directive::Text(both, middle) => self.state.push_text(both, *middle),
             Directive::Builtin(name, builtin) => {
@@ -413,6 +385,7 @@ impl Loading {
             versioned: _versioned,
             inside: _inside,
             begun: _begun,
+            texts: _texts,
         } = self;
         Loaded {
             state,

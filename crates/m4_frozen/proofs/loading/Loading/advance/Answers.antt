@@ -7,8 +7,8 @@ use Rattle.m4_frozen.proofs.TextRead.{read_on_as, text_and_after, text_stopped, 
 use Rattle.m4_frozen.proofs.NamedRead.{named_since}
 use Rattle.m4_frozen.proofs.loading.Loading.advance.Goals as goal
 
-pub returns-in-Some-Diversion : goal.returns-in-Some-Diversion
-returns-in-Some-Diversion c =
+pub returns-in_ok-after-in-Some-Diversion : goal.returns-in_ok-after-in-Some-Diversion
+returns-in_ok-after-in-Some-Diversion c =
     let mid : Loading = record c.args.self.now { begun = c.take.new.self } in
     let Before : List ℕ → Type 0 = λ read. HasReadIn read mid c.in-Some-Diversion.missing in
     read_on_as Before (λ read. IsRead read c.args.self.now) c.args.bytes.now c.read_after.new.self c.read_after.result
@@ -17,8 +17,8 @@ returns-in-Some-Diversion c =
     (text_and_after Before c.args.bytes.now c.in_ok-after-in-Some-Diversion.after c.read_diverted.new.self
     c.read_after.new.self c.read_after.result c.in_ok-after-in-Some-Diversion.ensures c.read_after.ensures)
 
-pub returns : goal.returns
-returns c =
+pub returns-in_ok-after-in-Some-Name : goal.returns-in_ok-after-in-Some-Name
+returns-in_ok-after-in-Some-Name c =
     let mid : Loading = record c.args.self.now { begun = c.take.new.self } in
     let Before : List ℕ → Type 0 = λ read. HasReadNamed read mid c.in-Some-Name.text in
     read_on_as Before (λ read. IsRead read c.args.self.now) c.args.bytes.now c.read_after-in-Some-Name.new.self c.read_after-in-Some-Name.result

@@ -2,12 +2,12 @@
 use Rattle.std.proofs.Common.{refl}
 use Rattle.std.proofs.lemmas.Result.{err_from_is_err_and}
 use Rattle.m4_frozen.specs.DirectiveView.{directive_of}
-use Rattle.m4_frozen.proofs.ReadOn.{has_read_directive, directive_left, directive_refused, directive_placed}
+use Rattle.m4_frozen.proofs.ReadOn.{has_read_directive, directive_left, directive_refused}
 use Rattle.m4_frozen.proofs.ReadOn.{nothing_left}
 use Rattle.m4_frozen.proofs.loading.Loading.read_directive.Goals as goal
 
-pub returns-in_err-next_directive-clause-reads : goal.returns-in_err-next_directive-clause-reads
-returns-in_err-next_directive-clause-reads c =
+pub returns-in_err-next_directive : goal.returns-in_err-next_directive
+returns-in_err-next_directive c =
     let p = err_from_is_err_and c.from_residual.result c.from_residual.ensures.1 in
     rw (p.1, p.2) (
       refl,
@@ -17,22 +17,16 @@ returns-in_err-next_directive-clause-reads c =
           c.args.self.now c.requires.at_directive c.requires.versioned c.in_err-next_directive.ensures.gives h,
     )
 
-pub returns-in-None-clause-reads : goal.returns-in-None-clause-reads
-returns-in-None-clause-reads c = (
+pub returns-in-None : goal.returns-in-None
+returns-in-None c = (
   nothing_left c.args.bytes.now (rw c.in-None.is at c.in_ok-next_directive.ensures.gives),
   c.requires.versioned,
   refl,
 )
 
-pub returns-in_ok-apply-in-Some-clause-reads : goal.returns-in_ok-apply-in-Some-clause-reads
-returns-in_ok-apply-in-Some-clause-reads c =
+pub returns-in_ok-apply-in-Some : goal.returns-in_ok-apply-in-Some
+returns-in_ok-apply-in-Some c =
     has_read_directive c.args.bytes.now c.in-Some.after.now (directive_of c.in-Some.directive)
     c.args.self.now c.apply.new.self c.requires.at_directive c.requires.versioned
     (rw c.in-Some.is at c.in_ok-next_directive.ensures.gives)
     c.in_ok-apply-in-Some.ensures.applied c.in_ok-apply-in-Some.ensures.issued
-
--- the block has the strings where the directive is
-pub apply-requires-clause-placed : goal.apply-requires-clause-placed
-apply-requires-clause-placed c =
-    directive_placed c.args.block.now c.args.bytes.now c.in-Some.after.now c.in-Some.directive c.args.self.now.inside
-    c.requires.at_directive c.requires.ends (rw c.in-Some.is at c.in_ok-next_directive.ensures.gives)

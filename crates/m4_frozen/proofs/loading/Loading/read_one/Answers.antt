@@ -4,8 +4,8 @@ use Rattle.std.proofs.lemmas.Result.{err_from_is_err_and}
 use Rattle.m4_frozen.proofs.ReadOn.{has_read_version, version_left, version_refused}
 use Rattle.m4_frozen.proofs.loading.Loading.read_one.Goals as goal
 
-pub returns-in_err-after-clause-reads : goal.returns-in_err-after-clause-reads
-returns-in_err-after-clause-reads c =
+pub returns-in_err-after : goal.returns-in_err-after
+returns-in_err-after c =
     let p = err_from_is_err_and c.from_residual.result c.from_residual.ensures.1 in
     rw (p.1, p.2) (
       refl,
@@ -15,6 +15,6 @@ returns-in_err-after-clause-reads c =
           c.requires.at_directive c.if-self.false c.in_err-after.ensures h,
     )
 
-pub returns-clause-reads : goal.returns-clause-reads
-returns-clause-reads c = has_read_version c.args.bytes.now c.in_ok-after.after.now c.args.self.now c.requires.at_directive
+pub returns : goal.returns
+returns c = has_read_version c.args.bytes.now c.in_ok-after.after.now c.args.self.now c.requires.at_directive
     c.if-self.false c.in_ok-after.ensures
