@@ -52,7 +52,11 @@ fn follow_quoted(text: &[u8], depth: usize, begin: u8, end: u8) -> StringSoFar
 fn first_of_two(one: u8, other: u8, text: &[u8]) -> Option<usize>
     ensures { IsFirstByte (is_byte2 one other) text.now result }
 {
-    let near = if text.len() < LANES { 0 } else { text.len().min(NEAR) };
+    let near = if text.len() < LANES {
+        0
+    } else {
+        text.len().min(NEAR)
+    };
     let mut k = 0usize;
     'lanes: while k < near {
         // The last sixteen bytes of a text may overlap those before them.

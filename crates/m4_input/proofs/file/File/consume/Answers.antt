@@ -34,9 +34,9 @@ returns-then-inline c =
     let all : text_in (c.args.self.now) ≡ left = ap text_in (sym c.self.view_is) ∙ take-append-drop f.pushed left in
     let rest : split_at (f.pushed - n) (drop n left) f.newlines ≡ text_after n (split_at f.pushed left f.newlines) =
     elim c.then-inline.branch [
-      then-inline-via-then-inline w ↦
-      taken f.pushed n f.newlines f.newlines left c.self.invariant.1
-      (sym (counted_none f.newlines) ∙ ap (counted f.newlines) (sym (no_newlines_between n f.pushed left (ap (λ (x : List ℕ). newlines_in (take n x)) (sym all) ∙ c.requires.inline w.if-inline.true))))
+      | then-inline-via-then-inline w ↦
+          taken f.pushed n f.newlines f.newlines left c.self.invariant.1
+          (sym (counted_none f.newlines) ∙ ap (counted f.newlines) (sym (no_newlines_between n f.pushed left (ap (λ (x : List ℕ). newlines_in (take n x)) (sym all) ∙ c.requires.inline w.if-inline.true))))
       | then-inline-via-else-inline+then-n-self w ↦ pushed_taken f.pushed n f.newlines left w.if-n-self.true c.self.invariant.1
     ] in
     ap (λ k. split_at k (drop (f.at + n) f.bytes.items) f.newlines) c.saturating_sub-self-inside.ensures
