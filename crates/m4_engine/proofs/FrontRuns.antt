@@ -2,7 +2,7 @@
 use Rattle.std.proofs.Common.{◌≡◌, ⊎_elim, inl, inr, ℕ, ◌+◌, ◌-◌, ◌≤◌, Bool, true, false, List, [], ◌∷◌, ◌++◌, Some, None}
 use Rattle.std.proofs.Common.{append-nil, refl, sym, ap, ◌∙◌, subst, take, drop, length, length-append, arith}
 use Rattle.std.proofs.lemmas.List.{take-append-le, drop-append-le, length-drop}
-use Rattle.m4_state.specs.State.{State, top_of}
+use Rattle.m4_state.specs.State.{State, top_of, appended}
 use Rattle.m4_state.specs.declared.delimiters.Delimiters.{Delimiters}
 use Rattle.m4_input.specs.declared.token.Token.{Token}
 use Rattle.m4_input.specs.declared.token.Token.TheVariants.{Name, Str, Comment, Byte, End}
@@ -49,30 +49,6 @@ closed_on : (P : Bool → List ℕ → Type 0) (x z : List ℕ) (more : Bool) �
 closed_on P x z more f h =
     subst (λ b. P b (x ++ z)) (sym f.1) (subst (λ (y : List ℕ). P false (x ++ y)) (sym f.0) (subst (P false) (sym (append-nil x)) h))
 
-plain_fits : (s : State) (n : ℕ) (x : List ℕ) → IsPlain s true n x → n ≤ length x
-plain_fits s n x (inl g) = scan_fits s.quotes s.comments x (Name (take n x)) n g.0
-plain_fits s n x (inr (inl g)) = scan_fits s.quotes s.comments x (Byte g.0) n g.1
-plain_fits s n x (inr (inr g)) = scan_fits s.quotes s.comments x (Comment (take n x)) n g
-
-one_plain_on : (s : State) (more : Bool) (n : ℕ) (x z : List ℕ) → IsPlain s true n x → IsPlain s more n (x ++ z)
-one_plain_on s more n x z (inl g) =
-    let same : take n (x ++ z) ≡ take n x = take-append-le n x z (scan_fits s.quotes s.comments x (Name (take n x)) n g.0) in
-    inl (found_on s.quotes s.comments more x z (Name (take n x)) n g.0 ∙ ap (λ (y : List ℕ). Found (Name y) n) (sym same), ap (top_of s) same ∙ g.1)
-one_plain_on s more n x z (inr (inl g)) =
-    inr (inl (g.0, found_on s.quotes s.comments more x z (Byte g.0) n g.1, take-append-le n x z (scan_fits s.quotes s.comments x (Byte g.0) n g.1) ∙ g.2))
-one_plain_on s more n x z (inr (inr g)) =
-    let same : take n (x ++ z) ≡ take n x = take-append-le n x z (scan_fits s.quotes s.comments x (Comment (take n x)) n g) in
-    inr (inr (found_on s.quotes s.comments more x z (Comment (take n x)) n g ∙ ap (λ (y : List ℕ). Found (Comment y) n) (sym same)))
-
-are_plain_on : (s : State) (more : Bool) (lens : List ℕ) (x z : List ℕ) → ArePlain s true lens x → ArePlain s more lens (x ++ z)
-are_plain_on s more [] x z h = tt
-are_plain_on s more (n ∷ lens) x z h =
-    (one_plain_on s more n x z h.0, subst (ArePlain s more lens) (sym (drop-append-le n x z (plain_fits s n x h.0))) (are_plain_on s more lens (drop n x) z h.1))
-
-pub plain_run_on : (s : State) (m more : Bool) (n : ℕ) (x z : List ℕ) → MayFollow m z more → IsPlainRun s m n x → IsPlainRun s more n (x ++ z)
-plain_run_on s true more n x z f h = (h.0, are_plain_on s more h.0 x z h.1, h.2)
-plain_run_on s false more n x z f h = closed_on (λ b (y : List ℕ). IsPlainRun s b n y) x z more f h
-
 text_fits : (s : State) (n : ℕ) (t x : List ℕ) → IsText s true n t x → n ≤ length x
 text_fits s n t x (inl g) = scan_fits s.quotes s.comments x (Str t) n g
 text_fits s n t x (inr (inl g)) = scan_fits s.quotes s.comments x (Name t) n g.0
@@ -82,6 +58,25 @@ text_on : (s : State) (more : Bool) (n : ℕ) (t x z : List ℕ) → IsText s tr
 text_on s more n t x z (inl g) = inl (found_on s.quotes s.comments more x z (Str t) n g)
 text_on s more n t x z (inr (inl g)) = inr (inl (found_on s.quotes s.comments more x z (Name t) n g.0, g.1))
 text_on s more n t x z (inr (inr g)) = inr (inr (found_on s.quotes s.comments more x z (Comment t) n g))
+
+plain_fits : (s : State) (n : ℕ) (x : List ℕ) → IsPlain s true n x → n ≤ length x
+plain_fits s n x (inl g) = text_fits s n (take n x) x g
+plain_fits s n x (inr g) = scan_fits s.quotes s.comments x (Byte g.0) n g.1
+
+one_plain_on : (s : State) (more : Bool) (n : ℕ) (x z : List ℕ) → IsPlain s true n x → IsPlain s more n (x ++ z)
+one_plain_on s more n x z (inl g) =
+    inl (subst (λ (y : List ℕ). IsText s more n y (x ++ z)) (sym (take-append-le n x z (text_fits s n (take n x) x g))) (text_on s more n (take n x) x z g))
+one_plain_on s more n x z (inr g) =
+    inr (g.0, found_on s.quotes s.comments more x z (Byte g.0) n g.1, take-append-le n x z (scan_fits s.quotes s.comments x (Byte g.0) n g.1) ∙ g.2)
+
+are_plain_on : (s : State) (more : Bool) (lens : List ℕ) (x z : List ℕ) → ArePlain s true lens x → ArePlain s more lens (x ++ z)
+are_plain_on s more [] x z h = tt
+are_plain_on s more (n ∷ lens) x z h =
+    (one_plain_on s more n x z h.0, subst (ArePlain s more lens) (sym (drop-append-le n x z (plain_fits s n x h.0))) (are_plain_on s more lens (drop n x) z h.1))
+
+pub plain_run_on : (s : State) (m more : Bool) (n : ℕ) (x z : List ℕ) → MayFollow m z more → IsPlainRun s m n x → IsPlainRun s more n (x ++ z)
+plain_run_on s true more n x z f h = (h.0, are_plain_on s more h.0 x z h.1, h.2)
+plain_run_on s false more n x z f h = closed_on (λ b (y : List ℕ). IsPlainRun s b n y) x z more f h
 
 token_fits : (s : State) (n : ℕ) (c d : Call) (x : List ℕ) → IsListToken s true n c d x → n ≤ length x
 token_fits s n c d x (inl g) = text_fits s n g.0 x g.1
@@ -110,16 +105,28 @@ named_on s more n listed x z h =
       list = ap (paren_in s.quotes s.comments more) (drop-append-le n x z h.within) ∙ paren_on s.quotes s.comments more (drop n x) z listed h.list;
     }
 
+-- a part of a text is there also if bytes come after it
+pub part_on : (begin end : ℕ) (x z : List ℕ) → begin ≤ end → end ≤ length x → take (end - begin) (drop begin (x ++ z)) ≡ take (end - begin) (drop begin x)
+part_on begin end x z b e =
+    let rest : length (drop begin x) ≡ length x - begin = length-drop begin x in
+    ap (take (end - begin)) (drop-append-le begin x z (omega (arith, b, e)))
+    ∙ take-append-le (end - begin) (drop begin x) z (omega (arith, b, e, rest))
+
 -- the name has the same bytes
 same_name : (P : List ℕ → Type 0) (n : ℕ) (x z : List ℕ) → n ≤ length x → P (take n x) → P (take n (x ++ z))
 same_name P n x z k h = subst P (sym (take-append-le n x z k)) h
 
 ahead_on : (s : State) (room more : Bool) (a : Lookahead) (x z : List ℕ) → (a ≡ aheads.Undecided → ⊥) → IsAhead a s room true x → IsAhead a s room more (x ++ z)
 ahead_on s room more aheads.Definition x z u h = absurd h
-ahead_on s room more (aheads.Text n t) x z u h =
+ahead_on s room more (aheads.Text begin end n) x z u h =
     let all : length (x ++ z) ≡ length x + length z = length-append x z in
-    let fits : n ≤ length x = h.1 in
-    (text_on s more n t x z h.0, omega (arith, all, fits))
+    let last : end ≤ length x = h.2 in
+    let fits : n ≤ length x = h.3 in (
+      subst (λ (y : List ℕ). IsText s more n y (x ++ z)) (sym (part_on begin end x z h.1 h.2)) (text_on s more n (take (end - begin) (drop begin x)) x z h.0),
+      h.1,
+      omega (arith, all, last),
+      omega (arith, all, fits),
+    )
 ahead_on s room more (aheads.Byte b) x z u h =
     let all : length (x ++ z) ≡ length x + length z = length-append x z in
     (found_on s.quotes s.comments more x z (Byte b) 1 h.0, omega (arith, all, h.1))
@@ -161,20 +168,31 @@ list_front s p m n c d x h r =
     subst (λ (y : List ℕ). IsListRun s p.may_follow n c d y) (sym a.all) (list_run_on s m p.may_follow n c d x a.rest a.follows r)
 
 -- a token that is found after the first bytes of the front
-pub found_after : (q c : Delimiters) (p : Pending) (m : Bool) (n : ℕ) (x : List ℕ) (t : Token) (l : ℕ) → IsInFront p x m → n ≤ length x → scan q c m (drop n x) ≡ Found t l → scan q c p.may_follow (drop n (text_of p)) ≡ Found t l
-found_after q c p m n x t l h k g =
+pub text_after : (s : State) (p : Pending) (m : Bool) (n : ℕ) (x t : List ℕ) (l : ℕ) → IsInFront p x m → n ≤ length x → IsText s m l t (drop n x) → IsText s p.may_follow l t (drop n (text_of p))
+text_after s p m n x t l h k g =
     let a = after p x m h in
     let rest : drop n (text_of p) ≡ drop n x ++ a.rest = ap (drop n) a.all ∙ drop-append-le n x a.rest k in
-    subst (λ (y : List ℕ). scan q c p.may_follow y ≡ Found t l) (sym rest) (by m a.rest a.follows g)
+    subst (λ (y : List ℕ). IsText s p.may_follow l t y) (sym rest) (by m a.rest a.follows g)
   where
-    by : (m : Bool) (z : List ℕ) → MayFollow m z p.may_follow → scan q c m (drop n x) ≡ Found t l → scan q c p.may_follow (drop n x ++ z) ≡ Found t l
-    by true z f g = found_on q c p.may_follow (drop n x) z t l g
-    by false z f g = closed_on (λ b (y : List ℕ). scan q c b y ≡ Found t l) (drop n x) z p.may_follow f g
+    by : (m : Bool) (z : List ℕ) → MayFollow m z p.may_follow → IsText s m l t (drop n x) → IsText s p.may_follow l t (drop n x ++ z)
+    by true z f g = text_on s p.may_follow l t (drop n x) z g
+    by false z f g = closed_on (λ b (y : List ℕ). IsText s b l t y) (drop n x) z p.may_follow f g
+
+-- a part of the front
+pub part_in_front : (p : Pending) (m : Bool) (begin end : ℕ) (x : List ℕ) → IsInFront p x m → begin ≤ end → end ≤ length x → take (end - begin) (drop begin (text_of p)) ≡ take (end - begin) (drop begin x)
+part_in_front p m begin end x h b e =
+    let a = after p x m h in
+    ap (λ (y : List ℕ). take (end - begin) (drop begin y)) a.all ∙ part_on begin end x a.rest b e
+
+-- the front has the first n bytes, if it is all bytes, or has more than n
+pub front_fits : (others : Bool) (n : ℕ) (x y : List ℕ) → (others ≡ false → x ≡ y) → (others ≡ true → n < length x) → n ≤ length y → n ≤ length x
+front_fits false n x y a l h = subst (λ (z : List ℕ). n ≤ length z) (sym (a refl)) h
+front_fits true n x y a l h = let more : n < length x = l refl in omega (arith, more)
 
 -- what was seen after n bytes is seen at the front once these were consumed
 ahead_there : (a : Lookahead) (s : State) (room : Bool) (p : Pending) → p.definition ≡ None → IsAhead a s room p.may_follow (text_of p) → IsLookaheadOf a s room p
 ahead_there aheads.Definition s room p f h = absurd h
-ahead_there (aheads.Text n t) s room p f h = (f, h)
+ahead_there (aheads.Text begin end n) s room p f h = (f, h)
 ahead_there (aheads.Byte b) s room p f h = (f, h)
 ahead_there (aheads.Expansion n t) s room p f h = (f, h)
 ahead_there (aheads.LineSkip n) s room p f h = (f, h)
@@ -207,6 +225,20 @@ ahead_front a s room p true n x h all k u g =
   where
     no : true ≡ false → ⊥
     no e = cc
+
+-- text that is put changes no name and no delimiter
+pub ahead_kept : (a : Lookahead) (s : State) (t : List ℕ) (room m : Bool) (x : List ℕ) → IsAhead a s room m x → IsAhead a (appended s t) room m x
+ahead_kept aheads.Definition s t room m x h = h
+ahead_kept (aheads.Text begin end n) s t room m x h = h
+ahead_kept (aheads.Byte b) s t room m x h = h
+ahead_kept (aheads.Expansion n y) s t room m x h = (record { scanned = (h.0).scanned; within = (h.0).within; list = (h.0).list }, h.1, h.2)
+ahead_kept (aheads.LineSkip n) s t room m x h = (record { scanned = (h.0).scanned; within = (h.0).within; list = (h.0).list }, h.1, h.2)
+ahead_kept (aheads.Call n c) s t room m x h = (record { scanned = (h.0).scanned; within = (h.0).within; list = (h.0).list }, h.1)
+ahead_kept (aheads.List n c) s t room m x h = (record { scanned = (h.0).scanned; within = (h.0).within; list = (h.0).list }, h.1)
+ahead_kept aheads.End s t room m x h = h
+ahead_kept (aheads.Unended what) s t room m x h = h
+ahead_kept aheads.Undecided s t room m x h = h
+ahead_kept (aheads.Further k) s t room m x h = h
 
 -- what is left is less, if some bytes were passed
 pub front_less : (p : Pending) (m : Bool) (n : ℕ) (x : List ℕ) → IsInFront p x m → 0 < n → n ≤ length x → length (text_of (consumed n p)) < length (text_of p)

@@ -9,37 +9,35 @@ use Rattle.std.proofs.Common.{◌≡◌, ◌⊎◌, inl, inr, Bool, true, false,
 use Rattle.std.proofs.Common.{Equal, Greater, unwrap_or, ◌+◌, ◌-◌, ◌<◌, ◌≤◌, List, [], ◌∷◌, ◌++◌, Option, None, take}
 use Rattle.std.proofs.Common.{drop, length, refl, sym, ap, ◌∙◌, subst, arith, append-nil, append_assoc, length-append}
 use Rattle.std.proofs.Math.Seq.{take-add}
+use Rattle.std.proofs.lemmas.List.{length-drop}
 use Rattle.m4_state.specs.declared.definition.Def.{Def}
-use Rattle.m4_input.specs.declared.front.Scan.TheVariants.{Found}
 use Rattle.m4_input.specs.declared.token.Token.TheVariants.{Name, Str, Comment, Byte}
-use Rattle.m4_input.specs.Token.{scan}
 use Rattle.m4_input.specs.Pending.{Pending, text_of, counted, consumed, newlines_in}
-use Rattle.m4_engine.specs.Plain.{IsPlain, total, ArePlain, IsPlainRun, IsTextOf}
+use Rattle.m4_engine.specs.Plain.{IsPlain, total, ArePlain}
 use Rattle.m4_engine.specs.Collected.{IsText, IsListToken, AreListTokens, bytes_in}
 use Rattle.m4_input.specs.Input.{Held, longer}
 use Rattle.m4_input.proofs.Consumed.{consumed_twice}
 use Rattle.m4_input.proofs.Parts.{drop_parts, counted_none}
 use Rattle.m4_engine.specs.declared.turned.Turned.TheVariants as turns
-use Rattle.m4_engine.specs.Nesting.{Turn, GoOn}
+use Rattle.m4_engine.specs.Nesting.{GoOn}
 use Rattle.m4_engine.specs.OpenCalls.{take_turn, Goes}
 use Rattle.m4_engine.specs.Expansion.{Call, Expansion, Kept, Ended, reading, put_text, issued}
 use Rattle.m4_engine.specs.Expand.{turn, join, take_front, take_name}
 use Rattle.m4_engine.specs.Engine.{Engine, put_in, here_of, outer_of, configuration, IsReady, allows_call}
 use Rattle.m4_engine.specs.Moments.{Moment, Next, moved, Comes}
 use Rattle.m4_engine.specs.Turns.{MayFollow, Moves}
-use Rattle.m4_engine.specs.Passes.{PassesPlain, PassesInner, PassesString, PassesOnce, ArePasses, Passes, PassesText}
-use Rattle.m4_engine.specs.Passes.{PassesBy, PassesFront, IsLookahead, EndsAt, PutsToken}
+use Rattle.m4_engine.specs.Passes.{PassesPlain, PassesInner, PassesToken, PassesOnce, ArePasses, Passes, PassesText}
+use Rattle.m4_engine.specs.Passes.{PassesBy, PassesFront, IsLookahead, EndsAt}
 use Rattle.m4_input.specs.Blocks.{IsInFront}
 use Rattle.m4_engine.specs.declared.lookahead.Lookahead.{Lookahead}
 use Rattle.m4_engine.specs.declared.lookahead.Lookahead.TheVariants as aheads
-use Rattle.m4_engine.specs.Lookahead.{IsAhead, EndsBy}
-use Rattle.m4_engine.proofs.FrontRuns.{plain_front, list_front, found_after, take_in_front, ahead_front, front_left}
+use Rattle.m4_engine.specs.Lookahead.{IsAhead}
+use Rattle.m4_engine.proofs.FrontRuns.{plain_front, list_front, text_after, take_in_front, ahead_front, front_left}
 use Rattle.m4_engine.proofs.FrontRuns.{front_less}
 use Rattle.m4_engine.proofs.Longer.{found_longer}
 use Rattle.m4_engine.proofs.LoopKeeps.{turns_of, turn_falls}
 use Rattle.m4_engine.proofs.Measures.{measure, measure_falls}
 use Rattle.m4_engine.proofs.Moments.{on_from}
-use Rattle.m4_engine.proofs.PlainRuns.{plain_more}
 
 -- an engine outside of calls
 abbrev at_top : Engine → Engine
@@ -48,33 +46,34 @@ at_top e = record e { open_calls = [] }
 abbrev with_output : List ℕ → Engine → Engine
 with_output x e = put_in [] x e
 
--- a turn puts such a token where text goes
-plain_turn : (e : Engine) (p : Pending) (n : ℕ) → p.definition ≡ None → IsPlain e.state p.may_follow n (text_of p)
-    → (z : List ℕ) (more : Bool) → MayFollow p.may_follow z more → (o m : List ℕ)
-    → turn (here_of o m (at_top e) (longer z more p))
-    ≡ GoOn (put_text (take n (text_of p))
-    (reading (longer z more (consumed n p)) (here_of o m (at_top e) (longer z more p))))
-plain_turn e p n d (inl h) z more c o m =
-    ap (λ v. take_front v (here_of o m (at_top e) (longer z more p))) (found_longer (e.state).quotes (e.state).comments p (Name (take n (text_of p))) n z more d h.0 c)
-    ∙ ap (λ v. take_name v (take n (text_of p)) (longer z more (consumed n p)) (here_of o m (at_top e) (longer z more p))) h.1
-plain_turn e p n d (inr (inl h)) z more c o m =
-    ap (λ v. take_front v (here_of o m (at_top e) (longer z more p))) (found_longer (e.state).quotes (e.state).comments p (Byte h.0) n z more d h.1 c)
-    ∙ ap (λ (x : List ℕ). let t : Turn Expansion Kept Ended = GoOn (put_text x (reading (longer z more (consumed n p)) (here_of o m (at_top e) (longer z more p)))) in t) (sym h.2)
-plain_turn e p n d (inr (inr h)) z more c o m =
-    ap (λ v. take_front v (here_of o m (at_top e) (longer z more p))) (found_longer (e.state).quotes (e.state).comments p (Comment (take n (text_of p))) n z more d h c)
+-- a turn puts a token that is text where text goes
+text_turn : (e : Engine) (p : Pending) (n : ℕ) (t : List ℕ) → p.definition ≡ None
+    → IsText e.state p.may_follow n t (text_of p) → (z : List ℕ) (more : Bool) → MayFollow p.may_follow z more
+    → (o m : List ℕ)
+    → turn (here_of o m e (longer z more p))
+    ≡ GoOn (put_text t (reading (longer z more (consumed n p)) (here_of o m e (longer z more p))))
+text_turn e p n t d (inl g) z more k o m =
+    ap (λ v. take_front v (here_of o m e (longer z more p))) (found_longer (e.state).quotes (e.state).comments p (Str t) n z more d g k)
+text_turn e p n t d (inr (inl g)) z more k o m =
+    ap (λ v. take_front v (here_of o m e (longer z more p))) (found_longer (e.state).quotes (e.state).comments p (Name t) n z more d g.0 k)
+    ∙ ap (λ v. take_name v t (longer z more (consumed n p)) (here_of o m e (longer z more p))) g.1
+text_turn e p n t d (inr (inr g)) z more k o m =
+    ap (λ v. take_front v (here_of o m e (longer z more p))) (found_longer (e.state).quotes (e.state).comments p (Comment t) n z more d g k)
 
-plain_moves : (e : Engine) (p : Pending) (n : ℕ) → p.definition ≡ None → IsPlain e.state p.may_follow n (text_of p) → Moves p.may_follow (with_output (take n (text_of p)) (at_top e)) (consumed n p) turns.GoesOn (λ z more o m. moved (configuration o m (at_top e) (longer z more p)))
-plain_moves e p n d h = λ z more c o m.
-    ap (take_turn Expansion Kept Ended turn join []) (plain_turn e p n d h z more c o m)
-    ∙ (rw (append_assoc o e.output (issued (e.state).current (take n (text_of p)))) refl)
-
--- and so it puts the text of a string
-string_moves : (e : Engine) (p : Pending) (t : List ℕ) (n : ℕ) → p.definition ≡ None
-    → scan (e.state).quotes (e.state).comments p.may_follow (text_of p) ≡ Found (Str t) n
+text_moves : (e : Engine) (p : Pending) (t : List ℕ) (n : ℕ) → p.definition ≡ None
+    → IsText e.state p.may_follow n t (text_of p)
     → Moves p.may_follow (with_output t (at_top e)) (consumed n p) turns.GoesOn (λ z more o m. moved (configuration o m (at_top e) (longer z more p)))
-string_moves e p t n d h = λ z more c o m.
-    ap (λ v. take_turn Expansion Kept Ended turn join [] (take_front v (here_of o m (at_top e) (longer z more p)))) (found_longer (e.state).quotes (e.state).comments p (Str t) n z more d h c)
+text_moves e p t n d h = λ z more c o m.
+    ap (take_turn Expansion Kept Ended turn join []) (text_turn (at_top e) p n t d h z more c o m)
     ∙ (rw (append_assoc o e.output (issued (e.state).current t)) refl)
+
+-- and so it puts a plain token
+plain_moves : (e : Engine) (p : Pending) (n : ℕ) → p.definition ≡ None → IsPlain e.state p.may_follow n (text_of p) → Moves p.may_follow (with_output (take n (text_of p)) (at_top e)) (consumed n p) turns.GoesOn (λ z more o m. moved (configuration o m (at_top e) (longer z more p)))
+plain_moves e p n d (inl h) = text_moves e p (take n (text_of p)) n d h
+plain_moves e p n d (inr h) = λ z more c o m.
+    ap (λ v. take_turn Expansion Kept Ended turn join [] (take_front v (here_of o m (at_top e) (longer z more p)))) (found_longer (e.state).quotes (e.state).comments p (Byte h.0) n z more d h.1 c)
+    ∙ (rw (append_assoc o e.output (issued (e.state).current (h.0 ∷ []))) refl)
+    ∙ ap (λ (x : List ℕ). Goes (configuration o m (with_output x (at_top e)) (longer z more (consumed n p)))) (sym h.2)
 
 pub consumed_none : (p : Pending) → p.definition ≡ None → consumed 0 p ≡ p
 consumed_none p d =
@@ -216,25 +215,25 @@ plain_reaches e e1 i i1 h =
     subst (λ (d : Engine). Reaches e i.pending d i1.pending) (sym h.engine)
     (subst (λ (j : Held). Reaches e i.pending (with_output (take (total h.lens) (text_of i.pending)) e) j.pending) (sym h.input) x)
 
--- plain tokens and then a string
-string_reaches : (e e1 : Engine) (i i1 : Held) → PassesString e e1 i i1 → Reaches e i.pending e1 i1.pending
-string_reaches e e1 i i1 h =
+-- plain tokens and then one that is text
+token_reaches : (e e1 : Engine) (i i1 : Held) → PassesToken e e1 i i1 → Reaches e i.pending e1 i1.pending
+token_reaches e e1 i i1 h =
     let p : Pending = i.pending in
     let n : ℕ = total h.lens in
     let x : List ℕ = take n (text_of p) in
     let mid : Engine = with_output x (at_top e) in
     let q : Pending = consumed n p in
-    let there : scan (mid.state).quotes (mid.state).comments q.may_follow (text_of q) ≡ Found (Str h.string) h.len =
-    subst (λ (y : List ℕ). scan (e.state).quotes (e.state).comments p.may_follow y ≡ Found (Str h.string) h.len) (drop_parts n p.pushed p.unread) h.found in
-    let last : Reaches mid q (with_output h.string mid) (consumed h.len q) =
-    move_reaches mid (with_output h.string mid) (with_output h.string mid) q (consumed h.len q) (consumed h.len q) refl (string_moves mid q h.string h.len refl there) (nothing_reaches (with_output h.string mid) (consumed h.len q)) in
-    let all : Reaches (at_top e) p (with_output h.string mid) (consumed (n + h.len) p) =
-    subst (λ (r : Pending). Reaches (at_top e) p (with_output h.string mid) r) (consumed_twice n h.len p)
-    (both_reach (at_top e) mid (with_output h.string mid) p q (consumed h.len q) refl (run_reaches h.lens e p h.first h.plain) last) in
-    let same : Reaches e p (with_output h.string (with_output x e)) (consumed (n + h.len) p) =
-    subst (λ (d : Engine). Reaches d p (with_output h.string (with_output x d)) (consumed (n + h.len) p)) (top_is e h.outside) all in
+    let there : IsText mid.state q.may_follow h.len h.text (text_of q) =
+    subst (λ (y : List ℕ). IsText e.state p.may_follow h.len h.text y) (drop_parts n p.pushed p.unread) h.found in
+    let last : Reaches mid q (with_output h.text mid) (consumed h.len q) =
+    move_reaches mid (with_output h.text mid) (with_output h.text mid) q (consumed h.len q) (consumed h.len q) refl (text_moves mid q h.text h.len refl there) (nothing_reaches (with_output h.text mid) (consumed h.len q)) in
+    let all : Reaches (at_top e) p (with_output h.text mid) (consumed (n + h.len) p) =
+    subst (λ (r : Pending). Reaches (at_top e) p (with_output h.text mid) r) (consumed_twice n h.len p)
+    (both_reach (at_top e) mid (with_output h.text mid) p q (consumed h.len q) refl (run_reaches h.lens e p h.first h.plain) last) in
+    let same : Reaches e p (with_output h.text (with_output x e)) (consumed (n + h.len) p) =
+    subst (λ (d : Engine). Reaches d p (with_output h.text (with_output x d)) (consumed (n + h.len) p)) (top_is e h.outside) all in
     subst (λ (d : Engine). Reaches e p d i1.pending) (sym h.engine)
-    (subst (λ (j : Held). Reaches e p (with_output h.string (with_output x e)) j.pending) (sym h.input) same)
+    (subst (λ (j : Held). Reaches e p (with_output h.text (with_output x e)) j.pending) (sym h.input) same)
 
 -- the first bytes of a text that is in front of an input were passed
 pub passes_text : (old new : Engine) (i j : Held) (m : Bool) (n : ℕ) (x : List ℕ) → IsInFront i.pending x m → (i.pending).definition ≡ None → n ≤ length x → PassesText m n x old new → j ≡ record i { pending = consumed n i.pending } → PassesOnce old new i j
@@ -266,10 +265,10 @@ passes_text old new i j m n x h f k (inr (inr r)) g =
     inr (inr (inr (record {
       lens = run.0;
       plain = run.1;
-      string = r.1;
+      text = r.1;
       len = r.2;
-      found = subst (λ (v : ℕ). scan (old.state).quotes (old.state).comments (i.pending).may_follow (drop v (text_of i.pending)) ≡ Found (Str r.1) r.2) (sym run.2)
-          (found_after (old.state).quotes (old.state).comments i.pending m r.0 x (Str r.1) r.2 h le r.4);
+      found = subst (λ (v : ℕ). IsText old.state (i.pending).may_follow r.2 r.1 (drop v (text_of i.pending))) (sym run.2)
+          (text_after old.state i.pending m r.0 x r.1 r.2 h le r.4);
       outside = r.6;
       first = f;
       engine = r.7
@@ -278,50 +277,21 @@ passes_text old new i j m n x h f k (inr (inr r)) g =
       input = g ∙ ap (λ v. let w : Held = record i { pending = consumed v i.pending } in w) (r.5 ∙ ap (λ v. v + r.2) (sym run.2));
     })))
 
--- outside of diversions they were added to the output
-pub text_output : (old new : Engine) (m : Bool) (n : ℕ) (x : List ℕ) → IsPlainRun old.state m n x → old.open_calls ≡ [] → (old.state).current ≡ pos 0 → new ≡ record old { output = old.output ++ take n x } → PassesText m n x old new
-text_output old new m n x r o u e = inl (r, o, e ∙ sym (output_put old (take n x) u))
+-- outside of diversions text goes to the output
+pub output_is : (e : Engine) (x y : List ℕ) → (e.state).current ≡ pos 0 → y ≡ e.output ++ x → record e { output = y } ≡ put_in [] x e
+output_is e x y u h = ap (λ (o : List ℕ). let d : Engine = record e { output = o } in d) h ∙ sym (output_put e x u)
 
--- where text is diverted, they were added to the diversion, or dropped
+-- where text is diverted, it goes to the diversion, or nowhere
 not_issued : (n : ℤ) (x : List ℕ) → (n ≡ pos 0 → ⊥) → issued n x ≡ []
 not_issued (pos zero) x h = absurd (h refl)
 not_issued (pos (suc n)) x h = refl
 not_issued (negsuc n) x h = refl
 
-diverted_put : (e : Engine) (x : List ℕ) → ((e.state).current ≡ pos 0 → ⊥) → with_output x e ≡ record e { state = appended e.state x }
-diverted_put e x h =
-    ap (λ (o : List ℕ). let d : Engine = record e { state = appended e.state x; output = e.output ++ o } in d) (not_issued (e.state).current x h)
-    ∙ ap (λ (o : List ℕ). let d : Engine = record e { state = appended e.state x; output = o } in d) (append-nil e.output)
-
--- the text of a token that calls nothing
-pub token_put : (m : Bool) (begin len n : ℕ) (x : List ℕ) (old new : Engine) → IsTextOf old.state m begin len n x → new ≡ put_in [] (take len (drop begin x)) old → PutsToken m n x old new
-token_put m begin len n x old new (inl f) e = inr (inl (take len (drop begin x), f, e))
-token_put m begin len n x old new (inr f) e =
-    inr (inr (f.2, e ∙ ap (λ (k : ℕ). put_in [] (take len (drop k x)) old) f.0 ∙ ap (λ (k : ℕ). put_in [] (take k x) old) f.1))
-
--- and then one more token, if there is one
-pub text_and_token : (old mid new : Engine) (m : Bool) (k n : ℕ) (x : List ℕ) → IsPlainRun old.state m k x
-    → old.open_calls ≡ [] → mid ≡ put_in [] (take k x) old → PutsToken m n (drop k x) mid new → PassesText m (k + n) x old new
-text_and_token old mid new m k n x r o e (inl h) =
-    let none : k + n ≡ k = ap (λ (v : ℕ). k + v) h.0 ∙ (omega arith) in
-    subst (λ (v : ℕ). PassesText m v x old new) (sym none) (inl (r, o, h.1 ∙ e))
-text_and_token old mid new m k n x r o e (inr (inl h)) =
-    let found = subst (λ (d : Engine). scan (d.state).quotes (d.state).comments m (drop k x) ≡ Found (Str h.0) n) e h.1 in
-    inr (inr (k, h.0, n, r, found, refl, o, h.2 ∙ ap (put_in [] h.0) e))
-text_and_token old mid new m k n x r o e (inr (inr h)) =
-    let plain : IsPlain old.state m n (drop k x) = subst (λ (d : Engine). IsPlain d.state m n (drop k x)) e h.0 in
-    inl (
-      plain_more old.state m k n x r plain,
-      o,
-      h.1 ∙ ap (put_in [] (take n (drop k x))) e ∙ put_twice (take k x) (take n (drop k x)) old ∙ ap (λ (y : List ℕ). put_in [] y old) (sym (take-add k n x)),
-    )
-
--- the output and the diversions are where text goes
-pub output_is : (e : Engine) (x y : List ℕ) → (e.state).current ≡ pos 0 → y ≡ e.output ++ x → record e { output = y } ≡ put_in [] x e
-output_is e x y u h = ap (λ (o : List ℕ). let d : Engine = record e { output = o } in d) h ∙ sym (output_put e x u)
-
 pub diversion_is : (e : Engine) (x : List ℕ) (s : State) → ((e.state).current ≡ pos 0 → ⊥) → s ≡ appended e.state x → record e { state = s } ≡ put_in [] x e
-diversion_is e x s u h = ap (λ (t : State). let d : Engine = record e { state = t } in d) h ∙ sym (diverted_put e x u)
+diversion_is e x s u h =
+    ap (λ (t : State). let d : Engine = record e { state = t } in d) h
+    ∙ ap (λ (o : List ℕ). let d : Engine = record e { state = appended e.state x; output = o } in d) (sym (append-nil e.output))
+    ∙ ap (λ (o : List ℕ). let d : Engine = record e { state = appended e.state x; output = e.output ++ o } in d) (sym (not_issued (e.state).current x u))
 
 -- an engine within a list
 abbrev at_call : Call → List Call → Engine → Engine
@@ -334,22 +304,9 @@ list_turn : (c d : Call) (cs : List Call) (e : Engine) (p : Pending) (n : ℕ) �
     → take_turn Expansion Kept Ended turn join (outer_of (c ∷ cs)) (turn (here_of o m (at_call c cs e) (longer z more p)))
     ≡ Goes (configuration o m (at_call d cs e) (longer z more (consumed n p)))
 list_turn c d cs e p n f (inl h) z more k o m =
-    ap (λ v. take_turn Expansion Kept Ended turn join (outer_of (c ∷ cs)) v) (text_turn h.1 z more k o m)
+    ap (λ v. take_turn Expansion Kept Ended turn join (outer_of (c ∷ cs)) v) (text_turn (at_call c cs e) p n h.0 f h.1 z more k o m)
     ∙ (rw (append-nil (o ++ e.output)) refl)
     ∙ ap (λ (a : Call). Goes (configuration o m (at_call a cs e) (longer z more (consumed n p)))) (sym h.2)
-  where
-    text_turn : IsText e.state p.may_follow n h.0 (text_of p) → (z : List ℕ) (more : Bool)
-        → MayFollow p.may_follow z more → (o m : List ℕ)
-        → turn (here_of o m (at_call c cs e) (longer z more p))
-        ≡ GoOn (put_text h.0
-        (reading (longer z more (consumed n p)) (here_of o m (at_call c cs e) (longer z more p))))
-    text_turn (inl g) z more k o m =
-        ap (λ v. take_front v (here_of o m (at_call c cs e) (longer z more p))) (found_longer (e.state).quotes (e.state).comments p (Str h.0) n z more f g k)
-    text_turn (inr (inl g)) z more k o m =
-        ap (λ v. take_front v (here_of o m (at_call c cs e) (longer z more p))) (found_longer (e.state).quotes (e.state).comments p (Name h.0) n z more f g.0 k)
-        ∙ ap (λ v. take_name v h.0 (longer z more (consumed n p)) (here_of o m (at_call c cs e) (longer z more p))) g.1
-    text_turn (inr (inr g)) z more k o m =
-        ap (λ v. take_front v (here_of o m (at_call c cs e) (longer z more p))) (found_longer (e.state).quotes (e.state).comments p (Comment h.0) n z more f g k)
 list_turn c d cs e p n f (inr h) z more k o m =
     ap (λ v. take_turn Expansion Kept Ended turn join (outer_of (c ∷ cs)) (take_front v (here_of o m (at_call c cs e) (longer z more p)))) (found_longer (e.state).quotes (e.state).comments p (Byte h.0) n z more f h.1 k)
     ∙ ap (λ v. take_turn Expansion Kept Ended turn join (outer_of (c ∷ cs)) v) (h.2 (reading (longer z more (consumed n p)) (here_of o m (at_call c cs e) (longer z more p))) refl)
@@ -380,7 +337,7 @@ once_reaches e e1 i i1 (inl h) =
     subst (λ (d : Engine). Reaches e i.pending d i1.pending) (sym h.0) (subst (λ (j : Held). Reaches e i.pending e j.pending) (sym h.1) (nothing_reaches e i.pending))
 once_reaches e e1 i i1 (inr (inl h)) = plain_reaches e e1 i i1 h
 once_reaches e e1 i i1 (inr (inr (inl h))) = inner_reaches e e1 i i1 h
-once_reaches e e1 i i1 (inr (inr (inr h))) = string_reaches e e1 i i1 h
+once_reaches e e1 i i1 (inr (inr (inr h))) = token_reaches e e1 i i1 h
 
 once_ready : (e e1 : Engine) (i i1 : Held) → IsReady i → PassesOnce e e1 i i1 → IsReady i1
 once_ready e e1 i i1 r (inl h) = subst IsReady (sym h.1) r
@@ -452,83 +409,59 @@ further (s ∷ ss) e e1 e2 i i1 i2 h g =
 pub passes_on : (e e1 e2 : Engine) (i i1 i2 : Held) → Passes e e1 i i1 → PassesOnce e1 e2 i1 i2 → Passes e e2 i i2
 passes_on e e1 e2 i i1 i2 h g = further h.0 e e1 e2 i i1 i2 h.1 g
 
--- the end of a pass over a text in front of an input
-ends_at : (a : Lookahead) (e : Engine) (p q : Pending) (looked : ℕ) → IsLookahead a e q → EndsAt a looked e p q
-ends_at (aheads.Further k) e p q looked h = absurd h.1
-ends_at aheads.Definition e p q looked h = h
-ends_at (aheads.Text n t) e p q looked h = h
-ends_at (aheads.Byte b) e p q looked h = h
-ends_at (aheads.Expansion n t) e p q looked h = h
-ends_at (aheads.LineSkip n) e p q looked h = h
-ends_at (aheads.Call n c) e p q looked h = h
-ends_at (aheads.List n c) e p q looked h = h
-ends_at aheads.End e p q looked h = h
-ends_at (aheads.Unended what) e p q looked h = h
-ends_at aheads.Undecided e p q looked h = h
-
--- and one that is not further on is the next token
+-- an end that is not further on is the next token
 pub found_by : (a : Lookahead) (looked : ℕ) (e : Engine) (p q : Pending) → ((k : ℕ) → a ≡ aheads.Further k → ⊥) → EndsAt a looked e p q → IsLookahead a e q
-found_by (aheads.Further k) looked e p q n h = absurd (n k refl)
-found_by aheads.Definition looked e p q n h = h
-found_by (aheads.Text l t) looked e p q n h = h
-found_by (aheads.Byte b) looked e p q n h = h
-found_by (aheads.Expansion l t) looked e p q n h = h
-found_by (aheads.LineSkip l) looked e p q n h = h
-found_by (aheads.Call l c) looked e p q n h = h
-found_by (aheads.List l c) looked e p q n h = h
-found_by aheads.End looked e p q n h = h
-found_by (aheads.Unended what) looked e p q n h = h
-found_by aheads.Undecided looked e p q n h = h
+found_by a looked e p q n (inl h) = h
+found_by a looked e p q n (inr h) = absurd (n h.0 h.1)
 
 module _ (e : Engine) (p : Pending) (others : Bool) (looked n : ℕ) (x : List ℕ)
-    (h : IsInFront p x (others || p.may_follow)) (all : others ≡ false → x ≡ text_of p)
-    (longer : others ≡ true → looked < length x) (d : p.definition ≡ None) (k : n ≤ length x) where
-  -- a token was found, or others come after the bytes that were looked at
-  found_at : (a : Lookahead) → IsAhead a e.state (allows_call e) (others || p.may_follow) (drop n x) → (a ≡ aheads.Undecided → others ≡ false) → EndsAt a looked e p (consumed n p)
-  found_at a g u = ends_at a e p (consumed n p) looked (ahead_front a e.state (allows_call e) p others n x h all k u g)
-
-  end_at : (a : Lookahead) → EndsBy n a e.state (allows_call e) (others || p.may_follow) others (drop n x) → EndsAt a looked e p (consumed n p)
-  end_at (aheads.Further len) r =
+    (h : IsInFront p x (others || p.may_follow)) (longer : others ≡ true → looked < length x)
+    (d : p.definition ≡ None) (k : n ≤ length x) where
+  -- others come after the bytes that were looked at
+  left_open : others ≡ true → EndsAt (aheads.Further (length x - n)) looked e p (consumed n p)
+  left_open o =
       let l = front_left p (others || p.may_follow) n x h k in
       let left : length (text_of (consumed n p)) ≡ length (drop n x) + length l.0 = ap length l.1 ∙ length-append (drop n x) l.0 in
-      let fits : len ≤ length (drop n x) = r.0 in
-      (omega (arith, left, fits), some n h k r.1)
+      let rest : length (drop n x) ≡ length x - n = length-drop n x in
+      inr (length x - n, refl, omega (arith, left, rest), by n h k)
     where
-      some : (n : ℕ) → IsInFront p x (others || p.may_follow) → n ≤ length x
-          → (0 < n) ⊎ ((others ≡ true) × (len ≡ length (drop n x)))
+      by : (n : ℕ) → IsInFront p x (others || p.may_follow) → n ≤ length x
           → (length (text_of (consumed n p)) < length (text_of p))
-          ⊎ ((length (text_of (consumed n p)) ≡ length (text_of p)) × (looked < len))
-      some zero h k (inl q) = absurd (omega (arith, q))
-      some zero h k (inr q) =
-          let more : looked < length x = longer q.0 in
-          let same : len ≡ length x = q.1 in
-          inr (ap (λ (r : Pending). length (text_of r)) (consumed_none p d), omega (arith, more, same))
-      some (suc n) h k q = inl (front_less p (others || p.may_follow) (suc n) x h (omega arith) k)
-  end_at aheads.Definition r = found_at aheads.Definition r.0 r.1
-  end_at (aheads.Text m t) r = found_at (aheads.Text m t) r.0 r.1
-  end_at (aheads.Byte b) r = found_at (aheads.Byte b) r.0 r.1
-  end_at (aheads.Expansion m t) r = found_at (aheads.Expansion m t) r.0 r.1
-  end_at (aheads.LineSkip m) r = found_at (aheads.LineSkip m) r.0 r.1
-  end_at (aheads.Call m c) r = found_at (aheads.Call m c) r.0 r.1
-  end_at (aheads.List m c) r = found_at (aheads.List m c) r.0 r.1
-  end_at aheads.End r = found_at aheads.End r.0 r.1
-  end_at (aheads.Unended what) r = found_at (aheads.Unended what) r.0 r.1
-  end_at aheads.Undecided r = found_at aheads.Undecided r.0 r.1
+          ⊎ ((length (text_of (consumed n p)) ≡ length (text_of p)) × (looked < length x - n))
+      by zero h k =
+          let more : looked < length x = longer o in
+          inr (ap (λ (r : Pending). length (text_of r)) (consumed_none p d), omega (arith, more))
+      by (suc n) h k = inl (front_less p (others || p.may_follow) (suc n) x h (omega arith) k)
+
+  -- a token was found, or some bytes were passed
+  found_at : (all : others ≡ false → x ≡ text_of p) (a : Lookahead) → (a ≡ aheads.Undecided → others ≡ false)
+      → ((0 < n) × (a ≡ aheads.Further 0)) ⊎ IsAhead a e.state (allows_call e) (others || p.may_follow) (drop n x)
+      → EndsAt a looked e p (consumed n p)
+  found_at all a u (inl g) = inr (0, g.1, omega arith, inl (front_less p (others || p.may_follow) n x h g.0 k))
+  found_at all a u (inr g) = inl (ahead_front a e.state (allows_call e) p others n x h all k u g)
 
 -- a pass over a text in front of an input
-pub front_passed : (a : Lookahead) (old new : Engine) (i j : Held) (looked n : ℕ) (x : List ℕ) (others more : Bool)
-    → more ≡ (others || (i.pending).may_follow) → IsInFront i.pending x (others || (i.pending).may_follow)
-    → (others ≡ false → x ≡ text_of i.pending) → (others ≡ true → looked < length x) → (i.pending).definition ≡ None
-    → PassesBy n a x others more old new → j ≡ record i { pending = consumed n i.pending }
-    → PassesFront a looked old new i j
-front_passed a old new i j looked n x others more m h all longer d r g =
-    let may : Bool = others || (i.pending).may_follow in
-    record {
-      passes = passes_text old new i j may n x h d r.within (subst (λ (v : Bool). PassesText v n x old new) m r.passes) g;
-      end = subst (λ (v : Held). EndsAt a looked new i.pending v.pending) (sym g)
-          (end_at new i.pending others looked n x h all longer d r.within a
-          (subst (λ (v : Bool). EndsBy n a new.state (allows_call new) v others (drop n x)) m r.end));
-    }
+module _ (a : Lookahead) (old new : Engine) (i j : Held) (looked n : ℕ) (x : List ℕ) (others more : Bool)
+    (m : more ≡ (others || (i.pending).may_follow)) (h : IsInFront i.pending x (others || (i.pending).may_follow))
+    (longer : others ≡ true → looked < length x) (d : (i.pending).definition ≡ None)
+    (r : PassesBy n a x more old new) (g : j ≡ record i { pending = consumed n i.pending }) where
+  front_once : PassesOnce old new i j
+  front_once = passes_text old new i j (others || (i.pending).may_follow) n x h d r.within (subst (λ (v : Bool). PassesText v n x old new) m r.passes) g
+
+  pub front_open : others ≡ true → PassesFront (aheads.Further (length x - n)) looked old new i j
+  front_open o = record {
+    passes = front_once;
+    end = subst (λ (v : Held). EndsAt (aheads.Further (length x - n)) looked new i.pending v.pending) (sym g)
+        (left_open new i.pending others looked n x h longer d r.within o);
+  }
+
+  pub front_found : (others ≡ false → x ≡ text_of i.pending) → (a ≡ aheads.Undecided → others ≡ false) → PassesFront a looked old new i j
+  front_found all u = record {
+    passes = front_once;
+    end = subst (λ (v : Held). EndsAt a looked new i.pending v.pending) (sym g)
+        (found_at new i.pending others looked n x h longer d r.within all a u
+        (subst (λ (v : Bool). ((0 < n) × (a ≡ aheads.Further 0)) ⊎ IsAhead a new.state (allows_call new) v (drop n x)) m r.end));
+  }
 
 -- a further pass over a front
 pub passed_front : (a : Lookahead) (looked : ℕ) (e e1 e2 : Engine) (i i1 i2 t : Held) → Passes e e1 i i1 → IsReady i1 → PassesFront a looked e1 e2 i1 i2 → t ≡ i2 → Passes e e2 i t × IsReady t
@@ -536,9 +469,21 @@ passed_front a looked e e1 e2 i i1 i2 t h r k g =
     (subst (λ (j : Held). Passes e e2 i j) (sym g) (passes_on e e1 e2 i i1 i2 h k.passes), subst IsReady (sym g) (once_ready e1 e2 i1 i2 r k.passes))
 
 -- a pass that ends where further bytes are looked at
-pub ends_further : (a : Lookahead) (looked k : ℕ) (e1 e2 : Engine) (i1 i2 t : Held) → a ≡ aheads.Further k → t ≡ i2 → PassesFront a looked e1 e2 i1 i2 → EndsAt (aheads.Further k) looked e2 i1.pending t.pending
+abbrev IsFurther : ℕ → ℕ → Pending → Pending → Type 0
+IsFurther k looked p q =
+    (k ≤ length (text_of q))
+    × ((length (text_of q) < length (text_of p)) ⊎ ((length (text_of q) ≡ length (text_of p)) × (looked < k)))
+
+pub ends_further : (a : Lookahead) (looked k : ℕ) (e1 e2 : Engine) (i1 i2 t : Held) → a ≡ aheads.Further k → t ≡ i2 → PassesFront a looked e1 e2 i1 i2 → IsFurther k looked i1.pending t.pending
 ends_further a looked k e1 e2 i1 i2 t h g r =
-    subst (λ (v : Lookahead). EndsAt v looked e2 i1.pending t.pending) h (subst (λ (j : Held). EndsAt a looked e2 i1.pending j.pending) (sym g) r.end)
+    by (subst (λ (v : Lookahead). EndsAt v looked e2 i1.pending t.pending) h (subst (λ (j : Held). EndsAt a looked e2 i1.pending j.pending) (sym g) r.end))
+  where
+    same : (k l : ℕ) → aheads.Further k ≡ aheads.Further l → l ≡ k
+    same k l e = cc
+
+    by : EndsAt (aheads.Further k) looked e2 i1.pending t.pending → IsFurther k looked i1.pending t.pending
+    by (inl f) = absurd f.1
+    by (inr f) = subst (λ (l : ℕ). IsFurther l looked i1.pending t.pending) (same k f.0 f.1) (f.2, f.3)
 
 pub measure_less : (a : Lookahead) (looked k : ℕ) (e1 e2 : Engine) (i1 i2 t : Held) → a ≡ aheads.Further k → t ≡ i2 → looked ≤ length (text_of i1.pending) → PassesFront a looked e1 e2 i1 i2 → measure (length (text_of t.pending)) k < measure (length (text_of i1.pending)) looked
 measure_less a looked k e1 e2 i1 i2 t h g l r =

@@ -1,5 +1,5 @@
 -- PlainRuns: plain tokens in order.
-use Rattle.std.proofs.Common.{◌≡◌, ◌<◌, inl, inr, Bool, ℕ, ◌+◌, List, [], ◌∷◌, ◌++◌, take, drop, refl, sym, ap, ◌∙◌, subst, arith}
+use Rattle.std.proofs.Common.{◌≡◌, ◌<◌, inl, inr, Bool, ℕ, ◌+◌, List, [], ◌∷◌, ◌++◌, take, drop, sym, ap, ◌∙◌, subst, arith}
 use Rattle.std.proofs.lemmas.List.{drop-drop}
 use Rattle.m4_state.specs.State.{State}
 use Rattle.m4_state.specs.declared.delimiters.Delimiters.{Delimiters}
@@ -8,9 +8,9 @@ use Rattle.m4_input.specs.declared.front.Scan.{Scan}
 use Rattle.m4_input.specs.declared.front.Scan.TheVariants.{Found}
 use Rattle.m4_input.specs.Token.{scan}
 use Rattle.m4_input.proofs.Consumed.{HasBytes, scan_bytes}
-use Rattle.m4_engine.specs.declared.front.First.TheVariants as firsts
-use Rattle.m4_engine.specs.Collected.{IsBlankByte}
-use Rattle.m4_engine.specs.Plain.{IsPlain, total, ArePlain, IsPlainRun, IsFirst, IsTextOf}
+use Rattle.m4_input.proofs.Scanned.{byte_first}
+use Rattle.m4_engine.specs.Collected.{IsText, IsBlankByte}
+use Rattle.m4_engine.specs.Plain.{IsPlain, total, ArePlain, IsPlainRun}
 
 -- a token more
 longer : (s : State) (o : Bool) (n : ℕ) (lens x : List ℕ) → ArePlain s o lens x → IsPlain s o n (drop (total lens) x) → ArePlain s o (lens ++ n ∷ []) x × (total (lens ++ n ∷ []) ≡ total lens + n)
@@ -25,36 +25,27 @@ plain_more s o k n x r p =
     let q = longer s o n r.0 x r.1 (subst (λ (m : ℕ). IsPlain s o n (drop m x)) (sym r.2) p) in
     (r.0 ++ n ∷ [], q.0, q.1 ∙ ap (λ (m : ℕ). m + n) r.2)
 
--- a name more, or a comment
-pub plain_text : (s : State) (o : Bool) (k n : ℕ) (x y : List ℕ) → IsPlainRun s o k x → y ≡ drop k x → IsFirst s o y (firsts.Text n) → IsPlainRun s o (k + n) x
-plain_text s o k n x y r e (inl h) = plain_more s o k n x r (subst (IsPlain s o n) e (inl h))
-plain_text s o k n x y r e (inr h) = plain_more s o k n x r (subst (IsPlain s o n) e (inr (inr h)))
+-- a token more that is text, all of it
+pub plain_text : (s : State) (o : Bool) (k n : ℕ) (x y t : List ℕ) → IsPlainRun s o k x → y ≡ drop k x → IsText s o n t y → t ≡ take n y → IsPlainRun s o (k + n) x
+plain_text s o k n x y t r e h g =
+    plain_more s o k n x r (subst (IsPlain s o n) e (inl (subst (λ (z : List ℕ). IsText s o n z y) g h)))
 
 -- a byte more
-pub plain_byte : (s : State) (o : Bool) (k b : ℕ) (x y : List ℕ) → IsPlainRun s o k x → y ≡ drop k x → IsFirst s o y (firsts.Byte b) → IsPlainRun s o (k + 1) x
-plain_byte s o k b x y r e h = plain_more s o k 1 x r (subst (IsPlain s o 1) e (inr (inl (b, h.0, h.1))))
+pub plain_byte : (s : State) (o : Bool) (k b : ℕ) (x y : List ℕ) → IsPlainRun s o k x → y ≡ drop k x → scan s.quotes s.comments o y ≡ Found (Byte b) 1 → IsPlainRun s o (k + 1) x
+plain_byte s o k b x y r e h =
+    plain_more s o k 1 x r (subst (IsPlain s o 1) e (inr (b, h, ap (take 1) (byte_first s.quotes s.comments o y b 1 h))))
 
 -- a space more
 pub plain_space : (s : State) (o : Bool) (k : ℕ) (x y : List ℕ) → IsPlainRun s o k x → y ≡ drop k x → y ≡ 32 ∷ drop 1 y → IsBlankByte s.quotes s.comments 32 → IsPlainRun s o (k + 1) x
 plain_space s o k x y r e h b =
-    plain_byte s o k 32 x y r e (subst (λ (z : List ℕ). IsFirst s o z (firsts.Byte 32)) (sym h) (b.alone o (drop 1 y), refl))
-
--- a comment more
-pub plain_comment : (s : State) (o : Bool) (k n : ℕ) (x y : List ℕ) → IsPlainRun s o k x → y ≡ drop k x → scan s.quotes s.comments o y ≡ Found (Comment (take n y)) n → IsPlainRun s o (k + n) x
-plain_comment s o k n x y r e h = plain_more s o k n x r (subst (IsPlain s o n) e (inr (inr h)))
+    plain_byte s o k 32 x y r e (subst (λ (z : List ℕ). scan s.quotes s.comments o z ≡ Found (Byte 32) 1) (sym h) (b.alone o (drop 1 y)))
 
 -- each token that is text has a byte
 found_some : (q c : Delimiters) (m : Bool) (x : List ℕ) (v : Scan) → scan q c m x ≡ v → HasBytes v
 found_some q c m x v e = subst HasBytes e (scan_bytes q c m x)
 
-pub text_some : (s : State) (m : Bool) (begin len n : ℕ) (x : List ℕ) → IsTextOf s m begin len n x → 0 < n
+pub text_some : (s : State) (m : Bool) (n : ℕ) (t x : List ℕ) → IsText s m n t x → 0 < n
 unfolding HasBytes
-text_some s m begin len n x (inl e) = found_some s.quotes s.comments m x (Found (Str (take len (drop begin x))) n) e
-text_some s m begin len n x (inr (z, l, inl e)) = found_some s.quotes s.comments m x (Found (Name (take n x)) n) e.0
-text_some s m begin len n x (inr (z, l, inr (inl e))) = found_some s.quotes s.comments m x (Found (Byte e.0) n) e.1
-text_some s m begin len n x (inr (z, l, inr (inr e))) = found_some s.quotes s.comments m x (Found (Comment (take n x)) n) e
-
--- a comment has a byte
-pub comment_some : (q c : Delimiters) (m : Bool) (x y : List ℕ) (n : ℕ) → scan q c m x ≡ Found (Comment y) n → 0 < n
-unfolding HasBytes
-comment_some q c m x y n e = found_some q c m x (Found (Comment y) n) e
+text_some s m n t x (inl e) = found_some s.quotes s.comments m x (Found (Str t) n) e
+text_some s m n t x (inr (inl e)) = found_some s.quotes s.comments m x (Found (Name t) n) e.0
+text_some s m n t x (inr (inr e)) = found_some s.quotes s.comments m x (Found (Comment t) n) e

@@ -1,10 +1,8 @@
 -- Seen: what was seen of the first token of a text, as a turn takes it.
-use Rattle.std.proofs.Common.{◌≡◌, ◌⊎◌, inl, inr, arith, Some, None, ℕ, Bool, true, false, List, [], ◌∷◌, ◌++◌, append-nil, append_assoc, refl}
+use Rattle.std.proofs.Common.{◌≡◌, Some, None, ℕ, Bool, true, false, List, [], ◌∷◌, ◌++◌, append-nil, append_assoc, refl}
 use Rattle.std.proofs.Common.{sym, ap, ◌∙◌, subst, drop}
-use Rattle.std.specs.Prelude.{suc, nat_lt, not, ◌&&◌, ◌<◌, ◌≤◌, length, Option, Result, Ok, Err, IfOk, IfSome}
+use Rattle.std.specs.Prelude.{suc, nat_lt, not, ◌&&◌, length, Result, Ok, Err, IfOk}
 use Rattle.m4_state.specs.State.{State}
-use Rattle.m4_engine.specs.declared.front.First.{First}
-use Rattle.m4_engine.specs.Plain.{IsFirst}
 use Rattle.m4_input.specs.Pending.{Pending, text_of, consumed}
 use Rattle.m4_input.specs.Paren.{paren_in, paren_at}
 use Rattle.m4_input.specs.declared.front.Answer.{Answer}
@@ -12,13 +10,11 @@ use Rattle.m4_input.specs.Input.{answer_of, longer}
 use Rattle.m4_input.proofs.Parts.{drop_parts}
 use Rattle.m4_builtins.specs.declared.place.Place.{Place}
 use Rattle.m4_builtins.specs.Act.{needs_list}
-use Rattle.m4_engine.specs.declared.lookahead.Lookahead.{Lookahead}
-use Rattle.m4_engine.specs.declared.lookahead.Lookahead.TheVariants as aheads
 use Rattle.m4_engine.specs.declared.turned.Turned.{Turned}
 use Rattle.m4_engine.specs.declared.turned.TurnFault.{TurnFault}
 use Rattle.m4_engine.specs.Expansion.{Call, Limits, place_at, issued, reading, put_text}
 use Rattle.m4_engine.specs.Expand.{call, call_of, take_call, call_without_list, take_name}
-use Rattle.m4_engine.specs.Lookahead.{IsExpansion, IsCalled, EndsBy}
+use Rattle.m4_engine.specs.Lookahead.{IsExpansion, IsCalled}
 use Rattle.m4_engine.specs.Engine.{Engine, outer_of, here_of, allows_call, configuration, put_in, with_text}
 use Rattle.m4_engine.specs.Engine.{with_one_call, with_made, is_deep_in}
 use Rattle.m4_engine.specs.Turns.{step, Extended, Moves}
@@ -40,44 +36,11 @@ use Rattle.m4_engine.proofs.Named.{named}
 abbrev leaves_by : ℕ → Limits → ℕ → Bool
 leaves_by calls l depth = nat_lt calls l.calls && not (nat_lt 0 l.nesting && nat_lt l.nesting (suc depth))
 
-leaves_same : (e e1 : Engine) → e1.calls ≡ e.calls → e1.limits ≡ e.limits → length e1.open_calls ≡ length e.open_calls → allows_call e ≡ allows_call e1
+pub leaves_same : (e e1 : Engine) → e1.calls ≡ e.calls → e1.limits ≡ e.limits → length e1.open_calls ≡ length e.open_calls → allows_call e ≡ allows_call e1
 leaves_same e e1 h i j =
     ap (λ n. leaves_by n e.limits (length e.open_calls)) (sym h)
     ∙ ap (λ l. leaves_by e1.calls l (length e.open_calls)) (sym i)
     ∙ ap (leaves_by e1.calls e1.limits) (sym j)
-
--- the end of a pass is right also if more bytes were passed
-pub ends_on : (n k : ℕ) (a : Lookahead) (s : State) (room m others : Bool) (x : List ℕ) → n ≤ k → EndsBy n a s room m others x → EndsBy k a s room m others x
-ends_on n k (aheads.Further l) s room m others x f h = (h.0, by h.1)
-  where
-    by : (0 < n) ⊎ ((others ≡ true) × (l ≡ length x)) → (0 < k) ⊎ ((others ≡ true) × (l ≡ length x))
-    by (inl g) = inl (omega (arith, g, f))
-    by (inr g) = inr g
-ends_on n k aheads.Definition s room m others x f h = h
-ends_on n k (aheads.Text l t) s room m others x f h = h
-ends_on n k (aheads.Byte b) s room m others x f h = h
-ends_on n k (aheads.Expansion l t) s room m others x f h = h
-ends_on n k (aheads.LineSkip l) s room m others x f h = h
-ends_on n k (aheads.Call l c) s room m others x f h = h
-ends_on n k (aheads.List l c) s room m others x f h = h
-ends_on n k aheads.End s room m others x f h = h
-ends_on n k (aheads.Unended what) s room m others x f h = h
-ends_on n k aheads.Undecided s room m others x f h = h
-
--- what was seen after some bytes of a text, if the limits allow as many calls as before
-pub end_by : (a : Lookahead) (n : ℕ) (e e1 : Engine) (room m others : Bool) (x y : List ℕ) (f : First) → room ≡ allows_call e
-    → e1.calls ≡ e.calls → e1.limits ≡ e.limits → length e1.open_calls ≡ length e.open_calls → y ≡ x
-    → IsFirst e1.state m y f
-    → ((m : Bool) → IsFirst e1.state m y f → EndsBy 0 a e1.state room m others y)
-    → EndsBy n a e1.state (allows_call e1) m others x
-end_by a n e e1 room m others x y f r h i j t g k =
-    ends_on 0 n a e1.state (allows_call e1) m others x (omega arith)
-    (subst (λ (v : Bool). EndsBy 0 a e1.state v m others x) (r ∙ leaves_same e e1 h i j)
-    (subst (λ (z : List ℕ). EndsBy 0 a e1.state room m others z) t (k m g)))
-
--- what was seen, if anything was
-pub seen_first : (s : State) (m : Bool) (x y : List ℕ) (o : Option First) (f : First) → o ≡ Some f → y ≡ x → IfSome o (λ g. IsFirst s m x g) → IsFirst s m y f
-seen_first s m x y o f e t h = subst (λ (z : List ℕ). IsFirst s m z f) (sym t) (subst (λ (g : Option First). IfSome g (λ k. IsFirst s m x k)) e h)
 
 -- the limits allow a call
 pub room_allows : (e : Engine) → allows_call e ≡ true → (nat_lt e.calls (e.limits).calls ≡ true) × (is_deep_in e ≡ false)

@@ -1,7 +1,7 @@
 -- Lookahead: the next token, as it was recognised before a turn consumes it.
 -- Not believed: it connects the code with `Expand`; the turns' lemmas prove that they agree.
--- Words: IsExpansion, IsCalled, MeansBare, IsNamed, IsAhead, EndsBy, IsLookaheadOf.
-use Rattle.std.specs.Prelude.{◌≡◌, ◌≢◌, ◌<◌, ◌≤◌, ◌⊎◌, Bool, true, false, ℕ, List, [], None, Some, length, take, drop}
+-- Words: IsExpansion, IsCalled, IsNamed, IsAhead, IsLookaheadOf.
+use Rattle.std.specs.Prelude.{◌≡◌, ◌≢◌, ◌<◌, ◌≤◌, ◌-◌, Bool, true, false, ℕ, List, [], None, Some, length, take, drop}
 use Rattle.m4_state.specs.declared.builtin.Builtin.TheVariants.{Dnl}
 use Rattle.m4_state.specs.declared.definition.Def.TheVariants.{Text, Builtin}
 use Rattle.m4_state.specs.State.{State, top_of}
@@ -28,24 +28,17 @@ abbrev pub IsCalled : Call → State → List ℕ → Type 0
 IsCalled c s name =
     (top_of s name ≡ Some c.definition) × (c.name ≡ name) × (c ≡ call_of c.definition c.name c.place)
 
--- a name with a definition, which no list follows; `room` says that the limits allow a call
-abbrev pub MeansBare : Lookahead → State → Bool → List ℕ → Type 0
-MeansBare (aheads.Expansion n x) s room name = (n ≡ length name) × (room ≡ true) × IsExpansion x s name
-MeansBare (aheads.LineSkip n) s room name =
-    (n ≡ length name) × (room ≡ true) × (top_of s name ≡ Some (Builtin Dnl))
-MeansBare (aheads.Call n c) s room name = (n ≡ length name) × IsCalled c s name
-MeansBare a s room name = ⊥
-
 -- the first token of a text is a name of n bytes, after which a list follows or not
 pub record IsNamed (n : ℕ) (listed : Bool) (s : State) (m : Bool) (x : List ℕ) : Type 0 where
   pub scanned : scan s.quotes s.comments m x ≡ Found (Name (take n x)) n
   pub within : n ≤ length x
   pub list : paren_in s.quotes s.comments m (drop n x) ≡ answer_of listed
 
--- the lookahead is right for the first token of a text
+-- the lookahead is right for the first token of a text; `room` says that the limits allow a call
 abbrev pub IsAhead : Lookahead → State → Bool → Bool → List ℕ → Type 0
 IsAhead aheads.Definition s room m x = ⊥
-IsAhead (aheads.Text n t) s room m x = IsText s m n t x × (n ≤ length x)
+IsAhead (aheads.Text begin end n) s room m x =
+    IsText s m n (take (end - begin) (drop begin x)) x × (begin ≤ end) × (end ≤ length x) × (n ≤ length x)
 IsAhead (aheads.Byte b) s room m x = (scan s.quotes s.comments m x ≡ Found (Byte b) 1) × (0 < length x)
 IsAhead (aheads.Expansion n t) s room m x =
     IsNamed n false s m x × (room ≡ true) × IsExpansion t s (take n x)
@@ -57,13 +50,6 @@ IsAhead aheads.End s room m x = scan s.quotes s.comments m x ≡ Found End 0
 IsAhead (aheads.Unended what) s room m x = scan s.quotes s.comments m x ≡ Broken what
 IsAhead aheads.Undecided s room m x = IsUndecided s m x
 IsAhead (aheads.Further k) s room m x = ⊥
-
--- after n bytes that were passed x is left of a text, which others in hand may follow: the lookahead is right, or all
--- of x leaves the token open, or something was passed
-abbrev pub EndsBy : ℕ → Lookahead → State → Bool → Bool → Bool → List ℕ → Type 0
-EndsBy n (aheads.Further k) s room m others x =
-    (k ≤ length x) × ((0 < n) ⊎ ((others ≡ true) × (k ≡ length x)))
-EndsBy n a s room m others x = IsAhead a s room m x × (a ≡ aheads.Undecided → others ≡ false)
 
 -- the lookahead is right for the next token
 abbrev pub IsLookaheadOf : Lookahead → State → Bool → Pending → Type 0

@@ -2,16 +2,13 @@
 -- Not believed: it connects the engine's passes with its turns.
 use Rattle.std.specs.Prelude.{◌≡◌, None, ℕ, ◌+◌, Bool, List, [], ◌∷◌, length, take, drop, ◌<◌, ◌≤◌, ◌⊎◌}
 use Rattle.m4_input.specs.Pending.{Pending, text_of, consumed}
-use Rattle.m4_input.specs.declared.front.Scan.TheVariants.{Found}
-use Rattle.m4_input.specs.declared.token.Token.TheVariants.{Str}
-use Rattle.m4_input.specs.Token.{scan}
-use Rattle.m4_engine.specs.Plain.{IsPlain, total, ArePlain, IsPlainRun}
-use Rattle.m4_engine.specs.Collected.{IsListRun}
+use Rattle.m4_engine.specs.Plain.{total, ArePlain, IsPlainRun}
+use Rattle.m4_engine.specs.Collected.{IsText, IsListRun}
 use Rattle.m4_engine.specs.Expansion.{Call}
 use Rattle.m4_input.specs.Input.{Held}
 use Rattle.m4_engine.specs.declared.lookahead.Lookahead.{Lookahead}
 use Rattle.m4_engine.specs.declared.lookahead.Lookahead.TheVariants as aheads
-use Rattle.m4_engine.specs.Lookahead.{IsLookaheadOf, EndsBy}
+use Rattle.m4_engine.specs.Lookahead.{IsAhead, IsLookaheadOf}
 use Rattle.m4_engine.specs.Engine.{Engine, put_in, allows_call}
 
 -- outside of calls, with no definition before the text: its first tokens, which are plain text, were added where text
@@ -37,23 +34,22 @@ pub record PassesInner (old new : Engine) (i j : Held) : Type 0 where
   pub engine : new ≡ record old { open_calls = after ∷ around }
   pub input : j ≡ record i { pending = consumed len i.pending }
 
--- the same, and then a string, whose text was added there without its quotes
-pub record PassesString (old new : Engine) (i j : Held) : Type 0 where
+-- the same, and then a token that is text, which was added there: of a string what is between its quotes
+pub record PassesToken (old new : Engine) (i j : Held) : Type 0 where
   pub lens : List ℕ
   pub plain : ArePlain old.state (i.pending).may_follow lens (text_of i.pending)
-  pub string : List ℕ
+  pub text : List ℕ
   pub len : ℕ
-  pub found : scan (old.state).quotes (old.state).comments (i.pending).may_follow
-      (drop (total lens) (text_of i.pending)) ≡ Found (Str string) len
+  pub found : IsText old.state (i.pending).may_follow len text (drop (total lens) (text_of i.pending))
   pub outside : old.open_calls ≡ []
   pub first : (i.pending).definition ≡ None
-  pub engine : new ≡ put_in [] string (put_in [] (take (total lens) (text_of i.pending)) old)
+  pub engine : new ≡ put_in [] text (put_in [] (take (total lens) (text_of i.pending)) old)
   pub input : j ≡ record i { pending = consumed (total lens + len) i.pending }
 
 -- such tokens were added where they go, or nothing was done
 abbrev pub PassesOnce : Engine → Engine → Held → Held → Type 0
 PassesOnce old new i j =
-    ((new ≡ old) × (j ≡ i)) ⊎ (PassesPlain old new i j ⊎ (PassesInner old new i j ⊎ PassesString old new i j))
+    ((new ≡ old) × (j ≡ i)) ⊎ (PassesPlain old new i j ⊎ (PassesInner old new i j ⊎ PassesToken old new i j))
 
 -- and so on: after each pass the engine and the input
 abbrev pub ArePasses : List (Engine × Held) → Engine → Engine → Held → Held → Type 0
@@ -62,13 +58,6 @@ ArePasses (s ∷ ss) old new i j = PassesOnce old s.0 i s.1 × ArePasses ss s.0 
 
 abbrev pub Passes : Engine → Engine → Held → Held → Type 0
 Passes old new i j = (ss : List (Engine × Held)) × ArePasses ss old new i j
-
--- the first token of a text, of n bytes, was added where text goes: a string's text, or a plain token; or nothing was
-abbrev pub PutsToken : Bool → ℕ → List ℕ → Engine → Engine → Type 0
-PutsToken m n x old new =
-    ((n ≡ 0) × (new ≡ old))
-    ⊎ (((t : List ℕ) × (scan (old.state).quotes (old.state).comments m x ≡ Found (Str t) n) × (new ≡ put_in [] t old))
-    ⊎ (IsPlain old.state m n x × (new ≡ put_in [] (take n x) old)))
 
 -- the lookahead is right for the next token
 abbrev pub IsLookahead : Lookahead → Engine → Pending → Type 0
@@ -80,23 +69,22 @@ PassesText m n x old new =
     (IsPlainRun old.state m n x × (old.open_calls ≡ []) × (new ≡ put_in [] (take n x) old))
     ⊎ (((c : Call) × (d : Call) × (cs : List Call) × IsListRun old.state m n c d x × (old.open_calls ≡ c ∷ cs)
     × (new ≡ record old { open_calls = d ∷ cs }))
-    ⊎ ((k : ℕ) × (t : List ℕ) × (l : ℕ) × IsPlainRun old.state m k x
-    × (scan (old.state).quotes (old.state).comments m (drop k x) ≡ Found (Str t) l) × (n ≡ k + l)
-    × (old.open_calls ≡ []) × (new ≡ put_in [] t (put_in [] (take k x) old))))
+    ⊎ ((k : ℕ) × (t : List ℕ) × (l : ℕ) × IsPlainRun old.state m k x × IsText old.state m l t (drop k x)
+    × (n ≡ k + l) × (old.open_calls ≡ []) × (new ≡ put_in [] t (put_in [] (take k x) old))))
 
--- a pass over a text, which others in hand may follow, and more bytes may; the lookahead after it is right
-pub record PassesBy (n : ℕ) (a : Lookahead) (x : List ℕ) (others more : Bool) (old new : Engine) : Type 0 where
+-- a pass over a text, after which more bytes may come, ends at the next token, or something was passed
+pub record PassesBy (n : ℕ) (a : Lookahead) (x : List ℕ) (more : Bool) (old new : Engine) : Type 0 where
   pub passes : PassesText more n x old new
   pub within : n ≤ length x
-  pub end : EndsBy n a new.state (allows_call new) more others (drop n x)
+  pub end : ((0 < n) × (a ≡ aheads.Further 0)) ⊎ IsAhead a new.state (allows_call new) more (drop n x)
 
 -- a pass over the front of an input ends at the next token, or some bytes were passed, or more of them were looked at
 abbrev pub EndsAt : Lookahead → ℕ → Engine → Pending → Pending → Type 0
-EndsAt (aheads.Further k) looked e before after =
-    (k ≤ length (text_of after))
+EndsAt a looked e before after =
+    IsLookahead a e after
+    ⊎ ((k : ℕ) × (a ≡ aheads.Further k) × (k ≤ length (text_of after))
     × ((length (text_of after) < length (text_of before))
-    ⊎ ((length (text_of after) ≡ length (text_of before)) × (looked < k)))
-EndsAt a looked e before after = IsLookahead a e after
+    ⊎ ((length (text_of after) ≡ length (text_of before)) × (looked < k))))
 
 -- a pass over the front of an input, of which `looked` bytes don't decide the first token
 pub record PassesFront (a : Lookahead) (looked : ℕ) (old new : Engine) (i j : Held) : Type 0 where

@@ -1,17 +1,19 @@
 //! The next token, as it was found when the tokens before it were passed.
 
-ghost use Rattle.std.specs.Prelude.{◌≡◌, ◌+◌, ◌≤◌, Some, Bool, IfOk, length, take, drop};
-ghost use Rattle.m4_state.specs.Definition.{IsDefinition};
-ghost use Rattle.m4_state.specs.State.{State as Specified, top_of};
-ghost use Rattle.m4_engine.specs.Plain.{IsFirst, FirstLies};
-ghost use Rattle.m4_engine.specs.Lookahead.{EndsBy, MeansBare};
-ghost use Rattle.m4_engine.specs.declared.lookahead.Lookahead.TheVariants as aheads;
+ghost use Rattle.std.specs.Prelude.{◌≡◌, ◌≤◌, IfOk, length, take};
+ghost use Rattle.m4_input.specs.Look.{scan_of, LookLies};
+ghost use Rattle.m4_input.specs.Token.{scan};
+ghost use Rattle.m4_input.specs.declared.front.Scan.TheVariants.{Found};
+ghost use Rattle.m4_input.specs.declared.token.Token.TheVariants.{Name};
+ghost use Rattle.m4_engine.specs.Lookahead.{IsAhead};
 
 use crate::call::OpenCall;
-use crate::front::{First, Named};
+use crate::front::Named;
 use crate::spare::Spare;
 use m4_builtins::substitute::is_plain;
-use m4_input::front::Unended;
+use m4_input::delims::Delims;
+use m4_input::front::{Answer, Look, Unended};
+use m4_input::look::list_follows;
 use m4_state::builtin::Builtin;
 use m4_state::bytes::Bytes;
 use m4_state::definition::Def;
@@ -23,8 +25,9 @@ use std::alloc::AllocError;
 pub enum Lookahead {
     /// A definition that a call pushed.
     Definition,
-    /// A token that is text: its length, and a copy of the text.
-    Text(usize, Bytes),
+    /// A string, or a token that is text as it is: a name without a definition, or a comment. Where its text begins and
+    /// ends, and the length of all of it.
+    Text(usize, usize, usize),
     /// A byte that belongs to no other token.
     Byte(u8),
     /// The name of a text macro that is called without a list, and whose text has no dollar: its length, and the text.
@@ -40,93 +43,80 @@ pub enum Lookahead {
     End,
     /// A string or a comment that the input does not end.
     Unended(Unended),
-    /// The bytes in hand don't decide the token, or whether a list follows a name.
+    /// The bytes that were looked at don't decide the token, or whether a list follows a name.
     Undecided,
     /// Not found yet: this many bytes at the start were looked at, and others in hand come after them.
     Further(usize),
 }
 
 impl Lookahead {
-    /// Returns the lookahead for a name with a definition, without a list. If the limits allow a call (`room`), a text
-    /// without a dollar is its own expansion, and `dnl`, with which many lines end, needs no call in memory.
-    #[inline(always)]
-    fn bare(spare: &mut Spare, room: bool, name: &Named<'_>) -> Result<Lookahead, AllocError>
-        requires valid { IsDefinition name.now.definition.now }
-        requires within { name.now.len ≤ length name.now.text.now }
-        ensures { IfOk result (λ a. (s : Specified)
-            → top_of s (take name.now.len name.now.text.now) ≡ Some name.now.definition.now
-            → MeansBare a s room (take name.now.len name.now.text.now)) }
-    {
-        match name.definition {
-            Def::Text(body) if room && is_plain(body.as_slice()) => {
-                Ok(Lookahead::Expansion(name.len, body.share()?))
-            }
-            Def::Builtin(Builtin::Dnl) if room => Ok(Lookahead::LineSkip(name.len)),
-            _ => Ok(Lookahead::Call(name.len, spare.call(name)?)),
-        }
-    }
-}
-
-/// Copies the text of a token, `len` bytes after the first `begin` ones. Not inlined, since a pass copies most texts
-/// directly to their destination.
-#[inline(never)]
-fn copied(spare: &Spare, text: &[u8], begin: usize, len: usize) -> Result<Bytes, AllocError>
-    requires { begin + len ≤ length text.now }
-    ensures { IfOk result (λ b. b ≡ take len (drop begin text.now)) }
-{
-    Bytes::from_slice(spare.alloc(), text.split_at(begin).1.split_at(len).0)
-}
-
-impl Lookahead {
-    /// Returns the lookahead for this first token of a text. `room` is whether the limits allow a call, and `others`
-    /// whether other bytes in hand follow the text. The place of a call is not set yet.
+    /// Returns the lookahead for the token that this look found. `more` is whether bytes may come after the text, and
+    /// `room` whether the limits allow a call. The place of a call is not set yet.
     #[inline(always)]
     pub fn of(
-        spare: &mut Spare,
-        state: &State,
-        room: bool,
-        first: First<'_>,
+        look: Look,
         text: &[u8],
-        others: bool,
+        state: &State,
+        delims: &Delims<'_>,
+        spare: &mut Spare,
+        more: bool,
+        room: bool,
     ) -> Result<Lookahead, AllocError>
-        requires first { (m : Bool) × IsFirst state.now m text.now first }
-        requires lies { FirstLies (length text.now) first }
-        ensures { IfOk result (λ a. (m : Bool) → IsFirst state.now m text.now first.entry
-            → EndsBy 0 a state.now room m others text.now) }
+        requires quotes { delims.now.quotes.now ≡ state.now.quotes }
+        requires comments { delims.now.comments.now ≡ state.now.comments }
+        requires value { scan state.now.quotes state.now.comments more text.now ≡ scan_of look text.now }
+        requires lies { LookLies text.now look }
+        ensures { IfOk result (λ a. IsAhead a state.now room more text.now) }
     {
-        match first {
-            First::Byte(byte) => Ok(Lookahead::Byte(byte)),
-            First::Listed(len, definition) => {
-                let name = Named {
-                    text,
+        match look {
+            Look::Name(len) => Lookahead::named(len, text, state, delims, spare, more, room),
+            Look::Byte(byte) => Ok(Lookahead::Byte(byte)),
+            Look::Quoted(begin, len, all) => Ok(Lookahead::Text(begin, begin + len, all)),
+            Look::Comment(len) => Ok(Lookahead::Text(0, len, len)),
+            Look::End => Ok(Lookahead::End),
+            Look::Unended(what) => Ok(Lookahead::Unended(what)),
+            Look::NeedsMore => Ok(Lookahead::Undecided),
+        }
+    }
+
+    /// Returns the lookahead for a name of this length. Without a list, if the limits allow a call, a text without a
+    /// dollar is its own expansion, and `dnl`, with which many lines end, needs no call in memory.
+    #[inline(always)]
+    fn named(
+        len: usize,
+        text: &[u8],
+        state: &State,
+        delims: &Delims<'_>,
+        spare: &mut Spare,
+        more: bool,
+        room: bool,
+    ) -> Result<Lookahead, AllocError>
+        requires quotes { delims.now.quotes.now ≡ state.now.quotes }
+        requires comments { delims.now.comments.now ≡ state.now.comments }
+        requires name { scan state.now.quotes state.now.comments more text.now ≡ Found (Name (take len text.now)) len }
+        requires within { len ≤ length text.now }
+        ensures { IfOk result (λ a. IsAhead a state.now room more text.now) }
+    {
+        let (name, after) = text.split_at(len);
+        let Some(definition) = state.top(name) else {
+            return Ok(Lookahead::Text(0, len, len));
+        };
+        let named = Named {
+            text,
+            len,
+            definition,
+        };
+        match list_follows(after, delims, more) {
+            Answer::Yes => Ok(Lookahead::List(len, spare.call(&named)?)),
+            Answer::Unknown => Ok(Lookahead::Undecided),
+            Answer::No => match definition {
+                Def::Text(body) if room && is_plain(body.as_slice()) => Ok(Lookahead::Expansion(
                     len,
-                    definition,
-                };
-                Ok(Lookahead::List(len, spare.call(&name)?))
-            }
-            First::Called(len, definition) => {
-                Lookahead::bare(
-                    spare,
-                    room,
-                    &Named {
-                        text,
-                        len,
-                        definition,
-                    },
-                )
-            }
-            First::Undecided if others => Ok(Lookahead::Further(text.len())),
-            First::Undecided => Ok(Lookahead::Undecided),
-            First::Text(len) => {
-                let copy = copied(spare, text, 0, len)?;
-                Ok(Lookahead::Text(len, copy))
-            }
-            First::Quoted(begin, len, all) => {
-                let copy = copied(spare, text, begin, len)?;
-                Ok(Lookahead::Text(all, copy))
-            }
-            First::End => Ok(Lookahead::End),
-            First::Unended(what) => Ok(Lookahead::Unended(what)),
+                    body.share()?,
+                )),
+                Def::Builtin(Builtin::Dnl) if room => Ok(Lookahead::LineSkip(len)),
+                _ => Ok(Lookahead::Call(len, spare.call(&named)?)),
+            },
         }
     }
 }

@@ -50,11 +50,6 @@ impl Spare {
         }
     }
 
-    /// Returns the allocator of the calls.
-    pub fn alloc(&self) -> Global {
-        self.alloc
-    }
-
     /// Returns a call of a name, with no argument read yet. The caller sets its place.
     #[inline(always)]
     pub fn call(&mut self, name: &Named<'_>) -> Result<OpenCall, AllocError>

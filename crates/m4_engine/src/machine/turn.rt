@@ -1,11 +1,11 @@
 //! One turn of an expansion: consumes the first pending token and acts on it.
 //! Manual: "Macro invocation", "How m4 copies input to output".
 
-ghost use Rattle.std.specs.Prelude.{◌≡◌, ◌≢◌, ◌≤◌, None, length, take};
+ghost use Rattle.std.specs.Prelude.{◌≡◌, ◌≢◌, None, take};
 ghost use Rattle.m4_input.specs.Pending.{text_of};
-ghost use Rattle.m4_engine.specs.Collected.{IsText};
 ghost use Rattle.m4_engine.specs.Engine.{IsReady};
 ghost use Rattle.m4_engine.specs.Lookahead.{IsCalled, IsNamed};
+ghost use Rattle.m4_engine.specs.declared.lookahead.Lookahead.TheVariants as aheads;
 ghost use Rattle.m4_engine.specs.Passes.{IsLookahead};
 ghost use Rattle.m4_engine.specs.Turns.{Turns};
 
@@ -15,7 +15,6 @@ use crate::machine::Machine;
 use crate::turned::{TurnFault, Turned};
 use m4_builtins::act::needs_list;
 use m4_input::input::Input;
-use m4_state::bytes::Bytes;
 
 impl Machine {
     /// Makes one turn: consumes the first pending token and acts on it. Does nothing if the bytes in hand don't decide
@@ -43,7 +42,7 @@ impl Machine {
             Lookahead::Call(len, call) => self.take_name(len, false, call, input),
             Lookahead::List(len, call) => self.take_name(len, true, call, input),
             Lookahead::Undecided => Ok(Turned::NeedsMore),
-            Lookahead::Text(len, text) => self.take_text(len, text, input),
+            Lookahead::Text(begin, end, all) => self.take_text(begin, end, all, input),
             Lookahead::Definition => self.take_definition(input),
             Lookahead::End => self.take_end(),
             Lookahead::Unended(what) => self.take_unended(what, input.line(), input),
@@ -52,17 +51,26 @@ impl Machine {
         }
     }
 
-    /// Consumes a token that is text, and appends the text to the argument, the output or a diversion.
+    /// Consumes a token of `all` bytes that is text, and appends its text to the argument, the output or a diversion. The
+    /// text is from `begin` to `end`. Not inlined, since a pass puts the text unless a block of output is full.
     #[inline(never)]
-    fn take_text(&mut self, len: usize, text: Bytes, input: &mut Input) -> Result<Turned, TurnFault>
+    fn take_text(
+        &mut self,
+        begin: usize,
+        end: usize,
+        all: usize,
+        input: &mut Input,
+    ) -> Result<Turned, TurnFault>
         requires ready { IsReady input.old }
-        requires first { input.old.pending.definition ≡ None }
-        requires within { len ≤ length (text_of input.old.pending) }
-        requires text { IsText self.old.state input.old.pending.may_follow len text (text_of input.old.pending) }
+        requires lookahead { IsLookahead (aheads.Text begin end all) self.old input.old.pending }
         ensures { Turns result self.old self.new input.old input.new }
     {
-        input.consume(len);
-        self.put_text(text.as_slice())?;
+        let mut copy = Vec::new(self.alloc);
+        let Some((text, _)) = input.front(end, &mut copy)? else {
+            unreachable!();
+        };
+        self.put_text(text.split_at(begin).1.split_at(end - begin).0)?;
+        input.consume(all);
         Ok(Turned::GoesOn)
     }
 

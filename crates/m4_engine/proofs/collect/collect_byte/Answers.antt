@@ -1,8 +1,16 @@
 use Rattle.std.proofs.Common.{rules, take, subst}
 use Rattle.m4_state.specs.declared.delimiters.Delimiters.{Delimiters}
-use Rattle.m4_engine.specs.Collected.{AreBlankBytes}
-use Rattle.m4_engine.proofs.ListRuns.{byte_and_blanks, byte_taken, byte_left}
+use Rattle.m4_engine.specs.Collected.{AreBlankBytes, AreTextBytes}
+use Rattle.m4_engine.proofs.ListRuns.{byte_and_blanks, byte_and_texts, byte_taken, byte_left}
 use Rattle.m4_engine.proofs.collect.collect_byte.Goals as goal
+
+pub returns-then-role-eq4-clause-collected : goal.returns-then-role-eq4-clause-collected
+returns-then-role-eq4-clause-collected c = λ s m q k h.
+    let n = c.text_len-len.result in
+    let y = c.split_at.result.1.now in
+    byte_and_texts s m c.args.byte n c.args.call.now c.put_front.new.self c.args.text.now y h (search rules) (search rules) c.text_len-len.ensures.within
+    (subst (λ (d : Delimiters). AreTextBytes s.quotes d (take n y)) k (subst (λ (d : Delimiters). AreTextBytes d c.args.delims.now.comments.now (take n y)) q c.text_len-len.ensures.bytes))
+    (search rules)
 
 pub returns-in-Some-clause-collected : goal.returns-in-Some-clause-collected
 returns-in-Some-clause-collected c = λ s m q k h. byte_left s m c.args.call.now c.take_byte.new.self c.args.text.now (search rules)
@@ -12,7 +20,7 @@ returns-then-has_begun-clause-collected c = λ s m q k h. byte_taken s m c.args.
 
 pub returns-clause-collected : goal.returns-clause-collected
 returns-clause-collected c = λ s m q k h.
-    let n = c.plain_spaces_len-spaces.result in
+    let n = c.plain_spaces_len.result in
     let y = c.split_at.result.1.now in
-    byte_and_blanks s m c.args.byte n c.args.call.now c.take_byte.new.self c.args.text.now y h (search rules) (search rules) (search rules) c.plain_spaces_len-spaces.ensures.within
-    (subst (λ (d : Delimiters). AreBlankBytes s.quotes d (take n y)) k (subst (λ (d : Delimiters). AreBlankBytes d c.args.delims.now.comments.now (take n y)) q c.plain_spaces_len-spaces.ensures.bytes))
+    byte_and_blanks s m c.args.byte n c.args.call.now c.take_byte.new.self c.args.text.now y h (search rules) (search rules) (search rules) c.plain_spaces_len.ensures.within
+    (subst (λ (d : Delimiters). AreBlankBytes s.quotes d (take n y)) k (subst (λ (d : Delimiters). AreBlankBytes d c.args.delims.now.comments.now (take n y)) q c.plain_spaces_len.ensures.bytes))

@@ -1,23 +1,45 @@
-use Rattle.std.proofs.Common.{rules}
-use Rattle.m4_engine.proofs.PlainRuns.{plain_text, plain_byte, plain_comment}
+use Rattle.std.proofs.Common.{◌≡◌, ◌≤◌, ◌<◌, ◌+◌, ◌-◌, ℕ, take, drop, length, ap, subst, arith, rules}
+use Rattle.m4_state.specs.declared.delimiters.Delimiters.{Delimiters}
+use Rattle.m4_engine.specs.Collected.{IsBlankByte}
+use Rattle.m4_engine.specs.Lookahead.{IsAhead}
+use Rattle.m4_engine.specs.declared.lookahead.Lookahead.{Lookahead}
+use Rattle.m4_engine.specs.declared.lookahead.Lookahead.TheVariants as aheads
+use Rattle.m4_engine.proofs.PlainRuns.{plain_text, plain_byte, text_some}
 use Rattle.m4_engine.proofs.front.plain_run.Goals as goal
 
-pub loop-len-preserved-in-Some-Text : goal.loop-len-preserved-in-Some-Text
-loop-len-preserved-in-Some-Text c = record {
-  within = search rules;
-  plain = c.with_space-len.ensures.plain c.args.state.now c.args.may_follow
-      (plain_text c.args.state.now c.args.may_follow c.loop-len.len c.in-Some-Text.n c.args.text.now c.split_at.result.1.now c.loop-len.invariant.plain (search rules) (search rules))
-      c.has_plain_space-spaced.ensures;
-}
+pub tokens-preserved-then-len-most : goal.tokens-preserved-then-len-most
+tokens-preserved-then-len-most c =
+    let s = c.args.state.now in
+    let y = c.split_at.result.1.now in
+    let end = c.in-Text-eq0-default-default.end in
+    let all = c.in-Text-eq0-default-default.all in
+    let is : c.in_ok-lookahead.lookahead ≡ aheads.Text 0 end all = search rules in
+    let h : IsAhead (aheads.Text 0 end all) s c.args.room c.args.more y = subst (λ (a : Lookahead). IsAhead a s c.args.room c.args.more y) is c.in_ok-lookahead.ensures in
+    let whole : end - 0 ≡ all = omega (arith, c.if-end-all.true) in
+    record {
+      within = search rules;
+      plain = c.with_space-len.ensures.plain s c.args.more
+          (plain_text s c.args.more c.tokens.len all c.args.text.now y (take (end - 0) (drop 0 y)) c.tokens.invariant.plain (search rules) h.0 (ap (λ (k : ℕ). take k y) whole))
+          (λ g.
+          subst (λ (d : Delimiters). IsBlankByte s.quotes d 32) c.of-delims.ensures.comments
+          (subst (λ (d : Delimiters). IsBlankByte d c.of-delims.result.comments.now 32) c.of-delims.ensures.quotes (c.is_plain_space-spaced.ensures g)));
+    }
 
-pub loop-len-preserved-in-Some-Byte : goal.loop-len-preserved-in-Some-Byte
-loop-len-preserved-in-Some-Byte c = record {
-  within = search rules;
-  plain = plain_byte c.args.state.now c.args.may_follow c.loop-len.len c.in-Some-Byte.field-0-0 c.args.text.now c.split_at.result.1.now c.loop-len.invariant.plain (search rules) (search rules);
-}
+pub tokens-smaller-then-len-most : goal.tokens-smaller-then-len-most
+tokens-smaller-then-len-most c =
+    let s = c.args.state.now in
+    let y = c.split_at.result.1.now in
+    let end = c.in-Text-eq0-default-default.end in
+    let all = c.in-Text-eq0-default-default.all in
+    let is : c.in_ok-lookahead.lookahead ≡ aheads.Text 0 end all = search rules in
+    let h : IsAhead (aheads.Text 0 end all) s c.args.room c.args.more y = subst (λ (a : Lookahead). IsAhead a s c.args.room c.args.more y) is c.in_ok-lookahead.ensures in
+    let some : 0 < all = text_some s c.args.more all (take (end - 0) (drop 0 y)) y h.0 in
+    let more : c.tokens.len + all ≤ c.with_space-len.result = c.with_space-len.ensures.more in
+    let within : c.with_space-len.result ≤ length c.args.text.now = c.with_space-len.ensures.within in
+    omega (arith, some, more, within)
 
-pub loop-len-preserved : goal.loop-len-preserved
-loop-len-preserved c = record {
+pub tokens-preserved : goal.tokens-preserved
+tokens-preserved c = record {
   within = search rules;
-  plain = plain_comment c.args.state.now c.args.may_follow c.loop-len.len c.comment_len-comment.result c.args.text.now c.split_at-in-None.result.1.now c.loop-len.invariant.plain (search rules) (search rules);
+  plain = plain_byte c.args.state.now c.args.more c.tokens.len c.in-Byte.field-0 c.args.text.now c.split_at.result.1.now c.tokens.invariant.plain (search rules) (search rules);
 }

@@ -1,0 +1,23 @@
+use Rattle.std.proofs.Common.{◌≡◌, List, ◌∷◌, inl, inr, Option, Bool, drop, refl, sym, ap, ◌∙◌, length, subst, rules}
+use Rattle.std.specs.Prelude.{reverse}
+use Rattle.m4_engine.specs.Expansion.{Call}
+use Rattle.m4_engine.specs.Engine.{Engine}
+use Rattle.m4_engine.specs.Lookahead.{IsAhead}
+use Rattle.m4_engine.specs.Passes.{PassesBy}
+use Rattle.m4_engine.specs.MachineView.{innermost_first, engine_view}
+use Rattle.m4_engine.proofs.Seen.{leaves_same}
+use Rattle.m4_engine.proofs.machine.Machine.pass_text.Goals as goal
+
+pub returns : goal.returns
+returns c =
+    let old : Engine = engine_view c.self.inside in
+    let cs : List Call = reverse c.self.inside.outer.items in
+    let new : Engine = record old { open_calls = c.collect.new.call ∷ cs } in
+    let n = c.in_ok-passed.passed.0 in
+    let x = c.args.text.now in
+    let inside : old.open_calls ≡ c.in-Some.call ∷ cs = ap (λ (o : Option Call). innermost_first o cs) c.in-Some.is in
+    subst (λ (e : Engine). PassesBy n c.in_ok-passed.passed.1 x c.args.more e new) c.self.view_is (record {
+      passes = inr (inl (c.in-Some.call, c.collect.new.call, cs, c.in_ok-passed.ensures.collected, inside, refl));
+      within = c.in_ok-passed.ensures.within;
+      end = inr (subst (λ (v : Bool). IsAhead c.in_ok-passed.passed.1 old.state v c.args.more (drop n x)) ((search rules) ∙ leaves_same old new refl refl (ap length (sym inside))) c.in_ok-passed.ensures.after);
+    })
