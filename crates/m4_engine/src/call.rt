@@ -72,14 +72,6 @@ impl Drop for OpenCall {
 /// needs.
 const LARGEST_COPIED: usize = 256;
 
-/// Returns an argument that needs no memory.
-#[inline(always)]
-fn blank() -> Arg
-    ensures { IsArg result }
-{
-    Arg::Text(Bytes::empty())
-}
-
 /// Drops the large texts and the definitions among the arguments.
 fn drop_large(args: &mut [Arg]) {
     for arg in args.iter_mut() {
@@ -88,7 +80,7 @@ fn drop_large(args: &mut [Arg]) {
             Arg::Definition(_) => true,
         };
         if is_large {
-            *arg = blank();
+            *arg = Arg::Text(Bytes::empty());
         }
     }
 }
@@ -282,13 +274,6 @@ impl OpenCall {
         &self.parts.place
     }
 
-    /// Returns whether a parenthesis is open in the current argument.
-    pub fn is_nested(&self) -> bool
-        ensures { result ≡ nat_lt 0 self.now.parentheses }
-    {
-        self.parts.parentheses > 0
-    }
-
     /// Returns whether the argument has begun. Until it has, white space is dropped.
     pub fn has_begun(&self) -> bool
         ensures { result ≡ self.now.begun }
@@ -345,35 +330,6 @@ impl OpenCall {
     {
         self.parts.begun = true;
         self.parts.tokens.push(definition)?;
-        Ok(())
-    }
-
-    /// Appends an opening parenthesis to the argument.
-    pub fn put_opening(&mut self) -> Result<(), AllocError>
-        ensures { OnOk result (self.new ≡ record self.old {
-          parentheses = suc self.old.parentheses;
-          begun = true;
-          bytes = self.old.bytes ++ open_parenthesis ∷ [];
-        }) }
-    {
-        self.parts.begun = true;
-        self.parts.bytes.push(b'(')?;
-        self.parts.parentheses += 1;
-        Ok(())
-    }
-
-    /// Appends a closing parenthesis that matches one in the argument.
-    pub fn put_closing(&mut self) -> Result<(), AllocError>
-        requires { 0 < self.old.parentheses }
-        ensures { OnOk result (self.new ≡ record self.old {
-          parentheses = self.old.parentheses - 1;
-          begun = true;
-          bytes = self.old.bytes ++ close_parenthesis ∷ [];
-        }) }
-    {
-        self.parts.begun = true;
-        self.parts.bytes.push(b')')?;
-        self.parts.parentheses -= 1;
         Ok(())
     }
 
@@ -444,9 +400,17 @@ impl OpenCall {
     {
         match self.role(byte) {
             Role::Blank => {}
-            Role::Opening => self.put_opening()?,
-            Role::Closing if self.is_nested() => self.put_closing()?,
-            Role::Closing => return Ok(Some(ListEnd::List)),
+            Role::Opening => {
+                self.parts.begun = true;
+                self.parts.bytes.push(b'(')?;
+                self.parts.parentheses += 1;
+            }
+            Role::Closing if self.parts.parentheses == 0 => return Ok(Some(ListEnd::List)),
+            Role::Closing => {
+                self.parts.begun = true;
+                self.parts.bytes.push(b')')?;
+                self.parts.parentheses -= 1;
+            }
             Role::Separator if self.drops() => return Ok(Some(ListEnd::Argument)),
             Role::Separator => {
                 let _drops_nothing = self.end_argument()?;
