@@ -22,6 +22,7 @@ use crate::machine::Machine;
 use crate::turned::{TurnEnd, TurnFault, Turned};
 use m4_builtins::act::act_on;
 use m4_builtins::effect_buffer::EffectBuffer;
+use m4_input::fault::InputFault;
 use m4_input::input::Input;
 use m4_input::pushed::Pushed;
 use m4_state::bytes::Bytes;
@@ -61,7 +62,9 @@ fn push(input: &mut Input, value: Pushed) -> Result<(), TurnFault>
 {
     match input.push_front(value) {
         Ok(()) => Ok(()),
-        Err(fault) => Err(TurnFault::of(fault)),
+        Err(InputFault::OutOfMemory) => Err(TurnFault::OutOfMemory),
+        // A turn uses no reader.
+        Err(_) => unreachable!(),
     }
 }
 
