@@ -30,27 +30,6 @@ use m4_state::definition::Def;
 use m4_state::state::State;
 use std::alloc::AllocError;
 
-/// Acts on the complete arguments of a call: changes the state, and fills an effect that is clear.
-fn act_on_call(
-    effect: &mut EffectBuffer,
-    call: &OpenCall,
-    state: &mut State,
-) -> Result<(), TurnFault>
-    requires { effect.old ≡ nothing }
-    ensures { OnOk result (act call.now.definition call.now.name call.now.done call.now.place state.old
-        ≡ record { state = state.new; effect = effect.new }) }
-{
-    act_on(
-        effect,
-        call.definition(),
-        call.name(),
-        call.arguments(),
-        call.place(),
-        state,
-    )?;
-    Ok(())
-}
-
 /// Pushes a value: it is read before everything else.
 #[inline(always)]
 #[tactic(auto, using(crate::proofs::Inputs::pushed))]
@@ -94,7 +73,7 @@ fn put_more(
     messages: &mut Vec<u8>,
     output: &mut Vec<u8>,
     saved: &mut Vec<Bytes>,
-) -> Result<(), TurnFault>
+) -> Result<(), AllocError>
     ensures messages { OnOk result (messages.new.items ≡ messages.old.items ++ effect.old.messages) }
     ensures output { OnOk result (output.new.items ≡ output.old.items ++ effect.old.output) }
     ensures saved { OnOk result (saved.new.items ≡ with_saved effect.old.wrap saved.old.items) }
@@ -103,16 +82,8 @@ fn put_more(
     messages.extend_from_slice(effect.messages())?;
     output.extend_from_slice(effect.output())?;
     if let Some(text) = effect.take_wrap() {
-        push_saved(saved, text)?;
+        saved.push(text)?;
     }
-    Ok(())
-}
-
-/// Saves a text after the others.
-fn push_saved(saved: &mut Vec<Bytes>, text: Bytes) -> Result<(), AllocError>
-    ensures { OnOk result (saved.new.items ≡ saved.old.items ++ text ∷ []) }
-{
-    saved.push(text)?;
     Ok(())
 }
 
@@ -135,33 +106,21 @@ impl Machine {
             (call_turn listed call (longer z more input.old.pending) (here_of o m self.old (before z more))))) }
     {
         if !self.has_room() {
-            self.report_call_limit(&call)?;
+            self.report_limit(&call, self.most_calls, b" calls")?;
             return Ok(Turned::Ends(TurnEnd::ExpansionLimit));
         }
         self.count();
         if self.is_deep() {
-            self.report_nesting_limit(&call)?;
+            self.report_limit(&call, self.most_nested, b" nested calls")?;
             return Ok(Turned::Ends(TurnEnd::NestingLimit));
         }
         if !listed {
             return self.call(call, input);
         }
-        self.take_parenthesis(input);
+        // The parenthesis was recognised as a token, so it is one byte.
+        input.consume(1);
         self.open_list(call)?;
         Ok(Turned::GoesOn)
-    }
-
-    /// Consumes the parenthesis that opens a list. It was recognised as a token, so it is one byte.
-    #[inline(always)]
-    fn take_parenthesis(&self, input: &mut Input)
-        requires ready { IsReady input.old }
-        requires paren_follows { paren_at self.now.state.quotes self.now.state.comments input.old.pending
-            ≡ answers.Yes }
-        ensures taken { input.new.pending ≡ consumed 1 input.old.pending }
-        ensures within { 1 ≤ length (text_of input.old.pending) }
-        ensures ready { Stays input.old input.new }
-    {
-        input.consume(1);
     }
 
     /// Counts a call of a text macro without a list, and pushes its expansion.
@@ -213,7 +172,14 @@ impl Machine {
         ensures { StepsBy result self.old self.new input.old input.new (called_within self.old.open_calls call) }
     {
         self.effect.clear();
-        act_on_call(&mut self.effect, &call, &mut self.state)?;
+        act_on(
+            &mut self.effect,
+            call.definition(),
+            call.name(),
+            call.arguments(),
+            call.place(),
+            &mut self.state,
+        )?;
         self.spare.keep(call);
         if self.effect.has_more() {
             put_more(

@@ -12,7 +12,7 @@ use Rattle.m4_engine.proofs.machine.Machine.make_call.Goals as goal
 pub returns-in-Some : goal.returns-in-Some
 returns-in-Some c = record {
   moves = λ z more k o m.
-      let a : Acted = record { state = c.act_on_call.new.state; effect = c.act_on_call.new.effect } in
+      let a : Acted = record { state = c.act_on.new.state; effect = c.act_on.new.effect } in
       let plain : c.begin_argument.new.self ≡ with_made [] [] None (record c.args.self.now { state = a.state; messages = c.put_more.new.messages.items; output = c.put_more.new.output.items; saved = c.put_more.new.saved.items }) = search rules in
       let made = plain ∙ made_and_begun c.args.self.now a.state a.effect _ _ _
       (c.in_ok-put_more.ensures.messages ∙ ap (λ (x : Engine). x.messages ++ (a.effect).messages) c.self.view_is)
@@ -27,7 +27,7 @@ returns-in-Some c = record {
 pub returns-then-skips : goal.returns-then-skips
 returns-then-skips c = record {
   moves = λ z more k o m.
-      let a : Acted = record { state = c.act_on_call.new.state; effect = c.act_on_call.new.effect } in
+      let a : Acted = record { state = c.act_on.new.state; effect = c.act_on.new.effect } in
       let plain : c.begin_argument-then-skips.new.self ≡ with_made [] [] None (record c.args.self.now { state = a.state; messages = c.put_more.new.messages.items; output = c.put_more.new.output.items; saved = c.put_more.new.saved.items }) = search rules in
       let made = plain ∙ made_and_begun c.args.self.now a.state a.effect _ _ _
       (c.in_ok-put_more.ensures.messages ∙ ap (λ (x : Engine). x.messages ++ (a.effect).messages) c.self.view_is)
@@ -42,8 +42,8 @@ returns-then-skips c = record {
 pub returns-then-has_more : goal.returns-then-has_more
 returns-then-has_more c = record {
   moves = λ z more k o m.
-      let a : Acted = record { state = c.act_on_call.new.state; effect = c.act_on_call.new.effect } in
-      let pushed : c.put_more.new.effect.push ≡ c.act_on_call.new.effect.push = search rules in
+      let a : Acted = record { state = c.act_on.new.state; effect = c.act_on.new.effect } in
+      let pushed : c.put_more.new.effect.push ≡ c.act_on.new.effect.push = search rules in
       let plain : c.begin_argument-then-has_more.new.self ≡ with_made [] [] None (record c.args.self.now { state = a.state; messages = c.put_more.new.messages.items; output = c.put_more.new.output.items; saved = c.put_more.new.saved.items }) = search rules in
       let made = plain ∙ made_and_begun c.args.self.now a.state a.effect _ _ _
       (c.in_ok-put_more.ensures.messages ∙ ap (λ (x : Engine). x.messages ++ (a.effect).messages) c.self.view_is)
@@ -61,7 +61,7 @@ pub returns : goal.returns
 returns c = record {
   moves = λ z more k o m.
       let e = c.args.self.now in
-      let a : Acted = record { state = c.act_on_call.new.state; effect = c.act_on_call.new.effect } in
+      let a : Acted = record { state = c.act_on.new.state; effect = c.act_on.new.effect } in
       let none : a.effect ≡ record nothing { push = (a.effect).push } = c.has_more.ensures (search rules) in
       let plain : c.begin_argument-2.new.self ≡ with_made [] [] None (record e { state = a.state }) = search rules in
       called_goes e c.begin_argument-2.new.self c.args.call a (longer z more c.args.input.now.pending) (longer z more c.push_value-2.new.input.pending) (search rules)
