@@ -19,7 +19,7 @@ use crate::front::Named;
 use crate::role::{ListEnd, Role};
 use m4_builtins::args::Arg;
 use m4_builtins::place::Place;
-use m4_state::append::{append, append_front};
+use m4_state::append::append_front;
 use m4_state::bytes::Bytes;
 use m4_state::definition::Def;
 use std::alloc::{AllocError, Global};
@@ -105,22 +105,6 @@ fn put_text_at(args: &mut Vec<Arg>, count: usize, bytes: &mut Vec<u8>) -> bool
         }
         Arg::Definition(_) => false,
     }
-}
-
-/// Stores an argument after the first `count` ones.
-#[inline(always)]
-fn put_at(args: &mut Vec<Arg>, count: usize, arg: Arg) -> Result<(), AllocError>
-    requires { count ≤ length args.old.items }
-    ensures put { OnOk result (take (count + 1) args.new.items ≡ take count args.old.items ++ arg ∷ []) }
-    ensures err { OnErr result (args.new.items ≡ args.old.items) }
-    ensures within { OnOk result (count + 1 ≤ length args.new.items) }
-{
-    if count < args.len() {
-        args[count] = arg;
-    } else {
-        args.push(arg)?;
-    }
-    Ok(())
 }
 
 /// Returns the argument that was collected, from its bytes and its definitions.
@@ -301,15 +285,6 @@ impl OpenCall {
         }
     }
 
-    /// Appends text to the argument.
-    pub fn put(&mut self, text: &[u8]) -> Result<(), AllocError>
-        ensures { OnOk result (self.new ≡ record self.old { begun = true; bytes = self.old.bytes ++ text.now }) }
-    {
-        let parts = &mut *self.parts;
-        parts.begun = true;
-        append(&mut parts.bytes, text)
-    }
-
     /// Appends the first `len` bytes of a text to the argument.
     #[inline(always)]
     pub fn put_front(&mut self, text: &[u8], len: usize) -> Result<(), AllocError>
@@ -384,7 +359,11 @@ impl OpenCall {
         let bytes = std::mem::replace(&mut self.parts.bytes, Vec::new(alloc));
         let tokens = std::mem::replace(&mut self.parts.tokens, Vec::new(alloc));
         let arg = argument(bytes, tokens)?;
-        put_at(&mut self.parts.args, count, arg)?;
+        if count < self.parts.args.len() {
+            self.parts.args[count] = arg;
+        } else {
+            self.parts.args.push(arg)?;
+        }
         self.parts.count = count + 1;
         self.parts.begun = false;
         Ok(drops)
@@ -415,7 +394,7 @@ impl OpenCall {
             Role::Separator => {
                 let _drops_nothing = self.end_argument()?;
             }
-            Role::Other => self.put(&[byte])?,
+            Role::Other => self.put_front(&[byte], 1)?,
         }
         Ok(None)
     }

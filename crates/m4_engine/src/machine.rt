@@ -123,7 +123,7 @@ impl Machine {
         ensures { OnOk result (self.new ≡ with_text text.now self.old) }
     {
         if let Some(call) = &mut self.innermost {
-            call.put(text)?;
+            call.put_front(text, text.len())?;
         } else {
             self.state.append(text)?;
             if self.state.current() == 0 {
