@@ -3,16 +3,15 @@
 //! A call is in a box, which is kept with its memory for the next call. So a call is moved by its address, and most
 //! calls ask for no memory.
 
-ghost use Rattle.std.specs.Prelude.{◌≡◌, ◌<◌, ◌≤◌, ◌+◌, ◌-◌, suc, OnErr, ◌++◌, ◌∷◌, [], true, false, nat_lt, Ok, OnOk};
+ghost use Rattle.std.specs.Prelude.{◌≡◌, ◌<◌, ◌≤◌, ◌+◌, ◌-◌, ◌++◌, ◌∷◌, [], true, false, Ok, OnOk};
 ghost use Rattle.std.specs.Prelude.{IfOk, IfSome, None, length, take};
 ghost use Rattle.std.specs.List.{AllByRecursion};
 ghost use Rattle.m4_state.specs.Definition.{IsDefinition};
 ghost use Rattle.m4_builtins.specs.Args.{IsArg};
 ghost use Rattle.m4_builtins.specs.declared.args.Arg.TheVariants as arguments;
-ghost use Rattle.m4_input.specs.Ascii.{open_parenthesis, close_parenthesis};
 ghost use Rattle.m4_engine.specs.Args.{role_of, argument_of, dropped_if_any, with_argument};
 ghost use Rattle.m4_engine.specs.Collected.{TakesByte, IsListEnd};
-ghost use Rattle.m4_engine.specs.Engine.{IsCall, warning_if_dropped};
+ghost use Rattle.m4_engine.specs.Engine.{warning_if_dropped};
 ghost use Rattle.m4_engine.specs.Expand.{call_of};
 
 use crate::front::Named;

@@ -1,17 +1,14 @@
 //! Calls: a call begins at its name and is made when its arguments are complete. Its result is pushed.
 //! Manual: "Macro invocation", "Macro arguments".
 
-ghost use Rattle.std.specs.Prelude.{◌≡◌, ◌<◌, ◌≤◌, nat_lt, List, ℕ, [], ◌∷◌, ◌++◌, None, Some, Ok, OnOk, true, false};
-ghost use Rattle.std.specs.Prelude.{length};
+ghost use Rattle.std.specs.Prelude.{◌≡◌, ◌<◌, nat_lt, List, ℕ, [], ◌++◌, None, Some, Ok, OnOk, true, false};
 ghost use Rattle.m4_input.specs.Paren.{paren_at};
 ghost use Rattle.m4_input.specs.declared.front.Answer.TheVariants as answers;
 ghost use Rattle.m4_input.specs.Input.{longer};
-ghost use Rattle.m4_input.specs.Pending.{text_of, consumed};
-ghost use Rattle.m4_engine.specs.Engine.{IsReady, with_made, with_one_call, is_deep_in, here_of, outer_of};
+ghost use Rattle.m4_engine.specs.Engine.{with_made, with_one_call, is_deep_in, here_of, outer_of};
 ghost use Rattle.m4_engine.specs.Turns.{Moves, IsTaken, Makes, Steps, StepsBy, Pushes, Extended, Stays, step};
 ghost use Rattle.m4_engine.specs.Turns.{called_within};
-ghost use Rattle.m4_builtins.specs.Act.{IsPushed, act};
-ghost use Rattle.m4_builtins.specs.Acted.{nothing};
+ghost use Rattle.m4_builtins.specs.Act.{IsPushed};
 ghost use Rattle.m4_builtins.specs.Subst.{subst};
 ghost use Rattle.m4_state.specs.declared.definition.Def.TheVariants.{Text};
 ghost use Rattle.m4_engine.specs.Expansion.{Call};
@@ -26,8 +23,6 @@ use m4_input::fault::InputFault;
 use m4_input::input::Input;
 use m4_input::pushed::Pushed;
 use m4_state::bytes::Bytes;
-use m4_state::definition::Def;
-use m4_state::state::State;
 use std::alloc::AllocError;
 
 /// Pushes a value: it is read before everything else.
@@ -85,6 +80,17 @@ fn put_more(
         saved.push(text)?;
     }
     Ok(())
+}
+
+/// Moves to the effect the memory of a text that was read to its end, if it has none.
+#[inline(always)]
+fn lend(effect: &mut EffectBuffer, input: &mut Input)
+    ensures effect { effect.new ≡ effect.old }
+    ensures input { input.new ≡ input.old }
+{
+    if !effect.has_memory() {
+        effect.lend(input.take_buffer());
+    }
 }
 
 impl Machine {
@@ -155,22 +161,14 @@ impl Machine {
         self.begin_argument();
     }
 
-    /// Makes a call whose arguments are complete. The effect has memory for a text that the call makes.
+    /// Makes a call whose arguments are complete: acts on it, and pushes its value. The effect has memory for a text
+    /// that the call makes.
     #[inline(never)]
     pub(super) fn call(&mut self, call: OpenCall, input: &mut Input) -> Result<Turned, TurnFault>
         requires { IsTaken input.old }
         ensures { StepsBy result self.old self.new input.old input.new (called_within self.old.open_calls call) }
     {
-        self.lend(input);
-        self.make_call(call, input)
-    }
-
-    /// Acts on a call whose arguments are complete, and pushes its value.
-    #[inline(always)]
-    fn make_call(&mut self, call: OpenCall, input: &mut Input) -> Result<Turned, TurnFault>
-        requires { IsTaken input.old }
-        ensures { StepsBy result self.old self.new input.old input.new (called_within self.old.open_calls call) }
-    {
+        lend(&mut self.effect, input);
         self.effect.clear();
         act_on(
             &mut self.effect,
@@ -203,17 +201,6 @@ impl Machine {
         push_value(input, &mut self.effect)?;
         self.begin_argument();
         Ok(Turned::GoesOn)
-    }
-
-    /// Moves to the effect the memory of a text that was read to its end, if it has none.
-    #[inline(always)]
-    fn lend(&mut self, input: &mut Input)
-        ensures same { self.new ≡ self.old }
-        ensures input { input.new ≡ input.old }
-    {
-        if !self.effect.has_memory() {
-            self.effect.lend(input.take_buffer());
-        }
     }
 
     /// Marks the argument that contains a call as begun, and gives the call around it memory for it.

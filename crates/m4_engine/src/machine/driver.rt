@@ -1,14 +1,14 @@
 //! Expands an input turn by turn. Messages are flushed as they arise, and output once a block of it is
 //! buffered. Manual: "How m4 copies input to output".
 
-ghost use Rattle.std.specs.Prelude.{◌≡◌, ◌<◌, ◌≤◌, true, None, Ok, [], length, take, OnOk, OnErr};
+ghost use Rattle.std.specs.Prelude.{◌≡◌, ◌<◌, ◌≤◌, true, None, Ok, length, take, OnOk, OnErr};
 ghost use Rattle.m4_state.specs.Device.{with_bytes};
 ghost use Rattle.m4_input.specs.Input.{IsLasting, failures_after};
 ghost use Rattle.m4_engine.specs.Engine.{IsReady, after_flush};
 ghost use Rattle.m4_engine.specs.Writers.{both, FailsBy, FailsOnce};
 ghost use Rattle.m4_engine.specs.Continued.{HandGives, OrderBy, IsFlushed, cause_of, fault_cause};
 ghost use Rattle.m4_engine.specs.ReadsOn.{ReadsOn};
-ghost use Rattle.m4_engine.specs.Expands.{Expands, ReadsBy, StepBreaksBy, FlushesPrefix, FlushesDue, IsInOrder, IsIdle};
+ghost use Rattle.m4_engine.specs.Expands.{Expands, ReadsBy, StepBreaksBy, FlushesPrefix, IsInOrder, IsIdle};
 ghost use Rattle.m4_engine.specs.Expands.{at_rest};
 
 use crate::ending::Cause;
@@ -20,7 +20,6 @@ use m4_input::fault::InputFault;
 use m4_input::input::Input;
 use m4_state::device::{ByteSink, ByteSource, DeviceFault};
 use m4_state::transfer::write_all;
-use std::alloc::AllocError;
 
 /// Output is flushed once this many bytes are buffered. One turn may add more before that.
 pub(crate) const OUTPUT_BLOCK: usize = 65536;

@@ -1,7 +1,7 @@
 //! The end of a run: undiverts its diversions, or returns the state to be frozen. Manual: "Undiverting
 //! output", "Fast loading of frozen state".
 
-ghost use Rattle.std.specs.Prelude.{◌≡◌, []};
+ghost use Rattle.std.specs.Prelude.{◌≡◌};
 ghost use Rattle.m4_state.specs.Device.{Puts, count_after};
 ghost use Rattle.m4_engine.specs.Wraps.{close};
 
