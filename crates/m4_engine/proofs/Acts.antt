@@ -8,7 +8,7 @@ use Rattle.m4_builtins.specs.Act.{Acted, act}
 use Rattle.m4_builtins.specs.declared.effect.Effect.{Effect}
 use Rattle.std.specs.Prelude.{Result, Ok, Err, IfOk}
 use Rattle.m4_engine.specs.declared.turned.Turned.{Turned}
-use Rattle.m4_engine.specs.declared.turned.TurnFault.{TurnFault}
+use Rattle.m4_builtins.specs.declared.fault.BuiltinFault.{BuiltinFault as TurnFault}
 use Rattle.m4_engine.specs.declared.turned.Turned.TheVariants as turns
 use Rattle.m4_engine.specs.Args.{dropped_if_any, with_argument, end_argument}
 use Rattle.m4_engine.specs.declared.ending.Cause.TheVariants as causes

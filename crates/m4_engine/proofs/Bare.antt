@@ -9,7 +9,7 @@ use Rattle.m4_input.specs.Input.{longer}
 use Rattle.m4_builtins.specs.Act.{expands, leaves, act}
 use Rattle.m4_builtins.specs.Subst.{subst as substituted}
 use Rattle.m4_engine.specs.declared.turned.Turned.{Turned}
-use Rattle.m4_engine.specs.declared.turned.TurnFault.{TurnFault}
+use Rattle.m4_builtins.specs.declared.fault.BuiltinFault.{BuiltinFault as TurnFault}
 use Rattle.m4_engine.specs.declared.turned.Turned.TheVariants as turns
 use Rattle.m4_engine.specs.Expansion.{Call}
 use Rattle.m4_engine.specs.Expand.{call}

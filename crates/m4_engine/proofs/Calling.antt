@@ -1,6 +1,7 @@
 -- Calling: a call that is refused, bare or listed, as the definitions' move.
 use Rattle.std.proofs.Common.{◌≡◌, ◌≤◌, length, ℕ, Bool, true, false, List, refl, sym, ap, ◌∙◌, subst, append_assoc}
-use Rattle.std.specs.Prelude.{Result, Ok, Err, IfOk, nat_lt}
+use Rattle.std.specs.Fmt.{decimal}
+use Rattle.std.specs.Prelude.{Result, Ok, Err, IfOk, nat_lt, codes, ◌++◌}
 use Rattle.m4_input.specs.Pending.{Pending, text_of, consumed}
 use Rattle.m4_input.specs.Input.{longer}
 use Rattle.m4_input.proofs.Consumed.{consumed_longer}
@@ -9,7 +10,7 @@ use Rattle.m4_builtins.specs.Messages.{error}
 use Rattle.m4_engine.specs.declared.ending.Cause.{Cause}
 use Rattle.m4_engine.specs.declared.ending.Cause.TheVariants as causes
 use Rattle.m4_engine.specs.declared.turned.Turned.{Turned}
-use Rattle.m4_engine.specs.declared.turned.TurnFault.{TurnFault}
+use Rattle.m4_builtins.specs.declared.fault.BuiltinFault.{BuiltinFault as TurnFault}
 use Rattle.m4_engine.specs.Nesting.{Outcome, Halted, Closed}
 use Rattle.m4_engine.specs.OpenCalls.{Stops, Goes, pop}
 use Rattle.m4_engine.specs.Expansion.{Call, Expansion, Kept, Ended, Ends, fail}
@@ -24,6 +25,10 @@ pub failed_at : (o m : List ℕ) (e e1 : Engine) (p : Pending) (at : Place) (tex
 failed_at o m e e1 p at text cause fs h =
     (rw (append_assoc m e.messages (error at text)) refl)
     ∙ ap (λ (x : Engine). Stops (Halted (let d : Ended = record { so_far = so_far_of o m x; reason = Ends cause } in d))) (sym h)
+
+-- the error that names a limit, by the limit's value
+pub told : (e e1 : Engine) (at : Place) (n limit : ℕ) (what : List ℕ) → n ≡ limit → e1 ≡ with_engine_message (error at (codes "more than " ++ decimal n ++ what)) e → e1 ≡ with_engine_message (error at (codes "more than " ++ decimal limit ++ what)) e
+told e e1 at n limit what h k = subst (λ (i : ℕ). e1 ≡ with_engine_message (error at (codes "more than " ++ decimal i ++ what)) e) h k
 
 pub refused_calls : (e e1 : Engine) (c : Call) (listed : Bool) (p before : Pending) (o m : List ℕ)
     → nat_lt e.calls (e.limits).calls ≡ false

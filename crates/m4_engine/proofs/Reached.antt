@@ -305,10 +305,10 @@ unread_within : {R : Type 0} (script : R → Option Script) (x : RunSource R) (o
 unread_within script (sources.Opened name r) old out reported l = (name, [], (refl, refl, same_bytes (script r)), none_asked old name [] [] (writers out out reported reported) causes.OutOfMemory l tt (record { output = with_bytes-nil out; messages = with_bytes-nil reported }), tt)
 unread_within script (sources.Unopened name) old out reported l = (name, [], (refl, refl, refl), none_asked old name [] [] (writers out out reported reported) causes.OutOfMemory l tt (record { output = with_bytes-nil out; messages = with_bytes-nil reported }), tt)
 
-pub unread_so : {R : Type 0} (script : R → Option Script) (x y : RunSource R) (old new : SessionState) (out reported : Option (List ℕ)) (e : Stop) → x ≡ y → e ≡ stops.Ended causes.OutOfMemory → IsOpen old → SourceGives script x y old new (writers out out reported reported) (Err e)
-unread_so script x y old new out reported e f i l =
-    subst (λ z. SourceGives script x z old new (writers out out reported reported) (Err e)) f
-    (subst (λ (z : Stop). SourceGives script x x old new (writers out out reported reported) (Err z)) (sym i) (unread_within script x old out reported l))
+pub unread_so : {R : Type 0} (script : R → Option Script) (x y : RunSource R) (old new : SessionState) (out reported : Option (List ℕ)) (r : Result Unit Stop) → x ≡ y → r ≡ Err (stops.Ended causes.OutOfMemory) → IsOpen old → SourceGives script x y old new (writers out out reported reported) r
+unread_so script x y old new out reported r f i l =
+    subst (λ z. SourceGives script x z old new (writers out out reported reported) r) f
+    (subst (λ (z : Result Unit Stop). SourceGives script x x old new (writers out out reported reported) z) (sym i) (unread_within script x old out reported l))
 
 -- ---- the sources in order
 

@@ -354,9 +354,9 @@ lacked_by new p w v o m = record {
   messages = subst (λ x. HasBegun w.messages_old x (p.so_far).messages) (sym m) (nothing_begun w.messages_old (p.so_far).messages);
 }
 
-pub round_lacked : (old new : SessionState) (w : Contents) (e : Stop) → e ≡ stops.Ended causes.OutOfMemory → new.over ≡ Some causes.OutOfMemory → w.out_new ≡ w.out_old → w.messages_new ≡ w.messages_old → WrapsGive (round_of old) old new w (Err e)
-round_lacked old new w e i v o m =
-    subst (λ (x : Stop). WrapsGive (round_of old) old new w (Err x)) (sym i) (lacked_by new (round_of old) w v o m, tt)
+pub round_lacked : (old new : SessionState) (w : Contents) (r : Result Unit Stop) → r ≡ Err (stops.Ended causes.OutOfMemory) → new.over ≡ Some causes.OutOfMemory → w.out_new ≡ w.out_old → w.messages_new ≡ w.messages_old → WrapsGive (round_of old) old new w r
+round_lacked old new w r i v o m =
+    subst (λ (x : Result Unit Stop). WrapsGive (round_of old) old new w x) (sym i) (lacked_by new (round_of old) w v o m, tt)
 
 -- no text is saved: there is no round
 pub after_is : (s : SessionState) → IsOpen s → s.saved ≡ [] → session_after_wraps s ≡ progress_of s
@@ -383,8 +383,8 @@ broke_off freezes old new w cause l e o m h =
     }
 
 -- the diversions could not be issued
-pub finish_broke : (old new : SessionState) (w : Contents) (s : Stop) → IsOpen old → old.saved ≡ [] → s ≡ stops.Ended causes.Write → new.over ≡ Some causes.Write → w.messages_new ≡ w.messages_old → HasBegun w.out_old w.out_new (close old.state) → FinishGives old new w (Err s)
-finish_broke old new w s l e i o m h = subst (λ (x : Stop). FinishGives old new w (Err x)) (sym i) (broke_off false old new w causes.Write l e o m h)
+pub finish_broke : (old new : SessionState) (w : Contents) (r : Result Unit Stop) → IsOpen old → old.saved ≡ [] → r ≡ Err (stops.Ended causes.Write) → new.over ≡ Some causes.Write → w.messages_new ≡ w.messages_old → HasBegun w.out_old w.out_new (close old.state) → FinishGives old new w r
+finish_broke old new w r l e i o m h = subst (λ (x : Result Unit Stop). FinishGives old new w x) (sym i) (broke_off false old new w causes.Write l e o m h)
 
 -- the diversions were issued
 pub issued_all : (old new : SessionState) (out out' reported : Option (List ℕ)) → IsOpen old → old.saved ≡ []
@@ -431,15 +431,15 @@ froze old new s out reported frozen frozen' l e i n f z =
     )
 
 -- the frozen text broke off
-pub freeze_broke : (old new : SessionState) (s : State) (e : Stop) (out reported frozen frozen' : Option (List ℕ))
-    → IsOpen old → old.saved ≡ [] → s ≡ old.state → e ≡ stops.Ended causes.Write → new.over ≡ Some causes.Write
+pub freeze_broke : (old new : SessionState) (s : State) (r : Result Unit Stop) (out reported frozen frozen' : Option (List ℕ))
+    → IsOpen old → old.saved ≡ [] → s ≡ old.state → r ≡ Err (stops.Ended causes.Write) → new.over ≡ Some causes.Write
     → HasBegun frozen frozen' (freeze s)
     → FreezeGives old new
-    (record { two = writers out out reported reported; frozen_old = frozen; frozen_new = frozen' }) (Err e)
-freeze_broke old new s e out reported frozen frozen' l v i k o f =
+    (record { two = writers out out reported reported; frozen_old = frozen; frozen_new = frozen' }) r
+freeze_broke old new s r out reported frozen frozen' l v i k o f =
     let p : progress_of old ≡ session_after_wraps old = sym (after_is old l v) in
     let t : s ≡ last_state old = i ∙ ap (λ (x : Progress). (x.so_far).state) p in
-    subst (λ (x : Stop). FreezeGives old new (record { two = writers out out reported reported; frozen_old = frozen; frozen_new = frozen' }) (Err x)) (sym k) (
+    subst (λ (x : Result Unit Stop). FreezeGives old new (record { two = writers out out reported reported; frozen_old = frozen; frozen_new = frozen' }) x) (sym k) (
       broke_off true old new (writers out out reported reported) causes.Write l v o refl (nothing_begun out _),
       inr (record {
         ended = ap (λ (x : Progress). x.over) (sym p) ∙ ap how_over l.over;

@@ -192,9 +192,9 @@ missing_goes old new name w (Err (stops.Ended causes.NestingLimit)) l o h = absu
 missing_goes old new name w (Err (stops.Ended (causes.Frozen f))) l o h = absurd h
 
 -- a source that wasn't read, for want of memory
-pub unread_goes : (old new : SessionState) (w : Contents) (p : Progress) (e : Stop) → e ≡ stops.Ended causes.OutOfMemory → new.over ≡ Some causes.OutOfMemory → w.out_new ≡ w.out_old → w.messages_new ≡ w.messages_old → GoesTo p old new w (Err e)
-unread_goes old new w p e i v o m =
-    subst (λ (x : Stop). GoesTo p old new w (Err x)) (sym i)
+pub unread_goes : (old new : SessionState) (w : Contents) (p : Progress) (r : Result Unit Stop) → r ≡ Err (stops.Ended causes.OutOfMemory) → new.over ≡ Some causes.OutOfMemory → w.out_new ≡ w.out_old → w.messages_new ≡ w.messages_old → GoesTo p old new w r
+unread_goes old new w p r i v o m =
+    subst (λ (x : Result Unit Stop). GoesTo p old new w x) (sym i)
     (record { over = v; output = silent_begun w.out_old w.out_new _ o; messages = silent_begun w.messages_old w.messages_new _ m })
 
 pub unopened_is : {R : Type 0} (script : R → Option Script) (name : List ℕ) (after : RunSource R) (s : Source) → DescribesSource script (sources.Unopened name) after s → Unopened name ≡ s

@@ -8,7 +8,7 @@ use Rattle.m4_input.specs.Input.{Held, longer}
 use Rattle.m4_engine.specs.declared.ending.Cause.{Cause}
 use Rattle.m4_engine.specs.declared.ending.Cause.TheVariants as causes
 use Rattle.m4_engine.specs.declared.turned.Turned.{Turned}
-use Rattle.m4_engine.specs.declared.turned.TurnFault.{TurnFault}
+use Rattle.m4_builtins.specs.declared.fault.BuiltinFault.{BuiltinFault as TurnFault}
 use Rattle.m4_engine.specs.declared.turned.TurnEnd.{TurnEnd}
 use Rattle.m4_engine.specs.declared.turned.TurnEnd.TheVariants as turn_ends
 use Rattle.m4_engine.specs.declared.turned.Turned.TheVariants as turns

@@ -3,23 +3,22 @@
 //! A call is in a box, which is kept with its memory for the next call. So a call is moved by its address, and most
 //! calls ask for no memory.
 
-ghost use Rattle.std.specs.Prelude.{◌≡◌, ◌<◌, ◌≤◌, ◌+◌, ◌-◌, suc, OnErr, ◌++◌, ◌∷◌, [], true, false, nat_lt, Ok, OnOk};
+ghost use Rattle.std.specs.Prelude.{◌≡◌, ◌<◌, ◌≤◌, ◌+◌, ◌-◌, ◌++◌, ◌∷◌, [], true, false, Ok, OnOk};
 ghost use Rattle.std.specs.Prelude.{IfOk, IfSome, None, length, take};
 ghost use Rattle.std.specs.List.{AllByRecursion};
 ghost use Rattle.m4_state.specs.Definition.{IsDefinition};
 ghost use Rattle.m4_builtins.specs.Args.{IsArg};
 ghost use Rattle.m4_builtins.specs.declared.args.Arg.TheVariants as arguments;
-ghost use Rattle.m4_input.specs.Ascii.{open_parenthesis, close_parenthesis};
 ghost use Rattle.m4_engine.specs.Args.{role_of, argument_of, dropped_if_any, with_argument};
 ghost use Rattle.m4_engine.specs.Collected.{TakesByte, IsListEnd};
-ghost use Rattle.m4_engine.specs.Engine.{IsCall, warning_if_dropped};
+ghost use Rattle.m4_engine.specs.Engine.{warning_if_dropped};
 ghost use Rattle.m4_engine.specs.Expand.{call_of};
 
 use crate::front::Named;
 use crate::role::{ListEnd, Role};
 use m4_builtins::args::Arg;
 use m4_builtins::place::Place;
-use m4_state::append::{append, append_front};
+use m4_state::append::append_front;
 use m4_state::bytes::Bytes;
 use m4_state::definition::Def;
 use std::alloc::{AllocError, Global};
@@ -72,14 +71,6 @@ impl Drop for OpenCall {
 /// needs.
 const LARGEST_COPIED: usize = 256;
 
-/// Returns an argument that needs no memory.
-#[inline(always)]
-fn blank() -> Arg
-    ensures { IsArg result }
-{
-    Arg::Text(Bytes::empty())
-}
-
 /// Drops the large texts and the definitions among the arguments.
 fn drop_large(args: &mut [Arg]) {
     for arg in args.iter_mut() {
@@ -88,7 +79,7 @@ fn drop_large(args: &mut [Arg]) {
             Arg::Definition(_) => true,
         };
         if is_large {
-            *arg = blank();
+            *arg = Arg::Text(Bytes::empty());
         }
     }
 }
@@ -113,22 +104,6 @@ fn put_text_at(args: &mut Vec<Arg>, count: usize, bytes: &mut Vec<u8>) -> bool
         }
         Arg::Definition(_) => false,
     }
-}
-
-/// Stores an argument after the first `count` ones.
-#[inline(always)]
-fn put_at(args: &mut Vec<Arg>, count: usize, arg: Arg) -> Result<(), AllocError>
-    requires { count ≤ length args.old.items }
-    ensures put { OnOk result (take (count + 1) args.new.items ≡ take count args.old.items ++ arg ∷ []) }
-    ensures err { OnErr result (args.new.items ≡ args.old.items) }
-    ensures within { OnOk result (count + 1 ≤ length args.new.items) }
-{
-    if count < args.len() {
-        args[count] = arg;
-    } else {
-        args.push(arg)?;
-    }
-    Ok(())
 }
 
 /// Returns the argument that was collected, from its bytes and its definitions.
@@ -282,13 +257,6 @@ impl OpenCall {
         &self.parts.place
     }
 
-    /// Returns whether a parenthesis is open in the current argument.
-    pub fn is_nested(&self) -> bool
-        ensures { result ≡ nat_lt 0 self.now.parentheses }
-    {
-        self.parts.parentheses > 0
-    }
-
     /// Returns whether the argument has begun. Until it has, white space is dropped.
     pub fn has_begun(&self) -> bool
         ensures { result ≡ self.now.begun }
@@ -316,15 +284,6 @@ impl OpenCall {
         }
     }
 
-    /// Appends text to the argument.
-    pub fn put(&mut self, text: &[u8]) -> Result<(), AllocError>
-        ensures { OnOk result (self.new ≡ record self.old { begun = true; bytes = self.old.bytes ++ text.now }) }
-    {
-        let parts = &mut *self.parts;
-        parts.begun = true;
-        append(&mut parts.bytes, text)
-    }
-
     /// Appends the first `len` bytes of a text to the argument.
     #[inline(always)]
     pub fn put_front(&mut self, text: &[u8], len: usize) -> Result<(), AllocError>
@@ -345,35 +304,6 @@ impl OpenCall {
     {
         self.parts.begun = true;
         self.parts.tokens.push(definition)?;
-        Ok(())
-    }
-
-    /// Appends an opening parenthesis to the argument.
-    pub fn put_opening(&mut self) -> Result<(), AllocError>
-        ensures { OnOk result (self.new ≡ record self.old {
-          parentheses = suc self.old.parentheses;
-          begun = true;
-          bytes = self.old.bytes ++ open_parenthesis ∷ [];
-        }) }
-    {
-        self.parts.begun = true;
-        self.parts.bytes.push(b'(')?;
-        self.parts.parentheses += 1;
-        Ok(())
-    }
-
-    /// Appends a closing parenthesis that matches one in the argument.
-    pub fn put_closing(&mut self) -> Result<(), AllocError>
-        requires { 0 < self.old.parentheses }
-        ensures { OnOk result (self.new ≡ record self.old {
-          parentheses = self.old.parentheses - 1;
-          begun = true;
-          bytes = self.old.bytes ++ close_parenthesis ∷ [];
-        }) }
-    {
-        self.parts.begun = true;
-        self.parts.bytes.push(b')')?;
-        self.parts.parentheses -= 1;
         Ok(())
     }
 
@@ -428,7 +358,11 @@ impl OpenCall {
         let bytes = std::mem::replace(&mut self.parts.bytes, Vec::new(alloc));
         let tokens = std::mem::replace(&mut self.parts.tokens, Vec::new(alloc));
         let arg = argument(bytes, tokens)?;
-        put_at(&mut self.parts.args, count, arg)?;
+        if count < self.parts.args.len() {
+            self.parts.args[count] = arg;
+        } else {
+            self.parts.args.push(arg)?;
+        }
         self.parts.count = count + 1;
         self.parts.begun = false;
         Ok(drops)
@@ -444,14 +378,22 @@ impl OpenCall {
     {
         match self.role(byte) {
             Role::Blank => {}
-            Role::Opening => self.put_opening()?,
-            Role::Closing if self.is_nested() => self.put_closing()?,
-            Role::Closing => return Ok(Some(ListEnd::List)),
+            Role::Opening => {
+                self.parts.begun = true;
+                self.parts.bytes.push(b'(')?;
+                self.parts.parentheses += 1;
+            }
+            Role::Closing if self.parts.parentheses == 0 => return Ok(Some(ListEnd::List)),
+            Role::Closing => {
+                self.parts.begun = true;
+                self.parts.bytes.push(b')')?;
+                self.parts.parentheses -= 1;
+            }
             Role::Separator if self.drops() => return Ok(Some(ListEnd::Argument)),
             Role::Separator => {
                 let _drops_nothing = self.end_argument()?;
             }
-            Role::Other => self.put(&[byte])?,
+            Role::Other => self.put_front(&[byte], 1)?,
         }
         Ok(None)
     }

@@ -2,7 +2,7 @@
 //!
 //! The output and messages of a turn are buffered until they are flushed, so a turn uses no writer.
 
-ghost use Rattle.std.specs.Prelude.{◌≡◌, suc, [], OnOk, IfOk, IfSome, IfNone};
+ghost use Rattle.std.specs.Prelude.{◌≡◌, [], OnOk, IfOk, IfSome, IfNone};
 ghost use Rattle.m4_state.specs.Definition.{IsDefinition};
 ghost use Rattle.m4_builtins.specs.Messages.{error};
 ghost use Rattle.m4_engine.specs.Engine.{with_text, with_token, with_engine_message, with_open_call, engine_at};
@@ -123,7 +123,7 @@ impl Machine {
         ensures { OnOk result (self.new ≡ with_text text.now self.old) }
     {
         if let Some(call) = &mut self.innermost {
-            call.put(text)?;
+            call.put_front(text, text.len())?;
         } else {
             self.state.append(text)?;
             if self.state.current() == 0 {

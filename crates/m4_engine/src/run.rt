@@ -235,7 +235,7 @@ fn read<R: ByteSource, O: ByteSink, M: ByteSink>(
     match source {
         Source::Opened { name, reader } => {
             let Ok(name) = name.share() else {
-                return Err(session.end(Cause::OutOfMemory));
+                return session.settle(Cause::OutOfMemory);
             };
             session.file(name, reader, out, messages)
         }

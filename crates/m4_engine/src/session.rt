@@ -121,22 +121,6 @@ impl Session {
         self.over.is_none() && !self.finished
     }
 
-    /// Ends the run by this cause.
-    pub(crate) fn end(&mut self, cause: Cause) -> Stop
-        ensures answer { result ≡ Stop.Ended cause }
-        ensures over { self.new ≡ record self.old { over = Some cause } }
-    {
-        self.over = Some(cause);
-        Stop::Ended(cause)
-    }
-
-    /// Marks the run as finished.
-    fn finish_here(&mut self)
-        ensures { self.new ≡ record self.old { finished = true } }
-    {
-        self.finished = true;
-    }
-
     /// Expands a file, block by block. Returns `Ended(Read)` if the reader fails, after the output and messages that
     /// the bytes before its fault settle. `Ended(Write)` and `Ended(OutOfMemory)` follow prefixes of its output and
     /// messages.
@@ -170,15 +154,16 @@ impl Session {
         self.settle(cause)
     }
 
-    /// Returns the result after an input: the run continues only if the end of the input was reached.
-    fn settle(&mut self, cause: Cause) -> Result<(), Stop>
+    /// Ends the run by this cause, unless everything was read. Returns the answer of the call.
+    pub(crate) fn settle(&mut self, cause: Cause) -> Result<(), Stop>
         ensures answer { result ≡ answer_by cause }
         ensures over { self.new ≡ record self.old { over = over_after cause self.old.over } }
     {
         if cause == Cause::Done {
             return Ok(());
         }
-        Err(self.end(cause))
+        self.over = Some(cause);
+        Err(Stop::Ended(cause))
     }
 
     /// Returns the exit status for the cause that ended the run or, without one, for a run that read everything.
@@ -204,7 +189,7 @@ impl Session {
             return Err(Stop::Finished);
         }
         if let Err(DeviceFault) = put_unopened(name, messages) {
-            return Err(self.end(Cause::Write));
+            return self.settle(Cause::Write);
         }
         self.any_missing = true;
         Ok(())
@@ -227,10 +212,10 @@ impl Session {
         ensures any_missing { self.new.any_missing ≡ self.old.any_missing }
     {
         let Ok(text) = self.machine.take_saved() else {
-            return Err(self.end(Cause::OutOfMemory));
+            return self.settle(Cause::OutOfMemory);
         };
         let Ok(mut input) = Input::wrapped(self.machine.alloc(), text) else {
-            return Err(self.end(Cause::OutOfMemory));
+            return self.settle(Cause::OutOfMemory);
         };
         let mut none = MemSource::new(&[], 1, false);
         let ended = self.machine.expand(&mut input, &mut none, out, messages);
@@ -284,9 +269,9 @@ impl Session {
         }
         self.read_saved(out, messages)?;
         if let Err(DeviceFault) = self.machine.issue(out) {
-            return Err(self.end(Cause::Write));
+            return self.settle(Cause::Write);
         }
-        self.finish_here();
+        self.finished = true;
         Ok(())
     }
 
@@ -325,10 +310,10 @@ impl Session {
         self.read_saved(out, messages)?;
         match write_frozen(self.machine.state(), freeze_to) {
             Ok(()) => {}
-            Err(WriteFault::Write) => return Err(self.end(Cause::Write)),
-            Err(WriteFault::OutOfMemory) => return Err(self.end(Cause::OutOfMemory)),
+            Err(WriteFault::Write) => return self.settle(Cause::Write),
+            Err(WriteFault::OutOfMemory) => return self.settle(Cause::OutOfMemory),
         }
-        self.finish_here();
+        self.finished = true;
         Ok(())
     }
 

@@ -5,9 +5,6 @@ ghost use Rattle.m4_engine.specs.Turns.{cause_of_end};
 
 use crate::ending::Cause;
 use m4_builtins::fault::BuiltinFault;
-use m4_input::fault::InputFault;
-use m4_state::fault::StateFault;
-use std::alloc::AllocError;
 
 /// The outcome of a turn that was completed.
 #[derive(Clone, Copy)]
@@ -59,41 +56,5 @@ impl TurnEnd {
     }
 }
 
-/// Why a turn was not completed. The run is over, and its state is not used again.
-#[derive(Clone, Copy)]
-pub enum TurnFault {
-    /// An allocation failed.
-    OutOfMemory,
-}
-
-impl From<AllocError> for TurnFault {
-    fn from(_: AllocError) -> TurnFault {
-        TurnFault::OutOfMemory
-    }
-}
-
-impl From<StateFault> for TurnFault {
-    fn from(_: StateFault) -> TurnFault {
-        TurnFault::OutOfMemory
-    }
-}
-
-impl From<BuiltinFault> for TurnFault {
-    fn from(_: BuiltinFault) -> TurnFault {
-        TurnFault::OutOfMemory
-    }
-}
-
-impl TurnFault {
-    /// Returns the turn's fault for a fault of the input. A turn uses no reader, so only an allocation can fail
-    /// in it.
-    pub fn of(fault: InputFault) -> TurnFault
-        requires { fault ≡ InputFault.OutOfMemory }
-    {
-        match fault {
-            InputFault::OutOfMemory => TurnFault::OutOfMemory,
-            InputFault::Read | InputFault::EndInString { .. } | InputFault::EndInComment { .. } =>
-                unreachable!(),
-        }
-    }
-}
+/// Why a turn was not completed: an allocation failed. The run is over, and its state is not used again.
+pub type TurnFault = BuiltinFault;

@@ -1,17 +1,14 @@
 //! Calls: a call begins at its name and is made when its arguments are complete. Its result is pushed.
 //! Manual: "Macro invocation", "Macro arguments".
 
-ghost use Rattle.std.specs.Prelude.{◌≡◌, ◌<◌, ◌≤◌, nat_lt, List, ℕ, [], ◌∷◌, ◌++◌, None, Some, Ok, OnOk, true, false};
-ghost use Rattle.std.specs.Prelude.{length};
+ghost use Rattle.std.specs.Prelude.{◌≡◌, ◌<◌, nat_lt, List, ℕ, [], ◌++◌, None, Some, Ok, OnOk, true, false};
 ghost use Rattle.m4_input.specs.Paren.{paren_at};
 ghost use Rattle.m4_input.specs.declared.front.Answer.TheVariants as answers;
 ghost use Rattle.m4_input.specs.Input.{longer};
-ghost use Rattle.m4_input.specs.Pending.{text_of, consumed};
-ghost use Rattle.m4_engine.specs.Engine.{IsReady, with_made, with_one_call, is_deep_in, here_of, outer_of};
+ghost use Rattle.m4_engine.specs.Engine.{with_made, with_one_call, is_deep_in, here_of, outer_of};
 ghost use Rattle.m4_engine.specs.Turns.{Moves, IsTaken, Makes, Steps, StepsBy, Pushes, Extended, Stays, step};
 ghost use Rattle.m4_engine.specs.Turns.{called_within};
-ghost use Rattle.m4_builtins.specs.Act.{IsPushed, act};
-ghost use Rattle.m4_builtins.specs.Acted.{nothing};
+ghost use Rattle.m4_builtins.specs.Act.{IsPushed};
 ghost use Rattle.m4_builtins.specs.Subst.{subst};
 ghost use Rattle.m4_state.specs.declared.definition.Def.TheVariants.{Text};
 ghost use Rattle.m4_engine.specs.Expansion.{Call};
@@ -22,33 +19,11 @@ use crate::machine::Machine;
 use crate::turned::{TurnEnd, TurnFault, Turned};
 use m4_builtins::act::act_on;
 use m4_builtins::effect_buffer::EffectBuffer;
+use m4_input::fault::InputFault;
 use m4_input::input::Input;
 use m4_input::pushed::Pushed;
 use m4_state::bytes::Bytes;
-use m4_state::definition::Def;
-use m4_state::state::State;
 use std::alloc::AllocError;
-
-/// Acts on the complete arguments of a call: changes the state, and fills an effect that is clear.
-fn act_on_call(
-    effect: &mut EffectBuffer,
-    call: &OpenCall,
-    state: &mut State,
-) -> Result<(), TurnFault>
-    requires { effect.old ≡ nothing }
-    ensures { OnOk result (act call.now.definition call.now.name call.now.done call.now.place state.old
-        ≡ record { state = state.new; effect = effect.new }) }
-{
-    act_on(
-        effect,
-        call.definition(),
-        call.name(),
-        call.arguments(),
-        call.place(),
-        state,
-    )?;
-    Ok(())
-}
 
 /// Pushes a value: it is read before everything else.
 #[inline(always)]
@@ -61,7 +36,9 @@ fn push(input: &mut Input, value: Pushed) -> Result<(), TurnFault>
 {
     match input.push_front(value) {
         Ok(()) => Ok(()),
-        Err(fault) => Err(TurnFault::of(fault)),
+        Err(InputFault::OutOfMemory) => Err(TurnFault::OutOfMemory),
+        // A turn uses no reader.
+        Err(_) => unreachable!(),
     }
 }
 
@@ -91,7 +68,7 @@ fn put_more(
     messages: &mut Vec<u8>,
     output: &mut Vec<u8>,
     saved: &mut Vec<Bytes>,
-) -> Result<(), TurnFault>
+) -> Result<(), AllocError>
     ensures messages { OnOk result (messages.new.items ≡ messages.old.items ++ effect.old.messages) }
     ensures output { OnOk result (output.new.items ≡ output.old.items ++ effect.old.output) }
     ensures saved { OnOk result (saved.new.items ≡ with_saved effect.old.wrap saved.old.items) }
@@ -100,17 +77,20 @@ fn put_more(
     messages.extend_from_slice(effect.messages())?;
     output.extend_from_slice(effect.output())?;
     if let Some(text) = effect.take_wrap() {
-        push_saved(saved, text)?;
+        saved.push(text)?;
     }
     Ok(())
 }
 
-/// Saves a text after the others.
-fn push_saved(saved: &mut Vec<Bytes>, text: Bytes) -> Result<(), AllocError>
-    ensures { OnOk result (saved.new.items ≡ saved.old.items ++ text ∷ []) }
+/// Moves to the effect the memory of a text that was read to its end, if it has none.
+#[inline(always)]
+fn lend(effect: &mut EffectBuffer, input: &mut Input)
+    ensures effect { effect.new ≡ effect.old }
+    ensures input { input.new ≡ input.old }
 {
-    saved.push(text)?;
-    Ok(())
+    if !effect.has_memory() {
+        effect.lend(input.take_buffer());
+    }
 }
 
 impl Machine {
@@ -132,33 +112,21 @@ impl Machine {
             (call_turn listed call (longer z more input.old.pending) (here_of o m self.old (before z more))))) }
     {
         if !self.has_room() {
-            self.report_call_limit(&call)?;
+            self.report_limit(&call, self.most_calls, b" calls")?;
             return Ok(Turned::Ends(TurnEnd::ExpansionLimit));
         }
         self.count();
         if self.is_deep() {
-            self.report_nesting_limit(&call)?;
+            self.report_limit(&call, self.most_nested, b" nested calls")?;
             return Ok(Turned::Ends(TurnEnd::NestingLimit));
         }
         if !listed {
             return self.call(call, input);
         }
-        self.take_parenthesis(input);
+        // The parenthesis was recognised as a token, so it is one byte.
+        input.consume(1);
         self.open_list(call)?;
         Ok(Turned::GoesOn)
-    }
-
-    /// Consumes the parenthesis that opens a list. It was recognised as a token, so it is one byte.
-    #[inline(always)]
-    fn take_parenthesis(&self, input: &mut Input)
-        requires ready { IsReady input.old }
-        requires paren_follows { paren_at self.now.state.quotes self.now.state.comments input.old.pending
-            ≡ answers.Yes }
-        ensures taken { input.new.pending ≡ consumed 1 input.old.pending }
-        ensures within { 1 ≤ length (text_of input.old.pending) }
-        ensures ready { Stays input.old input.new }
-    {
-        input.consume(1);
     }
 
     /// Counts a call of a text macro without a list, and pushes its expansion.
@@ -193,24 +161,23 @@ impl Machine {
         self.begin_argument();
     }
 
-    /// Makes a call whose arguments are complete. The effect has memory for a text that the call makes.
+    /// Makes a call whose arguments are complete: acts on it, and pushes its value. The effect has memory for a text
+    /// that the call makes.
     #[inline(never)]
     pub(super) fn call(&mut self, call: OpenCall, input: &mut Input) -> Result<Turned, TurnFault>
         requires { IsTaken input.old }
         ensures { StepsBy result self.old self.new input.old input.new (called_within self.old.open_calls call) }
     {
-        self.lend(input);
-        self.make_call(call, input)
-    }
-
-    /// Acts on a call whose arguments are complete, and pushes its value.
-    #[inline(always)]
-    fn make_call(&mut self, call: OpenCall, input: &mut Input) -> Result<Turned, TurnFault>
-        requires { IsTaken input.old }
-        ensures { StepsBy result self.old self.new input.old input.new (called_within self.old.open_calls call) }
-    {
+        lend(&mut self.effect, input);
         self.effect.clear();
-        act_on_call(&mut self.effect, &call, &mut self.state)?;
+        act_on(
+            &mut self.effect,
+            call.definition(),
+            call.name(),
+            call.arguments(),
+            call.place(),
+            &mut self.state,
+        )?;
         self.spare.keep(call);
         if self.effect.has_more() {
             put_more(
@@ -234,17 +201,6 @@ impl Machine {
         push_value(input, &mut self.effect)?;
         self.begin_argument();
         Ok(Turned::GoesOn)
-    }
-
-    /// Moves to the effect the memory of a text that was read to its end, if it has none.
-    #[inline(always)]
-    fn lend(&mut self, input: &mut Input)
-        ensures same { self.new ≡ self.old }
-        ensures input { input.new ≡ input.old }
-    {
-        if !self.effect.has_memory() {
-            self.effect.lend(input.take_buffer());
-        }
     }
 
     /// Marks the argument that contains a call as begun, and gives the call around it memory for it.

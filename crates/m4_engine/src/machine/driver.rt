@@ -1,14 +1,14 @@
 //! Expands an input turn by turn. Messages are flushed as they arise, and output once a block of it is
 //! buffered. Manual: "How m4 copies input to output".
 
-ghost use Rattle.std.specs.Prelude.{◌≡◌, ◌<◌, ◌≤◌, true, None, Ok, [], length, take, OnOk, OnErr};
+ghost use Rattle.std.specs.Prelude.{◌≡◌, ◌<◌, ◌≤◌, true, None, Ok, length, take, OnOk, OnErr};
 ghost use Rattle.m4_state.specs.Device.{with_bytes};
 ghost use Rattle.m4_input.specs.Input.{IsLasting, failures_after};
 ghost use Rattle.m4_engine.specs.Engine.{IsReady, after_flush};
 ghost use Rattle.m4_engine.specs.Writers.{both, FailsBy, FailsOnce};
 ghost use Rattle.m4_engine.specs.Continued.{HandGives, OrderBy, IsFlushed, cause_of, fault_cause};
 ghost use Rattle.m4_engine.specs.ReadsOn.{ReadsOn};
-ghost use Rattle.m4_engine.specs.Expands.{Expands, ReadsBy, StepBreaksBy, FlushesPrefix, FlushesDue, IsInOrder, IsIdle};
+ghost use Rattle.m4_engine.specs.Expands.{Expands, ReadsBy, StepBreaksBy, FlushesPrefix, IsInOrder, IsIdle};
 ghost use Rattle.m4_engine.specs.Expands.{at_rest};
 
 use crate::ending::Cause;
@@ -20,7 +20,6 @@ use m4_input::fault::InputFault;
 use m4_input::input::Input;
 use m4_state::device::{ByteSink, ByteSource, DeviceFault};
 use m4_state::transfer::write_all;
-use std::alloc::AllocError;
 
 /// Output is flushed once this many bytes are buffered. One turn may add more before that.
 pub(crate) const OUTPUT_BLOCK: usize = 65536;
@@ -73,31 +72,6 @@ impl Machine {
         Ok(())
     }
 
-    /// Flushes the buffers if there is a message, or a block of output.
-    #[tactic(auto, using(crate::proofs::Begins::due_none, crate::proofs::Begins::due_all))]
-    fn flush_if_due<O: ByteSink, M: ByteSink>(
-        &mut self,
-        earlier: usize,
-        out: &mut O,
-        messages: &mut M,
-    ) -> Result<(), DeviceFault>
-        requires { earlier ≤ length self.old.output }
-        ensures due { OnOk result (FlushesDue self.old self.new
-            (both O.contents M.contents out.old out.new messages.old messages.new)) }
-        ensures order { OnErr result (IsInOrder (take earlier self.old.output) self.old.messages
-            (both O.contents M.contents out.old out.new messages.old messages.new)) }
-        ensures begun { OnErr result (FlushesPrefix self.old.output self.old.messages
-            (both O.contents M.contents out.old out.new messages.old messages.new)) }
-        ensures none_waits { OnOk result (self.new.messages ≡ []) }
-        ensures less_than_a_block { OnOk result (length self.new.output < 65536) }
-        ensures counted { FailsOnce result (both O.failures M.failures out.old out.new messages.old messages.new) }
-    {
-        if !self.messages.is_empty() || self.output.len() >= OUTPUT_BLOCK {
-            self.flush(earlier, out, messages)?;
-        }
-        Ok(())
-    }
-
     /// Expands the bytes in hand as far as they decide. Writes messages as they arise, output in blocks, and all
     /// of both if more bytes are needed. If the rest of a line is to be discarded, it does that first. `copy` is a
     /// buffer for a token that spans several texts.
@@ -134,32 +108,25 @@ impl Machine {
                 Ok(turned) => turned,
                 Err(TurnFault::OutOfMemory) => return InHand::Ends(Cause::OutOfMemory),
             };
+            // If the turn leaves no message and less than a block of output, nothing is flushed.
+            if let Turned::GoesOn = turned
+                && self.messages.is_empty()
+                && self.output.len() < OUTPUT_BLOCK
+            {
+                continue 'turns;
+            }
+            if let Err(DeviceFault) = self.flush(earlier, out, messages) {
+                return InHand::Ends(Cause::Write);
+            }
             match turned {
-                Turned::GoesOn => {
-                    if let Err(DeviceFault) = self.flush_if_due(earlier, out, messages) {
-                        return InHand::Ends(Cause::Write);
-                    }
-                }
+                Turned::GoesOn => {}
                 Turned::SkipsLine => {
-                    if let Err(DeviceFault) = self.flush(earlier, out, messages) {
-                        return InHand::Ends(Cause::Write);
-                    }
                     if !input.skip_in_hand() {
                         return InHand::Needs(Wanted::Line);
                     }
                 }
-                Turned::NeedsMore => {
-                    return match self.flush(earlier, out, messages) {
-                        Ok(()) => InHand::Needs(Wanted::Token),
-                        Err(DeviceFault) => InHand::Ends(Cause::Write),
-                    };
-                }
-                Turned::Ends(end) => {
-                    return match self.flush(earlier, out, messages) {
-                        Ok(()) => InHand::Ends(end.cause()),
-                        Err(DeviceFault) => InHand::Ends(Cause::Write),
-                    };
-                }
+                Turned::NeedsMore => return InHand::Needs(Wanted::Token),
+                Turned::Ends(end) => return InHand::Ends(end.cause()),
             }
         }
     }

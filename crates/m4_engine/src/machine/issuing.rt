@@ -1,7 +1,7 @@
 //! The end of a run: undiverts its diversions, or returns the state to be frozen. Manual: "Undiverting
 //! output", "Fast loading of frozen state".
 
-ghost use Rattle.std.specs.Prelude.{◌≡◌, []};
+ghost use Rattle.std.specs.Prelude.{◌≡◌};
 ghost use Rattle.m4_state.specs.Device.{Puts, count_after};
 ghost use Rattle.m4_engine.specs.Wraps.{close};
 
@@ -17,7 +17,10 @@ impl Machine {
         ensures counted { O.failures out.new ≡ count_after result (O.failures out.old) }
         ensures rest { self.new ≡ record self.old { state = self.new.state } }
     {
-        issue(&mut self.state, out)
+        while let Some((_, text)) = self.state.take_least() {
+            write_all(out, &text)?;
+        }
+        Ok(())
     }
 
     /// Returns the state.
@@ -26,15 +29,4 @@ impl Machine {
     {
         &self.state
     }
-}
-
-/// Writes a state's diversions by rising number, and removes each one from it.
-fn issue<O: ByteSink>(state: &mut State, out: &mut O) -> Result<(), DeviceFault>
-    ensures puts { Puts result (O.contents out.old) (O.contents out.new) (close state.old) }
-    ensures counted { O.failures out.new ≡ count_after result (O.failures out.old) }
-{
-    while let Some((_, text)) = state.take_least() {
-        write_all(out, &text)?;
-    }
-    Ok(())
 }

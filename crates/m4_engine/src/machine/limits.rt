@@ -3,14 +3,13 @@
 ghost use Rattle.std.specs.Prelude.{◌≡◌, ◌<◌, ◌&&◌, nat_lt, ◌++◌, OnOk, true, codes};
 ghost use Rattle.std.specs.Fmt.{decimal};
 ghost use Rattle.m4_builtins.specs.Messages.{error};
-ghost use Rattle.m4_engine.specs.Engine.{with_engine_message, with_one_call, calls_text, nested_text, is_deep_in};
+ghost use Rattle.m4_engine.specs.Engine.{with_engine_message, with_one_call, is_deep_in};
 ghost use Rattle.m4_engine.specs.Engine.{allows_call};
 
 use crate::call::OpenCall;
 use crate::machine::Machine;
 use crate::turned::TurnFault;
 use itoa::Buffer;
-use m4_builtins::place::Place;
 
 impl Machine {
     /// Returns whether the limits allow one more call.
@@ -44,32 +43,21 @@ impl Machine {
         self.most_nested > 0 && open as u64 >= self.most_nested
     }
 
-    /// Adds the error that there are too many calls.
-    pub(super) fn report_call_limit(&mut self, call: &OpenCall) -> Result<(), TurnFault>
-        ensures { OnOk result (self.new ≡ with_engine_message
-            (error call.now.place (calls_text self.old.limits.calls)) self.old) }
-    {
-        self.report_limit(call.place(), self.most_calls, b" calls")
-    }
-
-    /// Adds the error that too many calls are nested.
-    pub(super) fn report_nesting_limit(&mut self, call: &OpenCall) -> Result<(), TurnFault>
-        ensures { OnOk result (self.new ≡ with_engine_message
-            (error call.now.place (nested_text self.old.limits.nesting)) self.old) }
-    {
-        self.report_limit(call.place(), self.most_nested, b" nested calls")
-    }
-
     /// Adds the error that a call exceeds a limit. `what` is the text after the number.
-    fn report_limit(&mut self, place: &Place, limit: u64, what: &[u8]) -> Result<(), TurnFault>
+    pub(super) fn report_limit(
+        &mut self,
+        call: &OpenCall,
+        limit: u64,
+        what: &[u8],
+    ) -> Result<(), TurnFault>
         ensures { OnOk result (self.new
-            ≡ with_engine_message (error place.now (codes "more than " ++ decimal limit ++ what.now)) self.old) }
+            ≡ with_engine_message (error call.now.place (codes "more than " ++ decimal limit ++ what.now)) self.old) }
     {
         let mut buffer = Buffer::new();
         let mut text = Vec::new(self.alloc);
         text.extend_from_slice(b"more than ")?;
         text.extend_from_slice(buffer.format(limit).as_bytes())?;
         text.extend_from_slice(what)?;
-        self.add_error(place, &text)
+        self.add_error(call.place(), &text)
     }
 }

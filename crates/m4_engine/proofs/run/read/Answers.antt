@@ -9,8 +9,8 @@ use Rattle.m4_engine.proofs.run.read.Goals as goal
 
 pub returns-in_default-clause-writes : goal.returns-in_default-clause-writes
 returns-in_default-clause-writes g c = λ s e. record {
-  goes = unread_goes c.args.session.now c.end.new.self _ _ c.end.result c.end.ensures.answer (search rules) refl refl;
-  order = unread_told g.R.ByteSource.script c.args.session.now c.in-Opened.name c.in-Opened.reader _ _ (Err c.end.result) s (search rules) c.requires e refl refl;
+  goes = unread_goes c.args.session.now c.settle.new.self _ _ c.settle.result c.settle.ensures.answer (search rules) refl refl;
+  order = unread_told g.R.ByteSource.script c.args.session.now c.in-Opened.name c.in-Opened.reader _ _ c.settle.result s (search rules) c.requires e refl refl;
 }
 
 pub returns-in-Ok-clause-writes : goal.returns-in-Ok-clause-writes
@@ -27,7 +27,7 @@ returns-in-Unopened-clause-writes g c = λ s e. record {
 
 pub returns-in_default-clause-reads : goal.returns-in_default-clause-reads
 returns-in_default-clause-reads g c = record {
-  reached = unread_so g.R.ByteSource.script c.args.source.now _ c.args.session.now c.end.new.self _ _ c.end.result (search rules) c.end.ensures.answer c.requires;
+  reached = unread_so g.R.ByteSource.script c.args.source.now _ c.args.session.now c.settle.new.self _ _ c.settle.result (search rules) c.settle.ensures.answer c.requires;
   failed = search rules;
   taken = search rules;
 }
@@ -49,7 +49,7 @@ returns-in-Unopened-clause-reads g c = record {
 pub returns-in_default-clause-marks : goal.returns-in_default-clause-marks
 returns-in_default-clause-marks g c = record {
   read = search rules;
-  exited = λ code e. absurd (cc c.end.ensures.answer);
+  exited = λ code e. absurd (cc c.settle.ensures.answer);
 }
 
 pub returns-in-Ok-clause-marks : goal.returns-in-Ok-clause-marks

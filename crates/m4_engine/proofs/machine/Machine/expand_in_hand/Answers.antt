@@ -1,7 +1,8 @@
-use Rattle.std.proofs.Common.{◌≡◌, ◌≤◌, true, false, length, rules, arith, refl, ap, ◌∙◌}
+use Rattle.std.proofs.Common.{◌≡◌, ◌<◌, ◌≤◌, ℕ, List, [], true, false, length, rules, arith, refl, ap, ◌∙◌}
+use Rattle.std.proofs.lemmas.List.{nil_from_length}
 use Rattle.m4_engine.proofs.OnlyGrows.{output_stays}
 use Rattle.m4_engine.proofs.Running.{begins_so, begins_past, not_both, passed, went_on, went_past_line, fell}
-use Rattle.m4_engine.proofs.Begins.{due_all}
+use Rattle.m4_engine.proofs.Begins.{due_none, due_all}
 use Rattle.m4_engine.proofs.Running.{fell_past_line, ended, needed, needs_line_after, breaks, write_breaks}
 use Rattle.m4_engine.proofs.Running.{write_breaks_in_order, lack_breaks_in_order, in_order_end, needs_line_so}
 use Rattle.m4_engine.proofs.Running.{line_done_by, hand_ends}
@@ -9,6 +10,9 @@ use Rattle.m4_engine.proofs.Passing.{passes_ready}
 use Rattle.m4_engine.specs.Engine.{Engine}
 use Rattle.m4_engine.proofs.machine.Machine.expand_in_hand.Goals.{in-Token, in-Line}
 use Rattle.m4_engine.proofs.machine.Machine.expand_in_hand.Goals as goal
+
+few_left : (x : List ℕ) → x ≡ [] → length x < 65536
+few_left x e = let none : length x ≡ 0 = ap length e in omega arith
 
 pub pass_plain-requires : goal.pass_plain-requires
 pass_plain-requires g c = c.turns.invariant.runs.ready
@@ -24,12 +28,6 @@ returns-in_default-clause-gives g c = breaks c.args.wanted c.args.self.now c.tur
 
 pub returns-in-Err-OutOfMemory-clause-gives : goal.returns-in-Err-OutOfMemory-clause-gives
 returns-in-Err-OutOfMemory-clause-gives g c = breaks c.args.wanted c.args.self.now c.turns.self c.args.input.now.pending c.turns.input _ _ _ _ c.turns.invariant.runs
-
-pub flush_if_due-requires : goal.flush_if_due-requires
-flush_if_due-requires g c =
-    let held : c.len-earlier.result ≡ length c.pass_plain.new.self.output = search rules in
-    let grows : length c.pass_plain.new.self.output ≤ length c.turn.new.self.output = output_stays c.pass_plain.new.self c.turn.new.self c.pass_plain.new.input c.turn.new.input c.in-Ok-turn.turned c.in-Ok-turn.ensures.moves c.in-Ok-turn.ensures.made in
-    omega arith
 
 pub returns-then-not-at_token-clause-gives : goal.returns-then-not-at_token-clause-gives
 returns-then-not-at_token-clause-gives g c = elim c.match-wanted.branch [
@@ -51,6 +49,7 @@ turns-init g c = record {
         (search rules) w.skip_in_hand-at_token.ensures)
   ];
   quiet = c.requires.flushed.messages;
+  few = few_left _ c.requires.flushed.output;
   out = refl;
   reported = refl;
 }
@@ -60,23 +59,44 @@ returns-in-Err-clause-gives g c =
     let r = passed c.args.wanted c.args.self.now c.turns.self c.pass_plain.new.self c.args.input.now.pending c.turns.input c.pass_plain.new.input _ _ _ _ c.turns.invariant.runs c.in-Ok.ensures.passes in
     write_breaks c.args.wanted c.args.self.now c.pass_plain.new.self c.turn.new.self c.args.input.now.pending c.pass_plain.new.input c.turn.new.input c.in-Ok-turn.turned _ _ _ _ _ _ r c.in-Ok-turn.ensures.moves c.in-Ok-turn.ensures.made c.in-Err.ensures.begun
 
-pub turns-smaller-in_default-flush_if_due : goal.turns-smaller-in_default-flush_if_due
-turns-smaller-in_default-flush_if_due g c = fell c.turns.self c.pass_plain.new.self c.turn.new.self
-    c.flush_if_due.new.self c.turns.input c.pass_plain.new.input c.turn.new.input _ _ _ _ c.in-Ok-turn.turned
+pub turns-smaller-in-turns : goal.turns-smaller-in-turns
+turns-smaller-in-turns g c = fell c.turns.self c.pass_plain.new.self c.turn.new.self
+    c.turn.new.self c.turns.input c.pass_plain.new.input c.turn.new.input _ _ _ _ c.in-Ok-turn.turned
     c.in-Ok.ensures.passes c.in-Ok-turn.ensures.moves c.in-Ok-turn.ensures.ready c.in-GoesOn.is
-    c.in_default-flush_if_due.ensures.due
+    (due_none c.turn.new.self (g.O.ByteSink.contents c.turns.out) (g.M.ByteSink.contents c.turns.messages))
 
-pub turns-preserved-in_default-flush_if_due : goal.turns-preserved-in_default-flush_if_due
-turns-preserved-in_default-flush_if_due g c =
+pub turns-preserved-in-turns : goal.turns-preserved-in-turns
+turns-preserved-in-turns g c =
     let r = passed c.args.wanted c.args.self.now c.turns.self c.pass_plain.new.self c.args.input.now.pending c.turns.input c.pass_plain.new.input _ _ _ _ c.turns.invariant.runs c.in-Ok.ensures.passes in
     record {
-      runs = went_on c.args.wanted c.args.self.now c.pass_plain.new.self c.turn.new.self c.flush_if_due.new.self
+      runs = went_on c.args.wanted c.args.self.now c.pass_plain.new.self c.turn.new.self c.turn.new.self
           c.args.input.now.pending c.pass_plain.new.input c.turn.new.input _ _ _ _ _ _ c.in-Ok-turn.turned r
           c.in-Ok-turn.ensures.moves c.in-Ok-turn.ensures.ready c.in-GoesOn.is c.in-Ok-turn.ensures.limits
-          c.in_default-flush_if_due.ensures.due;
-      quiet = c.in_default-flush_if_due.ensures.none_waits;
-      out = c.in_default-flush_if_due.ensures.counted.0 ∙ c.turns.invariant.out;
-      reported = c.in_default-flush_if_due.ensures.counted.1 ∙ c.turns.invariant.reported;
+          (due_none c.turn.new.self (g.O.ByteSink.contents c.turns.out) (g.M.ByteSink.contents c.turns.messages));
+      quiet = nil_from_length c.turn.new.self.messages (search rules);
+      few = search rules;
+      out = c.turns.invariant.out;
+      reported = c.turns.invariant.reported;
+    }
+
+pub turns-smaller-in-GoesOn-turned : goal.turns-smaller-in-GoesOn-turned
+turns-smaller-in-GoesOn-turned g c = fell c.turns.self c.pass_plain.new.self c.turn.new.self
+    c.flush.new.self c.turns.input c.pass_plain.new.input c.turn.new.input _ _ _ _ c.in-Ok-turn.turned
+    c.in-Ok.ensures.passes c.in-Ok-turn.ensures.moves c.in-Ok-turn.ensures.ready c.in-GoesOn-turned.is
+    (due_all c.turn.new.self c.flush.new.self _ _ _ _ c.in_default-flush.ensures.engine c.in_default-flush.ensures.output c.in_default-flush.ensures.messages)
+
+pub turns-preserved-in-GoesOn-turned : goal.turns-preserved-in-GoesOn-turned
+turns-preserved-in-GoesOn-turned g c =
+    let r = passed c.args.wanted c.args.self.now c.turns.self c.pass_plain.new.self c.args.input.now.pending c.turns.input c.pass_plain.new.input _ _ _ _ c.turns.invariant.runs c.in-Ok.ensures.passes in
+    record {
+      runs = went_on c.args.wanted c.args.self.now c.pass_plain.new.self c.turn.new.self c.flush.new.self
+          c.args.input.now.pending c.pass_plain.new.input c.turn.new.input _ _ _ _ _ _ c.in-Ok-turn.turned r
+          c.in-Ok-turn.ensures.moves c.in-Ok-turn.ensures.ready c.in-GoesOn-turned.is c.in-Ok-turn.ensures.limits
+          (due_all c.turn.new.self c.flush.new.self _ _ _ _ c.in_default-flush.ensures.engine c.in_default-flush.ensures.output c.in_default-flush.ensures.messages);
+      quiet = ap (λ (d : Engine). d.messages) c.in_default-flush.ensures.engine;
+      few = few_left _ (ap (λ (d : Engine). d.output) c.in_default-flush.ensures.engine);
+      out = c.in_default-flush.ensures.counted.0 ∙ c.turns.invariant.out;
+      reported = c.in_default-flush.ensures.counted.1 ∙ c.turns.invariant.reported;
     }
 
 pub flush-requires : goal.flush-requires
@@ -84,33 +104,6 @@ flush-requires g c =
     let held : c.len-earlier.result ≡ length c.pass_plain.new.self.output = search rules in
     let grows : length c.pass_plain.new.self.output ≤ length c.turn.new.self.output = output_stays c.pass_plain.new.self c.turn.new.self c.pass_plain.new.input c.turn.new.input c.in-Ok-turn.turned c.in-Ok-turn.ensures.moves c.in-Ok-turn.ensures.made in
     omega arith
-
-pub flush-requires-in-NeedsMore : goal.flush-requires-in-NeedsMore
-flush-requires-in-NeedsMore g c =
-    let held : c.len-earlier.result ≡ length c.pass_plain.new.self.output = search rules in
-    let grows : length c.pass_plain.new.self.output ≤ length c.turn.new.self.output = output_stays c.pass_plain.new.self c.turn.new.self c.pass_plain.new.input c.turn.new.input c.in-Ok-turn.turned c.in-Ok-turn.ensures.moves c.in-Ok-turn.ensures.made in
-    omega arith
-
-pub flush-requires-in-Ends : goal.flush-requires-in-Ends
-flush-requires-in-Ends g c =
-    let held : c.len-earlier.result ≡ length c.pass_plain.new.self.output = search rules in
-    let grows : length c.pass_plain.new.self.output ≤ length c.turn.new.self.output = output_stays c.pass_plain.new.self c.turn.new.self c.pass_plain.new.input c.turn.new.input c.in-Ok-turn.turned c.in-Ok-turn.ensures.moves c.in-Ok-turn.ensures.made in
-    omega arith
-
-pub returns-in-Err-flush-clause-gives : goal.returns-in-Err-flush-clause-gives
-returns-in-Err-flush-clause-gives g c =
-    let r = passed c.args.wanted c.args.self.now c.turns.self c.pass_plain.new.self c.args.input.now.pending c.turns.input c.pass_plain.new.input _ _ _ _ c.turns.invariant.runs c.in-Ok.ensures.passes in
-    write_breaks c.args.wanted c.args.self.now c.pass_plain.new.self c.turn.new.self c.args.input.now.pending c.pass_plain.new.input c.turn.new.input c.in-Ok-turn.turned _ _ _ _ _ _ r c.in-Ok-turn.ensures.moves c.in-Ok-turn.ensures.made c.in-Err-flush.ensures.begun
-
-pub returns-in-Err-flush-2-clause-gives : goal.returns-in-Err-flush-2-clause-gives
-returns-in-Err-flush-2-clause-gives g c =
-    let r = passed c.args.wanted c.args.self.now c.turns.self c.pass_plain.new.self c.args.input.now.pending c.turns.input c.pass_plain.new.input _ _ _ _ c.turns.invariant.runs c.in-Ok.ensures.passes in
-    write_breaks c.args.wanted c.args.self.now c.pass_plain.new.self c.turn.new.self c.args.input.now.pending c.pass_plain.new.input c.turn.new.input c.in-Ok-turn.turned _ _ _ _ _ _ r c.in-Ok-turn.ensures.moves c.in-Ok-turn.ensures.made c.in-Err-flush-2.ensures.begun
-
-pub returns-in-Err-flush-3-clause-gives : goal.returns-in-Err-flush-3-clause-gives
-returns-in-Err-flush-3-clause-gives g c =
-    let r = passed c.args.wanted c.args.self.now c.turns.self c.pass_plain.new.self c.args.input.now.pending c.turns.input c.pass_plain.new.input _ _ _ _ c.turns.invariant.runs c.in-Ok.ensures.passes in
-    write_breaks c.args.wanted c.args.self.now c.pass_plain.new.self c.turn.new.self c.args.input.now.pending c.pass_plain.new.input c.turn.new.input c.in-Ok-turn.turned _ _ _ _ _ _ r c.in-Ok-turn.ensures.moves c.in-Ok-turn.ensures.made c.in-Err-flush-3.ensures.begun
 
 pub returns-then-not-skip_in_hand-clause-gives : goal.returns-then-not-skip_in_hand-clause-gives
 returns-then-not-skip_in_hand-clause-gives g c =
@@ -145,26 +138,27 @@ turns-preserved g c =
           (line_done_by c.turn.new.input c.skip_in_hand.new.self c.skip_in_hand.result true (search rules)
           c.skip_in_hand.ensures);
       quiet = ap (λ (d : Engine). d.messages) c.in_default-flush.ensures.engine;
+      few = few_left _ (ap (λ (d : Engine). d.output) c.in_default-flush.ensures.engine);
       out = c.in_default-flush.ensures.counted.0 ∙ c.turns.invariant.out;
       reported = c.in_default-flush.ensures.counted.1 ∙ c.turns.invariant.reported;
     }
 
-pub returns-in-Ok-flush-clause-gives : goal.returns-in-Ok-flush-clause-gives
-returns-in-Ok-flush-clause-gives g c =
+pub returns-in-NeedsMore-clause-gives : goal.returns-in-NeedsMore-clause-gives
+returns-in-NeedsMore-clause-gives g c =
     let r = passed c.args.wanted c.args.self.now c.turns.self c.pass_plain.new.self c.args.input.now.pending c.turns.input c.pass_plain.new.input _ _ _ _ c.turns.invariant.runs c.in-Ok.ensures.passes in
-    needed c.args.wanted c.args.self.now c.pass_plain.new.self c.turn.new.self c.flush-in-NeedsMore.new.self
+    needed c.args.wanted c.args.self.now c.pass_plain.new.self c.turn.new.self c.flush.new.self
     c.args.input.now.pending c.args.input.now c.pass_plain.new.input c.turn.new.input _ _ _ _ _ _
-    c.in-Ok-turn.turned refl r c.in-Ok-turn.ensures.made c.in-NeedsMore.is c.in-Ok-flush.ensures.engine
-    c.in-Ok-flush.ensures.output c.in-Ok-flush.ensures.messages
+    c.in-Ok-turn.turned refl r c.in-Ok-turn.ensures.made c.in-NeedsMore.is c.in_default-flush.ensures.engine
+    c.in_default-flush.ensures.output c.in_default-flush.ensures.messages
 
-pub returns-in-Ok-flush-2-clause-gives : goal.returns-in-Ok-flush-2-clause-gives
-returns-in-Ok-flush-2-clause-gives g c =
+pub returns-in-Ends-clause-gives : goal.returns-in-Ends-clause-gives
+returns-in-Ends-clause-gives g c =
     let r = passed c.args.wanted c.args.self.now c.turns.self c.pass_plain.new.self c.args.input.now.pending c.turns.input c.pass_plain.new.input _ _ _ _ c.turns.invariant.runs c.in-Ok.ensures.passes in
-    hand_ends c.args.wanted c.args.self.now c.flush-in-Ends.new.self c.args.input.now c.turn.new.input _ c.in-Ends.end _ c.cause.ensures
-    (ended c.args.wanted c.args.self.now c.pass_plain.new.self c.turn.new.self c.flush-in-Ends.new.self
+    hand_ends c.args.wanted c.args.self.now c.flush.new.self c.args.input.now c.turn.new.input _ c.in-Ends.end _ c.cause.ensures
+    (ended c.args.wanted c.args.self.now c.pass_plain.new.self c.turn.new.self c.flush.new.self
     c.args.input.now.pending c.turn.new.input.pending c.pass_plain.new.input _ _ _ _ _ _ c.in-Ok-turn.turned
-    c.in-Ends.end r c.in-Ok-turn.ensures.moves c.in-Ends.is c.in-Ok-flush-2.ensures.engine
-    c.in-Ok-turn.ensures.limits c.in-Ok-flush-2.ensures.output c.in-Ok-flush-2.ensures.messages)
+    c.in-Ends.end r c.in-Ok-turn.ensures.moves c.in-Ends.is c.in_default-flush.ensures.engine
+    c.in-Ok-turn.ensures.limits c.in_default-flush.ensures.output c.in_default-flush.ensures.messages)
 
 pub returns-in-Err-clause-order : goal.returns-in-Err-clause-order
 returns-in-Err-clause-order g c =
@@ -174,32 +168,8 @@ returns-in-Err-clause-order g c =
     c.in-Ok-turn.ensures.moves c.in-Ok-turn.ensures.made (search rules) c.in-Err.ensures.order
     c.in-Err.ensures.begun
 
-pub returns-in-Err-flush-clause-order : goal.returns-in-Err-flush-clause-order
-returns-in-Err-flush-clause-order g c =
-    let r = passed c.args.wanted c.args.self.now c.turns.self c.pass_plain.new.self c.args.input.now.pending c.turns.input c.pass_plain.new.input _ _ _ _ c.turns.invariant.runs c.in-Ok.ensures.passes in
-    write_breaks_in_order c.args.wanted c.args.self.now c.pass_plain.new.self c.turn.new.self c.args.input.now.pending
-    c.pass_plain.new.input c.turn.new.input c.in-Ok-turn.turned c.len-earlier.result _ _ _ _ _ _ r
-    c.in-Ok-turn.ensures.moves c.in-Ok-turn.ensures.made (search rules) c.in-Err-flush.ensures.order
-    c.in-Err-flush.ensures.begun
-
-pub returns-in-Err-flush-2-clause-order : goal.returns-in-Err-flush-2-clause-order
-returns-in-Err-flush-2-clause-order g c =
-    let r = passed c.args.wanted c.args.self.now c.turns.self c.pass_plain.new.self c.args.input.now.pending c.turns.input c.pass_plain.new.input _ _ _ _ c.turns.invariant.runs c.in-Ok.ensures.passes in
-    write_breaks_in_order c.args.wanted c.args.self.now c.pass_plain.new.self c.turn.new.self c.args.input.now.pending
-    c.pass_plain.new.input c.turn.new.input c.in-Ok-turn.turned c.len-earlier.result _ _ _ _ _ _ r
-    c.in-Ok-turn.ensures.moves c.in-Ok-turn.ensures.made (search rules) c.in-Err-flush-2.ensures.order
-    c.in-Err-flush-2.ensures.begun
-
-pub returns-in-Err-flush-3-clause-order : goal.returns-in-Err-flush-3-clause-order
-returns-in-Err-flush-3-clause-order g c =
-    let r = passed c.args.wanted c.args.self.now c.turns.self c.pass_plain.new.self c.args.input.now.pending c.turns.input c.pass_plain.new.input _ _ _ _ c.turns.invariant.runs c.in-Ok.ensures.passes in
-    write_breaks_in_order c.args.wanted c.args.self.now c.pass_plain.new.self c.turn.new.self c.args.input.now.pending
-    c.pass_plain.new.input c.turn.new.input c.in-Ok-turn.turned c.len-earlier.result _ _ _ _ _ _ r
-    c.in-Ok-turn.ensures.moves c.in-Ok-turn.ensures.made (search rules) c.in-Err-flush-3.ensures.order
-    c.in-Err-flush-3.ensures.begun
-
-pub returns-in-Ok-flush-2-clause-order : goal.returns-in-Ok-flush-2-clause-order
-returns-in-Ok-flush-2-clause-order g c = rw c.cause.ensures (in_order_end c.args.wanted c.args.self.now c.args.input.now.pending _ c.in-Ends.end)
+pub returns-in-Ends-clause-order : goal.returns-in-Ends-clause-order
+returns-in-Ends-clause-order g c = rw c.cause.ensures (in_order_end c.args.wanted c.args.self.now c.args.input.now.pending _ c.in-Ends.end)
 
 -- an allocation failed: nothing was written since the last flush
 pub returns-in_default-clause-order : goal.returns-in_default-clause-order
