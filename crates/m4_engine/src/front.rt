@@ -1,10 +1,11 @@
 //! Plain tokens: names without a definition, comments, and bytes that are no other token. A run writes them as it
 //! reads them, so it can consume many at once. The look at the start of the text is that of `m4_input`.
 
-ghost use Rattle.std.specs.Prelude.{◌≡◌, ◌≤◌, Bool, true, IfOk, length, drop};
+ghost use Rattle.std.specs.Prelude.{◌≡◌, ◌<◌, ◌≤◌, Bool, true, IfOk, length, take, drop};
 ghost use Rattle.m4_state.specs.State.{State as Specified};
-ghost use Rattle.m4_input.specs.Look.{scan_of, LookLies};
 ghost use Rattle.m4_input.specs.Token.{scan};
+ghost use Rattle.m4_input.specs.declared.front.Scan.TheVariants.{Found};
+ghost use Rattle.m4_input.specs.declared.token.Token.TheVariants.{Comment};
 ghost use Rattle.m4_engine.specs.Collected.{IsBlankByte};
 ghost use Rattle.m4_engine.specs.Lookahead.{IsAhead};
 ghost use Rattle.m4_engine.specs.Plain.{IsPlainRun};
@@ -48,7 +49,14 @@ pub fn plain_run(
     let mut len = 0;
     'tokens: loop {
         let rest = text.split_at(len).1;
-        let look = outer_token(rest, &delims, more);
+        let Some(look) = plain_token(rest, &delims, more) else {
+            let comment = comment_len(rest, &delims, more);
+            if comment == 0 || len >= most {
+                return Ok((len, rare_token(rest, state, spare, more, room)?));
+            }
+            len += comment;
+            continue 'tokens;
+        };
         match Lookahead::of(look, rest, state, &delims, spare, more, room)? {
             Lookahead::Text(0, end, all) if end == all && len < most => {
                 len = with_space(text, len + all, spaced);
@@ -83,24 +91,38 @@ fn with_space(text: &[u8], len: usize, spaced: bool) -> usize
     }
 }
 
-/// Returns the first token of a text outside of calls. Most begin with no delimiter.
-#[inline(always)]
-fn outer_token(text: &[u8], delims: &Delims<'_>, more: bool) -> Look
-    ensures value { scan delims.now.quotes.now delims.now.comments.now more text.now ≡ scan_of result text.now }
-    ensures lies { LookLies text.now result }
+/// Counts the bytes of the comment at the start; 0 if there is none.
+#[inline(never)]
+fn comment_len(text: &[u8], delims: &Delims<'_>, more: bool) -> usize
+    ensures comment { 0 < result → scan delims.now.quotes.now delims.now.comments.now more text.now
+        ≡ Found (Comment (take result text.now)) result }
+    ensures within { result ≤ length text.now }
 {
-    match plain_token(text, delims, more) {
-        Some(look) => look,
-        None => rare_token(text, delims, more),
+    let Some(first) = text.first() else {
+        return 0;
+    };
+    if !delims.may_comment(*first) {
+        return 0;
+    }
+    match first_token(text, delims, more) {
+        Look::Comment(len) => len,
+        _ => 0,
     }
 }
 
 /// Returns the first token of a text. Not inlined, since it is for the ends of texts, and for tokens whose first byte
 /// may begin a delimiter.
 #[inline(never)]
-fn rare_token(text: &[u8], delims: &Delims<'_>, more: bool) -> Look
-    ensures value { scan delims.now.quotes.now delims.now.comments.now more text.now ≡ scan_of result text.now }
-    ensures lies { LookLies text.now result }
+fn rare_token(
+    text: &[u8],
+    state: &State,
+    spare: &mut Spare,
+    more: bool,
+    room: bool,
+) -> Result<Lookahead, AllocError>
+    ensures { IfOk result (λ a. IsAhead a state.now room more text.now) }
 {
-    first_token(text, delims, more)
+    let delims = Delims::of(state);
+    let look = first_token(text, &delims, more);
+    Lookahead::of(look, text, state, &delims, spare, more, room)
 }

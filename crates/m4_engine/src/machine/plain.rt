@@ -91,8 +91,9 @@ impl Machine {
         Ok(passed)
     }
 
-    /// Passes up to a block of tokens outside of calls, and a string after them if no block of output is full.
-    #[inline(always)]
+    /// Passes up to a block of tokens outside of calls, and a string after them if no block of output is full. Not
+    /// inlined, so that the loop over plain tokens has all registers.
+    #[inline(never)]
     fn pass_outside(
         &mut self,
         text: &[u8],

@@ -1,5 +1,8 @@
-use Rattle.std.proofs.Common.{◌≡◌, ◌≤◌, ◌<◌, ◌+◌, ◌-◌, ℕ, take, drop, length, ap, subst, arith, rules}
+use Rattle.std.proofs.Common.{◌≡◌, inr, refl, ◌≤◌, ◌<◌, ◌+◌, ◌-◌, ℕ, take, drop, length, ap, subst, arith, rules}
 use Rattle.m4_state.specs.declared.delimiters.Delimiters.{Delimiters}
+use Rattle.m4_input.specs.Token.{scan}
+use Rattle.m4_input.specs.declared.front.Scan.TheVariants.{Found}
+use Rattle.m4_input.specs.declared.token.Token.TheVariants.{Comment}
 use Rattle.m4_engine.specs.Collected.{IsBlankByte}
 use Rattle.m4_engine.specs.Lookahead.{IsAhead}
 use Rattle.m4_engine.specs.declared.lookahead.Lookahead.{Lookahead}
@@ -7,8 +10,8 @@ use Rattle.m4_engine.specs.declared.lookahead.Lookahead.TheVariants as aheads
 use Rattle.m4_engine.proofs.PlainRuns.{plain_text, plain_byte, text_some}
 use Rattle.m4_engine.proofs.front.plain_run.Goals as goal
 
-pub tokens-preserved-then-len-most : goal.tokens-preserved-then-len-most
-tokens-preserved-then-len-most c =
+pub tokens-preserved-then-len-most-2 : goal.tokens-preserved-then-len-most-2
+tokens-preserved-then-len-most-2 c =
     let s = c.args.state.now in
     let y = c.split_at.result.1.now in
     let end = c.in-Text-eq0-default-default.end in
@@ -25,8 +28,8 @@ tokens-preserved-then-len-most c =
           (subst (λ (d : Delimiters). IsBlankByte d c.of-delims.result.comments.now 32) c.of-delims.ensures.quotes (c.is_plain_space-spaced.ensures g)));
     }
 
-pub tokens-smaller-then-len-most : goal.tokens-smaller-then-len-most
-tokens-smaller-then-len-most c =
+pub tokens-smaller-then-len-most-2 : goal.tokens-smaller-then-len-most-2
+tokens-smaller-then-len-most-2 c =
     let s = c.args.state.now in
     let y = c.split_at.result.1.now in
     let end = c.in-Text-eq0-default-default.end in
@@ -43,3 +46,18 @@ tokens-preserved c = record {
   within = search rules;
   plain = plain_byte c.args.state.now c.args.more c.tokens.len c.in-Byte.field-0 c.args.text.now c.split_at.result.1.now c.tokens.invariant.plain (search rules) (search rules);
 }
+
+-- a comment more
+pub tokens-preserved-in_default : goal.tokens-preserved-in_default
+tokens-preserved-in_default c =
+    let s = c.args.state.now in
+    let y = c.split_at.result.1.now in
+    let n = c.comment_len-comment.result in
+    let found = c.comment_len-comment.ensures.comment (search rules) in
+    let here : scan s.quotes s.comments c.args.more y ≡ Found (Comment (take n y)) n =
+    subst (λ (d : Delimiters). scan s.quotes d c.args.more y ≡ Found (Comment (take n y)) n) c.of-delims.ensures.comments
+    (subst (λ (d : Delimiters). scan d c.of-delims.result.comments.now c.args.more y ≡ Found (Comment (take n y)) n) c.of-delims.ensures.quotes found) in
+    record {
+      within = search rules;
+      plain = plain_text s c.args.more c.tokens.len n c.args.text.now y (take n y) c.tokens.invariant.plain (search rules) (inr (inr here)) refl;
+    }
