@@ -1,5 +1,4 @@
 use Rattle.std.proofs.Common.{rules, refl}
-use Rattle.std.specs.Prelude.{Err}
 use Rattle.m4_engine.proofs.Readers.{source_fails}
 use Rattle.m4_engine.proofs.Sources.{opened_described, unopened_described, unread_goes}
 use Rattle.m4_engine.proofs.Reached.{file_so, missing_so, unread_so}

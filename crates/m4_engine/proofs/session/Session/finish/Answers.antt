@@ -1,5 +1,5 @@
 use Rattle.std.proofs.Common.{rules, refl}
-use Rattle.std.specs.Prelude.{Ok, Err}
+use Rattle.std.specs.Prelude.{Ok}
 use Rattle.m4_engine.specs.Session.{IsOpen}
 use Rattle.m4_engine.specs.Wraps.{close}
 use Rattle.m4_engine.proofs.Sessions.{finish_broke, issued_all}

@@ -1,5 +1,5 @@
 use Rattle.std.proofs.Common.{rules, inl, refl, []}
-use Rattle.std.specs.Prelude.{Ok, Err}
+use Rattle.std.specs.Prelude.{Ok}
 use Rattle.m4_engine.specs.Session.{IsOpen}
 use Rattle.m4_engine.proofs.Sessions.{froze, freeze_broke}
 use Rattle.m4_engine.proofs.Wrapping.{freeze_then, freeze_stops, gone_on}

@@ -1,5 +1,4 @@
 use Rattle.std.proofs.Common.{refl, rules}
-use Rattle.std.specs.Prelude.{Err}
 use Rattle.m4_engine.proofs.Sessions.{round_gives, round_lacked}
 use Rattle.m4_engine.proofs.Ordering.{any_breaks, round_told, silent_round, some_saved}
 use Rattle.m4_engine.proofs.session.Session.read_round.Goals as goal
