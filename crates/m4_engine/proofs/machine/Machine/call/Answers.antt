@@ -53,7 +53,8 @@ returns-then-has_more c = record {
       (c.in_ok-put_more.ensures.output ∙ ap (λ (x : Engine). x.output ++ (a.effect).output) c.self.view_is)
       (c.in_ok-put_more.ensures.saved ∙ ap (λ (x : Engine). with_saved (a.effect).wrap x.saved) c.self.view_is) in
       called_goes c.args.self.now c.begin_argument-then-has_more.new.self c.args.call a (longer z more c.args.input.now.pending) (longer z more c.push_value.new.input.pending) (search rules) (search rules) (search rules) made
-      (subst (λ (v : Option Pushed). with_value v (longer z more c.args.input.now.pending) ≡ longer z more c.push_value.new.input.pending) pushed (subst (λ (i : Held). with_value c.put_more.new.effect.push (longer z more i.pending) ≡ longer z more c.push_value.new.input.pending) c.lend.ensures.input (c.in_ok-push_value.ensures.pushes z more))) o m;
+      (subst (λ (v : Option Pushed). with_value v (longer z more c.args.input.now.pending) ≡ longer z more c.push_value.new.input.pending) pushed
+      (subst (λ (i : Held). with_value c.put_more.new.effect.push (longer z more i.pending) ≡ longer z more c.push_value.new.input.pending) c.lend.ensures.input (c.in_ok-push_value.ensures.pushes z more))) o m;
   ready = search rules;
   limits = search rules;
   made = search rules;

@@ -7,7 +7,8 @@ use Rattle.m4_engine.proofs.machine.Machine.take_call.Goals as goal
 
 pub returns-then-not-has_room : goal.returns-then-not-has_room
 returns-then-not-has_room c = record {
-  moves = λ before z more k o m. refused_calls c.args.self.now c.report_limit-then-not-has_room.new.self c.args.call c.args.listed (longer z more c.args.input.now.pending) (before z more) o m (search rules) (told c.args.self.now _ c.args.call.place _ _ (codes " calls") (ap (λ (x : Engine). (x.limits).calls) c.report_limit.view_is) c.in_ok-report_limit.ensures);
+  moves = λ before z more k o m. refused_calls c.args.self.now c.report_limit-then-not-has_room.new.self c.args.call c.args.listed (longer z more c.args.input.now.pending) (before z more) o m (search rules)
+      (told c.args.self.now _ c.args.call.place _ _ (codes " calls") (ap (λ (x : Engine). (x.limits).calls) c.report_limit.view_is) c.in_ok-report_limit.ensures);
   ready = search rules;
   limits = search rules;
   made = search rules;
@@ -15,7 +16,8 @@ returns-then-not-has_room c = record {
 
 pub returns-then-is_deep : goal.returns-then-is_deep
 returns-then-is_deep c = record {
-  moves = λ before z more k o m. depth_refused c.args.self.now c.count.new.self c.report_limit-then-is_deep-2.new.self c.args.call c.args.listed (longer z more c.args.input.now.pending) (before z more) o m (search rules) c.count.ensures (search rules) (told c.count.new.self _ c.args.call.place _ _ (codes " nested calls") (ap (λ (x : Engine). (x.limits).nesting) c.report_limit-then-is_deep.view_is) c.in_ok-report_limit-2.ensures);
+  moves = λ before z more k o m. depth_refused c.args.self.now c.count.new.self c.report_limit-then-is_deep-2.new.self c.args.call c.args.listed (longer z more c.args.input.now.pending) (before z more) o m (search rules) c.count.ensures (search rules)
+      (told c.count.new.self _ c.args.call.place _ _ (codes " nested calls") (ap (λ (x : Engine). (x.limits).nesting) c.report_limit-then-is_deep.view_is) c.in_ok-report_limit-2.ensures);
   ready = search rules;
   limits = search rules;
   made = search rules;
