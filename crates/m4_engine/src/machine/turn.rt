@@ -51,8 +51,8 @@ impl Machine {
         }
     }
 
-    /// Consumes a token of `all` bytes that is text, and appends its text to the argument, the output or a diversion. The
-    /// text is from `begin` to `end`. Not inlined, since a pass puts the text unless a block of output is full.
+    /// Consumes a token of `all` bytes that is text, and appends its text, from `begin` to `end`, to the argument, the
+    /// output or a diversion. Not inlined, since a pass puts the text unless a block of output is full.
     #[inline(never)]
     fn take_text(
         &mut self,
