@@ -17,6 +17,7 @@ use crate::role::Role;
 use crate::spare::Spare;
 use crate::text_bytes::text_len;
 use m4_input::delims::Delims;
+use m4_input::front::Look;
 use m4_input::look::first_token;
 use m4_state::state::State;
 use std::alloc::AllocError;
@@ -41,20 +42,26 @@ pub fn collect(
     let mut len = 0;
     'tokens: loop {
         let rest = text.split_at(len).1;
-        let look = first_token(rest, &delims, more);
-        match Lookahead::of(look, rest, state, &delims, spare, more, room)? {
-            Lookahead::Text(begin, end, all) => {
-                call.put_front(rest.split_at(begin).1, end - begin)?;
+        // Most tokens are strings and bytes, for which there is no lookahead to make.
+        match first_token(rest, &delims, more) {
+            Look::Quoted(begin, count, all) => {
+                call.put_front(rest.split_at(begin).1, count)?;
                 len += all;
             }
-            Lookahead::Byte(byte) => {
+            Look::Byte(byte) => {
                 let used = collect_byte(call, byte, rest, &delims)?;
                 if used == 0 {
                     return Ok((len, Lookahead::Byte(byte)));
                 }
                 len += used;
             }
-            found => return Ok((len, found)),
+            look => match Lookahead::of(look, rest, state, &delims, spare, more, room)? {
+                Lookahead::Text(begin, end, all) => {
+                    call.put_front(rest.split_at(begin).1, end - begin)?;
+                    len += all;
+                }
+                found => return Ok((len, found)),
+            },
         }
     }
 }

@@ -26,7 +26,6 @@ use m4_builtins::messages::error_message;
 use m4_builtins::place::Place;
 use m4_state::bytes::Bytes;
 use m4_state::definition::Def;
-use m4_state::fault::StateFault;
 use m4_state::state::State;
 use std::alloc::{AllocError, Global};
 use std::marker::Model;
@@ -119,17 +118,13 @@ impl Machine {
     }
 
     /// Appends text to the innermost argument or, outside of calls, to the output or a diversion.
-    pub fn put_text(&mut self, text: &[u8]) -> Result<(), StateFault>
+    pub fn put_text(&mut self, text: &[u8]) -> Result<(), TurnFault>
         ensures { OnOk result (self.new ≡ with_text text.now self.old) }
     {
-        if let Some(call) = &mut self.innermost {
-            call.put_front(text, text.len())?;
-        } else {
-            self.state.append(text)?;
-            if self.state.current() == 0 {
-                self.output.extend_from_slice(text)?;
-            }
-        }
+        let Some(call) = &mut self.innermost else {
+            return self.put_outside(text);
+        };
+        call.put_front(text, text.len())?;
         Ok(())
     }
 

@@ -125,7 +125,7 @@ impl Machine {
 
     /// Appends text where it goes outside of calls: to the output, to a diversion, or nowhere.
     #[inline(always)]
-    fn put_outside(&mut self, text: &[u8]) -> Result<(), TurnFault>
+    pub(super) fn put_outside(&mut self, text: &[u8]) -> Result<(), TurnFault>
         ensures { OnOk result (self.new ≡ put_in [] text.now self.old) }
     {
         if self.state.current() == 0 {
