@@ -1,7 +1,7 @@
 -- Underway: the part of a file that was read so far, if its bytes arrive block by block.
 -- Not believed: private contracts cite it; `read_frozen` states the same for whole files.
--- Words: Skips, HasRead, ReadsOne, PausesAt, Advances.
-use Rattle.std.specs.Prelude.{◌≡◌, ℕ, ℤ, ◌+◌, ◌-◌, ◌<◌, ◌≤◌, Bool, true, false, List, [], ◌∷◌, ◌++◌, length, drop}
+-- Words: AreTexts, Skips, HasRead, ReadsOne, PausesAt, Advances.
+use Rattle.std.specs.Prelude.{◌≡◌, ℕ, ℤ, ◌+◌, ◌-◌, ◌<◌, ◌≤◌, Bool, true, false, List, [], ◌∷◌, ◌++◌, length, take, drop}
 use Rattle.std.specs.Prelude.{Option, Some, None, IfSome, Result, Ok, Err, ◌⊎◌}
 use Rattle.std.specs.Borrow.{Bor}
 use Rattle.m4_state.specs.State.{diverted, appended}
@@ -16,15 +16,32 @@ use Rattle.m4_frozen.specs.declared.begun.Begun.TheVariants as begun
 use Rattle.m4_frozen.specs.declared.begun.NamedText.{NamedText}
 use Rattle.m4_frozen.specs.declared.loading.Loading.{Loading}
 use Rattle.m4_frozen.specs.declared.loading.Pause.{Pause}
+use Rattle.m4_frozen.specs.declared.long_texts.NamedPart.{NamedPart}
 use Rattle.m4_frozen.specs.Denote.{denote, issued_by}
 use Rattle.m4_frozen.specs.Directive.{Directive, Text, Diversion}
 use Rattle.m4_frozen.specs.Outcome.{Loads}
 use Rattle.m4_frozen.specs.ReaderSteps.{◌>>=◌, skip_lines, string_at, expect_byte, directives_at, after_version}
-use Rattle.m4_frozen.specs.ReaderSteps.{file_at, is_settled}
+use Rattle.m4_frozen.specs.ReaderSteps.{next_at, file_at, is_settled}
 
 -- no line to skip is at the start; `inside`: the bytes begin inside a comment
 abbrev pub IsAtDirective : Bool → List ℕ → Type 0
 IsAtDirective inside bytes = (bytes ≡ []) ⊎ ((inside ≡ false) × (skip_lines false bytes ≡ bytes))
+
+-- a text, and the directive that pushes it on its name
+abbrev pub text_in : NamedPart → List ℕ
+text_in t = drop t.middle t.both.now
+
+abbrev pub text_directive : NamedPart → Directive
+text_directive t = Text (take t.middle t.both.now) (text_in t)
+
+-- the bytes begin with the directive of a text
+abbrev pub IsText : NamedPart → List ℕ → List ℕ → Type 0
+IsText t bytes after = IsAtDirective false bytes × (next_at bytes ≡ Ok (Some (text_directive t, after)))
+
+-- they begin with the directives of texts, one directly after another
+abbrev pub AreTexts : List NamedPart → List ℕ → List ℕ → Type 0
+AreTexts [] bytes after = bytes ≡ after
+AreTexts (t ∷ ts) bytes after = (rest : List ℕ) × IsText t bytes rest × AreTexts ts rest after
 
 -- lines at the start are skipped: the rest is read as if it came after them
 pub record Skips (inside : Bool) (bytes : List ℕ) (later : Bool) (rest : List ℕ) : Type 0 where

@@ -13,7 +13,7 @@ use crate::begun::{Begun, NamedText};
 use crate::directive::Directive;
 use crate::fault::{FrozenKind, ReadStop, Refusal, refused_at};
 use crate::lines::skip_lines;
-use crate::long_texts::{LARGEST_UNSHARED, LongTexts};
+use crate::long_texts::{LARGEST_UNSHARED, NamedPart, push_texts, text_run};
 use crate::reader::{after_version, line_after, next_directive, stays};
 use crate::strings::{diversion_head, expect_byte, pair_head};
 use m4_state::builtin::Builtin;
@@ -61,7 +61,6 @@ pub(crate) struct Loading {
     inside: bool,
     /// The text of which only a part was read, if there is one.
     begun: Option<Begun>,
-    texts: LongTexts,
 }
 
 // Written out so that a caller's proof contains one call, not the drop of each field.
@@ -73,7 +72,6 @@ impl Drop for Loading {
             versioned: _versioned,
             inside: _inside,
             begun: _begun,
-            texts: _texts,
         } = self;
     }
 }
@@ -98,7 +96,6 @@ impl Loading {
             versioned: false,
             inside: false,
             begun: None,
-            texts: LongTexts::new(),
         })
     }
 
@@ -188,7 +185,16 @@ impl Loading {
         match next_directive(bytes)? {
             None => Ok(None),
             Some((directive, after)) => {
-                self.apply(alloc, &directive, after)?;
+                if let Directive::Text(both, middle) = directive
+                    && both.len() - middle > LARGEST_UNSHARED
+                {
+                    let first = NamedPart { both, middle };
+                    let (texts, after) = text_run(alloc, first, bytes, after)?;
+                    let most = bytes.len().saturating_sub(after.len());
+                    push_texts(alloc, &mut self.state, &texts, most)?;
+                    return Ok(Some(after));
+                }
+                self.apply(alloc, &directive)?;
                 Ok(Some(after))
             }
         }
@@ -335,12 +341,7 @@ impl Loading {
 
     /// Applies a directive to the state, or to the issued text. On an error a part of it may be applied;
     /// the state is then dropped.
-    fn apply(
-        &mut self,
-        alloc: Global,
-        directive: &Directive<'_>,
-        after: &[u8],
-    ) -> Result<(), StateFault>
+    fn apply(&mut self, alloc: Global, directive: &Directive<'_>) -> Result<(), StateFault>
         requires joined { IsJoined directive.now }
         ensures applied { OnOk result (self.new ≡ record self.old {
           state = with_directive self.old.state (directive_of directive.now);
@@ -358,11 +359,6 @@ impl Loading {
                 Bytes::from_slice(alloc, begin)?,
                 Bytes::from_slice(alloc, end)?,
             ),
-            Directive::Text(both, middle) if both.len() - *middle > LARGEST_UNSHARED => {
-                let (name, text) = both.split_at(*middle);
-                let text = self.texts.share(alloc, text, after)?;
-                self.state.push_borrowed(name, Def::Text(text))
-            }
             Directive::Text(both, middle) => self.state.push_text(both, *middle),
             Directive::Builtin(name, builtin) => {
                 let builtin = builtin_or_placeholder(alloc, builtin)?;
@@ -385,7 +381,6 @@ impl Loading {
             versioned: _versioned,
             inside: _inside,
             begun: _begun,
-            texts: _texts,
         } = self;
         Loaded {
             state,
