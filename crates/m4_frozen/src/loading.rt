@@ -23,6 +23,9 @@ use m4_state::fault::StateFault;
 use m4_state::state::State;
 use std::alloc::{AllocError, Global};
 
+/// A text with more bytes is read as its bytes arrive, if it is not complete in a block.
+const LARGEST_UNOPENED: usize = 4096;
+
 /// The result of loading a frozen file: a state, and the text to print before any input is read.
 pub struct Loaded {
     /// The state after all directives.
@@ -229,7 +232,7 @@ impl Loading {
         self.open_diverted(here)
     }
 
-    /// Opens the text of a name.
+    /// Opens the text of a name, unless it is short. A short one is read again with the next block, which ends it.
     fn open_named(&mut self, alloc: Global, here: &[u8]) -> Result<bool, StateFault>
         requires { underway.IsAtDirective self.old.inside here.now }
         ensures { underway.Opens here.now self.old self.new result }
@@ -241,7 +244,7 @@ impl Loading {
             return Ok(false);
         };
         let len = len as usize;
-        if !self.versioned || len < text.len() {
+        if !self.versioned || len < text.len() || len <= LARGEST_UNOPENED {
             return Ok(false);
         }
         self.begun = Some(Begun::Name(NamedText {
