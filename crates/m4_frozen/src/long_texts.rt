@@ -16,6 +16,9 @@ use std::alloc::{AllocError, Global};
 /// A text with more bytes shares its memory with those of the directives directly after it.
 pub(crate) const LARGEST_UNSHARED: usize = 64;
 
+/// How many texts that are read together there is room for at once.
+const USUAL_RUN: usize = 32;
+
 /// A name with the text directly after it, and the name's length.
 #[derive(Clone, Copy)]
 pub(crate) struct NamedPart<'a> {
@@ -57,7 +60,7 @@ pub(crate) fn text_run<'a>(
     ensures texts { IfOk result (λ r. AreTexts r.0.items bytes.now r.1.now) }
     ensures some { IfOk result (λ r. 0 < length r.0.items) }
 {
-    let mut texts = Vec::with_capacity(alloc, 1)?;
+    let mut texts = Vec::with_capacity(alloc, USUAL_RUN)?;
     texts.push(first)?;
     let mut rest = after;
     'directives: while let Some((text, next)) = long_text(rest) {
