@@ -14,7 +14,7 @@ use Rattle.m4_engine.specs.Expansion.{Call, Mode, Collecting, Expansion, Kept, E
 use Rattle.m4_engine.specs.Expansion.{mode_with_text, put_text}
 use Rattle.m4_engine.specs.Args.{role_of, take_byte}
 use Rattle.m4_input.proofs.Scanned.{byte_first}
-use Rattle.m4_engine.specs.Collected.{TakesByte, IsTextByte, AreTextBytes, IsBlankByte, AreBlankBytes, IsListToken}
+use Rattle.m4_engine.specs.Collected.{TakesByte, IsLone, HaveRole, IsListToken}
 use Rattle.m4_engine.specs.Collected.{AreListTokens, bytes_in, IsListRun}
 
 -- no token
@@ -64,12 +64,20 @@ text_taken b c r s h =
 twice_added : (b : ℕ) (x : List ℕ) (c : Call) → with_bytes x (with_bytes (b ∷ []) c) ≡ with_bytes (b ∷ x) c
 twice_added b x c = ap (λ (y : List ℕ). let d : Call = record c { begun = true; bytes = y } in d) (append_assoc c.bytes (b ∷ []) x)
 
-bytes_taken : (s : State) (m : Bool) (b : ℕ) (x y : List ℕ) (c : Call) → c.begun ≡ true → AreTextBytes s.quotes s.comments (b ∷ x) → IsListRun s m (length (b ∷ x)) c (with_bytes (b ∷ x) c) ((b ∷ x) ++ y)
-bytes_taken s m b [] y c g h = list_one s m 1 c (with_bytes (b ∷ []) c) (b ∷ y) (inr (b, (h.0).alone m y, text_taken b c ((h.0).other c g)))
+-- in an argument that has begun, more text changes no byte's role
+role_kept : (b : ℕ) (z : List ℕ) (c : Call) → c.begun ≡ true → role_of b (with_bytes z c) ≡ role_of b c
+role_kept b z c g = ap (λ (v : Bool). let d : Call = record c { begun = v; bytes = c.bytes ++ z } in role_of b d) (sym g)
+
+roles_kept : (r : Role) (q k : Delimiters) (z x : List ℕ) (c : Call) → c.begun ≡ true → HaveRole r c q k x → HaveRole r (with_bytes z c) q k x
+roles_kept r q k z [] c g h = tt
+roles_kept r q k z (b ∷ x) c g h = (((h.0).0, role_kept b z c g ∙ (h.0).1), roles_kept r q k z x c g h.1)
+
+bytes_taken : (s : State) (m : Bool) (b : ℕ) (x y : List ℕ) (c : Call) → c.begun ≡ true → HaveRole Other c s.quotes s.comments (b ∷ x) → IsListRun s m (length (b ∷ x)) c (with_bytes (b ∷ x) c) ((b ∷ x) ++ y)
+bytes_taken s m b [] y c g h = list_one s m 1 c (with_bytes (b ∷ []) c) (b ∷ y) (inr (b, (h.0).0 m y, text_taken b c (h.0).1))
 bytes_taken s m b (a ∷ x) y c g h =
     let d : Call = with_bytes (b ∷ []) c in
-    let one = list_one s m 1 c d (b ∷ ((a ∷ x) ++ y)) (inr (b, (h.0).alone m ((a ∷ x) ++ y), text_taken b c ((h.0).other c g))) in
-    let rest = bytes_taken s m a x y d refl h.1 in
+    let one = list_one s m 1 c d (b ∷ ((a ∷ x) ++ y)) (inr (b, (h.0).0 m ((a ∷ x) ++ y), text_taken b c (h.0).1)) in
+    let rest = bytes_taken s m a x y d refl (roles_kept Other s.quotes s.comments (b ∷ []) (a ∷ x) c g h.1) in
     let n : 1 + length (a ∷ x) ≡ length (b ∷ (a ∷ x)) = omega arith in
     subst (λ (k : ℕ). IsListRun s m k c (with_bytes (b ∷ (a ∷ x)) c) ((b ∷ (a ∷ x)) ++ y)) n
     (subst (λ (e : Call). IsListRun s m (1 + length (a ∷ x)) c e ((b ∷ (a ∷ x)) ++ y)) (twice_added b (a ∷ x) c)
@@ -82,7 +90,7 @@ none_added c g =
     ∙ ap (λ (v : Bool). let d : Call = record c { begun = v } in d) (sym g)
 
 -- the first n bytes of a text are added at once
-bytes_at_once : (s : State) (m : Bool) (n : ℕ) (x : List ℕ) (c d : Call) → c.begun ≡ true → n ≤ length x → AreTextBytes s.quotes s.comments (take n x) → d ≡ with_bytes (take n x) c → IsListRun s m n c d x
+bytes_at_once : (s : State) (m : Bool) (n : ℕ) (x : List ℕ) (c d : Call) → c.begun ≡ true → n ≤ length x → HaveRole Other c s.quotes s.comments (take n x) → d ≡ with_bytes (take n x) c → IsListRun s m n c d x
 bytes_at_once s m n x c d f w h g =
     let k : n ≡ length (take n x) = sym (length-take-le n x w) in
     let e : x ≡ take n x ++ drop n x = sym (take-append-drop n x) in
@@ -91,26 +99,31 @@ bytes_at_once s m n x c d f w h g =
     (subst (λ (j : ℕ). IsListRun s m j c (with_bytes (take n x) c) (take n x ++ drop n x)) (sym k)
     (by_front (take n x) h)))
   where
-    by_front : (y : List ℕ) → AreTextBytes s.quotes s.comments y → IsListRun s m (length y) c (with_bytes y c) (y ++ drop n x)
+    by_front : (y : List ℕ) → HaveRole Other c s.quotes s.comments y → IsListRun s m (length y) c (with_bytes y c) (y ++ drop n x)
     by_front [] h = subst (λ (a : Call). IsListRun s m 0 c a (drop n x)) (sym (none_added c f)) (list_none s m c (drop n x))
     by_front (b ∷ y) h = bytes_taken s m b y (drop n x) c f h
 
+-- the call with its argument begun
+abbrev begun : Call → Call
+begun c = record c { begun = true }
+
 -- a byte that is text, and the bytes after it that are
-pub byte_and_texts : (s : State) (m : Bool) (b n : ℕ) (c d : Call) (x y : List ℕ) → scan s.quotes s.comments m x ≡ Found (Byte b) 1 → role_of b c ≡ Other → y ≡ drop 1 x → n ≤ length y → AreTextBytes s.quotes s.comments (take n y) → d ≡ with_bytes (take (1 + n) x) c → IsListRun s m (1 + n) c d x
+pub byte_and_texts : (s : State) (m : Bool) (b n : ℕ) (c d : Call) (x y : List ℕ) → scan s.quotes s.comments m x ≡ Found (Byte b) 1 → role_of b c ≡ Other → y ≡ drop 1 x → n ≤ length y → HaveRole Other (begun c) s.quotes s.comments (take n y) → d ≡ with_bytes (take (1 + n) x) c → IsListRun s m (1 + n) c d x
 byte_and_texts s m b n c d x y h r g w t e =
     let e1 : Call = with_bytes (b ∷ []) c in
     let next : suc n ≡ 1 + n = omega arith in
     let all : b ∷ take n y ≡ take (1 + n) x = ap (λ (z : List ℕ). b ∷ take n z) g ∙ ap (take (suc n)) (sym (byte_first s.quotes s.comments m x b 1 h)) ∙ ap (λ k. take k x) next in
     let after : d ≡ with_bytes (take n y) e1 = e ∙ ap (λ (z : List ℕ). with_bytes z c) (sym all) ∙ sym (twice_added b (take n y) c) in
-    list_on s m 1 n c e1 d x y (list_one s m 1 c e1 x (inr (b, h, text_taken b c r))) g (bytes_at_once s m n y e1 d refl w t after)
+    list_on s m 1 n c e1 d x y (list_one s m 1 c e1 x (inr (b, h, text_taken b c r))) g
+    (bytes_at_once s m n y e1 d refl w (roles_kept Other s.quotes s.comments (b ∷ []) (take n y) (begun c) refl t) after)
 
 -- a byte more
-text_bytes_on : (q k : Delimiters) (x : List ℕ) (b : ℕ) → AreTextBytes q k x → IsTextByte q k b → AreTextBytes q k (x ++ b ∷ [])
-text_bytes_on q k [] b h t = (t, tt)
-text_bytes_on q k (a ∷ x) b h t = (h.0, text_bytes_on q k x b h.1 t)
+roles_on : (r : Role) (c : Call) (q k : Delimiters) (x : List ℕ) (b : ℕ) → HaveRole r c q k x → IsLone q k b → role_of b c ≡ r → HaveRole r c q k (x ++ b ∷ [])
+roles_on r c q k [] b h l g = ((l, g), tt)
+roles_on r c q k (a ∷ x) b h l g = (h.0, roles_on r c q k x b h.1 l g)
 
-pub text_bytes_more : (q k : Delimiters) (n : ℕ) (x : List ℕ) (b : ℕ) → AreTextBytes q k (take n x) → IsTextByte q k b → take (n + 1) x ≡ take n x ++ b ∷ [] → AreTextBytes q k (take (n + 1) x)
-text_bytes_more q k n x b h t e = subst (AreTextBytes q k) (sym e) (text_bytes_on q k (take n x) b h t)
+pub roles_more : (r : Role) (c : Call) (q k : Delimiters) (n : ℕ) (x : List ℕ) (b : ℕ) → HaveRole r c q k (take n x) → IsLone q k b → role_of b c ≡ r → take (n + 1) x ≡ take n x ++ b ∷ [] → HaveRole r c q k (take (n + 1) x)
+roles_more r c q k n x b h l g e = subst (HaveRole r c q k) (sym e) (roles_on r c q k (take n x) b h l g)
 
 -- ---- bytes that are dropped
 
@@ -119,37 +132,25 @@ blank_taken b c r s h =
     ap (λ (v : Role). take_byte v b c s) r
     ∙ ap (λ (v : Mode). let t : Turn Expansion Kept Ended = GoOn (record s { mode = v }) in t) h
 
-blanks_taken : (s : State) (m : Bool) (x y : List ℕ) (c : Call) → c.begun ≡ false → AreBlankBytes s.quotes s.comments x → IsListRun s m (length x) c c (x ++ y)
-blanks_taken s m [] y c n h = list_none s m c y
-blanks_taken s m (b ∷ x) y c n h =
+blanks_taken : (s : State) (m : Bool) (x y : List ℕ) (c : Call) → HaveRole Blank c s.quotes s.comments x → IsListRun s m (length x) c c (x ++ y)
+blanks_taken s m [] y c h = list_none s m c y
+blanks_taken s m (b ∷ x) y c h =
     let k : 1 + length x ≡ length (b ∷ x) = omega arith in
     subst (λ (j : ℕ). IsListRun s m j c c ((b ∷ x) ++ y)) k
-    (list_on s m 1 (length x) c c c (b ∷ (x ++ y)) (x ++ y) (list_one s m 1 c c (b ∷ (x ++ y)) (inr (b, (h.0).alone m (x ++ y), blank_taken b c ((h.0).blank c n)))) refl
-    (blanks_taken s m x y c n h.1))
+    (list_on s m 1 (length x) c c c (b ∷ (x ++ y)) (x ++ y) (list_one s m 1 c c (b ∷ (x ++ y)) (inr (b, (h.0).0 m (x ++ y), blank_taken b c (h.0).1))) refl
+    (blanks_taken s m x y c h.1))
 
 -- the first n bytes of a text are dropped at once
-blanks_at_once : (s : State) (m : Bool) (n : ℕ) (x : List ℕ) (c : Call) → n ≤ length x → c.begun ≡ false → AreBlankBytes s.quotes s.comments (take n x) → IsListRun s m n c c x
-blanks_at_once s m n x c w f h =
+blanks_at_once : (s : State) (m : Bool) (n : ℕ) (x : List ℕ) (c : Call) → n ≤ length x → HaveRole Blank c s.quotes s.comments (take n x) → IsListRun s m n c c x
+blanks_at_once s m n x c w h =
     let k : length (take n x) ≡ n = length-take-le n x w in
     subst (λ (y : List ℕ). IsListRun s m n c c y) (take-append-drop n x)
-    (subst (λ (j : ℕ). IsListRun s m j c c (take n x ++ drop n x)) k (blanks_taken s m (take n x) (drop n x) c f h))
+    (subst (λ (j : ℕ). IsListRun s m j c c (take n x ++ drop n x)) k (blanks_taken s m (take n x) (drop n x) c h))
 
 -- a byte, and the bytes after it that are dropped
-pub byte_and_blanks : (s : State) (m : Bool) (b n : ℕ) (c d : Call) (x y : List ℕ) → scan s.quotes s.comments m x ≡ Found (Byte b) 1 → TakesByte b c d → d.begun ≡ false → y ≡ drop 1 x → n ≤ length y → AreBlankBytes s.quotes s.comments (take n y) → IsListRun s m (1 + n) c d x
-byte_and_blanks s m b n c d x y h t f g w k = list_on s m 1 n c d d x y (list_one s m 1 c d x (inr (b, h, t))) g (blanks_at_once s m n y d w f k)
-
--- a byte alone
-pub byte_taken : (s : State) (m : Bool) (b : ℕ) (c d : Call) (x : List ℕ) → scan s.quotes s.comments m x ≡ Found (Byte b) 1 → TakesByte b c d → IsListRun s m 1 c d x
-byte_taken s m b c d x h t = list_one s m 1 c d x (inr (b, h, t))
+pub byte_and_blanks : (s : State) (m : Bool) (b n : ℕ) (c d : Call) (x y : List ℕ) → scan s.quotes s.comments m x ≡ Found (Byte b) 1 → TakesByte b c d → y ≡ drop 1 x → n ≤ length y → HaveRole Blank d s.quotes s.comments (take n y) → IsListRun s m (1 + n) c d x
+byte_and_blanks s m b n c d x y h t g w k = list_on s m 1 n c d d x y (list_one s m 1 c d x (inr (b, h, t))) g (blanks_at_once s m n y d w k)
 
 -- no byte
 pub byte_left : (s : State) (m : Bool) (c d : Call) (x : List ℕ) → d ≡ c → IsListRun s m 0 c d x
 byte_left s m c d x g = subst (λ (a : Call). IsListRun s m 0 c a x) (sym g) (list_none s m c x)
-
--- a byte more
-blank_bytes_on : (q k : Delimiters) (x : List ℕ) (b : ℕ) → AreBlankBytes q k x → IsBlankByte q k b → AreBlankBytes q k (x ++ b ∷ [])
-blank_bytes_on q k [] b h t = (t, tt)
-blank_bytes_on q k (a ∷ x) b h t = (h.0, blank_bytes_on q k x b h.1 t)
-
-pub blank_bytes_more : (q k : Delimiters) (n : ℕ) (x : List ℕ) (b : ℕ) → AreBlankBytes q k (take n x) → IsBlankByte q k b → take (n + 1) x ≡ take n x ++ b ∷ [] → AreBlankBytes q k (take (n + 1) x)
-blank_bytes_more q k n x b h t e = subst (AreBlankBytes q k) (sym e) (blank_bytes_on q k (take n x) b h t)

@@ -9,7 +9,7 @@ use Rattle.m4_input.specs.declared.front.Scan.TheVariants.{Found}
 use Rattle.m4_input.specs.Token.{scan}
 use Rattle.m4_input.proofs.Consumed.{HasBytes, scan_bytes}
 use Rattle.m4_input.proofs.Scanned.{byte_first}
-use Rattle.m4_engine.specs.Collected.{IsText, IsBlankByte}
+use Rattle.m4_engine.specs.Collected.{IsText, IsLone}
 use Rattle.m4_engine.specs.Plain.{IsPlain, total, ArePlain, IsPlainRun}
 
 -- a token more
@@ -36,9 +36,9 @@ plain_byte s o k b x y r e h =
     plain_more s o k 1 x r (subst (IsPlain s o 1) e (inr (b, h, ap (take 1) (byte_first s.quotes s.comments o y b 1 h))))
 
 -- a space more
-pub plain_space : (s : State) (o : Bool) (k : ℕ) (x y : List ℕ) → IsPlainRun s o k x → y ≡ drop k x → y ≡ 32 ∷ drop 1 y → IsBlankByte s.quotes s.comments 32 → IsPlainRun s o (k + 1) x
+pub plain_space : (s : State) (o : Bool) (k : ℕ) (x y : List ℕ) → IsPlainRun s o k x → y ≡ drop k x → y ≡ 32 ∷ drop 1 y → IsLone s.quotes s.comments 32 → IsPlainRun s o (k + 1) x
 plain_space s o k x y r e h b =
-    plain_byte s o k 32 x y r e (subst (λ (z : List ℕ). scan s.quotes s.comments o z ≡ Found (Byte 32) 1) (sym h) (b.alone o (drop 1 y)))
+    plain_byte s o k 32 x y r e (subst (λ (z : List ℕ). scan s.quotes s.comments o z ≡ Found (Byte 32) 1) (sym h) (b o (drop 1 y)))
 
 -- each token that is text has a byte
 found_some : (q c : Delimiters) (m : Bool) (x : List ℕ) (v : Scan) → scan q c m x ≡ v → HasBytes v

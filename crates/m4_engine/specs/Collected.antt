@@ -1,8 +1,7 @@
 -- Collected: tokens of a list that change the innermost open call alone.
 -- Not believed: it only says which turns a run may make at once, by the tokens of `scan`.
--- Words: TakesByte, IsListEnd, IsTextByte, AreTextBytes, IsBlankByte, AreBlankBytes, IsText, IsListToken,
--- AreListTokens, bytes_in, IsListRun.
-use Rattle.std.specs.Prelude.{◌≡◌, ℕ, ◌+◌, Bool, true, false, List, [], ◌∷◌, ◌++◌, drop, None, ◌⊎◌}
+-- Words: TakesByte, IsListEnd, IsLone, HaveRole, IsText, IsListToken, AreListTokens, bytes_in, IsListRun.
+use Rattle.std.specs.Prelude.{◌≡◌, ℕ, ◌+◌, Bool, true, List, [], ◌∷◌, ◌++◌, drop, None, ◌⊎◌}
 use Rattle.m4_state.specs.declared.delimiters.Delimiters.{Delimiters}
 use Rattle.m4_state.specs.State.{State, top_of}
 use Rattle.m4_input.specs.declared.token.Token.TheVariants.{Name, Str, Comment, Byte}
@@ -10,7 +9,8 @@ use Rattle.m4_input.specs.declared.front.Scan.TheVariants.{Found}
 use Rattle.m4_input.specs.Token.{scan}
 use Rattle.m4_engine.specs.Nesting.{GoOn}
 use Rattle.m4_engine.specs.Expansion.{Call, Collecting, Expansion}
-use Rattle.m4_engine.specs.declared.role.Role.TheVariants.{Blank, Closing, Other, Separator}
+use Rattle.m4_engine.specs.declared.role.Role.{Role}
+use Rattle.m4_engine.specs.declared.role.Role.TheVariants.{Closing, Separator}
 use Rattle.m4_engine.specs.declared.role.ListEnd.{ListEnd}
 use Rattle.m4_engine.specs.declared.role.ListEnd.TheVariants as ends
 use Rattle.m4_engine.specs.Args.{role_of, take_byte}
@@ -26,23 +26,14 @@ abbrev pub IsListEnd : ListEnd → ℕ → Call → Type 0
 IsListEnd ends.Argument b c = (role_of b c ≡ Separator) × (c.parentheses ≡ 0)
 IsListEnd ends.List b c = (role_of b c ≡ Closing) × (c.parentheses ≡ 0)
 
--- a byte is a token of its own, whatever follows it, and text in each argument that has begun
-pub record IsTextByte (q k : Delimiters) (b : ℕ) : Type 0 where
-  pub alone : (m : Bool) (y : List ℕ) → scan q k m (b ∷ y) ≡ Found (Byte b) 1
-  pub other : (c : Call) → c.begun ≡ true → role_of b c ≡ Other
+-- a byte is a token of its own, whatever follows it
+abbrev pub IsLone : Delimiters → Delimiters → ℕ → Type 0
+IsLone q k b = (m : Bool) (y : List ℕ) → scan q k m (b ∷ y) ≡ Found (Byte b) 1
 
-abbrev pub AreTextBytes : Delimiters → Delimiters → List ℕ → Type 0
-AreTextBytes q k [] = Unit {0}
-AreTextBytes q k (b ∷ x) = IsTextByte q k b × AreTextBytes q k x
-
--- a byte is a token of its own, whatever follows it, and is dropped before an argument's first token
-pub record IsBlankByte (q k : Delimiters) (b : ℕ) : Type 0 where
-  pub alone : (m : Bool) (y : List ℕ) → scan q k m (b ∷ y) ≡ Found (Byte b) 1
-  pub blank : (c : Call) → c.begun ≡ false → role_of b c ≡ Blank
-
-abbrev pub AreBlankBytes : Delimiters → Delimiters → List ℕ → Type 0
-AreBlankBytes q k [] = Unit {0}
-AreBlankBytes q k (b ∷ x) = IsBlankByte q k b × AreBlankBytes q k x
+-- bytes that are tokens of their own, each with this role in the open call c
+abbrev pub HaveRole : Role → Call → Delimiters → Delimiters → List ℕ → Type 0
+HaveRole r c q k [] = Unit {0}
+HaveRole r c q k (b ∷ x) = (IsLone q k b × (role_of b c ≡ r)) × HaveRole r c q k x
 
 -- the first token, of n bytes, is a string, a comment, or a name without a definition: the text t
 abbrev pub IsText : State → Bool → ℕ → List ℕ → List ℕ → Type 0

@@ -14,7 +14,6 @@ ghost use Rattle.m4_engine.specs.Collected.{TakesByte, IsListEnd};
 ghost use Rattle.m4_engine.specs.Engine.{warning_if_dropped};
 ghost use Rattle.m4_engine.specs.Expand.{call_of};
 
-use crate::front::Named;
 use crate::role::{ListEnd, Role};
 use m4_builtins::args::Arg;
 use m4_builtins::place::Place;
@@ -150,17 +149,17 @@ impl OpenCall {
         })
     }
 
-    /// Makes this a call of a name, with no argument read yet. Keeps its memory and place.
-    pub fn renew(&mut self, name: &Named<'_>) -> Result<(), AllocError>
-        requires valid { IsDefinition name.now.definition.now }
-        requires within { name.now.len ≤ length name.now.text.now }
-        ensures { OnOk result (self.new
-            ≡ call_of name.now.definition.now (take name.now.len name.now.text.now) self.old.place) }
+    /// Makes this a call of the name that is the first `len` bytes of a text, with no argument read yet. Keeps its
+    /// memory and place. The text is taken, since a short name is copied with the bytes after it.
+    pub fn renew(&mut self, text: &[u8], len: usize, definition: &Def) -> Result<(), AllocError>
+        requires valid { IsDefinition definition.now }
+        requires within { len ≤ length text.now }
+        ensures { OnOk result (self.new ≡ call_of definition.now (take len text.now) self.old.place) }
     {
         self.clear();
         let alloc = *self.parts.bytes.allocator();
-        self.parts.name = Bytes::from_front(alloc, name.text, name.len)?;
-        self.parts.definition = name.definition.share()?;
+        self.parts.name = Bytes::from_front(alloc, text, len)?;
+        self.parts.definition = definition.share()?;
         Ok(())
     }
 
@@ -255,13 +254,6 @@ impl OpenCall {
         ensures { result.now ≡ self.now.place }
     {
         &self.parts.place
-    }
-
-    /// Returns whether the argument has begun. Until it has, white space is dropped.
-    pub fn has_begun(&self) -> bool
-        ensures { result ≡ self.now.begun }
-    {
-        self.parts.begun
     }
 
     /// Marks the argument as begun, so that white space now belongs to it.

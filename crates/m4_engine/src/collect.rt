@@ -8,14 +8,13 @@ ghost use Rattle.m4_input.specs.Token.{scan};
 ghost use Rattle.m4_input.specs.declared.front.Scan.TheVariants.{Found};
 ghost use Rattle.m4_input.specs.declared.token.Token.TheVariants.{Byte};
 ghost use Rattle.m4_engine.specs.Lookahead.{IsAhead};
-ghost use Rattle.m4_engine.specs.Collected.{AreBlankBytes, IsListRun};
+ghost use Rattle.m4_engine.specs.Collected.{HaveRole, IsListRun};
 
 use crate::call::OpenCall;
-use crate::front::is_plain_space;
+use crate::front::is_lone;
 use crate::lookahead::Lookahead;
 use crate::role::Role;
 use crate::spare::Spare;
-use crate::text_bytes::text_len;
 use m4_input::delims::Delims;
 use m4_input::front::Look;
 use m4_input::look::first_token;
@@ -83,27 +82,25 @@ fn collect_byte(
 {
     let rest = text.split_at(1).1;
     if call.role(byte) == Role::Other {
-        let len = 1 + text_len(rest, delims);
+        call.mark_begun();
+        let len = 1 + role_len(call, Role::Other, rest, delims);
         call.put_front(text, len)?;
         return Ok(len);
     }
-    if let Some(_left) = call.take_byte(byte)? {
-        return Ok(0);
+    match call.take_byte(byte)? {
+        Some(_left) => Ok(0),
+        None => Ok(1 + role_len(call, Role::Blank, rest, delims)),
     }
-    if call.has_begun() {
-        return Ok(1);
-    }
-    Ok(1 + plain_spaces_len(rest, delims))
 }
 
-/// Counts the spaces at the start. Before an argument's first token they are dropped, so they are passed together.
+/// Counts the bytes at the start that are tokens of their own, each with this role in the call.
 #[inline(always)]
-fn plain_spaces_len(text: &[u8], delims: &Delims<'_>) -> usize
-    ensures bytes { AreBlankBytes delims.now.quotes.now delims.now.comments.now (take result text.now) }
+fn role_len(call: &OpenCall, role: Role, text: &[u8], delims: &Delims<'_>) -> usize
+    ensures bytes { HaveRole role call.now delims.now.quotes.now delims.now.comments.now (take result text.now) }
     ensures within { result ≤ length text.now }
 {
     let mut k = 0;
-    while k < text.len() && is_plain_space(text[k], delims) {
+    while k < text.len() && is_lone(text[k], delims) && call.role(text[k]) == role {
         k += 1;
     }
     k

@@ -3,30 +3,16 @@
 
 ghost use Rattle.std.specs.Prelude.{◌≡◌, ◌<◌, ◌≤◌, Bool, true, IfOk, length, take, drop};
 ghost use Rattle.m4_state.specs.State.{State as Specified};
-ghost use Rattle.m4_input.specs.Token.{scan};
-ghost use Rattle.m4_input.specs.declared.front.Scan.TheVariants.{Found};
-ghost use Rattle.m4_input.specs.declared.token.Token.TheVariants.{Comment};
-ghost use Rattle.m4_engine.specs.Collected.{IsBlankByte};
+ghost use Rattle.m4_engine.specs.Collected.{IsLone};
 ghost use Rattle.m4_engine.specs.Lookahead.{IsAhead};
 ghost use Rattle.m4_engine.specs.Plain.{IsPlainRun};
 
 use crate::lookahead::Lookahead;
 use crate::spare::Spare;
 use m4_input::delims::Delims;
-use m4_input::front::Look;
 use m4_input::look::{first_token, plain_token};
-use m4_state::definition::Def;
 use m4_state::state::State;
 use std::alloc::AllocError;
-
-/// A name with a definition: the first `len` bytes of a text. A call takes the text, since it copies a short name with
-/// the bytes after it.
-#[derive(Clone, Copy)]
-pub struct Named<'a> {
-    pub text: &'a [u8],
-    pub len: usize,
-    pub definition: &'a Def,
-}
 
 /// Counts the bytes of the plain tokens at the start, and returns the token after them. It counts no token after the
 /// one that reaches `most`.
@@ -45,19 +31,15 @@ pub fn plain_run(
     ensures after { IfOk result (λ r. IsAhead r.1 state.now room more (drop r.0 text.now)) }
 {
     let delims = Delims::of(state);
-    let spaced = is_plain_space(b' ', &delims);
+    let spaced = is_lone(b' ', &delims);
     let mut len = 0;
     'tokens: loop {
         let rest = text.split_at(len).1;
-        let Some(look) = plain_token(rest, &delims, more) else {
-            let comment = comment_len(rest, &delims, more);
-            if comment == 0 || len >= most {
-                return Ok((len, rare_token(rest, state, spare, more, room)?));
-            }
-            len += comment;
-            continue 'tokens;
+        let lookahead = match plain_token(rest, &delims, more) {
+            Some(look) => Lookahead::of(look, rest, state, &delims, spare, more, room)?,
+            None => rare_token(rest, state, spare, more, room)?,
         };
-        match Lookahead::of(look, rest, state, &delims, spare, more, room)? {
+        match lookahead {
             Lookahead::Text(0, end, all) if end == all && len < most => {
                 len = with_space(text, len + all, spaced);
             }
@@ -67,12 +49,12 @@ pub fn plain_run(
     }
 }
 
-/// Returns whether a byte is a space with which no delimiter begins: a token of its own, whatever follows it.
+/// Returns whether a byte is a token of its own, whatever follows it: no name and no delimiter begins with it.
 #[inline(always)]
-pub fn is_plain_space(byte: u8, delims: &Delims<'_>) -> bool
-    ensures { result ≡ true → IsBlankByte delims.now.quotes.now delims.now.comments.now byte }
+pub fn is_lone(byte: u8, delims: &Delims<'_>) -> bool
+    ensures { result ≡ true → IsLone delims.now.quotes.now delims.now.comments.now byte }
 {
-    byte == b' ' && !delims.may_comment(byte) && !delims.may_quote(byte)
+    !(byte.is_ascii_alphabetic() || byte == b'_' || delims.may_comment(byte) || delims.may_quote(byte))
 }
 
 /// Returns the length of a run of plain tokens and of the space after it, if there is one and each space is a token
@@ -81,32 +63,13 @@ pub fn is_plain_space(byte: u8, delims: &Delims<'_>) -> bool
 fn with_space(text: &[u8], len: usize, spaced: bool) -> usize
     requires { len ≤ length text.now }
     ensures plain { (s : Specified) (m : Bool) → IsPlainRun s m len text.now
-        → (spaced ≡ true → IsBlankByte s.quotes s.comments 32) → IsPlainRun s m result text.now }
+        → (spaced ≡ true → IsLone s.quotes s.comments 32) → IsPlainRun s m result text.now }
     ensures more { len ≤ result }
     ensures within { result ≤ length text.now }
 {
     match text.split_at(len).1.first() {
         Some(b' ') if spaced => len + 1,
         _ => len,
-    }
-}
-
-/// Counts the bytes of the comment at the start; 0 if there is none.
-#[inline(never)]
-fn comment_len(text: &[u8], delims: &Delims<'_>, more: bool) -> usize
-    ensures comment { 0 < result → scan delims.now.quotes.now delims.now.comments.now more text.now
-        ≡ Found (Comment (take result text.now)) result }
-    ensures within { result ≤ length text.now }
-{
-    let Some(first) = text.first() else {
-        return 0;
-    };
-    if !delims.may_comment(*first) {
-        return 0;
-    }
-    match first_token(text, delims, more) {
-        Look::Comment(len) => len,
-        _ => 0,
     }
 }
 

@@ -19,5 +19,4 @@ pub mod session;
 pub mod source;
 mod spare;
 pub mod stop;
-mod text_bytes;
 mod turned;

@@ -8,7 +8,6 @@ ghost use Rattle.m4_input.specs.declared.token.Token.TheVariants.{Name};
 ghost use Rattle.m4_engine.specs.Lookahead.{IsAhead};
 
 use crate::call::OpenCall;
-use crate::front::Named;
 use crate::spare::Spare;
 use m4_builtins::substitute::is_plain;
 use m4_input::delims::Delims;
@@ -101,13 +100,8 @@ impl Lookahead {
         let Some(definition) = state.top(name) else {
             return Ok(Lookahead::Text(0, len, len));
         };
-        let named = Named {
-            text,
-            len,
-            definition,
-        };
         match list_follows(after, delims, more) {
-            Answer::Yes => Ok(Lookahead::List(len, spare.call(&named)?)),
+            Answer::Yes => Ok(Lookahead::List(len, spare.call(text, len, definition)?)),
             Answer::Unknown => Ok(Lookahead::Undecided),
             Answer::No => match definition {
                 Def::Text(body) if room && is_plain(body.as_slice()) => Ok(Lookahead::Expansion(
@@ -115,7 +109,7 @@ impl Lookahead {
                     body.share()?,
                 )),
                 Def::Builtin(Builtin::Dnl) if room => Ok(Lookahead::LineSkip(len)),
-                _ => Ok(Lookahead::Call(len, spare.call(&named)?)),
+                _ => Ok(Lookahead::Call(len, spare.call(text, len, definition)?)),
             },
         }
     }

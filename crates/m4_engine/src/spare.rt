@@ -5,7 +5,7 @@ ghost use Rattle.m4_state.specs.Definition.{IsDefinition};
 ghost use Rattle.m4_engine.specs.Expand.{call_of};
 
 use crate::call::OpenCall;
-use crate::front::Named;
+use m4_state::definition::Def;
 use std::alloc::{AllocError, Global};
 use std::marker::Model;
 
@@ -50,19 +50,19 @@ impl Spare {
         }
     }
 
-    /// Returns a call of a name, with no argument read yet. The caller sets its place.
+    /// Returns a call of the name that is the first `len` bytes of a text, with no argument read yet. The caller sets
+    /// its place.
     #[inline(always)]
-    pub fn call(&mut self, name: &Named<'_>) -> Result<OpenCall, AllocError>
-        requires valid { IsDefinition name.now.definition.now }
-        requires within { name.now.len ≤ length name.now.text.now }
-        ensures { IfOk result (λ c. c
-            ≡ call_of name.now.definition.now (take name.now.len name.now.text.now) c.place) }
+    pub fn call(&mut self, text: &[u8], len: usize, definition: &Def) -> Result<OpenCall, AllocError>
+        requires valid { IsDefinition definition.now }
+        requires within { len ≤ length text.now }
+        ensures { IfOk result (λ c. c ≡ call_of definition.now (take len text.now) c.place) }
     {
         let mut call = match self.calls.pop() {
             Some(kept) => kept,
             None => OpenCall::blank(self.alloc)?,
         };
-        call.renew(name)?;
+        call.renew(text, len, definition)?;
         Ok(call)
     }
 
@@ -81,17 +81,9 @@ impl Spare {
     pub fn lend(&mut self, call: &mut OpenCall)
         ensures { call.new ≡ call.old }
     {
-        if call.needs_memory() {
-            self.lend_last(call);
+        if !call.needs_memory() {
+            return;
         }
-    }
-
-    /// Moves the memory of the call that was made last to an open call.
-    #[inline(never)]
-    fn lend_last(&mut self, call: &mut OpenCall)
-        requires { call.old.done ≡ [] }
-        ensures { call.new ≡ call.old }
-    {
         if let Some(made) = self.calls.last_mut() {
             call.take_memory(made);
         }
