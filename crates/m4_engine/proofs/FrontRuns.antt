@@ -141,7 +141,7 @@ ahead_on s room more (aheads.List n c) x z u h =
 ahead_on s room more aheads.End x z u h = found_on s.quotes s.comments more x z End 0 h
 ahead_on s room more (aheads.Unended what) x z u h = decided_on s.quotes s.comments more x z (Broken what) (λ e. cc) h
 ahead_on s room more aheads.Undecided x z u h = absurd (u refl)
-ahead_on s room more (aheads.Further k) x z u h = absurd h
+ahead_on s room more aheads.Further x z u h = absurd h
 
 -- the bytes after those at the front
 pub record After (p : Pending) (x : List ℕ) (m : Bool) : Type 0 where
@@ -201,7 +201,7 @@ ahead_there (aheads.List n c) s room p f h = (f, h)
 ahead_there aheads.End s room p f h = (f, h)
 ahead_there (aheads.Unended what) s room p f h = (f, h)
 ahead_there aheads.Undecided s room p f h = (f, h)
-ahead_there (aheads.Further k) s room p f h = absurd h
+ahead_there aheads.Further s room p f h = absurd h
 
 -- the bytes that are left of those at the front come first once the others were consumed
 pub front_left : (p : Pending) (m : Bool) (n : ℕ) (x : List ℕ) → IsInFront p x m → n ≤ length x → (rest : List ℕ) × (text_of (consumed n p) ≡ drop n x ++ rest)
@@ -238,7 +238,7 @@ ahead_kept (aheads.List n c) s t room m x h = (record { scanned = (h.0).scanned;
 ahead_kept aheads.End s t room m x h = h
 ahead_kept (aheads.Unended what) s t room m x h = h
 ahead_kept aheads.Undecided s t room m x h = h
-ahead_kept (aheads.Further k) s t room m x h = h
+ahead_kept aheads.Further s t room m x h = h
 
 -- what is left is less, if some bytes were passed
 pub front_less : (p : Pending) (m : Bool) (n : ℕ) (x : List ℕ) → IsInFront p x m → 0 < n → n ≤ length x → length (text_of (consumed n p)) < length (text_of p)

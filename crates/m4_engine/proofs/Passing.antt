@@ -27,7 +27,9 @@ use Rattle.m4_engine.specs.Engine.{Engine, put_in, here_of, outer_of, configurat
 use Rattle.m4_engine.specs.Moments.{Moment, Next, moved, Comes}
 use Rattle.m4_engine.specs.Turns.{MayFollow, Moves}
 use Rattle.m4_engine.specs.Passes.{PassesPlain, PassesInner, PassesToken, PassesOnce, ArePasses, Passes, PassesText}
-use Rattle.m4_engine.specs.Passes.{PassesBy, PassesFront, IsLookahead, EndsAt}
+use Rattle.m4_engine.specs.Passes.{PassesBy, IsLookahead}
+use Rattle.std.specs.Prelude.{Some, IfSome}
+use Rattle.std.specs.Borrow.{Bor}
 use Rattle.m4_input.specs.Blocks.{IsInFront}
 use Rattle.m4_engine.specs.declared.lookahead.Lookahead.{Lookahead}
 use Rattle.m4_engine.specs.declared.lookahead.Lookahead.TheVariants as aheads
@@ -409,83 +411,90 @@ further (s ∷ ss) e e1 e2 i i1 i2 h g =
 pub passes_on : (e e1 e2 : Engine) (i i1 i2 : Held) → Passes e e1 i i1 → PassesOnce e1 e2 i1 i2 → Passes e e2 i i2
 passes_on e e1 e2 i i1 i2 h g = further h.0 e e1 e2 i i1 i2 h.1 g
 
--- an end that is not further on is the next token
-pub found_by : (a : Lookahead) (looked : ℕ) (e : Engine) (p q : Pending) → ((k : ℕ) → a ≡ aheads.Further k → ⊥) → EndsAt a looked e p q → IsLookahead a e q
-found_by a looked e p q n (inl h) = h
-found_by a looked e p q n (inr h) = absurd (n h.0 h.1)
+-- after a pass fewer bytes are left, or more of them were looked at
+abbrev pub IsFurther : ℕ → ℕ → Pending → Pending → Type 0
+IsFurther k looked p q =
+    (k ≤ length (text_of q))
+    × ((length (text_of q) < length (text_of p)) ⊎ ((length (text_of q) ≡ length (text_of p)) × (looked < k)))
 
-module _ (e : Engine) (p : Pending) (others : Bool) (looked n : ℕ) (x : List ℕ)
-    (h : IsInFront p x (others || p.may_follow)) (longer : others ≡ true → looked < length x)
-    (d : p.definition ≡ None) (k : n ≤ length x) where
-  -- others come after the bytes that were looked at
-  left_open : others ≡ true → EndsAt (aheads.Further (length x - n)) looked e p (consumed n p)
-  left_open o =
-      let l = front_left p (others || p.may_follow) n x h k in
-      let left : length (text_of (consumed n p)) ≡ length (drop n x) + length l.0 = ap length l.1 ∙ length-append (drop n x) l.0 in
-      let rest : length (drop n x) ≡ length x - n = length-drop n x in
-      inr (length x - n, refl, omega (arith, left, rest), by n h k)
-    where
-      by : (n : ℕ) → IsInFront p x (others || p.may_follow) → n ≤ length x
-          → (length (text_of (consumed n p)) < length (text_of p))
-          ⊎ ((length (text_of (consumed n p)) ≡ length (text_of p)) × (looked < length x - n))
-      by zero h k =
-          let more : looked < length x = longer o in
-          inr (ap (λ (r : Pending). length (text_of r)) (consumed_none p d), omega (arith, more))
-      by (suc n) h k = inl (front_less p (others || p.may_follow) (suc n) x h (omega arith) k)
-
-  -- a token was found, or some bytes were passed
-  found_at : (all : others ≡ false → x ≡ text_of p) (a : Lookahead) → (a ≡ aheads.Undecided → others ≡ false)
-      → ((0 < n) × (a ≡ aheads.Further 0)) ⊎ IsAhead a e.state (allows_call e) (others || p.may_follow) (drop n x)
-      → EndsAt a looked e p (consumed n p)
-  found_at all a u (inl g) = inr (0, g.1, omega arith, inl (front_less p (others || p.may_follow) n x h g.0 k))
-  found_at all a u (inr g) = inl (ahead_front a e.state (allows_call e) p others n x h all k u g)
+pub measure_less : (looked k : ℕ) (p q : Pending) → looked ≤ length (text_of p) → IsFurther k looked p q → measure (length (text_of q)) k < measure (length (text_of p)) looked
+measure_less looked k p q l e = measure_falls (length (text_of q)) (length (text_of p)) looked k l e.0 e.1
 
 -- a pass over a text in front of an input
 module _ (a : Lookahead) (old new : Engine) (i j : Held) (looked n : ℕ) (x : List ℕ) (others more : Bool)
     (m : more ≡ (others || (i.pending).may_follow)) (h : IsInFront i.pending x (others || (i.pending).may_follow))
     (longer : others ≡ true → looked < length x) (d : (i.pending).definition ≡ None)
     (r : PassesBy n a x more old new) (g : j ≡ record i { pending = consumed n i.pending }) where
+  abbrev ends : Type 0
+  ends = ((0 < n) × (a ≡ aheads.Further)) ⊎ IsAhead a new.state (allows_call new) (others || (i.pending).may_follow) (drop n x)
+
+  ends_so : ends
+  ends_so = subst (λ (v : Bool). ((0 < n) × (a ≡ aheads.Further)) ⊎ IsAhead a new.state (allows_call new) v (drop n x)) m r.end
+
   front_once : PassesOnce old new i j
   front_once = passes_text old new i j (others || (i.pending).may_follow) n x h d r.within (subst (λ (v : Bool). PassesText v n x old new) m r.passes) g
 
-  pub front_open : others ≡ true → PassesFront (aheads.Further (length x - n)) looked old new i j
-  front_open o = record {
-    passes = front_once;
-    end = subst (λ (v : Held). EndsAt (aheads.Further (length x - n)) looked new i.pending v.pending) (sym g)
-        (left_open new i.pending others looked n x h longer d r.within o);
-  }
+  -- others come after the bytes that were looked at
+  front_open : others ≡ true → IsFurther (length x - n) looked i.pending j.pending
+  front_open o =
+      let l = front_left i.pending (others || (i.pending).may_follow) n x h r.within in
+      let left : length (text_of (consumed n i.pending)) ≡ length (drop n x) + length l.0 = ap length l.1 ∙ length-append (drop n x) l.0 in
+      let rest : length (drop n x) ≡ length x - n = length-drop n x in
+      subst (λ (v : Held). IsFurther (length x - n) looked i.pending v.pending) (sym g) (omega (arith, left, rest), by n h r.within)
+    where
+      by : (n : ℕ) → IsInFront i.pending x (others || (i.pending).may_follow) → n ≤ length x
+          → (length (text_of (consumed n i.pending)) < length (text_of i.pending))
+          ⊎ ((length (text_of (consumed n i.pending)) ≡ length (text_of i.pending)) × (looked < length x - n))
+      by zero h k =
+          let more : looked < length x = longer o in
+          inr (ap (λ (r : Pending). length (text_of r)) (consumed_none i.pending d), omega (arith, more))
+      by (suc n) h k = inl (front_less i.pending (others || (i.pending).may_follow) (suc n) x h (omega arith) k)
 
-  pub front_found : (others ≡ false → x ≡ text_of i.pending) → (a ≡ aheads.Undecided → others ≡ false) → PassesFront a looked old new i j
-  front_found all u = record {
-    passes = front_once;
-    end = subst (λ (v : Held). EndsAt a looked new i.pending v.pending) (sym g)
-        (found_at new i.pending others looked n x h longer d r.within all a u
-        (subst (λ (v : Bool). ((0 < n) × (a ≡ aheads.Further 0)) ⊎ IsAhead a new.state (allows_call new) v (drop n x)) m r.end));
-  }
+  -- some bytes were passed
+  front_further : a ≡ aheads.Further → IsFurther 0 looked i.pending j.pending
+  front_further f = subst (λ (v : Held). IsFurther 0 looked i.pending v.pending) (sym g) (omega arith, by ends_so)
+    where
+      by : ends → (length (text_of (consumed n i.pending)) < length (text_of i.pending))
+          ⊎ ((length (text_of (consumed n i.pending)) ≡ length (text_of i.pending)) × (looked < 0))
+      by (inl e) = inl (front_less i.pending (others || (i.pending).may_follow) n x h e.0 r.within)
+      by (inr e) = absurd (subst (λ (v : Lookahead). IsAhead v new.state (allows_call new) (others || (i.pending).may_follow) (drop n x)) f e)
+
+  -- a token was found
+  front_found : (others ≡ false → x ≡ text_of i.pending) → (a ≡ aheads.Undecided → others ≡ false) → (a ≡ aheads.Further → ⊥) → IsLookahead a new j.pending
+  front_found all u f = subst (λ (v : Held). IsLookahead a new v.pending) (sym g) (by ends_so)
+    where
+      by : ends → IsLookahead a new (consumed n i.pending)
+      by (inl e) = absurd (f e.1)
+      by (inr e) = ahead_front a new.state (allows_call new) i.pending others n x h all r.within u e
+
+-- what a pass over the front of an input did: `others` come after the bytes that it looked at, of which `left` are left
+pub record PassesFront (a : Lookahead) (looked left : ℕ) (others : Bool) (old new : Engine) (i j : Held) : Type 0 where
+  pub once : PassesOnce old new i j
+  pub undecided : others ≡ true → IsFurther left looked i.pending j.pending
+  pub further : a ≡ aheads.Further → IsFurther 0 looked i.pending j.pending
+  pub found : (a ≡ aheads.Undecided → others ≡ false) → (a ≡ aheads.Further → ⊥) → IsLookahead a new j.pending
+
+pub passes_front : (a : Lookahead) (old new : Engine) (i j : Held) (looked n : ℕ) (text : Bor (List ℕ)) (others more : Bool)
+    (o : Option (Bor (List ℕ) × Bool)) → o ≡ Some (text, others) → more ≡ (others || (i.pending).may_follow)
+    → IfSome o (λ r. IsInFront i.pending r.0.now (r.1 || (i.pending).may_follow))
+    → IfSome o (λ r. r.1 ≡ false → r.0.now ≡ text_of i.pending)
+    → IfSome o (λ r. r.1 ≡ true → looked < length r.0.now)
+    → IfSome o (λ r. (i.pending).definition ≡ None)
+    → PassesBy n a text.now more old new → j ≡ record i { pending = consumed n i.pending }
+    → PassesFront a looked (length text.now - n) others old new i j
+passes_front a old new i j looked n text others more o is m h all longer d r g =
+    let h = subst (λ (o : Option (Bor (List ℕ) × Bool)). IfSome o (λ r. IsInFront i.pending r.0.now (r.1 || (i.pending).may_follow))) is h in
+    let all = subst (λ (o : Option (Bor (List ℕ) × Bool)). IfSome o (λ r. r.1 ≡ false → r.0.now ≡ text_of i.pending)) is all in
+    let longer = subst (λ (o : Option (Bor (List ℕ) × Bool)). IfSome o (λ r. r.1 ≡ true → looked < length r.0.now)) is longer in
+    let d = subst (λ (o : Option (Bor (List ℕ) × Bool)). IfSome o (λ r. (i.pending).definition ≡ None)) is d in
+    record {
+      once = front_once a old new i j looked n text.now others more m h longer d r g;
+      undecided = front_open a old new i j looked n text.now others more m h longer d r g;
+      further = front_further a old new i j looked n text.now others more m h longer d r g;
+      found = front_found a old new i j looked n text.now others more m h longer d r g all;
+    }
 
 -- a further pass over a front
-pub passed_front : (a : Lookahead) (looked : ℕ) (e e1 e2 : Engine) (i i1 i2 t : Held) → Passes e e1 i i1 → IsReady i1 → PassesFront a looked e1 e2 i1 i2 → t ≡ i2 → Passes e e2 i t × IsReady t
-passed_front a looked e e1 e2 i i1 i2 t h r k g =
-    (subst (λ (j : Held). Passes e e2 i j) (sym g) (passes_on e e1 e2 i i1 i2 h k.passes), subst IsReady (sym g) (once_ready e1 e2 i1 i2 r k.passes))
-
--- a pass that ends where further bytes are looked at
-abbrev IsFurther : ℕ → ℕ → Pending → Pending → Type 0
-IsFurther k looked p q =
-    (k ≤ length (text_of q))
-    × ((length (text_of q) < length (text_of p)) ⊎ ((length (text_of q) ≡ length (text_of p)) × (looked < k)))
-
-pub ends_further : (a : Lookahead) (looked k : ℕ) (e1 e2 : Engine) (i1 i2 t : Held) → a ≡ aheads.Further k → t ≡ i2 → PassesFront a looked e1 e2 i1 i2 → IsFurther k looked i1.pending t.pending
-ends_further a looked k e1 e2 i1 i2 t h g r =
-    by (subst (λ (v : Lookahead). EndsAt v looked e2 i1.pending t.pending) h (subst (λ (j : Held). EndsAt a looked e2 i1.pending j.pending) (sym g) r.end))
-  where
-    same : (k l : ℕ) → aheads.Further k ≡ aheads.Further l → l ≡ k
-    same k l e = cc
-
-    by : EndsAt (aheads.Further k) looked e2 i1.pending t.pending → IsFurther k looked i1.pending t.pending
-    by (inl f) = absurd f.1
-    by (inr f) = subst (λ (l : ℕ). IsFurther l looked i1.pending t.pending) (same k f.0 f.1) (f.2, f.3)
-
-pub measure_less : (a : Lookahead) (looked k : ℕ) (e1 e2 : Engine) (i1 i2 t : Held) → a ≡ aheads.Further k → t ≡ i2 → looked ≤ length (text_of i1.pending) → PassesFront a looked e1 e2 i1 i2 → measure (length (text_of t.pending)) k < measure (length (text_of i1.pending)) looked
-measure_less a looked k e1 e2 i1 i2 t h g l r =
-    let e = ends_further a looked k e1 e2 i1 i2 t h g r in
-    measure_falls (length (text_of t.pending)) (length (text_of i1.pending)) looked k l e.0 e.1
+pub passed_front : (e e1 e2 : Engine) (i i1 i2 t : Held) → Passes e e1 i i1 → IsReady i1 → PassesOnce e1 e2 i1 i2 → t ≡ i2 → Passes e e2 i t × IsReady t
+passed_front e e1 e2 i i1 i2 t h r k g =
+    (subst (λ (j : Held). Passes e e2 i j) (sym g) (passes_on e e1 e2 i i1 i2 h k), subst IsReady (sym g) (once_ready e1 e2 i1 i2 r k))

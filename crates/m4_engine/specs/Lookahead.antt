@@ -49,7 +49,7 @@ IsAhead (aheads.List n c) s room m x = IsNamed n true s m x × IsCalled c s (tak
 IsAhead aheads.End s room m x = scan s.quotes s.comments m x ≡ Found End 0
 IsAhead (aheads.Unended what) s room m x = scan s.quotes s.comments m x ≡ Broken what
 IsAhead aheads.Undecided s room m x = IsUndecided s m x
-IsAhead (aheads.Further k) s room m x = ⊥
+IsAhead aheads.Further s room m x = ⊥
 
 -- the lookahead is right for the next token
 abbrev pub IsLookaheadOf : Lookahead → State → Bool → Pending → Type 0

@@ -72,21 +72,8 @@ PassesText m n x old new =
     ⊎ ((k : ℕ) × (t : List ℕ) × (l : ℕ) × IsPlainRun old.state m k x × IsText old.state m l t (drop k x)
     × (n ≡ k + l) × (old.open_calls ≡ []) × (new ≡ put_in [] t (put_in [] (take k x) old))))
 
--- a pass over a text, after which more bytes may come, ends at the next token, or something was passed
+-- a pass over a text, after which more bytes may come, ends at the next token, or something was passed before it
 pub record PassesBy (n : ℕ) (a : Lookahead) (x : List ℕ) (more : Bool) (old new : Engine) : Type 0 where
   pub passes : PassesText more n x old new
   pub within : n ≤ length x
-  pub end : ((0 < n) × (a ≡ aheads.Further 0)) ⊎ IsAhead a new.state (allows_call new) more (drop n x)
-
--- a pass over the front of an input ends at the next token, or some bytes were passed, or more of them were looked at
-abbrev pub EndsAt : Lookahead → ℕ → Engine → Pending → Pending → Type 0
-EndsAt a looked e before after =
-    IsLookahead a e after
-    ⊎ ((k : ℕ) × (a ≡ aheads.Further k) × (k ≤ length (text_of after))
-    × ((length (text_of after) < length (text_of before))
-    ⊎ ((length (text_of after) ≡ length (text_of before)) × (looked < k))))
-
--- a pass over the front of an input, of which `looked` bytes don't decide the first token
-pub record PassesFront (a : Lookahead) (looked : ℕ) (old new : Engine) (i j : Held) : Type 0 where
-  pub passes : PassesOnce old new i j
-  pub end : EndsAt a looked new i.pending j.pending
+  pub end : ((0 < n) × (a ≡ aheads.Further)) ⊎ IsAhead a new.state (allows_call new) more (drop n x)

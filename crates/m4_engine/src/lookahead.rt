@@ -44,8 +44,8 @@ pub enum Lookahead {
     Unended(Unended),
     /// The bytes that were looked at don't decide the token, or whether a list follows a name.
     Undecided,
-    /// Not found yet: this many bytes at the start were looked at, and others in hand come after them.
-    Further(usize),
+    /// Not looked at yet: a pass put the text before it.
+    Further,
 }
 
 impl Lookahead {

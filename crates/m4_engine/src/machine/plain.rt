@@ -4,9 +4,9 @@
 //! A pass consumes tokens of one text, the bytes at the start of the input. If they leave a token open and others in
 //! hand come after them, the next pass has a longer text.
 
-ghost use Rattle.std.specs.Prelude.{◌≡◌, ◌||◌, [], IfOk, OnOk};
+ghost use Rattle.std.specs.Prelude.{◌≡◌, [], IfOk, OnOk};
 ghost use Rattle.m4_engine.specs.Engine.{IsReady, allows_call, put_in};
-ghost use Rattle.m4_engine.specs.Passes.{IsLookahead, PassesBy, PassesFront, Passes};
+ghost use Rattle.m4_engine.specs.Passes.{IsLookahead, PassesBy, Passes};
 
 use super::driver::OUTPUT_BLOCK;
 use crate::collect::collect;
@@ -16,14 +16,6 @@ use crate::machine::Machine;
 use crate::turned::TurnFault;
 use m4_input::input::Input;
 use m4_state::append::append;
-
-/// Returns whether bytes may come after those at the start: others in hand, or further ones.
-#[inline(always)]
-fn may_follow(input: &Input, others: bool) -> bool
-    ensures { result ≡ (others || input.now.pending.may_follow) }
-{
-    others || input.may_follow()
-}
 
 impl Machine {
     /// Consumes leading tokens that need no turn: outside of calls up to a block of plain text, and in a list the
@@ -41,39 +33,22 @@ impl Machine {
     {
         let mut looked = 0;
         'fronts: loop {
-            match self.pass_front(looked, input, copy)? {
-                Lookahead::Further(len) => {
+            let Some((text, others)) = input.front(looked, copy)? else {
+                return Ok(Lookahead::Definition);
+            };
+            let more = others | input.may_follow();
+            let (len, lookahead) = self.pass_text(text, more)?;
+            let left = text.len() - len;
+            input.consume(len);
+            match lookahead {
+                Lookahead::Further => looked = 0,
+                Lookahead::Undecided if others => {
                     // To join few bytes to the next ones takes less time than to copy both.
-                    let _joined = len > 0 && input.join();
-                    looked = len;
+                    let _joined = left > 0 && input.join();
+                    looked = left;
                 }
-                lookahead => return Ok(lookahead),
+                _ => return Ok(lookahead),
             }
-        }
-    }
-
-    /// Passes tokens of the bytes at the start, which are more than `looked` if others come after them.
-    #[inline(always)]
-    fn pass_front(
-        &mut self,
-        looked: usize,
-        input: &mut Input,
-        copy: &mut Vec<u8>,
-    ) -> Result<Lookahead, TurnFault>
-        requires { IsReady input.old }
-        ensures { IfOk result (λ a. PassesFront a looked self.old self.new input.old input.new) }
-    {
-        let Some((text, others)) = input.front(looked, copy)? else {
-            return Ok(Lookahead::Definition);
-        };
-        let more = may_follow(input, others);
-        let (len, lookahead) = self.pass_text(text, more)?;
-        let left = text.len() - len;
-        input.consume(len);
-        match lookahead {
-            Lookahead::Undecided if others => Ok(Lookahead::Further(left)),
-            Lookahead::Undecided => Ok(Lookahead::Undecided),
-            _ => Ok(lookahead),
         }
     }
 
@@ -117,7 +92,7 @@ impl Machine {
         match lookahead {
             Lookahead::Text(begin, end, all) if self.output.len() < OUTPUT_BLOCK => {
                 self.put_text(rest.split_at(begin).1.split_at(end - begin).0)?;
-                Ok((len + all, Lookahead::Further(0)))
+                Ok((len + all, Lookahead::Further))
             }
             _ => Ok((len, lookahead)),
         }

@@ -46,8 +46,8 @@ impl Machine {
             Lookahead::Definition => self.take_definition(input),
             Lookahead::End => self.take_end(),
             Lookahead::Unended(what) => self.take_unended(what, input.line(), input),
-            // A pass looks for it.
-            Lookahead::Further(_) => unreachable!(),
+            // A pass looks at it.
+            Lookahead::Further => unreachable!(),
         }
     }
 

@@ -58,7 +58,7 @@ returns-in_ok-put_text-in-Text c =
     let fits : t.all ≤ length (drop k x) = h.3 in
     let rest : length (drop k x) ≡ length x - k = length-drop k x in
     let within : k ≤ length x = c.in_ok-len.ensures.within in
-    subst (λ (e : Engine). PassesBy (k + t.all) (aheads.Further 0) x more e c.put_text.new.self) c.self.view_is (record {
+    subst (λ (e : Engine). PassesBy (k + t.all) (aheads.Further) x more e c.put_text.new.self) c.self.view_is (record {
       passes = inr (inr (k, part, t.all, c.in_ok-len.ensures.plain, h.0, refl, outside, new));
       within = omega (arith, fits, rest, within);
       end = inl (omega (arith, some), refl);
