@@ -54,7 +54,10 @@ pub fn plain_run(
 pub fn is_lone(byte: u8, delims: &Delims<'_>) -> bool
     ensures { result ≡ true → IsLone delims.now.quotes.now delims.now.comments.now byte }
 {
-    !(byte.is_ascii_alphabetic() || byte == b'_' || delims.may_comment(byte) || delims.may_quote(byte))
+    !(byte.is_ascii_alphabetic()
+        || byte == b'_'
+        || delims.may_comment(byte)
+        || delims.may_quote(byte))
 }
 
 /// Returns the length of a run of plain tokens and of the space after it, if there is one and each space is a token

@@ -53,7 +53,12 @@ impl Spare {
     /// Returns a call of the name that is the first `len` bytes of a text, with no argument read yet. The caller sets
     /// its place.
     #[inline(always)]
-    pub fn call(&mut self, text: &[u8], len: usize, definition: &Def) -> Result<OpenCall, AllocError>
+    pub fn call(
+        &mut self,
+        text: &[u8],
+        len: usize,
+        definition: &Def,
+    ) -> Result<OpenCall, AllocError>
         requires valid { IsDefinition definition.now }
         requires within { len ≤ length text.now }
         ensures { IfOk result (λ c. c ≡ call_of definition.now (take len text.now) c.place) }

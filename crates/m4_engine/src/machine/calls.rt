@@ -61,8 +61,7 @@ fn push_value(input: &mut Input, effect: &mut EffectBuffer) -> Result<(), TurnFa
 }
 
 /// Appends the messages, the output and the saved text of a call to the buffers. Its value is pushed later.
-/// Not inlined, since hardly any call makes them.
-#[inline(never)]
+#[inline(always)]
 fn put_more(
     effect: &mut EffectBuffer,
     messages: &mut Vec<u8>,
@@ -74,6 +73,10 @@ fn put_more(
     ensures saved { OnOk result (saved.new.items ≡ with_saved effect.old.wrap saved.old.items) }
     ensures left { OnOk result (effect.new ≡ record effect.old { wrap = None }) }
 {
+    // Hardly any call makes them.
+    if !effect.has_more() {
+        return Ok(());
+    }
     messages.extend_from_slice(effect.messages())?;
     output.extend_from_slice(effect.output())?;
     if let Some(text) = effect.take_wrap() {
@@ -179,24 +182,19 @@ impl Machine {
             &mut self.state,
         )?;
         self.spare.keep(call);
-        if self.effect.has_more() {
-            put_more(
-                &mut self.effect,
-                &mut self.messages,
-                &mut self.output,
-                &mut self.saved,
-            )?;
-            if let Some(code) = self.effect.exit() {
-                self.begin_argument();
-                return Ok(Turned::Ends(TurnEnd::Exited(code)));
-            }
-            if self.effect.skips() {
-                self.begin_argument();
-                return Ok(Turned::SkipsLine);
-            }
-            push_value(input, &mut self.effect)?;
+        put_more(
+            &mut self.effect,
+            &mut self.messages,
+            &mut self.output,
+            &mut self.saved,
+        )?;
+        if let Some(code) = self.effect.exit() {
             self.begin_argument();
-            return Ok(Turned::GoesOn);
+            return Ok(Turned::Ends(TurnEnd::Exited(code)));
+        }
+        if self.effect.skips() {
+            self.begin_argument();
+            return Ok(Turned::SkipsLine);
         }
         push_value(input, &mut self.effect)?;
         self.begin_argument();

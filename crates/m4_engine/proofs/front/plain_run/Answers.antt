@@ -17,8 +17,9 @@ tokens-preserved-then-len-most c =
     let is : c.match-plain_token.lookahead ≡ aheads.Text 0 end all = search rules in
     let ahead : IsAhead c.match-plain_token.lookahead s c.args.room c.args.more y =
     elim c.match-plain_token.branch [
-        in-Some+in_ok-lookahead-in-Some w ↦ subst (λ (a : Lookahead). IsAhead a s c.args.room c.args.more y) (sym w.lookahead-is) w.in_ok-lookahead-in-Some.ensures
-      | in-None+in_ok-lookahead-in-None w ↦ subst (λ (a : Lookahead). IsAhead a s c.args.room c.args.more y) (sym w.lookahead-is) w.in_ok-lookahead-in-None.ensures ] in
+      | in-Some+in_ok-lookahead-in-Some w ↦ subst (λ (a : Lookahead). IsAhead a s c.args.room c.args.more y) (sym w.lookahead-is) w.in_ok-lookahead-in-Some.ensures
+      | in-None+in_ok-lookahead-in-None w ↦ subst (λ (a : Lookahead). IsAhead a s c.args.room c.args.more y) (sym w.lookahead-is) w.in_ok-lookahead-in-None.ensures
+    ] in
     let h : IsAhead (aheads.Text 0 end all) s c.args.room c.args.more y = subst (λ (a : Lookahead). IsAhead a s c.args.room c.args.more y) is ahead in
     let whole : end - 0 ≡ all = omega (arith, c.if-end-all.true) in
     record {
@@ -39,8 +40,9 @@ tokens-smaller-then-len-most c =
     let is : c.match-plain_token.lookahead ≡ aheads.Text 0 end all = search rules in
     let ahead : IsAhead c.match-plain_token.lookahead s c.args.room c.args.more y =
     elim c.match-plain_token.branch [
-        in-Some+in_ok-lookahead-in-Some w ↦ subst (λ (a : Lookahead). IsAhead a s c.args.room c.args.more y) (sym w.lookahead-is) w.in_ok-lookahead-in-Some.ensures
-      | in-None+in_ok-lookahead-in-None w ↦ subst (λ (a : Lookahead). IsAhead a s c.args.room c.args.more y) (sym w.lookahead-is) w.in_ok-lookahead-in-None.ensures ] in
+      | in-Some+in_ok-lookahead-in-Some w ↦ subst (λ (a : Lookahead). IsAhead a s c.args.room c.args.more y) (sym w.lookahead-is) w.in_ok-lookahead-in-Some.ensures
+      | in-None+in_ok-lookahead-in-None w ↦ subst (λ (a : Lookahead). IsAhead a s c.args.room c.args.more y) (sym w.lookahead-is) w.in_ok-lookahead-in-None.ensures
+    ] in
     let h : IsAhead (aheads.Text 0 end all) s c.args.room c.args.more y = subst (λ (a : Lookahead). IsAhead a s c.args.room c.args.more y) is ahead in
     let some : 0 < all = text_some s c.args.more all (take (end - 0) (drop 0 y)) y h.0 in
     let more : c.tokens.len + all ≤ c.with_space-len.result = c.with_space-len.ensures.more in
@@ -53,8 +55,9 @@ tokens-preserved c =
     let y = c.split_at.result.1.now in
     let ahead : IsAhead c.match-plain_token.lookahead s c.args.room c.args.more y =
     elim c.match-plain_token.branch [
-        in-Some+in_ok-lookahead-in-Some w ↦ subst (λ (a : Lookahead). IsAhead a s c.args.room c.args.more y) (sym w.lookahead-is) w.in_ok-lookahead-in-Some.ensures
-      | in-None+in_ok-lookahead-in-None w ↦ subst (λ (a : Lookahead). IsAhead a s c.args.room c.args.more y) (sym w.lookahead-is) w.in_ok-lookahead-in-None.ensures ] in
+      | in-Some+in_ok-lookahead-in-Some w ↦ subst (λ (a : Lookahead). IsAhead a s c.args.room c.args.more y) (sym w.lookahead-is) w.in_ok-lookahead-in-Some.ensures
+      | in-None+in_ok-lookahead-in-None w ↦ subst (λ (a : Lookahead). IsAhead a s c.args.room c.args.more y) (sym w.lookahead-is) w.in_ok-lookahead-in-None.ensures
+    ] in
     let h = subst (λ (a : Lookahead). IsAhead a s c.args.room c.args.more y) c.in-Byte.is ahead in
     record {
       within = search rules;

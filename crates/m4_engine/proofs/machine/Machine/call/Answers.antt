@@ -2,8 +2,7 @@ use Rattle.std.proofs.Common.{◌≡◌, ◌++◌, [], ap, sym, ◌∙◌, subst
 use Rattle.std.specs.Prelude.{Option, None}
 use Rattle.m4_input.specs.Input.{Held, longer}
 use Rattle.m4_input.specs.declared.pushed.Pushed.{Pushed}
-use Rattle.m4_builtins.specs.declared.effect.Effect.{Effect}
-use Rattle.m4_builtins.specs.Acted.{Acted, nothing}
+use Rattle.m4_builtins.specs.Acted.{Acted}
 use Rattle.m4_engine.specs.Engine.{Engine, here_of, with_made}
 use Rattle.m4_engine.specs.Turns.{called_within, line_move}
 use Rattle.m4_engine.specs.Expand.{with_saved, with_value}
@@ -42,36 +41,19 @@ returns-then-skips c = record {
   made = search rules;
 }
 
-pub returns-then-has_more : goal.returns-then-has_more
-returns-then-has_more c = record {
+pub returns : goal.returns
+returns c = record {
   moves = λ z more k o m.
       let a : Acted = record { state = c.act_on.new.state; effect = c.act_on.new.effect } in
-      let pushed : c.put_more.new.effect.push ≡ c.act_on.new.effect.push = search rules in
-      let plain : c.begin_argument-then-has_more.new.self ≡ with_made [] [] None (record c.args.self.now { state = a.state; messages = c.put_more.new.messages.items; output = c.put_more.new.output.items; saved = c.put_more.new.saved.items }) = search rules in
+      let plain : c.begin_argument-2.new.self ≡ with_made [] [] None (record c.args.self.now { state = a.state; messages = c.put_more.new.messages.items; output = c.put_more.new.output.items; saved = c.put_more.new.saved.items }) = search rules in
       let made = plain ∙ made_and_begun c.args.self.now a.state a.effect _ _ _
       (c.in_ok-put_more.ensures.messages ∙ ap (λ (x : Engine). x.messages ++ (a.effect).messages) c.self.view_is)
       (c.in_ok-put_more.ensures.output ∙ ap (λ (x : Engine). x.output ++ (a.effect).output) c.self.view_is)
       (c.in_ok-put_more.ensures.saved ∙ ap (λ (x : Engine). with_saved (a.effect).wrap x.saved) c.self.view_is) in
-      called_goes c.args.self.now c.begin_argument-then-has_more.new.self c.args.call a (longer z more c.args.input.now.pending) (longer z more c.push_value.new.input.pending) (search rules) (search rules) (search rules) made
+      let pushed : c.put_more.new.effect.push ≡ c.act_on.new.effect.push = search rules in
+      called_goes c.args.self.now c.begin_argument-2.new.self c.args.call a (longer z more c.args.input.now.pending) (longer z more c.push_value.new.input.pending) (search rules) (search rules) (search rules) made
       (subst (λ (v : Option Pushed). with_value v (longer z more c.args.input.now.pending) ≡ longer z more c.push_value.new.input.pending) pushed
       (subst (λ (i : Held). with_value c.put_more.new.effect.push (longer z more i.pending) ≡ longer z more c.push_value.new.input.pending) c.lend.ensures.input (c.in_ok-push_value.ensures.pushes z more))) o m;
-  ready = search rules;
-  limits = search rules;
-  made = search rules;
-}
-
--- there was nothing to do but to insert the value
-pub returns : goal.returns
-returns c = record {
-  moves = λ z more k o m.
-      let e = c.args.self.now in
-      let a : Acted = record { state = c.act_on.new.state; effect = c.act_on.new.effect } in
-      let none : a.effect ≡ record nothing { push = (a.effect).push } = c.has_more.ensures (search rules) in
-      let plain : c.begin_argument-2.new.self ≡ with_made [] [] None (record e { state = a.state }) = search rules in
-      called_goes e c.begin_argument-2.new.self c.args.call a (longer z more c.args.input.now.pending) (longer z more c.push_value-2.new.input.pending) (search rules)
-      (ap (λ (v : Effect). v.exit) none) (ap (λ (v : Effect). v.skip) none)
-      (plain ∙ ap (λ (v : Effect). with_made v.messages v.output v.wrap (record e { state = a.state })) (sym none))
-      (subst (λ (i : Held). with_value (a.effect).push (longer z more i.pending) ≡ longer z more c.push_value-2.new.input.pending) c.lend.ensures.input (c.in_ok-push_value-2.ensures.pushes z more)) o m;
   ready = search rules;
   limits = search rules;
   made = search rules;

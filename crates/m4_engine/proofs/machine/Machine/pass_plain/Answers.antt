@@ -60,14 +60,16 @@ returns-in_default-lookahead c =
           (λ (u : a ≡ aheads.Undecided).
           let others : c.in-Some.others ≡ false =
           elim c.in_default-lookahead.branch [
-              in_default-lookahead-via-in-Undecided+else-others w ↦ w.if-others.false
-            | in_default-lookahead-via-in_default-lookahead w ↦ absurd (w.in_default-lookahead.not-Undecided u) ] in
+            | in_default-lookahead-via-in-Undecided+else-others w ↦ w.if-others.false
+            | in_default-lookahead-via-in_default-lookahead w ↦ absurd (w.in_default-lookahead.not-Undecided u)
+          ] in
           others)
           (λ (g : a ≡ aheads.Further).
           let never : ⊥ =
           elim c.in_default-lookahead.branch [
-              in_default-lookahead-via-in-Undecided+else-others w ↦ absurd (undecided_no_further (sym w.in-Undecided.is ∙ g))
-            | in_default-lookahead-via-in_default-lookahead w ↦ w.in_default-lookahead.not-Further g ] in
+            | in_default-lookahead-via-in-Undecided+else-others w ↦ absurd (undecided_no_further (sym w.in-Undecided.is ∙ g))
+            | in_default-lookahead-via-in_default-lookahead w ↦ w.in_default-lookahead.not-Further g
+          ] in
           never);
     }
   where
