@@ -25,6 +25,7 @@ use std::marker::Model;
 
 /// A call whose list is not closed yet: its definition, name and place as they were when the name was read,
 /// the complete arguments, and the part of the next one that was read.
+#[derive(Drop)]
 pub struct OpenCall {
     parts: Box<Parts>,
 }
@@ -56,13 +57,6 @@ impl Model for OpenCall {
     ghost view = { call_view };
 
     ghost invariant = { IsOpenCall };
-}
-
-// Written out so that a caller's proof contains one call, not the drop of each field.
-impl Drop for OpenCall {
-    fn drop(self) {
-        let OpenCall { parts: _parts } = self;
-    }
 }
 
 /// The greatest length of an argument that has a buffer of its own, which is kept for the next argument. A longer one

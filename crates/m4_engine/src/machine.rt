@@ -31,6 +31,7 @@ use std::alloc::{AllocError, Global};
 use std::marker::Model;
 
 /// The state of a run so far, its buffers, and the calls whose lists are open.
+#[derive(Drop)]
 pub struct Machine {
     alloc: Global,
     most_calls: u64,
@@ -57,26 +58,6 @@ impl Model for Machine {
     ghost view = { engine_view };
 
     ghost invariant = { λ m. m.innermost ≡ None → m.outer.items ≡ [] };
-}
-
-// Written out so that a caller's proof contains one call, not the drop of each field.
-impl Drop for Machine {
-    fn drop(self) {
-        let Machine {
-            alloc: _alloc,
-            most_calls: _most_calls,
-            most_nested: _most_nested,
-            state: _state,
-            calls: _calls,
-            innermost: _innermost,
-            outer: _outer,
-            output: _output,
-            messages: _messages,
-            saved: _saved,
-            spare: _spare,
-            effect: _effect,
-        } = self;
-    }
 }
 
 /// Returns the texts joined, the last one first.

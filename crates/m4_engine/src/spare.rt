@@ -20,6 +20,7 @@ const USUAL: usize = 8;
 
 /// Calls that were made, kept for their memory. There are at most as many as were open at one time, so keeping them
 /// takes no more memory than was needed then.
+#[derive(Drop)]
 pub struct Spare {
     alloc: Global,
     calls: Vec<OpenCall>,
@@ -29,16 +30,6 @@ impl Model for Spare {
     ghost Value = { Unit {0} };
 
     ghost view = { λ s. tt };
-}
-
-// Written out so that a caller's proof contains one call, not the drop of each field.
-impl Drop for Spare {
-    fn drop(self) {
-        let Spare {
-            alloc: _alloc,
-            calls: _calls,
-        } = self;
-    }
 }
 
 impl Spare {

@@ -25,9 +25,9 @@ returns-then-is_deep c = record {
 
 pub returns-then-not-listed : goal.returns-then-not-listed
 returns-then-not-listed c = record {
-  moves = bare_made c.args.input.now.pending.may_follow c.args.self.now c.count.new.self c.call.new.self c.args.call
-      c.args.listed (λ z more. longer z more c.args.input.now.pending) c.call.new.input.pending c.call.result
-      (search rules) (search rules) c.count.ensures (search rules) c.call.ensures.moves;
+  moves = bare_made c.args.input.now.pending.may_follow c.args.self.now c.count.new.self c.call-then-not-listed.new.self c.args.call
+      c.args.listed (λ z more. longer z more c.args.input.now.pending) c.call-then-not-listed.new.input.pending c.call-then-not-listed.result
+      (search rules) (search rules) c.count.ensures (search rules) c.call-then-not-listed.ensures.moves;
   ready = search rules;
   limits = search rules;
   made = search rules;
