@@ -1,10 +1,8 @@
 //! The next token, as it was found when the tokens before it were passed.
 
-ghost use Rattle.std.specs.Prelude.{◌≡◌, ◌≤◌, IfOk, length, take};
+ghost use Rattle.std.specs.Prelude.{◌≡◌, IfOk};
 ghost use Rattle.m4_input.specs.Look.{scan_of, LookLies};
 ghost use Rattle.m4_input.specs.Token.{scan};
-ghost use Rattle.m4_input.specs.declared.front.Scan.TheVariants.{Found};
-ghost use Rattle.m4_input.specs.declared.token.Token.TheVariants.{Name};
 ghost use Rattle.m4_engine.specs.Lookahead.{IsAhead};
 
 use crate::call::OpenCall;
@@ -50,7 +48,8 @@ pub enum Lookahead {
 
 impl Lookahead {
     /// Returns the lookahead for the token that this look found. `more` is whether bytes may come after the text, and
-    /// `room` whether the limits allow a call. The place of a call is not set yet.
+    /// `room` whether the limits allow a call. The place of a call is not set yet. Without a list, if the limits allow a
+    /// call, a text without a dollar is its own expansion, and `dnl`, with which many lines end, needs no call in memory.
     #[inline(always)]
     pub fn of(
         look: Look,
@@ -67,35 +66,15 @@ impl Lookahead {
         requires lies { LookLies text.now look }
         ensures { IfOk result (λ a. IsAhead a state.now room more text.now) }
     {
-        match look {
-            Look::Name(len) => Lookahead::named(len, text, state, delims, spare, more, room),
-            Look::Byte(byte) => Ok(Lookahead::Byte(byte)),
-            Look::Quoted(begin, len, all) => Ok(Lookahead::Text(begin, begin + len, all)),
-            Look::Comment(len) => Ok(Lookahead::Text(0, len, len)),
-            Look::End => Ok(Lookahead::End),
-            Look::Unended(what) => Ok(Lookahead::Unended(what)),
-            Look::NeedsMore => Ok(Lookahead::Undecided),
-        }
-    }
-
-    /// Returns the lookahead for a name of this length. Without a list, if the limits allow a call, a text without a
-    /// dollar is its own expansion, and `dnl`, with which many lines end, needs no call in memory.
-    #[inline(always)]
-    fn named(
-        len: usize,
-        text: &[u8],
-        state: &State,
-        delims: &Delims<'_>,
-        spare: &mut Spare,
-        more: bool,
-        room: bool,
-    ) -> Result<Lookahead, AllocError>
-        requires quotes { delims.now.quotes.now ≡ state.now.quotes }
-        requires comments { delims.now.comments.now ≡ state.now.comments }
-        requires name { scan state.now.quotes state.now.comments more text.now ≡ Found (Name (take len text.now)) len }
-        requires within { len ≤ length text.now }
-        ensures { IfOk result (λ a. IsAhead a state.now room more text.now) }
-    {
+        let len = match look {
+            Look::Name(len) => len,
+            Look::Byte(byte) => return Ok(Lookahead::Byte(byte)),
+            Look::Quoted(begin, len, all) => return Ok(Lookahead::Text(begin, begin + len, all)),
+            Look::Comment(len) => return Ok(Lookahead::Text(0, len, len)),
+            Look::End => return Ok(Lookahead::End),
+            Look::Unended(what) => return Ok(Lookahead::Unended(what)),
+            Look::NeedsMore => return Ok(Lookahead::Undecided),
+        };
         let (name, after) = text.split_at(len);
         let Some(definition) = state.top(name) else {
             return Ok(Lookahead::Text(0, len, len));

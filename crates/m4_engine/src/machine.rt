@@ -3,9 +3,8 @@
 //! The output and messages of a turn are buffered until they are flushed, so a turn uses no writer.
 
 ghost use Rattle.std.specs.Prelude.{◌≡◌, [], OnOk, IfOk, IfSome, IfNone};
-ghost use Rattle.m4_state.specs.Definition.{IsDefinition};
 ghost use Rattle.m4_builtins.specs.Messages.{error};
-ghost use Rattle.m4_engine.specs.Engine.{with_text, with_token, with_engine_message, with_open_call, engine_at};
+ghost use Rattle.m4_engine.specs.Engine.{with_text, with_engine_message, with_open_call, engine_at};
 ghost use Rattle.m4_engine.specs.Session.{is_saved};
 ghost use Rattle.m4_engine.specs.Wraps.{joined_back};
 
@@ -60,18 +59,6 @@ impl Model for Machine {
     ghost invariant = { λ m. m.innermost ≡ None → m.outer.items ≡ [] };
 }
 
-/// Returns the texts joined, the last one first.
-fn join_back(alloc: Global, texts: Vec<Bytes>) -> Result<Bytes, AllocError>
-    ensures { IfOk result (λ x. x ≡ joined_back texts.items) }
-{
-    let mut left = texts;
-    let mut joined = Vec::new(alloc);
-    while let Some(text) = left.pop() {
-        joined.extend_from_slice(text.as_slice())?;
-    }
-    Bytes::from_vec(joined)
-}
-
 impl Machine {
     /// Creates an idle machine from a state and the limits.
     pub fn new(alloc: Global, state: State, most_calls: u64, most_nested: u64) -> Machine
@@ -106,17 +93,6 @@ impl Machine {
             return self.put_outside(text);
         };
         call.put_front(text, text.len())?;
-        Ok(())
-    }
-
-    /// Appends a definition to the innermost argument. Outside of calls it drops the definition.
-    pub fn put_token(&mut self, definition: Def) -> Result<(), AllocError>
-        requires { IsDefinition definition }
-        ensures { OnOk result (self.new ≡ with_token definition self.old) }
-    {
-        if let Some(call) = &mut self.innermost {
-            call.put_token(definition)?;
-        }
         Ok(())
     }
 
@@ -168,7 +144,11 @@ impl Machine {
         ensures text { IfOk result (λ x. x ≡ joined_back self.old.saved) }
         ensures taken { self.new ≡ record self.old { saved = [] } }
     {
-        let saved = std::mem::replace(&mut self.saved, Vec::new(self.alloc));
-        join_back(self.alloc, saved)
+        let mut left = std::mem::replace(&mut self.saved, Vec::new(self.alloc));
+        let mut joined = Vec::new(self.alloc);
+        while let Some(text) = left.pop() {
+            joined.extend_from_slice(text.as_slice())?;
+        }
+        Bytes::from_vec(joined)
     }
 }

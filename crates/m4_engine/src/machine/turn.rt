@@ -74,20 +74,21 @@ impl Machine {
         Ok(Turned::GoesOn)
     }
 
-    /// Consumes the definition that comes first, and appends it to the innermost argument.
+    /// Consumes the definition that comes first, and appends it to the innermost argument. Outside of calls it is
+    /// dropped.
     #[inline(never)]
     fn take_definition(&mut self, input: &mut Input) -> Result<Turned, TurnFault>
         requires ready { IsReady input.old }
         requires first { input.old.pending.definition ≢ None }
         ensures { Turns result self.old self.new input.old input.new }
     {
-        match input.take_definition() {
-            Some(definition) => {
-                self.put_token(definition)?;
-                Ok(Turned::GoesOn)
-            }
-            None => unreachable!(),
+        let Some(definition) = input.take_definition() else {
+            unreachable!();
+        };
+        if let Some(call) = &mut self.innermost {
+            call.put_token(definition)?;
         }
+        Ok(Turned::GoesOn)
     }
 
     /// Consumes a name of this length with a definition, and sets the place of its call. Makes the call or opens its

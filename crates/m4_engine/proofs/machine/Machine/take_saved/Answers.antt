@@ -1,6 +1,6 @@
 use Rattle.std.proofs.Common.{rules}
 use Rattle.m4_engine.proofs.JoinsBack.{joined_on}
-use Rattle.m4_engine.proofs.machine.join_back.Goals as goal
+use Rattle.m4_engine.proofs.machine.Machine.take_saved.Goals as goal
 
 pub loop-text-preserved : goal.loop-text-preserved
 loop-text-preserved c =
