@@ -154,16 +154,6 @@ impl Machine {
         Ok(Turned::GoesOn)
     }
 
-    /// Counts a call of the builtin that skips the rest of the line. The call is a token of the argument around it.
-    #[inline(always)]
-    pub(super) fn take_line_skip(&mut self)
-        requires { nat_lt self.old.calls self.old.limits.calls ≡ true }
-        ensures { self.new ≡ with_made [] [] None (with_one_call self.old) }
-    {
-        self.count();
-        self.begin_argument();
-    }
-
     /// Makes a call whose arguments are complete: acts on it, and pushes its value. The effect has memory for a text
     /// that the call makes.
     #[inline(never)]
@@ -203,7 +193,7 @@ impl Machine {
 
     /// Marks the argument that contains a call as begun, and gives the call around it memory for it.
     #[inline(always)]
-    fn begin_argument(&mut self)
+    pub(super) fn begin_argument(&mut self)
         ensures { self.new ≡ with_made [] [] None self.old }
     {
         if let Some(around) = &mut self.innermost {

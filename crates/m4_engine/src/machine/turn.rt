@@ -36,7 +36,8 @@ impl Machine {
             }
             Lookahead::LineSkip(len) => {
                 input.pass(len);
-                self.take_line_skip();
+                self.count();
+                self.begin_argument();
                 Ok(Turned::SkipsLine)
             }
             Lookahead::Call(len, call) => self.take_name(len, false, call, input),

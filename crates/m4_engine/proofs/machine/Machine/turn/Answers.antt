@@ -1,4 +1,4 @@
-use Rattle.std.proofs.Common.{◌≡◌, List, ℕ, None, false, rules, ap, subst, take}
+use Rattle.std.proofs.Common.{◌≡◌, ◌∙◌, List, [], ℕ, None, false, rules, ap, subst, take}
 use Rattle.m4_input.specs.Pending.{text_of}
 use Rattle.m4_input.specs.Input.{Held, answer_of}
 use Rattle.m4_input.specs.Paren.{paren_at}
@@ -7,6 +7,7 @@ use Rattle.m4_input.proofs.Names.{name_has_none}
 use Rattle.std.specs.Prelude.{Ok}
 use Rattle.m4_engine.specs.declared.turned.Turned.TheVariants as turns
 use Rattle.m4_engine.specs.declared.lookahead.Lookahead.{Lookahead}
+use Rattle.m4_engine.specs.Engine.{Engine, with_made}
 use Rattle.m4_engine.specs.Passes.{IsLookahead}
 use Rattle.m4_engine.proofs.Seen.{room_allows, list_there, expansion_moves, line_skips}
 use Rattle.m4_engine.proofs.Turning.{found_steps_at, end_turn, broken_turn, undecided_turn}
@@ -44,8 +45,8 @@ returns-in-LineSkip c =
     let rest : q.definition ≡ None = ap (λ (i : Held). (i.pending).definition) c.pass-in-LineSkip.ensures in
     let list : paren_at e.state.quotes e.state.comments q ≡ answer_of false = list_there e.state.quotes e.state.comments p q n (answer_of false) (ap (λ (i : Held). i.pending) c.pass-in-LineSkip.ensures) (h.1.0).list in
     let room = room_allows e h.1.1 in
-    found_steps_at e c.take_line_skip.new.self (Name name) n c.args.input.now k k (Ok turns.SkipsLine) h.0 (h.1.0).scanned c.pass-in-LineSkip.ensures
-    (line_skips e c.take_line_skip.new.self name p q rest list room.0 room.1 c.take_line_skip.ensures h.1.2)
+    found_steps_at e c.begin_argument.new.self (Name name) n c.args.input.now k k (Ok turns.SkipsLine) h.0 (h.1.0).scanned c.pass-in-LineSkip.ensures
+    (line_skips e c.begin_argument.new.self name p q rest list room.0 room.1 (c.begin_argument.ensures ∙ ap (λ (x : Engine). with_made [] [] None x) c.count.ensures) h.1.2)
     {to = λ t. Unit {0}} (record { moves = tt; ready = search rules; limits = search rules; made = tt })
 
 -- a name has no newline
