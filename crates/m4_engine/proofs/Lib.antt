@@ -40,6 +40,7 @@ pub mod LoopKeeps
 pub mod Moments
 pub mod Begins
 pub mod PlainRuns
+pub mod TextBytes
 pub mod ListRuns
 pub mod Passing
 pub mod SkippedLines

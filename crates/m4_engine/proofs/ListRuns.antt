@@ -104,7 +104,7 @@ bytes_at_once s m n x c d f w h g =
     by_front (b ∷ y) h = bytes_taken s m b y (drop n x) c f h
 
 -- the call with its argument begun
-abbrev begun : Call → Call
+abbrev pub begun : Call → Call
 begun c = record c { begun = true }
 
 -- a byte that is text, and the bytes after it that are
@@ -150,6 +150,10 @@ blanks_at_once s m n x c w h =
 -- a byte, and the bytes after it that are dropped
 pub byte_and_blanks : (s : State) (m : Bool) (b n : ℕ) (c d : Call) (x y : List ℕ) → scan s.quotes s.comments m x ≡ Found (Byte b) 1 → TakesByte b c d → y ≡ drop 1 x → n ≤ length y → HaveRole Blank d s.quotes s.comments (take n y) → IsListRun s m (1 + n) c d x
 byte_and_blanks s m b n c d x y h t g w k = list_on s m 1 n c d d x y (list_one s m 1 c d x (inr (b, h, t))) g (blanks_at_once s m n y d w k)
+
+-- a byte alone
+pub byte_taken : (s : State) (m : Bool) (b : ℕ) (c d : Call) (x : List ℕ) → scan s.quotes s.comments m x ≡ Found (Byte b) 1 → TakesByte b c d → IsListRun s m 1 c d x
+byte_taken s m b c d x h t = list_one s m 1 c d x (inr (b, h, t))
 
 -- no byte
 pub byte_left : (s : State) (m : Bool) (c d : Call) (x : List ℕ) → d ≡ c → IsListRun s m 0 c d x

@@ -250,6 +250,13 @@ impl OpenCall {
         &self.parts.place
     }
 
+    /// Returns whether the argument has begun. Until it has, white space is dropped.
+    pub fn has_begun(&self) -> bool
+        ensures { result ≡ self.now.begun }
+    {
+        self.parts.begun
+    }
+
     /// Marks the argument as begun, so that white space now belongs to it.
     pub fn mark_begun(&mut self)
         ensures { self.new ≡ record self.old { begun = true } }

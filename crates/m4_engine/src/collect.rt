@@ -2,13 +2,15 @@
 //! the loop ends at a name that may be called, at the parenthesis that closes the list, and at a token that one
 //! look does not decide. Manual: "Macro arguments", "Quoting arguments".
 
-ghost use Rattle.std.specs.Prelude.{◌≡◌, ◌<◌, ◌≤◌, Bool, IfOk, length, take, drop};
+ghost use Rattle.std.specs.Prelude.{◌≡◌, ◌<◌, ◌≤◌, Bool, true, false, IfOk, length, take, drop};
 ghost use Rattle.m4_state.specs.State.{State as Specified};
 ghost use Rattle.m4_input.specs.Token.{scan};
 ghost use Rattle.m4_input.specs.declared.front.Scan.TheVariants.{Found};
 ghost use Rattle.m4_input.specs.declared.token.Token.TheVariants.{Byte};
 ghost use Rattle.m4_engine.specs.Lookahead.{IsAhead};
 ghost use Rattle.m4_engine.specs.Collected.{HaveRole, IsListRun};
+ghost use Rattle.m4_engine.specs.Expansion.{Call};
+ghost use Rattle.m4_engine.specs.declared.role.Role.TheVariants.{Blank, Other};
 
 use crate::call::OpenCall;
 use crate::front::is_lone;
@@ -82,25 +84,58 @@ fn collect_byte(
 {
     let rest = text.split_at(1).1;
     if call.role(byte) == Role::Other {
-        call.mark_begun();
-        let len = 1 + role_len(call, Role::Other, rest, delims);
+        let len = 1 + text_len(rest, delims);
         call.put_front(text, len)?;
         return Ok(len);
     }
-    match call.take_byte(byte)? {
-        Some(_left) => Ok(0),
-        None => Ok(1 + role_len(call, Role::Blank, rest, delims)),
+    if let Some(_left) = call.take_byte(byte)? {
+        return Ok(0);
     }
+    if call.has_begun() {
+        return Ok(1);
+    }
+    Ok(1 + spaces_len(rest, delims))
 }
 
-/// Counts the bytes at the start that are tokens of their own, each with this role in the call.
+// A full stop is at the place of each byte that begins no name, and is text in an argument that has begun; a comma is at
+// all others.
+static TEXT_BYTES: [u8; 256] = *b"\
+    ................................\
+    ........,,..,...................\
+    .,,,,,,,,,,,,,,,,,,,,,,,,,,....,\
+    .,,,,,,,,,,,,,,,,,,,,,,,,,,.....\
+    ................................\
+    ................................\
+    ................................\
+    ................................";
+
+/// Counts the bytes at the start that are tokens of their own, and text in an argument that has begun.
 #[inline(always)]
-fn role_len(call: &OpenCall, role: Role, text: &[u8], delims: &Delims<'_>) -> usize
-    ensures bytes { HaveRole role call.now delims.now.quotes.now delims.now.comments.now (take result text.now) }
+fn text_len(text: &[u8], delims: &Delims<'_>) -> usize
+    ensures bytes { (c : Call) → c.begun ≡ true
+        → HaveRole Other c delims.now.quotes.now delims.now.comments.now (take result text.now) }
     ensures within { result ≤ length text.now }
 {
     let mut k = 0;
-    while k < text.len() && is_lone(text[k], delims) && call.role(text[k]) == role {
+    while k < text.len()
+        && TEXT_BYTES[text[k] as usize] == b'.'
+        && !delims.may_comment(text[k])
+        && !delims.may_quote(text[k])
+    {
+        k += 1;
+    }
+    k
+}
+
+/// Counts the spaces at the start that are tokens of their own. Before an argument's first token they are dropped.
+#[inline(always)]
+fn spaces_len(text: &[u8], delims: &Delims<'_>) -> usize
+    ensures bytes { (c : Call) → c.begun ≡ false
+        → HaveRole Blank c delims.now.quotes.now delims.now.comments.now (take result text.now) }
+    ensures within { result ≤ length text.now }
+{
+    let mut k = 0;
+    while k < text.len() && text[k] == b' ' && is_lone(b' ', delims) {
         k += 1;
     }
     k

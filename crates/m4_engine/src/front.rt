@@ -35,11 +35,14 @@ pub fn plain_run(
     let mut len = 0;
     'tokens: loop {
         let rest = text.split_at(len).1;
-        let lookahead = match plain_token(rest, &delims, more) {
-            Some(look) => Lookahead::of(look, rest, state, &delims, spare, more, room)?,
-            None => rare_token(rest, state, spare, more, room)?,
+        let Some(look) = plain_token(rest, &delims, more) else {
+            match rare_token(rest, state, spare, more, room)? {
+                Lookahead::Text(0, end, all) if end == all && len < most => len += all,
+                lookahead => return Ok((len, lookahead)),
+            }
+            continue 'tokens;
         };
-        match lookahead {
+        match Lookahead::of(look, rest, state, &delims, spare, more, room)? {
             Lookahead::Text(0, end, all) if end == all && len < most => {
                 len = with_space(text, len + all, spaced);
             }

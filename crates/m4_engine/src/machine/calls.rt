@@ -28,7 +28,7 @@ use std::alloc::AllocError;
 /// Pushes a value: it is read before everything else.
 #[inline(always)]
 #[tactic(auto, using(crate::proofs::Inputs::pushed))]
-fn push(input: &mut Input, value: Pushed) -> Result<(), TurnFault>
+pub(super) fn push(input: &mut Input, value: Pushed) -> Result<(), TurnFault>
     requires input { IsTaken input.old }
     requires valid { IsPushed (Some value) }
     ensures pushes { OnOk result (Pushes input.old.pending input.new.pending (Some value)) }
@@ -129,28 +129,6 @@ impl Machine {
         // The parenthesis was recognised as a token, so it is one byte.
         input.consume(1);
         self.open_list(call)?;
-        Ok(Turned::GoesOn)
-    }
-
-    /// Counts a call of a text macro without a list, and pushes its expansion.
-    #[inline(always)]
-    pub(super) fn take_expansion(
-        &mut self,
-        text: Bytes,
-        input: &mut Input,
-    ) -> Result<Turned, TurnFault>
-        requires input { IsTaken input.old }
-        requires room { nat_lt self.old.calls self.old.limits.calls ≡ true }
-        requires shallow { is_deep_in self.old ≡ false }
-        ensures { Steps result self.old self.new input.old input.new
-            (λ t. (c : Call) (x : List ℕ) → c.definition ≡ Text x → text ≡ subst x c.name c.done self.old.state.quotes
-            → (before : Extended) → Moves input.old.pending.may_follow self.new input.new.pending t
-            (λ z more o m. step (outer_of self.old.open_calls)
-            (call_turn false c (longer z more input.old.pending) (here_of o m self.old (before z more))))) }
-    {
-        self.count();
-        push(input, Pushed::Text(text))?;
-        self.begin_argument();
         Ok(Turned::GoesOn)
     }
 

@@ -12,9 +12,11 @@ ghost use Rattle.m4_engine.specs.Turns.{Turns};
 use crate::call::OpenCall;
 use crate::lookahead::Lookahead;
 use crate::machine::Machine;
+use crate::machine::calls::push;
 use crate::turned::{TurnFault, Turned};
 use m4_builtins::act::needs_list;
 use m4_input::input::Input;
+use m4_input::pushed::Pushed;
 
 impl Machine {
     /// Makes one turn: consumes the first pending token and acts on it. Does nothing if the bytes in hand don't decide
@@ -32,7 +34,10 @@ impl Machine {
             }
             Lookahead::Expansion(len, text) => {
                 input.pass(len);
-                self.take_expansion(text, input)
+                self.count();
+                push(input, Pushed::Text(text))?;
+                self.begin_argument();
+                Ok(Turned::GoesOn)
             }
             Lookahead::LineSkip(len) => {
                 input.pass(len);

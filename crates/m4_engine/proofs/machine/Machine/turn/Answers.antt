@@ -1,6 +1,7 @@
 use Rattle.std.proofs.Common.{◌≡◌, ◌∙◌, List, [], ℕ, None, false, rules, ap, subst, take}
 use Rattle.m4_input.specs.Pending.{text_of}
-use Rattle.m4_input.specs.Input.{Held, answer_of}
+use Rattle.m4_input.specs.Input.{Held, answer_of, longer}
+use Rattle.m4_engine.proofs.Bare.{expanded_goes, text_goes}
 use Rattle.m4_input.specs.Paren.{paren_at}
 use Rattle.m4_input.specs.declared.token.Token.TheVariants.{Name, Byte}
 use Rattle.m4_input.proofs.Names.{name_has_none}
@@ -19,19 +20,28 @@ returns-in-Byte c =
     let h = subst (λ (v : Lookahead). IsLookahead v e c.args.input.now.pending) c.in-Byte.is c.requires.lookahead in
     found_steps_at e c.take_byte.new.self (Byte c.in-Byte.byte) 1 c.args.input.now c.consume.new.self c.take_byte.new.input c.take_byte.result h.0 h.1.0 c.consume.ensures c.take_byte.ensures.moves c.take_byte.ensures
 
-pub returns-in-Expansion : goal.returns-in-Expansion
-returns-in-Expansion c =
+pub returns-in_ok-push-in-Expansion : goal.returns-in_ok-push-in-Expansion
+returns-in_ok-push-in-Expansion c =
     let e = c.args.self.now in
     let p = c.args.input.now.pending in
-    let q = c.pass.new.self.pending in
+    let k = c.pass.new.self in
+    let q = k.pending in
+    let r = c.push.new.input.pending in
     let n = c.in-Expansion.len in
+    let text = c.in-Expansion.text in
     let name : List ℕ = take n (text_of p) in
+    let counted = c.count.new.self in
+    let new = c.begin_argument.new.self in
     let h = subst (λ (v : Lookahead). IsLookahead v e p) c.in-Expansion.is c.requires.lookahead in
     let rest : q.definition ≡ None = ap (λ (i : Held). (i.pending).definition) c.pass.ensures in
     let list : paren_at e.state.quotes e.state.comments q ≡ answer_of false = list_there e.state.quotes e.state.comments p q n (answer_of false) (ap (λ (i : Held). i.pending) c.pass.ensures) (h.1.0).list in
-    found_steps_at e c.take_expansion.new.self (Name name) n c.args.input.now c.pass.new.self c.take_expansion.new.input c.take_expansion.result h.0 (h.1.0).scanned c.pass.ensures
-    (expansion_moves e c.take_expansion.new.self c.in-Expansion.text name p q c.take_expansion.new.input.pending c.take_expansion.result rest list h.1.2 c.take_expansion.ensures.moves)
-    c.take_expansion.ensures
+    let room = room_allows e h.1.1 in
+    let made : new ≡ with_made [] [] None counted = c.begin_argument.ensures in
+    found_steps_at e new (Name name) n c.args.input.now k c.push.new.input (Ok turns.GoesOn) h.0 (h.1.0).scanned c.pass.ensures
+    (expansion_moves e new text name p q r (Ok turns.GoesOn) rest list h.1.2
+    (expanded_goes q.may_follow e counted new text (λ z more. longer z more q) r (Ok turns.GoesOn) room.0 room.1 c.count.ensures
+    (λ a x d g. text_goes q.may_follow counted new a x text q r d g made c.in_ok-push-in-Expansion.ensures.pushes)))
+    {to = λ t. Unit {0}} (record { moves = tt; ready = c.in_ok-push-in-Expansion.ensures.stays; limits = search rules; made = tt })
 
 pub returns-in-LineSkip : goal.returns-in-LineSkip
 returns-in-LineSkip c =
@@ -45,8 +55,8 @@ returns-in-LineSkip c =
     let rest : q.definition ≡ None = ap (λ (i : Held). (i.pending).definition) c.pass-in-LineSkip.ensures in
     let list : paren_at e.state.quotes e.state.comments q ≡ answer_of false = list_there e.state.quotes e.state.comments p q n (answer_of false) (ap (λ (i : Held). i.pending) c.pass-in-LineSkip.ensures) (h.1.0).list in
     let room = room_allows e h.1.1 in
-    found_steps_at e c.begin_argument.new.self (Name name) n c.args.input.now k k (Ok turns.SkipsLine) h.0 (h.1.0).scanned c.pass-in-LineSkip.ensures
-    (line_skips e c.begin_argument.new.self name p q rest list room.0 room.1 (c.begin_argument.ensures ∙ ap (λ (x : Engine). with_made [] [] None x) c.count.ensures) h.1.2)
+    found_steps_at e c.begin_argument-in-LineSkip.new.self (Name name) n c.args.input.now k k (Ok turns.SkipsLine) h.0 (h.1.0).scanned c.pass-in-LineSkip.ensures
+    (line_skips e c.begin_argument-in-LineSkip.new.self name p q rest list room.0 room.1 (c.begin_argument-in-LineSkip.ensures ∙ ap (λ (x : Engine). with_made [] [] None x) c.count-in-LineSkip.ensures) h.1.2)
     {to = λ t. Unit {0}} (record { moves = tt; ready = search rules; limits = search rules; made = tt })
 
 -- a name has no newline
