@@ -1,7 +1,7 @@
 //! Plain tokens: names without a definition, comments, and bytes that are no other token. A run writes them as it
 //! reads them, so it can consume many at once. The look at the start of the text is that of `m4_input`.
 
-ghost use Rattle.std.specs.Prelude.{◌≡◌, ◌<◌, ◌≤◌, Bool, true, IfOk, length, take, drop};
+ghost use Rattle.std.specs.Prelude.{◌≡◌, ◌<◌, ◌≤◌, Bool, true, IfOk, length, drop};
 ghost use Rattle.m4_state.specs.State.{State as Specified};
 ghost use Rattle.m4_engine.specs.Collected.{IsLone};
 ghost use Rattle.m4_engine.specs.Lookahead.{IsAhead};

@@ -1,18 +1,11 @@
 //! Calls: a call begins at its name and is made when its arguments are complete. Its result is pushed.
 //! Manual: "Macro invocation", "Macro arguments".
 
-ghost use Rattle.std.specs.Prelude.{◌≡◌, ◌<◌, nat_lt, List, ℕ, [], ◌++◌, None, Some, Ok, OnOk, true, false};
-ghost use Rattle.m4_input.specs.Paren.{paren_at};
-ghost use Rattle.m4_input.specs.declared.front.Answer.TheVariants as answers;
-ghost use Rattle.m4_input.specs.Input.{longer};
-ghost use Rattle.m4_engine.specs.Engine.{with_made, with_one_call, is_deep_in, here_of, outer_of};
-ghost use Rattle.m4_engine.specs.Turns.{Moves, IsTaken, Makes, Steps, StepsBy, Pushes, Extended, Stays, step};
-ghost use Rattle.m4_engine.specs.Turns.{called_within};
+ghost use Rattle.std.specs.Prelude.{◌≡◌, ◌<◌, [], ◌++◌, None, Some, Ok, OnOk};
 ghost use Rattle.m4_builtins.specs.Act.{IsPushed};
-ghost use Rattle.m4_builtins.specs.Subst.{subst};
-ghost use Rattle.m4_state.specs.declared.definition.Def.TheVariants.{Text};
-ghost use Rattle.m4_engine.specs.Expansion.{Call};
-ghost use Rattle.m4_engine.specs.Expand.{with_saved, call as call_turn, call_of};
+ghost use Rattle.m4_engine.specs.Engine.{with_made};
+ghost use Rattle.m4_engine.specs.Expand.{with_saved};
+ghost use Rattle.m4_engine.specs.Turns.{IsTaken, StepsBy, Pushes, Stays, called_within};
 
 use crate::call::OpenCall;
 use crate::machine::Machine;
@@ -97,41 +90,6 @@ fn lend(effect: &mut EffectBuffer, input: &mut Input)
 }
 
 impl Machine {
-    /// Starts the call of a name; `listed` says whether its list follows.
-    #[inline(always)]
-    pub(super) fn take_call(
-        &mut self,
-        call: OpenCall,
-        listed: bool,
-        input: &mut Input,
-    ) -> Result<Turned, TurnFault>
-        requires input { IsTaken input.old }
-        requires list { listed ≡ true → paren_at self.old.state.quotes self.old.state.comments input.old.pending
-            ≡ answers.Yes }
-        requires fresh { call ≡ call_of call.definition call.name call.place }
-        ensures { Steps result self.old self.new input.old input.new
-            (λ t. (before : Extended) → Moves input.old.pending.may_follow self.new input.new.pending t
-            (λ z more o m. step (outer_of self.old.open_calls)
-            (call_turn listed call (longer z more input.old.pending) (here_of o m self.old (before z more))))) }
-    {
-        if !self.has_room() {
-            self.report_limit(&call, self.most_calls, b" calls")?;
-            return Ok(Turned::Ends(TurnEnd::ExpansionLimit));
-        }
-        self.count();
-        if self.is_deep() {
-            self.report_limit(&call, self.most_nested, b" nested calls")?;
-            return Ok(Turned::Ends(TurnEnd::NestingLimit));
-        }
-        if !listed {
-            return self.call(call, input);
-        }
-        // The parenthesis was recognised as a token, so it is one byte.
-        input.consume(1);
-        self.open_list(call)?;
-        Ok(Turned::GoesOn)
-    }
-
     /// Makes a call whose arguments are complete: acts on it, and pushes its value. The effect has memory for a text
     /// that the call makes.
     #[inline(never)]

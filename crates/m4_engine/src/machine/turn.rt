@@ -13,7 +13,7 @@ use crate::call::OpenCall;
 use crate::lookahead::Lookahead;
 use crate::machine::Machine;
 use crate::machine::calls::push;
-use crate::turned::{TurnFault, Turned};
+use crate::turned::{TurnEnd, TurnFault, Turned};
 use m4_builtins::act::needs_list;
 use m4_input::input::Input;
 use m4_input::pushed::Pushed;
@@ -98,7 +98,7 @@ impl Machine {
     }
 
     /// Consumes a name of this length with a definition, and sets the place of its call. Makes the call or opens its
-    /// list. If the name is recognised only with a list and none follows, appends it as text.
+    /// list, if the limits allow it. If the name is recognised only with a list and none follows, appends it as text.
     #[inline(always)]
     fn take_name(
         &mut self,
@@ -120,6 +120,21 @@ impl Machine {
             self.put_text(call.name())?;
             return Ok(Turned::GoesOn);
         }
-        self.take_call(call, listed, input)
+        if !self.has_room() {
+            self.report_limit(&call, self.most_calls, b" calls")?;
+            return Ok(Turned::Ends(TurnEnd::ExpansionLimit));
+        }
+        self.count();
+        if self.is_deep() {
+            self.report_limit(&call, self.most_nested, b" nested calls")?;
+            return Ok(Turned::Ends(TurnEnd::NestingLimit));
+        }
+        if !listed {
+            return self.call(call, input);
+        }
+        // The parenthesis was recognised as a token, so it is one byte.
+        input.consume(1);
+        self.open_list(call)?;
+        Ok(Turned::GoesOn)
     }
 }

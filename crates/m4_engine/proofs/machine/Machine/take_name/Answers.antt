@@ -1,7 +1,11 @@
 use Rattle.std.proofs.Common.{◌≡◌, List, ℕ, None, false, rules, refl, ap, ◌∙◌, take}
 use Rattle.std.specs.Prelude.{Ok}
 use Rattle.m4_input.specs.Pending.{text_of, line_of}
-use Rattle.m4_input.specs.Input.{Held, answer_of}
+use Rattle.std.specs.Prelude.{codes}
+use Rattle.m4_input.specs.Input.{Held, answer_of, longer}
+use Rattle.m4_engine.specs.Engine.{Engine}
+use Rattle.m4_engine.specs.declared.turned.TurnEnd.TheVariants as ends
+use Rattle.m4_engine.proofs.Calling.{told, refused_calls, depth_refused, bare_made, list_begins_so}
 use Rattle.m4_input.specs.Paren.{paren_at}
 use Rattle.m4_input.specs.declared.token.Token.TheVariants.{Name}
 use Rattle.m4_input.proofs.Names.{name_has_none}
@@ -21,12 +25,6 @@ pass-requires-clause-inline c =
     let p = c.args.input.now.pending in
     name_has_none e.state.quotes e.state.comments p.may_follow (text_of p) _ c.args.len c.requires.named.scanned
 
-pub take_call-requires-clause-list : goal.take_call-requires-clause-list
-take_call-requires-clause-list c = λ h.
-    let e = c.args.self.now in
-    let p = c.args.input.now.pending in
-    list_there e.state.quotes e.state.comments p c.pass.new.self.pending c.args.len (answer_of c.args.listed) (ap (λ (i : Held). i.pending) c.pass.ensures) c.requires.named.list ∙ ap answer_of h
-
 pub returns-then-needs_list : goal.returns-then-needs_list
 returns-then-needs_list c =
     let e = c.args.self.now in
@@ -44,6 +42,66 @@ returns-then-needs_list c =
     (bare_moves e c.put_text.new.self d name p q rest list (search rules) (search rules) called)
     {to = λ t. Unit {0}} (record { moves = tt; ready = search rules; limits = search rules; made = tt })
 
+pub returns-then-not-has_room : goal.returns-then-not-has_room
+returns-then-not-has_room c =
+    let e = c.args.self.now in
+    let p = c.args.input.now.pending in
+    let k = c.pass.new.self in
+    let q = k.pending in
+    let name : List ℕ = take c.args.len (text_of p) in
+    let at : Place = record { file = c.in_ok-share_name.field-0; line = c.line.result } in
+    let d = c.set_place.new.self in
+    let rest : q.definition ≡ None = ap (λ (i : Held). (i.pending).definition) c.pass.ensures in
+    let list : paren_at e.state.quotes e.state.comments q ≡ answer_of c.args.listed = list_there e.state.quotes e.state.comments p q c.args.len (answer_of c.args.listed) (ap (λ (i : Held). i.pending) c.pass.ensures) c.requires.named.list in
+    let called : IsCalled d e.state name = called_at c.args.call d at e.state name c.set_place.ensures c.requires.called in
+    let there : at ≡ place_at p = place_of_file at p p (line_of p) (search rules) (search rules) refl in
+    let placed : d.place ≡ place_at p = ap (λ (x : Call). x.place) c.set_place.ensures ∙ there in
+    found_steps_at e c.report_limit-then-not-has_room.new.self (Name name) c.args.len c.args.input.now k k (Ok (turns.Ends ends.ExpansionLimit)) c.requires.first c.requires.named.scanned c.pass.ensures
+    (made_moves e c.report_limit-then-not-has_room.new.self d c.args.listed name p q (k).pending (Ok (turns.Ends ends.ExpansionLimit)) rest list (search rules) called placed
+    (λ before z more u o m. refused_calls e c.report_limit-then-not-has_room.new.self d c.args.listed (longer z more q) (before z more) o m (search rules)
+    (told e _ d.place _ _ (codes " calls") (ap (λ (x : Engine). (x.limits).calls) c.report_limit.view_is) c.in_ok-report_limit.ensures)))
+    {to = λ t. Unit {0}} (record { moves = tt; ready = search rules; limits = search rules; made = search rules })
+
+pub returns-then-is_deep : goal.returns-then-is_deep
+returns-then-is_deep c =
+    let e = c.args.self.now in
+    let p = c.args.input.now.pending in
+    let k = c.pass.new.self in
+    let q = k.pending in
+    let name : List ℕ = take c.args.len (text_of p) in
+    let at : Place = record { file = c.in_ok-share_name.field-0; line = c.line.result } in
+    let d = c.set_place.new.self in
+    let rest : q.definition ≡ None = ap (λ (i : Held). (i.pending).definition) c.pass.ensures in
+    let list : paren_at e.state.quotes e.state.comments q ≡ answer_of c.args.listed = list_there e.state.quotes e.state.comments p q c.args.len (answer_of c.args.listed) (ap (λ (i : Held). i.pending) c.pass.ensures) c.requires.named.list in
+    let called : IsCalled d e.state name = called_at c.args.call d at e.state name c.set_place.ensures c.requires.called in
+    let there : at ≡ place_at p = place_of_file at p p (line_of p) (search rules) (search rules) refl in
+    let placed : d.place ≡ place_at p = ap (λ (x : Call). x.place) c.set_place.ensures ∙ there in
+    found_steps_at e c.report_limit-then-is_deep-2.new.self (Name name) c.args.len c.args.input.now k k (Ok (turns.Ends ends.NestingLimit)) c.requires.first c.requires.named.scanned c.pass.ensures
+    (made_moves e c.report_limit-then-is_deep-2.new.self d c.args.listed name p q (k).pending (Ok (turns.Ends ends.NestingLimit)) rest list (search rules) called placed
+    (λ before z more u o m. depth_refused e c.count.new.self c.report_limit-then-is_deep-2.new.self d c.args.listed (longer z more q) (before z more) o m (search rules) c.count.ensures (search rules)
+    (told c.count.new.self _ d.place _ _ (codes " nested calls") (ap (λ (x : Engine). (x.limits).nesting) c.report_limit-then-is_deep.view_is) c.in_ok-report_limit-2.ensures)))
+    {to = λ t. Unit {0}} (record { moves = tt; ready = search rules; limits = search rules; made = search rules })
+
+pub returns-then-not-listed-2 : goal.returns-then-not-listed-2
+returns-then-not-listed-2 c =
+    let e = c.args.self.now in
+    let p = c.args.input.now.pending in
+    let k = c.pass.new.self in
+    let q = k.pending in
+    let name : List ℕ = take c.args.len (text_of p) in
+    let at : Place = record { file = c.in_ok-share_name.field-0; line = c.line.result } in
+    let d = c.set_place.new.self in
+    let rest : q.definition ≡ None = ap (λ (i : Held). (i.pending).definition) c.pass.ensures in
+    let list : paren_at e.state.quotes e.state.comments q ≡ answer_of c.args.listed = list_there e.state.quotes e.state.comments p q c.args.len (answer_of c.args.listed) (ap (λ (i : Held). i.pending) c.pass.ensures) c.requires.named.list in
+    let called : IsCalled d e.state name = called_at c.args.call d at e.state name c.set_place.ensures c.requires.called in
+    let there : at ≡ place_at p = place_of_file at p p (line_of p) (search rules) (search rules) refl in
+    let placed : d.place ≡ place_at p = ap (λ (x : Call). x.place) c.set_place.ensures ∙ there in
+    found_steps_at e c.call-then-not-listed-2.new.self (Name name) c.args.len c.args.input.now k c.call-then-not-listed-2.new.input (c.call-then-not-listed-2.result) c.requires.first c.requires.named.scanned c.pass.ensures
+    (made_moves e c.call-then-not-listed-2.new.self d c.args.listed name p q (c.call-then-not-listed-2.new.input).pending (c.call-then-not-listed-2.result) rest list (search rules) called placed
+    (bare_made q.may_follow e c.count.new.self c.call-then-not-listed-2.new.self d c.args.listed (λ z more. longer z more q) c.call-then-not-listed-2.new.input.pending c.call-then-not-listed-2.result
+    (search rules) (search rules) c.count.ensures (search rules) c.call-then-not-listed-2.ensures.moves))
+    (record { moves = c.call-then-not-listed-2.ensures.moves; ready = search rules; limits = search rules; made = search rules })
+
 pub returns : goal.returns
 returns c =
     let e = c.args.self.now in
@@ -58,6 +116,9 @@ returns c =
     let called : IsCalled d e.state name = called_at c.args.call d at e.state name c.set_place.ensures c.requires.called in
     let there : at ≡ place_at p = place_of_file at p p (line_of p) (search rules) (search rules) refl in
     let placed : d.place ≡ place_at p = ap (λ (x : Call). x.place) c.set_place.ensures ∙ there in
-    found_steps_at e c.take_call.new.self (Name name) c.args.len c.args.input.now k c.take_call.new.input c.take_call.result c.requires.first c.requires.named.scanned c.pass.ensures
-    (made_moves e c.take_call.new.self d c.args.listed name p q c.take_call.new.input.pending c.take_call.result rest list (search rules) called placed c.take_call.ensures.moves)
-    c.take_call.ensures
+    found_steps_at e c.open_list.new.self (Name name) c.args.len c.args.input.now k c.consume.new.self (Ok turns.GoesOn) c.requires.first c.requires.named.scanned c.pass.ensures
+    (made_moves e c.open_list.new.self d c.args.listed name p q (c.consume.new.self).pending (Ok turns.GoesOn) rest list (search rules) called placed
+    (λ before z more u o m. list_begins_so e c.count.new.self c.open_list.new.self d c.args.listed q c.consume.new.self.pending (before z more) z more o m
+    (search rules) (search rules) c.count.ensures (search rules) (ap (λ (i : Held). i.pending) c.consume.ensures)
+    (search rules) c.in_ok-open_list.ensures))
+    {to = λ t. Unit {0}} (record { moves = tt; ready = search rules; limits = search rules; made = search rules })
