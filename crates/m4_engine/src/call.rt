@@ -77,28 +77,6 @@ fn drop_large(args: &mut [Arg]) {
     }
 }
 
-/// Puts the bytes after the first `count` arguments, if a text of an earlier call is there. The buffer is then empty,
-/// and has the memory of that text. Returns whether it did.
-#[inline(always)]
-fn put_text_at(args: &mut Vec<Arg>, count: usize, bytes: &mut Vec<u8>) -> bool
-    ensures put { result ≡ true → take (count + 1) args.new.items
-        ≡ take count args.old.items ++ arguments.Text bytes.old.items ∷ [] }
-    ensures empty { result ≡ true → bytes.new.items ≡ [] }
-    ensures within { result ≡ true → count + 1 ≤ length args.new.items }
-    ensures left { result ≡ false → (args.new.items ≡ args.old.items) × (bytes.new.items ≡ bytes.old.items) }
-{
-    if count >= args.len() {
-        return false;
-    }
-    match &mut args[count] {
-        Arg::Text(kept) => {
-            kept.put(bytes);
-            true
-        }
-        Arg::Definition(_) => false,
-    }
-}
-
 /// Returns the argument that was collected, from its bytes and its definitions.
 #[inline(always)]
 fn argument(bytes: Vec<u8>, tokens: Vec<Def>) -> Result<Arg, AllocError>
@@ -327,8 +305,10 @@ impl OpenCall {
         // Most arguments are short texts, and most find the memory of an earlier one.
         if !is_large
             && parts.tokens.is_empty()
-            && put_text_at(&mut parts.args, parts.count, &mut parts.bytes)
+            && parts.count < parts.args.len()
+            && let Arg::Text(kept) = &mut parts.args[parts.count]
         {
+            kept.put(&mut parts.bytes);
             parts.count += 1;
             parts.begun = false;
             return Ok(false);
