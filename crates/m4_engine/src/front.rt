@@ -10,7 +10,7 @@ ghost use Rattle.m4_engine.specs.Plain.{IsPlainRun};
 use crate::lookahead::Lookahead;
 use crate::spare::Spare;
 use m4_input::delims::Delims;
-use m4_input::look::{first_token, plain_token};
+use m4_input::look::{look_by_kind, plain_token};
 use m4_state::state::State;
 use std::alloc::AllocError;
 
@@ -35,12 +35,9 @@ pub fn plain_run(
     let mut len = 0;
     'tokens: loop {
         let rest = text.split_at(len).1;
-        let Some(look) = plain_token(rest, &delims, more) else {
-            match rare_token(rest, state, spare, more, room)? {
-                Lookahead::Text(0, end, all) if end == all && len < most => len += all,
-                lookahead => return Ok((len, lookahead)),
-            }
-            continue 'tokens;
+        let look = match plain_token(rest, &delims, more) {
+            Some(look) => look,
+            None => look_by_kind(rest, &delims, more),
         };
         match Lookahead::of(look, rest, state, &delims, spare, more, room)? {
             Lookahead::Text(0, end, all) if end == all && len < most => {
@@ -77,21 +74,4 @@ fn with_space(text: &[u8], len: usize, spaced: bool) -> usize
         Some(b' ') if spaced => len + 1,
         _ => len,
     }
-}
-
-/// Returns the first token of a text. Not inlined, since it is for the ends of texts, and for tokens whose first byte
-/// may begin a delimiter.
-#[inline(never)]
-fn rare_token(
-    text: &[u8],
-    state: &State,
-    spare: &mut Spare,
-    more: bool,
-    room: bool,
-) -> Result<Lookahead, AllocError>
-    ensures { IfOk result (λ a. IsAhead a state.now room more text.now) }
-{
-    let delims = Delims::of(state);
-    let look = first_token(text, &delims, more);
-    Lookahead::of(look, text, state, &delims, spare, more, room)
 }

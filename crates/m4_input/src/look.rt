@@ -86,7 +86,7 @@ fn quoted_token(text: &[u8], delims: &Delims<'_>, may_follow: bool) -> Option<Lo
 
 /// Returns the first token of a text, by its kind.
 #[inline(never)]
-fn look_by_kind(text: &[u8], delims: &Delims<'_>, may_follow: bool) -> Look
+pub fn look_by_kind(text: &[u8], delims: &Delims<'_>, may_follow: bool) -> Look
     ensures value { scan delims.now.quotes.now delims.now.comments.now may_follow text.now
         ≡ scan_of result text.now }
     ensures lies { LookLies text.now result }

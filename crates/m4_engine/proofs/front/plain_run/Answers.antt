@@ -1,4 +1,4 @@
-use Rattle.std.proofs.Common.{◌≡◌, refl, ◌≤◌, ◌<◌, ◌+◌, ◌-◌, ℕ, take, drop, length, ap, subst, arith, rules}
+use Rattle.std.proofs.Common.{◌≡◌, ◌≤◌, ◌<◌, ◌+◌, ◌-◌, ℕ, take, drop, length, ap, subst, arith, rules}
 use Rattle.m4_state.specs.declared.delimiters.Delimiters.{Delimiters}
 use Rattle.m4_input.specs.Token.{scan}
 use Rattle.m4_input.specs.declared.front.Scan.TheVariants.{Found}
@@ -10,15 +10,15 @@ use Rattle.m4_engine.specs.declared.lookahead.Lookahead.TheVariants as aheads
 use Rattle.m4_engine.proofs.PlainRuns.{plain_text, plain_byte, text_some}
 use Rattle.m4_engine.proofs.front.plain_run.Goals as goal
 
-pub tokens-preserved-then-len-most-2 : goal.tokens-preserved-then-len-most-2
-tokens-preserved-then-len-most-2 c =
+pub tokens-preserved-then-len-most : goal.tokens-preserved-then-len-most
+tokens-preserved-then-len-most c =
     let s = c.args.state.now in
     let y = c.split_at.result.1.now in
-    let end = c.in-Text-eq0-default-default-2.end in
-    let all = c.in-Text-eq0-default-default-2.all in
-    let is : c.in_ok-lookahead-2.lookahead ≡ aheads.Text 0 end all = search rules in
-    let h : IsAhead (aheads.Text 0 end all) s c.args.room c.args.more y = subst (λ (a : Lookahead). IsAhead a s c.args.room c.args.more y) is c.in_ok-lookahead-2.ensures in
-    let whole : end - 0 ≡ all = omega (arith, c.if-end-all-2.true) in
+    let end = c.in-Text-eq0-default-default.end in
+    let all = c.in-Text-eq0-default-default.all in
+    let is : c.in_ok-lookahead.lookahead ≡ aheads.Text 0 end all = search rules in
+    let h : IsAhead (aheads.Text 0 end all) s c.args.room c.args.more y = subst (λ (a : Lookahead). IsAhead a s c.args.room c.args.more y) is c.in_ok-lookahead.ensures in
+    let whole : end - 0 ≡ all = omega (arith, c.if-end-all.true) in
     record {
       within = search rules;
       plain = c.with_space-len.ensures.plain s c.args.more
@@ -28,14 +28,14 @@ tokens-preserved-then-len-most-2 c =
           (subst (λ (d : Delimiters). IsLone d c.of-delims.result.comments.now 32) c.of-delims.ensures.quotes (c.is_lone-spaced.ensures g)));
     }
 
-pub tokens-smaller-then-len-most-2 : goal.tokens-smaller-then-len-most-2
-tokens-smaller-then-len-most-2 c =
+pub tokens-smaller-then-len-most : goal.tokens-smaller-then-len-most
+tokens-smaller-then-len-most c =
     let s = c.args.state.now in
     let y = c.split_at.result.1.now in
-    let end = c.in-Text-eq0-default-default-2.end in
-    let all = c.in-Text-eq0-default-default-2.all in
-    let is : c.in_ok-lookahead-2.lookahead ≡ aheads.Text 0 end all = search rules in
-    let h : IsAhead (aheads.Text 0 end all) s c.args.room c.args.more y = subst (λ (a : Lookahead). IsAhead a s c.args.room c.args.more y) is c.in_ok-lookahead-2.ensures in
+    let end = c.in-Text-eq0-default-default.end in
+    let all = c.in-Text-eq0-default-default.all in
+    let is : c.in_ok-lookahead.lookahead ≡ aheads.Text 0 end all = search rules in
+    let h : IsAhead (aheads.Text 0 end all) s c.args.room c.args.more y = subst (λ (a : Lookahead). IsAhead a s c.args.room c.args.more y) is c.in_ok-lookahead.ensures in
     let some : 0 < all = text_some s c.args.more all (take (end - 0) (drop 0 y)) y h.0 in
     let more : c.tokens.len + all ≤ c.with_space-len.result = c.with_space-len.ensures.more in
     let within : c.with_space-len.result ≤ length c.args.text.now = c.with_space-len.ensures.within in
@@ -46,31 +46,3 @@ tokens-preserved c = record {
   within = search rules;
   plain = plain_byte c.args.state.now c.args.more c.tokens.len c.in-Byte.field-0 c.args.text.now c.split_at.result.1.now c.tokens.invariant.plain (search rules) (search rules);
 }
-
--- a comment more
-pub tokens-preserved-in_default : goal.tokens-preserved-in_default
-tokens-preserved-in_default c =
-    let s = c.args.state.now in
-    let y = c.split_at.result.1.now in
-    let end = c.in-Text-eq0-default-default.end in
-    let all = c.in-Text-eq0-default-default.all in
-    let is : c.in_ok-lookahead.lookahead ≡ aheads.Text 0 end all = search rules in
-    let h : IsAhead (aheads.Text 0 end all) s c.args.room c.args.more y = subst (λ (a : Lookahead). IsAhead a s c.args.room c.args.more y) is c.in_ok-lookahead.ensures in
-    let whole : end - 0 ≡ all = omega (arith, c.if-end-all.true) in
-    record {
-      within = search rules;
-      plain = plain_text s c.args.more c.tokens.len all c.args.text.now y (take (end - 0) (drop 0 y)) c.tokens.invariant.plain (search rules) h.0 (ap (λ (k : ℕ). take k y) whole);
-    }
-
-pub tokens-smaller-in_default : goal.tokens-smaller-in_default
-tokens-smaller-in_default c =
-    let s = c.args.state.now in
-    let y = c.split_at.result.1.now in
-    let end = c.in-Text-eq0-default-default.end in
-    let all = c.in-Text-eq0-default-default.all in
-    let is : c.in_ok-lookahead.lookahead ≡ aheads.Text 0 end all = search rules in
-    let h : IsAhead (aheads.Text 0 end all) s c.args.room c.args.more y = subst (λ (a : Lookahead). IsAhead a s c.args.room c.args.more y) is c.in_ok-lookahead.ensures in
-    let some : 0 < all = text_some s c.args.more all (take (end - 0) (drop 0 y)) y h.0 in
-    let fits : all ≤ length y = h.3 in
-    let rest : length y ≡ length c.args.text.now - c.tokens.len = search rules in
-    omega (arith, some, fits, rest)
