@@ -8,7 +8,6 @@ ghost use Rattle.std.specs.Prelude.{IfOk, IfSome, None, length, take};
 ghost use Rattle.std.specs.List.{AllByRecursion};
 ghost use Rattle.m4_state.specs.Definition.{IsDefinition};
 ghost use Rattle.m4_builtins.specs.Args.{IsArg};
-ghost use Rattle.m4_builtins.specs.declared.args.Arg.TheVariants as arguments;
 ghost use Rattle.m4_engine.specs.Args.{role_of, argument_of, dropped_if_any, with_argument};
 ghost use Rattle.m4_engine.specs.Collected.{TakesByte, IsListEnd};
 ghost use Rattle.m4_engine.specs.Engine.{warning_if_dropped};
