@@ -6,6 +6,8 @@ use Rattle.m4_state.specs.declared.delimiters.Delimiters.{Delimiters}
 use Rattle.m4_input.specs.declared.token.Token.TheVariants.{Name, Str, Comment, Byte}
 use Rattle.m4_input.specs.declared.front.Scan.{Scan}
 use Rattle.m4_input.specs.declared.front.Scan.TheVariants.{Found}
+use Rattle.m4_input.specs.declared.front.Look.{Look}
+use Rattle.m4_input.specs.Look.{scan_of}
 use Rattle.m4_input.specs.Token.{scan}
 use Rattle.m4_input.proofs.Consumed.{HasBytes, scan_bytes}
 use Rattle.m4_input.proofs.Scanned.{byte_first}
@@ -49,3 +51,8 @@ unfolding HasBytes
 text_some s m n t x (inl e) = found_some s.quotes s.comments m x (Found (Str t) n) e
 text_some s m n t x (inr (inl e)) = found_some s.quotes s.comments m x (Found (Name t) n) e.0
 text_some s m n t x (inr (inr e)) = found_some s.quotes s.comments m x (Found (Comment t) n) e
+
+-- what a look by the delimiters of a state found
+pub found_by : (s : State) (q k : Delimiters) (m : Bool) (look found : Look) (y : List ℕ) → q ≡ s.quotes → k ≡ s.comments
+    → scan q k m y ≡ scan_of look y → look ≡ found → scan s.quotes s.comments m y ≡ scan_of found y
+found_by s q k m look found y a b value is = (λ j. scan (sym a j) (sym b j) m y) ∙ value ∙ ap (λ (l : Look). scan_of l y) is

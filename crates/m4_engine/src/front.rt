@@ -10,6 +10,7 @@ ghost use Rattle.m4_engine.specs.Plain.{IsPlainRun};
 use crate::lookahead::Lookahead;
 use crate::spare::Spare;
 use m4_input::delims::Delims;
+use m4_input::front::Look;
 use m4_input::look::{look_by_kind, plain_token};
 use m4_state::state::State;
 use std::alloc::AllocError;
@@ -35,9 +36,15 @@ pub fn plain_run(
     let mut len = 0;
     'tokens: loop {
         let rest = text.split_at(len).1;
-        let look = match plain_token(rest, &delims, more) {
-            Some(look) => look,
-            None => look_by_kind(rest, &delims, more),
+        let Some(look) = plain_token(rest, &delims, more) else {
+            match look_by_kind(rest, &delims, more) {
+                Look::Comment(comment) if len < most => len += comment,
+                look => {
+                    let found = Lookahead::of(look, rest, state, &delims, spare, more, room)?;
+                    return Ok((len, found));
+                }
+            }
+            continue 'tokens;
         };
         match Lookahead::of(look, rest, state, &delims, spare, more, room)? {
             Lookahead::Text(0, end, all) if end == all && len < most => {

@@ -9,13 +9,8 @@ use Rattle.m4_input.specs.Token.{scan}
 use Rattle.m4_engine.specs.Lookahead.{IsAhead}
 use Rattle.m4_engine.specs.declared.lookahead.Lookahead.{Lookahead}
 use Rattle.m4_engine.proofs.ListRuns.{list_none, list_one, list_on, list_end}
-use Rattle.m4_engine.proofs.PlainRuns.{text_some}
+use Rattle.m4_engine.proofs.PlainRuns.{found_by, text_some}
 use Rattle.m4_engine.proofs.collect.collect.Goals as goal
-
--- what a look by the delimiters of a state found
-found_by : (s : State) (q k : Delimiters) (m : Bool) (look found : Look) (y : List ℕ) → q ≡ s.quotes → k ≡ s.comments
-    → scan q k m y ≡ scan_of look y → look ≡ found → scan s.quotes s.comments m y ≡ scan_of found y
-found_by s q k m look found y a b value is = (λ j. scan (sym a j) (sym b j) m y) ∙ value ∙ ap (λ (l : Look). scan_of l y) is
 
 pub tokens-init : goal.tokens-init
 tokens-init c = record { within = search rules; collected = list_none c.args.state.now c.args.more c.args.call.now c.args.text.now }

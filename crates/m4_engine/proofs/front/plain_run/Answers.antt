@@ -1,17 +1,18 @@
-use Rattle.std.proofs.Common.{◌≡◌, ◌≤◌, ◌<◌, ◌+◌, ◌-◌, ℕ, take, drop, length, ap, subst, arith, rules}
+use Rattle.std.proofs.Common.{inr, refl, ◌≡◌, ◌≤◌, ◌<◌, ◌+◌, ◌-◌, ℕ, take, drop, length, ap, subst, arith, rules}
 use Rattle.m4_state.specs.declared.delimiters.Delimiters.{Delimiters}
 use Rattle.m4_input.specs.Token.{scan}
 use Rattle.m4_input.specs.declared.front.Scan.TheVariants.{Found}
 use Rattle.m4_input.specs.declared.token.Token.TheVariants.{Comment}
+use Rattle.m4_input.specs.Look.{LookLies}
 use Rattle.m4_engine.specs.Collected.{IsLone}
 use Rattle.m4_engine.specs.Lookahead.{IsAhead}
 use Rattle.m4_engine.specs.declared.lookahead.Lookahead.{Lookahead}
 use Rattle.m4_engine.specs.declared.lookahead.Lookahead.TheVariants as aheads
-use Rattle.m4_engine.proofs.PlainRuns.{plain_text, plain_byte, text_some}
+use Rattle.m4_engine.proofs.PlainRuns.{found_by, plain_text, plain_byte, text_some}
 use Rattle.m4_engine.proofs.front.plain_run.Goals as goal
 
-pub tokens-preserved-then-len-most : goal.tokens-preserved-then-len-most
-tokens-preserved-then-len-most c =
+pub tokens-preserved-then-len-most-2 : goal.tokens-preserved-then-len-most-2
+tokens-preserved-then-len-most-2 c =
     let s = c.args.state.now in
     let y = c.split_at.result.1.now in
     let end = c.in-Text-eq0-default-default.end in
@@ -28,8 +29,8 @@ tokens-preserved-then-len-most c =
           (subst (λ (d : Delimiters). IsLone d c.of-delims.result.comments.now 32) c.of-delims.ensures.quotes (c.is_lone-spaced.ensures g)));
     }
 
-pub tokens-smaller-then-len-most : goal.tokens-smaller-then-len-most
-tokens-smaller-then-len-most c =
+pub tokens-smaller-then-len-most-2 : goal.tokens-smaller-then-len-most-2
+tokens-smaller-then-len-most-2 c =
     let s = c.args.state.now in
     let y = c.split_at.result.1.now in
     let end = c.in-Text-eq0-default-default.end in
@@ -46,3 +47,28 @@ tokens-preserved c = record {
   within = search rules;
   plain = plain_byte c.args.state.now c.args.more c.tokens.len c.in-Byte.field-0 c.args.text.now c.split_at.result.1.now c.tokens.invariant.plain (search rules) (search rules);
 }
+
+-- a comment more
+pub tokens-preserved-in_default : goal.tokens-preserved-in_default
+tokens-preserved-in_default c =
+    let s = c.args.state.now in
+    let y = c.split_at.result.1.now in
+    let n = c.in-Comment.comment in
+    let here = found_by s _ _ c.args.more c.look_by_kind.result _ y c.of-delims.ensures.quotes c.of-delims.ensures.comments c.look_by_kind.ensures.value c.in-Comment.is in
+    let lies = subst (LookLies y) c.in-Comment.is c.look_by_kind.ensures.lies in
+    record {
+      within = search rules;
+      plain = plain_text s c.args.more c.tokens.len n c.args.text.now y (take n y) c.tokens.invariant.plain (search rules) (inr (inr here)) refl;
+    }
+
+pub tokens-smaller-in_default : goal.tokens-smaller-in_default
+tokens-smaller-in_default c =
+    let s = c.args.state.now in
+    let y = c.split_at.result.1.now in
+    let n = c.in-Comment.comment in
+    let here = found_by s _ _ c.args.more c.look_by_kind.result _ y c.of-delims.ensures.quotes c.of-delims.ensures.comments c.look_by_kind.ensures.value c.in-Comment.is in
+    let some : 0 < n = text_some s c.args.more n (take n y) y (inr (inr here)) in
+    let lies = subst (LookLies y) c.in-Comment.is c.look_by_kind.ensures.lies in
+    let fits : n ≤ length y = lies in
+    let rest : length y ≡ length c.args.text.now - c.tokens.len = search rules in
+    omega (arith, some, fits, rest)
