@@ -4,7 +4,7 @@
 //! A run looks at each token of its text, so the look is inlined, and tests the first byte before it
 //! compares a delimiter. Manual: "Lexical and syntactic conventions".
 
-ghost use Rattle.std.specs.Prelude.{◌≡◌, ◌<◌, ◌≤◌, ◌∷◌, [], Bool, List, ℕ, false, IfSome, length, drop};
+ghost use Rattle.std.specs.Prelude.{◌≡◌, ◌<◌, ◌≤◌, [], Bool, List, ℕ, false, IfSome, length};
 ghost use Rattle.m4_input.specs.Ascii.{is_name_byte};
 ghost use Rattle.m4_input.specs.Look.{scan_of, LookLies};
 ghost use Rattle.m4_input.specs.Paren.{paren_in};
@@ -151,24 +151,14 @@ pub fn list_follows(text: &[u8], delims: &Delims<'_>, may_follow: bool) -> Answe
         None => return Answer::No,
     }
     // Hardly ever does a delimiter begin with a parenthesis.
-    if delims.may_comment(b'(') || delims.may_quote(b'(') {
-        list_by_delimiters(text, delims, may_follow)
-    } else {
-        Answer::Yes
+    if !(delims.may_comment(b'(') || delims.may_quote(b'(')) {
+        return Answer::Yes;
     }
-}
-
-/// Returns whether the parenthesis at the start of a text is a token by itself, and begins no delimiter.
-#[inline(never)]
-fn list_by_delimiters(text: &[u8], delims: &Delims<'_>, may_follow: bool) -> Answer
-    requires { text.now ≡ 40 ∷ drop 1 text.now }
-    ensures { paren_in delims.now.quotes.now delims.now.comments.now may_follow text.now ≡ result }
-{
-    let comments = delims.comments;
-    let quotes = delims.quotes;
-    if opens(text, comments) || opens(text, quotes) {
+    if opens(text, delims.comments) || opens(text, delims.quotes) {
         Answer::No
-    } else if may_open(text, comments, may_follow) || may_open(text, quotes, may_follow) {
+    } else if may_open(text, delims.comments, may_follow)
+        || may_open(text, delims.quotes, may_follow)
+    {
         Answer::Unknown
     } else {
         Answer::Yes
