@@ -19,3 +19,4 @@ pub mod Joins
 pub mod ShortQuotes
 pub mod Files
 pub mod Fronts
+pub mod FirstPlace

@@ -7,7 +7,7 @@ ghost use Rattle.m4_input.specs.Token.{begins, is_cut, run_length, before};
 
 use crate::lanes::short_word_len;
 use m4_state::lanes::LANES;
-use memchr::memchr;
+use memchr::{memchr, memmem};
 
 // A byte that may occur in a name is at its own place, and a comma is at all others. To look a byte up takes half the
 // time of comparing it with letters, digits and the underscore.
@@ -92,23 +92,9 @@ pub fn find(text: &[u8], delimiter: &[u8]) -> Option<usize>
 {
     match single(delimiter) {
         Some(byte) => find_byte(text, byte),
-        None => find_long(text, delimiter),
+        None if text.is_empty() => None,
+        None => memmem::find(text, delimiter),
     }
-}
-
-/// Counts the bytes before the first such delimiter, by a comparison at each byte.
-fn find_long(text: &[u8], delimiter: &[u8]) -> Option<usize>
-    ensures value { result ≡ before delimiter.now text.now }
-    ensures within { IfSome result (λ n. n + length delimiter.now ≤ length text.now) }
-{
-    let mut k = 0usize;
-    while k < text.len() {
-        if starts(text.split_at(k).1, delimiter) {
-            return Some(k);
-        }
-        k += 1;
-    }
-    None
 }
 
 /// Counts the bytes of the rest of the line, with its newline; `None` if no newline is left.
