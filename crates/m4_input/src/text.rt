@@ -211,8 +211,8 @@ impl Text {
         }
     }
 
-    /// Pushes a segment.
-    #[inline(always)]
+    /// Pushes a segment above the one that is read now, or in its place if that was read to its end.
+    #[inline(never)]
     fn push_segment(&mut self, segment: Segment) -> Result<(), AllocError>
         ensures ok { OnOk result (self.new ≡ with_text segment self.old) }
         ensures err { OnErr result (self.new ≡ self.old) }
@@ -224,16 +224,6 @@ impl Text {
             self.top = segment;
             return Ok(());
         }
-        self.push_above(segment)
-    }
-
-    /// Pushes a segment above the one that is read now.
-    #[inline(never)]
-    fn push_above(&mut self, segment: Segment) -> Result<(), AllocError>
-        requires { segment ≢ [] }
-        ensures ok { OnOk result (self.new ≡ with_text segment self.old) }
-        ensures err { OnErr result (self.new ≡ self.old) }
-    {
         let held = self.held + self.top.len();
         if held > MOST_BELOW {
             return Err(AllocError);
