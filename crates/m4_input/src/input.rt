@@ -21,7 +21,6 @@ use crate::delims::Delims;
 use crate::fault::InputFault;
 use crate::front::{Answer, Look, Scan, Unended};
 use crate::look::{first_token, list_follows};
-use crate::open_token::OpenToken;
 use crate::pushed::Pushed;
 use crate::scan::copied;
 use crate::slice::line_len;
@@ -73,7 +72,6 @@ impl Input {
     ghost use Rattle.m4_input.specs.Input.{NextGives, ParenGives, SkipGives, failures_after};
     ghost use Rattle.m4_input.specs.Blocks.{BlockGives, TokenGives, LineGives, IsInFront};
     ghost use Rattle.m4_input.specs.Text.{LiesIn};
-    ghost use Rattle.m4_input.specs.OpenToken.{IsOpenAt};
     ghost use Rattle.m4_input.specs.InputView.{fault_of};
     ghost use Rattle.m4_input.specs.declared.pushed.Pushed.TheVariants as pushes;
 
@@ -399,11 +397,14 @@ impl Input {
         ensures counted { R.failures reader.new
             ≡ failures_after self.old.fault self.new.fault (R.failures reader.old) }
     {
-        let Some(first) = self.open_token(delims) else {
+        let open = match self.definition {
+            Some(_) => None,
+            None => self.text.open_token(self.alloc, delims),
+        };
+        let Some(mut token) = open else {
             let _came = self.more(reader)?;
             return Ok(());
         };
-        let mut token = first;
         'blocks: loop {
             if !self.more(reader)? {
                 return Ok(());
@@ -413,18 +414,6 @@ impl Input {
                 None => return Ok(()),
             }
         }
-    }
-
-    /// Returns the first token of the bytes in hand if it may continue in bytes that follow. Also returns `None` if an
-    /// allocation fails.
-    fn open_token(&self, delims: &Delims<'_>) -> Option<OpenToken>
-        ensures { IfSome result (λ o. (self.now.pending.definition ≡ None)
-            × IsOpenAt delims.now.quotes.now delims.now.comments.now o (text_of self.now.pending)) }
-    {
-        if self.definition.is_some() {
-            return None;
-        }
-        self.text.open_token(self.alloc, delims)
     }
 
     /// Removes the definition that comes before the bytes in hand, if there is one, and returns it.
