@@ -5,9 +5,9 @@
 //! text that a call pushes is written over bytes that were read.
 
 ghost use Rattle.std.specs.Prelude.{◌≡◌, ◌+◌, ◌<◌, ◌≤◌, ◌++◌, [], OnOk, OnErr, IfOk, Ok, true, false, length, take};
-ghost use Rattle.std.specs.Prelude.{drop, vec_len, vec_capacity, ◌-◌};
+ghost use Rattle.std.specs.Prelude.{drop, vec_len, vec_capacity};
 ghost use Rattle.m4_input.specs.Input.{block};
-ghost use Rattle.m4_input.specs.Text.{text_in, text_after, with_text};
+ghost use Rattle.m4_input.specs.Text.{text_in, text_after, with_text, TakesBlock, failures_by};
 ghost use Rattle.m4_input.specs.Pending.{newlines_in};
 
 use crate::fault::InputFault;
@@ -126,8 +126,6 @@ fn make_room(bytes: &mut Vec<u8>, at: usize) -> Result<usize, AllocError>
 }
 
 impl File {
-    ghost use Rattle.m4_input.specs.Text.{TakesBlock, failures_by};
-
     /// Creates a file of which no byte is in hand.
     pub fn new(alloc: Global) -> File
         ensures { result ≡ record { pushed = []; unread = []; newlines = 0 } }

@@ -7,15 +7,11 @@
 //!
 //! Contracts see `Held` (`specs/Input.antt`). Manual: "How m4 copies input to output".
 
-ghost use Rattle.std.specs.Prelude.{◌≡◌, ◌<◌, ◌≤◌, List, ℕ, Some, None, OnOk, OnErr, IfOk, IfErr, IfSome, Ok, Err};
+ghost use Rattle.std.specs.Prelude.{◌≡◌, ◌<◌, ◌≤◌, Some, None, OnOk, OnErr, IfOk, IfErr, IfSome, Ok, Err};
 ghost use Rattle.std.specs.Prelude.{true, false, [], ◌||◌, ◌≢◌, IfNone, length, take};
-ghost use Rattle.m4_state.specs.Device.{Script};
 ghost use Rattle.m4_input.specs.Pending.{consumed, line_of, name_of, newlines_in, text_of};
-ghost use Rattle.m4_input.specs.Look.{scan_of};
 ghost use Rattle.m4_input.specs.Paren.{paren_in};
 ghost use Rattle.m4_input.specs.Token.{scan};
-ghost use Rattle.m4_input.specs.declared.front.Answer.TheVariants.{Unknown};
-ghost use Rattle.m4_input.specs.declared.front.Scan.TheVariants.{NeedsMore};
 
 use crate::delims::Delims;
 use crate::fault::InputFault;

@@ -4,12 +4,11 @@
 //! A run looks at each token of its text, so the look is inlined, and tests the first byte before it
 //! compares a delimiter. Manual: "Lexical and syntactic conventions".
 
-ghost use Rattle.std.specs.Prelude.{◌≡◌, ◌<◌, ◌≤◌, [], Bool, List, ℕ, false, IfSome, length};
+ghost use Rattle.std.specs.Prelude.{◌≡◌, ◌<◌, ◌≤◌, List, ℕ, IfSome, length};
 ghost use Rattle.m4_input.specs.Ascii.{is_name_byte};
 ghost use Rattle.m4_input.specs.Look.{scan_of, LookLies};
 ghost use Rattle.m4_input.specs.Paren.{paren_in};
-ghost use Rattle.m4_input.specs.Token.{starts_with, may_start, run_length, unended, name_at, comment_at, string_at};
-ghost use Rattle.m4_input.specs.Token.{scan};
+ghost use Rattle.m4_input.specs.Token.{run_length, unended, name_at, comment_at, string_at, scan};
 
 use crate::delims::Delims;
 use crate::front::{Answer, Kind, Look, Unended};

@@ -4,7 +4,7 @@
 //! were pushed are copied only for the first look, so that this takes time in proportion to the token.
 //! Manual: "Names", "Quoted strings", "Comments".
 
-ghost use Rattle.std.specs.Prelude.{◌≡◌, ◌<◌, ◌^◌, IfSome, length};
+ghost use Rattle.std.specs.Prelude.{IfSome};
 ghost use Rattle.m4_input.specs.OpenToken.{IsOpenAt, StaysOpen, CommentGoesOn};
 ghost use Rattle.m4_input.specs.Text.{text_in};
 

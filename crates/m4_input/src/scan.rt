@@ -1,7 +1,7 @@
 //! The first token of a text: its kind, and a copy of it. If more bytes may follow (`may_follow`), nothing is decided
 //! that they could change. Manual: "Quoted strings", "Comments", "Names".
 
-ghost use Rattle.std.specs.Prelude.{◌≡◌, ◌+◌, ◌<◌, ◌≤◌, ◌∷◌, IfSome, IfOk, IsTrue, length, take, drop};
+ghost use Rattle.std.specs.Prelude.{◌≡◌, ◌+◌, ◌<◌, ◌≤◌, ◌∷◌, IfOk, IsTrue, length, take, drop};
 ghost use Rattle.m4_input.specs.Token.{starts_with, may_start, kind_of};
 ghost use Rattle.m4_input.specs.Look.{scan_of, LookLies};
 ghost use Rattle.m4_input.specs.Text.{LiesIn};

@@ -1,6 +1,6 @@
 //! A text that a call pushed, and the place up to which it was read.
 
-ghost use Rattle.std.specs.Prelude.{◌≡◌, ◌≤◌, ◌^◌, ◌++◌, [], true, false, length, drop};
+ghost use Rattle.std.specs.Prelude.{◌≡◌, ◌≤◌, ◌^◌, ◌++◌, [], List, ℕ, true, false, length, drop};
 
 use m4_state::bytes::Bytes;
 use std::marker::Model;
@@ -17,8 +17,6 @@ pub struct Segment {
 }
 
 impl Model for Segment {
-    ghost use Rattle.std.specs.Prelude.{◌≡◌, ◌≤◌, ◌^◌, List, ℕ, length, drop};
-
     ghost Value = { List ℕ };
 
     ghost view = { λ s. drop s.at s.text };

@@ -1,6 +1,6 @@
 //! Searches in one slice: the length of its name or line, and the place of a delimiter.
 
-ghost use Rattle.std.specs.Prelude.{◌≡◌, ◌≢◌, ◌+◌, ◌<◌, ◌≤◌, ◌∷◌, [], List, ℕ, IfSome, IfNone, IsTrue, length};
+ghost use Rattle.std.specs.Prelude.{◌≡◌, ◌≢◌, ◌+◌, ◌≤◌, ◌∷◌, [], ℕ, IfSome, IfNone, IsTrue, length};
 ghost use Rattle.m4_input.specs.Ascii.{is_letter, is_name_byte};
 ghost use Rattle.m4_input.specs.Pending.{line_length};
 ghost use Rattle.m4_input.specs.Token.{begins, is_cut, run_length, before};

@@ -5,9 +5,10 @@
 //! before those that come next, so that it and they are contiguous. Pushing a longer one copies nothing. Consuming
 //! bytes takes time in proportion to the number of segments that end in them.
 
-ghost use Rattle.std.specs.Prelude.{◌≡◌, ◌≢◌, ◌<◌, ◌≤◌, ◌^◌, ◌++◌, ◌+◌, [], IfSome, IfOk, OnOk, OnErr, Ok, true, false};
+ghost use Rattle.std.specs.Prelude.{◌≡◌, ◌<◌, ◌≤◌, ◌^◌, ◌++◌, ◌+◌, [], IfSome, IfOk, OnOk, OnErr, Ok, true, false};
 ghost use Rattle.std.specs.Prelude.{length, take, drop, nat_lt};
 ghost use Rattle.m4_input.specs.Pending.{newlines_in};
+ghost use Rattle.m4_input.specs.Text.{text_in, text_after, with_text, TakesBlock, failures_by};
 
 use crate::fault::InputFault;
 use crate::file::File;
@@ -71,8 +72,6 @@ fn append_most(copy: &mut Vec<u8>, bytes: &[u8], most: usize) -> Result<(), Allo
 }
 
 impl Text {
-    ghost use Rattle.m4_input.specs.Text.{text_in, text_after, with_text, TakesBlock, failures_by};
-
     /// Creates a text without bytes.
     pub fn new(alloc: Global) -> Text
         ensures { result ≡ record { pushed = []; unread = []; newlines = 0 } }
