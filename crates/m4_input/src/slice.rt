@@ -62,14 +62,6 @@ pub fn single(delimiter: &[u8]) -> Option<u8>
     if rest.is_empty() { Some(*first) } else { None }
 }
 
-/// Counts the bytes before the first one of this value; `None` if there is none.
-pub fn find_byte(text: &[u8], byte: u8) -> Option<usize>
-    ensures value { result ≡ before (byte ∷ []) text.now }
-    ensures within { IfSome result (λ n. n + 1 ≤ length text.now) }
-{
-    memchr(byte, text)
-}
-
 /// Returns whether a text begins with a delimiter.
 pub fn starts(text: &[u8], delimiter: &[u8]) -> bool
     ensures value { result ≡ begins delimiter.now text.now }
@@ -91,7 +83,7 @@ pub fn find(text: &[u8], delimiter: &[u8]) -> Option<usize>
     ensures within { IfSome result (λ n. n + length delimiter.now ≤ length text.now) }
 {
     match single(delimiter) {
-        Some(byte) => find_byte(text, byte),
+        Some(byte) => memchr(byte, text),
         None if text.is_empty() => None,
         None => memmem::find(text, delimiter),
     }
@@ -102,8 +94,5 @@ pub fn line_len(text: &[u8]) -> Option<usize>
     ensures value { result ≡ line_length text.now }
     ensures within { IfSome result (λ n. n ≤ length text.now) }
 {
-    match find_byte(text, b'\n') {
-        Some(n) => Some(n + 1),
-        None => None,
-    }
+    Some(memchr(b'\n', text)? + 1)
 }
