@@ -303,26 +303,18 @@ impl Text {
         ensures { self.new ≡ text_after n self.old }
     {
         let mut left = n;
-        'segments: loop {
-            let len = self.top.len();
-            if left < len {
-                self.top.pass(left);
+        'segments: while left >= self.top.len() {
+            left -= self.top.len();
+            let Some(next) = self.below.pop() else {
+                let spent = std::mem::replace(&mut self.top, Segment::spent());
+                keep(&mut self.buffer, spent.buffer());
+                self.file.consume(left, false);
                 return;
-            }
-            left -= len;
-            match self.below.pop() {
-                Some(next) => {
-                    self.held -= next.len();
-                    let spent = std::mem::replace(&mut self.top, next);
-                    keep(&mut self.buffer, spent.buffer());
-                }
-                None => {
-                    let spent = std::mem::replace(&mut self.top, Segment::spent());
-                    keep(&mut self.buffer, spent.buffer());
-                    self.file.consume(left, false);
-                    return;
-                }
-            }
+            };
+            self.held -= next.len();
+            let spent = std::mem::replace(&mut self.top, next);
+            keep(&mut self.buffer, spent.buffer());
         }
+        self.top.pass(left);
     }
 }
