@@ -166,15 +166,6 @@ impl File {
         self.newlines
     }
 
-    /// Returns whether no byte is left.
-    #[inline(always)]
-    pub fn is_empty(&self) -> bool
-        ensures some { result ≡ false → 0 < length (text_in self.now) }
-        ensures none { result ≡ true → text_in self.now ≡ [] }
-    {
-        self.at == self.bytes.len()
-    }
-
     /// Returns the bytes that are left.
     #[inline(always)]
     pub fn rest(&self) -> &[u8]

@@ -39,11 +39,7 @@ impl Segment {
     pub fn spent() -> Segment
         ensures { result ≡ [] }
     {
-        Segment {
-            text: Bytes::empty(),
-            at: 0,
-            end: 0,
-        }
+        Segment::of(Bytes::empty())
     }
 
     /// Returns the buffer of its text, if it has one of its own.

@@ -117,10 +117,11 @@ impl Text {
         ensures all { result.1 ≡ false → result.0.now ≡ text_in self.now }
         ensures some { result.1 ≡ true → 0 < length result.0.now }
     {
+        let rest = self.file.rest();
         if self.top.len() > 0 {
-            (self.top.rest(), self.held > 0 || !self.file.is_empty())
+            (self.top.rest(), self.held > 0 || !rest.is_empty())
         } else {
-            (self.file.rest(), false)
+            (rest, false)
         }
     }
 
