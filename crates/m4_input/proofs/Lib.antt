@@ -20,3 +20,4 @@ pub mod ShortQuotes
 pub mod Files
 pub mod Fronts
 pub mod FirstPlace
+pub mod Marks
