@@ -467,18 +467,14 @@ impl Input {
     {
         'fronts: loop {
             let (text, more) = self.text.front();
-            match line_len(text) {
-                Some(len) => {
-                    self.consume(len);
-                    return true;
-                }
-                None => {
-                    let len = text.len();
-                    self.consume(len);
-                    if !more {
-                        return !self.may_follow;
-                    }
-                }
+            if let Some(len) = line_len(text) {
+                self.consume(len);
+                return true;
+            }
+            let len = text.len();
+            self.consume(len);
+            if !more {
+                return !self.may_follow;
             }
         }
     }
