@@ -5,8 +5,8 @@ ghost use Rattle.std.specs.Prelude.{◌≡◌, ◌≤◌, ◌^◌, ◌++◌, [],
 use m4_state::bytes::Bytes;
 use std::marker::Model;
 
-/// The greatest length of the text of a segment.
-pub const LONGEST_SEGMENT: usize = 1 << 62;
+/// The greatest length of the text of a segment, and of all segments below the first one together.
+pub const LONGEST: usize = 1 << 62;
 
 /// The rest of a text. Contracts see it as a list of bytes.
 #[derive(Drop)]

@@ -12,14 +12,11 @@ ghost use Rattle.m4_input.specs.Text.{text_in, text_after, with_text, TakesBlock
 
 use crate::fault::InputFault;
 use crate::file::File;
-use crate::segment::{LONGEST_SEGMENT, Segment};
+use crate::segment::{LONGEST, Segment};
 use m4_state::bytes::Bytes;
 use m4_state::device::ByteSource;
 use std::alloc::{AllocError, AllocFailed, Global};
 use std::marker::Model;
-
-/// The greatest length of all segments below the first one together.
-const MOST_BELOW: usize = 1 << 62;
 
 /// The length up to which a pushed text is copied before the bytes that come next. A copy takes less time than a
 /// segment.
@@ -189,7 +186,7 @@ impl Text {
             keep(&mut self.buffer, text.buffer());
             return Ok(());
         }
-        if text.as_slice().len() > LONGEST_SEGMENT {
+        if text.as_slice().len() > LONGEST {
             return Err(AllocError);
         }
         self.push_segment(Segment::of(text))
@@ -225,7 +222,7 @@ impl Text {
             return Ok(());
         }
         let held = self.held + self.top.len();
-        if held > MOST_BELOW {
+        if held > LONGEST {
             return Err(AllocError);
         }
         let top = std::mem::replace(&mut self.top, segment);
