@@ -10,7 +10,7 @@ ghost use Rattle.m4_input.specs.Text.{text_in};
 
 use crate::delims::Delims;
 use crate::front::Kind;
-use crate::scan::kind;
+use crate::look::kind;
 use crate::slice::{find, word_len};
 use crate::strings::{StringSoFar, follow_string};
 use crate::text::Text;
