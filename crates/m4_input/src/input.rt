@@ -10,8 +10,6 @@
 ghost use Rattle.std.specs.Prelude.{◌≡◌, ◌<◌, ◌≤◌, Some, None, OnOk, OnErr, IfOk, IfErr, IfSome, Ok, Err};
 ghost use Rattle.std.specs.Prelude.{true, false, [], ◌||◌, ◌≢◌, IfNone, length, take};
 ghost use Rattle.m4_input.specs.Pending.{consumed, line_of, name_of, newlines_in, text_of};
-ghost use Rattle.m4_input.specs.Paren.{paren_in};
-ghost use Rattle.m4_input.specs.Token.{scan};
 
 use crate::delims::Delims;
 use crate::fault::InputFault;
@@ -66,7 +64,6 @@ impl Input {
     ghost use Rattle.m4_input.specs.Input.{Held, IsLasting, unread_file, wrapped_text, with_pushed, all_read};
     ghost use Rattle.m4_input.specs.Input.{NextGives, ParenGives, SkipGives, failures_after};
     ghost use Rattle.m4_input.specs.Blocks.{BlockGives, TokenGives, LineGives, IsInFront};
-    ghost use Rattle.m4_input.specs.Text.{LiesIn};
     ghost use Rattle.m4_input.specs.InputView.{fault_of};
     ghost use Rattle.m4_input.specs.declared.pushed.Pushed.TheVariants as pushes;
 
@@ -283,13 +280,21 @@ impl Input {
         if let Some(def) = self.definition.take() {
             return Ok(Token::Definition(def));
         }
-        'blocks: loop {
-            match self.look(delims) {
+        let mut copy = Vec::new(self.alloc);
+        let mut looked = 0;
+        'looks: loop {
+            let Ok((text, others)) = self.text.longer_front(looked, &mut copy) else {
+                return Err(self.stop(InputFault::OutOfMemory));
+            };
+            looked = text.len();
+            let look = first_token(text, delims, others | self.may_follow);
+            match copied(self.alloc, look, text) {
                 Ok(Scan::Found(token, len)) => {
                     self.consume(len);
                     return Ok(token);
                 }
                 Ok(Scan::Broken(what)) => return Err(self.end_inside(what)),
+                Ok(Scan::NeedsMore) if others => {}
                 Ok(Scan::NeedsMore) => {
                     let _came = self.more(reader)?;
                 }
@@ -317,14 +322,20 @@ impl Input {
         if self.definition.is_some() {
             return Ok(false);
         }
-        'blocks: loop {
-            match self.list_in_front(delims) {
-                Ok(Answer::Yes) => return Ok(true),
-                Ok(Answer::No) => return Ok(false),
-                Ok(Answer::Unknown) => {
+        let mut copy = Vec::new(self.alloc);
+        let mut looked = 0;
+        'looks: loop {
+            let Ok((text, others)) = self.text.longer_front(looked, &mut copy) else {
+                return Err(self.stop(InputFault::OutOfMemory));
+            };
+            looked = text.len();
+            match list_follows(text, delims, others | self.may_follow) {
+                Answer::Yes => return Ok(true),
+                Answer::No => return Ok(false),
+                Answer::Unknown if others => {}
+                Answer::Unknown => {
                     let _came = self.more(reader)?;
                 }
-                Err(AllocError) => return Err(self.stop(InputFault::OutOfMemory)),
             }
         }
     }
@@ -418,43 +429,6 @@ impl Input {
         ensures rest { self.new ≡ record self.old { pending = record self.old.pending { definition = None } } }
     {
         self.definition.take()
-    }
-
-    /// Returns the first token of the bytes in hand, or `NeedsMore` if bytes that may follow can change it. A
-    /// definition before these bytes is passed over. Consumes nothing. Returns `AllocError` if an allocation fails.
-    fn look(&self, delims: &Delims<'_>) -> Result<Scan, AllocError>
-        ensures value { IfOk result (λ s. s ≡ scan delims.now.quotes.now delims.now.comments.now
-            self.now.pending.may_follow (text_of self.now.pending)) }
-        ensures within { IfOk result (λ s. LiesIn (length (text_of self.now.pending)) s) }
-    {
-        let mut copy = Vec::new(self.alloc);
-        let mut looked = 0;
-        'fronts: loop {
-            let (text, others) = self.text.longer_front(looked, &mut copy)?;
-            let look = first_token(text, delims, others | self.may_follow);
-            if !others || look != Look::NeedsMore {
-                return copied(self.alloc, look, text);
-            }
-            looked = text.len();
-        }
-    }
-
-    /// Returns whether an argument list comes first, or `Unknown` if bytes that may follow decide it.
-    /// Manual: "Macro invocation".
-    fn list_in_front(&self, delims: &Delims<'_>) -> Result<Answer, AllocError>
-        ensures { IfOk result (λ answer. paren_in delims.now.quotes.now delims.now.comments.now
-            self.now.pending.may_follow (text_of self.now.pending) ≡ answer) }
-    {
-        let mut copy = Vec::new(self.alloc);
-        let mut looked = 0;
-        'fronts: loop {
-            let (text, others) = self.text.longer_front(looked, &mut copy)?;
-            let answer = list_follows(text, delims, others | self.may_follow);
-            if !others || answer != Answer::Unknown {
-                return Ok(answer);
-            }
-            looked = text.len();
-        }
     }
 
     /// Discards a definition and the rest of the line as far as it is in hand. Returns whether that was all of
