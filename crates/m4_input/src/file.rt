@@ -197,14 +197,11 @@ impl File {
         requires inline { inline ≡ true → newlines_in (take n (text_in self.old)) ≡ 0 }
         ensures { self.new ≡ text_after n self.old }
     {
-        if inline || n <= self.pushed {
-            self.pushed = self.pushed.saturating_sub(n);
-            self.at += n;
-            return;
+        if !inline && n > self.pushed {
+            let read = self.rest().split_at(n).0.split_at(self.pushed).1;
+            self.newlines = self.newlines.saturating_add(count_newlines(read));
         }
-        let read = self.rest().split_at(n).0.split_at(self.pushed).1;
-        self.newlines = self.newlines.saturating_add(count_newlines(read));
-        self.pushed = 0;
+        self.pushed = self.pushed.saturating_sub(n);
         self.at += n;
     }
 }
