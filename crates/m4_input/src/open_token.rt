@@ -31,13 +31,11 @@ pub enum OpenToken {
 fn comment_goes_on(text: &[u8], end: &[u8]) -> Option<usize>
     ensures { IfSome result (λ n. CommentGoesOn end.now n text.now) }
 {
-    match find(text, end) {
-        Some(_) => None,
-        None => {
-            let may_be_cut = end.len().saturating_sub(1);
-            Some(text.len().saturating_sub(may_be_cut))
-        }
+    if find(text, end).is_some() {
+        return None;
     }
+    let may_be_cut = end.len().saturating_sub(1);
+    Some(text.len().saturating_sub(may_be_cut))
 }
 
 impl Text {
