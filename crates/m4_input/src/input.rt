@@ -411,15 +411,13 @@ impl Input {
             let _came = self.more(reader)?;
             return Ok(());
         };
-        'blocks: loop {
-            if !self.more(reader)? {
-                return Ok(());
-            }
+        'blocks: while self.more(reader)? {
             match self.text.still_open(self.alloc, token, delims) {
                 Some(longer) => token = longer,
-                None => return Ok(()),
+                None => break,
             }
         }
+        Ok(())
     }
 
     /// Removes the definition that comes before the bytes in hand, if there is one, and returns it.

@@ -50,10 +50,10 @@ blocks-2-preserved g c =
     let new : Held = c.more-in-blocks-2.new.self in
     let text : text_in c.self-in-blocks-2.inside.text ≡ text_of new.pending = ap (λ (h : Held). text_of h.pending) c.self-in-blocks-2.view_is in
     let k = come_open q d (g.R.ByteSource.script c.args.reader.now) (g.R.ByteSource.script c.blocks-2.reader) (g.R.ByteSource.script c.more-in-blocks-2.new.reader)
-    c.args.self.now c.blocks-2.self new i.0.0 c.in_ok-more.field-0 i.0.1 i.1 c.in_ok-more.ensures.gives c.if-not-branch.false
+    c.args.self.now c.blocks-2.self new i.0.0 c.in_ok-more.field-0 i.0.1 i.1 c.in_ok-more.ensures.gives c.if-branch.true
     (ap (scan q d true) (sym text) ∙ c.in-Some-still_open.ensures.1) in
     let falls : g.R.ByteSource.takes_left c.more-in-blocks-2.new.reader < g.R.ByteSource.takes_left c.blocks-2.reader =
-    c.in_ok-more.ensures.falls (ap (λ (v : Bool). Ok v) c.if-not-branch.false) in
+    c.in_ok-more.ensures.falls (ap (λ (v : Bool). Ok v) c.if-branch.true) in
     let before : g.R.ByteSource.takes_left c.blocks-2.reader ≤ g.R.ByteSource.takes_left c.args.reader.now = i.4 in (
       k,
       still_none q d (g.R.ByteSource.script c.args.reader.now) (g.R.ByteSource.script c.blocks-2.reader) (g.R.ByteSource.script c.more-in-blocks-2.new.reader)
@@ -76,8 +76,8 @@ returns-in_default-clause-gives g c =
     (none_came q d s c.args.self.now c.requires.open c.requires.sound) c.in_ok-_came.ensures.gives
 
 -- the reader is at its end
-pub returns-then-not-branch-clause-gives : goal.returns-then-not-branch-clause-gives
-returns-then-not-branch-clause-gives g c =
+pub returns-else-branch-clause-gives : goal.returns-else-branch-clause-gives
+returns-else-branch-clause-gives g c =
     let i = c.blocks-2.invariant in
     come_more c.args.delims.now.quotes.now c.args.delims.now.comments.now (g.R.ByteSource.script c.args.reader.now) (g.R.ByteSource.script c.blocks-2.reader) (g.R.ByteSource.script c.more-in-blocks-2.new.reader)
     c.args.self.now c.blocks-2.self c.more-in-blocks-2.new.self i.0.0 c.in_ok-more.field-0 i.0.1 c.in_ok-more.ensures.gives
@@ -92,6 +92,6 @@ returns-in-None-still_open-clause-gives g c =
 pub returns-in-None-still_open-clause-falls : goal.returns-in-None-still_open-clause-falls
 returns-in-None-still_open-clause-falls g c e f =
     let falls : g.R.ByteSource.takes_left c.more-in-blocks-2.new.reader < g.R.ByteSource.takes_left c.blocks-2.reader =
-    c.in_ok-more.ensures.falls (ap (λ (v : Bool). Ok v) c.if-not-branch.false) in
+    c.in_ok-more.ensures.falls (ap (λ (v : Bool). Ok v) c.if-branch.true) in
     let before : g.R.ByteSource.takes_left c.blocks-2.reader ≤ g.R.ByteSource.takes_left c.args.reader.now = c.blocks-2.invariant.4 in
     omega arith
