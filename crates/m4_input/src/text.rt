@@ -170,10 +170,8 @@ impl Text {
         if at >= pushed {
             return Some(self.file.rest().split_at(at - pushed).1);
         }
-        match self.copy_front(self.len(), copy) {
-            Ok(_) => Some(copy.as_slice().split_at(at).1),
-            Err(AllocError) => None,
-        }
+        let _others = self.copy_front(self.len(), copy).ok()?;
+        Some(copy.as_slice().split_at(at).1)
     }
 
     /// Inserts a text at the start, without a copy. If an allocation fails, nothing changes.
