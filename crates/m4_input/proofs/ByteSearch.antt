@@ -1,9 +1,8 @@
 -- ByteSearch: the first place of a byte, as a search finds it.
-use Rattle.std.proofs.Common.{◌≡◌, ◌+◌, ◌<◌, ◌≤◌, ◌∷◌, [], ℕ, zero, suc, true, false, List, Option, Some, None}
+use Rattle.std.proofs.Common.{◌≡◌, ◌<◌, ◌∷◌, [], ℕ, zero, suc, true, false, List, Option, Some, None}
 use Rattle.std.proofs.Common.{length, refl, sym, ap, ◌∙◌, arith, eqb, eq-eqb}
 use Rattle.std.proofs.Math.Bool.{and-true}
 use Rattle.std.proofs.lemmas.Bool.{ne_eqb, eqb-true}
-use Rattle.std.specs.Prelude.{IfSome, slice_get}
 use Rattle.memchr.specs.Find.{Passes, is_byte, IsFirstByte}
 use Rattle.m4_input.specs.Pending.{one_more}
 use Rattle.m4_input.specs.Token.{begins, before}
