@@ -1,6 +1,6 @@
 -- Blocks: what several questions to a reader leave, one after another.
 use Rattle.std.proofs.Common.{◌≡◌, inr, ◌<◌, ℕ, suc, Bool, true, false, List, [], ◌∷◌, ◌++◌, length, Option, Some}
-use Rattle.std.proofs.Common.{None, refl, sym, ap, ◌∙◌, subst, arith, append_assoc}
+use Rattle.std.proofs.Common.{None, refl, sym, ap, ◌∙◌, ◌+◌, subst, arith, append_assoc, length-append}
 use Rattle.std.specs.Prelude.{nat_lt, Ok, Err}
 use Rattle.std.proofs.lemmas.Bool.Decides.{nat_tests}
 use Rattle.m4_state.specs.Device.{Script, after_bytes, IsAtFault}
@@ -10,9 +10,12 @@ use Rattle.m4_input.specs.declared.fault.InputFault.TheVariants as faults
 use Rattle.m4_state.specs.declared.definition.Def.{Def}
 use Rattle.m4_state.specs.declared.delimiters.Delimiters.{Delimiters}
 use Rattle.m4_input.specs.declared.front.Scan.{Scan}
-use Rattle.m4_input.specs.declared.front.Scan.TheVariants.{Found, NeedsMore}
+use Rattle.m4_input.specs.declared.front.Scan.TheVariants.{Found, Broken, NeedsMore}
+use Rattle.m4_input.specs.declared.front.Unended.{Unended}
+use Rattle.m4_input.specs.declared.front.Unended.TheVariants.{InString, InComment}
+use Rattle.m4_input.specs.InputView.{fault_of}
 use Rattle.m4_input.specs.declared.token.Token.{Token}
-use Rattle.m4_input.specs.Pending.{Pending, text_of, consumed}
+use Rattle.m4_input.specs.Pending.{Pending, text_of, line_of, consumed}
 use Rattle.m4_input.specs.Token.{Taken, front_by, front_from, scan}
 use Rattle.m4_input.specs.Input.{Held, longer, all_read, after_line, Reads, Asks, wants_line, IsLasting, Stopped}
 use Rattle.m4_input.specs.Input.{StopAsks, wants_token, NextGives}
@@ -187,6 +190,12 @@ blocks_fall false w n m e h = cc
 pub came_is : (a b : Option Script) (h new : Held) (came : Bool) → BlockGives a b h new (Ok came) → (new.pending).may_follow ≡ came
 came_is a b h new came g = ap (λ (k : Held). (k.pending).may_follow) g.5
 
+-- the bytes that a question adds
+pub block_length : (a b : Option Script) (h new : Held) (came : Bool) → (g : BlockGives a b h new (Ok came)) → length (text_of new.pending) ≡ length (text_of h.pending) + length g.0
+block_length a b h new came g =
+    let p : Pending = h.pending in
+    ap (λ (k : Held). length (text_of k.pending)) g.5 ∙ ap length (sym (append_assoc p.pushed p.unread g.0)) ∙ length-append (p.pushed ++ p.unread) g.0
+
 -- an input that stopped before
 pub stopped_before : (wants : Pending → Type 0) (s : Option Script) (h : Held) (f : InputFault) → h.fault ≡ Some f → IsLasting f → Stopped f s s h h [] h.pending × StopAsks wants f h [] h.pending
 stopped_before wants s h f e l = (
@@ -218,6 +227,10 @@ module _ (q c : Delimiters) (s a : Option Script) (old h : Held) (x : List ℕ) 
     ap (λ (i : Held). i.fault) g ∙ r.sound,
     r.asks,
   )
+
+  pub token_broken : (new : Held) (what : Unended) → found ≡ Broken what → new ≡ record h { pending = all_read h.pending } → NextGives q c s a old new (Err (fault_of what (line_of h.pending)))
+  token_broken new InString e g = (x, h.pending, record { reads = r.reads; sound = (r.first, ap (λ (i : Held). i.fault) g ∙ r.sound); front = ap (λ (o : Option Def). front_from o q c h.pending) plain ∙ ap (front_by h.pending) (sym look ∙ e); nothing = ap (λ (i : Held). i.pending) g }, r.asks)
+  token_broken new InComment e g = (x, h.pending, record { reads = r.reads; sound = (r.first, ap (λ (i : Held). i.fault) g ∙ r.sound); front = ap (λ (o : Option Def). front_from o q c h.pending) plain ∙ ap (front_by h.pending) (sym look ∙ e); nothing = ap (λ (i : Held). i.pending) g }, r.asks)
 
   pub token_more : (b : Option Script) (new : Held) (came : Bool) → found ≡ NeedsMore → BlockGives a b h new (Ok came) → (z : List ℕ) × HasAsked (wants_token q c) s b old new z new.pending × ((new.pending).definition ≡ None)
   token_more b new came e g =

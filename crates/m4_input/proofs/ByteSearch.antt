@@ -1,9 +1,8 @@
 -- ByteSearch: the first place of a byte, as a search finds it.
-use Rattle.std.proofs.Common.{◌≡◌, ◌+◌, ◌<◌, ◌≤◌, ◌∷◌, [], ℕ, zero, suc, true, false, List, Option, Some, None}
+use Rattle.std.proofs.Common.{◌≡◌, ◌<◌, ◌∷◌, [], ℕ, zero, suc, true, false, List, Option, Some, None}
 use Rattle.std.proofs.Common.{length, refl, sym, ap, ◌∙◌, arith, eqb, eq-eqb}
 use Rattle.std.proofs.Math.Bool.{and-true}
 use Rattle.std.proofs.lemmas.Bool.{ne_eqb, eqb-true}
-use Rattle.std.specs.Prelude.{IfSome, slice_get}
 use Rattle.memchr.specs.Find.{Passes, is_byte, IsFirstByte}
 use Rattle.m4_input.specs.Pending.{one_more}
 use Rattle.m4_input.specs.Token.{begins, before}
@@ -33,15 +32,3 @@ module _ (b : ℕ) where
   pub first_before : (x : List ℕ) (r : Option ℕ) → IsFirstByte (is_byte b) x r → r ≡ before (b ∷ []) x
   first_before x None h = sym (nowhere x (λ i l. h i (omega arith) l))
   first_before x (Some k) h = sym (at_place x k h.0.high (λ i l. h.0.before i (omega arith) l) h.1)
-
-  pub first_within : (x : List ℕ) (r : Option ℕ) → IsFirstByte (is_byte b) x r → IfSome r (λ n. n + 1 ≤ length x)
-  first_within x None h = tt
-  first_within x (Some k) h = let high : k < length x = h.0.high in omega arith
-
-  pub here_first : (x : List ℕ) (a : ℕ) → slice_get x 0 ≡ Some a → a ≡ b → (Some 0 ≡ before (b ∷ []) x) × (1 ≤ length x)
-  here_first [] a e h = cc
-  here_first (c ∷ x) a e h = let f : c ≡ a = cc in (sym (before_here c x (f ∙ h)), omega arith)
-
-  pub none_left : (x : List ℕ) → slice_get x 0 ≡ None → before (b ∷ []) x ≡ None
-  none_left [] e = refl
-  none_left (a ∷ x) e = cc

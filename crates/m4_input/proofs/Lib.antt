@@ -19,3 +19,5 @@ pub mod Joins
 pub mod ShortQuotes
 pub mod Files
 pub mod Fronts
+pub mod FirstPlace
+pub mod Marks

@@ -1,8 +1,7 @@
 -- Scans: scanning a text from its front, byte by byte.
 use Rattle.std.proofs.Common.{◌≡◌, ℕ, zero, suc, ◌+◌, ◌-◌, ◌<◌, ◌≤◌, Bool, true, false, ◌&&◌, List, [], ◌∷◌, length}
-use Rattle.std.proofs.Common.{drop, Option, Some, None, refl, sym, ap, ◌∙◌, arith, nat_eq, get_or}
+use Rattle.std.proofs.Common.{drop, Option, Some, None, refl, ap, ◌∙◌, arith, nat_eq, get_or}
 use Rattle.std.proofs.lemmas.Grind.{common_steps}
-use Rattle.std.proofs.lemmas.List.{drop_more}
 use Rattle.m4_state.specs.declared.delimiters.Delimiters.{Delimiters}
 use Rattle.std.specs.Prelude.{◌==◌, nat_lt}
 use Rattle.std.specs.List.{starts_with}
@@ -30,28 +29,6 @@ pub none_cut : (d : List ℕ) (b : ℕ) → nat_eq b (get_or d 0 256) ≡ false 
 none_cut d b e false y = refl
 none_cut [] b e true y = refl
 none_cut (a ∷ d) b e true y = grind (arith, common_steps, e)
-
-further_one_more : (k : ℕ) (o : Option ℕ) → further k (one_more o) ≡ further (k + 1) o
-further_one_more k None = refl
-further_one_more k (Some m) = ap Some (omega arith)
-
--- a search that goes on from a place
-module _ (d x : List ℕ) (k : ℕ) (inside : k < length x) where
-  there : drop k x ≡ get_or x k 0 ∷ drop (k + 1) x
-  there = drop_more x k 0 inside
-
-  pub found_here : true ≡ begins d (drop k x) → further k (before d (drop k x)) ≡ Some k
-  found_here h =
-      let is : begins d (get_or x k 0 ∷ drop (k + 1) x) ≡ true = ap (begins d) (sym there) ∙ sym h in
-      let far : k + 0 ≡ k = omega arith in
-      let found : before d (get_or x k 0 ∷ drop (k + 1) x) ≡ Some 0 = rw (is, before) refl in
-      ap (λ (y : List ℕ). further k (before d y)) there ∙ ap (further k) found ∙ ap Some far
-
-  pub found_later : false ≡ begins d (drop k x) → further (k + 1) (before d (drop (k + 1) x)) ≡ further k (before d (drop k x))
-  found_later h =
-      let not_here : begins d (get_or x k 0 ∷ drop (k + 1) x) ≡ false = ap (begins d) (sym there) ∙ sym h in
-      let next : before d (drop k x) ≡ one_more (before d (drop (k + 1) x)) = ap (before d) there ∙ before_step d (drop (k + 1) x) (get_or x k 0) not_here in
-      sym (ap (further k) next ∙ further_one_more k (before d (drop (k + 1) x)))
 
 pub level_skip : (q : Delimiters) (p : Bool) (n skip : ℕ) (y : List ℕ) → skip ≤ length y → level q p n skip y ≡ further skip (level q p n 0 (drop skip y))
 level_skip q p n zero y h = go (level q p n 0 y)

@@ -1,6 +1,7 @@
 //! The delimiters by which input is read, borrowed from a state.
 
-ghost use Rattle.std.specs.Prelude.{◌≡◌, get_or};
+ghost use Rattle.std.specs.Prelude.{◌≡◌, ◌∷◌, Bool, List, ℕ, false, get_or};
+ghost use Rattle.m4_input.specs.Token.{starts_with, may_start};
 
 use m4_state::delimiters::Delimiters;
 use m4_state::state::State;
@@ -21,9 +22,6 @@ pub struct Delims<'a> {
 }
 
 impl<'a> Delims<'a> {
-    ghost use Rattle.std.specs.Prelude.{◌∷◌, Bool, List, ℕ, false};
-    ghost use Rattle.m4_input.specs.Token.{starts_with, may_start};
-
     /// Returns the current delimiters of a state. Manual: "Changing the quote characters", "Changing the
     /// comment delimiters".
     pub fn of(state: &'a State) -> Delims<'a>

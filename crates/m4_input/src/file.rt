@@ -5,9 +5,9 @@
 //! text that a call pushes is written over bytes that were read.
 
 ghost use Rattle.std.specs.Prelude.{◌≡◌, ◌+◌, ◌<◌, ◌≤◌, ◌++◌, [], OnOk, OnErr, IfOk, Ok, true, false, length, take};
-ghost use Rattle.std.specs.Prelude.{drop, vec_len, vec_capacity, ◌-◌};
+ghost use Rattle.std.specs.Prelude.{drop, vec_len, vec_capacity};
 ghost use Rattle.m4_input.specs.Input.{block};
-ghost use Rattle.m4_input.specs.Text.{text_in, text_after, with_text};
+ghost use Rattle.m4_input.specs.Text.{text_in, text_after, with_text, TakesBlock, failures_by};
 ghost use Rattle.m4_input.specs.Pending.{newlines_in};
 
 use crate::fault::InputFault;
@@ -86,20 +86,6 @@ fn count_few(bytes: &[u8]) -> u8
     count
 }
 
-/// Moves the bytes from position `at` on to the start.
-fn move_to_front(bytes: &mut Vec<u8>, at: usize)
-    requires within { at ≤ vec_len bytes.old }
-    requires fits { vec_len bytes.old - at ≤ at }
-    ensures same { bytes.new.items ≡ drop at bytes.old.items }
-    ensures len { vec_len bytes.new ≡ vec_len bytes.old - at }
-    ensures capacity { vec_capacity bytes.new ≡ vec_capacity bytes.old }
-{
-    let (front, rest) = bytes.split_at_mut(at);
-    let len = rest.len();
-    front[..len].copy_from_slice(rest);
-    bytes.truncate(len);
-}
-
 /// Appends bytes for which there is room.
 fn append_in_room(bytes: &mut Vec<u8>, more: &[u8])
     requires { vec_len bytes.old + length more.now ≤ vec_capacity bytes.old }
@@ -113,19 +99,8 @@ fn append_in_room(bytes: &mut Vec<u8>, more: &[u8])
     }
 }
 
-/// Makes room for pushed texts, and after it for the first block. Returns the position at which the block begins.
-fn make_first_room(bytes: &mut Vec<u8>) -> Result<usize, AllocError>
-    requires { bytes.old.items ≡ [] }
-    ensures within { IfOk result (λ n. n ≡ vec_len bytes.new) }
-    ensures room { OnOk result (vec_len bytes.new + block ≤ vec_capacity bytes.new) }
-    ensures err { OnErr result (bytes.new.items ≡ []) }
-{
-    bytes.reserve(ROOM + SOURCE_BLOCK)?;
-    append_in_room(bytes, &[0; ROOM]);
-    Ok(ROOM)
-}
-
-/// Makes room for a block at the end. Returns the new position of the bytes that were at position `at`.
+/// Makes room for a block at the end, and for pushed texts before the first block. Returns the new position of the bytes
+/// that were at position `at`.
 fn make_room(bytes: &mut Vec<u8>, at: usize) -> Result<usize, AllocError>
     requires { at ≤ vec_len bytes.old }
     ensures within { IfOk result (λ n. n ≤ vec_len bytes.new) }
@@ -135,11 +110,15 @@ fn make_room(bytes: &mut Vec<u8>, at: usize) -> Result<usize, AllocError>
 {
     let len = bytes.len();
     if len == 0 {
-        return make_first_room(bytes);
+        bytes.reserve(ROOM + SOURCE_BLOCK)?;
+        append_in_room(bytes, &[0; ROOM]);
+        return Ok(ROOM);
     }
     let is_full = bytes.capacity() < len.saturating_add(SOURCE_BLOCK);
     if is_full && at >= (len - at).saturating_add(SOURCE_BLOCK) {
-        move_to_front(bytes, at);
+        let (front, rest) = bytes.split_at_mut(at);
+        front[..rest.len()].copy_from_slice(rest);
+        bytes.truncate(len - at);
         return Ok(0);
     }
     bytes.reserve(SOURCE_BLOCK)?;
@@ -147,8 +126,6 @@ fn make_room(bytes: &mut Vec<u8>, at: usize) -> Result<usize, AllocError>
 }
 
 impl File {
-    ghost use Rattle.m4_input.specs.Text.{TakesBlock, failures_by};
-
     /// Creates a file of which no byte is in hand.
     pub fn new(alloc: Global) -> File
         ensures { result ≡ record { pushed = []; unread = []; newlines = 0 } }
@@ -189,15 +166,6 @@ impl File {
         self.newlines
     }
 
-    /// Returns whether no byte is left.
-    #[inline(always)]
-    pub fn is_empty(&self) -> bool
-        ensures some { result ≡ false → 0 < length (text_in self.now) }
-        ensures none { result ≡ true → text_in self.now ≡ [] }
-    {
-        self.at == self.bytes.len()
-    }
-
     /// Returns the bytes that are left.
     #[inline(always)]
     pub fn rest(&self) -> &[u8]
@@ -229,14 +197,11 @@ impl File {
         requires inline { inline ≡ true → newlines_in (take n (text_in self.old)) ≡ 0 }
         ensures { self.new ≡ text_after n self.old }
     {
-        if inline || n <= self.pushed {
-            self.pushed = self.pushed.saturating_sub(n);
-            self.at += n;
-            return;
+        if !inline && n > self.pushed {
+            let read = self.rest().split_at(n).0.split_at(self.pushed).1;
+            self.newlines = self.newlines.saturating_add(count_newlines(read));
         }
-        let read = self.rest().split_at(n).0.split_at(self.pushed).1;
-        self.newlines = self.newlines.saturating_add(count_newlines(read));
-        self.pushed = 0;
+        self.pushed = self.pushed.saturating_sub(n);
         self.at += n;
     }
 }

@@ -7,23 +7,15 @@
 //!
 //! Contracts see `Held` (`specs/Input.antt`). Manual: "How m4 copies input to output".
 
-ghost use Rattle.std.specs.Prelude.{◌≡◌, ◌<◌, ◌≤◌, List, ℕ, Some, None, OnOk, OnErr, IfOk, IfErr, IfSome, Ok, Err};
+ghost use Rattle.std.specs.Prelude.{◌≡◌, ◌<◌, ◌≤◌, Some, None, OnOk, OnErr, IfOk, IfErr, IfSome, Ok, Err};
 ghost use Rattle.std.specs.Prelude.{true, false, [], ◌||◌, ◌≢◌, IfNone, length, take};
-ghost use Rattle.m4_state.specs.Device.{Script};
 ghost use Rattle.m4_input.specs.Pending.{consumed, line_of, name_of, newlines_in, text_of};
-ghost use Rattle.m4_input.specs.Look.{scan_of};
-ghost use Rattle.m4_input.specs.Paren.{paren_in};
-ghost use Rattle.m4_input.specs.Token.{scan};
-ghost use Rattle.m4_input.specs.declared.front.Answer.TheVariants.{Unknown};
-ghost use Rattle.m4_input.specs.declared.front.Scan.TheVariants.{NeedsMore};
 
 use crate::delims::Delims;
 use crate::fault::InputFault;
 use crate::front::{Answer, Look, Scan, Unended};
-use crate::look::{first_token, list_follows};
-use crate::open_token::OpenToken;
+use crate::look::{copied, first_token, list_follows};
 use crate::pushed::Pushed;
-use crate::scan::copied;
 use crate::slice::line_len;
 use crate::text::Text;
 use crate::token::Token;
@@ -72,8 +64,6 @@ impl Input {
     ghost use Rattle.m4_input.specs.Input.{Held, IsLasting, unread_file, wrapped_text, with_pushed, all_read};
     ghost use Rattle.m4_input.specs.Input.{NextGives, ParenGives, SkipGives, failures_after};
     ghost use Rattle.m4_input.specs.Blocks.{BlockGives, TokenGives, LineGives, IsInFront};
-    ghost use Rattle.m4_input.specs.Text.{LiesIn};
-    ghost use Rattle.m4_input.specs.OpenToken.{IsOpenAt};
     ghost use Rattle.m4_input.specs.InputView.{fault_of};
     ghost use Rattle.m4_input.specs.declared.pushed.Pushed.TheVariants as pushes;
 
@@ -290,13 +280,21 @@ impl Input {
         if let Some(def) = self.definition.take() {
             return Ok(Token::Definition(def));
         }
-        'blocks: loop {
-            match self.look(delims) {
+        let mut copy = Vec::new(self.alloc);
+        let mut looked = 0;
+        'looks: loop {
+            let Ok((text, others)) = self.text.longer_front(looked, &mut copy) else {
+                return Err(self.stop(InputFault::OutOfMemory));
+            };
+            looked = text.len();
+            let look = first_token(text, delims, others | self.may_follow);
+            match copied(self.alloc, look, text) {
                 Ok(Scan::Found(token, len)) => {
                     self.consume(len);
                     return Ok(token);
                 }
                 Ok(Scan::Broken(what)) => return Err(self.end_inside(what)),
+                Ok(Scan::NeedsMore) if others => {}
                 Ok(Scan::NeedsMore) => {
                     let _came = self.more(reader)?;
                 }
@@ -324,14 +322,20 @@ impl Input {
         if self.definition.is_some() {
             return Ok(false);
         }
-        'blocks: loop {
-            match self.list_in_front(delims) {
-                Ok(Answer::Yes) => return Ok(true),
-                Ok(Answer::No) => return Ok(false),
-                Ok(Answer::Unknown) => {
+        let mut copy = Vec::new(self.alloc);
+        let mut looked = 0;
+        'looks: loop {
+            let Ok((text, others)) = self.text.longer_front(looked, &mut copy) else {
+                return Err(self.stop(InputFault::OutOfMemory));
+            };
+            looked = text.len();
+            match list_follows(text, delims, others | self.may_follow) {
+                Answer::Yes => return Ok(true),
+                Answer::No => return Ok(false),
+                Answer::Unknown if others => {}
+                Answer::Unknown => {
                     let _came = self.more(reader)?;
                 }
-                Err(AllocError) => return Err(self.stop(InputFault::OutOfMemory)),
             }
         }
     }
@@ -399,32 +403,21 @@ impl Input {
         ensures counted { R.failures reader.new
             ≡ failures_after self.old.fault self.new.fault (R.failures reader.old) }
     {
-        let Some(first) = self.open_token(delims) else {
+        let open = match self.definition {
+            Some(_) => None,
+            None => self.text.open_token(self.alloc, delims),
+        };
+        let Some(mut token) = open else {
             let _came = self.more(reader)?;
             return Ok(());
         };
-        let mut token = first;
-        'blocks: loop {
-            if !self.more(reader)? {
-                return Ok(());
-            }
+        'blocks: while self.more(reader)? {
             match self.text.still_open(self.alloc, token, delims) {
                 Some(longer) => token = longer,
-                None => return Ok(()),
+                None => break,
             }
         }
-    }
-
-    /// Returns the first token of the bytes in hand if it may continue in bytes that follow. Also returns `None` if an
-    /// allocation fails.
-    fn open_token(&self, delims: &Delims<'_>) -> Option<OpenToken>
-        ensures { IfSome result (λ o. (self.now.pending.definition ≡ None)
-            × IsOpenAt delims.now.quotes.now delims.now.comments.now o (text_of self.now.pending)) }
-    {
-        if self.definition.is_some() {
-            return None;
-        }
-        self.text.open_token(self.alloc, delims)
+        Ok(())
     }
 
     /// Removes the definition that comes before the bytes in hand, if there is one, and returns it.
@@ -436,43 +429,6 @@ impl Input {
         self.definition.take()
     }
 
-    /// Returns the first token of the bytes in hand, or `NeedsMore` if bytes that may follow can change it. A
-    /// definition before these bytes is passed over. Consumes nothing. Returns `AllocError` if an allocation fails.
-    fn look(&self, delims: &Delims<'_>) -> Result<Scan, AllocError>
-        ensures value { IfOk result (λ s. s ≡ scan delims.now.quotes.now delims.now.comments.now
-            self.now.pending.may_follow (text_of self.now.pending)) }
-        ensures within { IfOk result (λ s. LiesIn (length (text_of self.now.pending)) s) }
-    {
-        let mut copy = Vec::new(self.alloc);
-        let mut looked = 0;
-        'fronts: loop {
-            let (text, others) = self.text.longer_front(looked, &mut copy)?;
-            let look = first_token(text, delims, others | self.may_follow);
-            if !others || look != Look::NeedsMore {
-                return copied(self.alloc, look, text);
-            }
-            looked = text.len();
-        }
-    }
-
-    /// Returns whether an argument list comes first, or `Unknown` if bytes that may follow decide it.
-    /// Manual: "Macro invocation".
-    fn list_in_front(&self, delims: &Delims<'_>) -> Result<Answer, AllocError>
-        ensures { IfOk result (λ answer. paren_in delims.now.quotes.now delims.now.comments.now
-            self.now.pending.may_follow (text_of self.now.pending) ≡ answer) }
-    {
-        let mut copy = Vec::new(self.alloc);
-        let mut looked = 0;
-        'fronts: loop {
-            let (text, others) = self.text.longer_front(looked, &mut copy)?;
-            let answer = list_follows(text, delims, others | self.may_follow);
-            if !others || answer != Answer::Unknown {
-                return Ok(answer);
-            }
-            looked = text.len();
-        }
-    }
-
     /// Discards a definition and the rest of the line as far as it is in hand. Returns whether that was all of
     /// it: its newline was found, or the input is closed. Otherwise all bytes in hand are discarded, and more of
     /// the line may follow. Manual: "Deleting whitespace in input".
@@ -482,18 +438,14 @@ impl Input {
     {
         'fronts: loop {
             let (text, more) = self.text.front();
-            match line_len(text) {
-                Some(len) => {
-                    self.consume(len);
-                    return true;
-                }
-                None => {
-                    let len = text.len();
-                    self.consume(len);
-                    if !more {
-                        return !self.may_follow;
-                    }
-                }
+            if let Some(len) = line_len(text) {
+                self.consume(len);
+                return true;
+            }
+            let len = text.len();
+            self.consume(len);
+            if !more {
+                return !self.may_follow;
             }
         }
     }

@@ -19,7 +19,6 @@ mod lanes;
 pub mod look;
 mod open_token;
 pub mod pushed;
-mod scan;
 mod segment;
 mod slice;
 mod strings;

@@ -1,22 +1,25 @@
-//! One look at the start of a text: which token is first, and how long it is. Nothing is copied, and no name is
-//! looked up. If more bytes may follow (`may_follow`), nothing is decided that they could change.
+//! One look at the start of a text: which token is first, and how long it is. It copies nothing, and looks up no name.
+//! If more bytes may follow (`may_follow`), nothing is decided that they could change.
 //!
 //! A run looks at each token of its text, so the look is inlined, and tests the first byte before it
-//! compares a delimiter. Manual: "Lexical and syntactic conventions".
+//! compares a delimiter. Manual: "Lexical and syntactic conventions", "Quoted strings", "Comments", "Names".
 
-ghost use Rattle.std.specs.Prelude.{◌≡◌, ◌<◌, ◌≤◌, ◌∷◌, [], Bool, List, ℕ, false, IfSome, length, drop};
+ghost use Rattle.std.specs.Prelude.{◌≡◌, ◌+◌, ◌<◌, ◌≤◌, ◌∷◌, List, ℕ, IfSome, IfOk, IsTrue, length, take, drop};
 ghost use Rattle.m4_input.specs.Ascii.{is_name_byte};
 ghost use Rattle.m4_input.specs.Look.{scan_of, LookLies};
 ghost use Rattle.m4_input.specs.Paren.{paren_in};
-ghost use Rattle.m4_input.specs.Token.{starts_with, may_start, run_length, unended, name_at, comment_at, string_at};
-ghost use Rattle.m4_input.specs.Token.{scan};
+ghost use Rattle.m4_input.specs.Text.{LiesIn};
+ghost use Rattle.m4_input.specs.Token.{starts_with, may_start, kind_of, run_length, unended, name_at, comment_at};
+ghost use Rattle.m4_input.specs.Token.{string_at, scan};
 
 use crate::delims::Delims;
-use crate::front::{Answer, Kind, Look, Unended};
-use crate::scan::{kind, may_open, opens};
-use crate::slice::{find, is_letter_byte, single, word_len};
+use crate::front::{Answer, Kind, Look, Scan, Unended};
+use crate::slice::{cut, find, is_letter_byte, single, starts, word_len};
 use crate::strings::{StringSoFar, follow_string};
+use crate::token::Token;
+use m4_state::bytes::Bytes;
 use m4_state::delimiters::Delimiters;
+use std::alloc::{AllocError, Global};
 
 /// Returns the first token of a text, if no delimiter can begin with its first byte. This takes no search.
 #[inline(always)]
@@ -82,6 +85,49 @@ fn quoted_token(text: &[u8], delims: &Delims<'_>, may_follow: bool) -> Option<Lo
         return None;
     }
     Some(look_at_string(text, delims.quotes, may_follow))
+}
+
+/// Returns whether a text begins with a pair that is enabled.
+fn opens(text: &[u8], pair: &Delimiters) -> bool
+    ensures value { result ≡ starts_with pair.now text.now }
+    ensures within { IsTrue result
+        → (0 < length pair.now.begin) × (length pair.now.begin ≤ length text.now) }
+{
+    let begin = pair.begin.as_slice();
+    !begin.is_empty() && starts(text, begin)
+}
+
+/// Returns whether a text may begin with the pair once more bytes follow.
+fn may_open(text: &[u8], pair: &Delimiters, may_follow: bool) -> bool
+    ensures { result ≡ may_start pair.now may_follow text.now }
+{
+    let begin = pair.begin.as_slice();
+    may_follow && !begin.is_empty() && cut(text, begin)
+}
+
+/// Returns the kind of token with which a text begins.
+pub(crate) fn kind(text: &[u8], delims: &Delims<'_>, may_follow: bool, first: u8) -> Kind
+    requires { text.now ≡ first ∷ drop 1 text.now }
+    ensures value { result ≡ kind_of delims.now.quotes.now delims.now.comments.now
+        may_follow first (drop 1 text.now) }
+    ensures comment { result ≡ Kind.CommentHere
+        → length delims.now.comments.now.begin ≤ length text.now }
+    ensures string { result ≡ Kind.StringHere → (0 < length delims.now.quotes.now.begin)
+        × (length delims.now.quotes.now.begin ≤ length text.now) }
+{
+    if opens(text, delims.comments) {
+        Kind::CommentHere
+    } else if may_open(text, delims.comments, may_follow) {
+        Kind::Undecided
+    } else if is_letter_byte(first) {
+        Kind::NameHere
+    } else if opens(text, delims.quotes) {
+        Kind::StringHere
+    } else if may_open(text, delims.quotes, may_follow) {
+        Kind::Undecided
+    } else {
+        Kind::ByteHere
+    }
 }
 
 /// Returns the first token of a text, by its kind.
@@ -151,24 +197,14 @@ pub fn list_follows(text: &[u8], delims: &Delims<'_>, may_follow: bool) -> Answe
         None => return Answer::No,
     }
     // Hardly ever does a delimiter begin with a parenthesis.
-    if delims.may_comment(b'(') || delims.may_quote(b'(') {
-        list_by_delimiters(text, delims, may_follow)
-    } else {
-        Answer::Yes
+    if !(delims.may_comment(b'(') || delims.may_quote(b'(')) {
+        return Answer::Yes;
     }
-}
-
-/// Returns whether the parenthesis at the start of a text is a token by itself, and begins no delimiter.
-#[inline(never)]
-fn list_by_delimiters(text: &[u8], delims: &Delims<'_>, may_follow: bool) -> Answer
-    requires { text.now ≡ 40 ∷ drop 1 text.now }
-    ensures { paren_in delims.now.quotes.now delims.now.comments.now may_follow text.now ≡ result }
-{
-    let comments = delims.comments;
-    let quotes = delims.quotes;
-    if opens(text, comments) || opens(text, quotes) {
+    if opens(text, delims.comments) || opens(text, delims.quotes) {
         Answer::No
-    } else if may_open(text, comments, may_follow) || may_open(text, quotes, may_follow) {
+    } else if may_open(text, delims.comments, may_follow)
+        || may_open(text, delims.quotes, may_follow)
+    {
         Answer::Unknown
     } else {
         Answer::Yes
@@ -185,4 +221,32 @@ fn without_end(what: Unended, may_follow: bool) -> Look
     } else {
         Look::Unended(what)
     }
+}
+
+/// Returns the token that a look at a text found, with a copy of its text, and its length.
+pub(crate) fn copied(alloc: Global, look: Look, text: &[u8]) -> Result<Scan, AllocError>
+    requires { LookLies text.now look }
+    ensures value { IfOk result (λ s. s ≡ scan_of look text.now) }
+    ensures within { IfOk result (λ s. LiesIn (length text.now) s) }
+{
+    let found = match look {
+        Look::Name(len) => Scan::Found(Token::Name(front_of(alloc, text, 0, len)?), len),
+        Look::Byte(byte) => Scan::Found(Token::Byte(byte), 1),
+        Look::Quoted(begin, len, all) => {
+            Scan::Found(Token::Str(front_of(alloc, text, begin, len)?), all)
+        }
+        Look::Comment(len) => Scan::Found(Token::Comment(front_of(alloc, text, 0, len)?), len),
+        Look::End => Scan::Found(Token::End, 0),
+        Look::Unended(what) => Scan::Broken(what),
+        Look::NeedsMore => Scan::NeedsMore,
+    };
+    Ok(found)
+}
+
+/// Copies `len` bytes of a text from a place on.
+fn front_of(alloc: Global, text: &[u8], at: usize, len: usize) -> Result<Bytes, AllocError>
+    requires { at + len ≤ length text.now }
+    ensures { IfOk result (λ b. b ≡ take len (drop at text.now)) }
+{
+    Bytes::from_slice(alloc, text.split_at(at).1.split_at(len).0)
 }

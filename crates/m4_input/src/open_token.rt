@@ -4,13 +4,13 @@
 //! were pushed are copied only for the first look, so that this takes time in proportion to the token.
 //! Manual: "Names", "Quoted strings", "Comments".
 
-ghost use Rattle.std.specs.Prelude.{◌≡◌, ◌<◌, ◌^◌, IfSome, length};
+ghost use Rattle.std.specs.Prelude.{IfSome};
 ghost use Rattle.m4_input.specs.OpenToken.{IsOpenAt, StaysOpen, CommentGoesOn};
 ghost use Rattle.m4_input.specs.Text.{text_in};
 
 use crate::delims::Delims;
 use crate::front::Kind;
-use crate::scan::kind;
+use crate::look::kind;
 use crate::slice::{find, word_len};
 use crate::strings::{StringSoFar, follow_string};
 use crate::text::Text;
@@ -31,13 +31,11 @@ pub enum OpenToken {
 fn comment_goes_on(text: &[u8], end: &[u8]) -> Option<usize>
     ensures { IfSome result (λ n. CommentGoesOn end.now n text.now) }
 {
-    match find(text, end) {
-        Some(_) => None,
-        None => {
-            let may_be_cut = end.len().saturating_sub(1);
-            Some(text.len().saturating_sub(may_be_cut))
-        }
+    if find(text, end).is_some() {
+        return None;
     }
+    let may_be_cut = end.len().saturating_sub(1);
+    Some(text.len().saturating_sub(may_be_cut))
 }
 
 impl Text {

@@ -1,12 +1,12 @@
 //! A text that a call pushed, and the place up to which it was read.
 
-ghost use Rattle.std.specs.Prelude.{◌≡◌, ◌≤◌, ◌^◌, ◌++◌, [], true, false, length, drop};
+ghost use Rattle.std.specs.Prelude.{◌≡◌, ◌≤◌, ◌^◌, ◌++◌, [], List, ℕ, true, false, length, drop};
 
 use m4_state::bytes::Bytes;
 use std::marker::Model;
 
-/// The greatest length of the text of a segment.
-pub const LONGEST_SEGMENT: usize = 1 << 62;
+/// The greatest length of the text of a segment, and of all segments below the first one together.
+pub const LONGEST: usize = 1 << 62;
 
 /// The rest of a text. Contracts see it as a list of bytes.
 #[derive(Drop)]
@@ -17,8 +17,6 @@ pub struct Segment {
 }
 
 impl Model for Segment {
-    ghost use Rattle.std.specs.Prelude.{◌≡◌, ◌≤◌, ◌^◌, List, ℕ, length, drop};
-
     ghost Value = { List ℕ };
 
     ghost view = { λ s. drop s.at s.text };
@@ -41,11 +39,7 @@ impl Segment {
     pub fn spent() -> Segment
         ensures { result ≡ [] }
     {
-        Segment {
-            text: Bytes::empty(),
-            at: 0,
-            end: 0,
-        }
+        Segment::of(Bytes::empty())
     }
 
     /// Returns the buffer of its text, if it has one of its own.

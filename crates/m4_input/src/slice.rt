@@ -1,13 +1,13 @@
 //! Searches in one slice: the length of its name or line, and the place of a delimiter.
 
-ghost use Rattle.std.specs.Prelude.{◌≡◌, ◌≢◌, ◌+◌, ◌<◌, ◌≤◌, ◌∷◌, [], List, ℕ, IfSome, IfNone, IsTrue, length};
+ghost use Rattle.std.specs.Prelude.{◌≡◌, ◌≢◌, ◌+◌, ◌≤◌, ◌∷◌, [], ℕ, IfSome, IfNone, IsTrue, length};
 ghost use Rattle.m4_input.specs.Ascii.{is_letter, is_name_byte};
 ghost use Rattle.m4_input.specs.Pending.{line_length};
 ghost use Rattle.m4_input.specs.Token.{begins, is_cut, run_length, before};
 
 use crate::lanes::short_word_len;
 use m4_state::lanes::LANES;
-use memchr::memchr;
+use memchr::{memchr, memmem};
 
 // A byte that may occur in a name is at its own place, and a comma is at all others. To look a byte up takes half the
 // time of comparing it with letters, digits and the underscore.
@@ -62,14 +62,6 @@ pub fn single(delimiter: &[u8]) -> Option<u8>
     if rest.is_empty() { Some(*first) } else { None }
 }
 
-/// Counts the bytes before the first one of this value; `None` if there is none.
-pub fn find_byte(text: &[u8], byte: u8) -> Option<usize>
-    ensures value { result ≡ before (byte ∷ []) text.now }
-    ensures within { IfSome result (λ n. n + 1 ≤ length text.now) }
-{
-    memchr(byte, text)
-}
-
 /// Returns whether a text begins with a delimiter.
 pub fn starts(text: &[u8], delimiter: &[u8]) -> bool
     ensures value { result ≡ begins delimiter.now text.now }
@@ -91,24 +83,10 @@ pub fn find(text: &[u8], delimiter: &[u8]) -> Option<usize>
     ensures within { IfSome result (λ n. n + length delimiter.now ≤ length text.now) }
 {
     match single(delimiter) {
-        Some(byte) => find_byte(text, byte),
-        None => find_long(text, delimiter),
+        Some(byte) => memchr(byte, text),
+        None if text.is_empty() => None,
+        None => memmem::find(text, delimiter),
     }
-}
-
-/// Counts the bytes before the first such delimiter, by a comparison at each byte.
-fn find_long(text: &[u8], delimiter: &[u8]) -> Option<usize>
-    ensures value { result ≡ before delimiter.now text.now }
-    ensures within { IfSome result (λ n. n + length delimiter.now ≤ length text.now) }
-{
-    let mut k = 0usize;
-    while k < text.len() {
-        if starts(text.split_at(k).1, delimiter) {
-            return Some(k);
-        }
-        k += 1;
-    }
-    None
 }
 
 /// Counts the bytes of the rest of the line, with its newline; `None` if no newline is left.
@@ -116,8 +94,5 @@ pub fn line_len(text: &[u8]) -> Option<usize>
     ensures value { result ≡ line_length text.now }
     ensures within { IfSome result (λ n. n ≤ length text.now) }
 {
-    match find_byte(text, b'\n') {
-        Some(n) => Some(n + 1),
-        None => None,
-    }
+    Some(memchr(b'\n', text)? + 1)
 }

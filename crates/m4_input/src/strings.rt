@@ -1,7 +1,7 @@
 //! Finds the end of a string in one pass, and counts the strings nested in it.
 //! Manual: "Quoted strings".
 
-ghost use Rattle.std.specs.Prelude.{◌≡◌, ◌+◌, ◌^◌, ◌<◌, ◌≤◌, ◌∷◌, [], Bool, IfSome, length};
+ghost use Rattle.std.specs.Prelude.{◌≡◌, ◌+◌, ◌^◌, ◌<◌, ◌≤◌, ◌∷◌, [], Bool, length};
 ghost use Rattle.m4_input.specs.OpenToken.{IsStringSoFar};
 ghost use Rattle.m4_input.specs.Token.{mark_at};
 ghost use Rattle.memchr.specs.Find.{IsFirstByte, is_byte2};

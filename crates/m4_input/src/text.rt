@@ -5,20 +5,18 @@
 //! before those that come next, so that it and they are contiguous. Pushing a longer one copies nothing. Consuming
 //! bytes takes time in proportion to the number of segments that end in them.
 
-ghost use Rattle.std.specs.Prelude.{◌≡◌, ◌≢◌, ◌<◌, ◌≤◌, ◌^◌, ◌++◌, ◌+◌, [], IfSome, IfOk, OnOk, OnErr, Ok, true, false};
+ghost use Rattle.std.specs.Prelude.{◌≡◌, ◌<◌, ◌≤◌, ◌^◌, ◌++◌, ◌+◌, [], IfSome, IfOk, OnOk, OnErr, Ok, true, false};
 ghost use Rattle.std.specs.Prelude.{length, take, drop, nat_lt};
 ghost use Rattle.m4_input.specs.Pending.{newlines_in};
+ghost use Rattle.m4_input.specs.Text.{text_in, text_after, with_text, TakesBlock, failures_by};
 
 use crate::fault::InputFault;
 use crate::file::File;
-use crate::segment::{LONGEST_SEGMENT, Segment};
+use crate::segment::{LONGEST, Segment};
 use m4_state::bytes::Bytes;
 use m4_state::device::ByteSource;
 use std::alloc::{AllocError, AllocFailed, Global};
 use std::marker::Model;
-
-/// The greatest length of all segments below the first one together.
-const MOST_BELOW: usize = 1 << 62;
 
 /// The length up to which a pushed text is copied before the bytes that come next. A copy takes less time than a
 /// segment.
@@ -71,8 +69,6 @@ fn append_most(copy: &mut Vec<u8>, bytes: &[u8], most: usize) -> Result<(), Allo
 }
 
 impl Text {
-    ghost use Rattle.m4_input.specs.Text.{text_in, text_after, with_text, TakesBlock, failures_by};
-
     /// Creates a text without bytes.
     pub fn new(alloc: Global) -> Text
         ensures { result ≡ record { pushed = []; unread = []; newlines = 0 } }
@@ -118,10 +114,11 @@ impl Text {
         ensures all { result.1 ≡ false → result.0.now ≡ text_in self.now }
         ensures some { result.1 ≡ true → 0 < length result.0.now }
     {
+        let rest = self.file.rest();
         if self.top.len() > 0 {
-            (self.top.rest(), self.held > 0 || !self.file.is_empty())
+            (self.top.rest(), self.held > 0 || !rest.is_empty())
         } else {
-            (self.file.rest(), false)
+            (rest, false)
         }
     }
 
@@ -173,10 +170,8 @@ impl Text {
         if at >= pushed {
             return Some(self.file.rest().split_at(at - pushed).1);
         }
-        match self.copy_front(self.len(), copy) {
-            Ok(_) => Some(copy.as_slice().split_at(at).1),
-            Err(AllocError) => None,
-        }
+        let _others = self.copy_front(self.len(), copy).ok()?;
+        Some(copy.as_slice().split_at(at).1)
     }
 
     /// Inserts a text at the start, without a copy. If an allocation fails, nothing changes.
@@ -189,7 +184,7 @@ impl Text {
             keep(&mut self.buffer, text.buffer());
             return Ok(());
         }
-        if text.as_slice().len() > LONGEST_SEGMENT {
+        if text.as_slice().len() > LONGEST {
             return Err(AllocError);
         }
         self.push_segment(Segment::of(text))
@@ -211,8 +206,8 @@ impl Text {
         }
     }
 
-    /// Pushes a segment.
-    #[inline(always)]
+    /// Pushes a segment above the one that is read now, or in its place if that was read to its end.
+    #[inline(never)]
     fn push_segment(&mut self, segment: Segment) -> Result<(), AllocError>
         ensures ok { OnOk result (self.new ≡ with_text segment self.old) }
         ensures err { OnErr result (self.new ≡ self.old) }
@@ -224,18 +219,8 @@ impl Text {
             self.top = segment;
             return Ok(());
         }
-        self.push_above(segment)
-    }
-
-    /// Pushes a segment above the one that is read now.
-    #[inline(never)]
-    fn push_above(&mut self, segment: Segment) -> Result<(), AllocError>
-        requires { segment ≢ [] }
-        ensures ok { OnOk result (self.new ≡ with_text segment self.old) }
-        ensures err { OnErr result (self.new ≡ self.old) }
-    {
         let held = self.held + self.top.len();
-        if held > MOST_BELOW {
+        if held > LONGEST {
             return Err(AllocError);
         }
         let top = std::mem::replace(&mut self.top, segment);
@@ -314,26 +299,18 @@ impl Text {
         ensures { self.new ≡ text_after n self.old }
     {
         let mut left = n;
-        'segments: loop {
-            let len = self.top.len();
-            if left < len {
-                self.top.pass(left);
+        'segments: while left >= self.top.len() {
+            left -= self.top.len();
+            let Some(next) = self.below.pop() else {
+                let spent = std::mem::replace(&mut self.top, Segment::spent());
+                keep(&mut self.buffer, spent.buffer());
+                self.file.consume(left, false);
                 return;
-            }
-            left -= len;
-            match self.below.pop() {
-                Some(next) => {
-                    self.held -= next.len();
-                    let spent = std::mem::replace(&mut self.top, next);
-                    keep(&mut self.buffer, spent.buffer());
-                }
-                None => {
-                    let spent = std::mem::replace(&mut self.top, Segment::spent());
-                    keep(&mut self.buffer, spent.buffer());
-                    self.file.consume(left, false);
-                    return;
-                }
-            }
+            };
+            self.held -= next.len();
+            let spent = std::mem::replace(&mut self.top, next);
+            keep(&mut self.buffer, spent.buffer());
         }
+        self.top.pass(left);
     }
 }

@@ -9,7 +9,11 @@ use Rattle.std.specs.Prelude.{Err, IfSome}
 use Rattle.m4_input.specs.declared.fault.InputFault.{InputFault}
 use Rattle.m4_input.specs.Input.{IsLasting, wants_token, failures_after}
 use Rattle.m4_input.proofs.Blocks.{HasAsked, none_asked, token_open, token_found, token_more, token_stops, next_again}
-use Rattle.m4_input.proofs.Blocks.{blocks_fall, came_is}
+use Rattle.m4_input.proofs.Blocks.{blocks_left, blocks_fall, came_is, block_length, token_broken}
+use Rattle.std.proofs.Common.{◌+◌, ◌<◌, ◌≤◌, length, arith}
+use Rattle.m4_input.specs.Pending.{text_of}
+use Rattle.m4_input.specs.Token.{scan}
+use Rattle.m4_input.proofs.Fronts.{token_seen, front_within}
 use Rattle.m4_input.proofs.input.Input.next.Goals as goal
 
 -- the first token was a definition
@@ -34,38 +38,70 @@ returns-in-Some-clause-gives g c =
 
 pub returns-in-Ok-Found-clause-gives : goal.returns-in-Ok-Found-clause-gives
 returns-in-Ok-Found-clause-gives g c =
-    let i = c.blocks-2.invariant in
-    token_found c.args.delims.now.quotes.now c.args.delims.now.comments.now (g.R.ByteSource.script c.args.reader.now) (g.R.ByteSource.script c.blocks-2.reader)
-    c.args.self.now c.blocks-2.self i.0.0 c.in-Ok-Found.field-0 i.0.1 i.1 c.in-Ok-Found.ensures.value c.consume.new.self c.in-Ok-Found.token c.in-Ok-Found.len c.in-Ok-Found.field-0-is c.consume.ensures
+    let q = c.args.delims.now.quotes.now in
+    let r = c.args.delims.now.comments.now in
+    let s = g.R.ByteSource.script c.args.reader.now in
+    let a = g.R.ByteSource.script c.looks.reader in
+    let h : Held = c.looks.self in
+    let i = c.looks.invariant in
+    let look : c.in-Ok-Found.field-0 ≡ scan q r (h.pending).may_follow (text_of h.pending) =
+    token_seen q r c.self-in-looks.inside h c.in-Ok.others c.in-Ok.text.now c.in-Ok-Found.field-0 c.self-in-looks.view_is c.in-Ok.ensures.begins c.in-Ok.ensures.all
+    (c.first_token-look.ensures.value ∙ sym c.in-Ok-Found.ensures.value) (λ o e. absurd cc) in
+    token_found q r s a c.args.self.now h i.0.0 c.in-Ok-Found.field-0 i.0.1 i.1 look c.consume.new.self c.in-Ok-Found.token c.in-Ok-Found.len c.in-Ok-Found.field-0-is c.consume.ensures
 
-pub blocks-2-smaller : goal.blocks-2-smaller
-blocks-2-smaller g c =
-    let i = c.blocks-2.invariant in
-    let may = token_open c.args.delims.now.quotes.now c.args.delims.now.comments.now (g.R.ByteSource.script c.args.reader.now) (g.R.ByteSource.script c.blocks-2.reader)
-    c.args.self.now c.blocks-2.self i.0.0 c.in-Ok-NeedsMore.field-0 i.0.1 i.1 c.in-Ok-NeedsMore.ensures.value c.in-Ok-NeedsMore.field-0-is in
-    let came = came_is (g.R.ByteSource.script c.blocks-2.reader) (g.R.ByteSource.script c.more.new.reader) c.blocks-2.self c.more.new.self c.in_ok-_came-in-Ok-NeedsMore._came c.in_ok-_came-in-Ok-NeedsMore.ensures.gives in
-    blocks_fall ((c.blocks-2.self).pending).may_follow ((c.more.new.self).pending).may_follow (g.R.ByteSource.takes_left c.blocks-2.reader) (g.R.ByteSource.takes_left c.more.new.reader) may
-    (λ e. c.in_ok-_came-in-Ok-NeedsMore.ensures.falls (ap Ok (sym came ∙ e)))
-
-pub blocks-2-preserved : goal.blocks-2-preserved
-blocks-2-preserved g c =
-    let i = c.blocks-2.invariant in
-    let h : Held = c.blocks-2.self in
+pub looks-smaller : goal.looks-smaller
+looks-smaller g c =
+    let q = c.args.delims.now.quotes.now in
+    let r = c.args.delims.now.comments.now in
+    let s = g.R.ByteSource.script c.args.reader.now in
+    let a = g.R.ByteSource.script c.looks.reader in
+    let h : Held = c.looks.self in
+    let i = c.looks.invariant in
+    let look : c.in-Ok-NeedsMore.field-0 ≡ scan q r (h.pending).may_follow (text_of h.pending) =
+    token_seen q r c.self-in-looks.inside h c.in-Ok.others c.in-Ok.text.now c.in-Ok-NeedsMore.field-0 c.self-in-looks.view_is c.in-Ok.ensures.begins c.in-Ok.ensures.all
+    (c.first_token-look.ensures.value ∙ sym c.in-Ok-NeedsMore.ensures.value) (λ o e. absurd cc) in
     let new : Held = c.more.new.self in
-    let n : ℕ = g.R.ByteSource.failures c.blocks-2.reader in
-    let m = token_more c.args.delims.now.quotes.now c.args.delims.now.comments.now (g.R.ByteSource.script c.args.reader.now) (g.R.ByteSource.script c.blocks-2.reader)
-    c.args.self.now h i.0.0 c.in-Ok-NeedsMore.field-0 i.0.1 i.1 c.in-Ok-NeedsMore.ensures.value (g.R.ByteSource.script c.more.new.reader) new c.in_ok-_came-in-Ok-NeedsMore._came c.in-Ok-NeedsMore.field-0-is c.in_ok-_came-in-Ok-NeedsMore.ensures.gives in
-    let kept : (c.blocks-2.self).fault ≡ None = i.0.1.sound in (
+    let b = g.R.ByteSource.script c.more.new.reader in
+    let came = c.in_ok-_came-in-Ok-NeedsMore-2._came in
+    let gives = c.in_ok-_came-in-Ok-NeedsMore-2.ensures.gives in
+    let may = token_open q r s a c.args.self.now h i.0.0 c.in-Ok-NeedsMore.field-0 i.0.1 i.1 look c.in-Ok-NeedsMore.field-0-is in
+    let fewer : blocks_left (new.pending).may_follow (g.R.ByteSource.takes_left c.more.new.reader) < blocks_left (h.pending).may_follow (g.R.ByteSource.takes_left c.looks.reader) =
+    blocks_fall (h.pending).may_follow (new.pending).may_follow (g.R.ByteSource.takes_left c.looks.reader) (g.R.ByteSource.takes_left c.more.new.reader) may (λ e. c.in_ok-_came-in-Ok-NeedsMore-2.ensures.falls (ap Ok (sym (came_is a b h new came gives) ∙ e))) in
+    let longer : length (text_of new.pending) ≡ length (text_of h.pending) + length gives.0 = block_length a b h new came gives in
+    let most : length gives.0 ≤ 4096 = gives.2 in
+    let all : length c.in-Ok.text.now ≡ length (text_of h.pending) = ap length (c.in-Ok.ensures.all c.if-others.false) ∙ ap (λ (k : Held). length (text_of k.pending)) c.self-in-looks.view_is in
+    omega (arith, fewer, longer, most, all)
+
+pub looks-preserved : goal.looks-preserved
+looks-preserved g c =
+    let q = c.args.delims.now.quotes.now in
+    let r = c.args.delims.now.comments.now in
+    let s = g.R.ByteSource.script c.args.reader.now in
+    let a = g.R.ByteSource.script c.looks.reader in
+    let h : Held = c.looks.self in
+    let i = c.looks.invariant in
+    let look : c.in-Ok-NeedsMore.field-0 ≡ scan q r (h.pending).may_follow (text_of h.pending) =
+    token_seen q r c.self-in-looks.inside h c.in-Ok.others c.in-Ok.text.now c.in-Ok-NeedsMore.field-0 c.self-in-looks.view_is c.in-Ok.ensures.begins c.in-Ok.ensures.all
+    (c.first_token-look.ensures.value ∙ sym c.in-Ok-NeedsMore.ensures.value) (λ o e. absurd cc) in
+    let new : Held = c.more.new.self in
+    let b = g.R.ByteSource.script c.more.new.reader in
+    let n : ℕ = g.R.ByteSource.failures c.looks.reader in
+    let came = c.in_ok-_came-in-Ok-NeedsMore-2._came in
+    let gives = c.in_ok-_came-in-Ok-NeedsMore-2.ensures.gives in
+    let m = token_more q r s a c.args.self.now h i.0.0 c.in-Ok-NeedsMore.field-0 i.0.1 i.1 look b new came c.in-Ok-NeedsMore.field-0-is gives in
+    let longer : length (text_of new.pending) ≡ length (text_of h.pending) + length gives.0 = block_length a b h new came gives in
+    let within : length c.in-Ok.text.now ≤ length (text_of h.pending) = front_within c.self-in-looks.inside h c.in-Ok.text.now c.self-in-looks.view_is c.in-Ok.ensures.begins in (
       (m.0, m.1),
       m.2,
-      c.in_ok-_came-in-Ok-NeedsMore.ensures.counted
-          ∙ ap (λ (o : Option InputFault). failures_after o new.fault n) kept
+      c.in_ok-_came-in-Ok-NeedsMore-2.ensures.counted
+          ∙ ap (λ (o : Option InputFault). failures_after o new.fault n) i.0.1.sound
           ∙ ap (λ (o : Option InputFault). failures_after None o n) m.1.sound
           ∙ i.2,
+      omega (arith, longer, within),
     )
 
-pub blocks-2-init : goal.blocks-2-init
-blocks-2-init g c =
+pub looks-init : goal.looks-init
+looks-init g c =
     let q = c.args.delims.now.quotes.now in
     let r = c.args.delims.now.comments.now in
     let s = g.R.ByteSource.script c.args.reader.now in
@@ -78,15 +114,65 @@ blocks-2-init g c =
       ([], subst (λ (i : Held). HasAsked (wants_token q r) s s c.args.self.now i [] i.pending) (sym e) (none_asked (wants_token q r) s c.args.self.now sound)),
       gone,
       refl,
+      omega arith,
     )
 
 -- the question failed
-pub returns-in_err-_came-in-Ok-NeedsMore-clause-gives : goal.returns-in_err-_came-in-Ok-NeedsMore-clause-gives
-returns-in_err-_came-in-Ok-NeedsMore-clause-gives g c =
-    let i = c.blocks-2.invariant in
-    let f : InputFault = c.in_err-_came-in-Ok-NeedsMore.field-0.0 in
-    let stops : NextGives c.args.delims.now.quotes.now c.args.delims.now.comments.now (g.R.ByteSource.script c.args.reader.now) (g.R.ByteSource.script c.more.new.reader) c.args.self.now c.more.new.self (Err f) =
-    token_stops c.args.delims.now.quotes.now c.args.delims.now.comments.now (g.R.ByteSource.script c.args.reader.now) (g.R.ByteSource.script c.blocks-2.reader)
-    c.args.self.now c.blocks-2.self i.0.0 c.in-Ok-NeedsMore.field-0 i.0.1 i.1 c.in-Ok-NeedsMore.ensures.value (g.R.ByteSource.script c.more.new.reader) c.more.new.self f c.in-Ok-NeedsMore.field-0-is c.in_err-_came-in-Ok-NeedsMore.ensures.gives in
+pub returns-in_err-_came-in-Ok-NeedsMore-2-clause-gives : goal.returns-in_err-_came-in-Ok-NeedsMore-2-clause-gives
+returns-in_err-_came-in-Ok-NeedsMore-2-clause-gives g c =
+    let q = c.args.delims.now.quotes.now in
+    let r = c.args.delims.now.comments.now in
+    let s = g.R.ByteSource.script c.args.reader.now in
+    let a = g.R.ByteSource.script c.looks.reader in
+    let h : Held = c.looks.self in
+    let i = c.looks.invariant in
+    let look : c.in-Ok-NeedsMore.field-0 ≡ scan q r (h.pending).may_follow (text_of h.pending) =
+    token_seen q r c.self-in-looks.inside h c.in-Ok.others c.in-Ok.text.now c.in-Ok-NeedsMore.field-0 c.self-in-looks.view_is c.in-Ok.ensures.begins c.in-Ok.ensures.all
+    (c.first_token-look.ensures.value ∙ sym c.in-Ok-NeedsMore.ensures.value) (λ o e. absurd cc) in
+    let new : Held = c.more.new.self in
+    let b = g.R.ByteSource.script c.more.new.reader in
+    let f : InputFault = c.in_err-_came-in-Ok-NeedsMore-2.field-0.0 in
+    let stops : NextGives q r s b c.args.self.now new (Err f) =
+    token_stops q r s a c.args.self.now h i.0.0 c.in-Ok-NeedsMore.field-0 i.0.1 i.1 look b new f c.in-Ok-NeedsMore.field-0-is c.in_err-_came-in-Ok-NeedsMore-2.ensures.gives in
     let same : Err f ≡ c.from_residual.result = search rules in
-    subst (NextGives c.args.delims.now.quotes.now c.args.delims.now.comments.now (g.R.ByteSource.script c.args.reader.now) (g.R.ByteSource.script c.more.new.reader) c.args.self.now c.more.new.self) same stops
+    subst (NextGives q r s b c.args.self.now new) same stops
+
+pub returns-in-Ok-Broken-clause-gives : goal.returns-in-Ok-Broken-clause-gives
+returns-in-Ok-Broken-clause-gives g c =
+    let q = c.args.delims.now.quotes.now in
+    let r = c.args.delims.now.comments.now in
+    let s = g.R.ByteSource.script c.args.reader.now in
+    let a = g.R.ByteSource.script c.looks.reader in
+    let h : Held = c.looks.self in
+    let i = c.looks.invariant in
+    let look : c.in-Ok-Broken.field-0 ≡ scan q r (h.pending).may_follow (text_of h.pending) =
+    token_seen q r c.self-in-looks.inside h c.in-Ok.others c.in-Ok.text.now c.in-Ok-Broken.field-0 c.self-in-looks.view_is c.in-Ok.ensures.begins c.in-Ok.ensures.all
+    (c.first_token-look.ensures.value ∙ sym c.in-Ok-Broken.ensures.value) (λ o e. absurd cc) in
+    let gives = token_broken q r s a c.args.self.now h i.0.0 c.in-Ok-Broken.field-0 i.0.1 i.1 look c.end_inside.new.self c.in-Ok-Broken.what c.in-Ok-Broken.field-0-is c.end_inside.ensures.nothing in
+    subst (λ (f : InputFault). NextGives q r s a c.args.self.now c.end_inside.new.self (Err f)) (sym c.end_inside.ensures.fault) gives
+
+pub looks-smaller-then-others : goal.looks-smaller-then-others
+looks-smaller-then-others g c =
+    let h : Held = c.looks.self in
+    let within : length c.in-Ok.text.now ≤ length (text_of h.pending) = front_within c.self-in-looks.inside h c.in-Ok.text.now c.self-in-looks.view_is c.in-Ok.ensures.begins in
+    let more : c.looks.looked < length c.in-Ok.text.now = c.in-Ok.ensures.longer c.if-others.true in
+    omega (arith, within, more)
+
+pub more-requires-clause-open : goal.more-requires-clause-open
+more-requires-clause-open g c =
+    let q = c.args.delims.now.quotes.now in
+    let r = c.args.delims.now.comments.now in
+    let s = g.R.ByteSource.script c.args.reader.now in
+    let a = g.R.ByteSource.script c.looks.reader in
+    let h : Held = c.looks.self in
+    let i = c.looks.invariant in
+    let look : c.in-Ok-NeedsMore.field-0 ≡ scan q r (h.pending).may_follow (text_of h.pending) =
+    token_seen q r c.self-in-looks.inside h c.in-Ok.others c.in-Ok.text.now c.in-Ok-NeedsMore.field-0 c.self-in-looks.view_is c.in-Ok.ensures.begins c.in-Ok.ensures.all
+    (c.first_token-look.ensures.value ∙ sym c.in-Ok-NeedsMore.ensures.value) (λ o e. absurd cc) in
+    token_open q r s a c.args.self.now h i.0.0 c.in-Ok-NeedsMore.field-0 i.0.1 i.1 look c.in-Ok-NeedsMore.field-0-is
+
+pub looks-preserved-then-others : goal.looks-preserved-then-others
+looks-preserved-then-others g c =
+    let i = c.looks.invariant in
+    let h : Held = c.looks.self in
+    (i.0, i.1, i.2, front_within c.self-in-looks.inside h c.in-Ok.text.now c.self-in-looks.view_is c.in-Ok.ensures.begins)

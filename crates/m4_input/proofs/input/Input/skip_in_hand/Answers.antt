@@ -8,4 +8,4 @@ returns-in-Some c =
 
 pub fronts-preserved : goal.fronts-preserved
 fronts-preserved c =
-    left_more c.args.self.now c.fronts.self c.consume-in-None.new.self c.front-more.result.0.now c.fronts.invariant (search rules) c.in-None.ensures.value c.consume-in-None.ensures
+    left_more c.args.self.now c.fronts.self c.consume-in-fronts.new.self c.front-more.result.0.now c.fronts.invariant (search rules) c.in_default.ensures.value c.consume-in-fronts.ensures

@@ -1,15 +1,34 @@
--- The marks agree with the definition at each of the 256 bytes, by computing.
-use Rattle.std.proofs.Common.{◌≡◌, ℕ, ◌+◌, ◌-◌, ◌%◌, ◌^◌, Bool, true, not, cond, eqb, leb, List, [], ◌∷◌, map, length}
-use Rattle.std.proofs.Common.{replicate, refl, ap, ap₂, ◌∙◌, arith, w8, Fits}
+-- Marks: a bit for each of sixteen bytes, as a definition says of it. The definition of a name is compared at each of the
+-- 256 bytes, by computing.
+use Rattle.std.proofs.Common.{◌≡◌, ℕ, zero, suc, ◌+◌, ◌-◌, ◌%◌, ◌^◌, Bool, true, false, ◌||◌, not, cond, eqb, leb, List, [], ◌∷◌, map, length}
+use Rattle.std.proofs.Common.{replicate, take, refl, ap, ap₂, ◌∙◌, arith, w8, Fits}
 use Rattle.std.specs.Bool.{beq}
+use Rattle.std.proofs.Math.ListN.{get_or}
 use Rattle.std.proofs.lemmas.Simd.{zip2_splat, zip2_splat_left, map-map, mask_l-mod}
 use Rattle.std.proofs.lemmas.List.{length-map}
 use Rattle.std.specs.Simd.Lanes.{zip2, mask_l, top}
-use lib.Lanes.{Each1}
+use Rattle.memchr.specs.Find.{is_byte2}
 use lib.Bits.{bit_or, bit_and}
 use Rattle.m4_input.specs.Ascii.{is_name_byte}
 use Rattle.m4_input.proofs.ByteTables.{all_below, at_each, same}
-use Rattle.m4_input.proofs.lanes.other_marks.Goals as goal
+
+abbrev hit : ℕ → ℕ → ℕ
+hit a b = cond (eqb a b) 255 0
+
+top_of : (v w : Bool) → top 7 (bit_or (cond v 255 0) (cond w 255 0)) ≡ (v || w)
+top_of true true = refl
+top_of true false = refl
+top_of false true = refl
+top_of false false = refl
+
+hits : (a b : ℕ) (v : List ℕ) → map (top 7) (zip2 bit_or (map (λ x. hit x a) v) (map (λ x. hit x b) v)) ≡ map (is_byte2 a b) v
+hits a b [] = refl
+hits a b (x ∷ v) = ap₂ (λ t r. t ∷ r) (top_of (eqb x a) (eqb x b)) (hits a b v)
+
+pub either_marks : (a b : ℕ) (v : List ℕ) → length v ≡ 16 → mask_l (map (top 7) (zip2 bit_or (zip2 hit v (replicate 16 a)) (zip2 hit v (replicate 16 b)))) % 2 ^ 64 ≡ mask_l (map (is_byte2 a b) v)
+either_marks a b v long =
+    ap (λ l. mask_l (map (top 7) l) % 2 ^ 64) (ap₂ (zip2 bit_or) (zip2_splat hit v 16 a long) (zip2_splat hit v 16 b long))
+    ∙ ap (λ l. mask_l l % 2 ^ 64) (hits a b v) ∙ mask_l-mod (map (is_byte2 a b) v) 64 (omega (arith, length-map v (is_byte2 a b), long))
 
 abbrev minus : ℕ → ℕ → ℕ
 minus a b = (a + (256 - b)) % 256
@@ -56,15 +75,15 @@ lanes v long =
 abbrev agrees : ℕ → Bool
 agrees x = beq (top 7 (lane x)) (not (is_name_byte x))
 
-each : (v : List ℕ) → Each1 (Fits w8) v → all_below agrees 256 ≡ true → map (top 7) (map lane v) ≡ map (λ (x : ℕ). not (is_name_byte x)) v
-each [] fits all = refl
-each (x ∷ v) fits all = ap₂ (λ t r. t ∷ r) (same _ _ (at_each agrees 256 all x fits.0.fits)) (each v fits.1 all)
+each : (n : ℕ) (x : List ℕ) → ((i : ℕ) → Fits w8 (get_or x i 0)) → all_below agrees 256 ≡ true → map (top 7) (map lane (take n x)) ≡ map (λ (b : ℕ). not (is_name_byte b)) (take n x)
+each zero x fits all = refl
+each (suc n) [] fits all = refl
+each (suc n) (b ∷ x) fits all = ap₂ (λ t r. t ∷ r) (same _ _ (at_each agrees 256 all b ((fits 0).fits))) (each n x (λ i. fits (suc i)) all)
 
-pub returns : goal.returns
+pub other_marks : (x : List ℕ) → length (take 16 x) ≡ 16 → ((i : ℕ) → Fits w8 (get_or x i 0)) → mask_l (map (top 7) (zip2 bit_and (zip2 bit_and (zip2 at_most (replicate 16 26) (zip2 minus (zip2 bit_or (take 16 x) (replicate 16 32)) (replicate 16 97))) (zip2 at_most (replicate 16 10) (zip2 minus (take 16 x) (replicate 16 48)))) (zip2 differ (take 16 x) (replicate 16 95)))) % 2 ^ 64 ≡ mask_l (map (λ (b : ℕ). not (is_name_byte b)) (take 16 x))
 unfolding all_below
-returns c =
-    let v = c.args.lanes in
-    let long = c.fits-lanes.0 in
+other_marks x long fits =
+    let v : List ℕ = take 16 x in
     ap (λ l. mask_l (map (top 7) l) % 2 ^ 64) (lanes v long)
-    ∙ ap (λ l. mask_l l % 2 ^ 64) (each v c.fits-lanes.1 refl)
-    ∙ mask_l-mod (map (λ (x : ℕ). not (is_name_byte x)) v) 64 (omega (arith, length-map v (λ (x : ℕ). not (is_name_byte x)), long))
+    ∙ ap (λ l. mask_l l % 2 ^ 64) (each 16 x fits refl)
+    ∙ mask_l-mod (map (λ (b : ℕ). not (is_name_byte b)) v) 64 (omega (arith, length-map v (λ (b : ℕ). not (is_name_byte b)), long))

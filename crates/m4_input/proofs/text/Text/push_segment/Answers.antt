@@ -1,15 +1,16 @@
 use Rattle.std.proofs.Common.{◌≡◌, ◌+◌, ◌++◌, ◌∷◌, [], List, ℕ, length, ap, ◌∙◌, sym, arith, append_assoc}
+use Rattle.std.proofs.lemmas.Grind.{common_steps}
 use Rattle.m4_input.specs.Text.{HeldText, joined, with_text}
-use Rattle.m4_input.proofs.Joins.{joined_push, joined_length}
-use Rattle.m4_input.proofs.text.Text.push_above.Goals as goal
+use Rattle.m4_input.proofs.Joins.{joined_push, joined_length, some_bytes}
+use Rattle.m4_input.proofs.text.Text.push_segment.Goals as goal
 
-pub invariant_of-self : goal.invariant_of-self
-invariant_of-self c =
+pub invariant_of-self-in-Ok : goal.invariant_of-self-in-Ok
+invariant_of-self-in-Ok c =
     let below : List (List ℕ) = c.self.inside.below.items in
     let top : List ℕ = c.self.inside.top in
     let items : c.push.new.self.items ≡ below ++ top ∷ [] = c.in-Ok.ensures.items ∙ ap (λ (x : List ℕ). below ++ x ∷ []) c.replace-top.ensures.value in
     let long : length (joined c.push.new.self.items) ≡ length top + length (joined below) = ap (λ (x : List (List ℕ)). length (joined x)) items ∙ joined_length below top in
-    ((omega (arith, long, c.len.ensures.len, c.self.invariant), omega (arith, c.if-held-gt-MOST_BELOW.false)), λ h. absurd (c.requires (sym c.replace-top.ensures.after ∙ h)))
+    ((omega (arith, long, c.len.ensures.len, c.self.invariant), omega (arith, c.if-held-gt-LONGEST.false)), λ h. absurd (some_bytes c.args.segment (grind (arith, common_steps)) (sym c.replace-top.ensures.after ∙ h)))
 
 pub returns-in-Ok-clause-ok : goal.returns-in-Ok-clause-ok
 returns-in-Ok-clause-ok c =
