@@ -3,10 +3,10 @@
 
 ghost use Rattle.std.specs.Prelude.{◌≡◌, ◌<◌, ◌≤◌, true, None, Ok, length, take, OnOk, OnErr};
 ghost use Rattle.m4_state.specs.Device.{with_bytes};
-ghost use Rattle.m4_input.specs.Input.{IsLasting, failures_after};
+ghost use Rattle.m4_input.specs.Input.{failures_after};
 ghost use Rattle.m4_engine.specs.Engine.{IsReady, after_flush};
 ghost use Rattle.m4_engine.specs.Writers.{both, FailsBy, FailsOnce};
-ghost use Rattle.m4_engine.specs.Continued.{HandGives, OrderBy, IsFlushed, cause_of, fault_cause};
+ghost use Rattle.m4_engine.specs.Continued.{HandGives, OrderBy, IsFlushed, cause_of};
 ghost use Rattle.m4_engine.specs.ReadsOn.{ReadsOn};
 ghost use Rattle.m4_engine.specs.Expands.{Expands, ReadsBy, StepBreaksBy, FlushesPrefix, IsInOrder, IsIdle};
 ghost use Rattle.m4_engine.specs.Expands.{at_rest};
@@ -30,18 +30,6 @@ pub enum Wanted {
     Token,
     /// The rest of a line that is discarded.
     Line,
-}
-
-/// Returns the cause that ends an expansion whose next block is missing.
-fn cause_of_fault(fault: InputFault) -> Cause
-    requires { IsLasting fault }
-    ensures { result ≡ fault_cause fault }
-{
-    match fault {
-        InputFault::Read => Cause::Read,
-        InputFault::OutOfMemory => Cause::OutOfMemory,
-        InputFault::EndInString { .. } | InputFault::EndInComment { .. } => unreachable!(),
-    }
 }
 
 impl Machine {
@@ -188,7 +176,12 @@ impl Machine {
                 Err(cause) => return cause,
             };
             if let Err(fault) = self.read_on(wanted, input, reader) {
-                return cause_of_fault(fault);
+                return match fault {
+                    InputFault::Read => Cause::Read,
+                    InputFault::OutOfMemory => Cause::OutOfMemory,
+                    InputFault::EndInString { .. } | InputFault::EndInComment { .. } =>
+                        unreachable!(),
+                };
             }
         }
     }

@@ -1,6 +1,9 @@
-use Rattle.std.proofs.Common.{refl, ◌∙◌}
+use Rattle.std.proofs.Common.{◌≡◌, rules, refl, sym, ap, ◌∙◌}
 use Rattle.m4_engine.proofs.Blockwise.{takes_nothing, needs_so, blocks_came, stopped_so, fault_counted_so, lasting_so}
 use Rattle.m4_engine.proofs.Blockwise.{none_failed, came_counted, ends_so, told_so, told_at_fault}
+use Rattle.m4_input.specs.Input.{IsLasting}
+use Rattle.m4_engine.specs.Continued.{fault_cause}
+use Rattle.m4_engine.proofs.machine.Machine.expand.Goals.{in-Read, in-OutOfMemory}
 use Rattle.m4_engine.proofs.machine.Machine.expand.Goals as goal
 
 pub blocks-2-init : goal.blocks-2-init
@@ -30,21 +33,27 @@ blocks-2-preserved g c =
       reported = c.in-Ok.ensures.counted.1 ∙ c.blocks-2.invariant.reported;
     }
 
-pub cause_of_fault-requires : goal.cause_of_fault-requires
-cause_of_fault-requires g c = lasting_so c.in-Ok.more c.expand_in_hand.new.self _ _ c.expand_in_hand.new.input c.read_on.new.input c.in-Err-read_on.fault c.in-Err-read_on.ensures.gives
+pub unreachable-requires : goal.unreachable-requires
+unreachable-requires g c =
+    let lasting : IsLasting c.in-Err-read_on.fault = lasting_so c.in-Ok.more c.expand_in_hand.new.self _ _ c.expand_in_hand.new.input c.read_on.new.input c.in-Err-read_on.fault c.in-Err-read_on.ensures.gives in
+    search rules
 
 pub returns-in-Err-read_on : goal.returns-in-Err-read_on
 returns-in-Err-read_on g c =
     let h = needs_so c.blocks-2.wanted c.in-Ok.more c.blocks-2.self c.expand_in_hand.new.self c.blocks-2.input c.expand_in_hand.new.input _ c.expand_in_hand.result c.in-Ok.is c.expand_in_hand.ensures.gives in
+    let cause : c.match-fault.result ≡ fault_cause c.in-Err-read_on.fault = elim c.match-fault.branch [
+      | in-Read w ↦ w.result-is ∙ sym (ap fault_cause w.in-Read.is)
+      | in-OutOfMemory w ↦ w.result-is ∙ sym (ap fault_cause w.in-OutOfMemory.is)
+    ] in
     record {
       expands = stopped_so c.args.self.now c.blocks-2.self c.expand_in_hand.new.self c.args.input.now.pending
           c.blocks-2.input c.expand_in_hand.new.input c.read_on.new.input _ _ _ _ _ _ _ _ _ c.blocks-2.wanted
-          c.in-Ok.more c.in-Err-read_on.fault c.cause_of_fault.result c.cause_of_fault.ensures c.requires.idle
+          c.in-Ok.more c.in-Err-read_on.fault c.match-fault.result cause c.requires.idle
           c.blocks-2.invariant.takes h c.in-Err-read_on.ensures.gives;
       order = told_at_fault c.args.self.now c.blocks-2.self c.expand_in_hand.new.self c.args.input.now.pending
           c.blocks-2.input c.expand_in_hand.new.input c.read_on.new.input _ _ _ _ _ _ _ _ _ c.blocks-2.wanted
-          c.in-Ok.more c.in-Err-read_on.fault c.cause_of_fault.result c.cause_of_fault.ensures c.requires.idle
+          c.in-Ok.more c.in-Err-read_on.fault c.match-fault.result cause c.requires.idle
           c.blocks-2.invariant.takes h c.in-Err-read_on.ensures.gives;
-      read = fault_counted_so c.in-Ok.more c.expand_in_hand.new.self _ _ c.expand_in_hand.new.input c.read_on.new.input c.in-Err-read_on.fault c.cause_of_fault.result _ _ _ c.cause_of_fault.ensures h.ready.sound c.in-Err-read_on.ensures.gives c.blocks-2.invariant.read c.in-Err-read_on.ensures.counted;
-      counted = none_failed c.cause_of_fault.result c.in-Err-read_on.fault _ c.cause_of_fault.ensures (c.in-Ok.ensures.counted.0 ∙ c.blocks-2.invariant.out, c.in-Ok.ensures.counted.1 ∙ c.blocks-2.invariant.reported);
+      read = fault_counted_so c.in-Ok.more c.expand_in_hand.new.self _ _ c.expand_in_hand.new.input c.read_on.new.input c.in-Err-read_on.fault c.match-fault.result _ _ _ cause h.ready.sound c.in-Err-read_on.ensures.gives c.blocks-2.invariant.read c.in-Err-read_on.ensures.counted;
+      counted = none_failed c.match-fault.result c.in-Err-read_on.fault _ cause (c.in-Ok.ensures.counted.0 ∙ c.blocks-2.invariant.out, c.in-Ok.ensures.counted.1 ∙ c.blocks-2.invariant.reported);
     }
