@@ -526,6 +526,70 @@ fresh_begins tells frozen o file out st i t f e =
     let k : file ≡ None = subst (λ (y : Option _). DescribesFrozen tells y file) i t in
     subst (λ (y : Option Script). BeginGives (start_of o.prefix y) o out out st) (sym k) (fresh_by o out st f e)
 
+-- how a run begins, from its frozen file or from the fresh state: what it wrote, and what it read of the file
+pub record Began {R : Type 0} (tells : R → Option Script) (failures : R → ℕ) (o : Options) (xs ys : Option R)
+    (out out' : Option (List ℕ)) (old new : ℕ) (st : Result SessionState Stop) : Type 0 where
+  pub gives : (file : Option Script) → DescribesFrozen tells xs file → BeginGives (start_of o.prefix file) o out out' st
+  pub begun : IsBegun o st
+  pub refused : (fault : FrozenFault) → st ≡ Err (stops.Ended (causes.Frozen fault)) → out' ≡ out
+  pub read : BeginFails failures st xs ys
+  pub write : MessageWriteFails st old new
+
+reload_is_begun : (o : Options) (file : Option Script) (out out' : Option (List ℕ)) (st : Result SessionState Stop) → ReloadGives o file out out' st → IsBegun o st
+reload_is_begun o file out out' (Ok new) h = (h.0, h.3)
+reload_is_begun o file out out' (Err stops.Finished) h = absurd h
+reload_is_begun o file out out' (Err (stops.Ended causes.Done)) h = absurd h
+reload_is_begun o file out out' (Err (stops.Ended (causes.Exited n))) h = absurd h
+reload_is_begun o file out out' (Err (stops.Ended causes.EndInString)) h = absurd h
+reload_is_begun o file out out' (Err (stops.Ended causes.EndInComment)) h = absurd h
+reload_is_begun o file out out' (Err (stops.Ended causes.EndInArguments)) h = absurd h
+reload_is_begun o file out out' (Err (stops.Ended causes.ExpansionLimit)) h = absurd h
+reload_is_begun o file out out' (Err (stops.Ended causes.NestingLimit)) h = absurd h
+reload_is_begun o file out out' (Err (stops.Ended causes.Read)) h = absurd h
+reload_is_begun o file out out' (Err (stops.Ended (causes.Frozen fault))) h = tt
+reload_is_begun o file out out' (Err (stops.Ended causes.Write)) h = tt
+reload_is_begun o file out out' (Err (stops.Ended causes.OutOfMemory)) h = tt
+
+pub reload_began : {R : Type 0} (tells : R → Option Script) (failures : R → ℕ) (o : Options) (xs ys : Option R) (x y : R)
+    (out out' : Option (List ℕ)) (old new : ℕ) (st : Result SessionState Stop) → xs ≡ Some x → ys ≡ Some y
+    → ReloadGives o (tells x) out out' st → ReloadFails st (failures x) (failures y) → MessageWriteFails st old new
+    → Began tells failures o xs ys out out' old new st
+reload_began tells failures o xs ys x y out out' old new st i j h r w = record {
+  gives = λ file t. reload_begins tells x xs o file out out' st i t h;
+  begun = reload_is_begun o (tells x) out out' st h;
+  refused = λ fault e. (subst (ReloadGives o (tells x) out out') e h).0;
+  read = subst (λ (v : Option _). BeginFails failures st v ys) (sym i) (subst (λ (v : Option _). BeginFails failures st (Some x) v) (sym j) r);
+  write = w;
+}
+
+-- an allocation failed, or nothing did
+fresh_is : (P : Result SessionState Stop → Type 0) (o : Options) (st : Result SessionState Stop) → IfOk st (λ s. s ≡ fresh_session o) → IfErr st (λ e. e ≡ stops.Ended causes.OutOfMemory) → P (Ok (fresh_session o)) → P (Err (stops.Ended causes.OutOfMemory)) → P st
+fresh_is P o (Ok s) f e p q = subst (λ (x : SessionState). P (Ok x)) (sym f) p
+fresh_is P o (Err x) f e p q = subst (λ (y : Stop). P (Err y)) (sym e) q
+
+pub fresh_began : {R : Type 0} (tells : R → Option Script) (failures : R → ℕ) (o : Options) (xs ys : Option R)
+    (out : Option (List ℕ)) (old : ℕ) (st : Result SessionState Stop) → xs ≡ None → ys ≡ None
+    → IfOk st (λ s. s ≡ fresh_session o) → IfErr st (λ e. e ≡ stops.Ended causes.OutOfMemory)
+    → Began tells failures o xs ys out out old old st
+fresh_began tells failures o xs ys out old st i j f e = record {
+  gives = λ file t. fresh_begins tells xs o file out st i t f e;
+  begun = fresh_is (IsBegun o) o st f e (fresh o.prefix, refl) tt;
+  refused = λ fault k. refl;
+  read = subst (λ (v : Option _). BeginFails failures st v ys) (sym i) (subst (λ (v : Option _). BeginFails failures st None v) (sym j) (fresh_is (λ r. BeginFails failures r None None) o st f e tt tt));
+  write = fresh_is (λ r. MessageWriteFails r old old) o st f e refl refl;
+}
+
+-- the same where the two ways join
+pub began_so : {R O : Type 0} (tells : R → Option Script) (failures : R → ℕ) (o : Options) (xs ys ys' : Option R)
+    (contents : O → Option (List ℕ)) (fails : O → ℕ) (w0 w w' : O) (st st' : Result SessionState Stop) → ys' ≡ ys
+    → w' ≡ w → st' ≡ st
+    → Began tells failures o xs ys (contents w0) (contents w) (fails w0) (fails w) st
+    → Began tells failures o xs ys' (contents w0) (contents w') (fails w0) (fails w') st'
+began_so tells failures o xs ys ys' contents fails w0 w w' st st' i j k h =
+    subst (λ v. Began tells failures o xs v (contents w0) (contents w') (fails w0) (fails w') st') (sym i)
+    (subst (λ v. Began tells failures o xs ys (contents w0) (contents v) (fails w0) (fails v) st') (sym j)
+    (subst (λ v. Began tells failures o xs ys (contents w0) (contents w) (fails w0) (fails w) v) (sym k) h))
+
 -- the end of a run leaves the session over, by the cause that is answered
 end_left : (freezes : Bool) (old new : SessionState) (w : Contents) (e : Stop) → IsOpen old → EndGives freezes old new w (Err e) → IsLeft {A = Bool} new (Err e)
 end_left freezes old new w stops.Finished l h = absurd (h.closed l)

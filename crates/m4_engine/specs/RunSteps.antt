@@ -1,12 +1,10 @@
 -- RunSteps: what the steps of a run write, and what they leave of its session and its writers.
 -- Not believed: it connects a session's calls with `RunPromises`.
--- Words: Begins, WritesInOrder, WritesEnd, WritesToEnd, state_at_end, FreezesState, UsesWriters, MarksUnopened,
+-- Words: WritesInOrder, WritesEnd, WritesToEnd, state_at_end, FreezesState, UsesWriters, MarksUnopened,
 -- MarksAnyUnopened.
 use Rattle.std.specs.Prelude.{◌≡◌, ℕ, Bool, true, false, List, Option, Result, Err, OnOk, ◌||◌}
 use Rattle.m4_state.specs.State.{State, IsSized}
-use Rattle.m4_frozen.specs.declared.fault.FrozenFault.{FrozenFault}
 use Rattle.m4_engine.specs.declared.ending.Cause.TheVariants as causes
-use Rattle.m4_engine.specs.declared.options.Options.{Options}
 use Rattle.m4_engine.specs.declared.stop.Stop.{Stop}
 use Rattle.m4_engine.specs.declared.stop.Stop.TheVariants as stops
 use Rattle.m4_engine.specs.declared.source.Source.{Source as RunSource}
@@ -15,15 +13,10 @@ use Rattle.m4_engine.specs.File.{Source, Progress, after_sources}
 use Rattle.m4_engine.specs.Wraps.{after_wraps}
 use Rattle.m4_engine.specs.Order.{InEnd, IsStepOfRun, Breaks, BreaksBy}
 use Rattle.m4_engine.specs.RunSources.{MissedBy, any_unopened, is_unopened}
-use Rattle.m4_engine.specs.Session.{SessionState, IsBegun, GoesTo, CloseGives, FreezeLeaves, progress_of, status_at}
+use Rattle.m4_engine.specs.Session.{SessionState, GoesTo, CloseGives, FreezeLeaves, progress_of, status_at}
 use Rattle.m4_engine.specs.SessionFailures.{ThreeFail, SparesBy}
 use Rattle.m4_engine.specs.WholeRun.{RunGives, result_after, ending_by}
 use Rattle.m4_engine.specs.Writers.{Contents, Three}
-
--- a run begins from some state, or ends; if its frozen file is refused, nothing was written
-pub record Begins (o : Options) (out_old out_new : Option (List ℕ)) (r : Result SessionState Stop) : Type 0 where
-  pub begun : IsBegun o r
-  pub refused : (fault : FrozenFault) → r ≡ Err (stops.Ended (causes.Frozen fault)) → out_new ≡ out_old
 
 -- a session goes to this progress and writes its output and messages; if it is broken off, one of these steps shows in
 -- which order

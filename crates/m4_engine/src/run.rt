@@ -8,9 +8,9 @@ ghost use Rattle.m4_engine.specs.Start.{start_of};
 ghost use Rattle.m4_engine.specs.Order.{IsStepOf, InSources};
 ghost use Rattle.m4_engine.specs.RunSources.{DescribeSources, DescribesSource, DescribesFrozen};
 ghost use Rattle.m4_engine.specs.RunPromises.{IsRun};
-ghost use Rattle.m4_engine.specs.RunSteps.{Begins, WritesInOrder, WritesEnd, WritesToEnd, state_at_end, FreezesState};
+ghost use Rattle.m4_engine.specs.RunSteps.{WritesInOrder, WritesEnd, WritesToEnd, state_at_end, FreezesState};
 ghost use Rattle.m4_engine.specs.RunSteps.{UsesWriters, MarksUnopened, MarksAnyUnopened};
-ghost use Rattle.m4_engine.specs.Session.{FreezeLeaves, IsOpen, IsLeft, BeginGives, last_state, progress_of};
+ghost use Rattle.m4_engine.specs.Session.{FreezeLeaves, IsOpen, IsLeft, last_state, progress_of};
 ghost use Rattle.m4_engine.specs.SessionFailures.{BeginFails, WriteFails, MessageWriteFails};
 ghost use Rattle.m4_engine.specs.SourcesRead.{ReadsSource, ReadsSources, ReadsToEnd};
 ghost use Rattle.m4_engine.specs.WholeRun.{ending_by};
@@ -95,7 +95,11 @@ pub fn run_keeping<R: ByteSource, O: ByteSink, M: ByteSink, Z: ByteSink>(
       freeze_new = freeze_to.new;
     }) result.ending }
 {
-    let mut session = match begin(alloc, options, frozen, out) {
+    let begun = match frozen {
+        Some(reader) => Session::reload(alloc, options, reader, out),
+        None => Session::fresh(alloc, options),
+    };
+    let mut session = match begun {
         Ok(session) => session,
         Err(stop) => {
             return Ran {
@@ -115,25 +119,6 @@ pub fn run_keeping<R: ByteSource, O: ByteSink, M: ByteSink, Z: ByteSink>(
     Ran {
         ending: ending(session.status(), answer),
         session: Some(session),
-    }
-}
-
-/// Begins a run: from the frozen file if there is one, otherwise from the fresh state.
-fn begin<R: ByteSource, O: ByteSink>(
-    alloc: Global,
-    options: Options,
-    frozen: &mut Option<R>,
-    out: &mut O,
-) -> Result<Session, Stop>
-    ensures gives { (file : Option Script) → DescribesFrozen R.script frozen.old file
-        → BeginGives (start_of options.prefix file) options (O.contents out.old) (O.contents out.new) result }
-    ensures begins { Begins options (O.contents out.old) (O.contents out.new) result }
-    ensures fails { BeginFails R.failures result frozen.old frozen.new
-        × MessageWriteFails result (O.failures out.old) (O.failures out.new) }
-{
-    match frozen {
-        Some(reader) => Session::reload(alloc, options, reader, out),
-        None => Session::fresh(alloc, options),
     }
 }
 
