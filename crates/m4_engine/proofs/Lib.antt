@@ -62,6 +62,7 @@ pub mod Reached
 pub mod Readers
 pub mod Whole
 pub mod Starts
+pub mod Closing
 pub mod Tears
 pub mod RunReached
 pub mod TwoRuns

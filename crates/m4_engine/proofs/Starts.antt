@@ -437,7 +437,7 @@ by_answer n (Ok wrapped) none one h = h
 by_answer n (Err stops.Finished) none one h = h
 by_answer n (Err (stops.Ended cause)) none one h = h
 
-spared_answer : (cause : Cause) (two two' : Contents) (frozen frozen' : Option (List ℕ)) → Spares cause (record { two = two; frozen_old = frozen; frozen_new = frozen' }) → Spares cause (record { two = two'; frozen_old = frozen; frozen_new = frozen' })
+pub spared_answer : (cause : Cause) (two two' : Contents) (frozen frozen' : Option (List ℕ)) → Spares cause (record { two = two; frozen_old = frozen; frozen_new = frozen' }) → Spares cause (record { two = two'; frozen_old = frozen; frozen_new = frozen' })
 spared_answer causes.Done two two' frozen frozen' h = tt
 spared_answer causes.Write two two' frozen frozen' h = tt
 spared_answer (causes.Exited n) two two' frozen frozen' h = h

@@ -1,6 +1,6 @@
 -- RunSteps: what the steps of a run write, and what they leave of its session and its writers.
 -- Not believed: it connects a session's calls with `RunPromises`.
--- Words: WritesInOrder, WritesEnd, WritesToEnd, state_at_end, FreezesState, UsesWriters, MarksUnopened,
+-- Words: WritesInOrder, WritesToEnd, state_at_end, FreezesState, UsesWriters, MarksUnopened,
 -- MarksAnyUnopened.
 use Rattle.std.specs.Prelude.{◌≡◌, ℕ, Bool, true, false, List, Option, Result, Err, OnOk, ◌||◌}
 use Rattle.m4_state.specs.State.{State, IsSized}
@@ -11,9 +11,9 @@ use Rattle.m4_engine.specs.declared.source.Source.{Source as RunSource}
 use Rattle.m4_engine.specs.Expansion.{RunSoFar}
 use Rattle.m4_engine.specs.File.{Source, Progress, after_sources}
 use Rattle.m4_engine.specs.Wraps.{after_wraps}
-use Rattle.m4_engine.specs.Order.{InEnd, IsStepOfRun, Breaks, BreaksBy}
+use Rattle.m4_engine.specs.Order.{IsStepOfRun, Breaks, BreaksBy}
 use Rattle.m4_engine.specs.RunSources.{MissedBy, any_unopened, is_unopened}
-use Rattle.m4_engine.specs.Session.{SessionState, GoesTo, CloseGives, FreezeLeaves, progress_of, status_at}
+use Rattle.m4_engine.specs.Session.{SessionState, GoesTo, FreezeLeaves, progress_of, status_at}
 use Rattle.m4_engine.specs.SessionFailures.{ThreeFail, SparesBy}
 use Rattle.m4_engine.specs.WholeRun.{RunGives, result_after, ending_by}
 use Rattle.m4_engine.specs.Writers.{Contents, Three}
@@ -25,13 +25,7 @@ pub record WritesInOrder (p : Progress) (IsStep : Progress → RunSoFar → RunS
   pub goes : GoesTo p old new w r
   pub order : BreaksBy r (Breaks IsStep (progress_of old) w)
 
--- the same of the end of a run
-pub record WritesEnd (freezes : Bool) (old new : SessionState) (w : Three (Option (List ℕ))) (r : Result Unit Stop)
-    : Type 0 where
-  pub gives : CloseGives freezes old new w r
-  pub order : BreaksBy r (Breaks (InEnd old.limits) (progress_of old) w.two)
-
--- the same of these sources and of the end after them
+-- the same of these sources and of the end of the run after them
 pub record WritesToEnd (freezes : Bool) (ss : List Source) (old new : SessionState) (w : Three (Option (List ℕ)))
     (r : Result Bool Stop) : Type 0 where
   pub gives : RunGives (result_after freezes old.limits ss (after_sources old.limits ss (progress_of old)))

@@ -1,17 +1,15 @@
 //! A complete run: its start, its sources in order, and its end.
 //! Manual: "Invoking m4", "Command line files", "Fast loading of frozen state".
 
-ghost use Rattle.std.specs.Prelude.{◌≡◌, true, List, [], Option, OnOk, Err};
-ghost use Rattle.m4_state.specs.Device.{Script};
+ghost use Rattle.std.specs.Prelude.{◌≡◌, List, [], OnOk};
 ghost use Rattle.m4_engine.specs.File.{Source as Said, after_source, after_sources};
-ghost use Rattle.m4_engine.specs.Start.{start_of};
 ghost use Rattle.m4_engine.specs.Order.{IsStepOf, InSources};
-ghost use Rattle.m4_engine.specs.RunSources.{DescribeSources, DescribesSource, DescribesFrozen};
+ghost use Rattle.m4_engine.specs.RunSources.{DescribeSources, DescribesSource};
 ghost use Rattle.m4_engine.specs.RunPromises.{IsRun};
-ghost use Rattle.m4_engine.specs.RunSteps.{WritesInOrder, WritesEnd, WritesToEnd, state_at_end, FreezesState};
+ghost use Rattle.m4_engine.specs.RunSteps.{WritesInOrder, WritesToEnd, state_at_end, FreezesState};
 ghost use Rattle.m4_engine.specs.RunSteps.{UsesWriters, MarksUnopened, MarksAnyUnopened};
-ghost use Rattle.m4_engine.specs.Session.{FreezeLeaves, IsOpen, IsLeft, last_state, progress_of};
-ghost use Rattle.m4_engine.specs.SessionFailures.{BeginFails, WriteFails, MessageWriteFails};
+ghost use Rattle.m4_engine.specs.Session.{IsOpen, IsLeft, progress_of};
+ghost use Rattle.m4_engine.specs.SessionFailures.{WriteFails};
 ghost use Rattle.m4_engine.specs.SourcesRead.{ReadsSource, ReadsSources, ReadsToEnd};
 ghost use Rattle.m4_engine.specs.WholeRun.{ending_by};
 ghost use Rattle.m4_engine.specs.Writers.{all_three, both};
@@ -169,35 +167,13 @@ fn read_to_end<R: ByteSource, O: ByteSink, M: ByteSink, Z: ByteSink>(
 {
     read_sources(session, sources, out, messages)?;
     let wrapped = session.wrapped();
-    close(session, freezes, out, messages, freeze_to)?;
-    Ok(wrapped)
-}
-
-/// Finishes the run: freezes its state, or undiverts all diversions.
-fn close<O: ByteSink, M: ByteSink, Z: ByteSink>(
-    session: &mut Session,
-    freezes: bool,
-    out: &mut O,
-    messages: &mut M,
-    freeze_to: &mut Z,
-) -> Result<(), Stop>
-    ensures writes { WritesEnd freezes session.old session.new
-        (all_three O.contents M.contents Z.contents
-        out.old out.new messages.old messages.new freeze_to.old freeze_to.new) result }
-    ensures torn { Z.takes_whole ≡ true → result ≡ Err (Stop.Ended Cause.Write)
-        → FreezeLeaves (last_state session.old) (Z.contents freeze_to.old) (Z.contents freeze_to.new) }
-    ensures any_missing { session.new.any_missing ≡ session.old.any_missing }
-    ensures writers { UsesWriters freezes freeze_to.old freeze_to.new
-        (all_three O.failures M.failures Z.failures
-        out.old out.new messages.old messages.new freeze_to.old freeze_to.new)
-        (all_three O.contents M.contents Z.contents
-        out.old out.new messages.old messages.new freeze_to.old freeze_to.new) result }
-{
-    if freezes {
+    let closed = if freezes {
         session.freeze(out, messages, freeze_to)
     } else {
         session.finish(out, messages)
-    }
+    };
+    closed?;
+    Ok(wrapped)
 }
 
 /// Reads a source, or reports it if it could not be opened.
