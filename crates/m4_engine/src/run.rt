@@ -53,18 +53,8 @@ pub fn run<R: ByteSource, O: ByteSink, M: ByteSink, Z: ByteSink>(
       freeze_new = freeze_to.new;
     }) result }
 {
-    let ran = run_keeping(alloc, options, frozen, sources, out, messages, freeze_to);
-    ran.ending
-}
-
-/// The ending of a run, and its session.
-#[doc(hidden)]
-#[derive(Drop)]
-pub struct Ran {
-    /// How the run ended.
-    pub ending: Ending,
-    /// The session, with the state and all its definitions; none if the run did not begin.
-    pub session: Option<Session>,
+    let (ending, _session) = run_keeping(alloc, options, frozen, sources, out, messages, freeze_to);
+    ending
 }
 
 /// Runs as [`run`] does, and returns the session with the ending: a program that ends now leaves it to the end of the
@@ -78,7 +68,7 @@ pub fn run_keeping<R: ByteSource, O: ByteSink, M: ByteSink, Z: ByteSink>(
     out: &mut O,
     messages: &mut M,
     freeze_to: &mut Z,
-) -> Ran
+) -> (Ending, Option<Session>)
     ensures { IsRun R.script R.failures Z.takes_whole (record {
       options = options;
       file_old = frozen.old;
@@ -91,7 +81,7 @@ pub fn run_keeping<R: ByteSource, O: ByteSink, M: ByteSink, Z: ByteSink>(
           out.old out.new messages.old messages.new freeze_to.old freeze_to.new;
       freeze_old = freeze_to.old;
       freeze_new = freeze_to.new;
-    }) result.ending }
+    }) result.0 }
 {
     let begun = match frozen {
         Some(reader) => Session::reload(alloc, options, reader, out),
@@ -99,12 +89,7 @@ pub fn run_keeping<R: ByteSource, O: ByteSink, M: ByteSink, Z: ByteSink>(
     };
     let mut session = match begun {
         Ok(session) => session,
-        Err(stop) => {
-            return Ran {
-                ending: ending(stop.status(), Err(stop)),
-                session: None,
-            };
-        }
+        Err(stop) => return (ending(stop.status(), Err(stop)), None),
     };
     let answer = read_to_end(
         &mut session,
@@ -114,10 +99,7 @@ pub fn run_keeping<R: ByteSource, O: ByteSink, M: ByteSink, Z: ByteSink>(
         messages,
         freeze_to,
     );
-    Ran {
-        ending: ending(session.status(), answer),
-        session: Some(session),
-    }
+    (ending(session.status(), answer), Some(session))
 }
 
 /// Returns the ending of a run, from its status and its last result.
