@@ -64,6 +64,7 @@ pub mod Whole
 pub mod Starts
 pub mod Closing
 pub mod Tears
+pub mod OneSource
 pub mod RunReached
 pub mod TwoRuns
 pub mod Chains

@@ -2,15 +2,15 @@
 //! Manual: "Invoking m4", "Command line files", "Fast loading of frozen state".
 
 ghost use Rattle.std.specs.Prelude.{◌≡◌, List, [], OnOk};
-ghost use Rattle.m4_engine.specs.File.{Source as Said, after_source, after_sources};
-ghost use Rattle.m4_engine.specs.Order.{IsStepOf, InSources};
-ghost use Rattle.m4_engine.specs.RunSources.{DescribeSources, DescribesSource};
+ghost use Rattle.m4_engine.specs.File.{Source as Said, after_sources};
+ghost use Rattle.m4_engine.specs.Order.{InSources};
+ghost use Rattle.m4_engine.specs.RunSources.{DescribeSources};
 ghost use Rattle.m4_engine.specs.RunPromises.{IsRun};
 ghost use Rattle.m4_engine.specs.RunSteps.{WritesInOrder, WritesToEnd, state_at_end, FreezesState};
-ghost use Rattle.m4_engine.specs.RunSteps.{UsesWriters, MarksUnopened, MarksAnyUnopened};
+ghost use Rattle.m4_engine.specs.RunSteps.{UsesWriters, MarksAnyUnopened};
 ghost use Rattle.m4_engine.specs.Session.{IsOpen, IsLeft, progress_of};
 ghost use Rattle.m4_engine.specs.SessionFailures.{WriteFails};
-ghost use Rattle.m4_engine.specs.SourcesRead.{ReadsSource, ReadsSources, ReadsToEnd};
+ghost use Rattle.m4_engine.specs.SourcesRead.{ReadsSources, ReadsToEnd};
 ghost use Rattle.m4_engine.specs.WholeRun.{ending_by};
 ghost use Rattle.m4_engine.specs.Writers.{all_three, both};
 
@@ -158,34 +158,6 @@ fn read_to_end<R: ByteSource, O: ByteSink, M: ByteSink, Z: ByteSink>(
     Ok(wrapped)
 }
 
-/// Reads a source, or reports it if it could not be opened.
-fn read<R: ByteSource, O: ByteSink, M: ByteSink>(
-    session: &mut Session,
-    source: &mut Source<R>,
-    out: &mut O,
-    messages: &mut M,
-) -> Result<(), Stop>
-    requires { IsOpen session.old }
-    ensures left { IsLeft session.new result × OnOk result (IsOpen session.new) }
-    ensures writes { (s : Said) → DescribesSource R.script source.old source.new s →
-        WritesInOrder (after_source session.old.limits s (progress_of session.old)) (IsStepOf session.old.limits s)
-        session.old session.new (both O.contents M.contents out.old out.new messages.old messages.new) result }
-    ensures reads { ReadsSource R.script R.failures source.old source.new session.old session.new
-        (both O.contents M.contents out.old out.new messages.old messages.new) result }
-    ensures marks { MarksUnopened source.old session.old.any_missing session.new.any_missing result }
-    ensures write { WriteFails result (both O.failures M.failures out.old out.new messages.old messages.new) }
-{
-    match source {
-        Source::Opened { name, reader } => {
-            let Ok(name) = name.share() else {
-                return session.settle(Cause::OutOfMemory);
-            };
-            session.file(name, reader, out, messages)
-        }
-        Source::Unopened { name } => session.missing(name.as_slice(), messages),
-    }
-}
-
 /// Reads the sources in order until the run ends. Their output and messages, taken together, are those of the
 /// definition of the sources. Returns `Ended` with the cause that ends the run; if a device or an allocation
 /// failed, prefixes of them were written.
@@ -206,7 +178,16 @@ fn read_sources<R: ByteSource, O: ByteSink, M: ByteSink>(
     ensures write { WriteFails result (both O.failures M.failures out.old out.new messages.old messages.new) }
 {
     'sources: for source in sources.iter_mut() {
-        read(session, source, out, messages)?;
+        let answer = match source {
+            Source::Opened { name, reader } => {
+                let Ok(name) = name.share() else {
+                    return session.settle(Cause::OutOfMemory);
+                };
+                session.file(name, reader, out, messages)
+            }
+            Source::Unopened { name } => session.missing(name.as_slice(), messages),
+        };
+        answer?;
     }
     Ok(())
 }
