@@ -26,7 +26,7 @@ use Rattle.m4_engine.specs.Wraps.{after_wraps}
 use Rattle.m4_engine.specs.Run.{RunResult, limits_of, result_by, result_of, saved_after, saved_unless_over, status_of}
 use Rattle.m4_engine.specs.Run.{run_from}
 use Rattle.m4_engine.specs.Session.{SessionState, progress_of, session_from, fresh_session, AreReloaded, ReloadGives}
-use Rattle.m4_engine.specs.Session.{BeginGives, IsBegun, IsOpen, IsLeft, EndGives, CloseGives, status_after}
+use Rattle.m4_engine.specs.Session.{BeginGives, IsBegun, IsOpen, IsLeft, EndGives, CloseGives}
 use Rattle.m4_engine.specs.SessionFailures.{ReloadFails, BeginFails, ByAnswer, MessageWriteFails, SparesBy}
 use Rattle.m4_engine.specs.RunSources.{AllPairs, is_sound, ReadersFailBy, DescribesFrozen, frozen_fails}
 use Rattle.m4_engine.specs.RunSources.{FrozenFailsBy, IsUnrefused}
@@ -191,6 +191,20 @@ begun_state P o start ss s st out0 out1 i b h =
     ∙ ap (after_wraps limits) (sources_after k.1 [] limits ss (progress_of (session_from o k.0)))
     ∙ wraps_after k.1 [] limits p in
     subst (λ (y : Progress). P (y.so_far).state) (sym e) g
+
+-- the status of a run that did not begin
+abbrev pub status_after : Stop → ℕ
+status_after stops.Finished = 0
+status_after (stops.Ended cause) = status_of (Ends cause) false
+
+pub never_ends : (e : Stop) (n : ℕ) (d : Ending) → d ≡ ending_by 0 (Err e) → n ≡ status_of (Ends d.cause) false → record d { status = n } ≡ ending_by (status_after e) (Err e)
+never_ends e n d i j =
+    ap (λ (k : ℕ). record d { status = k }) j
+    ∙ ap (λ (y : Ending). record y { status = status_of (Ends y.cause) false }) i ∙ same e
+  where
+    same : (e : Stop) → record (ending_by 0 (Err e)) { status = status_of (Ends (ending_by 0 (Err e)).cause) false } ≡ ending_by (status_after e) (Err e)
+    same stops.Finished = refl
+    same (stops.Ended cause) = refl
 
 -- a run whose frozen file was refused
 faulty_is : (o : Options) (fault : FrozenFault) (ss : List Source) → run_from o (Faulty fault) ss ≡ result_of o.freeze [] (begun (Faulty fault))

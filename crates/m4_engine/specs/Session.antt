@@ -312,11 +312,6 @@ IsBegun o (Err (stops.Ended causes.Write)) = Unit {0}
 IsBegun o (Err (stops.Ended causes.OutOfMemory)) = Unit {0}
 IsBegun o (Err stop) = ⊥
 
--- the status of a run that did not begin
-abbrev pub status_after : Stop → ℕ
-status_after stops.Finished = 0
-status_after (stops.Ended cause) = status_of (Ends cause) false
-
 -- whether a text is saved
 abbrev pub is_saved : List (List ℕ) → Bool
 is_saved [] = false

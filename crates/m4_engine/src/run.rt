@@ -89,7 +89,12 @@ pub fn run_keeping<R: ByteSource, O: ByteSink, M: ByteSink, Z: ByteSink>(
     };
     let mut session = match begun {
         Ok(session) => session,
-        Err(stop) => return (ending(stop.status(), Err(stop)), None),
+        // A run that did not begin has no session: its cause alone gives the status.
+        Err(stop) => {
+            let mut unbegun = ending(0, Err(stop));
+            unbegun.status = unbegun.cause.status(false);
+            return (unbegun, None);
+        }
     };
     let answer = read_to_end(
         &mut session,
