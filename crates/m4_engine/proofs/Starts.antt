@@ -26,8 +26,9 @@ use Rattle.m4_engine.specs.Wraps.{after_wraps}
 use Rattle.m4_engine.specs.Run.{RunResult, limits_of, result_by, result_of, saved_after, saved_unless_over, status_of}
 use Rattle.m4_engine.specs.Run.{run_from}
 use Rattle.m4_engine.specs.Session.{SessionState, progress_of, session_from, fresh_session, AreReloaded, ReloadGives}
-use Rattle.m4_engine.specs.Session.{BeginGives, IsBegun, IsOpen, IsLeft, EndGives, CloseGives}
-use Rattle.m4_engine.specs.SessionFailures.{ReloadFails, BeginFails, ByAnswer, MessageWriteFails, SparesBy}
+use Rattle.m4_engine.specs.Session.{IsOpen, IsLeft, EndGives, CloseGives}
+use Rattle.m4_engine.specs.RunSteps.{BeginGives, IsBegun, BeginFails}
+use Rattle.m4_engine.specs.SessionFailures.{ReloadFails, ByAnswer, MessageWriteFails, SparesBy}
 use Rattle.m4_engine.specs.RunSources.{AllPairs, is_sound, ReadersFailBy, DescribesFrozen, frozen_fails}
 use Rattle.m4_engine.specs.RunSources.{FrozenFailsBy, IsUnrefused}
 use Rattle.m4_engine.specs.WholeRun.{WroteAll, WrotePrefix, GivesBy, RefusedBy, HasFrozen, FrozenBegan, FrozenBy}
