@@ -8,12 +8,11 @@ ghost use Rattle.m4_engine.specs.Engine.{IsReady, after_flush};
 ghost use Rattle.m4_engine.specs.Writers.{both, FailsBy, FailsOnce};
 ghost use Rattle.m4_engine.specs.Continued.{HandGives, OrderBy, IsFlushed, cause_of};
 ghost use Rattle.m4_engine.specs.ReadsOn.{ReadsOn};
-ghost use Rattle.m4_engine.specs.Expands.{Expands, ReadsBy, StepBreaksBy, FlushesPrefix, IsInOrder, IsIdle};
-ghost use Rattle.m4_engine.specs.Expands.{at_rest};
+ghost use Rattle.m4_engine.specs.Expands.{Expands, ReadsBy, StepBreaksBy, FlushesPrefix, IsInOrder, IsIdle, at_rest};
 
 use crate::ending::Cause;
 use crate::machine::Machine;
-use crate::turned::{TurnFault, Turned};
+use crate::turned::Turned;
 use m4_input::delims::Delims;
 use m4_input::fault::InputFault;
 use m4_input::input::Input;
@@ -99,9 +98,8 @@ impl Machine {
                 return Err(Cause::OutOfMemory);
             };
             let earlier = self.output.len();
-            let turned = match self.turn(lookahead, input) {
-                Ok(turned) => turned,
-                Err(TurnFault::OutOfMemory) => return Err(Cause::OutOfMemory),
+            let Ok(turned) = self.turn(lookahead, input) else {
+                return Err(Cause::OutOfMemory);
             };
             // If the turn leaves no message and less than a block of output, nothing is flushed.
             if let Turned::GoesOn = turned

@@ -26,8 +26,8 @@ turn-requires g c = record {
 pub returns-in_default-clause-gives : goal.returns-in_default-clause-gives
 returns-in_default-clause-gives g c = breaks c.args.wanted c.args.self.now c.turns.self c.args.input.now.pending c.turns.input _ _ _ _ c.turns.invariant.runs
 
-pub returns-in-Err-OutOfMemory-clause-gives : goal.returns-in-Err-OutOfMemory-clause-gives
-returns-in-Err-OutOfMemory-clause-gives g c = breaks c.args.wanted c.args.self.now c.turns.self c.args.input.now.pending c.turns.input _ _ _ _ c.turns.invariant.runs
+pub returns-in_default-turn-clause-gives : goal.returns-in_default-turn-clause-gives
+returns-in_default-turn-clause-gives g c = breaks c.args.wanted c.args.self.now c.turns.self c.args.input.now.pending c.turns.input _ _ _ _ c.turns.invariant.runs
 
 pub returns-clause-gives : goal.returns-clause-gives
 returns-clause-gives g c = needs_line c.args.self.now c.args.input.now c.skip_in_hand.new.self c.args.wanted
@@ -172,5 +172,5 @@ returns-in-Ends-clause-order g c = rw c.cause.ensures (in_order_end c.args.wante
 pub returns-in_default-clause-order : goal.returns-in_default-clause-order
 returns-in_default-clause-order g c = lack_breaks_in_order c.args.wanted c.args.self.now c.turns.self c.args.input.now.pending c.turns.input _ _ _ _ c.turns.invariant.runs
 
-pub returns-in-Err-OutOfMemory-clause-order : goal.returns-in-Err-OutOfMemory-clause-order
-returns-in-Err-OutOfMemory-clause-order g c = lack_breaks_in_order c.args.wanted c.args.self.now c.turns.self c.args.input.now.pending c.turns.input _ _ _ _ c.turns.invariant.runs
+pub returns-in_default-turn-clause-order : goal.returns-in_default-turn-clause-order
+returns-in_default-turn-clause-order g c = lack_breaks_in_order c.args.wanted c.args.self.now c.turns.self c.args.input.now.pending c.turns.input _ _ _ _ c.turns.invariant.runs
