@@ -1,7 +1,7 @@
 -- Blockwise: an input that is expanded block by block is expanded as it is defined, whatever follows.
 use Rattle.std.proofs.Common.{◌≡◌, ◌⊎◌, inl, inr, ◌≤◌, ℕ, Bool, true, false, List, [], ◌++◌, length, Option, None}
 use Rattle.std.proofs.Common.{refl, sym, ap, ◌∙◌, subst, append-nil, append_assoc, arith}
-use Rattle.std.specs.Prelude.{Err}
+use Rattle.std.specs.Prelude.{Result, Ok, Err}
 use Rattle.m4_state.proofs.CallerLaws.{after_bytes-append, with_bytes-append, with_bytes-nil}
 use Rattle.m4_state.specs.Device.{Script, after_bytes, with_bytes, HasBegun, IsAtFault, one_more}
 use Rattle.m4_input.specs.declared.fault.InputFault.{InputFault}
@@ -11,10 +11,8 @@ use Rattle.m4_input.specs.Input.{Held, IsLasting, longer, Reads, block, failures
 use Rattle.m4_input.proofs.Calls.{reads_nothing}
 use Rattle.m4_engine.specs.declared.ending.Cause.{Cause}
 use Rattle.m4_engine.specs.declared.ending.Cause.TheVariants as causes
-use Rattle.m4_engine.specs.declared.in_hand.Wanted.{Wanted}
-use Rattle.m4_engine.specs.declared.in_hand.Wanted.TheVariants as wanted
-use Rattle.m4_engine.specs.declared.in_hand.InHand.{InHand}
-use Rattle.m4_engine.specs.declared.in_hand.InHand.TheVariants as hands
+use Rattle.m4_engine.specs.declared.machine.driver.Wanted.{Wanted}
+use Rattle.m4_engine.specs.declared.machine.driver.Wanted.TheVariants as wanted
 use Rattle.m4_engine.specs.Nesting.{Outcome, Halted, Closed}
 use Rattle.m4_engine.specs.OpenCalls.{Goes, resume}
 use Rattle.m4_engine.specs.Moments.{Moment, moved, made_by, Comes, first_moment}
@@ -471,7 +469,7 @@ module _ (e0 e e' : Engine) (p0 : Pending) (i j k : Held) (before a b : Option S
 pub ends_by_cause : (e0 e e' : Engine) (p0 : Pending) (i j : Held) (before after : Option Script)
     (out0 reported0 out reported out' reported' : Option (List ℕ)) (w : Wanted) (cause : Cause) → IsIdle e0
     → Taking e0 p0 before after out0 reported0 w e i out reported
-    → HandGives w e e' i j (writers out out' reported reported') (hands.Ends cause)
+    → HandGives w e e' i j (writers out out' reported reported') (Err cause)
     → Expands e0 e' p0 before after (writers out0 out' reported0 reported') cause
 ends_by_cause e0 e e' p0 i j before after out0 reported0 out reported out' reported' w causes.Done d t h = ended_all e0 e e' p0 i before after out0 reported0 out reported out' reported' w causes.Done d t h
 ends_by_cause e0 e e' p0 i j before after out0 reported0 out reported out' reported' w (causes.Exited n) d t h = ended_all e0 e e' p0 i before after out0 reported0 out reported out' reported' w (causes.Exited n) d t h
@@ -486,8 +484,8 @@ ends_by_cause e0 e e' p0 i j before after out0 reported0 out reported out' repor
 ends_by_cause e0 e e' p0 i j before after out0 reported0 out reported out' reported' w causes.OutOfMemory d t h = broke_all e0 e p0 i before after out0 reported0 out reported out' reported' w d t h
 
 pub ends_so : (e0 e e' : Engine) (p0 : Pending) (i j : Held) (before after : Option Script)
-    (out0 reported0 out reported out' reported' : Option (List ℕ)) (w : Wanted) (cause : Cause) (r : InHand)
-    → r ≡ hands.Ends cause → IsIdle e0 → Taking e0 p0 before after out0 reported0 w e i out reported
+    (out0 reported0 out reported out' reported' : Option (List ℕ)) (w : Wanted) (cause : Cause) (r : Result Wanted Cause)
+    → r ≡ Err cause → IsIdle e0 → Taking e0 p0 before after out0 reported0 w e i out reported
     → HandGives w e e' i j (writers out out' reported reported') r
     → Expands e0 e' p0 before after (writers out0 out' reported0 reported') cause
 ends_so e0 e e' p0 i j before after out0 reported0 out reported out' reported' w cause r f d t h =
@@ -496,21 +494,21 @@ ends_so e0 e e' p0 i j before after out0 reported0 out reported out' reported' w
 told_by_cause : (e0 e : Engine) (p0 : Pending) (i : Held) (before after : Option Script)
     (out0 reported0 out reported out' reported' : Option (List ℕ)) (w : Wanted) (cause : Cause) → IsIdle e0
     → Taking e0 p0 before after out0 reported0 w e i out reported
-    → OrderBy w e i.pending (writers out out' reported reported') (hands.Ends cause)
+    → OrderBy w e i.pending (writers out out' reported reported') (Err cause)
     → StepBreaksBy e0 p0 before after (writers out0 out' reported0 reported') cause
 told_by_cause e0 e p0 i before after out0 reported0 out reported out' reported' w causes.Write d t h = told_in_hand e0 e p0 i before after out0 reported0 out reported out' reported' w d t h
 told_by_cause e0 e p0 i before after out0 reported0 out reported out' reported' w causes.OutOfMemory d t h = told_in_hand e0 e p0 i before after out0 reported0 out reported out' reported' w d t h
 told_by_cause e0 e p0 i before after out0 reported0 out reported out' reported' w cause d t h = tt
 
 pub told_so : (e0 e : Engine) (p0 : Pending) (i : Held) (before after : Option Script)
-    (out0 reported0 out reported out' reported' : Option (List ℕ)) (w : Wanted) (cause : Cause) (r : InHand)
-    → r ≡ hands.Ends cause → IsIdle e0 → Taking e0 p0 before after out0 reported0 w e i out reported
+    (out0 reported0 out reported out' reported' : Option (List ℕ)) (w : Wanted) (cause : Cause) (r : Result Wanted Cause)
+    → r ≡ Err cause → IsIdle e0 → Taking e0 p0 before after out0 reported0 w e i out reported
     → OrderBy w e i.pending (writers out out' reported reported') r
     → StepBreaksBy e0 p0 before after (writers out0 out' reported0 reported') cause
 told_so e0 e p0 i before after out0 reported0 out reported out' reported' w cause r f d t h =
     told_by_cause e0 e p0 i before after out0 reported0 out reported out' reported' w cause d t (subst (OrderBy w e i.pending (writers out out' reported reported')) f h)
 
-pub needs_so : (w v : Wanted) (e e' : Engine) (i j : Held) (c : Contents) (r : InHand) → r ≡ hands.Needs v → HandGives w e e' i j c r → HandNeeds w e i v e' j c
+pub needs_so : (w v : Wanted) (e e' : Engine) (i j : Held) (c : Contents) (r : Result Wanted Cause) → r ≡ Ok v → HandGives w e e' i j c r → HandNeeds w e i v e' j c
 needs_so w v e e' i j c r f h = subst (HandGives w e e' i j c) f h
 
 -- the next block is missing

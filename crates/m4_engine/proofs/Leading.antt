@@ -4,8 +4,8 @@ use Rattle.std.proofs.Common.{ℕ, append_assoc}
 use Rattle.m4_input.specs.Pending.{Pending}
 use Rattle.m4_input.specs.Input.{Held, longer, all_read, after_line}
 use Rattle.m4_input.proofs.Decided.{no_newline}
-use Rattle.m4_engine.specs.declared.in_hand.Wanted.{Wanted}
-use Rattle.m4_engine.specs.declared.in_hand.Wanted.TheVariants as wanted
+use Rattle.m4_engine.specs.declared.machine.driver.Wanted.{Wanted}
+use Rattle.m4_engine.specs.declared.machine.driver.Wanted.TheVariants as wanted
 use Rattle.m4_engine.specs.declared.turned.Turned.TheVariants as turns
 use Rattle.m4_engine.specs.OpenCalls.{pop}
 use Rattle.m4_engine.specs.Expansion.{Expansion, Kept, Ended}

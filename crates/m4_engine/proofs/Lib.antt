@@ -62,7 +62,9 @@ pub mod Reached
 pub mod Readers
 pub mod Whole
 pub mod Starts
+pub mod Closing
 pub mod Tears
+pub mod OneSource
 pub mod RunReached
 pub mod TwoRuns
 pub mod Chains

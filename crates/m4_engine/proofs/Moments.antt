@@ -1,7 +1,7 @@
 -- Moments: turns one after another, and what an expansion comes to from each of its moments.
 use Rattle.std.proofs.Common.{◌≡◌, List, [], ◌∷◌, ◌++◌, refl, sym, ap, ◌∙◌, subst}
-use Rattle.m4_engine.specs.declared.in_hand.Wanted.{Wanted}
-use Rattle.m4_engine.specs.declared.in_hand.Wanted.TheVariants as wanted
+use Rattle.m4_engine.specs.declared.machine.driver.Wanted.{Wanted}
+use Rattle.m4_engine.specs.declared.machine.driver.Wanted.TheVariants as wanted
 use Rattle.m4_engine.specs.Nesting.{Outcome}
 use Rattle.m4_engine.specs.OpenCalls.{Goes, moved_meaning}
 use Rattle.m4_engine.specs.Expansion.{Expansion, Kept, Ended}

@@ -28,7 +28,8 @@ use Rattle.m4_engine.specs.Start.{Start, begun}
 use Rattle.m4_engine.specs.Run.{limits_of}
 use Rattle.m4_engine.specs.RunSources.{DescribesSource}
 use Rattle.m4_engine.specs.Session.{SessionState, progress_of, how_over, IsOpen}
-use Rattle.m4_engine.specs.Session.{answer_by, session_after_wraps, MissingGives, BeginGives, GoesTo, is_saved}
+use Rattle.m4_engine.specs.Session.{answer_by, session_after_wraps, MissingGives, GoesTo, is_saved}
+use Rattle.m4_engine.specs.RunSteps.{BeginGives}
 use Rattle.m4_engine.specs.WholeRun.{ending_by}
 use Rattle.m4_engine.specs.Writers.{Contents, writers}
 use Rattle.m4_engine.specs.Expands.{StepBreaks, StepBreaksBy, progress_before}

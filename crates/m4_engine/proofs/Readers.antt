@@ -21,7 +21,7 @@ use Rattle.m4_engine.proofs.Sessions.{close_ends}
 use Rattle.m4_engine.proofs.Sources.{same_taken}
 
 -- a source that no call was made on is sound
-sound_same : {R : Type 0} (failures : R → ℕ) (x : RunSource R) → is_sound failures x x
+pub sound_same : {R : Type 0} (failures : R → ℕ) (x : RunSource R) → is_sound failures x x
 sound_same failures (sources.Opened name r) = refl
 sound_same failures (sources.Unopened name) = tt
 

@@ -2,8 +2,8 @@
 use Rattle.std.proofs.Common.{◌≡◌, inl, inr, Bool, true, List, [], ◌++◌, ℕ, sym, ap, ◌∙◌}
 use Rattle.m4_input.specs.Pending.{Pending}
 use Rattle.m4_input.specs.Input.{Held, longer, wants_token}
-use Rattle.m4_engine.specs.declared.in_hand.Wanted.{Wanted}
-use Rattle.m4_engine.specs.declared.in_hand.Wanted.TheVariants as wanted
+use Rattle.m4_engine.specs.declared.machine.driver.Wanted.{Wanted}
+use Rattle.m4_engine.specs.declared.machine.driver.Wanted.TheVariants as wanted
 use Rattle.m4_engine.specs.Nesting.{Halted, after}
 use Rattle.m4_engine.specs.OpenCalls.{resume}
 use Rattle.m4_engine.specs.Expansion.{Expansion, Kept, Ended, NeedsInput}

@@ -24,7 +24,8 @@ use Rattle.m4_engine.specs.Run.{limits_of}
 use Rattle.m4_engine.specs.Settled.{SettledSoFar, settled_in}
 use Rattle.m4_engine.specs.Laws.{IsBeginning}
 use Rattle.m4_engine.specs.Session.{SessionState, progress_of, how_over, session_from, IsOpen, EndGives, CloseGives}
-use Rattle.m4_engine.specs.Session.{BeginGives, IsBegun, IsLeft}
+use Rattle.m4_engine.specs.RunSteps.{BeginGives, IsBegun}
+use Rattle.m4_engine.specs.Session.{IsLeft}
 use Rattle.m4_engine.specs.Writers.{Contents, Three, writers, HasWritten}
 use Rattle.m4_engine.specs.WholeRun.{ending_by}
 use Rattle.m4_engine.specs.OnePass.{IsRead, Reaches, AreRead, settled_after, ExactAtFault, Reached, OnePassBy, OnePass}

@@ -1,6 +1,7 @@
 -- Running: the state of the loop over the turns of the bytes in hand, and what its ends say.
 use Rattle.std.proofs.Common.{◌≡◌, ◌⊎◌, ◌<◌, ◌≤◌, ℕ, Bool, true, false, List, [], ◌∷◌, ◌++◌, Option, Some, None, refl}
 use Rattle.std.proofs.Common.{sym, ap, ◌∙◌, subst, append-nil, append_assoc, arith, length, take, inl, inr}
+use Rattle.std.specs.Prelude.{Err}
 use Rattle.std.proofs.lemmas.List.{take_at}
 use Rattle.m4_state.proofs.CallerLaws.{with_bytes-append, with_bytes-nil}
 use Rattle.m4_state.specs.Device.{with_bytes}
@@ -9,9 +10,8 @@ use Rattle.m4_input.specs.Input.{Held, longer, all_read, after_line}
 use Rattle.m4_input.specs.Blocks.{LineGives}
 use Rattle.m4_input.proofs.Decided.{line_open}
 use Rattle.m4_engine.specs.declared.ending.Cause.{Cause}
-use Rattle.m4_engine.specs.declared.in_hand.InHand.TheVariants as hands
-use Rattle.m4_engine.specs.declared.in_hand.Wanted.{Wanted}
-use Rattle.m4_engine.specs.declared.in_hand.Wanted.TheVariants as wanted
+use Rattle.m4_engine.specs.declared.machine.driver.Wanted.{Wanted}
+use Rattle.m4_engine.specs.declared.machine.driver.Wanted.TheVariants as wanted
 use Rattle.m4_engine.specs.declared.turned.Turned.{Turned}
 use Rattle.m4_engine.specs.declared.turned.Turned.TheVariants as turns
 use Rattle.m4_engine.specs.declared.turned.TurnEnd.{TurnEnd}
@@ -437,7 +437,7 @@ write_breaks_in_order w e0 e e' p0 i j t earlier out0 reported0 out reported out
 pub lack_breaks_in_order : (w : Wanted) (e0 e : Engine) (p0 : Pending) (i : Held) (out0 reported0 out reported : Option (List ℕ)) → Running w e0 p0 out0 reported0 e i out reported → BreaksInOrder w e0 p0 (writers out0 out reported0 reported)
 lack_breaks_in_order w e0 e p0 i out0 reported0 out reported r = record { o = r.o; m = r.m; written = r.written; marked = r.marked }
 
-pub in_order_end : (w : Wanted) (e : Engine) (p : Pending) (c : Contents) (end : TurnEnd) → OrderBy w e p c (hands.Ends (cause_of_end end))
+pub in_order_end : (w : Wanted) (e : Engine) (p : Pending) (c : Contents) (end : TurnEnd) → OrderBy w e p c (Err (cause_of_end end))
 in_order_end w e p c turn_ends.Done = tt
 in_order_end w e p c (turn_ends.Exited code) = tt
 in_order_end w e p c turn_ends.EndInString = tt
@@ -452,7 +452,7 @@ pub line_done_by : (i j : Held) (v w : Bool) → v ≡ w → LineGives i j v →
 line_done_by i j v w e h = subst (LineGives i j) e h
 
 -- a turn ends an expansion by no fault of a device or of an allocation
-hand_ends_so : (w : Wanted) (old new : Engine) (i j : Held) (c : Contents) (end : TurnEnd) → HandEnds w old i.pending (cause_of_end end) new c → HandGives w old new i j c (hands.Ends (cause_of_end end))
+hand_ends_so : (w : Wanted) (old new : Engine) (i j : Held) (c : Contents) (end : TurnEnd) → HandEnds w old i.pending (cause_of_end end) new c → HandGives w old new i j c (Err (cause_of_end end))
 hand_ends_so w old new i j c turn_ends.Done h = h
 hand_ends_so w old new i j c (turn_ends.Exited n) h = h
 hand_ends_so w old new i j c turn_ends.EndInString h = h
@@ -461,8 +461,8 @@ hand_ends_so w old new i j c turn_ends.EndInArguments h = h
 hand_ends_so w old new i j c turn_ends.ExpansionLimit h = h
 hand_ends_so w old new i j c turn_ends.NestingLimit h = h
 
-pub hand_ends : (w : Wanted) (old new : Engine) (i j : Held) (c : Contents) (end : TurnEnd) (cause : Cause) → cause ≡ cause_of_end end → HandEnds w old i.pending (cause_of_end end) new c → HandGives w old new i j c (hands.Ends cause)
-hand_ends w old new i j c end cause k h = subst (λ (x : Cause). HandGives w old new i j c (hands.Ends x)) (sym k) (hand_ends_so w old new i j c end h)
+pub hand_ends : (w : Wanted) (old new : Engine) (i j : Held) (c : Contents) (end : TurnEnd) (cause : Cause) → cause ≡ cause_of_end end → HandEnds w old i.pending (cause_of_end end) new c → HandGives w old new i j c (Err cause)
+hand_ends w old new i j c end cause k h = subst (λ (x : Cause). HandGives w old new i j c (Err x)) (sym k) (hand_ends_so w old new i j c end h)
 
 -- the loop begins, by what is wanted
 pub begins_so : (e : Engine) (i k : Held) (w : Wanted) (out reported : Option (List ℕ)) → w ≡ wanted.Token → k ≡ i → IsReady i → IsFlushed e → Running w e i.pending out reported e k out reported
@@ -474,13 +474,6 @@ pub begins_past : (e : Engine) (i j k : Held) (w : Wanted) (out reported : Optio
 begins_past e i j k w out reported h g r f d =
     subst (λ (x : Wanted). Running x e i.pending out reported e k out reported) (sym h)
     (subst (λ (x : Held). Running wanted.Line e i.pending out reported e x out reported) (sym g) (begins_after_line e i j out reported r f d))
-
-pub needs_line_so : (e : Engine) (i j k : Held) (w : Wanted) (out reported : Option (List ℕ)) → w ≡ wanted.Line → k ≡ j → IsReady i → IsFlushed e → LineGives i j false → HandNeeds w e i wanted.Line e k (writers out out reported reported)
-needs_line_so e i j k w out reported g h r f d = subst (λ (x : Held). HandNeeds w e i wanted.Line e x (writers out out reported reported)) (sym h) (needs_line e i j w out reported g r f d)
-
-pub not_both : (v : Bool) → v ≡ true → v ≡ false → ⊥
-not_both true e f = cc
-not_both false e f = cc
 
 -- what is made from a place on continues what was made before it
 pub comes_keeps : (w : Wanted) (o m : List ℕ) (e : Engine) (p : Pending) → Extends (so_far_of o m e) (so_far_in (comes_to w (configuration o m e p)))

@@ -26,8 +26,9 @@ use Rattle.m4_engine.specs.Wraps.{after_wraps}
 use Rattle.m4_engine.specs.Run.{RunResult, limits_of, result_by, result_of, saved_after, saved_unless_over, status_of}
 use Rattle.m4_engine.specs.Run.{run_from}
 use Rattle.m4_engine.specs.Session.{SessionState, progress_of, session_from, fresh_session, AreReloaded, ReloadGives}
-use Rattle.m4_engine.specs.Session.{BeginGives, IsBegun, IsOpen, IsLeft, EndGives, CloseGives, status_after}
-use Rattle.m4_engine.specs.SessionFailures.{ReloadFails, BeginFails, ByAnswer, MessageWriteFails, SparesBy}
+use Rattle.m4_engine.specs.Session.{IsOpen, IsLeft, EndGives, CloseGives}
+use Rattle.m4_engine.specs.RunSteps.{BeginGives, IsBegun, BeginFails}
+use Rattle.m4_engine.specs.SessionFailures.{ReloadFails, ByAnswer, MessageWriteFails, SparesBy}
 use Rattle.m4_engine.specs.RunSources.{AllPairs, is_sound, ReadersFailBy, DescribesFrozen, frozen_fails}
 use Rattle.m4_engine.specs.RunSources.{FrozenFailsBy, IsUnrefused}
 use Rattle.m4_engine.specs.WholeRun.{WroteAll, WrotePrefix, GivesBy, RefusedBy, HasFrozen, FrozenBegan, FrozenBy}
@@ -191,6 +192,20 @@ begun_state P o start ss s st out0 out1 i b h =
     ∙ ap (after_wraps limits) (sources_after k.1 [] limits ss (progress_of (session_from o k.0)))
     ∙ wraps_after k.1 [] limits p in
     subst (λ (y : Progress). P (y.so_far).state) (sym e) g
+
+-- the status of a run that did not begin
+abbrev pub status_after : Stop → ℕ
+status_after stops.Finished = 0
+status_after (stops.Ended cause) = status_of (Ends cause) false
+
+pub never_ends : (e : Stop) (n : ℕ) (d : Ending) → d ≡ ending_by 0 (Err e) → n ≡ status_of (Ends d.cause) false → record d { status = n } ≡ ending_by (status_after e) (Err e)
+never_ends e n d i j =
+    ap (λ (k : ℕ). record d { status = k }) j
+    ∙ ap (λ (y : Ending). record y { status = status_of (Ends y.cause) false }) i ∙ same e
+  where
+    same : (e : Stop) → record (ending_by 0 (Err e)) { status = status_of (Ends (ending_by 0 (Err e)).cause) false } ≡ ending_by (status_after e) (Err e)
+    same stops.Finished = refl
+    same (stops.Ended cause) = refl
 
 -- a run whose frozen file was refused
 faulty_is : (o : Options) (fault : FrozenFault) (ss : List Source) → run_from o (Faulty fault) ss ≡ result_of o.freeze [] (begun (Faulty fault))
@@ -437,7 +452,7 @@ by_answer n (Ok wrapped) none one h = h
 by_answer n (Err stops.Finished) none one h = h
 by_answer n (Err (stops.Ended cause)) none one h = h
 
-spared_answer : (cause : Cause) (two two' : Contents) (frozen frozen' : Option (List ℕ)) → Spares cause (record { two = two; frozen_old = frozen; frozen_new = frozen' }) → Spares cause (record { two = two'; frozen_old = frozen; frozen_new = frozen' })
+pub spared_answer : (cause : Cause) (two two' : Contents) (frozen frozen' : Option (List ℕ)) → Spares cause (record { two = two; frozen_old = frozen; frozen_new = frozen' }) → Spares cause (record { two = two'; frozen_old = frozen; frozen_new = frozen' })
 spared_answer causes.Done two two' frozen frozen' h = tt
 spared_answer causes.Write two two' frozen frozen' h = tt
 spared_answer (causes.Exited n) two two' frozen frozen' h = h
@@ -525,6 +540,70 @@ pub fresh_begins : {R : Type 0} (tells : R → Option Script) (frozen : Option R
 fresh_begins tells frozen o file out st i t f e =
     let k : file ≡ None = subst (λ (y : Option _). DescribesFrozen tells y file) i t in
     subst (λ (y : Option Script). BeginGives (start_of o.prefix y) o out out st) (sym k) (fresh_by o out st f e)
+
+-- how a run begins, from its frozen file or from the fresh state: what it wrote, and what it read of the file
+pub record Began {R : Type 0} (tells : R → Option Script) (failures : R → ℕ) (o : Options) (xs ys : Option R)
+    (out out' : Option (List ℕ)) (old new : ℕ) (st : Result SessionState Stop) : Type 0 where
+  pub gives : (file : Option Script) → DescribesFrozen tells xs file → BeginGives (start_of o.prefix file) o out out' st
+  pub begun : IsBegun o st
+  pub refused : (fault : FrozenFault) → st ≡ Err (stops.Ended (causes.Frozen fault)) → out' ≡ out
+  pub read : BeginFails failures st xs ys
+  pub write : MessageWriteFails st old new
+
+reload_is_begun : (o : Options) (file : Option Script) (out out' : Option (List ℕ)) (st : Result SessionState Stop) → ReloadGives o file out out' st → IsBegun o st
+reload_is_begun o file out out' (Ok new) h = (h.0, h.3)
+reload_is_begun o file out out' (Err stops.Finished) h = absurd h
+reload_is_begun o file out out' (Err (stops.Ended causes.Done)) h = absurd h
+reload_is_begun o file out out' (Err (stops.Ended (causes.Exited n))) h = absurd h
+reload_is_begun o file out out' (Err (stops.Ended causes.EndInString)) h = absurd h
+reload_is_begun o file out out' (Err (stops.Ended causes.EndInComment)) h = absurd h
+reload_is_begun o file out out' (Err (stops.Ended causes.EndInArguments)) h = absurd h
+reload_is_begun o file out out' (Err (stops.Ended causes.ExpansionLimit)) h = absurd h
+reload_is_begun o file out out' (Err (stops.Ended causes.NestingLimit)) h = absurd h
+reload_is_begun o file out out' (Err (stops.Ended causes.Read)) h = absurd h
+reload_is_begun o file out out' (Err (stops.Ended (causes.Frozen fault))) h = tt
+reload_is_begun o file out out' (Err (stops.Ended causes.Write)) h = tt
+reload_is_begun o file out out' (Err (stops.Ended causes.OutOfMemory)) h = tt
+
+pub reload_began : {R : Type 0} (tells : R → Option Script) (failures : R → ℕ) (o : Options) (xs ys : Option R) (x y : R)
+    (out out' : Option (List ℕ)) (old new : ℕ) (st : Result SessionState Stop) → xs ≡ Some x → ys ≡ Some y
+    → ReloadGives o (tells x) out out' st → ReloadFails st (failures x) (failures y) → MessageWriteFails st old new
+    → Began tells failures o xs ys out out' old new st
+reload_began tells failures o xs ys x y out out' old new st i j h r w = record {
+  gives = λ file t. reload_begins tells x xs o file out out' st i t h;
+  begun = reload_is_begun o (tells x) out out' st h;
+  refused = λ fault e. (subst (ReloadGives o (tells x) out out') e h).0;
+  read = subst (λ (v : Option _). BeginFails failures st v ys) (sym i) (subst (λ (v : Option _). BeginFails failures st (Some x) v) (sym j) r);
+  write = w;
+}
+
+-- an allocation failed, or nothing did
+fresh_is : (P : Result SessionState Stop → Type 0) (o : Options) (st : Result SessionState Stop) → IfOk st (λ s. s ≡ fresh_session o) → IfErr st (λ e. e ≡ stops.Ended causes.OutOfMemory) → P (Ok (fresh_session o)) → P (Err (stops.Ended causes.OutOfMemory)) → P st
+fresh_is P o (Ok s) f e p q = subst (λ (x : SessionState). P (Ok x)) (sym f) p
+fresh_is P o (Err x) f e p q = subst (λ (y : Stop). P (Err y)) (sym e) q
+
+pub fresh_began : {R : Type 0} (tells : R → Option Script) (failures : R → ℕ) (o : Options) (xs ys : Option R)
+    (out : Option (List ℕ)) (old : ℕ) (st : Result SessionState Stop) → xs ≡ None → ys ≡ None
+    → IfOk st (λ s. s ≡ fresh_session o) → IfErr st (λ e. e ≡ stops.Ended causes.OutOfMemory)
+    → Began tells failures o xs ys out out old old st
+fresh_began tells failures o xs ys out old st i j f e = record {
+  gives = λ file t. fresh_begins tells xs o file out st i t f e;
+  begun = fresh_is (IsBegun o) o st f e (fresh o.prefix, refl) tt;
+  refused = λ fault k. refl;
+  read = subst (λ (v : Option _). BeginFails failures st v ys) (sym i) (subst (λ (v : Option _). BeginFails failures st None v) (sym j) (fresh_is (λ r. BeginFails failures r None None) o st f e tt tt));
+  write = fresh_is (λ r. MessageWriteFails r old old) o st f e refl refl;
+}
+
+-- the same where the two ways join
+pub began_so : {R O : Type 0} (tells : R → Option Script) (failures : R → ℕ) (o : Options) (xs ys ys' : Option R)
+    (contents : O → Option (List ℕ)) (fails : O → ℕ) (w0 w w' : O) (st st' : Result SessionState Stop) → ys' ≡ ys
+    → w' ≡ w → st' ≡ st
+    → Began tells failures o xs ys (contents w0) (contents w) (fails w0) (fails w) st
+    → Began tells failures o xs ys' (contents w0) (contents w') (fails w0) (fails w') st'
+began_so tells failures o xs ys ys' contents fails w0 w w' st st' i j k h =
+    subst (λ v. Began tells failures o xs v (contents w0) (contents w') (fails w0) (fails w') st') (sym i)
+    (subst (λ v. Began tells failures o xs ys (contents w0) (contents v) (fails w0) (fails v) st') (sym j)
+    (subst (λ v. Began tells failures o xs ys (contents w0) (contents w) (fails w0) (fails w) v) (sym k) h))
 
 -- the end of a run leaves the session over, by the cause that is answered
 end_left : (freezes : Bool) (old new : SessionState) (w : Contents) (e : Stop) → IsOpen old → EndGives freezes old new w (Err e) → IsLeft {A = Bool} new (Err e)

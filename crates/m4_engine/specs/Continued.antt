@@ -2,17 +2,15 @@
 -- Not believed: it connects the driver with `Expand`.
 -- Words: comes_to, stands, Leads, Marked, IsMarked, IsFlushed, HandNeeds, HandEnds, HasMade, HandBreaks, BreaksInOrder,
 -- OrderBy, HandGives.
-use Rattle.std.specs.Prelude.{◌≡◌, ◌⊎◌, ℕ, Bool, true, List, [], ◌++◌}
+use Rattle.std.specs.Prelude.{◌≡◌, ◌⊎◌, ℕ, Bool, true, List, [], ◌++◌, Result, Ok, Err}
 use Rattle.m4_input.specs.declared.fault.InputFault.{InputFault}
 use Rattle.m4_input.specs.declared.fault.InputFault.TheVariants as faults
 use Rattle.m4_input.specs.Pending.{Pending, text_of, line_length}
 use Rattle.m4_input.specs.Input.{Held, longer}
 use Rattle.m4_engine.specs.declared.ending.Cause.{Cause}
 use Rattle.m4_engine.specs.declared.ending.Cause.TheVariants as causes
-use Rattle.m4_engine.specs.declared.in_hand.Wanted.{Wanted}
-use Rattle.m4_engine.specs.declared.in_hand.Wanted.TheVariants as wanted
-use Rattle.m4_engine.specs.declared.in_hand.InHand.{InHand}
-use Rattle.m4_engine.specs.declared.in_hand.InHand.TheVariants as hands
+use Rattle.m4_engine.specs.declared.machine.driver.Wanted.{Wanted}
+use Rattle.m4_engine.specs.declared.machine.driver.Wanted.TheVariants as wanted
 use Rattle.m4_engine.specs.Nesting.{Outcome, Halted, Closed, then_on}
 use Rattle.m4_engine.specs.OpenCalls.{Stacked, Goes, pop, resume}
 use Rattle.m4_engine.specs.Moments.{Moment, Next, moved, made_by, Comes}
@@ -123,23 +121,23 @@ pub record BreaksInOrder (w : Wanted) (old : Engine) (p : Pending) (c : Contents
   pub marked : Marked w old p o m
 
 -- by the outcome
-abbrev pub OrderBy : Wanted → Engine → Pending → Contents → InHand → Type 0
-OrderBy w old p c (hands.Ends causes.Write) = BreaksInOrder w old p c
-OrderBy w old p c (hands.Ends causes.OutOfMemory) = BreaksInOrder w old p c
+abbrev pub OrderBy : Wanted → Engine → Pending → Contents → Result Wanted Cause → Type 0
+OrderBy w old p c (Err causes.Write) = BreaksInOrder w old p c
+OrderBy w old p c (Err causes.OutOfMemory) = BreaksInOrder w old p c
 OrderBy w old p c result = Unit {0}
 
-abbrev pub HandGives : Wanted → Engine → Engine → Held → Held → Contents → InHand → Type 0
-HandGives w old new i j c (hands.Needs v) = HandNeeds w old i v new j c
-HandGives w old new i j c (hands.Ends causes.Read) = ⊥
-HandGives w old new i j c (hands.Ends (causes.Frozen fault)) = ⊥
-HandGives w old new i j c (hands.Ends causes.Write) = HandBreaks w old i.pending c
-HandGives w old new i j c (hands.Ends causes.OutOfMemory) = HandBreaks w old i.pending c
-HandGives w old new i j c (hands.Ends cause) = HandEnds w old i.pending cause new c
+abbrev pub HandGives : Wanted → Engine → Engine → Held → Held → Contents → Result Wanted Cause → Type 0
+HandGives w old new i j c (Ok v) = HandNeeds w old i v new j c
+HandGives w old new i j c (Err causes.Read) = ⊥
+HandGives w old new i j c (Err (causes.Frozen fault)) = ⊥
+HandGives w old new i j c (Err causes.Write) = HandBreaks w old i.pending c
+HandGives w old new i j c (Err causes.OutOfMemory) = HandBreaks w old i.pending c
+HandGives w old new i j c (Err cause) = HandEnds w old i.pending cause new c
 
 -- a write fault is that of a writer, which failed once; otherwise none did
-abbrev pub cause_of : InHand → Cause
-cause_of (hands.Needs v) = causes.Done
-cause_of (hands.Ends cause) = cause
+abbrev pub cause_of : Result Wanted Cause → Cause
+cause_of (Ok v) = causes.Done
+cause_of (Err cause) = cause
 
 -- the cause that ends an expansion whose next block is missing
 abbrev pub fault_cause : InputFault → Cause

@@ -8,8 +8,8 @@ use Rattle.m4_input.specs.declared.fault.InputFault.TheVariants as faults
 use Rattle.m4_input.specs.Pending.{Pending}
 use Rattle.m4_input.specs.Input.{Held, longer, Reads, block}
 use Rattle.m4_input.specs.Blocks.{IsOpenAfter}
-use Rattle.m4_engine.specs.declared.in_hand.Wanted.{Wanted}
-use Rattle.m4_engine.specs.declared.in_hand.Wanted.TheVariants as wanted
+use Rattle.m4_engine.specs.declared.machine.driver.Wanted.{Wanted}
+use Rattle.m4_engine.specs.declared.machine.driver.Wanted.TheVariants as wanted
 use Rattle.m4_engine.specs.Engine.{Engine}
 
 -- after these bytes of the reader the machine still wants the same; of no bytes nothing is said

@@ -1,10 +1,11 @@
--- RunSteps: what the steps of a run write, and what they leave of its session and its writers.
+-- RunSteps: how a run begins, what its steps write, and what they leave of its session and its writers.
 -- Not believed: it connects a session's calls with `RunPromises`.
--- Words: Begins, WritesInOrder, WritesEnd, WritesToEnd, state_at_end, FreezesState, UsesWriters, MarksUnopened,
--- MarksAnyUnopened.
-use Rattle.std.specs.Prelude.{◌≡◌, ℕ, Bool, true, false, List, Option, Result, Err, OnOk, ◌||◌}
+-- Words: BeginGives, IsBegun, BeginFails, WritesInOrder, WritesToEnd, state_at_end, FreezesState, UsesWriters,
+-- MarksUnopened, MarksAnyUnopened.
+use Rattle.std.specs.Prelude.{◌≡◌, ◌≢◌, ℕ, Bool, true, false, List, Option, Some, None, Result, Ok, Err, OnOk, ◌||◌}
+use Rattle.m4_state.specs.Device.{HasBegun, with_bytes}
 use Rattle.m4_state.specs.State.{State, IsSized}
-use Rattle.m4_frozen.specs.declared.fault.FrozenFault.{FrozenFault}
+use Rattle.m4_frozen.specs.declared.fault.FrozenKind.TheVariants as kinds
 use Rattle.m4_engine.specs.declared.ending.Cause.TheVariants as causes
 use Rattle.m4_engine.specs.declared.options.Options.{Options}
 use Rattle.m4_engine.specs.declared.stop.Stop.{Stop}
@@ -13,17 +14,45 @@ use Rattle.m4_engine.specs.declared.source.Source.{Source as RunSource}
 use Rattle.m4_engine.specs.Expansion.{RunSoFar}
 use Rattle.m4_engine.specs.File.{Source, Progress, after_sources}
 use Rattle.m4_engine.specs.Wraps.{after_wraps}
-use Rattle.m4_engine.specs.Order.{InEnd, IsStepOfRun, Breaks, BreaksBy}
-use Rattle.m4_engine.specs.RunSources.{MissedBy, any_unopened, is_unopened}
-use Rattle.m4_engine.specs.Session.{SessionState, IsBegun, GoesTo, CloseGives, FreezeLeaves, progress_of, status_at}
-use Rattle.m4_engine.specs.SessionFailures.{ThreeFail, SparesBy}
+use Rattle.m4_engine.specs.Order.{IsStepOfRun, Breaks, BreaksBy}
+use Rattle.m4_engine.specs.RunSources.{IsUnrefused, MissedBy, any_unopened, is_unopened}
+use Rattle.m4_engine.specs.Session.{SessionState, GoesTo, FreezeLeaves, progress_of, session_from, status_at}
+use Rattle.m4_engine.specs.SessionFailures.{ReloadFails, ThreeFail, SparesBy}
+use Rattle.m4_engine.specs.Start.{Start, From, Faulty}
 use Rattle.m4_engine.specs.WholeRun.{RunGives, result_after, ending_by}
 use Rattle.m4_engine.specs.Writers.{Contents, Three}
 
--- a run begins from some state, or ends; if its frozen file is refused, nothing was written
-pub record Begins (o : Options) (out_old out_new : Option (List ℕ)) (r : Result SessionState Stop) : Type 0 where
-  pub begun : IsBegun o r
-  pub refused : (fault : FrozenFault) → r ≡ Err (stops.Ended (causes.Frozen fault)) → out_new ≡ out_old
+-- a run begins from a start, whose issued text was written, or ends with the start's fault
+abbrev pub BeginGives : Start → Options → Option (List ℕ) → Option (List ℕ) → Result SessionState Stop → Type 0
+BeginGives start o out_old out_new (Ok new) =
+    (s : State) × (issued : List ℕ) × (start ≡ From s issued)
+    × (new ≡ session_from o s) × (out_new ≡ with_bytes out_old issued)
+BeginGives start o out_old out_new (Err stops.Finished) = ⊥
+BeginGives start o out_old out_new (Err (stops.Ended (causes.Frozen fault))) =
+    (out_new ≡ out_old) × (fault.kind ≢ kinds.OutOfMemory → start ≡ Faulty fault)
+BeginGives start o out_old out_new (Err (stops.Ended causes.Write)) =
+    (s : State) × (issued : List ℕ) × (start ≡ From s issued) × HasBegun out_old out_new issued
+BeginGives start o out_old out_new (Err (stops.Ended causes.OutOfMemory)) = out_new ≡ out_old
+BeginGives start o out_old out_new (Err (stops.Ended cause)) = ⊥
+
+-- a run begins from some state, or is ended by a frozen file, a writer or an allocation
+abbrev pub IsBegun : Options → Result SessionState Stop → Type 0
+IsBegun o (Ok new) = (s : State) × (new ≡ session_from o s)
+IsBegun o (Err (stops.Ended (causes.Frozen fault))) = Unit {0}
+IsBegun o (Err (stops.Ended causes.Write)) = Unit {0}
+IsBegun o (Err (stops.Ended causes.OutOfMemory)) = Unit {0}
+IsBegun o (Err stop) = ⊥
+
+-- an answer that is no fault of a frozen file
+abbrev pub NoneRefused : {A : Type 0} → Result A Stop → Type 0
+NoneRefused (Err (stops.Ended cause)) = IsUnrefused cause
+NoneRefused answer = Unit {0}
+
+-- the reader of a run's frozen file failed if the run ends by that; if there is none, it is not refused
+abbrev pub BeginFails : {A R : Type 0} → (R → ℕ) → Result A Stop → Option R → Option R → Type 0
+BeginFails failures answer None None = NoneRefused answer
+BeginFails failures answer (Some before) (Some after) = ReloadFails answer (failures before) (failures after)
+BeginFails failures answer before after = ⊥
 
 -- a session goes to this progress and writes its output and messages; if it is broken off, one of these steps shows in
 -- which order
@@ -32,13 +61,7 @@ pub record WritesInOrder (p : Progress) (IsStep : Progress → RunSoFar → RunS
   pub goes : GoesTo p old new w r
   pub order : BreaksBy r (Breaks IsStep (progress_of old) w)
 
--- the same of the end of a run
-pub record WritesEnd (freezes : Bool) (old new : SessionState) (w : Three (Option (List ℕ))) (r : Result Unit Stop)
-    : Type 0 where
-  pub gives : CloseGives freezes old new w r
-  pub order : BreaksBy r (Breaks (InEnd old.limits) (progress_of old) w.two)
-
--- the same of these sources and of the end after them
+-- the same of these sources and of the end of the run after them
 pub record WritesToEnd (freezes : Bool) (ss : List Source) (old new : SessionState) (w : Three (Option (List ℕ)))
     (r : Result Bool Stop) : Type 0 where
   pub gives : RunGives (result_after freezes old.limits ss (after_sources old.limits ss (progress_of old)))

@@ -1,8 +1,7 @@
 -- Session: a run between two of its calls, and what each call does to it.
 -- Believed. Manual: "Command line files", "Invoking m4".
 -- Words: SessionState, progress_of, written, session_from, fresh_session, IsOpen, ReloadGives, Completed, FileAsked,
--- FileRead, FileEnded, FileFell, FileGives, MissingGives, EndGives, FinishGives, FreezeGives, FreezeLeaves, BeginGives,
--- IsBegun.
+-- FileRead, FileEnded, FileFell, FileGives, MissingGives, EndGives, FinishGives, FreezeGives, FreezeLeaves.
 -- A session is a run's progress without the bytes that were written; these went to the writers.
 use Rattle.std.specs.Prelude.{◌≡◌, ◌≢◌, ◌≤◌, length, IfSome, ℕ, Bool, true, false, List, [], ◌∷◌, ◌++◌, Option, Some}
 use Rattle.std.specs.Prelude.{None, Result, Ok, Err, ◌⊎◌}
@@ -20,7 +19,7 @@ use Rattle.m4_engine.specs.declared.stop.Stop.{Stop}
 use Rattle.m4_engine.specs.declared.stop.Stop.TheVariants as stops
 use Rattle.m4_engine.specs.Expansion.{Limits, EndReason, Ends, NeedsInput, Ended}
 use Rattle.m4_engine.specs.Expand.{expand_input}
-use Rattle.m4_engine.specs.Start.{Start, From, Faulty, IsStart}
+use Rattle.m4_engine.specs.Start.{From, Faulty, IsStart}
 use Rattle.m4_engine.specs.Writers.{Contents, Three, Broken, WroteAtLeast, IsSpared}
 use Rattle.m4_engine.specs.File.{Opened, Unopened, Progress, file, file_pending, after_source, cannot_open}
 use Rattle.m4_engine.specs.Wraps.{read_saved, after_wraps}
@@ -290,32 +289,6 @@ FreezeLeaves s old new = (new ≡ old) ⊎ (IsSized s × LeavesTorn old new s)
 abbrev pub CloseGives : Bool → SessionState → SessionState → Three (Option (List ℕ)) → Result Unit Stop → Type 0
 CloseGives true old new w answer = FreezeGives old new w answer
 CloseGives false old new w answer = FinishGives old new w.two answer × IsSpared w
-
--- a run begins from a start, whose issued text was written, or ends with the start's fault
-abbrev pub BeginGives : Start → Options → Option (List ℕ) → Option (List ℕ) → Result SessionState Stop → Type 0
-BeginGives start o out_old out_new (Ok new) =
-    (s : State) × (issued : List ℕ) × (start ≡ From s issued)
-    × (new ≡ session_from o s) × (out_new ≡ with_bytes out_old issued)
-BeginGives start o out_old out_new (Err stops.Finished) = ⊥
-BeginGives start o out_old out_new (Err (stops.Ended (causes.Frozen fault))) =
-    (out_new ≡ out_old) × (fault.kind ≢ kinds.OutOfMemory → start ≡ Faulty fault)
-BeginGives start o out_old out_new (Err (stops.Ended causes.Write)) =
-    (s : State) × (issued : List ℕ) × (start ≡ From s issued) × HasBegun out_old out_new issued
-BeginGives start o out_old out_new (Err (stops.Ended causes.OutOfMemory)) = out_new ≡ out_old
-BeginGives start o out_old out_new (Err (stops.Ended cause)) = ⊥
-
--- a run begins from some state, or is ended by a frozen file, a writer or an allocation
-abbrev pub IsBegun : Options → Result SessionState Stop → Type 0
-IsBegun o (Ok new) = (s : State) × (new ≡ session_from o s)
-IsBegun o (Err (stops.Ended (causes.Frozen fault))) = Unit {0}
-IsBegun o (Err (stops.Ended causes.Write)) = Unit {0}
-IsBegun o (Err (stops.Ended causes.OutOfMemory)) = Unit {0}
-IsBegun o (Err stop) = ⊥
-
--- the status of a run that did not begin
-abbrev pub status_after : Stop → ℕ
-status_after stops.Finished = 0
-status_after (stops.Ended cause) = status_of (Ends cause) false
 
 -- whether a text is saved
 abbrev pub is_saved : List (List ℕ) → Bool

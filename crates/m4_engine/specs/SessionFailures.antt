@@ -1,14 +1,14 @@
 -- Session failures: how often readers and writers failed in a call of a session, by what it answers.
 -- Believed. Manual: "Invoking m4".
 -- Words: ByAnswer, WriteFails, ThreeFail, ReadFails, SourceFails, SourcesFail, MessageWriteFails, ReloadFails,
--- NoneRefused, BeginFails, SparesBy.
-use Rattle.std.specs.Prelude.{◌≡◌, ℕ, List, Option, Some, None, Result, Ok, Err}
+-- SparesBy.
+use Rattle.std.specs.Prelude.{◌≡◌, ℕ, List, Option, Result, Ok, Err}
 use Rattle.m4_state.specs.Device.{Script, one_more}
 use Rattle.m4_engine.specs.declared.ending.Cause.TheVariants as causes
 use Rattle.m4_engine.specs.declared.source.Source.{Source as RunSource}
 use Rattle.m4_engine.specs.declared.stop.Stop.{Stop}
 use Rattle.m4_engine.specs.declared.stop.Stop.TheVariants as stops
-use Rattle.m4_engine.specs.RunSources.{AllPairs, IsFaultBy, IsUnrefused, HasFailed, is_sound, AnyFailed}
+use Rattle.m4_engine.specs.RunSources.{AllPairs, IsFaultBy, HasFailed, is_sound, AnyFailed}
 use Rattle.m4_engine.specs.Writers.{Failures, Three, NoneFailed, OneFailed, ByCause, IsSpared, NoneOfThree}
 use Rattle.m4_engine.specs.Writers.{OneOfThree, Spares}
 
@@ -50,17 +50,6 @@ MessageWriteFails answer old new = ByAnswer answer (new ≡ old) (new ≡ one_mo
 abbrev pub ReloadFails : {A : Type 0} → Result A Stop → ℕ → ℕ → Type 0
 ReloadFails (Err (stops.Ended (causes.Frozen fault))) old new = IsFaultBy fault old new
 ReloadFails answer old new = new ≡ old
-
--- an answer that is no fault of a frozen file
-abbrev pub NoneRefused : {A : Type 0} → Result A Stop → Type 0
-NoneRefused (Err (stops.Ended cause)) = IsUnrefused cause
-NoneRefused answer = Unit {0}
-
--- the same for a run's frozen file; if there is none, it is not refused
-abbrev pub BeginFails : {A R : Type 0} → (R → ℕ) → Result A Stop → Option R → Option R → Type 0
-BeginFails failures answer None None = NoneRefused answer
-BeginFails failures answer (Some before) (Some after) = ReloadFails answer (failures before) (failures after)
-BeginFails failures answer before after = ⊥
 
 -- by a result: a call that ends the run by another cause than a write fault writes no frozen text
 abbrev pub SparesBy : {A : Type 0} → Result A Stop → Three (Option (List ℕ)) → Type 0

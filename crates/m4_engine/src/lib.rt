@@ -8,7 +8,6 @@ mod call;
 mod collect;
 pub mod ending;
 mod front;
-mod in_hand;
 pub mod laws;
 mod lookahead;
 mod machine;

@@ -1,18 +1,16 @@
 //! A complete run: its start, its sources in order, and its end.
 //! Manual: "Invoking m4", "Command line files", "Fast loading of frozen state".
 
-ghost use Rattle.std.specs.Prelude.{◌≡◌, true, List, [], Option, OnOk, Err};
-ghost use Rattle.m4_state.specs.Device.{Script};
-ghost use Rattle.m4_engine.specs.File.{Source as Said, after_source, after_sources};
-ghost use Rattle.m4_engine.specs.Start.{start_of};
-ghost use Rattle.m4_engine.specs.Order.{IsStepOf, InSources};
-ghost use Rattle.m4_engine.specs.RunSources.{DescribeSources, DescribesSource, DescribesFrozen};
+ghost use Rattle.std.specs.Prelude.{◌≡◌, List, [], OnOk};
+ghost use Rattle.m4_engine.specs.File.{Source as Said, after_sources};
+ghost use Rattle.m4_engine.specs.Order.{InSources};
+ghost use Rattle.m4_engine.specs.RunSources.{DescribeSources};
 ghost use Rattle.m4_engine.specs.RunPromises.{IsRun};
-ghost use Rattle.m4_engine.specs.RunSteps.{Begins, WritesInOrder, WritesEnd, WritesToEnd, state_at_end, FreezesState};
-ghost use Rattle.m4_engine.specs.RunSteps.{UsesWriters, MarksUnopened, MarksAnyUnopened};
-ghost use Rattle.m4_engine.specs.Session.{FreezeLeaves, IsOpen, IsLeft, BeginGives, last_state, progress_of};
-ghost use Rattle.m4_engine.specs.SessionFailures.{BeginFails, WriteFails, MessageWriteFails};
-ghost use Rattle.m4_engine.specs.SourcesRead.{ReadsSource, ReadsSources, ReadsToEnd};
+ghost use Rattle.m4_engine.specs.RunSteps.{WritesInOrder, WritesToEnd, state_at_end, FreezesState};
+ghost use Rattle.m4_engine.specs.RunSteps.{UsesWriters, MarksAnyUnopened};
+ghost use Rattle.m4_engine.specs.Session.{IsOpen, IsLeft, progress_of};
+ghost use Rattle.m4_engine.specs.SessionFailures.{WriteFails};
+ghost use Rattle.m4_engine.specs.SourcesRead.{ReadsSources, ReadsToEnd};
 ghost use Rattle.m4_engine.specs.WholeRun.{ending_by};
 ghost use Rattle.m4_engine.specs.Writers.{all_three, both};
 
@@ -55,18 +53,8 @@ pub fn run<R: ByteSource, O: ByteSink, M: ByteSink, Z: ByteSink>(
       freeze_new = freeze_to.new;
     }) result }
 {
-    let ran = run_keeping(alloc, options, frozen, sources, out, messages, freeze_to);
-    ran.ending
-}
-
-/// The ending of a run, and its session.
-#[doc(hidden)]
-#[derive(Drop)]
-pub struct Ran {
-    /// How the run ended.
-    pub ending: Ending,
-    /// The session, with the state and all its definitions; none if the run did not begin.
-    pub session: Option<Session>,
+    let (ending, _session) = run_keeping(alloc, options, frozen, sources, out, messages, freeze_to);
+    ending
 }
 
 /// Runs as [`run`] does, and returns the session with the ending: a program that ends now leaves it to the end of the
@@ -80,7 +68,7 @@ pub fn run_keeping<R: ByteSource, O: ByteSink, M: ByteSink, Z: ByteSink>(
     out: &mut O,
     messages: &mut M,
     freeze_to: &mut Z,
-) -> Ran
+) -> (Ending, Option<Session>)
     ensures { IsRun R.script R.failures Z.takes_whole (record {
       options = options;
       file_old = frozen.old;
@@ -93,15 +81,19 @@ pub fn run_keeping<R: ByteSource, O: ByteSink, M: ByteSink, Z: ByteSink>(
           out.old out.new messages.old messages.new freeze_to.old freeze_to.new;
       freeze_old = freeze_to.old;
       freeze_new = freeze_to.new;
-    }) result.ending }
+    }) result.0 }
 {
-    let mut session = match begin(alloc, options, frozen, out) {
+    let begun = match frozen {
+        Some(reader) => Session::reload(alloc, options, reader, out),
+        None => Session::fresh(alloc, options),
+    };
+    let mut session = match begun {
         Ok(session) => session,
+        // A run that did not begin has no session: its cause alone gives the status.
         Err(stop) => {
-            return Ran {
-                ending: ending(stop.status(), Err(stop)),
-                session: None,
-            };
+            let mut unbegun = ending(0, Err(stop));
+            unbegun.status = unbegun.cause.status(false);
+            return (unbegun, None);
         }
     };
     let answer = read_to_end(
@@ -112,29 +104,7 @@ pub fn run_keeping<R: ByteSource, O: ByteSink, M: ByteSink, Z: ByteSink>(
         messages,
         freeze_to,
     );
-    Ran {
-        ending: ending(session.status(), answer),
-        session: Some(session),
-    }
-}
-
-/// Begins a run: from the frozen file if there is one, otherwise from the fresh state.
-fn begin<R: ByteSource, O: ByteSink>(
-    alloc: Global,
-    options: Options,
-    frozen: &mut Option<R>,
-    out: &mut O,
-) -> Result<Session, Stop>
-    ensures gives { (file : Option Script) → DescribesFrozen R.script frozen.old file
-        → BeginGives (start_of options.prefix file) options (O.contents out.old) (O.contents out.new) result }
-    ensures begins { Begins options (O.contents out.old) (O.contents out.new) result }
-    ensures fails { BeginFails R.failures result frozen.old frozen.new
-        × MessageWriteFails result (O.failures out.old) (O.failures out.new) }
-{
-    match frozen {
-        Some(reader) => Session::reload(alloc, options, reader, out),
-        None => Session::fresh(alloc, options),
-    }
+    (ending(session.status(), answer), Some(session))
 }
 
 /// Returns the ending of a run, from its status and its last result.
@@ -184,63 +154,13 @@ fn read_to_end<R: ByteSource, O: ByteSink, M: ByteSink, Z: ByteSink>(
 {
     read_sources(session, sources, out, messages)?;
     let wrapped = session.wrapped();
-    close(session, freezes, out, messages, freeze_to)?;
-    Ok(wrapped)
-}
-
-/// Finishes the run: freezes its state, or undiverts all diversions.
-fn close<O: ByteSink, M: ByteSink, Z: ByteSink>(
-    session: &mut Session,
-    freezes: bool,
-    out: &mut O,
-    messages: &mut M,
-    freeze_to: &mut Z,
-) -> Result<(), Stop>
-    ensures writes { WritesEnd freezes session.old session.new
-        (all_three O.contents M.contents Z.contents
-        out.old out.new messages.old messages.new freeze_to.old freeze_to.new) result }
-    ensures torn { Z.takes_whole ≡ true → result ≡ Err (Stop.Ended Cause.Write)
-        → FreezeLeaves (last_state session.old) (Z.contents freeze_to.old) (Z.contents freeze_to.new) }
-    ensures any_missing { session.new.any_missing ≡ session.old.any_missing }
-    ensures writers { UsesWriters freezes freeze_to.old freeze_to.new
-        (all_three O.failures M.failures Z.failures
-        out.old out.new messages.old messages.new freeze_to.old freeze_to.new)
-        (all_three O.contents M.contents Z.contents
-        out.old out.new messages.old messages.new freeze_to.old freeze_to.new) result }
-{
-    if freezes {
+    let closed = if freezes {
         session.freeze(out, messages, freeze_to)
     } else {
         session.finish(out, messages)
-    }
-}
-
-/// Reads a source, or reports it if it could not be opened.
-fn read<R: ByteSource, O: ByteSink, M: ByteSink>(
-    session: &mut Session,
-    source: &mut Source<R>,
-    out: &mut O,
-    messages: &mut M,
-) -> Result<(), Stop>
-    requires { IsOpen session.old }
-    ensures left { IsLeft session.new result × OnOk result (IsOpen session.new) }
-    ensures writes { (s : Said) → DescribesSource R.script source.old source.new s →
-        WritesInOrder (after_source session.old.limits s (progress_of session.old)) (IsStepOf session.old.limits s)
-        session.old session.new (both O.contents M.contents out.old out.new messages.old messages.new) result }
-    ensures reads { ReadsSource R.script R.failures source.old source.new session.old session.new
-        (both O.contents M.contents out.old out.new messages.old messages.new) result }
-    ensures marks { MarksUnopened source.old session.old.any_missing session.new.any_missing result }
-    ensures write { WriteFails result (both O.failures M.failures out.old out.new messages.old messages.new) }
-{
-    match source {
-        Source::Opened { name, reader } => {
-            let Ok(name) = name.share() else {
-                return session.settle(Cause::OutOfMemory);
-            };
-            session.file(name, reader, out, messages)
-        }
-        Source::Unopened { name } => session.missing(name.as_slice(), messages),
-    }
+    };
+    closed?;
+    Ok(wrapped)
 }
 
 /// Reads the sources in order until the run ends. Their output and messages, taken together, are those of the
@@ -263,7 +183,16 @@ fn read_sources<R: ByteSource, O: ByteSink, M: ByteSink>(
     ensures write { WriteFails result (both O.failures M.failures out.old out.new messages.old messages.new) }
 {
     'sources: for source in sources.iter_mut() {
-        read(session, source, out, messages)?;
+        let answer = match source {
+            Source::Opened { name, reader } => {
+                let Ok(name) = name.share() else {
+                    return session.settle(Cause::OutOfMemory);
+                };
+                session.file(name, reader, out, messages)
+            }
+            Source::Unopened { name } => session.missing(name.as_slice(), messages),
+        };
+        answer?;
     }
     Ok(())
 }

@@ -1,13 +1,12 @@
 //! A run, call by call: its sources in order, and then its end.
 //! Manual: "Command line files", "Invoking m4".
 
-ghost use Rattle.std.specs.Prelude.{◌≡◌, true, false, Some, [], IfOk, IfErr, OnOk, Err};
+ghost use Rattle.std.specs.Prelude.{◌≡◌, true, false, [], IfOk, IfErr, OnOk, Err};
 ghost use Rattle.m4_engine.specs.Writers.{all_three, both};
-ghost use Rattle.m4_engine.specs.Session.{SessionState, IsOpen, answer_by, over_after, session_from, fresh_session};
-ghost use Rattle.m4_engine.specs.Session.{ReloadGives, FileGives, MissingGives, FinishGives, FreezeGives};
-ghost use Rattle.m4_engine.specs.Session.{FreezeLeaves, last_state, WrapsGive, session_after_wraps, round_of};
-ghost use Rattle.m4_engine.specs.Session.{is_saved, status_at, progress_of};
-ghost use Rattle.m4_engine.specs.Order.{IsTurnOfRound, InSomeRound, InEnd, Breaks, BreaksBy, FileBreaks};
+ghost use Rattle.m4_engine.specs.Session.{IsOpen, answer_by, over_after, session_from, fresh_session, ReloadGives};
+ghost use Rattle.m4_engine.specs.Session.{FileGives, MissingGives, FinishGives, FreezeGives, FreezeLeaves, WrapsGive};
+ghost use Rattle.m4_engine.specs.Session.{last_state, session_after_wraps, is_saved, status_at, progress_of};
+ghost use Rattle.m4_engine.specs.Order.{InSomeRound, InEnd, Breaks, BreaksBy, FileBreaks};
 ghost use Rattle.m4_engine.specs.SessionFailures.{ReadFails, ReloadFails, WriteFails, ThreeFail, MessageWriteFails};
 
 use crate::ending::Cause;
@@ -28,6 +27,7 @@ use std::alloc::Global;
 use std::marker::Model;
 
 /// A run that is made call by call, between two of them.
+#[derive(Drop)]
 pub struct Session {
     machine: Machine,
     any_missing: bool,
@@ -45,18 +45,6 @@ impl Model for Session {
     ghost view = { session_view };
 
     ghost invariant = { λ s. IsIdle s.machine };
-}
-
-// Written out so that a caller's proof contains one call, not the drop of each field.
-impl Drop for Session {
-    fn drop(self) {
-        let Session {
-            machine: _machine,
-            any_missing: _any_missing,
-            over: _over,
-            finished: _finished,
-        } = self;
-    }
 }
 
 impl Session {
@@ -195,35 +183,8 @@ impl Session {
         Ok(())
     }
 
-    /// Makes one round: removes all saved texts, and reads them as one input that belongs to no file.
-    fn read_round<O: ByteSink, M: ByteSink>(
-        &mut self,
-        out: &mut O,
-        messages: &mut M,
-    ) -> Result<(), Stop>
-        requires { IsOpen self.old }
-        ensures goes { WrapsGive (round_of self.old) self.old self.new
-            (both O.contents M.contents out.old out.new messages.old messages.new)
-            result }
-        ensures order { is_saved self.old.saved ≡ true
-            → BreaksBy result (Breaks (IsTurnOfRound self.old.limits) (progress_of self.old)
-            (both O.contents M.contents out.old out.new messages.old messages.new)) }
-        ensures write { WriteFails result (both O.failures M.failures out.old out.new messages.old messages.new) }
-        ensures any_missing { self.new.any_missing ≡ self.old.any_missing }
-    {
-        let Ok(text) = self.machine.take_saved() else {
-            return self.settle(Cause::OutOfMemory);
-        };
-        let Ok(mut input) = Input::wrapped(self.machine.alloc(), text) else {
-            return self.settle(Cause::OutOfMemory);
-        };
-        let mut none = MemSource::new(&[], 1, false);
-        let ended = self.machine.expand(&mut input, &mut none, out, messages);
-        self.machine.come_to_rest();
-        self.settle(ended)
-    }
-
-    /// Reads the saved texts, round by round, until no text is saved or the run ends.
+    /// Reads the saved texts, round by round, until no text is saved or the run ends. Each round removes all saved
+    /// texts, and reads them as one input that belongs to no file.
     fn read_saved<O: ByteSink, M: ByteSink>(
         &mut self,
         out: &mut O,
@@ -240,7 +201,16 @@ impl Session {
         ensures any_missing { self.new.any_missing ≡ self.old.any_missing }
     {
         'rounds: while self.machine.has_saved() {
-            self.read_round(out, messages)?;
+            let Ok(text) = self.machine.take_saved() else {
+                return self.settle(Cause::OutOfMemory);
+            };
+            let Ok(mut input) = Input::wrapped(self.machine.alloc(), text) else {
+                return self.settle(Cause::OutOfMemory);
+            };
+            let mut none = MemSource::new(&[], 1, false);
+            let ended = self.machine.expand(&mut input, &mut none, out, messages);
+            self.machine.come_to_rest();
+            self.settle(ended)?;
         }
         Ok(())
     }

@@ -3,18 +3,16 @@
 
 ghost use Rattle.std.specs.Prelude.{◌≡◌, ◌<◌, ◌≤◌, true, None, Ok, length, take, OnOk, OnErr};
 ghost use Rattle.m4_state.specs.Device.{with_bytes};
-ghost use Rattle.m4_input.specs.Input.{IsLasting, failures_after};
+ghost use Rattle.m4_input.specs.Input.{failures_after};
 ghost use Rattle.m4_engine.specs.Engine.{IsReady, after_flush};
 ghost use Rattle.m4_engine.specs.Writers.{both, FailsBy, FailsOnce};
-ghost use Rattle.m4_engine.specs.Continued.{HandGives, OrderBy, IsFlushed, cause_of, fault_cause};
+ghost use Rattle.m4_engine.specs.Continued.{HandGives, OrderBy, IsFlushed, cause_of};
 ghost use Rattle.m4_engine.specs.ReadsOn.{ReadsOn};
-ghost use Rattle.m4_engine.specs.Expands.{Expands, ReadsBy, StepBreaksBy, FlushesPrefix, IsInOrder, IsIdle};
-ghost use Rattle.m4_engine.specs.Expands.{at_rest};
+ghost use Rattle.m4_engine.specs.Expands.{Expands, ReadsBy, StepBreaksBy, FlushesPrefix, IsInOrder, IsIdle, at_rest};
 
 use crate::ending::Cause;
-use crate::in_hand::{InHand, Wanted};
 use crate::machine::Machine;
-use crate::turned::{TurnFault, Turned};
+use crate::turned::Turned;
 use m4_input::delims::Delims;
 use m4_input::fault::InputFault;
 use m4_input::input::Input;
@@ -24,16 +22,13 @@ use m4_state::transfer::write_all;
 /// Output is flushed once this many bytes are buffered. One turn may add more before that.
 pub(crate) const OUTPUT_BLOCK: usize = 65536;
 
-/// Returns the cause that ends an expansion whose next block is missing.
-fn cause_of_fault(fault: InputFault) -> Cause
-    requires { IsLasting fault }
-    ensures { result ≡ fault_cause fault }
-{
-    match fault {
-        InputFault::Read => Cause::Read,
-        InputFault::OutOfMemory => Cause::OutOfMemory,
-        InputFault::EndInString { .. } | InputFault::EndInComment { .. } => unreachable!(),
-    }
+/// The purpose for which an expansion needs more bytes.
+#[derive(Clone, Copy)]
+pub enum Wanted {
+    /// The next token, or whether a list follows a name.
+    Token,
+    /// The rest of a line that is discarded.
+    Line,
 }
 
 impl Machine {
@@ -72,9 +67,10 @@ impl Machine {
         Ok(())
     }
 
-    /// Expands the bytes in hand as far as they decide. Writes messages as they arise, output in blocks, and all
-    /// of both if more bytes are needed. If the rest of a line is to be discarded, it does that first. `copy` is a
-    /// buffer for a token that spans several texts.
+    /// Expands the bytes in hand as far as they decide, and returns for what more are needed, or the cause that ends
+    /// the expansion. Writes messages as they arise, output in blocks, and all of both if more bytes are needed. If
+    /// the rest of a line is to be discarded, it does that first. `copy` is a buffer for a token that spans several
+    /// texts.
     fn expand_in_hand<O: ByteSink, M: ByteSink>(
         &mut self,
         wanted: Wanted,
@@ -82,7 +78,7 @@ impl Machine {
         input: &mut Input,
         out: &mut O,
         messages: &mut M,
-    ) -> InHand
+    ) -> Result<Wanted, Cause>
         requires ready { IsReady input.old }
         requires flushed { IsFlushed self.old }
         ensures gives { HandGives wanted self.old self.new input.old input.new
@@ -92,21 +88,18 @@ impl Machine {
         ensures counted { FailsBy (cause_of result) (both O.failures M.failures out.old out.new messages.old
             messages.new) }
     {
-        let at_token = match wanted {
-            Wanted::Token => true,
-            Wanted::Line => input.skip_in_hand(),
-        };
-        if !at_token {
-            return InHand::Needs(Wanted::Line);
+        if let Wanted::Line = wanted
+            && !input.skip_in_hand()
+        {
+            return Ok(Wanted::Line);
         }
         'turns: loop {
             let Ok(lookahead) = self.pass_plain(input, copy) else {
-                return InHand::Ends(Cause::OutOfMemory);
+                return Err(Cause::OutOfMemory);
             };
             let earlier = self.output.len();
-            let turned = match self.turn(lookahead, input) {
-                Ok(turned) => turned,
-                Err(TurnFault::OutOfMemory) => return InHand::Ends(Cause::OutOfMemory),
+            let Ok(turned) = self.turn(lookahead, input) else {
+                return Err(Cause::OutOfMemory);
             };
             // If the turn leaves no message and less than a block of output, nothing is flushed.
             if let Turned::GoesOn = turned
@@ -116,17 +109,17 @@ impl Machine {
                 continue 'turns;
             }
             if let Err(DeviceFault) = self.flush(earlier, out, messages) {
-                return InHand::Ends(Cause::Write);
+                return Err(Cause::Write);
             }
             match turned {
                 Turned::GoesOn => {}
                 Turned::SkipsLine => {
                     if !input.skip_in_hand() {
-                        return InHand::Needs(Wanted::Line);
+                        return Ok(Wanted::Line);
                     }
                 }
-                Turned::NeedsMore => return InHand::Needs(Wanted::Token),
-                Turned::Ends(end) => return InHand::Ends(end.cause()),
+                Turned::NeedsMore => return Ok(Wanted::Token),
+                Turned::Ends(end) => return Err(end.cause()),
             }
         }
     }
@@ -176,12 +169,17 @@ impl Machine {
         let mut copy = Vec::new(self.alloc);
         let mut wanted = Wanted::Token;
         'blocks: loop {
-            match self.expand_in_hand(wanted, &mut copy, input, out, messages) {
-                InHand::Ends(cause) => return cause,
-                InHand::Needs(more) => wanted = more,
-            }
+            wanted = match self.expand_in_hand(wanted, &mut copy, input, out, messages) {
+                Ok(more) => more,
+                Err(cause) => return cause,
+            };
             if let Err(fault) = self.read_on(wanted, input, reader) {
-                return cause_of_fault(fault);
+                return match fault {
+                    InputFault::Read => Cause::Read,
+                    InputFault::OutOfMemory => Cause::OutOfMemory,
+                    InputFault::EndInString { .. } | InputFault::EndInComment { .. } =>
+                        unreachable!(),
+                };
             }
         }
     }

@@ -138,11 +138,11 @@ fn run_late<W: World, K: LateStart, O: Shows, M: Shows>(
         out.old out.new messages.old messages.new world result.world) }
 {
     let mut late: LateFile<W, K> = LateFile::over(world, name);
-    let ran = run_keeping(alloc, options, frozen, sources, out, messages, &mut late);
+    let (ending, session) = run_keeping(alloc, options, frozen, sources, out, messages, &mut late);
     // The program ends after this, so the definitions are not freed one by one.
-    forget(ran.session);
+    forget(session);
     RunEnd {
-        ending: ran.ending,
+        ending,
         world: late.into_world(),
     }
 }

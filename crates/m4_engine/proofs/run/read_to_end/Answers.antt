@@ -1,13 +1,16 @@
-use Rattle.std.proofs.Common.{rules, refl, inl, Bool}
+use Rattle.std.proofs.Common.{rules, refl, sym, ◌∙◌, inl, Bool}
+use Rattle.std.specs.Prelude.{Ok}
 use Rattle.m4_engine.specs.File.{after_sources}
 use Rattle.m4_engine.specs.Session.{progress_of}
 use Rattle.m4_engine.proofs.Readers.{same_fails, close_sound}
 use Rattle.m4_engine.proofs.Whole.{early_so, late_so, well_so, sized_so}
 use Rattle.m4_engine.proofs.Starts.{close_left}
+use Rattle.m4_engine.proofs.Closing.{Closes, closes_so, finish_closes, freeze_closes, uses_so}
 use Rattle.m4_engine.proofs.RunReached.{early_reached, late_reached, closed_reached}
 use Rattle.m4_engine.proofs.Tears.{torn_so}
 use Rattle.m4_engine.proofs.Missed.{exited_late, same_stop}
 use Rattle.m4_engine.proofs.Ordering.{same_breaks, sources_step, end_step}
+use Rattle.m4_engine.proofs.run.read_to_end.Goals.{then-freezes, else-freezes}
 use Rattle.m4_engine.proofs.run.read_to_end.Goals as goal
 
 pub returns-in_err-read_sources-clause-writes : goal.returns-in_err-read_sources-clause-writes
@@ -19,44 +22,10 @@ returns-in_err-read_sources-clause-writes g c = λ ss s. record {
   order = same_breaks Unit Bool c.in_err-read_sources.field-0.0 c.read_sources.result c.from_residual.result _ _ (search rules) (search rules) (sources_step c.args.session.now.limits ss _ _) (c.read_sources.ensures.writes ss s).order;
 }
 
-pub returns-in_err-close-clause-writes : goal.returns-in_err-close-clause-writes
-returns-in_err-close-clause-writes g c = λ ss s. record {
-  gives = late_so c.args.freezes c.args.session.now.limits ss
-      (after_sources c.args.session.now.limits ss (progress_of c.args.session.now)) c.args.session.now
-      c.read_sources.new.session c.close.new.session _ _ _ _ _ _ _ _ refl (c.in_ok-read_sources.ensures.writes ss s).goes
-      c.in_err-close.field-0.0 c.close.result c.from_residual-in_err-close.result (search rules) (search rules)
-      c.in_ok-read_sources.ensures.left.1 c.close.ensures.writes.gives;
-  order = same_breaks Unit Bool c.in_err-close.field-0.0 c.close.result c.from_residual-in_err-close.result _ _ (search rules) (search rules)
-      (end_step ss c.args.session.now c.read_sources.new.session _ _ _ _ _ _ (c.in_ok-read_sources.ensures.writes ss s).goes) c.close.ensures.writes.order;
-}
-
-pub returns-clause-writes : goal.returns-clause-writes
-returns-clause-writes g c = λ ss s. record {
-  gives = well_so c.args.freezes c.args.session.now.limits ss c.args.session.now c.read_sources.new.session c.close.new.session _ _ _ _ _ _ _ _ refl (c.in_ok-read_sources.ensures.writes ss s).goes
-      c.requires.unsaved c.wrapped-wrapped.result c.wrapped-wrapped.ensures c.in_ok-close.ensures.writes.gives;
-  order = search rules;
-}
-
 pub returns-in_err-read_sources-clause-frozen : goal.returns-in_err-read_sources-clause-frozen
 returns-in_err-read_sources-clause-frozen g c = λ ss s. record {
   sized = search rules;
   torn = λ whole e. inl refl;
-}
-
-pub returns-in_err-close-clause-frozen : goal.returns-in_err-close-clause-frozen
-returns-in_err-close-clause-frozen g c = λ ss s. record {
-  sized = search rules;
-  torn = λ whole e. torn_so c.args.session.now.limits (after_sources c.args.session.now.limits ss (progress_of c.args.session.now))
-      c.args.session.now c.read_sources.new.session _ _ _ refl (c.in_ok-read_sources.ensures.writes ss s).goes
-      c.in_err-close.field-0.0 c.close.result c.from_residual-in_err-close.result (search rules) (search rules) e
-      (c.close.ensures.torn whole);
-}
-
-pub returns-clause-frozen : goal.returns-clause-frozen
-returns-clause-frozen g c = λ ss s. record {
-  sized = sized_so c.args.freezes c.args.session.now.limits ss (after_sources c.args.session.now.limits ss (progress_of c.args.session.now)) c.args.session.now c.read_sources.new.session
-      c.close.new.session _ _ _ _ _ _ _ _ refl (c.in_ok-read_sources.ensures.writes ss s).goes c.in_ok-close.ensures.writes.gives;
-  torn = search rules;
 }
 
 pub returns-in_err-read_sources-clause-reads : goal.returns-in_err-read_sources-clause-reads
@@ -69,32 +38,6 @@ returns-in_err-read_sources-clause-reads g c = record {
   taken = search rules;
 }
 
-pub returns-in_err-close-clause-reads : goal.returns-in_err-close-clause-reads
-returns-in_err-close-clause-reads g c = record {
-  reached = λ n. late_reached g.R.ByteSource.script c.args.sources.now
-      c.read_sources.new.sources c.args.freezes c.args.session.now c.read_sources.new.session c.close.new.session _ _ _
-      _ _ _ n c.in_ok-read_sources.ensures.left.1 c.in_ok-read_sources.ensures.reads.reached _ c.in_err-close.field-0.0
-      c.close.result c.from_residual-in_err-close.result refl (search rules) (search rules) c.close.ensures.writes.gives;
-  failed = close_sound g.R.ByteSource.script g.R.ByteSource.failures c.args.sources.now
-      c.read_sources.new.sources c.args.freezes c.read_sources.new.session c.close.new.session _
-      c.in_err-close.field-0.0 c.close.result c.from_residual-in_err-close.result (search rules) (search rules)
-      c.close.ensures.writes.gives c.in_ok-read_sources.ensures.reads.failed;
-  taken = search rules;
-}
-
-pub returns-clause-reads : goal.returns-clause-reads
-returns-clause-reads g c = record {
-  reached = λ n. closed_reached g.R.ByteSource.script c.args.sources.now c.read_sources.new.sources
-      c.args.freezes c.args.session.now c.read_sources.new.session c.close.new.session _ _ _ _ _ _ n
-      c.in_ok-read_sources.ensures.left.1 c.in_ok-read_sources.ensures.reads.reached c.wrapped-wrapped.result _ _ refl
-      refl c.in_ok-close.ensures.writes.gives;
-  failed = search rules;
-  taken = search rules;
-}
-
-pub returns-in_err-close-clause-left : goal.returns-in_err-close-clause-left
-returns-in_err-close-clause-left g c = close_left c.args.freezes c.read_sources.new.session c.close.new.session _ c.in_err-close.field-0.0 c.close.result c.from_residual-in_err-close.result (search rules) (search rules) c.in_ok-read_sources.ensures.left.1 c.close.ensures.writes.gives
-
 pub returns-in_err-read_sources-clause-marks : goal.returns-in_err-read_sources-clause-marks
 returns-in_err-read_sources-clause-marks g c = record {
   read = search rules;
@@ -102,15 +45,132 @@ returns-in_err-read_sources-clause-marks g c = record {
       c.read_sources.ensures.marks.exited code (same_stop c.in_err-read_sources.field-0.0 _ c.read_sources.result c.from_residual.result (search rules) (search rules) e) n;
 }
 
-pub returns-in_err-close-clause-marks : goal.returns-in_err-close-clause-marks
-returns-in_err-close-clause-marks g c = record {
-  read = search rules;
-  exited = λ code e n.
-      exited_late c.args.sources.now c.read_sources.new.sources c.read_sources.new.session.any_missing c.close.new.session.any_missing c.args.session.now.any_missing c.in_ok-read_sources.ensures.marks.read c.close.ensures.any_missing n;
-}
+-- the end of the run is broken off
+pub returns-in_err-closed : goal.returns-in_err-closed
+returns-in_err-closed g c =
+    let k : Closes g.O.ByteSink.contents g.M.ByteSink.contents g.Z.ByteSink.contents g.O.ByteSink.failures g.M.ByteSink.failures g.Z.ByteSink.failures g.Z.ByteSink.takes_whole
+    c.args.freezes c.read_sources.new.session c.read_sources.new.out c.read_sources.new.messages c.args.freeze_to.now
+    c.if-freezes.session c.if-freezes.out c.if-freezes.messages c.if-freezes.freeze_to c.if-freezes.closed = elim c.if-freezes.branch [
+      | then-freezes w ↦ closes_so
+          g.O.ByteSink.contents g.M.ByteSink.contents g.Z.ByteSink.contents g.O.ByteSink.failures g.M.ByteSink.failures g.Z.ByteSink.failures g.Z.ByteSink.takes_whole
+          c.args.freezes c.read_sources.new.session c.read_sources.new.out c.read_sources.new.messages c.args.freeze_to.now
+          w.freeze-closed.new.self c.if-freezes.session w.freeze-closed.new.out c.if-freezes.out w.freeze-closed.new.messages c.if-freezes.messages w.freeze-closed.new.freeze_to c.if-freezes.freeze_to w.freeze-closed.result c.if-freezes.closed
+          (search rules) (search rules) (search rules) (search rules) (search rules)
+          (freeze_closes
+          g.O.ByteSink.contents g.M.ByteSink.contents g.Z.ByteSink.contents g.O.ByteSink.failures g.M.ByteSink.failures g.Z.ByteSink.failures g.Z.ByteSink.takes_whole
+          c.args.freezes c.read_sources.new.session c.read_sources.new.out c.read_sources.new.messages c.args.freeze_to.now
+          w.freeze-closed.new.self w.freeze-closed.new.out w.freeze-closed.new.messages w.freeze-closed.new.freeze_to w.freeze-closed.result (search rules)
+          w.freeze-closed.ensures.gives w.freeze-closed.ensures.order w.freeze-closed.ensures.torn w.freeze-closed.ensures.any_missing w.freeze-closed.ensures.write)
+      | else-freezes w ↦ closes_so
+          g.O.ByteSink.contents g.M.ByteSink.contents g.Z.ByteSink.contents g.O.ByteSink.failures g.M.ByteSink.failures g.Z.ByteSink.failures g.Z.ByteSink.takes_whole
+          c.args.freezes c.read_sources.new.session c.read_sources.new.out c.read_sources.new.messages c.args.freeze_to.now
+          w.finish-closed.new.self c.if-freezes.session w.finish-closed.new.out c.if-freezes.out w.finish-closed.new.messages c.if-freezes.messages c.args.freeze_to.now c.if-freezes.freeze_to w.finish-closed.result c.if-freezes.closed
+          (search rules) (search rules) (search rules) (search rules) (search rules)
+          (finish_closes
+          g.O.ByteSink.contents g.M.ByteSink.contents g.Z.ByteSink.contents g.O.ByteSink.failures g.M.ByteSink.failures g.Z.ByteSink.failures g.Z.ByteSink.takes_whole
+          c.args.freezes c.read_sources.new.session c.read_sources.new.out c.read_sources.new.messages c.args.freeze_to.now
+          w.finish-closed.new.self w.finish-closed.new.out w.finish-closed.new.messages w.finish-closed.result (search rules)
+          w.finish-closed.ensures.gives w.finish-closed.ensures.order w.finish-closed.ensures.any_missing w.finish-closed.ensures.write)
+    ] in
+    record {
+      left = close_left c.args.freezes c.read_sources.new.session c.if-freezes.session _ c.in_err-closed.field-0.0 c.if-freezes.closed c.from_residual-in_err-closed.result (search rules) (search rules) c.in_ok-read_sources.ensures.left.1 k.gives;
+      writes = λ ss s. record {
+        gives = late_so c.args.freezes c.args.session.now.limits ss
+            (after_sources c.args.session.now.limits ss (progress_of c.args.session.now)) c.args.session.now
+            c.read_sources.new.session c.if-freezes.session _ _ _ _ _ _ _ _ refl (c.in_ok-read_sources.ensures.writes ss s).goes
+            c.in_err-closed.field-0.0 c.if-freezes.closed c.from_residual-in_err-closed.result (search rules) (search rules)
+            c.in_ok-read_sources.ensures.left.1 k.gives;
+        order = same_breaks Unit Bool c.in_err-closed.field-0.0 c.if-freezes.closed c.from_residual-in_err-closed.result _ _ (search rules) (search rules)
+            (end_step ss c.args.session.now c.read_sources.new.session _ _ _ _ _ _ (c.in_ok-read_sources.ensures.writes ss s).goes) k.order;
+      };
+      frozen = λ ss s. record {
+        sized = search rules;
+        torn = λ whole e. torn_so c.args.session.now.limits (after_sources c.args.session.now.limits ss (progress_of c.args.session.now))
+            c.args.session.now c.read_sources.new.session _ _ _ refl (c.in_ok-read_sources.ensures.writes ss s).goes
+            c.in_err-closed.field-0.0 c.if-freezes.closed c.from_residual-in_err-closed.result (search rules) (search rules) e
+            (k.torn whole);
+      };
+      reads = record {
+        reached = λ n. late_reached g.R.ByteSource.script c.args.sources.now
+            c.read_sources.new.sources c.args.freezes c.args.session.now c.read_sources.new.session c.if-freezes.session _ _ _
+            _ _ _ n c.in_ok-read_sources.ensures.left.1 c.in_ok-read_sources.ensures.reads.reached _ c.in_err-closed.field-0.0
+            c.if-freezes.closed c.from_residual-in_err-closed.result refl (search rules) (search rules) k.gives;
+        failed = close_sound g.R.ByteSource.script g.R.ByteSource.failures c.args.sources.now
+            c.read_sources.new.sources c.args.freezes c.read_sources.new.session c.if-freezes.session _
+            c.in_err-closed.field-0.0 c.if-freezes.closed c.from_residual-in_err-closed.result (search rules) (search rules)
+            k.gives c.in_ok-read_sources.ensures.reads.failed;
+        taken = search rules;
+      };
+      marks = record {
+        read = search rules;
+        exited = λ code e n.
+            exited_late c.args.sources.now c.read_sources.new.sources c.read_sources.new.session.any_missing c.if-freezes.session.any_missing c.args.session.now.any_missing c.in_ok-read_sources.ensures.marks.read k.any_missing n;
+      };
+      writers = uses_so c.args.freezes _ _ _ _ _ _ _ _ _ _ _ _ _ _ c.in_err-closed.field-0.0 c.if-freezes.closed
+          c.from_residual-in_err-closed.result c.in_ok-read_sources.ensures.write.0 c.in_ok-read_sources.ensures.write.1
+          (search rules) (search rules) k.writers;
+    }
 
-pub returns-clause-marks : goal.returns-clause-marks
-returns-clause-marks g c = record {
-  read = search rules;
-  exited = λ code e n. absurd cc;
-}
+-- the run came to its end
+pub returns : goal.returns
+returns g c =
+    let k : Closes g.O.ByteSink.contents g.M.ByteSink.contents g.Z.ByteSink.contents g.O.ByteSink.failures g.M.ByteSink.failures g.Z.ByteSink.failures g.Z.ByteSink.takes_whole
+    c.args.freezes c.read_sources.new.session c.read_sources.new.out c.read_sources.new.messages c.args.freeze_to.now
+    c.if-freezes.session c.if-freezes.out c.if-freezes.messages c.if-freezes.freeze_to (Ok tt) = elim c.if-freezes.branch [
+      | then-freezes w ↦ closes_so
+          g.O.ByteSink.contents g.M.ByteSink.contents g.Z.ByteSink.contents g.O.ByteSink.failures g.M.ByteSink.failures g.Z.ByteSink.failures g.Z.ByteSink.takes_whole
+          c.args.freezes c.read_sources.new.session c.read_sources.new.out c.read_sources.new.messages c.args.freeze_to.now
+          w.freeze-closed.new.self c.if-freezes.session w.freeze-closed.new.out c.if-freezes.out w.freeze-closed.new.messages c.if-freezes.messages w.freeze-closed.new.freeze_to c.if-freezes.freeze_to w.freeze-closed.result (Ok tt)
+          (search rules) (search rules) (search rules) (search rules) (sym c.in_ok-closed.was ∙ w.closed-is)
+          (freeze_closes
+          g.O.ByteSink.contents g.M.ByteSink.contents g.Z.ByteSink.contents g.O.ByteSink.failures g.M.ByteSink.failures g.Z.ByteSink.failures g.Z.ByteSink.takes_whole
+          c.args.freezes c.read_sources.new.session c.read_sources.new.out c.read_sources.new.messages c.args.freeze_to.now
+          w.freeze-closed.new.self w.freeze-closed.new.out w.freeze-closed.new.messages w.freeze-closed.new.freeze_to w.freeze-closed.result (search rules)
+          w.freeze-closed.ensures.gives w.freeze-closed.ensures.order w.freeze-closed.ensures.torn w.freeze-closed.ensures.any_missing w.freeze-closed.ensures.write)
+      | else-freezes w ↦ closes_so
+          g.O.ByteSink.contents g.M.ByteSink.contents g.Z.ByteSink.contents g.O.ByteSink.failures g.M.ByteSink.failures g.Z.ByteSink.failures g.Z.ByteSink.takes_whole
+          c.args.freezes c.read_sources.new.session c.read_sources.new.out c.read_sources.new.messages c.args.freeze_to.now
+          w.finish-closed.new.self c.if-freezes.session w.finish-closed.new.out c.if-freezes.out w.finish-closed.new.messages c.if-freezes.messages c.args.freeze_to.now c.if-freezes.freeze_to w.finish-closed.result (Ok tt)
+          (search rules) (search rules) (search rules) (search rules) (sym c.in_ok-closed.was ∙ w.closed-is)
+          (finish_closes
+          g.O.ByteSink.contents g.M.ByteSink.contents g.Z.ByteSink.contents g.O.ByteSink.failures g.M.ByteSink.failures g.Z.ByteSink.failures g.Z.ByteSink.takes_whole
+          c.args.freezes c.read_sources.new.session c.read_sources.new.out c.read_sources.new.messages c.args.freeze_to.now
+          w.finish-closed.new.self w.finish-closed.new.out w.finish-closed.new.messages w.finish-closed.result (search rules)
+          w.finish-closed.ensures.gives w.finish-closed.ensures.order w.finish-closed.ensures.any_missing w.finish-closed.ensures.write)
+    ] in
+    record {
+      left = search rules;
+      writes = λ ss s. record {
+        gives = well_so c.args.freezes c.args.session.now.limits ss c.args.session.now c.read_sources.new.session c.if-freezes.session _ _ _ _ _ _ _ _ refl (c.in_ok-read_sources.ensures.writes ss s).goes
+            c.requires.unsaved c.wrapped-wrapped.result c.wrapped-wrapped.ensures k.gives;
+        order = search rules;
+      };
+      frozen = λ ss s. record {
+        sized = sized_so c.args.freezes c.args.session.now.limits ss (after_sources c.args.session.now.limits ss (progress_of c.args.session.now)) c.args.session.now c.read_sources.new.session
+            c.if-freezes.session _ _ _ _ _ _ _ _ refl (c.in_ok-read_sources.ensures.writes ss s).goes k.gives;
+        torn = search rules;
+      };
+      reads = record {
+        reached = λ n. closed_reached g.R.ByteSource.script c.args.sources.now c.read_sources.new.sources
+            c.args.freezes c.args.session.now c.read_sources.new.session c.if-freezes.session _ _ _ _ _ _ n
+            c.in_ok-read_sources.ensures.left.1 c.in_ok-read_sources.ensures.reads.reached c.wrapped-wrapped.result _ _ refl
+            refl k.gives;
+        failed = search rules;
+        taken = search rules;
+      };
+      marks = record {
+        read = search rules;
+        exited = λ code e n. absurd cc;
+      };
+      writers = record {
+        failed = (
+          (
+            k.writers.failed.0.0 ∙ c.in_ok-read_sources.ensures.write.0,
+            k.writers.failed.0.1 ∙ c.in_ok-read_sources.ensures.write.1,
+          ),
+          k.writers.failed.1,
+        );
+        spared = k.writers.spared;
+        spared_by = tt;
+      };
+    }

@@ -1,6 +1,9 @@
-use Rattle.std.proofs.Common.{refl, ◌∙◌}
+use Rattle.std.proofs.Common.{◌≡◌, rules, refl, sym, ap, ◌∙◌}
 use Rattle.m4_engine.proofs.Blockwise.{takes_nothing, needs_so, blocks_came, stopped_so, fault_counted_so, lasting_so}
 use Rattle.m4_engine.proofs.Blockwise.{none_failed, came_counted, ends_so, told_so, told_at_fault}
+use Rattle.m4_input.specs.Input.{IsLasting}
+use Rattle.m4_engine.specs.Continued.{fault_cause}
+use Rattle.m4_engine.proofs.machine.Machine.expand.Goals.{in-Read, in-OutOfMemory}
 use Rattle.m4_engine.proofs.machine.Machine.expand.Goals as goal
 
 pub blocks-2-init : goal.blocks-2-init
@@ -9,42 +12,48 @@ blocks-2-init g c = record { takes = takes_nothing c.args.self.now c.args.input.
 pub expand_in_hand-requires : goal.expand_in_hand-requires
 expand_in_hand-requires g c = record { ready = c.blocks-2.invariant.takes.ready; flushed = c.blocks-2.invariant.takes.flushed }
 
-pub returns-in-Ends-clause-expands : goal.returns-in-Ends-clause-expands
-returns-in-Ends-clause-expands g c = ends_so c.args.self.now c.blocks-2.self c.expand_in_hand.new.self
+pub returns-in-Err-clause-expands : goal.returns-in-Err-clause-expands
+returns-in-Err-clause-expands g c = ends_so c.args.self.now c.blocks-2.self c.expand_in_hand.new.self
     c.args.input.now.pending c.blocks-2.input c.expand_in_hand.new.input _ _ _ _ _ _ _ _ c.blocks-2.wanted
-    c.in-Ends.cause c.expand_in_hand.result c.in-Ends.is c.requires.idle c.blocks-2.invariant.takes
+    c.in-Err.cause c.expand_in_hand.result c.in-Err.is c.requires.idle c.blocks-2.invariant.takes
     c.expand_in_hand.ensures.gives
 
-pub returns-in-Ends-clause-order : goal.returns-in-Ends-clause-order
-returns-in-Ends-clause-order g c = told_so c.args.self.now c.blocks-2.self c.args.input.now.pending c.blocks-2.input _ _
-    _ _ _ _ _ _ c.blocks-2.wanted c.in-Ends.cause c.expand_in_hand.result c.in-Ends.is c.requires.idle
+pub returns-in-Err-clause-order : goal.returns-in-Err-clause-order
+returns-in-Err-clause-order g c = told_so c.args.self.now c.blocks-2.self c.args.input.now.pending c.blocks-2.input _ _
+    _ _ _ _ _ _ c.blocks-2.wanted c.in-Err.cause c.expand_in_hand.result c.in-Err.is c.requires.idle
     c.blocks-2.invariant.takes c.expand_in_hand.ensures.order
 
 pub blocks-2-preserved : goal.blocks-2-preserved
 blocks-2-preserved g c =
-    let h = needs_so c.blocks-2.wanted c.in-Needs.more c.blocks-2.self c.expand_in_hand.new.self c.blocks-2.input c.expand_in_hand.new.input _ c.expand_in_hand.result c.in-Needs.is c.expand_in_hand.ensures.gives in
+    let h = needs_so c.blocks-2.wanted c.in-Ok.more c.blocks-2.self c.expand_in_hand.new.self c.blocks-2.input c.expand_in_hand.new.input _ c.expand_in_hand.result c.in-Ok.is c.expand_in_hand.ensures.gives in
     record {
-      takes = blocks_came c.args.self.now c.blocks-2.self c.expand_in_hand.new.self c.args.input.now.pending c.blocks-2.input c.expand_in_hand.new.input c.read_on.new.input _ _ _ _ _ _ _ _ _ c.blocks-2.wanted c.in-Needs.more c.requires.idle c.blocks-2.invariant.takes h c.in_default.ensures.gives;
-      read = came_counted c.in-Needs.more c.expand_in_hand.new.self _ _ c.expand_in_hand.new.input c.read_on.new.input _ _ h.ready.sound c.in_default.ensures.gives c.in_default.ensures.counted ∙ c.blocks-2.invariant.read;
-      out = c.in-Needs.ensures.counted.0 ∙ c.blocks-2.invariant.out;
-      reported = c.in-Needs.ensures.counted.1 ∙ c.blocks-2.invariant.reported;
+      takes = blocks_came c.args.self.now c.blocks-2.self c.expand_in_hand.new.self c.args.input.now.pending c.blocks-2.input c.expand_in_hand.new.input c.read_on.new.input _ _ _ _ _ _ _ _ _ c.blocks-2.wanted c.in-Ok.more c.requires.idle c.blocks-2.invariant.takes h c.in_default.ensures.gives;
+      read = came_counted c.in-Ok.more c.expand_in_hand.new.self _ _ c.expand_in_hand.new.input c.read_on.new.input _ _ h.ready.sound c.in_default.ensures.gives c.in_default.ensures.counted ∙ c.blocks-2.invariant.read;
+      out = c.in-Ok.ensures.counted.0 ∙ c.blocks-2.invariant.out;
+      reported = c.in-Ok.ensures.counted.1 ∙ c.blocks-2.invariant.reported;
     }
 
-pub cause_of_fault-requires : goal.cause_of_fault-requires
-cause_of_fault-requires g c = lasting_so c.in-Needs.more c.expand_in_hand.new.self _ _ c.expand_in_hand.new.input c.read_on.new.input c.in-Err.fault c.in-Err.ensures.gives
+pub unreachable-requires : goal.unreachable-requires
+unreachable-requires g c =
+    let lasting : IsLasting c.in-Err-read_on.fault = lasting_so c.in-Ok.more c.expand_in_hand.new.self _ _ c.expand_in_hand.new.input c.read_on.new.input c.in-Err-read_on.fault c.in-Err-read_on.ensures.gives in
+    search rules
 
-pub returns-in-Err : goal.returns-in-Err
-returns-in-Err g c =
-    let h = needs_so c.blocks-2.wanted c.in-Needs.more c.blocks-2.self c.expand_in_hand.new.self c.blocks-2.input c.expand_in_hand.new.input _ c.expand_in_hand.result c.in-Needs.is c.expand_in_hand.ensures.gives in
+pub returns-in-Err-read_on : goal.returns-in-Err-read_on
+returns-in-Err-read_on g c =
+    let h = needs_so c.blocks-2.wanted c.in-Ok.more c.blocks-2.self c.expand_in_hand.new.self c.blocks-2.input c.expand_in_hand.new.input _ c.expand_in_hand.result c.in-Ok.is c.expand_in_hand.ensures.gives in
+    let cause : c.match-fault.result ≡ fault_cause c.in-Err-read_on.fault = elim c.match-fault.branch [
+      | in-Read w ↦ w.result-is ∙ sym (ap fault_cause w.in-Read.is)
+      | in-OutOfMemory w ↦ w.result-is ∙ sym (ap fault_cause w.in-OutOfMemory.is)
+    ] in
     record {
       expands = stopped_so c.args.self.now c.blocks-2.self c.expand_in_hand.new.self c.args.input.now.pending
           c.blocks-2.input c.expand_in_hand.new.input c.read_on.new.input _ _ _ _ _ _ _ _ _ c.blocks-2.wanted
-          c.in-Needs.more c.in-Err.fault c.cause_of_fault.result c.cause_of_fault.ensures c.requires.idle
-          c.blocks-2.invariant.takes h c.in-Err.ensures.gives;
+          c.in-Ok.more c.in-Err-read_on.fault c.match-fault.result cause c.requires.idle
+          c.blocks-2.invariant.takes h c.in-Err-read_on.ensures.gives;
       order = told_at_fault c.args.self.now c.blocks-2.self c.expand_in_hand.new.self c.args.input.now.pending
           c.blocks-2.input c.expand_in_hand.new.input c.read_on.new.input _ _ _ _ _ _ _ _ _ c.blocks-2.wanted
-          c.in-Needs.more c.in-Err.fault c.cause_of_fault.result c.cause_of_fault.ensures c.requires.idle
-          c.blocks-2.invariant.takes h c.in-Err.ensures.gives;
-      read = fault_counted_so c.in-Needs.more c.expand_in_hand.new.self _ _ c.expand_in_hand.new.input c.read_on.new.input c.in-Err.fault c.cause_of_fault.result _ _ _ c.cause_of_fault.ensures h.ready.sound c.in-Err.ensures.gives c.blocks-2.invariant.read c.in-Err.ensures.counted;
-      counted = none_failed c.cause_of_fault.result c.in-Err.fault _ c.cause_of_fault.ensures (c.in-Needs.ensures.counted.0 ∙ c.blocks-2.invariant.out, c.in-Needs.ensures.counted.1 ∙ c.blocks-2.invariant.reported);
+          c.in-Ok.more c.in-Err-read_on.fault c.match-fault.result cause c.requires.idle
+          c.blocks-2.invariant.takes h c.in-Err-read_on.ensures.gives;
+      read = fault_counted_so c.in-Ok.more c.expand_in_hand.new.self _ _ c.expand_in_hand.new.input c.read_on.new.input c.in-Err-read_on.fault c.match-fault.result _ _ _ cause h.ready.sound c.in-Err-read_on.ensures.gives c.blocks-2.invariant.read c.in-Err-read_on.ensures.counted;
+      counted = none_failed c.match-fault.result c.in-Err-read_on.fault _ cause (c.in-Ok.ensures.counted.0 ∙ c.blocks-2.invariant.out, c.in-Ok.ensures.counted.1 ∙ c.blocks-2.invariant.reported);
     }

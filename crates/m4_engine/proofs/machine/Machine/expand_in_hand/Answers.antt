@@ -1,14 +1,14 @@
 use Rattle.std.proofs.Common.{◌≡◌, ◌<◌, ◌≤◌, ℕ, List, [], true, false, length, rules, arith, refl, ap, ◌∙◌}
 use Rattle.std.proofs.lemmas.List.{nil_from_length}
 use Rattle.m4_engine.proofs.OnlyGrows.{output_stays}
-use Rattle.m4_engine.proofs.Running.{begins_so, begins_past, not_both, passed, went_on, went_past_line, fell}
+use Rattle.m4_engine.proofs.Running.{begins_so, begins_past, passed, went_on, went_past_line, fell}
 use Rattle.m4_engine.proofs.Begins.{due_none, due_all}
 use Rattle.m4_engine.proofs.Running.{fell_past_line, ended, needed, needs_line_after, breaks, write_breaks}
-use Rattle.m4_engine.proofs.Running.{write_breaks_in_order, lack_breaks_in_order, in_order_end, needs_line_so}
+use Rattle.m4_engine.proofs.Running.{write_breaks_in_order, lack_breaks_in_order, in_order_end, needs_line}
 use Rattle.m4_engine.proofs.Running.{line_done_by, hand_ends}
 use Rattle.m4_engine.proofs.Passing.{passes_ready}
 use Rattle.m4_engine.specs.Engine.{Engine}
-use Rattle.m4_engine.proofs.machine.Machine.expand_in_hand.Goals.{in-Token, in-Line}
+use Rattle.m4_engine.proofs.machine.Machine.expand_in_hand.Goals.{in_default-via-in-Token-1, in_default-via-in-Line+else-not-skip_in_hand}
 use Rattle.m4_engine.proofs.machine.Machine.expand_in_hand.Goals as goal
 
 few_left : (x : List ℕ) → x ≡ [] → length x < 65536
@@ -26,27 +26,24 @@ turn-requires g c = record {
 pub returns-in_default-clause-gives : goal.returns-in_default-clause-gives
 returns-in_default-clause-gives g c = breaks c.args.wanted c.args.self.now c.turns.self c.args.input.now.pending c.turns.input _ _ _ _ c.turns.invariant.runs
 
-pub returns-in-Err-OutOfMemory-clause-gives : goal.returns-in-Err-OutOfMemory-clause-gives
-returns-in-Err-OutOfMemory-clause-gives g c = breaks c.args.wanted c.args.self.now c.turns.self c.args.input.now.pending c.turns.input _ _ _ _ c.turns.invariant.runs
+pub returns-in_default-turn-clause-gives : goal.returns-in_default-turn-clause-gives
+returns-in_default-turn-clause-gives g c = breaks c.args.wanted c.args.self.now c.turns.self c.args.input.now.pending c.turns.input _ _ _ _ c.turns.invariant.runs
 
-pub returns-then-not-at_token-clause-gives : goal.returns-then-not-at_token-clause-gives
-returns-then-not-at_token-clause-gives g c = elim c.match-wanted.branch [
-  | in-Token w ↦ absurd (not_both c.match-wanted.at_token (search rules) (search rules))
-  | in-Line w ↦ needs_line_so c.args.self.now c.args.input.now w.skip_in_hand-at_token.new.self c.match-wanted.input
-      c.args.wanted (g.O.ByteSink.contents c.args.out.now) (g.M.ByteSink.contents c.args.messages.now) (search rules)
-      (search rules) c.requires.ready c.requires.flushed
-      (line_done_by c.args.input.now w.skip_in_hand-at_token.new.self w.skip_in_hand-at_token.result false
-      (search rules) w.skip_in_hand-at_token.ensures)
-]
+pub returns-clause-gives : goal.returns-clause-gives
+returns-clause-gives g c = needs_line c.args.self.now c.args.input.now c.skip_in_hand.new.self c.args.wanted
+    (g.O.ByteSink.contents c.args.out.now) (g.M.ByteSink.contents c.args.messages.now) c.in-Line.is c.requires.ready
+    c.requires.flushed
+    (line_done_by c.args.input.now c.skip_in_hand.new.self c.skip_in_hand.result false (search rules)
+    c.skip_in_hand.ensures)
 
 pub turns-init : goal.turns-init
 turns-init g c = record {
-  runs = elim c.match-wanted.branch [
-    | in-Token w ↦ begins_so c.args.self.now c.args.input.now c.match-wanted.input c.args.wanted _ _ (search rules) (search rules) c.requires.ready c.requires.flushed
-    | in-Line w ↦ begins_past c.args.self.now c.args.input.now w.skip_in_hand-at_token.new.self c.match-wanted.input
+  runs = elim c.in_default.branch [
+    | in_default-via-in-Token-1 w ↦ begins_so c.args.self.now c.args.input.now c.in_default.input c.args.wanted _ _ (search rules) (search rules) c.requires.ready c.requires.flushed
+    | in_default-via-in-Line+else-not-skip_in_hand w ↦ begins_past c.args.self.now c.args.input.now w.skip_in_hand.new.self c.in_default.input
         c.args.wanted _ _ (search rules) (search rules) c.requires.ready c.requires.flushed
-        (line_done_by c.args.input.now w.skip_in_hand-at_token.new.self w.skip_in_hand-at_token.result true
-        (search rules) w.skip_in_hand-at_token.ensures)
+        (line_done_by c.args.input.now w.skip_in_hand.new.self w.skip_in_hand.result true
+        (search rules) w.skip_in_hand.ensures)
   ];
   quiet = c.requires.flushed.messages;
   few = few_left _ c.requires.flushed.output;
@@ -105,38 +102,38 @@ flush-requires g c =
     let grows : length c.pass_plain.new.self.output ≤ length c.turn.new.self.output = output_stays c.pass_plain.new.self c.turn.new.self c.pass_plain.new.input c.turn.new.input c.in-Ok-turn.turned c.in-Ok-turn.ensures.moves c.in-Ok-turn.ensures.made in
     omega arith
 
-pub returns-then-not-skip_in_hand-clause-gives : goal.returns-then-not-skip_in_hand-clause-gives
-returns-then-not-skip_in_hand-clause-gives g c =
+pub returns-then-not-skip_in_hand-2-clause-gives : goal.returns-then-not-skip_in_hand-2-clause-gives
+returns-then-not-skip_in_hand-2-clause-gives g c =
     let r = passed c.args.wanted c.args.self.now c.turns.self c.pass_plain.new.self c.args.input.now.pending c.turns.input c.pass_plain.new.input _ _ _ _ c.turns.invariant.runs c.in-Ok.ensures.passes in
     needs_line_after c.args.wanted c.args.self.now c.pass_plain.new.self c.turn.new.self c.flush.new.self
-    c.args.input.now.pending c.args.input.now c.pass_plain.new.input c.turn.new.input c.skip_in_hand.new.self _ _
+    c.args.input.now.pending c.args.input.now c.pass_plain.new.input c.turn.new.input c.skip_in_hand-in-SkipsLine.new.self _ _
     _ _ _ _ c.in-Ok-turn.turned refl r c.in-Ok-turn.ensures.moves c.in-Ok-turn.ensures.ready c.in-SkipsLine.is
     c.in-Ok-turn.ensures.limits c.in_default-flush.ensures.engine c.in_default-flush.ensures.output
     c.in_default-flush.ensures.messages
-    (line_done_by c.turn.new.input c.skip_in_hand.new.self c.skip_in_hand.result false (search rules)
-    c.skip_in_hand.ensures)
+    (line_done_by c.turn.new.input c.skip_in_hand-in-SkipsLine.new.self c.skip_in_hand-in-SkipsLine.result false (search rules)
+    c.skip_in_hand-in-SkipsLine.ensures)
 
 pub turns-smaller : goal.turns-smaller
 turns-smaller g c = fell_past_line c.turns.self c.pass_plain.new.self c.turn.new.self c.flush.new.self c.turns.input
-    c.pass_plain.new.input c.turn.new.input c.skip_in_hand.new.self _ _ _ _ c.in-Ok-turn.turned c.in-Ok.ensures.passes
+    c.pass_plain.new.input c.turn.new.input c.skip_in_hand-in-SkipsLine.new.self _ _ _ _ c.in-Ok-turn.turned c.in-Ok.ensures.passes
     c.in-Ok-turn.ensures.moves c.in-Ok-turn.ensures.ready c.in-SkipsLine.is
     (due_all c.turn.new.self c.flush.new.self _ _ _ _ c.in_default-flush.ensures.engine
     c.in_default-flush.ensures.output c.in_default-flush.ensures.messages)
-    (line_done_by c.turn.new.input c.skip_in_hand.new.self c.skip_in_hand.result true (search rules)
-    c.skip_in_hand.ensures)
+    (line_done_by c.turn.new.input c.skip_in_hand-in-SkipsLine.new.self c.skip_in_hand-in-SkipsLine.result true (search rules)
+    c.skip_in_hand-in-SkipsLine.ensures)
 
 pub turns-preserved : goal.turns-preserved
 turns-preserved g c =
     let r = passed c.args.wanted c.args.self.now c.turns.self c.pass_plain.new.self c.args.input.now.pending c.turns.input c.pass_plain.new.input _ _ _ _ c.turns.invariant.runs c.in-Ok.ensures.passes in
     record {
       runs = went_past_line c.args.wanted c.args.self.now c.pass_plain.new.self c.turn.new.self c.flush.new.self
-          c.args.input.now.pending c.pass_plain.new.input c.turn.new.input c.skip_in_hand.new.self _ _ _ _ _ _
+          c.args.input.now.pending c.pass_plain.new.input c.turn.new.input c.skip_in_hand-in-SkipsLine.new.self _ _ _ _ _ _
           c.in-Ok-turn.turned r c.in-Ok-turn.ensures.moves c.in-Ok-turn.ensures.ready c.in-SkipsLine.is
           c.in-Ok-turn.ensures.limits
           (due_all c.turn.new.self c.flush.new.self _ _ _ _ c.in_default-flush.ensures.engine
           c.in_default-flush.ensures.output c.in_default-flush.ensures.messages)
-          (line_done_by c.turn.new.input c.skip_in_hand.new.self c.skip_in_hand.result true (search rules)
-          c.skip_in_hand.ensures);
+          (line_done_by c.turn.new.input c.skip_in_hand-in-SkipsLine.new.self c.skip_in_hand-in-SkipsLine.result true (search rules)
+          c.skip_in_hand-in-SkipsLine.ensures);
       quiet = ap (λ (d : Engine). d.messages) c.in_default-flush.ensures.engine;
       few = few_left _ (ap (λ (d : Engine). d.output) c.in_default-flush.ensures.engine);
       out = c.in_default-flush.ensures.counted.0 ∙ c.turns.invariant.out;
@@ -175,5 +172,5 @@ returns-in-Ends-clause-order g c = rw c.cause.ensures (in_order_end c.args.wante
 pub returns-in_default-clause-order : goal.returns-in_default-clause-order
 returns-in_default-clause-order g c = lack_breaks_in_order c.args.wanted c.args.self.now c.turns.self c.args.input.now.pending c.turns.input _ _ _ _ c.turns.invariant.runs
 
-pub returns-in-Err-OutOfMemory-clause-order : goal.returns-in-Err-OutOfMemory-clause-order
-returns-in-Err-OutOfMemory-clause-order g c = lack_breaks_in_order c.args.wanted c.args.self.now c.turns.self c.args.input.now.pending c.turns.input _ _ _ _ c.turns.invariant.runs
+pub returns-in_default-turn-clause-order : goal.returns-in_default-turn-clause-order
+returns-in_default-turn-clause-order g c = lack_breaks_in_order c.args.wanted c.args.self.now c.turns.self c.args.input.now.pending c.turns.input _ _ _ _ c.turns.invariant.runs

@@ -12,25 +12,25 @@ use Rattle.m4_tool.proofs.follow.running.run_late.Goals as goal
 
 pub returns-clause-ran : goal.returns-clause-ran
 returns-clause-ran g c = λ files input names script ss n t e.
-    rw c.requires.before (rw c.into_world.ensures.world (ran_so (defined c.args.options script ss) c.run_keeping-ran.result.ending c.run_keeping-ran.ensures.status.0 g.K.LateStart.name g.K.LateStart.before
-    (g.W.World.files c.run_keeping-ran.new.freeze_to.world) c.run_keeping-ran.new.freeze_to.created c.run_keeping-ran.new.freeze_to.failures
+    rw c.requires.before (rw c.into_world.ensures.world (ran_so (defined c.args.options script ss) c.run_keeping-session.result.0 c.run_keeping-session.ensures.status.0 g.K.LateStart.name g.K.LateStart.before
+    (g.W.World.files c.run_keeping-session.new.freeze_to.world) c.run_keeping-session.new.freeze_to.created c.run_keeping-session.new.freeze_to.failures
     c.over-late.result.failures c.over-late.result.created (g.W.World.files c.over-late.result.world)
-    (g.O.ByteSink.contents c.args.out.now) (g.O.ByteSink.contents c.run_keeping-ran.new.out) (g.M.ByteSink.contents c.args.messages.now) (g.M.ByteSink.contents c.run_keeping-ran.new.messages)
-    (g.O.ByteSink.failures c.args.out.now) (g.O.ByteSink.failures c.run_keeping-ran.new.out) (g.M.ByteSink.failures c.args.messages.now) (g.M.ByteSink.failures c.run_keeping-ran.new.messages)
+    (g.O.ByteSink.contents c.args.out.now) (g.O.ByteSink.contents c.run_keeping-session.new.out) (g.M.ByteSink.contents c.args.messages.now) (g.M.ByteSink.contents c.run_keeping-session.new.messages)
+    (g.O.ByteSink.failures c.args.out.now) (g.O.ByteSink.failures c.run_keeping-session.new.out) (g.M.ByteSink.failures c.args.messages.now) (g.M.ByteSink.failures c.run_keeping-session.new.messages)
     c.over-late.ensures.created (ap g.W.World.files c.over-late.ensures.world ∙ c.requires.before) c.over-late.ensures.failures
-    (c.run_keeping-ran.ensures.gives script t ss (inr (all_extend g.W.Reader.ByteSource.script files input names c.args.sources.now c.run_keeping-ran.new.sources ss n c.run_keeping-ran.ensures.taken e))) c.run_keeping-ran.ensures.write c.run_keeping-ran.ensures.status.1
-    c.run_keeping-ran.new.freeze_to.agrees c.run_keeping-ran.new.freeze_to.tried))
+    (c.run_keeping-session.ensures.gives script t ss (inr (all_extend g.W.Reader.ByteSource.script files input names c.args.sources.now c.run_keeping-session.new.sources ss n c.run_keeping-session.ensures.taken e))) c.run_keeping-session.ensures.write c.run_keeping-session.ensures.status.1
+    c.run_keeping-session.new.freeze_to.agrees c.run_keeping-session.new.freeze_to.tried))
 
 pub returns-clause-torn : goal.returns-clause-torn
 returns-clause-torn g c = λ whole files input names script ss n t e cause.
-    let sources = inr (all_extend g.W.Reader.ByteSource.script files input names c.args.sources.now c.run_keeping-ran.new.sources ss n c.run_keeping-ran.ensures.taken e) in
+    let sources = inr (all_extend g.W.Reader.ByteSource.script files input names c.args.sources.now c.run_keeping-session.new.sources ss n c.run_keeping-session.ensures.taken e) in
     rw c.requires.before (rw c.into_world.ensures.world (tears_from (frozen_state c.args.options (start_of c.args.options.prefix script) ss) g.K.LateStart.name g.K.LateStart.before
-    (g.W.World.files c.run_keeping-ran.new.freeze_to.world) (g.W.World.files c.over-late.result.world) c.run_keeping-ran.new.freeze_to.created c.over-late.result.created
+    (g.W.World.files c.run_keeping-session.new.freeze_to.world) (g.W.World.files c.over-late.result.world) c.run_keeping-session.new.freeze_to.created c.over-late.result.created
     (frozen_in_order c.args.options script ss)
-    c.over-late.ensures.created (ap g.W.World.files c.over-late.ensures.world ∙ c.requires.before) c.run_keeping-ran.new.freeze_to.agrees
-    (c.run_keeping-ran.ensures.torn whole script t ss sources cause)))
+    c.over-late.ensures.created (ap g.W.World.files c.over-late.ensures.world ∙ c.requires.before) c.run_keeping-session.new.freeze_to.agrees
+    (c.run_keeping-session.ensures.torn whole script t ss sources cause)))
 
 pub returns-clause-read : goal.returns-clause-read
 returns-clause-read g c = λ files input names n e.
-    run_fails g.W.Reader.ByteSource.script g.W.Reader.ByteSource.failures files input names c.args.sources.now c.run_keeping-ran.new.sources
-    c.run_keeping-ran.result.ending.cause n c.run_keeping-ran.ensures.taken c.run_keeping-ran.ensures.read.0 e
+    run_fails g.W.Reader.ByteSource.script g.W.Reader.ByteSource.failures files input names c.args.sources.now c.run_keeping-session.new.sources
+    c.run_keeping-session.result.0.cause n c.run_keeping-session.ensures.taken c.run_keeping-session.ensures.read.0 e
