@@ -3,7 +3,7 @@
 //! A call is in a box, which is kept with its memory for the next call. So a call is moved by its address, and most
 //! calls ask for no memory.
 
-ghost use Rattle.std.specs.Prelude.{◌≡◌, ◌<◌, ◌≤◌, ◌+◌, ◌-◌, ◌++◌, ◌∷◌, [], true, false, Ok, OnOk};
+ghost use Rattle.std.specs.Prelude.{◌≡◌, ◌≤◌, ◌+◌, ◌++◌, ◌∷◌, [], true, false, Ok, OnOk};
 ghost use Rattle.std.specs.Prelude.{IfOk, IfSome, None, length, take};
 ghost use Rattle.std.specs.List.{AllByRecursion};
 ghost use Rattle.m4_state.specs.Definition.{IsDefinition};

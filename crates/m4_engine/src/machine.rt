@@ -3,16 +3,16 @@
 //! The output and messages of a turn are buffered until they are flushed, so a turn uses no writer.
 
 ghost use Rattle.std.specs.Prelude.{◌≡◌, [], OnOk, IfOk, IfSome, IfNone};
+ghost use Rattle.m4_state.specs.Device.{Puts, count_after};
 ghost use Rattle.m4_builtins.specs.Messages.{error};
 ghost use Rattle.m4_engine.specs.Engine.{with_text, with_engine_message, with_open_call, engine_at};
 ghost use Rattle.m4_engine.specs.Session.{is_saved};
-ghost use Rattle.m4_engine.specs.Wraps.{joined_back};
+ghost use Rattle.m4_engine.specs.Wraps.{close, joined_back};
 
 mod arguments;
 mod calls;
 mod driver;
 mod ends;
-mod issuing;
 mod limits;
 mod plain;
 mod turn;
@@ -24,8 +24,9 @@ use m4_builtins::effect_buffer::EffectBuffer;
 use m4_builtins::messages::error_message;
 use m4_builtins::place::Place;
 use m4_state::bytes::Bytes;
-use m4_state::definition::Def;
+use m4_state::device::{ByteSink, DeviceFault};
 use m4_state::state::State;
+use m4_state::transfer::write_all;
 use std::alloc::{AllocError, Global};
 use std::marker::Model;
 
@@ -150,5 +151,24 @@ impl Machine {
             joined.extend_from_slice(text.as_slice())?;
         }
         Bytes::from_vec(joined)
+    }
+
+    /// Writes the diversions by rising number, and removes each one from the state.
+    pub fn issue<O: ByteSink>(&mut self, out: &mut O) -> Result<(), DeviceFault>
+        ensures puts { Puts result (O.contents out.old) (O.contents out.new) (close self.old.state) }
+        ensures counted { O.failures out.new ≡ count_after result (O.failures out.old) }
+        ensures rest { self.new ≡ record self.old { state = self.new.state } }
+    {
+        while let Some((_, text)) = self.state.take_least() {
+            write_all(out, &text)?;
+        }
+        Ok(())
+    }
+
+    /// Returns the state.
+    pub fn state(&self) -> &State
+        ensures { result.now ≡ self.now.state }
+    {
+        &self.state
     }
 }

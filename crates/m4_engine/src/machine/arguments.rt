@@ -1,7 +1,7 @@
 //! Bytes of an argument list that are no other token: each extends an argument, ends it, or closes the list.
 //! Manual: "Macro arguments".
 
-ghost use Rattle.std.specs.Prelude.{◌≡◌, ◌<◌, Some, Ok, OnOk};
+ghost use Rattle.std.specs.Prelude.{◌≡◌, OnOk};
 ghost use Rattle.m4_engine.specs.Engine.{ending_argument, IfHead, mode_of, outer_of};
 ghost use Rattle.m4_engine.specs.Turns.{IsTaken, StepsBy, close_in, step};
 ghost use Rattle.m4_engine.specs.Expand.{take_other};

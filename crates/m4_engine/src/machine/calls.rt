@@ -1,7 +1,7 @@
 //! Calls: a call begins at its name and is made when its arguments are complete. Its result is pushed.
 //! Manual: "Macro invocation", "Macro arguments".
 
-ghost use Rattle.std.specs.Prelude.{◌≡◌, ◌<◌, [], ◌++◌, None, Some, Ok, OnOk};
+ghost use Rattle.std.specs.Prelude.{◌≡◌, [], ◌++◌, None, Some, OnOk};
 ghost use Rattle.m4_builtins.specs.Act.{IsPushed};
 ghost use Rattle.m4_engine.specs.Engine.{with_made};
 ghost use Rattle.m4_engine.specs.Expand.{with_saved};

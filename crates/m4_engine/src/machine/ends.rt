@@ -1,7 +1,7 @@
 //! The end of the input, also inside a string, a comment or a list. Manual: "Quoting input tokens", "Comments in m4
 //! input", "Macro arguments".
 
-ghost use Rattle.std.specs.Prelude.{◌≡◌, ◌<◌, Bool, List, ℕ, Some, Ok};
+ghost use Rattle.std.specs.Prelude.{◌≡◌, Bool, List, ℕ};
 ghost use Rattle.m4_input.specs.Token.{Refused};
 ghost use Rattle.m4_input.specs.Pending.{Pending};
 ghost use Rattle.m4_engine.specs.Engine.{mode_of, here_of, outer_of};

@@ -1,6 +1,6 @@
 //! The limits of calls, and of calls that are open, and the errors that report them. Manual: "Limits control".
 
-ghost use Rattle.std.specs.Prelude.{◌≡◌, ◌<◌, ◌&&◌, nat_lt, ◌++◌, OnOk, true, codes};
+ghost use Rattle.std.specs.Prelude.{◌≡◌, nat_lt, ◌++◌, OnOk, true, codes};
 ghost use Rattle.std.specs.Fmt.{decimal};
 ghost use Rattle.m4_builtins.specs.Messages.{error};
 ghost use Rattle.m4_engine.specs.Engine.{with_engine_message, with_one_call, is_deep_in};
