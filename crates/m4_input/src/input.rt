@@ -174,11 +174,13 @@ impl Input {
         self.text.take_buffer()
     }
 
-    /// Discards a definition and the first n bytes.
+    /// Discards a definition and the first n bytes. None of them is looked at if there are no newlines among them
+    /// (`inline`), as in a name.
     #[doc(hidden)]
     #[inline(always)]
-    pub fn consume(&mut self, n: usize)
+    pub fn consume(&mut self, n: usize, inline: bool)
         requires within { n ≤ length (text_of self.old.pending) }
+        requires inline { inline ≡ true → newlines_in (take n (text_of self.old.pending)) ≡ 0 }
         // exact steps: the rest after n bytes
         ensures { self.new ≡ record self.old { pending = consumed n self.old.pending } }
     {
@@ -186,22 +188,7 @@ impl Input {
         if self.definition.is_some() {
             self.definition = None;
         }
-        self.text.consume(n, false);
-    }
-
-    /// Discards a definition and the first n bytes, none of which is a newline: those of a name.
-    #[doc(hidden)]
-    #[inline(always)]
-    pub fn pass(&mut self, n: usize)
-        requires within { n ≤ length (text_of self.old.pending) }
-        requires inline { newlines_in (take n (text_of self.old.pending)) ≡ 0 }
-        // exact steps: the rest after n bytes
-        ensures { self.new ≡ record self.old { pending = consumed n self.old.pending } }
-    {
-        if self.definition.is_some() {
-            self.definition = None;
-        }
-        self.text.consume(n, true);
+        self.text.consume(n, inline);
     }
 
     /// Inserts a value at the start, to be read before everything else. Returns `OutOfMemory` if an
@@ -277,7 +264,7 @@ impl Input {
             let look = first_token(text, delims, others | self.may_follow);
             match copied(self.alloc, look, text) {
                 Ok(Scan::Found(token, len)) => {
-                    self.consume(len);
+                    self.consume(len, false);
                     return Ok(token);
                 }
                 Ok(Scan::Broken(what)) => return Err(self.end_inside(what)),
@@ -426,11 +413,11 @@ impl Input {
         'fronts: loop {
             let (text, more) = self.text.front();
             if let Some(len) = line_len(text) {
-                self.consume(len);
+                self.consume(len, false);
                 return true;
             }
             let len = text.len();
-            self.consume(len);
+            self.consume(len, false);
             if !more {
                 return !self.may_follow;
             }
@@ -454,7 +441,7 @@ impl Input {
     {
         let line = self.line();
         let len = self.text.len();
-        self.consume(len);
+        self.consume(len, false);
         match what {
             Unended::InString => InputFault::EndInString { line },
             Unended::InComment => InputFault::EndInComment { line },

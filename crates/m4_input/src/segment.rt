@@ -35,13 +35,6 @@ impl Segment {
         Segment { text, at: 0, end }
     }
 
-    /// Creates a segment that was read to its end.
-    pub fn spent() -> Segment
-        ensures { result ≡ [] }
-    {
-        Segment::of(Bytes::empty())
-    }
-
     /// Returns the buffer of its text, if it has one of its own.
     pub fn buffer(self) -> Option<Vec<u8>> {
         let Segment {

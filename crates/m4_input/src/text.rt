@@ -74,7 +74,7 @@ impl Text {
         ensures { result ≡ record { pushed = []; unread = []; newlines = 0 } }
     {
         Text {
-            top: Segment::spent(),
+            top: Segment::of(Bytes::empty()),
             below: Vec::new(alloc),
             held: 0,
             file: File::new(alloc),
@@ -250,7 +250,7 @@ impl Text {
             if !self.file.put_before(rest) {
                 return false;
             }
-            self.top = Segment::spent();
+            self.top = Segment::of(Bytes::empty());
             return true;
         };
         let len = next.len();
@@ -302,7 +302,7 @@ impl Text {
         'segments: while left >= self.top.len() {
             left -= self.top.len();
             let Some(next) = self.below.pop() else {
-                let spent = std::mem::replace(&mut self.top, Segment::spent());
+                let spent = std::mem::replace(&mut self.top, Segment::of(Bytes::empty()));
                 keep(&mut self.buffer, spent.buffer());
                 self.file.consume(left, false);
                 return;

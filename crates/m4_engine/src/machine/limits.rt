@@ -4,7 +4,6 @@ ghost use Rattle.std.specs.Prelude.{◌≡◌, nat_lt, ◌++◌, OnOk, true, cod
 ghost use Rattle.std.specs.Fmt.{decimal};
 ghost use Rattle.m4_builtins.specs.Messages.{error};
 ghost use Rattle.m4_engine.specs.Engine.{with_engine_message, with_one_call, is_deep_in};
-ghost use Rattle.m4_engine.specs.Engine.{allows_call};
 
 use crate::call::OpenCall;
 use crate::machine::Machine;
@@ -12,13 +11,6 @@ use crate::turned::TurnFault;
 use itoa::Buffer;
 
 impl Machine {
-    /// Returns whether the limits allow one more call.
-    pub fn allows_call(&self) -> bool
-        ensures { result ≡ allows_call self.now }
-    {
-        self.has_room() && !self.is_deep()
-    }
-
     /// Returns whether the limit of calls allows one more.
     pub(super) fn has_room(&self) -> bool
         ensures { result ≡ nat_lt self.now.calls self.now.limits.calls }

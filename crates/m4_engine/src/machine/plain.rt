@@ -39,7 +39,7 @@ impl Machine {
             let more = others | input.may_follow();
             let (len, lookahead) = self.pass_text(text, more)?;
             let left = text.len() - len;
-            input.consume(len);
+            input.consume(len, false);
             match lookahead {
                 Lookahead::Further => looked = 0,
                 Lookahead::Undecided if others => {
@@ -58,7 +58,7 @@ impl Machine {
     fn pass_text(&mut self, text: &[u8], more: bool) -> Result<(usize, Lookahead), TurnFault>
         ensures { IfOk result (λ r. PassesBy r.0 r.1 text.now more self.old self.new) }
     {
-        let room = self.allows_call();
+        let room = self.has_room() && !self.is_deep();
         let Some(call) = &mut self.innermost else {
             return self.pass_outside(text, more, room);
         };

@@ -29,18 +29,18 @@ impl Machine {
     {
         match lookahead {
             Lookahead::Byte(byte) => {
-                input.consume(1);
+                input.consume(1, false);
                 self.take_byte(byte, input)
             }
             Lookahead::Expansion(len, text) => {
-                input.pass(len);
+                input.consume(len, true);
                 self.count();
                 push(input, Pushed::Text(text))?;
                 self.begin_argument();
                 Ok(Turned::GoesOn)
             }
             Lookahead::LineSkip(len) => {
-                input.pass(len);
+                input.consume(len, true);
                 self.count();
                 self.begin_argument();
                 Ok(Turned::SkipsLine)
@@ -76,7 +76,7 @@ impl Machine {
             unreachable!();
         };
         self.put_text(text.split_at(begin).1.split_at(end - begin).0)?;
-        input.consume(all);
+        input.consume(all, false);
         Ok(Turned::GoesOn)
     }
 
@@ -115,7 +115,7 @@ impl Machine {
     {
         let mut call = call;
         call.set_place(input.share_name()?, input.line());
-        input.pass(len);
+        input.consume(len, true);
         if !listed && needs_list(call.definition()) {
             self.put_text(call.name())?;
             return Ok(Turned::GoesOn);
@@ -133,7 +133,7 @@ impl Machine {
             return self.call(call, input);
         }
         // The parenthesis was recognised as a token, so it is one byte.
-        input.consume(1);
+        input.consume(1, false);
         self.open_list(call)?;
         Ok(Turned::GoesOn)
     }

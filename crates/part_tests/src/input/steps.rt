@@ -285,7 +285,7 @@ fn take_all(alloc: Global, input: &mut Input) -> Result<Vec<u8>, AllocError> {
     for _ in 0..TEXTS {
         let front = in_hand(alloc, input)?;
         all.extend_from_slice(&front)?;
-        input.consume(front.len());
+        input.consume(front.len(), false);
     }
     Ok(all)
 }
@@ -359,7 +359,7 @@ fn take_front(alloc: Global, input: &mut Input, n: usize) -> Result<(), AllocErr
     let mut left = n;
     for _ in 0..TEXTS {
         let len = in_hand(alloc, input)?.len().min(left);
-        input.consume(len);
+        input.consume(len, false);
         left = left.saturating_sub(len);
     }
     Ok(())

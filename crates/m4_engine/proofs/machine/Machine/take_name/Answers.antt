@@ -19,8 +19,8 @@ use Rattle.m4_engine.proofs.Turning.{found_steps_at}
 use Rattle.m4_engine.proofs.machine.Machine.take_name.Goals as goal
 
 -- a name has no newline
-pub pass-requires-clause-inline : goal.pass-requires-clause-inline
-pass-requires-clause-inline c =
+pub consume-requires-clause-inline : goal.consume-requires-clause-inline
+consume-requires-clause-inline c = λ u.
     let e = c.args.self.now in
     let p = c.args.input.now.pending in
     name_has_none e.state.quotes e.state.comments p.may_follow (text_of p) _ c.args.len c.requires.named.scanned
@@ -29,16 +29,16 @@ pub returns-then-needs_list : goal.returns-then-needs_list
 returns-then-needs_list c =
     let e = c.args.self.now in
     let p = c.args.input.now.pending in
-    let k = c.pass.new.self in
+    let k = c.consume.new.self in
     let q = k.pending in
     let name : List ℕ = take c.args.len (text_of p) in
     let at : Place = record { file = c.in_ok-share_name.field-0; line = c.line.result } in
     let d = c.set_place.new.self in
     let none : c.args.listed ≡ false = search rules in
-    let rest : q.definition ≡ None = ap (λ (i : Held). (i.pending).definition) c.pass.ensures in
-    let list : paren_at e.state.quotes e.state.comments q ≡ answer_of false = list_there e.state.quotes e.state.comments p q c.args.len (answer_of c.args.listed) (ap (λ (i : Held). i.pending) c.pass.ensures) c.requires.named.list ∙ ap answer_of none in
+    let rest : q.definition ≡ None = ap (λ (i : Held). (i.pending).definition) c.consume.ensures in
+    let list : paren_at e.state.quotes e.state.comments q ≡ answer_of false = list_there e.state.quotes e.state.comments p q c.args.len (answer_of c.args.listed) (ap (λ (i : Held). i.pending) c.consume.ensures) c.requires.named.list ∙ ap answer_of none in
     let called : IsCalled d e.state name = called_at c.args.call d at e.state name c.set_place.ensures c.requires.called in
-    found_steps_at e c.put_text.new.self (Name name) c.args.len c.args.input.now k k (Ok turns.GoesOn) c.requires.first c.requires.named.scanned c.pass.ensures
+    found_steps_at e c.put_text.new.self (Name name) c.args.len c.args.input.now k k (Ok turns.GoesOn) c.requires.first c.requires.named.scanned c.consume.ensures
     (bare_moves e c.put_text.new.self d name p q rest list (search rules) (search rules) called)
     {to = λ t. Unit {0}} (record { moves = tt; ready = search rules; limits = search rules; made = tt })
 
@@ -46,17 +46,17 @@ pub returns-then-not-has_room : goal.returns-then-not-has_room
 returns-then-not-has_room c =
     let e = c.args.self.now in
     let p = c.args.input.now.pending in
-    let k = c.pass.new.self in
+    let k = c.consume.new.self in
     let q = k.pending in
     let name : List ℕ = take c.args.len (text_of p) in
     let at : Place = record { file = c.in_ok-share_name.field-0; line = c.line.result } in
     let d = c.set_place.new.self in
-    let rest : q.definition ≡ None = ap (λ (i : Held). (i.pending).definition) c.pass.ensures in
-    let list : paren_at e.state.quotes e.state.comments q ≡ answer_of c.args.listed = list_there e.state.quotes e.state.comments p q c.args.len (answer_of c.args.listed) (ap (λ (i : Held). i.pending) c.pass.ensures) c.requires.named.list in
+    let rest : q.definition ≡ None = ap (λ (i : Held). (i.pending).definition) c.consume.ensures in
+    let list : paren_at e.state.quotes e.state.comments q ≡ answer_of c.args.listed = list_there e.state.quotes e.state.comments p q c.args.len (answer_of c.args.listed) (ap (λ (i : Held). i.pending) c.consume.ensures) c.requires.named.list in
     let called : IsCalled d e.state name = called_at c.args.call d at e.state name c.set_place.ensures c.requires.called in
     let there : at ≡ place_at p = place_of_file at p p (line_of p) (search rules) (search rules) refl in
     let placed : d.place ≡ place_at p = ap (λ (x : Call). x.place) c.set_place.ensures ∙ there in
-    found_steps_at e c.report_limit-then-not-has_room.new.self (Name name) c.args.len c.args.input.now k k (Ok (turns.Ends ends.ExpansionLimit)) c.requires.first c.requires.named.scanned c.pass.ensures
+    found_steps_at e c.report_limit-then-not-has_room.new.self (Name name) c.args.len c.args.input.now k k (Ok (turns.Ends ends.ExpansionLimit)) c.requires.first c.requires.named.scanned c.consume.ensures
     (made_moves e c.report_limit-then-not-has_room.new.self d c.args.listed name p q (k).pending (Ok (turns.Ends ends.ExpansionLimit)) rest list (search rules) called placed
     (λ before z more u o m. refused_calls e c.report_limit-then-not-has_room.new.self d c.args.listed (longer z more q) (before z more) o m (search rules)
     (told e _ d.place _ _ (codes " calls") (ap (λ (x : Engine). (x.limits).calls) c.report_limit.view_is) c.in_ok-report_limit.ensures)))
@@ -66,17 +66,17 @@ pub returns-then-is_deep : goal.returns-then-is_deep
 returns-then-is_deep c =
     let e = c.args.self.now in
     let p = c.args.input.now.pending in
-    let k = c.pass.new.self in
+    let k = c.consume.new.self in
     let q = k.pending in
     let name : List ℕ = take c.args.len (text_of p) in
     let at : Place = record { file = c.in_ok-share_name.field-0; line = c.line.result } in
     let d = c.set_place.new.self in
-    let rest : q.definition ≡ None = ap (λ (i : Held). (i.pending).definition) c.pass.ensures in
-    let list : paren_at e.state.quotes e.state.comments q ≡ answer_of c.args.listed = list_there e.state.quotes e.state.comments p q c.args.len (answer_of c.args.listed) (ap (λ (i : Held). i.pending) c.pass.ensures) c.requires.named.list in
+    let rest : q.definition ≡ None = ap (λ (i : Held). (i.pending).definition) c.consume.ensures in
+    let list : paren_at e.state.quotes e.state.comments q ≡ answer_of c.args.listed = list_there e.state.quotes e.state.comments p q c.args.len (answer_of c.args.listed) (ap (λ (i : Held). i.pending) c.consume.ensures) c.requires.named.list in
     let called : IsCalled d e.state name = called_at c.args.call d at e.state name c.set_place.ensures c.requires.called in
     let there : at ≡ place_at p = place_of_file at p p (line_of p) (search rules) (search rules) refl in
     let placed : d.place ≡ place_at p = ap (λ (x : Call). x.place) c.set_place.ensures ∙ there in
-    found_steps_at e c.report_limit-then-is_deep-2.new.self (Name name) c.args.len c.args.input.now k k (Ok (turns.Ends ends.NestingLimit)) c.requires.first c.requires.named.scanned c.pass.ensures
+    found_steps_at e c.report_limit-then-is_deep-2.new.self (Name name) c.args.len c.args.input.now k k (Ok (turns.Ends ends.NestingLimit)) c.requires.first c.requires.named.scanned c.consume.ensures
     (made_moves e c.report_limit-then-is_deep-2.new.self d c.args.listed name p q (k).pending (Ok (turns.Ends ends.NestingLimit)) rest list (search rules) called placed
     (λ before z more u o m. depth_refused e c.count.new.self c.report_limit-then-is_deep-2.new.self d c.args.listed (longer z more q) (before z more) o m (search rules) c.count.ensures (search rules)
     (told c.count.new.self _ d.place _ _ (codes " nested calls") (ap (λ (x : Engine). (x.limits).nesting) c.report_limit-then-is_deep.view_is) c.in_ok-report_limit-2.ensures)))
@@ -86,17 +86,17 @@ pub returns-then-not-listed-2 : goal.returns-then-not-listed-2
 returns-then-not-listed-2 c =
     let e = c.args.self.now in
     let p = c.args.input.now.pending in
-    let k = c.pass.new.self in
+    let k = c.consume.new.self in
     let q = k.pending in
     let name : List ℕ = take c.args.len (text_of p) in
     let at : Place = record { file = c.in_ok-share_name.field-0; line = c.line.result } in
     let d = c.set_place.new.self in
-    let rest : q.definition ≡ None = ap (λ (i : Held). (i.pending).definition) c.pass.ensures in
-    let list : paren_at e.state.quotes e.state.comments q ≡ answer_of c.args.listed = list_there e.state.quotes e.state.comments p q c.args.len (answer_of c.args.listed) (ap (λ (i : Held). i.pending) c.pass.ensures) c.requires.named.list in
+    let rest : q.definition ≡ None = ap (λ (i : Held). (i.pending).definition) c.consume.ensures in
+    let list : paren_at e.state.quotes e.state.comments q ≡ answer_of c.args.listed = list_there e.state.quotes e.state.comments p q c.args.len (answer_of c.args.listed) (ap (λ (i : Held). i.pending) c.consume.ensures) c.requires.named.list in
     let called : IsCalled d e.state name = called_at c.args.call d at e.state name c.set_place.ensures c.requires.called in
     let there : at ≡ place_at p = place_of_file at p p (line_of p) (search rules) (search rules) refl in
     let placed : d.place ≡ place_at p = ap (λ (x : Call). x.place) c.set_place.ensures ∙ there in
-    found_steps_at e c.call-then-not-listed-2.new.self (Name name) c.args.len c.args.input.now k c.call-then-not-listed-2.new.input (c.call-then-not-listed-2.result) c.requires.first c.requires.named.scanned c.pass.ensures
+    found_steps_at e c.call-then-not-listed-2.new.self (Name name) c.args.len c.args.input.now k c.call-then-not-listed-2.new.input (c.call-then-not-listed-2.result) c.requires.first c.requires.named.scanned c.consume.ensures
     (made_moves e c.call-then-not-listed-2.new.self d c.args.listed name p q (c.call-then-not-listed-2.new.input).pending (c.call-then-not-listed-2.result) rest list (search rules) called placed
     (bare_made q.may_follow e c.count.new.self c.call-then-not-listed-2.new.self d c.args.listed (λ z more. longer z more q) c.call-then-not-listed-2.new.input.pending c.call-then-not-listed-2.result
     (search rules) (search rules) c.count.ensures (search rules) c.call-then-not-listed-2.ensures.moves))
@@ -106,19 +106,19 @@ pub returns : goal.returns
 returns c =
     let e = c.args.self.now in
     let p = c.args.input.now.pending in
-    let k = c.pass.new.self in
+    let k = c.consume.new.self in
     let q = k.pending in
     let name : List ℕ = take c.args.len (text_of p) in
     let at : Place = record { file = c.in_ok-share_name.field-0; line = c.line.result } in
     let d = c.set_place.new.self in
-    let rest : q.definition ≡ None = ap (λ (i : Held). (i.pending).definition) c.pass.ensures in
-    let list : paren_at e.state.quotes e.state.comments q ≡ answer_of c.args.listed = list_there e.state.quotes e.state.comments p q c.args.len (answer_of c.args.listed) (ap (λ (i : Held). i.pending) c.pass.ensures) c.requires.named.list in
+    let rest : q.definition ≡ None = ap (λ (i : Held). (i.pending).definition) c.consume.ensures in
+    let list : paren_at e.state.quotes e.state.comments q ≡ answer_of c.args.listed = list_there e.state.quotes e.state.comments p q c.args.len (answer_of c.args.listed) (ap (λ (i : Held). i.pending) c.consume.ensures) c.requires.named.list in
     let called : IsCalled d e.state name = called_at c.args.call d at e.state name c.set_place.ensures c.requires.called in
     let there : at ≡ place_at p = place_of_file at p p (line_of p) (search rules) (search rules) refl in
     let placed : d.place ≡ place_at p = ap (λ (x : Call). x.place) c.set_place.ensures ∙ there in
-    found_steps_at e c.open_list.new.self (Name name) c.args.len c.args.input.now k c.consume.new.self (Ok turns.GoesOn) c.requires.first c.requires.named.scanned c.pass.ensures
-    (made_moves e c.open_list.new.self d c.args.listed name p q (c.consume.new.self).pending (Ok turns.GoesOn) rest list (search rules) called placed
-    (λ before z more u o m. list_begins_so e c.count.new.self c.open_list.new.self d c.args.listed q c.consume.new.self.pending (before z more) z more o m
-    (search rules) (search rules) c.count.ensures (search rules) (ap (λ (i : Held). i.pending) c.consume.ensures)
+    found_steps_at e c.open_list.new.self (Name name) c.args.len c.args.input.now k c.consume-2.new.self (Ok turns.GoesOn) c.requires.first c.requires.named.scanned c.consume.ensures
+    (made_moves e c.open_list.new.self d c.args.listed name p q (c.consume-2.new.self).pending (Ok turns.GoesOn) rest list (search rules) called placed
+    (λ before z more u o m. list_begins_so e c.count.new.self c.open_list.new.self d c.args.listed q c.consume-2.new.self.pending (before z more) z more o m
+    (search rules) (search rules) c.count.ensures (search rules) (ap (λ (i : Held). i.pending) c.consume-2.ensures)
     (search rules) c.in_ok-open_list.ensures))
     {to = λ t. Unit {0}} (record { moves = tt; ready = search rules; limits = search rules; made = search rules })

@@ -24,7 +24,7 @@ pub returns-in_ok-push-in-Expansion : goal.returns-in_ok-push-in-Expansion
 returns-in_ok-push-in-Expansion c =
     let e = c.args.self.now in
     let p = c.args.input.now.pending in
-    let k = c.pass.new.self in
+    let k = c.consume-in-Expansion.new.self in
     let q = k.pending in
     let r = c.push.new.input.pending in
     let n = c.in-Expansion.len in
@@ -33,11 +33,11 @@ returns-in_ok-push-in-Expansion c =
     let counted = c.count.new.self in
     let new = c.begin_argument.new.self in
     let h = subst (λ (v : Lookahead). IsLookahead v e p) c.in-Expansion.is c.requires.lookahead in
-    let rest : q.definition ≡ None = ap (λ (i : Held). (i.pending).definition) c.pass.ensures in
-    let list : paren_at e.state.quotes e.state.comments q ≡ answer_of false = list_there e.state.quotes e.state.comments p q n (answer_of false) (ap (λ (i : Held). i.pending) c.pass.ensures) (h.1.0).list in
+    let rest : q.definition ≡ None = ap (λ (i : Held). (i.pending).definition) c.consume-in-Expansion.ensures in
+    let list : paren_at e.state.quotes e.state.comments q ≡ answer_of false = list_there e.state.quotes e.state.comments p q n (answer_of false) (ap (λ (i : Held). i.pending) c.consume-in-Expansion.ensures) (h.1.0).list in
     let room = room_allows e h.1.1 in
     let made : new ≡ with_made [] [] None counted = c.begin_argument.ensures in
-    found_steps_at e new (Name name) n c.args.input.now k c.push.new.input (Ok turns.GoesOn) h.0 (h.1.0).scanned c.pass.ensures
+    found_steps_at e new (Name name) n c.args.input.now k c.push.new.input (Ok turns.GoesOn) h.0 (h.1.0).scanned c.consume-in-Expansion.ensures
     (expansion_moves e new text name p q r (Ok turns.GoesOn) rest list h.1.2
     (expanded_goes q.may_follow e counted new text (λ z more. longer z more q) r (Ok turns.GoesOn) room.0 room.1 c.count.ensures
     (λ a x d g. text_goes q.may_follow counted new a x text q r d g made c.in_ok-push-in-Expansion.ensures.pushes)))
@@ -47,28 +47,28 @@ pub returns-in-LineSkip : goal.returns-in-LineSkip
 returns-in-LineSkip c =
     let e = c.args.self.now in
     let p = c.args.input.now.pending in
-    let k = c.pass-in-LineSkip.new.self in
+    let k = c.consume-in-LineSkip.new.self in
     let q = k.pending in
     let n = c.in-LineSkip.len in
     let name : List ℕ = take n (text_of p) in
     let h = subst (λ (v : Lookahead). IsLookahead v e p) c.in-LineSkip.is c.requires.lookahead in
-    let rest : q.definition ≡ None = ap (λ (i : Held). (i.pending).definition) c.pass-in-LineSkip.ensures in
-    let list : paren_at e.state.quotes e.state.comments q ≡ answer_of false = list_there e.state.quotes e.state.comments p q n (answer_of false) (ap (λ (i : Held). i.pending) c.pass-in-LineSkip.ensures) (h.1.0).list in
+    let rest : q.definition ≡ None = ap (λ (i : Held). (i.pending).definition) c.consume-in-LineSkip.ensures in
+    let list : paren_at e.state.quotes e.state.comments q ≡ answer_of false = list_there e.state.quotes e.state.comments p q n (answer_of false) (ap (λ (i : Held). i.pending) c.consume-in-LineSkip.ensures) (h.1.0).list in
     let room = room_allows e h.1.1 in
-    found_steps_at e c.begin_argument-in-LineSkip.new.self (Name name) n c.args.input.now k k (Ok turns.SkipsLine) h.0 (h.1.0).scanned c.pass-in-LineSkip.ensures
+    found_steps_at e c.begin_argument-in-LineSkip.new.self (Name name) n c.args.input.now k k (Ok turns.SkipsLine) h.0 (h.1.0).scanned c.consume-in-LineSkip.ensures
     (line_skips e c.begin_argument-in-LineSkip.new.self name p q rest list room.0 room.1 (c.begin_argument-in-LineSkip.ensures ∙ ap (λ (x : Engine). with_made [] [] None x) c.count-in-LineSkip.ensures) h.1.2)
     {to = λ t. Unit {0}} (record { moves = tt; ready = search rules; limits = search rules; made = tt })
 
 -- a name has no newline
-pub pass-requires-clause-inline : goal.pass-requires-clause-inline
-pass-requires-clause-inline c =
+pub consume-requires-in-Expansion-clause-inline : goal.consume-requires-in-Expansion-clause-inline
+consume-requires-in-Expansion-clause-inline c = λ u.
     let e = c.args.self.now in
     let p = c.args.input.now.pending in
     let h = subst (λ (v : Lookahead). IsLookahead v e p) c.in-Expansion.is c.requires.lookahead in
     name_has_none e.state.quotes e.state.comments p.may_follow (text_of p) _ c.in-Expansion.len (h.1.0).scanned
 
-pub pass-requires-in-LineSkip-clause-inline : goal.pass-requires-in-LineSkip-clause-inline
-pass-requires-in-LineSkip-clause-inline c =
+pub consume-requires-in-LineSkip-clause-inline : goal.consume-requires-in-LineSkip-clause-inline
+consume-requires-in-LineSkip-clause-inline c = λ u.
     let e = c.args.self.now in
     let p = c.args.input.now.pending in
     let h = subst (λ (v : Lookahead). IsLookahead v e p) c.in-LineSkip.is c.requires.lookahead in

@@ -39,7 +39,7 @@ returns-in_default c =
     let left = c.segments.left in
     let empty : c.pop.new.self.items ≡ [] = nil_from_length c.pop.new.self.items (omega (arith, c.in_default.ensures.cases)) in
     let gone : s.below.items ≡ [] = c.in_default.ensures.items ∙ ap (λ (x : List (List ℕ)). x ++ []) empty in
-    ap (λ (x : List ℕ). with_text (x ++ joined c.pop.new.self.items) c.consume.new.self) (c.replace-spent.ensures.after ∙ c.spent.ensures)
+    ap (λ (x : List ℕ). with_text (x ++ joined c.pop.new.self.items) c.consume.new.self) (c.replace-spent.ensures.after ∙ c.of.ensures ∙ c.empty.ensures)
     ∙ ap (λ (x : List (List ℕ)). with_text (joined x) c.consume.new.self) empty
     ∙ c.consume.ensures
     ∙ ap (λ m. text_after (left - m) f) c.len-left.ensures.len
