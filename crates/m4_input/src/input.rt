@@ -26,7 +26,6 @@ use std::alloc::{AllocError, Global};
 use std::marker::Model;
 
 /// A file or wrapped text that is being read, with the values that calls pushed before it.
-#[derive(Drop)]
 pub struct Input {
     alloc: Global,
     definition: Option<Def>,
@@ -45,6 +44,20 @@ impl Model for Input {
     ghost view = { view_of };
 
     ghost invariant = { λ i. IsHeld (view_of i) };
+}
+
+// Written out so that a caller's proof contains one call, not the drop of each field.
+impl Drop for Input {
+    fn drop(self) {
+        let Input {
+            alloc: _alloc,
+            definition: _definition,
+            text: _text,
+            name: _name,
+            may_follow: _may_follow,
+            fault: _fault,
+        } = self;
+    }
 }
 
 impl Input {
