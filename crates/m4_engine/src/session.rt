@@ -27,7 +27,6 @@ use std::alloc::Global;
 use std::marker::Model;
 
 /// A run that is made call by call, between two of them.
-#[derive(Drop)]
 pub struct Session {
     machine: Machine,
     any_missing: bool,
@@ -45,6 +44,18 @@ impl Model for Session {
     ghost view = { session_view };
 
     ghost invariant = { λ s. IsIdle s.machine };
+}
+
+// Written out so that a caller's proof contains one call, not the drop of each field.
+impl Drop for Session {
+    fn drop(self) {
+        let Session {
+            machine: _machine,
+            any_missing: _any_missing,
+            over: _over,
+            finished: _finished,
+        } = self;
+    }
 }
 
 impl Session {
