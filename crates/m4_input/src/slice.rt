@@ -9,18 +9,6 @@ use crate::lanes::short_word_len;
 use m4_state::lanes::LANES;
 use memchr::{memchr, memmem};
 
-// A byte that may occur in a name is at its own place, and a comma is at all others. To look a byte up takes half the
-// time of comparing it with letters, digits and the underscore.
-static NAME_BYTES: [u8; 256] = *b"\
-    ,,,,,,,,,,,,,,,,,,,,,,,,,,,,,,,,\
-    ,,,,,,,,,,,,,,,,0123456789,,,,,,\
-    ,ABCDEFGHIJKLMNOPQRSTUVWXYZ,,,,_\
-    ,abcdefghijklmnopqrstuvwxyz,,,,,\
-    ,,,,,,,,,,,,,,,,,,,,,,,,,,,,,,,,\
-    ,,,,,,,,,,,,,,,,,,,,,,,,,,,,,,,,\
-    ,,,,,,,,,,,,,,,,,,,,,,,,,,,,,,,,\
-    ,,,,,,,,,,,,,,,,,,,,,,,,,,,,,,,,";
-
 /// Returns whether a byte is an ASCII letter or an underscore; a name begins with one.
 pub fn is_letter_byte(b: u8) -> bool
     ensures { result ≡ is_letter b }
@@ -32,7 +20,7 @@ pub fn is_letter_byte(b: u8) -> bool
 pub fn is_word_byte(b: u8) -> bool
     ensures { result ≡ is_name_byte b }
 {
-    NAME_BYTES[b as usize] != b','
+    b.is_ascii_alphanumeric() || b == b'_'
 }
 
 /// Counts the bytes of the name at the start.
