@@ -16,13 +16,6 @@ pub fn is_letter_byte(b: u8) -> bool
     b.is_ascii_alphabetic() || b == b'_'
 }
 
-/// Returns whether a byte may occur in a name.
-pub fn is_word_byte(b: u8) -> bool
-    ensures { result ≡ is_name_byte b }
-{
-    b.is_ascii_alphanumeric() || b == b'_'
-}
-
 /// Counts the bytes of the name at the start.
 pub fn word_len(bytes: &[u8]) -> usize
     ensures value { result ≡ run_length is_name_byte bytes.now }
@@ -35,7 +28,7 @@ pub fn word_len(bytes: &[u8]) -> usize
         }
     }
     let mut k = 0;
-    while k < bytes.len() && is_word_byte(bytes[k]) {
+    while k < bytes.len() && (bytes[k].is_ascii_alphanumeric() || bytes[k] == b'_') {
         k += 1;
     }
     k

@@ -11,13 +11,6 @@ use crate::turned::TurnFault;
 use itoa::Buffer;
 
 impl Machine {
-    /// Returns whether the limit of calls allows one more.
-    pub(super) fn has_room(&self) -> bool
-        ensures { result ≡ nat_lt self.now.calls self.now.limits.calls }
-    {
-        self.calls < self.most_calls
-    }
-
     /// Counts a call.
     pub(super) fn count(&mut self)
         requires { nat_lt self.old.calls self.old.limits.calls ≡ true }

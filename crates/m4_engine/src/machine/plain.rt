@@ -58,7 +58,7 @@ impl Machine {
     fn pass_text(&mut self, text: &[u8], more: bool) -> Result<(usize, Lookahead), TurnFault>
         ensures { IfOk result (λ r. PassesBy r.0 r.1 text.now more self.old self.new) }
     {
-        let room = self.has_room() && !self.is_deep();
+        let room = self.calls < self.most_calls && !self.is_deep();
         let Some(call) = &mut self.innermost else {
             return self.pass_outside(text, more, room);
         };

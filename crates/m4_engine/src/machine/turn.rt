@@ -120,7 +120,7 @@ impl Machine {
             self.put_text(call.name())?;
             return Ok(Turned::GoesOn);
         }
-        if !self.has_room() {
+        if self.calls >= self.most_calls {
             self.report_limit(&call, self.most_calls, b" calls")?;
             return Ok(Turned::Ends(TurnEnd::ExpansionLimit));
         }

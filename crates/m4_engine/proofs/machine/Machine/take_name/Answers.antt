@@ -42,8 +42,8 @@ returns-then-needs_list c =
     (bare_moves e c.put_text.new.self d name p q rest list (search rules) (search rules) called)
     {to = λ t. Unit {0}} (record { moves = tt; ready = search rules; limits = search rules; made = tt })
 
-pub returns-then-not-has_room : goal.returns-then-not-has_room
-returns-then-not-has_room c =
+pub returns-then-self : goal.returns-then-self
+returns-then-self c =
     let e = c.args.self.now in
     let p = c.args.input.now.pending in
     let k = c.consume.new.self in
@@ -56,9 +56,9 @@ returns-then-not-has_room c =
     let called : IsCalled d e.state name = called_at c.args.call d at e.state name c.set_place.ensures c.requires.called in
     let there : at ≡ place_at p = place_of_file at p p (line_of p) (search rules) (search rules) refl in
     let placed : d.place ≡ place_at p = ap (λ (x : Call). x.place) c.set_place.ensures ∙ there in
-    found_steps_at e c.report_limit-then-not-has_room.new.self (Name name) c.args.len c.args.input.now k k (Ok (turns.Ends ends.ExpansionLimit)) c.requires.first c.requires.named.scanned c.consume.ensures
-    (made_moves e c.report_limit-then-not-has_room.new.self d c.args.listed name p q (k).pending (Ok (turns.Ends ends.ExpansionLimit)) rest list (search rules) called placed
-    (λ before z more u o m. refused_calls e c.report_limit-then-not-has_room.new.self d c.args.listed (longer z more q) (before z more) o m (search rules)
+    found_steps_at e c.report_limit-then-self.new.self (Name name) c.args.len c.args.input.now k k (Ok (turns.Ends ends.ExpansionLimit)) c.requires.first c.requires.named.scanned c.consume.ensures
+    (made_moves e c.report_limit-then-self.new.self d c.args.listed name p q (k).pending (Ok (turns.Ends ends.ExpansionLimit)) rest list (search rules) called placed
+    (λ before z more u o m. refused_calls e c.report_limit-then-self.new.self d c.args.listed (longer z more q) (before z more) o m (search rules)
     (told e _ d.place _ _ (codes " calls") (ap (λ (x : Engine). (x.limits).calls) c.report_limit.view_is) c.in_ok-report_limit.ensures)))
     {to = λ t. Unit {0}} (record { moves = tt; ready = search rules; limits = search rules; made = search rules })
 
