@@ -1,5 +1,5 @@
 -- ListRuns: tokens of a list in order.
-use Rattle.std.proofs.Common.{◌≡◌, inr, Bool, ℕ, suc, ◌+◌, ◌≤◌, true, false, List, [], ◌∷◌, ◌++◌, take, drop, length}
+use Rattle.std.proofs.Common.{◌≡◌, inr, Bool, ℕ, suc, ◌+◌, ◌≤◌, true, List, [], ◌∷◌, ◌++◌, take, drop, length}
 use Rattle.std.proofs.Common.{refl, sym, ap, ◌∙◌, subst, arith, append-nil, append_assoc}
 use Rattle.std.proofs.lemmas.List.{drop-drop, length-take-le, take-append-drop}
 use Rattle.m4_state.specs.declared.delimiters.Delimiters.{Delimiters}

@@ -1,6 +1,6 @@
 -- TextBytes: bytes that are text in an argument.
 use Rattle.std.proofs.Common.{◌≡◌, ◌<◌, ℕ, Bool, true, false, ◌&&◌, not, List, ◌∷◌, get_or, refl, ap, ◌∙◌}
-use Rattle.std.specs.Prelude.{nat_lt, ◌||◌, ◌==◌}
+use Rattle.std.specs.Prelude.{◌||◌, ◌==◌}
 use Rattle.m4_state.specs.declared.delimiters.Delimiters.{Delimiters}
 use Rattle.m4_input.specs.Ascii.{is_letter, is_space}
 use Rattle.m4_input.proofs.ByteTables.{all_below, at_each}

@@ -1,11 +1,5 @@
-use Rattle.std.proofs.Common.{◌≡◌, ◌<◌, ◌≤◌, ◌-◌, ◌∙◌, ℕ, Bool, List, inl, take, drop, length, subst, ap, sym, arith, rules}
-use Rattle.m4_state.specs.declared.delimiters.Delimiters.{Delimiters}
-use Rattle.m4_state.specs.State.{State}
-use Rattle.m4_input.specs.declared.front.Look.{Look}
-use Rattle.m4_input.specs.declared.front.Scan.TheVariants.{Found}
-use Rattle.m4_input.specs.declared.token.Token.TheVariants.{Str}
-use Rattle.m4_input.specs.Look.{scan_of, LookLies}
-use Rattle.m4_input.specs.Token.{scan}
+use Rattle.std.proofs.Common.{◌≡◌, ◌<◌, ◌≤◌, ◌-◌, inl, take, drop, length, subst, arith, rules}
+use Rattle.m4_input.specs.Look.{LookLies}
 use Rattle.m4_engine.specs.Lookahead.{IsAhead}
 use Rattle.m4_engine.specs.declared.lookahead.Lookahead.{Lookahead}
 use Rattle.m4_engine.proofs.ListRuns.{list_none, list_one, list_on, list_end}

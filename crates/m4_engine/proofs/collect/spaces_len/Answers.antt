@@ -1,4 +1,4 @@
-use Rattle.std.proofs.Common.{rules, ap}
+use Rattle.std.proofs.Common.{rules}
 use Rattle.std.proofs.lemmas.List.{take_more}
 use Rattle.m4_engine.specs.declared.role.Role.TheVariants.{Blank}
 use Rattle.m4_engine.proofs.ListRuns.{roles_more}

@@ -1,8 +1,5 @@
 use Rattle.std.proofs.Common.{inr, refl, ◌≡◌, ◌≤◌, ◌<◌, ◌+◌, ◌-◌, ℕ, take, drop, length, ap, subst, arith, rules}
 use Rattle.m4_state.specs.declared.delimiters.Delimiters.{Delimiters}
-use Rattle.m4_input.specs.Token.{scan}
-use Rattle.m4_input.specs.declared.front.Scan.TheVariants.{Found}
-use Rattle.m4_input.specs.declared.token.Token.TheVariants.{Comment}
 use Rattle.m4_input.specs.Look.{LookLies}
 use Rattle.m4_engine.specs.Collected.{IsLone}
 use Rattle.m4_engine.specs.Lookahead.{IsAhead}

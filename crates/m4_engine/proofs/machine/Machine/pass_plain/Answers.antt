@@ -1,6 +1,5 @@
 use Rattle.std.proofs.Common.{◌≡◌, ◌∙◌, false, refl, sym, subst, rules, length, ◌-◌}
 use Rattle.m4_input.specs.Input.{Held}
-use Rattle.m4_input.specs.Pending.{text_of}
 use Rattle.m4_engine.specs.declared.lookahead.Lookahead.TheVariants as aheads
 use Rattle.m4_engine.proofs.machine.Machine.pass_plain.Goals.{in_default-lookahead-via-in-Undecided+else-others, in_default-lookahead-via-in_default-lookahead}
 use Rattle.m4_engine.proofs.Passing.{IsFurther, passes_front, passed_front, measure_less}
