@@ -97,8 +97,8 @@ fn collect_byte(
     Ok(1 + spaces_len(rest, delims))
 }
 
-// A full stop is at the place of each byte that begins no name, and is text in an argument that has begun; a comma is at
-// all others.
+// A full stop is at the place of each byte that begins no name, and is text in an argument that has begun; a comma is
+// at all others.
 static TEXT_BYTES: [u8; 256] = *b"\
     ................................\
     ........,,..,...................\

@@ -48,8 +48,9 @@ pub enum Lookahead {
 
 impl Lookahead {
     /// Returns the lookahead for the token that this look found. `more` is whether bytes may come after the text, and
-    /// `room` whether the limits allow a call. The place of a call is not set yet. Without a list, if the limits allow a
-    /// call, a text without a dollar is its own expansion, and `dnl`, with which many lines end, needs no call in memory.
+    /// `room` whether the limits allow a call. The place of a call is not set yet. Without a list, if the limits allow
+    /// a call, a text without a dollar is its own expansion, and `dnl`, with which many lines end, needs no call in
+    /// memory.
     #[inline(always)]
     pub fn of(
         look: Look,

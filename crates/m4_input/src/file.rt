@@ -99,8 +99,8 @@ fn append_in_room(bytes: &mut Vec<u8>, more: &[u8])
     }
 }
 
-/// Makes room for a block at the end, and for pushed texts before the first block. Returns the new position of the bytes
-/// that were at position `at`.
+/// Makes room for a block at the end, and for pushed texts before the first block. Returns the new position of the
+/// bytes that were at position `at`.
 fn make_room(bytes: &mut Vec<u8>, at: usize) -> Result<usize, AllocError>
     requires { at ≤ vec_len bytes.old }
     ensures within { IfOk result (λ n. n ≤ vec_len bytes.new) }
