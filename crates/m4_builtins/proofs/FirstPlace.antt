@@ -1,72 +1,14 @@
 -- FirstPlace: what a search for a part finds is the first place that the definition names.
-use Rattle.std.proofs.Common.{◌≡◌, ℕ, zero, suc, ◌+◌, ◌<◌, Bool, true, false, slice_index, List, [], ◌∷◌, length}
-use Rattle.std.proofs.Common.{Option, Some, None, refl, sym, ap, ◌∙◌, arith}
-use Rattle.std.specs.Prelude.{◌==◌}
-use Rattle.std.proofs.lemmas.Bool.{and_parts, and_from, eqb-true, eq-eqb}
-use Rattle.memchr.specs.Find.{OccursAt, FindsNeedle}
-use Rattle.m4_input.specs.Pending.{one_more}
-use Rattle.m4_input.specs.Token.{begins, before}
+use Rattle.std.proofs.Common.{◌≡◌, ℕ, zero, suc, List, [], ◌∷◌, Option, Some, None, refl, arith}
+use Rattle.memchr.specs.Find.{FindsNeedle}
+use Rattle.m4_input.proofs.FirstPlace.{found_before}
 use Rattle.m4_builtins.specs.Texts.{place_in}
 
--- a place in a text is one further with a byte in front
-next : (b : ℕ) (x : List ℕ) (k j : ℕ) → slice_index (b ∷ x) (suc k + j) ≡ slice_index x (k + j)
-next b x k j = let further : suc k + j ≡ suc (k + j) = omega arith in ap (slice_index (b ∷ x)) further
-
--- a part that a text begins with occurs at 0
-begins_occurs : (p x : List ℕ) → begins p x ≡ true → OccursAt x p 0
-begins_occurs [] x is = record { fits = omega arith; reads = λ j lt. absurd (omega arith) }
-begins_occurs (b ∷ p) [] is = absurd cc
-begins_occurs (b ∷ p) (c ∷ x) is =
-    let both = and_parts (b == c) (begins p x) is in
-    let rest = begins_occurs p x both.1 in
-    record { fits = omega (arith, rest.fits); reads = reads (sym (eqb-true b c both.0)) rest.reads }
-  where
-    reads : c ≡ b → ((j : ℕ) → j < length p → slice_index x (0 + j) ≡ slice_index p j) → (j : ℕ) → j < suc (length p) → slice_index (c ∷ x) (0 + j) ≡ slice_index (b ∷ p) j
-    reads same rest zero lt = same
-    reads same rest (suc j) lt = let further : 0 + suc j ≡ suc (0 + j) = omega arith in ap (slice_index (c ∷ x)) further ∙ rest j (omega arith)
-
--- and the other way round
-occurs_begins : (p x : List ℕ) → OccursAt x p 0 → begins p x ≡ true
-occurs_begins [] x occurs = refl
-occurs_begins (b ∷ p) [] occurs = absurd (omega (arith, occurs.fits))
-occurs_begins (b ∷ p) (c ∷ x) occurs =
-    and_from (b == c) (begins p x) (eq-eqb b c (sym (occurs.reads 0 (omega arith))))
-    (occurs_begins p x (record { fits = omega (arith, occurs.fits); reads = λ j lt. let further : suc (0 + j) ≡ 0 + suc j = omega arith in ap (slice_index (c ∷ x)) further ∙ occurs.reads (suc j) (omega arith) }))
-
--- an occurrence in the rest, and back
-later : (p x : List ℕ) (b k : ℕ) → OccursAt x p k → OccursAt (b ∷ x) p (suc k)
-later p x b k occurs = record { fits = omega (arith, occurs.fits); reads = λ j lt. next b x k j ∙ occurs.reads j lt }
-
-earlier : (p x : List ℕ) (b k : ℕ) → OccursAt (b ∷ x) p (suc k) → OccursAt x p k
-earlier p x b k occurs = record { fits = omega (arith, occurs.fits); reads = λ j lt. sym (next b x k j) ∙ occurs.reads j lt }
-
--- the first place, by whether the text begins with the part, and by the first place in the rest
-abbrev first_by : Option ℕ → Bool → Option ℕ
-first_by rest t = elim t [ true ↦ Some 0 | false ↦ one_more rest ]
-
--- a part that occurs nowhere has no first place
-nowhere : (p x : List ℕ) → ((k : ℕ) → ¬ OccursAt x p k) → before p x ≡ None
-nowhere p [] none = refl
-nowhere p (b ∷ x) none = by (begins p (b ∷ x)) refl (nowhere p x (λ k occurs. none (suc k) (later p x b k occurs)))
-  where
-    by : (t : Bool) → begins p (b ∷ x) ≡ t → before p x ≡ None → first_by (before p x) t ≡ None
-    by true is rest = absurd (none 0 (begins_occurs p (b ∷ x) is))
-    by false is rest = ap one_more rest
-
--- a part that isn't empty is first where it occurs and occurs nowhere before
-first : (p x : List ℕ) (k : ℕ) → 0 < length p → OccursAt x p k → ((j : ℕ) → j < k → ¬ OccursAt x p j) → before p x ≡ Some k
-first p [] k some occurs none = absurd (omega (arith, occurs.fits))
-first p (b ∷ x) zero some occurs none = ap (first_by (before p x)) (occurs_begins p (b ∷ x) occurs)
-first p (b ∷ x) (suc k) some occurs none = by (begins p (b ∷ x)) refl (first p x k some (earlier p x b k occurs) (λ j lt there. none (suc j) (omega arith) (later p x b j there)))
-  where
-    by : (t : Bool) → begins p (b ∷ x) ≡ t → before p x ≡ Some k → first_by (before p x) t ≡ Some (suc k)
-    by true is rest = absurd (none 0 (omega arith) (begins_occurs p (b ∷ x) is))
-    by false is rest = ap one_more rest
-
--- what is found is the first place
+-- an empty part is found at the start, also of an empty text
 pub found_first : (x p : List ℕ) (r : Option ℕ) → FindsNeedle x p 0 r → r ≡ place_in x p
 found_first x [] None finds = absurd (finds 0 (omega arith) (omega arith) (record { fits = omega arith; reads = λ j lt. absurd (omega arith) }))
 found_first x [] (Some zero) finds = refl
 found_first x [] (Some (suc k)) finds = absurd ((finds.0).before 0 (omega arith) (omega arith) (record { fits = omega arith; reads = λ j lt. absurd (omega arith) }))
-found_first x (b ∷ p) None finds = sym (nowhere (b ∷ p) x (λ k occurs. finds k (omega arith) (omega (arith, occurs.fits)) occurs))
-found_first x (b ∷ p) (Some k) finds = sym (first (b ∷ p) x k (omega arith) finds.1 (λ j lt occurs. (finds.0).before j (omega arith) lt occurs))
+found_first [] (b ∷ p) None finds = refl
+found_first [] (b ∷ p) (Some k) finds = absurd (omega (arith, (finds.1).fits))
+found_first (a ∷ x) (b ∷ p) r finds = found_before (a ∷ x) (b ∷ p) r (omega arith) finds
