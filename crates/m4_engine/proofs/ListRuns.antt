@@ -38,12 +38,6 @@ list_on s m k n c d e x y r g h =
     let q = joined s m r.0 h.0 c d e x r.1 (subst (λ (b : ℕ). AreListTokens s m h.0 d e (drop b x)) (sym r.2) (subst (AreListTokens s m h.0 d e) g h.1)) in
     (r.0 ++ h.0, q.0, q.1 ∙ ap (λ (b : ℕ). b + bytes_in h.0) r.2 ∙ ap (λ (b : ℕ). k + b) h.2)
 
--- nothing further
-pub list_end : (s : State) (m : Bool) (k n : ℕ) (c d e : Call) (x y : List ℕ) → IsListRun s m k c d x → y ≡ drop k x → IsListRun s m n d e y → n ≡ 0 → IsListRun s m k c e x
-list_end s m k n c d e x y r g h z =
-    let q : k + n ≡ k = omega arith in
-    subst (λ (j : ℕ). IsListRun s m j c e x) q (list_on s m k n c d e x y r g h)
-
 -- ---- bytes that are text
 
 -- the call with a text in its argument
@@ -154,7 +148,3 @@ byte_and_blanks s m b n c d x y h t g w k = list_on s m 1 n c d d x y (list_one 
 -- a byte alone
 pub byte_taken : (s : State) (m : Bool) (b : ℕ) (c d : Call) (x : List ℕ) → scan s.quotes s.comments m x ≡ Found (Byte b) 1 → TakesByte b c d → IsListRun s m 1 c d x
 byte_taken s m b c d x h t = list_one s m 1 c d x (inr (b, h, t))
-
--- no byte
-pub byte_left : (s : State) (m : Bool) (c d : Call) (x : List ℕ) → d ≡ c → IsListRun s m 0 c d x
-byte_left s m c d x g = subst (λ (a : Call). IsListRun s m 0 c a x) (sym g) (list_none s m c x)

@@ -7,15 +7,16 @@
 mod call;
 mod collect;
 pub mod ending;
-mod front;
 pub mod laws;
 mod lookahead;
 mod machine;
 pub mod options;
+mod outside;
 mod role;
 pub mod run;
 pub mod session;
 pub mod source;
 mod spare;
 pub mod stop;
+mod token_sink;
 mod turned;

@@ -20,6 +20,7 @@ mod turn;
 use crate::call::OpenCall;
 use crate::spare::Spare;
 use crate::turned::TurnFault;
+pub(crate) use driver::OUTPUT_BLOCK;
 use m4_builtins::effect_buffer::EffectBuffer;
 use m4_builtins::messages::error_message;
 use m4_builtins::place::Place;

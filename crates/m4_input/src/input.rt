@@ -14,7 +14,7 @@ ghost use Rattle.m4_input.specs.Pending.{consumed, line_of, name_of, newlines_in
 use crate::delims::Delims;
 use crate::fault::InputFault;
 use crate::front::{Answer, Look, Scan, Unended};
-use crate::look::{copied, first_token, list_follows};
+use crate::look::{copied, list_follows, look_by_kind};
 use crate::pushed::Pushed;
 use crate::slice::line_len;
 use crate::text::Text;
@@ -274,7 +274,7 @@ impl Input {
                 return Err(self.stop(InputFault::OutOfMemory));
             };
             looked = text.len();
-            let look = first_token(text, delims, others | self.may_follow);
+            let look = look_by_kind(text, delims, others | self.may_follow);
             match copied(self.alloc, look, text) {
                 Ok(Scan::Found(token, len)) => {
                     self.consume(len, false);

@@ -38,24 +38,6 @@ pub fn plain_token(text: &[u8], delims: &Delims<'_>, may_follow: bool) -> Option
     }
 }
 
-/// Returns the first token of a text. The quickest tests come first: most tokens begin with no delimiter, and most
-/// delimiters are quotes of one byte.
-#[inline(always)]
-pub fn first_token(text: &[u8], delims: &Delims<'_>, may_follow: bool) -> Look
-    // exact steps: what the definition of the first token decides
-    ensures value { scan delims.now.quotes.now delims.now.comments.now may_follow text.now
-        ≡ scan_of result text.now }
-    ensures lies { LookLies text.now result }
-{
-    if let Some(look) = plain_token(text, delims, may_follow) {
-        return look;
-    }
-    match quoted_token(text, delims, may_follow) {
-        Some(look) => look,
-        None => look_by_kind(text, delims, may_follow),
-    }
-}
-
 /// Returns the name at the start of a text.
 #[inline(always)]
 fn name_token(text: &[u8], may_follow: bool) -> Look
@@ -71,17 +53,22 @@ fn name_token(text: &[u8], may_follow: bool) -> Look
     }
 }
 
-/// Returns the first token of a text, if its first byte alone decides that it is a string: the begin-quote has one
-/// byte, and neither a comment nor a name can begin with it.
+/// Returns the first token of a text, if its first byte alone decides that it is a comment or a string: the begin of
+/// the pair has one byte, and nothing else can begin with it.
 #[inline(always)]
-fn quoted_token(text: &[u8], delims: &Delims<'_>, may_follow: bool) -> Option<Look>
+pub fn delimited_token(text: &[u8], delims: &Delims<'_>, may_follow: bool) -> Option<Look>
     ensures value { IfSome result (λ l. scan delims.now.quotes.now delims.now.comments.now
         may_follow text.now ≡ scan_of l text.now) }
     ensures lies { IfSome result (λ l. LookLies text.now l) }
 {
     let first = text.first()?;
-    let begin = single(delims.quotes.begin.as_slice())?;
-    if *first != begin || is_letter_byte(*first) || delims.may_comment(*first) {
+    if delims.may_comment(*first) {
+        if single(delims.comments.begin.as_slice())? != *first {
+            return None;
+        }
+        return Some(look_at_comment(text, delims.comments, may_follow));
+    }
+    if single(delims.quotes.begin.as_slice())? != *first || is_letter_byte(*first) {
         return None;
     }
     Some(look_at_string(text, delims.quotes, may_follow))
@@ -130,9 +117,10 @@ pub(crate) fn kind(text: &[u8], delims: &Delims<'_>, may_follow: bool, first: u8
     }
 }
 
-/// Returns the first token of a text, by its kind.
+/// Returns the first token of a text, by its kind. This is the general look; those above are for the usual cases.
 #[inline(never)]
 pub fn look_by_kind(text: &[u8], delims: &Delims<'_>, may_follow: bool) -> Look
+    // exact steps: what the definition of the first token decides
     ensures value { scan delims.now.quotes.now delims.now.comments.now may_follow text.now
         ≡ scan_of result text.now }
     ensures lies { LookLies text.now result }

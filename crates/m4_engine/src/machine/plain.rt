@@ -8,11 +8,11 @@ ghost use Rattle.std.specs.Prelude.{◌≡◌, [], IfOk, OnOk};
 ghost use Rattle.m4_engine.specs.Engine.{IsReady, allows_call, put_in};
 ghost use Rattle.m4_engine.specs.Passes.{IsLookahead, PassesBy, Passes};
 
-use super::driver::OUTPUT_BLOCK;
-use crate::collect::collect;
-use crate::front::plain_run;
+use super::OUTPUT_BLOCK;
 use crate::lookahead::Lookahead;
 use crate::machine::Machine;
+use crate::outside::Outside;
+use crate::token_sink::pass_tokens;
 use crate::turned::TurnFault;
 use m4_input::input::Input;
 use m4_state::append::append;
@@ -62,7 +62,7 @@ impl Machine {
         let Some(call) = &mut self.innermost else {
             return self.pass_outside(text, more, room);
         };
-        let passed = collect(call, text, &self.state, &mut self.spare, more, room)?;
+        let passed = pass_tokens(call, text, &self.state, &mut self.spare, more, room)?;
         Ok(passed)
     }
 
@@ -79,14 +79,8 @@ impl Machine {
         requires room { room ≡ allows_call self.old }
         ensures { IfOk result (λ r. PassesBy r.0 r.1 text.now more self.old self.new) }
     {
-        let (len, lookahead) = plain_run(
-            text,
-            &self.state,
-            &mut self.spare,
-            more,
-            room,
-            OUTPUT_BLOCK,
-        )?;
+        let spare = &mut self.spare;
+        let (len, lookahead) = pass_tokens(&mut Outside, text, &self.state, spare, more, room)?;
         let (passed, rest) = text.split_at(len);
         self.put_outside(passed)?;
         match lookahead {

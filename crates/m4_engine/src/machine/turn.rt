@@ -45,8 +45,8 @@ impl Machine {
                 self.begin_argument();
                 Ok(Turned::SkipsLine)
             }
-            Lookahead::Call(len, call) => self.take_name(len, false, call, input),
-            Lookahead::List(len, call) => self.take_name(len, true, call, input),
+            Lookahead::Call(len, call) => self.begin_call(len, false, call, input),
+            Lookahead::List(len, call) => self.begin_call(len, true, call, input),
             Lookahead::Undecided => Ok(Turned::NeedsMore),
             Lookahead::Text(begin, end, all) => self.take_text(begin, end, all, input),
             Lookahead::Definition => self.take_definition(input),
@@ -100,7 +100,7 @@ impl Machine {
     /// Consumes a name of this length with a definition, and sets the place of its call. Makes the call or opens its
     /// list, if the limits allow it. If the name is recognised only with a list and none follows, appends it as text.
     #[inline(always)]
-    fn take_name(
+    fn begin_call(
         &mut self,
         len: usize,
         listed: bool,

@@ -6,26 +6,26 @@ use crate::report::Report;
 use crate::shows::shows;
 use m4_input::delims::Delims;
 use m4_input::front::{Answer, Look, Unended};
-use m4_input::look::{first_token, list_follows, plain_token};
+use m4_input::look::{delimited_token, list_follows, look_by_kind, plain_token};
 use std::alloc::{AllocError, Global};
 
 // A row's name, a text, whether more bytes may follow, and its first token.
 type Row = (&'static str, &'static str, bool, &'static str);
 
 static ROWS: [Row; 27] = [
-    ("a string", "`a b'c", false, "string a b of 5"),
+    ("a string", "`a b'c", false, "delimited string a b of 5"),
     (
         "a string within a string",
         "``a'' ",
         false,
-        "string `a' of 5",
+        "delimited string `a' of 5",
     ),
-    ("an empty string", "`'", false, "string  of 2"),
+    ("an empty string", "`'", false, "delimited string  of 2"),
     (
         "a string without an end",
         "`a",
         false,
-        "string without an end",
+        "delimited string without an end",
     ),
     ("an end-quote", "'a", false, "plain byte '"),
     // other tokens
@@ -39,28 +39,48 @@ static ROWS: [Row; 27] = [
     ("a comma", ",a", false, "plain byte ,"),
     ("a blank", " a", false, "plain byte  "),
     ("a newline", "\na", false, "plain byte \n"),
-    ("a comment", "# b\nc", false, "comment # b\n"),
+    ("a comment", "# b\nc", false, "delimited comment # b\n"),
     (
         "a comment that begins a word",
         "#b c\n",
         false,
-        "comment #b c\n",
+        "delimited comment #b c\n",
     ),
     (
         "a comment without an end",
         "# b",
         false,
-        "comment without an end",
+        "delimited comment without an end",
     ),
     // the same with more bytes that may follow
     ("no bytes so far", "", true, "more"),
     ("a name at the end", "ab", true, "plain more"),
     ("a name before a comma", "ab,", true, "plain name ab"),
     ("a byte at the end", "+", true, "plain byte +"),
-    ("a string that has ended", "`a b'", true, "string a b of 5"),
-    ("a string without an end so far", "`a b", true, "more"),
-    ("a comment that has ended", "# b\n", true, "comment # b\n"),
-    ("a comment without an end so far", "# b", true, "more"),
+    (
+        "a string that has ended",
+        "`a b'",
+        true,
+        "delimited string a b of 5",
+    ),
+    (
+        "a string without an end so far",
+        "`a b",
+        true,
+        "delimited more",
+    ),
+    (
+        "a comment that has ended",
+        "# b\n",
+        true,
+        "delimited comment # b\n",
+    ),
+    (
+        "a comment without an end so far",
+        "# b",
+        true,
+        "delimited more",
+    ),
     ("a blank", " ", true, "plain byte  "),
 ];
 
@@ -96,15 +116,24 @@ pub fn describe_look(look: Look, text: &[u8], report: &mut Report) {
     }
 }
 
-// Reports the first token of a text; `plain` before it if the look that takes no search finds it, too.
+// Reports the first token of a text, and before it which of the looks at the first byte alone finds it too: `plain` if
+// no delimiter begins with that byte, `delimited` if a delimiter of one byte does.
 fn look_of(alloc: Global, text: &[u8], may_follow: bool) -> Result<Vec<u8>, AllocError> {
     let mut report = Report::new(alloc);
     let state = empty_state(alloc)?;
     let usual = Delims::of(&state);
-    if plain_token(text, &usual, may_follow).is_some() {
-        report.add(b"plain ");
+    let look = look_by_kind(text, &usual, may_follow);
+    if let Some(plain) = plain_token(text, &usual, may_follow) {
+        report.add(if plain == look { b"plain " } else { b"other " });
     }
-    describe_look(first_token(text, &usual, may_follow), text, &mut report);
+    if let Some(delimited) = delimited_token(text, &usual, may_follow) {
+        report.add(if delimited == look {
+            b"delimited "
+        } else {
+            b"other "
+        });
+    }
+    describe_look(look, text, &mut report);
     report.text()
 }
 

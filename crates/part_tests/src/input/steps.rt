@@ -12,7 +12,7 @@ use m4_input::delims::Delims;
 use m4_input::fault::InputFault;
 use m4_input::front::Look;
 use m4_input::input::Input;
-use m4_input::look::first_token;
+use m4_input::look::look_by_kind;
 use m4_input::pushed::Pushed;
 use m4_input::token::Token;
 use m4_state::bytes::Bytes;
@@ -162,7 +162,7 @@ fn add_decided(alloc: Global, input: &Input, delims: &Delims<'_>, report: &mut R
     let mut copy = Vec::new(alloc);
     match input.front(IN_HAND, &mut copy) {
         Ok(Some((text, others))) => {
-            let look = first_token(text, delims, others | input.may_follow());
+            let look = look_by_kind(text, delims, others | input.may_follow());
             if look == Look::NeedsMore {
                 return false;
             }

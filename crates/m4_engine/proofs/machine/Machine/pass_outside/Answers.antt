@@ -26,7 +26,7 @@ returns-in_default c =
     let room : c.args.room ≡ allows_call old = search rules in
     subst (λ (v : Lookahead). PassesBy n v x more c.args.self.now c.put_outside.new.self) (sym same)
     (subst (λ (e : Engine). PassesBy n a x more e c.put_outside.new.self) c.self.view_is (record {
-      passes = inl (c.in_ok-len.ensures.plain, search rules, put);
+      passes = inl (c.in_ok-len.ensures.takes, search rules, put);
       within = c.in_ok-len.ensures.within;
       end = inr (subst (λ (e : Engine). IsAhead a e.state (allows_call e) more (drop n x)) (sym put)
           (subst (λ (v : Bool). IsAhead a (put_in [] (take n x) old).state v more (drop n x)) room
@@ -59,7 +59,7 @@ returns-in_ok-put_text-in-Text c =
     let rest : length (drop k x) ≡ length x - k = length-drop k x in
     let within : k ≤ length x = c.in_ok-len.ensures.within in
     subst (λ (e : Engine). PassesBy (k + t.all) (aheads.Further) x more e c.put_text.new.self) c.self.view_is (record {
-      passes = inr (inr (k, part, t.all, c.in_ok-len.ensures.plain, h.0, refl, outside, new));
+      passes = inr (inr (k, part, t.all, c.in_ok-len.ensures.takes, h.0, refl, outside, new));
       within = omega (arith, fits, rest, within);
       end = inl (omega (arith, some), refl);
     })

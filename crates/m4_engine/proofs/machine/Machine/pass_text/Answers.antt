@@ -12,12 +12,12 @@ pub returns : goal.returns
 returns c =
     let old : Engine = engine_view c.self.inside in
     let cs : List Call = reverse c.self.inside.outer.items in
-    let new : Engine = record old { open_calls = c.collect.new.call ∷ cs } in
+    let new : Engine = record old { open_calls = c.pass_tokens.new.sink ∷ cs } in
     let n = c.in_ok-passed.passed.0 in
     let x = c.args.text.now in
     let inside : old.open_calls ≡ c.in-Some.call ∷ cs = ap (λ (o : Option Call). innermost_first o cs) c.in-Some.is in
     subst (λ (e : Engine). PassesBy n c.in_ok-passed.passed.1 x c.args.more e new) c.self.view_is (record {
-      passes = inr (inl (c.in-Some.call, c.collect.new.call, cs, c.in_ok-passed.ensures.collected, inside, refl));
+      passes = inr (inl (c.in-Some.call, c.pass_tokens.new.sink, cs, c.in_ok-passed.ensures.takes, inside, refl));
       within = c.in_ok-passed.ensures.within;
       end = inr (subst (λ (v : Bool). IsAhead c.in_ok-passed.passed.1 old.state v c.args.more (drop n x)) ((search rules) ∙ leaves_same old new refl refl (ap length (sym inside))) c.in_ok-passed.ensures.after);
     })

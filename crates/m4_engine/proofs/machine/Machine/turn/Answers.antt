@@ -74,17 +74,17 @@ consume-requires-in-LineSkip-clause-inline c = λ u.
     let h = subst (λ (v : Lookahead). IsLookahead v e p) c.in-LineSkip.is c.requires.lookahead in
     name_has_none e.state.quotes e.state.comments p.may_follow (text_of p) _ c.in-LineSkip.len (h.1.0).scanned
 
-pub take_name-requires-clause-named : goal.take_name-requires-clause-named
-take_name-requires-clause-named c = (subst (λ (v : Lookahead). IsLookahead v c.args.self.now c.args.input.now.pending) c.in-Call.is c.requires.lookahead).1.0
+pub begin_call-requires-clause-named : goal.begin_call-requires-clause-named
+begin_call-requires-clause-named c = (subst (λ (v : Lookahead). IsLookahead v c.args.self.now c.args.input.now.pending) c.in-Call.is c.requires.lookahead).1.0
 
-pub take_name-requires-clause-called : goal.take_name-requires-clause-called
-take_name-requires-clause-called c = (subst (λ (v : Lookahead). IsLookahead v c.args.self.now c.args.input.now.pending) c.in-Call.is c.requires.lookahead).1.1
+pub begin_call-requires-clause-called : goal.begin_call-requires-clause-called
+begin_call-requires-clause-called c = (subst (λ (v : Lookahead). IsLookahead v c.args.self.now c.args.input.now.pending) c.in-Call.is c.requires.lookahead).1.1
 
-pub take_name-requires-in-List-clause-named : goal.take_name-requires-in-List-clause-named
-take_name-requires-in-List-clause-named c = (subst (λ (v : Lookahead). IsLookahead v c.args.self.now c.args.input.now.pending) c.in-List.is c.requires.lookahead).1.0
+pub begin_call-requires-in-List-clause-named : goal.begin_call-requires-in-List-clause-named
+begin_call-requires-in-List-clause-named c = (subst (λ (v : Lookahead). IsLookahead v c.args.self.now c.args.input.now.pending) c.in-List.is c.requires.lookahead).1.0
 
-pub take_name-requires-in-List-clause-called : goal.take_name-requires-in-List-clause-called
-take_name-requires-in-List-clause-called c = (subst (λ (v : Lookahead). IsLookahead v c.args.self.now c.args.input.now.pending) c.in-List.is c.requires.lookahead).1.1
+pub begin_call-requires-in-List-clause-called : goal.begin_call-requires-in-List-clause-called
+begin_call-requires-in-List-clause-called c = (subst (λ (v : Lookahead). IsLookahead v c.args.self.now c.args.input.now.pending) c.in-List.is c.requires.lookahead).1.1
 
 pub returns-in-Undecided : goal.returns-in-Undecided
 returns-in-Undecided c =

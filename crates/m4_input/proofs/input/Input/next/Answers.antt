@@ -46,7 +46,7 @@ returns-in-Ok-Found-clause-gives g c =
     let i = c.looks.invariant in
     let look : c.in-Ok-Found.field-0 ≡ scan q r (h.pending).may_follow (text_of h.pending) =
     token_seen q r c.self-in-looks.inside h c.in-Ok.others c.in-Ok.text.now c.in-Ok-Found.field-0 c.self-in-looks.view_is c.in-Ok.ensures.begins c.in-Ok.ensures.all
-    (c.first_token-look.ensures.value ∙ sym c.in-Ok-Found.ensures.value) (λ o e. absurd cc) in
+    (c.look_by_kind-look.ensures.value ∙ sym c.in-Ok-Found.ensures.value) (λ o e. absurd cc) in
     token_found q r s a c.args.self.now h i.0.0 c.in-Ok-Found.field-0 i.0.1 i.1 look c.consume.new.self c.in-Ok-Found.token c.in-Ok-Found.len c.in-Ok-Found.field-0-is c.consume.ensures
 
 pub looks-smaller : goal.looks-smaller
@@ -59,7 +59,7 @@ looks-smaller g c =
     let i = c.looks.invariant in
     let look : c.in-Ok-NeedsMore.field-0 ≡ scan q r (h.pending).may_follow (text_of h.pending) =
     token_seen q r c.self-in-looks.inside h c.in-Ok.others c.in-Ok.text.now c.in-Ok-NeedsMore.field-0 c.self-in-looks.view_is c.in-Ok.ensures.begins c.in-Ok.ensures.all
-    (c.first_token-look.ensures.value ∙ sym c.in-Ok-NeedsMore.ensures.value) (λ o e. absurd cc) in
+    (c.look_by_kind-look.ensures.value ∙ sym c.in-Ok-NeedsMore.ensures.value) (λ o e. absurd cc) in
     let new : Held = c.more.new.self in
     let b = g.R.ByteSource.script c.more.new.reader in
     let came = c.in_ok-_came-in-Ok-NeedsMore-2._came in
@@ -82,7 +82,7 @@ looks-preserved g c =
     let i = c.looks.invariant in
     let look : c.in-Ok-NeedsMore.field-0 ≡ scan q r (h.pending).may_follow (text_of h.pending) =
     token_seen q r c.self-in-looks.inside h c.in-Ok.others c.in-Ok.text.now c.in-Ok-NeedsMore.field-0 c.self-in-looks.view_is c.in-Ok.ensures.begins c.in-Ok.ensures.all
-    (c.first_token-look.ensures.value ∙ sym c.in-Ok-NeedsMore.ensures.value) (λ o e. absurd cc) in
+    (c.look_by_kind-look.ensures.value ∙ sym c.in-Ok-NeedsMore.ensures.value) (λ o e. absurd cc) in
     let new : Held = c.more.new.self in
     let b = g.R.ByteSource.script c.more.new.reader in
     let n : ℕ = g.R.ByteSource.failures c.looks.reader in
@@ -128,7 +128,7 @@ returns-in_err-_came-in-Ok-NeedsMore-2-clause-gives g c =
     let i = c.looks.invariant in
     let look : c.in-Ok-NeedsMore.field-0 ≡ scan q r (h.pending).may_follow (text_of h.pending) =
     token_seen q r c.self-in-looks.inside h c.in-Ok.others c.in-Ok.text.now c.in-Ok-NeedsMore.field-0 c.self-in-looks.view_is c.in-Ok.ensures.begins c.in-Ok.ensures.all
-    (c.first_token-look.ensures.value ∙ sym c.in-Ok-NeedsMore.ensures.value) (λ o e. absurd cc) in
+    (c.look_by_kind-look.ensures.value ∙ sym c.in-Ok-NeedsMore.ensures.value) (λ o e. absurd cc) in
     let new : Held = c.more.new.self in
     let b = g.R.ByteSource.script c.more.new.reader in
     let f : InputFault = c.in_err-_came-in-Ok-NeedsMore-2.field-0.0 in
@@ -147,7 +147,7 @@ returns-in-Ok-Broken-clause-gives g c =
     let i = c.looks.invariant in
     let look : c.in-Ok-Broken.field-0 ≡ scan q r (h.pending).may_follow (text_of h.pending) =
     token_seen q r c.self-in-looks.inside h c.in-Ok.others c.in-Ok.text.now c.in-Ok-Broken.field-0 c.self-in-looks.view_is c.in-Ok.ensures.begins c.in-Ok.ensures.all
-    (c.first_token-look.ensures.value ∙ sym c.in-Ok-Broken.ensures.value) (λ o e. absurd cc) in
+    (c.look_by_kind-look.ensures.value ∙ sym c.in-Ok-Broken.ensures.value) (λ o e. absurd cc) in
     let gives = token_broken q r s a c.args.self.now h i.0.0 c.in-Ok-Broken.field-0 i.0.1 i.1 look c.end_inside.new.self c.in-Ok-Broken.what c.in-Ok-Broken.field-0-is c.end_inside.ensures.nothing in
     subst (λ (f : InputFault). NextGives q r s a c.args.self.now c.end_inside.new.self (Err f)) (sym c.end_inside.ensures.fault) gives
 
@@ -168,7 +168,7 @@ more-requires-clause-open g c =
     let i = c.looks.invariant in
     let look : c.in-Ok-NeedsMore.field-0 ≡ scan q r (h.pending).may_follow (text_of h.pending) =
     token_seen q r c.self-in-looks.inside h c.in-Ok.others c.in-Ok.text.now c.in-Ok-NeedsMore.field-0 c.self-in-looks.view_is c.in-Ok.ensures.begins c.in-Ok.ensures.all
-    (c.first_token-look.ensures.value ∙ sym c.in-Ok-NeedsMore.ensures.value) (λ o e. absurd cc) in
+    (c.look_by_kind-look.ensures.value ∙ sym c.in-Ok-NeedsMore.ensures.value) (λ o e. absurd cc) in
     token_open q r s a c.args.self.now h i.0.0 c.in-Ok-NeedsMore.field-0 i.0.1 i.1 look c.in-Ok-NeedsMore.field-0-is
 
 pub looks-preserved-then-others : goal.looks-preserved-then-others

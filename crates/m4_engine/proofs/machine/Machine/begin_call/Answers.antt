@@ -16,7 +16,7 @@ use Rattle.m4_engine.specs.Lookahead.{IsCalled}
 use Rattle.m4_engine.proofs.Named.{place_of_file}
 use Rattle.m4_engine.proofs.Seen.{list_there, called_at, made_moves, bare_moves}
 use Rattle.m4_engine.proofs.Turning.{found_steps_at}
-use Rattle.m4_engine.proofs.machine.Machine.take_name.Goals as goal
+use Rattle.m4_engine.proofs.machine.Machine.begin_call.Goals as goal
 
 -- a name has no newline
 pub consume-requires-clause-inline : goal.consume-requires-clause-inline

@@ -1,0 +1,43 @@
+use Rattle.std.proofs.Common.{◌≡◌, ◌<◌, ◌≤◌, ◌+◌, ◌-◌, ℕ, take, drop, refl, ap, subst, arith, rules}
+use Rattle.m4_state.specs.declared.delimiters.Delimiters.{Delimiters}
+use Rattle.m4_engine.specs.Collected.{IsLone}
+use Rattle.m4_engine.specs.Lookahead.{IsAhead}
+use Rattle.m4_engine.specs.declared.lookahead.Lookahead.{Lookahead}
+use Rattle.m4_engine.specs.declared.lookahead.Lookahead.TheVariants as aheads
+use Rattle.m4_engine.proofs.PlainRuns.{plain_on, plain_text, plain_byte, text_some}
+use Rattle.m4_engine.proofs.outside.OutsideTokenSink.take.Goals as goal
+
+pub returns-in-Text-eq0-default-default-clause-takes :
+    goal.returns-in-Text-eq0-default-default-clause-takes
+returns-in-Text-eq0-default-default-clause-takes c = λ s room m first q d ahead before.
+    let x = c.args.text.now in
+    let at = c.args.at in
+    let y = drop at x in
+    let end = c.in-Text-eq0-default-default.end in
+    let all = c.in-Text-eq0-default-default.all in
+    let is : c.args.token ≡ aheads.Text 0 end all = search rules in
+    let h : IsAhead (aheads.Text 0 end all) s room m y = subst (λ (a : Lookahead). IsAhead a s room m y) is ahead in
+    let whole : end - 0 ≡ all = omega (arith, c.if-end-all.true) in
+    c.with_space.ensures.plain s m
+    (plain_on s m at all x y before refl (plain_text s m all y (take (end - 0) (drop 0 y)) h.0 (ap (λ (j : ℕ). take j y) whole)))
+    (λ lone. subst (λ (a : Delimiters). IsLone s.quotes a 32) d (subst (λ (a : Delimiters). IsLone a c.args._delims.now.comments.now 32) q (c.requires.spaced lone)))
+
+pub returns-in-Text-eq0-default-default-clause-within :
+    goal.returns-in-Text-eq0-default-default-clause-within
+returns-in-Text-eq0-default-default-clause-within c =
+    let y = drop c.args.at c.args.text.now in
+    let end = c.in-Text-eq0-default-default.end in
+    let all = c.in-Text-eq0-default-default.all in
+    let r = c.requires.token in
+    let is : c.args.token ≡ aheads.Text 0 end all = search rules in
+    let h : IsAhead (aheads.Text 0 end all) r.0 r.1 r.2 y = subst (λ (a : Lookahead). IsAhead a r.0 r.1 r.2 y) is r.3 in
+    let some : 0 < all = text_some r.0 r.2 all (take (end - 0) (drop 0 y)) y h.0 in
+    let more : c.args.at + all ≤ c.with_space.result = c.with_space.ensures.more in
+    (omega (arith, some, more), c.with_space.ensures.within)
+
+pub returns-in-Byte-clause-takes : goal.returns-in-Byte-clause-takes
+returns-in-Byte-clause-takes c = λ s room m first q d ahead before.
+    let x = c.args.text.now in
+    let y = drop c.args.at x in
+    let h = subst (λ (a : Lookahead). IsAhead a s room m y) c.in-Byte.is ahead in
+    plain_on s m c.args.at 1 x y before refl (plain_byte s m c.in-Byte.field-0 y h.0)

@@ -1,0 +1,58 @@
+//! Outside of calls: names without a definition, comments and bytes that are no other token are plain, and a pass puts
+//! them as they are, all at once. Manual: "How m4 copies input to output".
+
+ghost use Rattle.std.proofs.Common.{refl};
+ghost use Rattle.std.specs.Prelude.{◌≡◌, ◌≤◌, Bool, true, [], length};
+ghost use Rattle.m4_state.specs.State.{State as Specified};
+ghost use Rattle.m4_engine.specs.Collected.{IsLone};
+ghost use Rattle.m4_engine.specs.Plain.{IsPlainRun};
+
+use crate::lookahead::Lookahead;
+use crate::machine::OUTPUT_BLOCK;
+use crate::token_sink::TokenSink;
+use m4_input::delims::Delims;
+use std::alloc::AllocError;
+
+/// What stands outside of calls. It takes plain tokens up to a block of output, and the pass puts their bytes.
+#[derive(Drop)]
+pub struct Outside;
+
+impl TokenSink for Outside {
+    ghost takes = { λ s m n _ _ x. IsPlainRun s m n x };
+
+    #[inline(always)]
+    fn take(
+        &mut self,
+        token: Lookahead,
+        text: &[u8],
+        at: usize,
+        _delims: &Delims<'_>,
+        spaced: bool,
+    ) -> Result<Result<usize, Lookahead>, AllocError> {
+        match token {
+            Lookahead::Text(0, end, all) if end == all && at < OUTPUT_BLOCK => {
+                Ok(Ok(with_space(text, at + all, spaced)))
+            }
+            Lookahead::Byte(_) if at < OUTPUT_BLOCK => Ok(Ok(at + 1)),
+            token => Ok(Err(token)),
+        }
+    }
+
+    ghost none = { λ s m c x. ([], tt, refl) };
+}
+
+/// Returns the length of a run of plain tokens and of the space after it, if there is one and each space is a token
+/// (`spaced`). Most words have a space after them, and to look at it as at any token takes longer.
+#[inline(always)]
+fn with_space(text: &[u8], len: usize, spaced: bool) -> usize
+    requires { len ≤ length text.now }
+    ensures plain { (s : Specified) (m : Bool) → IsPlainRun s m len text.now
+        → (spaced ≡ true → IsLone s.quotes s.comments 32) → IsPlainRun s m result text.now }
+    ensures more { len ≤ result }
+    ensures within { result ≤ length text.now }
+{
+    match text.split_at(len).1.first() {
+        Some(b' ') if spaced => len + 1,
+        _ => len,
+    }
+}
