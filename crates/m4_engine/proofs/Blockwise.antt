@@ -303,11 +303,11 @@ idle_start e p a b d =
     ∙ ap (λ (x : List ℕ). configuration a b (record e { open_calls = []; output = x }) p) d.output
     ∙ ap (λ (x : List ℕ). configuration a b (record e { open_calls = []; output = []; messages = x }) p) d.messages
 
-told : (e0 : Engine) (p0 : Pending) (before after : Option Script) (x : List ℕ) (q : Pending) (o m : List ℕ)
+step_broken : (e0 : Engine) (p0 : Pending) (before after : Option Script) (x : List ℕ) (q : Pending) (o m : List ℕ)
     (out0 out reported0 reported : Option (List ℕ)) → IsIdle e0 → Reads before after p0 x q
     → HasWritten o m (writers out0 out reported0 reported) → Marked wanted.Token e0 q o m
     → StepBreaks e0 p0 before after (writers out0 out reported0 reported)
-told e0 p0 before after x q o m out0 out reported0 reported d r h k = record {
+step_broken e0 p0 before after x q o m out0 out reported0 reported d r h k = record {
   x = x;
   q = q;
   reads = r;
@@ -357,7 +357,7 @@ told_in_hand : (e0 e : Engine) (p0 : Pending) (i : Held) (before after : Option 
     → BreaksInOrder w e i.pending (writers out out' reported reported')
     → StepBreaks e0 p0 before after (writers out0 out' reported0 reported')
 told_in_hand e0 e p0 i before after out0 reported0 out reported out' reported' w d t h =
-    told e0 p0 before after t.x t.q (t.o ++ h.o) (t.m ++ h.m) out0 out' reported0 reported' d t.reads
+    step_broken e0 p0 before after t.x t.q (t.o ++ h.o) (t.m ++ h.m) out0 out' reported0 reported' d t.reads
     (more_written t.o t.m h.o h.m out0 out out' reported0 reported reported' t.written (h.written).output (h.written).messages)
     (mark_then wanted.Token w e0 e t.q i.pending t.o t.m h.o h.m t.leads h.marked)
 
@@ -462,7 +462,7 @@ module _ (e0 e e' : Engine) (p0 : Pending) (i j k : Held) (before a b : Option S
   lacked_told =
       let s : Taking e0 p0 before a out0 reported0 v e' j out' reported' = needs_more e0 e e' p0 i j before a out0 reported0 out reported out' reported' w v t h in
       let same : longer g.x true t.q ≡ longer (t.x ++ g.x) true p0 = ap (longer g.x true) (t.reads).in_hand ∙ longer_twice t.x g.x (t.q).may_follow true p0 in
-      told e0 p0 before b (t.x ++ g.x) (longer (t.x ++ g.x) true p0) (t.o ++ h.o) (t.m ++ h.m) out0 out' reported0 reported' d read_before both_written
+      step_broken e0 p0 before b (t.x ++ g.x) (longer (t.x ++ g.x) true p0) (t.o ++ h.o) (t.m ++ h.m) out0 out' reported0 reported' d read_before both_written
       (subst (λ (q : Pending). Marked wanted.Token e0 q (t.o ++ h.o) (t.m ++ h.m)) same (mark_longer e0 t.q s.o s.m g.x true still_open s.marked))
 
 -- by the cause

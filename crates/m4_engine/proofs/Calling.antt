@@ -27,8 +27,8 @@ failed_at o m e e1 p at text cause fs h =
     ∙ ap (λ (x : Engine). Stops (Halted (let d : Ended = record { so_far = so_far_of o m x; reason = Ends cause } in d))) (sym h)
 
 -- the error that names a limit, by the limit's value
-pub told : (e e1 : Engine) (at : Place) (n limit : ℕ) (what : List ℕ) → n ≡ limit → e1 ≡ with_engine_message (error at (codes "more than " ++ decimal n ++ what)) e → e1 ≡ with_engine_message (error at (codes "more than " ++ decimal limit ++ what)) e
-told e e1 at n limit what h k = subst (λ (i : ℕ). e1 ≡ with_engine_message (error at (codes "more than " ++ decimal i ++ what)) e) h k
+pub limit_reported : (e e1 : Engine) (at : Place) (n limit : ℕ) (what : List ℕ) → n ≡ limit → e1 ≡ with_engine_message (error at (codes "more than " ++ decimal n ++ what)) e → e1 ≡ with_engine_message (error at (codes "more than " ++ decimal limit ++ what)) e
+limit_reported e e1 at n limit what h k = subst (λ (i : ℕ). e1 ≡ with_engine_message (error at (codes "more than " ++ decimal i ++ what)) e) h k
 
 pub refused_calls : (e e1 : Engine) (c : Call) (listed : Bool) (p before : Pending) (o m : List ℕ)
     → nat_lt e.calls (e.limits).calls ≡ false

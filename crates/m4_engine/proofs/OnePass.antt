@@ -17,7 +17,7 @@ use Rattle.m4_engine.specs.Settled.{settled_of, settled_ended, settled_by, settl
 use Rattle.m4_engine.specs.Laws.{IsBeginning, AreSettled}
 use Rattle.m4_engine.specs.Moments.{so_far_in}
 use Rattle.m4_engine.proofs.Growth.{Extends, longer_level, Begins}
-use Rattle.m4_engine.proofs.OnlyGrows.{extends_same, extends_more, tells, input_keeps}
+use Rattle.m4_engine.proofs.OnlyGrows.{extends_same, extends_more, says_more, input_keeps}
 use Rattle.m4_engine.proofs.Continues.{law}
 
 -- a run after a source has what it had
@@ -27,7 +27,7 @@ unless_keeps r (Some h) old new e f = e
 
 read_keeps : (limits : Limits) (s : Source) (r : RunSoFar) (any_missing : Bool) → Extends r (read_source limits s r any_missing).so_far
 read_keeps limits (Opened name bytes) r any_missing = input_keeps limits r (file_pending name bytes false)
-read_keeps limits (Unopened name) r any_missing = tells r (with_message (cannot_open name) r) (cannot_open name) refl refl
+read_keeps limits (Unopened name) r any_missing = says_more r (with_message (cannot_open name) r) (cannot_open name) refl refl
 
 source_keeps : (limits : Limits) (s : Source) (p : Progress) → Extends p.so_far (after_source limits s p).so_far
 source_keeps limits s p = unless_keeps p.so_far p.over p (read_source limits s p.so_far p.any_missing) (extends_same p.so_far) (read_keeps limits s p.so_far p.any_missing)

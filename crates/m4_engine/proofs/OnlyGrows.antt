@@ -51,14 +51,14 @@ extends_more a b c f g = record {
 writes : (a b : RunSoFar) (x y : List ℕ) → b.output ≡ a.output ++ x → b.messages ≡ a.messages ++ y → Extends a b
 writes a b x y e f = record { more = x; output = e; reported = y; messages = f }
 
-pub tells : (a b : RunSoFar) (y : List ℕ) → b.output ≡ a.output → b.messages ≡ a.messages ++ y → Extends a b
-tells a b y e f = writes a b [] y (e ∙ sym (append-nil a.output)) f
+pub says_more : (a b : RunSoFar) (y : List ℕ) → b.output ≡ a.output → b.messages ≡ a.messages ++ y → Extends a b
+says_more a b y e f = writes a b [] y (e ∙ sym (append-nil a.output)) f
 
 puts : (a b : RunSoFar) (x : List ℕ) → b.output ≡ a.output ++ x → b.messages ≡ a.messages → Extends a b
 puts a b x e f = writes a b x [] e (f ∙ sym (append-nil a.messages))
 
 quiet : (a b : RunSoFar) → b.output ≡ a.output → b.messages ≡ a.messages → Extends a b
-quiet a b e f = tells a b [] e (f ∙ sym (append-nil a.messages))
+quiet a b e f = says_more a b [] e (f ∙ sym (append-nil a.messages))
 
 -- what a turn has made
 abbrev pub made : Turn Expansion Kept Ended → RunSoFar
@@ -96,12 +96,12 @@ enter_list_keeps true c p s = extends_same _
 enter_list_keeps false c p s = subst (Extends s.so_far) (sym (bare_made (called c (reading p s) (kept_of s)))) (called_keeps c (reading p s) (kept_of s))
 
 enter_keeps : (deep listed : Bool) (c : Call) (p : Pending) (s : Expansion) → Extends s.so_far (made (call_unless_deep deep listed c p s))
-enter_keeps true listed c p s = tells _ _ _ refl refl
+enter_keeps true listed c p s = says_more _ _ _ refl refl
 enter_keeps false listed c p s = enter_list_keeps listed c p s
 
 call_if_keeps : (room listed : Bool) (c : Call) (p : Pending) (s : Expansion) → Extends s.so_far (made (call_if_room room listed c p s))
 call_if_keeps true listed c p s = extends_more s.so_far (with_call s).so_far _ (quiet _ _ refl refl) (enter_keeps (is_deep s) listed c p (with_call s))
-call_if_keeps false listed c p s = tells _ _ _ refl refl
+call_if_keeps false listed c p s = says_more _ _ _ refl refl
 
 call_keeps : (listed : Bool) (c : Call) (p : Pending) (s : Expansion) → Extends s.so_far (made (call listed c p s))
 call_keeps listed c p s = call_if_keeps (nat_lt (s.so_far).calls (s.limits).calls) listed c p s
@@ -120,13 +120,13 @@ on_name_keeps None x p s = puts _ _ _ refl refl
 on_name_keeps (Some d) x p s = on_answer_keeps (paren_at ((s.so_far).state).quotes ((s.so_far).state).comments p) (call_of d x (place_at s.pending)) p s
 
 on_closing_keeps : (n b : ℕ) (c : Call) (s : Expansion) → Extends s.so_far (made (take_closing n b c s))
-on_closing_keeps zero b c s = tells _ _ _ refl refl
+on_closing_keeps zero b c s = says_more _ _ _ refl refl
 on_closing_keeps (suc n) b c s = extends_same _
 
 take_byte_keeps : (r : Role) (b : ℕ) (c : Call) (s : Expansion) → Extends s.so_far (made (take_byte r b c s))
 take_byte_keeps Opening b c s = extends_same _
 take_byte_keeps Closing b c s = on_closing_keeps c.parentheses b c s
-take_byte_keeps Separator b c s = tells _ _ _ refl refl
+take_byte_keeps Separator b c s = says_more _ _ _ refl refl
 take_byte_keeps Blank b c s = extends_same _
 take_byte_keeps Other b c s = puts _ _ _ refl refl
 
@@ -136,7 +136,7 @@ on_byte_keeps (Collecting c) b s = take_byte_keeps (role_of b c) b c s
 
 on_end_keeps : (m : Mode) (s : Expansion) → Extends s.so_far (made (take_end m s))
 on_end_keeps Outside s = extends_same _
-on_end_keeps (Collecting c) s = tells _ _ _ refl refl
+on_end_keeps (Collecting c) s = says_more _ _ _ refl refl
 
 on_token_keeps : (t : Token) (p : Pending) (s : Expansion) → Extends s.so_far (made (take_token t p s))
 on_token_keeps (Name x) p s = on_name_keeps (top_of (s.so_far).state x) x p s
@@ -148,7 +148,7 @@ on_token_keeps End p s = on_end_keeps s.mode s
 
 pub on_seen_keeps : (v : Front) (s : Expansion) → Extends s.so_far (made (take_front v s))
 on_seen_keeps (Taken t p) s = on_token_keeps t p s
-on_seen_keeps (Refused f n) s = tells _ _ _ refl refl
+on_seen_keeps (Refused f n) s = says_more _ _ _ refl refl
 on_seen_keeps More s = extends_same _
 
 pub turn_keeps : (s : Expansion) → Extends s.so_far (made (turn s))

@@ -519,12 +519,12 @@ reload_by o script out out' (Err (stops.Ended (causes.Frozen fault))) h = (h.0, 
 reload_by o script out out' (Err (stops.Ended causes.Write)) h = (h.0, h.1, sym (is_start o.prefix (Some script) (From h.0 h.1) h.2), h.3)
 reload_by o script out out' (Err (stops.Ended causes.OutOfMemory)) h = absurd h
 
-pub reload_begins : {R : Type 0} (tells : R → Option Script) (reader : R) (frozen : Option R) (o : Options)
+pub reload_begins : {R : Type 0} (script : R → Option Script) (reader : R) (frozen : Option R) (o : Options)
     (file : Option Script) (out out' : Option (List ℕ)) (st : Result SessionState Stop) → frozen ≡ Some reader
-    → DescribesFrozen tells frozen file → ReloadGives o (tells reader) out out' st
+    → DescribesFrozen script frozen file → ReloadGives o (script reader) out out' st
     → BeginGives (start_of o.prefix file) o out out' st
-reload_begins tells reader frozen o file out out' st i t h =
-    let k = subst (λ (y : Option _). DescribesFrozen tells y file) i t in
+reload_begins script reader frozen o file out out' st i t h =
+    let k = subst (λ (y : Option _). DescribesFrozen script y file) i t in
     subst (λ (y : Option Script). BeginGives (start_of o.prefix y) o out out' st) (sym k.2)
     (reload_by o k.0 out out' st (subst (λ (y : Option Script). ReloadGives o y out out' st) k.1 h))
 
@@ -533,18 +533,18 @@ fresh_by : (o : Options) (out : Option (List ℕ)) (st : Result SessionState Sto
 fresh_by o out (Ok s) f e = (fresh o.prefix, [], refl, f, with_bytes-nil out)
 fresh_by o out (Err x) f e = subst (λ (y : Stop). BeginGives (start_of o.prefix None) o out out (Err y)) (sym e) refl
 
-pub fresh_begins : {R : Type 0} (tells : R → Option Script) (frozen : Option R) (o : Options) (file : Option Script)
-    (out : Option (List ℕ)) (st : Result SessionState Stop) → frozen ≡ None → DescribesFrozen tells frozen file
+pub fresh_begins : {R : Type 0} (script : R → Option Script) (frozen : Option R) (o : Options) (file : Option Script)
+    (out : Option (List ℕ)) (st : Result SessionState Stop) → frozen ≡ None → DescribesFrozen script frozen file
     → IfOk st (λ s. s ≡ fresh_session o) → IfErr st (λ e. e ≡ stops.Ended causes.OutOfMemory)
     → BeginGives (start_of o.prefix file) o out out st
-fresh_begins tells frozen o file out st i t f e =
-    let k : file ≡ None = subst (λ (y : Option _). DescribesFrozen tells y file) i t in
+fresh_begins script frozen o file out st i t f e =
+    let k : file ≡ None = subst (λ (y : Option _). DescribesFrozen script y file) i t in
     subst (λ (y : Option Script). BeginGives (start_of o.prefix y) o out out st) (sym k) (fresh_by o out st f e)
 
 -- how a run begins, from its frozen file or from the fresh state: what it wrote, and what it read of the file
-pub record Began {R : Type 0} (tells : R → Option Script) (failures : R → ℕ) (o : Options) (xs ys : Option R)
+pub record Began {R : Type 0} (script : R → Option Script) (failures : R → ℕ) (o : Options) (xs ys : Option R)
     (out out' : Option (List ℕ)) (old new : ℕ) (st : Result SessionState Stop) : Type 0 where
-  pub gives : (file : Option Script) → DescribesFrozen tells xs file → BeginGives (start_of o.prefix file) o out out' st
+  pub gives : (file : Option Script) → DescribesFrozen script xs file → BeginGives (start_of o.prefix file) o out out' st
   pub begun : IsBegun o st
   pub refused : (fault : FrozenFault) → st ≡ Err (stops.Ended (causes.Frozen fault)) → out' ≡ out
   pub read : BeginFails failures st xs ys
@@ -565,14 +565,14 @@ reload_is_begun o file out out' (Err (stops.Ended (causes.Frozen fault))) h = tt
 reload_is_begun o file out out' (Err (stops.Ended causes.Write)) h = tt
 reload_is_begun o file out out' (Err (stops.Ended causes.OutOfMemory)) h = tt
 
-pub reload_began : {R : Type 0} (tells : R → Option Script) (failures : R → ℕ) (o : Options) (xs ys : Option R) (x y : R)
+pub reload_began : {R : Type 0} (script : R → Option Script) (failures : R → ℕ) (o : Options) (xs ys : Option R) (x y : R)
     (out out' : Option (List ℕ)) (old new : ℕ) (st : Result SessionState Stop) → xs ≡ Some x → ys ≡ Some y
-    → ReloadGives o (tells x) out out' st → ReloadFails st (failures x) (failures y) → MessageWriteFails st old new
-    → Began tells failures o xs ys out out' old new st
-reload_began tells failures o xs ys x y out out' old new st i j h r w = record {
-  gives = λ file t. reload_begins tells x xs o file out out' st i t h;
-  begun = reload_is_begun o (tells x) out out' st h;
-  refused = λ fault e. (subst (ReloadGives o (tells x) out out') e h).0;
+    → ReloadGives o (script x) out out' st → ReloadFails st (failures x) (failures y) → MessageWriteFails st old new
+    → Began script failures o xs ys out out' old new st
+reload_began script failures o xs ys x y out out' old new st i j h r w = record {
+  gives = λ file t. reload_begins script x xs o file out out' st i t h;
+  begun = reload_is_begun o (script x) out out' st h;
+  refused = λ fault e. (subst (ReloadGives o (script x) out out') e h).0;
   read = subst (λ (v : Option _). BeginFails failures st v ys) (sym i) (subst (λ (v : Option _). BeginFails failures st (Some x) v) (sym j) r);
   write = w;
 }
@@ -582,12 +582,12 @@ fresh_is : (P : Result SessionState Stop → Type 0) (o : Options) (st : Result 
 fresh_is P o (Ok s) f e p q = subst (λ (x : SessionState). P (Ok x)) (sym f) p
 fresh_is P o (Err x) f e p q = subst (λ (y : Stop). P (Err y)) (sym e) q
 
-pub fresh_began : {R : Type 0} (tells : R → Option Script) (failures : R → ℕ) (o : Options) (xs ys : Option R)
+pub fresh_began : {R : Type 0} (script : R → Option Script) (failures : R → ℕ) (o : Options) (xs ys : Option R)
     (out : Option (List ℕ)) (old : ℕ) (st : Result SessionState Stop) → xs ≡ None → ys ≡ None
     → IfOk st (λ s. s ≡ fresh_session o) → IfErr st (λ e. e ≡ stops.Ended causes.OutOfMemory)
-    → Began tells failures o xs ys out out old old st
-fresh_began tells failures o xs ys out old st i j f e = record {
-  gives = λ file t. fresh_begins tells xs o file out st i t f e;
+    → Began script failures o xs ys out out old old st
+fresh_began script failures o xs ys out old st i j f e = record {
+  gives = λ file t. fresh_begins script xs o file out st i t f e;
   begun = fresh_is (IsBegun o) o st f e (fresh o.prefix, refl) tt;
   refused = λ fault k. refl;
   read = subst (λ (v : Option _). BeginFails failures st v ys) (sym i) (subst (λ (v : Option _). BeginFails failures st None v) (sym j) (fresh_is (λ r. BeginFails failures r None None) o st f e tt tt));
@@ -595,15 +595,15 @@ fresh_began tells failures o xs ys out old st i j f e = record {
 }
 
 -- the same where the two ways join
-pub began_so : {R O : Type 0} (tells : R → Option Script) (failures : R → ℕ) (o : Options) (xs ys ys' : Option R)
+pub began_so : {R O : Type 0} (script : R → Option Script) (failures : R → ℕ) (o : Options) (xs ys ys' : Option R)
     (contents : O → Option (List ℕ)) (fails : O → ℕ) (w0 w w' : O) (st st' : Result SessionState Stop) → ys' ≡ ys
     → w' ≡ w → st' ≡ st
-    → Began tells failures o xs ys (contents w0) (contents w) (fails w0) (fails w) st
-    → Began tells failures o xs ys' (contents w0) (contents w') (fails w0) (fails w') st'
-began_so tells failures o xs ys ys' contents fails w0 w w' st st' i j k h =
-    subst (λ v. Began tells failures o xs v (contents w0) (contents w') (fails w0) (fails w') st') (sym i)
-    (subst (λ v. Began tells failures o xs ys (contents w0) (contents v) (fails w0) (fails v) st') (sym j)
-    (subst (λ v. Began tells failures o xs ys (contents w0) (contents w) (fails w0) (fails w) v) (sym k) h))
+    → Began script failures o xs ys (contents w0) (contents w) (fails w0) (fails w) st
+    → Began script failures o xs ys' (contents w0) (contents w') (fails w0) (fails w') st'
+began_so script failures o xs ys ys' contents fails w0 w w' st st' i j k h =
+    subst (λ v. Began script failures o xs v (contents w0) (contents w') (fails w0) (fails w') st') (sym i)
+    (subst (λ v. Began script failures o xs ys (contents w0) (contents v) (fails w0) (fails v) st') (sym j)
+    (subst (λ v. Began script failures o xs ys (contents w0) (contents w) (fails w0) (fails w) v) (sym k) h))
 
 -- the end of a run leaves the session over, by the cause that is answered
 end_left : (freezes : Bool) (old new : SessionState) (w : Contents) (e : Stop) → IsOpen old → EndGives freezes old new w (Err e) → IsLeft {A = Bool} new (Err e)

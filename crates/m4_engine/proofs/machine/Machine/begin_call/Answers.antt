@@ -5,7 +5,7 @@ use Rattle.std.specs.Prelude.{codes}
 use Rattle.m4_input.specs.Input.{Held, answer_of, longer}
 use Rattle.m4_engine.specs.Engine.{Engine}
 use Rattle.m4_engine.specs.declared.turned.TurnEnd.TheVariants as ends
-use Rattle.m4_engine.proofs.Calling.{told, refused_calls, depth_refused, bare_made, list_begins_so}
+use Rattle.m4_engine.proofs.Calling.{limit_reported, refused_calls, depth_refused, bare_made, list_begins_so}
 use Rattle.m4_input.specs.Paren.{paren_at}
 use Rattle.m4_input.specs.declared.token.Token.TheVariants.{Name}
 use Rattle.m4_input.proofs.Names.{name_has_none}
@@ -59,7 +59,7 @@ returns-then-self c =
     found_steps_at e c.report_limit-then-self.new.self (Name name) c.args.len c.args.input.now k k (Ok (turns.Ends ends.ExpansionLimit)) c.requires.first c.requires.named.scanned c.consume.ensures
     (made_moves e c.report_limit-then-self.new.self d c.args.listed name p q (k).pending (Ok (turns.Ends ends.ExpansionLimit)) rest list (search rules) called placed
     (λ before z more u o m. refused_calls e c.report_limit-then-self.new.self d c.args.listed (longer z more q) (before z more) o m (search rules)
-    (told e _ d.place _ _ (codes " calls") (ap (λ (x : Engine). (x.limits).calls) c.report_limit.view_is) c.in_ok-report_limit.ensures)))
+    (limit_reported e _ d.place _ _ (codes " calls") (ap (λ (x : Engine). (x.limits).calls) c.report_limit.view_is) c.in_ok-report_limit.ensures)))
     {to = λ t. Unit {0}} (record { moves = tt; ready = search rules; limits = search rules; made = search rules })
 
 pub returns-then-is_deep : goal.returns-then-is_deep
@@ -79,7 +79,7 @@ returns-then-is_deep c =
     found_steps_at e c.report_limit-then-is_deep-2.new.self (Name name) c.args.len c.args.input.now k k (Ok (turns.Ends ends.NestingLimit)) c.requires.first c.requires.named.scanned c.consume.ensures
     (made_moves e c.report_limit-then-is_deep-2.new.self d c.args.listed name p q (k).pending (Ok (turns.Ends ends.NestingLimit)) rest list (search rules) called placed
     (λ before z more u o m. depth_refused e c.count.new.self c.report_limit-then-is_deep-2.new.self d c.args.listed (longer z more q) (before z more) o m (search rules) c.count.ensures (search rules)
-    (told c.count.new.self _ d.place _ _ (codes " nested calls") (ap (λ (x : Engine). (x.limits).nesting) c.report_limit-then-is_deep.view_is) c.in_ok-report_limit-2.ensures)))
+    (limit_reported c.count.new.self _ d.place _ _ (codes " nested calls") (ap (λ (x : Engine). (x.limits).nesting) c.report_limit-then-is_deep.view_is) c.in_ok-report_limit-2.ensures)))
     {to = λ t. Unit {0}} (record { moves = tt; ready = search rules; limits = search rules; made = search rules })
 
 pub returns-then-not-listed-2 : goal.returns-then-not-listed-2
