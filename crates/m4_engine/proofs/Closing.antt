@@ -6,7 +6,7 @@ use Rattle.m4_engine.specs.declared.stop.Stop.{Stop}
 use Rattle.m4_engine.specs.declared.stop.Stop.TheVariants as stops
 use Rattle.m4_engine.specs.Order.{InEnd, Breaks, BreaksBy}
 use Rattle.m4_engine.specs.RunSteps.{UsesWriters}
-use Rattle.m4_engine.specs.Session.{SessionState, CloseGives, FinishGives, FreezeGives, FrozenGives, FreezeLeaves}
+use Rattle.m4_engine.specs.Session.{SessionState, CloseGives, FinishGives, FreezeGives, FrozenGives}
 use Rattle.m4_engine.specs.Session.{last_state, progress_of}
 use Rattle.m4_engine.specs.SessionFailures.{SparesBy, ThreeFail, WriteFails}
 use Rattle.m4_engine.specs.Writers.{Contents, Failures, Three, all_three, both, writers, IsSpared}
@@ -49,13 +49,12 @@ finish_fails f k w (Err (stops.Ended (causes.Frozen x))) s h = (h, refl)
 finish_fails f k w (Err (stops.Ended causes.Read)) s h = (h, refl)
 finish_fails f k w (Err (stops.Ended causes.OutOfMemory)) s h = (h, refl)
 
-module _ {O M Z : Type 0} (co : O → Option (List ℕ)) (cm : M → Option (List ℕ)) (cz : Z → Option (List ℕ)) (fo : O → ℕ) (fm : M → ℕ) (fz : Z → ℕ) (whole : Bool) where
+module _ {O M Z : Type 0} (co : O → Option (List ℕ)) (cm : M → Option (List ℕ)) (cz : Z → Option (List ℕ)) (fo : O → ℕ) (fm : M → ℕ) (fz : Z → ℕ) where
   -- what the end of a run writes, and what it leaves of its session and its writers
   pub record Closes (freezes : Bool) (old : SessionState) (o : O) (m : M) (z : Z) (new : SessionState) (o' : O) (m' : M)
       (z' : Z) (r : Result Unit Stop) : Type 0 where
     pub gives : CloseGives freezes old new (all_three co cm cz o o' m m' z z') r
     pub order : BreaksBy r (Breaks (InEnd old.limits) (progress_of old) (both co cm o o' m m'))
-    pub torn : whole ≡ true → r ≡ Err (stops.Ended causes.Write) → FreezeLeaves (last_state old) (cz z) (cz z')
     pub any_missing : new.any_missing ≡ old.any_missing
     pub writers : UsesWriters freezes z z' (all_three fo fm fz o o' m m' z z') (all_three co cm cz o o' m m' z z') r
 
@@ -63,14 +62,12 @@ module _ {O M Z : Type 0} (co : O → Option (List ℕ)) (cm : M → Option (Lis
       (m' : M) (z' : Z) (r : Result Unit Stop) → freezes ≡ true
       → FreezeGives old new (all_three co cm cz o o' m m' z z') r
       → BreaksBy r (Breaks (InEnd old.limits) (progress_of old) (both co cm o o' m m'))
-      → (whole ≡ true → r ≡ Err (stops.Ended causes.Write) → FreezeLeaves (last_state old) (cz z) (cz z'))
       → new.any_missing ≡ old.any_missing
       → ThreeFail r (all_three fo fm fz o o' m m' z z') (all_three co cm cz o o' m m' z z')
       → Closes freezes old o m z new o' m' z' r
-  freeze_closes freezes old o m z new o' m' z' r e h b t a f = subst (λ (x : Bool). Closes x old o m z new o' m' z' r) (sym e) (record {
+  freeze_closes freezes old o m z new o' m' z' r e h b a f = subst (λ (x : Bool). Closes x old o m z new o' m' z' r) (sym e) (record {
     gives = h;
     order = b;
-    torn = t;
     any_missing = a;
     writers = record { failed = f; spared = λ k. cc; spared_by = freeze_spares old (all_three co cm cz o o' m m' z z') r h.1 };
   })
@@ -83,7 +80,6 @@ module _ {O M Z : Type 0} (co : O → Option (List ℕ)) (cm : M → Option (Lis
   finish_closes freezes old o m z new o' m' r e h b a f = subst (λ (x : Bool). Closes x old o m z new o' m' z r) (sym e) (record {
     gives = (h, refl);
     order = b;
-    torn = λ t k. inl refl;
     any_missing = a;
     writers = record {
       failed = finish_fails (both fo fm o o' m m') (fz z) (all_three co cm cz o o' m m' z z) r refl f;

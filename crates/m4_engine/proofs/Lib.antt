@@ -63,7 +63,6 @@ pub mod Readers
 pub mod Whole
 pub mod Starts
 pub mod Closing
-pub mod Tears
 pub mod OneSource
 pub mod RunReached
 pub mod TwoRuns

@@ -17,7 +17,6 @@ use Rattle.m4_engine.specs.Order.{InOrderBy}
 use Rattle.m4_engine.specs.Run.{run, status_of}
 use Rattle.m4_engine.specs.RunSources.{AllConsumeOnly, DescribeSources, DescribesFrozen, FrozenFailsBy, MissedIn}
 use Rattle.m4_engine.specs.RunSources.{ReadersFailBy}
-use Rattle.m4_engine.specs.Session.{FreezeLeaves}
 use Rattle.m4_engine.specs.Start.{start_of}
 use Rattle.m4_engine.specs.WholeRun.{NothingIsDone, RunGives}
 use Rattle.m4_engine.specs.Writers.{Spares, Three, ThreeFailBy}
@@ -43,9 +42,8 @@ ForInputs script c P =
     (file : Option Script) → DescribesFrozen script c.file_old file
     → (ss : List Source) → DescribeSources script c.sources_old c.sources_new ss → P file ss
 
--- the promises of a run, by the bytes and the failures of its readers, and by whether each put of the frozen text is
--- taken whole or not at all
-pub record IsRun {R Z : Type 0} (script : R → Option Script) (failures : R → ℕ) (takes_whole : Bool) (c : RunCall R Z)
+-- the promises of a run, by the bytes and the failures of its readers
+pub record IsRun {R Z : Type 0} (script : R → Option Script) (failures : R → ℕ) (c : RunCall R Z)
     (e : Ending) : Type 0 where
   -- whole run: the bytes written and the ending are those of the definition of a run
   pub gives : ForInputs script c (λ file ss. RunGives (run c.options file ss) e c.contents)
@@ -56,10 +54,6 @@ pub record IsRun {R Z : Type 0} (script : R → Option Script) (failures : R →
   -- whole run: a frozen state is sized
   pub sized : ForInputs script c (λ file ss. e.cause ≡ causes.Done → (c.options).freeze ≡ true
       → IsSized (frozen_state c.options (start_of (c.options).prefix file) ss))
-  -- torn files: if each put of the frozen text is taken whole, a write fault leaves nothing of it, or a torn beginning
-  pub torn : takes_whole ≡ true → ForInputs script c (λ file ss. e.cause ≡ causes.Write
-      → FreezeLeaves (frozen_state c.options (start_of (c.options).prefix file) ss) (c.contents).frozen_old
-      (c.contents).frozen_new)
   -- safe and total: a read fault is reported if a reader failed in this call, after all its bytes, and only then; a
   -- read fault of a frozen file only if its reader failed in this call
   pub read : ReadersFailBy script failures e.cause c.sources_old c.sources_new

@@ -16,7 +16,7 @@ use Rattle.m4_engine.specs.File.{Source, Progress, after_sources}
 use Rattle.m4_engine.specs.Wraps.{after_wraps}
 use Rattle.m4_engine.specs.Order.{IsStepOfRun, Breaks, BreaksBy}
 use Rattle.m4_engine.specs.RunSources.{IsUnrefused, MissedBy, any_unopened, is_unopened}
-use Rattle.m4_engine.specs.Session.{SessionState, GoesTo, FreezeLeaves, progress_of, session_from, status_at}
+use Rattle.m4_engine.specs.Session.{SessionState, GoesTo, progress_of, session_from, status_at}
 use Rattle.m4_engine.specs.SessionFailures.{ReloadFails, ThreeFail, SparesBy}
 use Rattle.m4_engine.specs.Start.{Start, From, Faulty}
 use Rattle.m4_engine.specs.WholeRun.{RunGives, result_after, ending_by}
@@ -72,12 +72,9 @@ pub record WritesToEnd (freezes : Bool) (ss : List Source) (old new : SessionSta
 abbrev pub state_at_end : SessionState → List Source → State
 state_at_end old ss = ((after_wraps old.limits (after_sources old.limits ss (progress_of old))).so_far).state
 
--- a run freezes this state, which is sized; if each put is taken whole, a write fault leaves nothing of its text, or a
--- torn beginning
-pub record FreezesState (takes_whole freezes : Bool) (s : State) (frozen_old frozen_new : Option (List ℕ))
-    (r : Result Bool Stop) : Type 0 where
+-- a run freezes this state, which is sized
+pub record FreezesState (freezes : Bool) (s : State) (r : Result Bool Stop) : Type 0 where
   pub sized : OnOk r (freezes ≡ true → IsSized s)
-  pub torn : takes_whole ≡ true → r ≡ Err (stops.Ended causes.Write) → FreezeLeaves s frozen_old frozen_new
 
 -- a writer failed if the call ends by a write fault; the writer of the frozen text is used only by a run that freezes,
 -- and not if another fault ends it

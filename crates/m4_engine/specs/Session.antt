@@ -1,7 +1,7 @@
 -- Session: a run between two of its calls, and what each call does to it.
 -- Believed. Manual: "Command line files", "Invoking m4".
 -- Words: SessionState, progress_of, written, session_from, fresh_session, IsOpen, ReloadGives, Completed, FileAsked,
--- FileRead, FileEnded, FileFell, FileGives, MissingGives, EndGives, FinishGives, FreezeGives, FreezeLeaves.
+-- FileRead, FileEnded, FileFell, FileGives, MissingGives, EndGives, FinishGives, FreezeGives.
 -- A session is a run's progress without the bytes that were written; these went to the writers.
 use Rattle.std.specs.Prelude.{◌≡◌, ◌≢◌, ◌≤◌, length, IfSome, ℕ, Bool, true, false, List, [], ◌∷◌, ◌++◌, Option, Some}
 use Rattle.std.specs.Prelude.{None, Result, Ok, Err, ◌⊎◌}
@@ -11,7 +11,6 @@ use Rattle.m4_state.specs.Device.{Script, after_bytes, IsAtEnd, IsAtFault, with_
 use Rattle.m4_input.specs.Input.{block}
 use Rattle.m4_frozen.specs.declared.fault.FrozenKind.TheVariants as kinds
 use Rattle.m4_frozen.specs.Freeze.{freeze}
-use Rattle.m4_frozen.specs.Torn.{LeavesTorn}
 use Rattle.m4_engine.specs.declared.ending.Cause.{Cause}
 use Rattle.m4_engine.specs.declared.ending.Cause.TheVariants as causes
 use Rattle.m4_engine.specs.declared.options.Options.{Options}
@@ -279,11 +278,6 @@ FrozenGives old w (Err stop) = IsSpared w
 -- the end of a run that freezes
 abbrev pub FreezeGives : SessionState → SessionState → Three (Option (List ℕ)) → Result Unit Stop → Type 0
 FreezeGives old new w answer = EndGives true old new w.two answer × FrozenGives old w answer
-
--- a write fault, if each put of the frozen text is taken whole: nothing of it was written, or a torn beginning,
--- and the state is sized
-abbrev pub FreezeLeaves : State → Option (List ℕ) → Option (List ℕ) → Type 0
-FreezeLeaves s old new = (new ≡ old) ⊎ (IsSized s × LeavesTorn old new s)
 
 -- the end of a run, and the contents of the frozen text's writer
 abbrev pub CloseGives : Bool → SessionState → SessionState → Three (Option (List ℕ)) → Result Unit Stop → Type 0

@@ -39,7 +39,7 @@ pub fn run<R: ByteSource, O: ByteSink, M: ByteSink, Z: ByteSink>(
     messages: &mut M,
     freeze_to: &mut Z,
 ) -> Ending
-    ensures { IsRun R.script R.failures Z.takes_whole (record {
+    ensures { IsRun R.script R.failures (record {
       options = options;
       file_old = frozen.old;
       file_new = frozen.new;
@@ -69,7 +69,7 @@ pub fn run_keeping<R: ByteSource, O: ByteSink, M: ByteSink, Z: ByteSink>(
     messages: &mut M,
     freeze_to: &mut Z,
 ) -> (Ending, Option<Session>)
-    ensures { IsRun R.script R.failures Z.takes_whole (record {
+    ensures { IsRun R.script R.failures (record {
       options = options;
       file_old = frozen.old;
       file_new = frozen.new;
@@ -141,8 +141,7 @@ fn read_to_end<R: ByteSource, O: ByteSink, M: ByteSink, Z: ByteSink>(
         (all_three O.contents M.contents Z.contents
         out.old out.new messages.old messages.new freeze_to.old freeze_to.new) result }
     ensures frozen { (ss : List Said) → DescribeSources R.script sources.old sources.new ss →
-        FreezesState Z.takes_whole freezes (state_at_end session.old ss)
-        (Z.contents freeze_to.old) (Z.contents freeze_to.new) result }
+        FreezesState freezes (state_at_end session.old ss) result }
     ensures reads { ReadsToEnd R.script R.failures sources.old sources.new session.old
         (both O.contents M.contents out.old out.new messages.old messages.new) result }
     ensures marks { MarksAnyUnopened sources.old sources.new session.old.any_missing session.new.any_missing result }

@@ -4,7 +4,7 @@
 ghost use Rattle.std.specs.Prelude.{◌≡◌, true, false, [], IfOk, IfErr, OnOk, Err};
 ghost use Rattle.m4_engine.specs.Writers.{all_three, both};
 ghost use Rattle.m4_engine.specs.Session.{IsOpen, answer_by, over_after, session_from, fresh_session, ReloadGives};
-ghost use Rattle.m4_engine.specs.Session.{FileGives, MissingGives, FinishGives, FreezeGives, FreezeLeaves, WrapsGive};
+ghost use Rattle.m4_engine.specs.Session.{FileGives, MissingGives, FinishGives, FreezeGives, WrapsGive};
 ghost use Rattle.m4_engine.specs.Session.{last_state, session_after_wraps, is_saved, status_at, progress_of};
 ghost use Rattle.m4_engine.specs.Order.{InSomeRound, InEnd, Breaks, BreaksBy, FileBreaks};
 ghost use Rattle.m4_engine.specs.SessionFailures.{ReadFails, ReloadFails, WriteFails, ThreeFail, MessageWriteFails};
@@ -274,9 +274,6 @@ impl Session {
         // in order: if it is broken off, a message was written only if all output was that was made before it
         ensures order { BreaksBy result (Breaks (InEnd self.old.limits) (progress_of self.old)
             (both O.contents M.contents out.old out.new messages.old messages.new)) }
-        // torn files: if each put is taken whole, a write fault leaves nothing of the frozen text, or a torn beginning
-        ensures torn { Z.takes_whole ≡ true → result ≡ Err (Stop.Ended Cause.Write)
-            → FreezeLeaves (last_state self.old) (Z.contents freeze_to.old) (Z.contents freeze_to.new) }
         // safe and total: a write fault is returned only if a writer failed in this call
         ensures write { ThreeFail result
             (all_three O.failures M.failures Z.failures

@@ -18,7 +18,6 @@ pub mod TextRead
 pub mod Remaining
 pub mod WindowRead
 pub mod Examples
-pub mod Lates
 pub mod FreezeParts
 pub mod ListingParts
 pub mod Plain
@@ -26,6 +25,5 @@ pub mod CanonicalSpelled
 pub mod CanonicalDenoted
 pub mod LastPlace
 pub mod RoundTrip
-pub mod Torn
-pub mod TornFault
 pub mod Refrozen
+pub mod Unfinished

@@ -1,9 +1,9 @@
 -- Laws: facts about the definitions only: each file is decided, and canonical text loads as its state.
 -- Believed as statements; the functions of the module `laws` carry their proofs.
 -- The law `TiesReaderSteps` cites `ReaderSteps`; no other believed statement depends on that file.
--- Words: OneReading, OneAnswer, TiesReaderSteps, FreezeLoads, CanonAgain, as_older, RefreezeOlder, TornRefused,
--- TornFaults.
-use Rattle.std.specs.Prelude.{◌≡◌, ◌↔◌, ℕ, List, [], ◌⊎◌, Ok, Err, map, if◌then◌else◌}
+-- Words: OneReading, OneAnswer, TiesReaderSteps, FreezeLoads, CanonAgain, as_older, RefreezeOlder,
+-- UnfinishedRefused.
+use Rattle.std.specs.Prelude.{◌≡◌, ◌↔◌, ℕ, List, [], ◌⊎◌, Ok, Err, map, if◌then◌else◌, true}
 use Rattle.std.specs.Str.{bytes_eq}
 use Rattle.m4_state.specs.declared.builtin.Builtin.{Builtin}
 use Rattle.m4_state.specs.declared.definition.Def.{Def}
@@ -16,7 +16,8 @@ use Rattle.m4_frozen.specs.Directive.{Directive}
 use Rattle.m4_frozen.specs.Freeze.{freeze}
 use Rattle.m4_frozen.specs.Spells.{Spells}
 use Rattle.m4_frozen.specs.FaultAt.{ExactFault, FaultAt, IsFaultOfFailed}
-use Rattle.m4_frozen.specs.Torn.{IsTorn, IsTornFault}
+use Rattle.m4_frozen.specs.declared.fault.FrozenKind.TheVariants as kinds
+use Rattle.m4_frozen.specs.Unfinished.{is_marked}
 use Rattle.m4_frozen.specs.ReaderSteps.{file_at, fault_of, failed_answer}
 
 -- the same bytes spell only one list of directives
@@ -98,13 +99,10 @@ abbrev pub RefreezeOlder : Type 0
 RefreezeOlder =
     (lacking : Builtin) (s t : State) → as_older lacking s ≡ as_older lacking t → freeze s ≡ freeze t
 
--- a beginning of a canonical text that ends inside its first two lines or inside a directive has
--- exactly one fault, and no directives spell it
-abbrev pub TornRefused : Type 0
-TornRefused = (s : State) (bytes : List ℕ) → IsState s → IsSized s → IsTorn s bytes → IsOnlyRefused bytes
+-- bytes that begin with the mark have exactly one fault, F1 at 0, and no directives spell them
+pub record IsRefusedAtOnce (bytes : List ℕ) : Type 0 where
+  pub refused : IsOnlyRefused bytes
+  pub at_once : refused.fault ≡ record { kind = kinds.NoVersion; offset = 0 }
 
--- the fault of such a beginning lies at its end: it is F9, or F1 inside the first two lines
-abbrev pub TornFaults : Type 0
-TornFaults =
-    (s : State) (bytes : List ℕ) (fault : ExactFault)
-    → IsState s → IsSized s → IsTorn s bytes → FaultAt bytes fault → IsTornFault bytes fault
+abbrev pub UnfinishedRefused : Type 0
+UnfinishedRefused = (bytes : List ℕ) → is_marked bytes ≡ true → IsRefusedAtOnce bytes

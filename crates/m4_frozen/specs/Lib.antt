@@ -13,7 +13,7 @@ pub mod Blocks
 pub mod Laws
 pub mod Denote
 pub mod Freeze
-pub mod Torn
+pub mod Unfinished
 pub mod Listing
 pub mod WriterSteps
 pub mod InspectorSteps

@@ -3,7 +3,7 @@
 //! Each function's contract is a law of `specs/Laws.antt`. Manual: "Frozen file format".
 
 ghost use Rattle.m4_frozen.specs.Laws.{OneReading, OneAnswer, OneAnswerOfFailed, TiesReaderSteps, FreezeLoads};
-ghost use Rattle.m4_frozen.specs.Laws.{CanonAgain, TornRefused, TornFaults, RefreezeOlder};
+ghost use Rattle.m4_frozen.specs.Laws.{CanonAgain, RefreezeOlder, UnfinishedRefused};
 
 /// The same bytes spell only one list of directives.
 pub fn one_reading()
@@ -38,13 +38,10 @@ pub fn canon_again()
     ensures { CanonAgain }
 {}
 
-/// A canonical text that is cut off inside its first two lines or inside a directive is refused at its end.
-/// Manual: "Frozen file format".
-pub fn torn_refused()
-    // torn files: no directives spell a torn beginning, and it has one fault
-    ensures refused { TornRefused }
-    // torn files: the fault is that of a file that ends too early
-    ensures faults { TornFaults }
+/// Bytes that begin with the mark of a file that was not finished are refused at once. Manual: "Frozen file format".
+pub fn unfinished_refused()
+    // unfinished files: no directives spell such bytes, and their one fault is F1 at 0
+    ensures { UnfinishedRefused }
 {}
 
 /// Two states have the same canonical text if they differ only in this: one has a builtin where the

@@ -3,14 +3,12 @@
 //! Memory can run out only while the names are sorted, before the first byte is written. If a write
 //! fails, the bytes written are a prefix of the text. Manual: "Frozen file format".
 
-ghost use Rattle.std.specs.Prelude.{◌≡◌, ◌∷◌, ◌++◌, ℤ, pos, true, IfOk, OnOk, OnErr, [], Err, decimal};
+ghost use Rattle.std.specs.Prelude.{◌≡◌, ◌++◌, ℤ, pos, IfOk, OnOk, OnErr, [], Err, decimal};
 ghost use Rattle.m4_state.specs.Device.{with_bytes, one_more, count_after, HasBegun, Puts};
 ghost use Rattle.m4_state.specs.State.{IsSized};
 ghost use Rattle.m4_frozen.specs.Directive as directives;
 ghost use Rattle.m4_frozen.specs.Freeze as texts;
-ghost use Rattle.m4_frozen.specs.Torn.{LeavesTorn};
 ghost use Rattle.m4_frozen.specs.WriterSteps as steps;
-ghost use Rattle.m4_frozen.specs.WriterSteps.{PutsAll};
 
 use crate::fault::WriteFault;
 use arrayvec::{ArrayVec, CapacityError};
@@ -21,11 +19,11 @@ use m4_state::named::NamedStack;
 use m4_state::state::State;
 use m4_state::transfer::{write_all, write_pieces};
 
-/// The first two lines, a comment and the version, without their last byte.
-const HEADER: &[u8] = b"# m4 frozen state\nV1";
+/// The first two lines: a comment, and the version.
+const HEADER: &[u8] = b"# m4 frozen state\nV1\n";
 
-/// The last byte of what is before the last line, and that line.
-const END_LINE: &[u8] = b"\n# End of frozen state file\n";
+/// The last line.
+const END_LINE: &[u8] = b"# End of frozen state file\n";
 
 /// How many bytes of a directive are gathered, at most.
 const GATHERED: usize = 256;
@@ -44,9 +42,6 @@ pub fn write_frozen<W: ByteSink>(state: &State, writer: &mut W) -> Result<(), Wr
     // exact writer: a write fault leaves a prefix of it
     ensures begun { result ≡ Err WriteFault.Write
         → HasBegun (W.contents writer.old) (W.contents writer.new) (texts.freeze state.now) }
-    // torn files: if each put is taken whole, a write fault leaves nothing, or a prefix that is refused
-    ensures torn { W.takes_whole ≡ true → result ≡ Err WriteFault.Write
-        → LeavesTorn (W.contents writer.old) (W.contents writer.new) state.now }
     // exact writer: memory can run out only before the first byte
     ensures no_memory { result ≡ Err WriteFault.OutOfMemory
         → W.contents writer.new ≡ W.contents writer.old }
@@ -72,8 +67,6 @@ fn put_frozen<W: ByteSink>(
     writer: &mut W,
 ) -> Result<(), DeviceFault>
     ensures puts { Puts result (W.contents writer.old) (W.contents writer.new) (steps.frozen_text state.now pairs.now) }
-    ensures torn { W.takes_whole ≡ true → OnErr result (steps.StopsTorn (W.contents writer.old) (W.contents writer.new)
-        (steps.all_directives state.now pairs.now)) }
     ensures counted { W.failures writer.new ≡ count_after result (W.failures writer.old) }
 {
     write_all(writer, HEADER)?;
@@ -87,8 +80,7 @@ fn put_directives<W: ByteSink>(
     pairs: &[NamedStack],
     writer: &mut W,
 ) -> Result<(), DeviceFault>
-    ensures puts { PutsAll W.takes_whole result (W.contents writer.old) (W.contents writer.new)
-        (steps.all_directives state.now pairs.now) }
+    ensures puts { Puts result (W.contents writer.old) (W.contents writer.new) (steps.directives_text state.now pairs.now) }
     ensures counted { W.failures writer.new ≡ count_after result (W.failures writer.old) }
 {
     put_settings(state, writer)?;
@@ -98,8 +90,7 @@ fn put_directives<W: ByteSink>(
 
 /// Writes each pair of delimiters that is not the default.
 fn put_settings<W: ByteSink>(state: &State, writer: &mut W) -> Result<(), DeviceFault>
-    ensures puts { PutsAll W.takes_whole result (W.contents writer.old) (W.contents writer.new)
-        (steps.settings_directives state.now) }
+    ensures puts { Puts result (W.contents writer.old) (W.contents writer.new) (steps.settings_text state.now) }
     ensures counted { W.failures writer.new ≡ count_after result (W.failures writer.old) }
 {
     put_delimiters(b'Q', state.quotes(), (b"`", b"'"), writer)?;
@@ -108,8 +99,7 @@ fn put_settings<W: ByteSink>(state: &State, writer: &mut W) -> Result<(), Device
 
 /// Writes the diversions that contain text, and the number of the current one.
 fn put_diversions<W: ByteSink>(state: &State, writer: &mut W) -> Result<(), DeviceFault>
-    ensures puts { PutsAll W.takes_whole result (W.contents writer.old) (W.contents writer.new)
-        (steps.diverted_directives state.now) }
+    ensures puts { Puts result (W.contents writer.old) (W.contents writer.new) (steps.diverted_text state.now) }
     ensures counted { W.failures writer.new ≡ count_after result (W.failures writer.old) }
 {
     let last = put_texts(state, writer)?;
@@ -127,9 +117,6 @@ fn put_delimiters<W: ByteSink>(
         (steps.delimiters_text letter
         (record { begin = default.entry.0.now; end = default.entry.1.now })
         (record { begin = pair.entry.0.now; end = pair.entry.1.now })) }
-    ensures stops { W.takes_whole ≡ true → OnErr result (steps.StopsInOne (W.contents writer.old)
-        (W.contents writer.new)
-        (texts.two_strings letter pair.entry.0.now pair.entry.1.now)) }
     ensures counted { W.failures writer.new ≡ count_after result (W.failures writer.old) }
 {
     let (begin, end) = pair;
@@ -142,8 +129,7 @@ fn put_delimiters<W: ByteSink>(
 
 /// Writes the definitions of the names, in their order.
 fn put_names<W: ByteSink>(pairs: &[NamedStack], writer: &mut W) -> Result<(), DeviceFault>
-    ensures puts { PutsAll W.takes_whole result (W.contents writer.old) (W.contents writer.new)
-        (steps.names_directives pairs.now) }
+    ensures puts { Puts result (W.contents writer.old) (W.contents writer.new) (steps.names_text pairs.now) }
     ensures counted { W.failures writer.new ≡ count_after result (W.failures writer.old) }
 {
     let mut gathered = Gathered::new();
@@ -191,8 +177,7 @@ fn put_stack<W: ByteSink>(
     gathered: &mut Gathered,
     writer: &mut W,
 ) -> Result<(), DeviceFault>
-    ensures puts { PutsAll W.takes_whole result (W.contents writer.old) (W.contents writer.new)
-        (steps.stack_directives name.now stack.now) }
+    ensures puts { Puts result (W.contents writer.old) (W.contents writer.new) (steps.stack_text name.now stack.now) }
     ensures counted { W.failures writer.new ≡ count_after result (W.failures writer.old) }
 {
     for definition in stack {
@@ -208,8 +193,8 @@ fn put_definition<W: ByteSink>(
     gathered: &mut Gathered,
     writer: &mut W,
 ) -> Result<(), DeviceFault>
-    ensures puts { PutsAll W.takes_whole result (W.contents writer.old) (W.contents writer.new)
-        (texts.definition name.now definition.now ∷ []) }
+    ensures puts { Puts result (W.contents writer.old) (W.contents writer.new)
+        (texts.spelling (texts.definition name.now definition.now)) }
     ensures counted { W.failures writer.new ≡ count_after result (W.failures writer.old) }
 {
     match definition {
@@ -223,8 +208,7 @@ fn put_definition<W: ByteSink>(
 
 /// Writes the diversions that contain text, by rising number. Returns the last one's number, or 0.
 fn put_texts<W: ByteSink>(state: &State, writer: &mut W) -> Result<i32, DeviceFault>
-    ensures puts { PutsAll W.takes_whole result (W.contents writer.old) (W.contents writer.new)
-        (steps.texts_directives state.now.diversions) }
+    ensures puts { Puts result (W.contents writer.old) (W.contents writer.new) (steps.texts_text state.now.diversions) }
     ensures last { IfOk result (λ n. n ≡ texts.last_number (pos 0) state.now.diversions) }
     ensures counted { W.failures writer.new ≡ count_after result (W.failures writer.old) }
 {
@@ -238,8 +222,7 @@ fn put_texts<W: ByteSink>(state: &State, writer: &mut W) -> Result<i32, DeviceFa
 
 /// Writes the current number, unless the last diversion has set it.
 fn put_current<W: ByteSink>(current: i32, last: i32, writer: &mut W) -> Result<(), DeviceFault>
-    ensures puts { PutsAll W.takes_whole result (W.contents writer.old) (W.contents writer.new)
-        (steps.current_directives current last) }
+    ensures puts { Puts result (W.contents writer.old) (W.contents writer.new) (steps.current_text current last) }
     ensures counted { W.failures writer.new ≡ count_after result (W.failures writer.old) }
 {
     if current == last {
@@ -257,10 +240,7 @@ fn put_gathered<W: ByteSink>(
     gathered: &mut Gathered,
     writer: &mut W,
 ) -> Result<(), DeviceFault>
-    ensures puts { Puts result (W.contents writer.old) (W.contents writer.new)
-        (steps.late_pair letter first.now second.now) }
-    ensures stops { W.takes_whole ≡ true → OnErr result (steps.StopsInOne (W.contents writer.old)
-        (W.contents writer.new) (texts.two_strings letter first.now second.now)) }
+    ensures puts { Puts result (W.contents writer.old) (W.contents writer.new) (texts.two_strings letter first.now second.now) }
     ensures counted { W.failures writer.new ≡ count_after result (W.failures writer.old) }
 {
     gathered.clear();
@@ -278,10 +258,7 @@ fn put_long<W: ByteSink>(
     second: &[u8],
     writer: &mut W,
 ) -> Result<(), DeviceFault>
-    ensures puts { Puts result (W.contents writer.old) (W.contents writer.new)
-        (steps.late_pair letter first.now second.now) }
-    ensures stops { W.takes_whole ≡ true → OnErr result (steps.StopsInOne (W.contents writer.old)
-        (W.contents writer.new) (texts.two_strings letter first.now second.now)) }
+    ensures puts { Puts result (W.contents writer.old) (W.contents writer.new) (texts.two_strings letter first.now second.now) }
     ensures counted { W.failures writer.new ≡ count_after result (W.failures writer.old) }
 {
     let mut first_length = Buffer::new();
@@ -291,13 +268,14 @@ fn put_long<W: ByteSink>(
     write_pieces(
         writer,
         &[
-            &[b'\n', letter],
+            &[letter],
             first_length,
             b",",
             second_length,
             b"\n",
             first,
             second,
+            b"\n",
         ],
     )
 }
@@ -310,16 +288,20 @@ fn gather(
     second: &[u8],
 ) -> Result<(), CapacityError>
     requires { gathered.old.items ≡ [] }
-    ensures { OnOk result (gathered.new.items ≡ steps.late_pair letter first.now second.now) }
+    ensures { OnOk result (gathered.new.items ≡ texts.two_strings letter first.now second.now) }
 {
-    gathered.push(b'\n');
     gathered.push(letter);
     gather_length(gathered, first.len())?;
     gathered.try_extend_from_slice(b",")?;
     gather_length(gathered, second.len())?;
     gathered.try_extend_from_slice(b"\n")?;
     gathered.try_extend_from_slice(first)?;
-    gathered.try_extend_from_slice(second)
+    if second.len() >= gathered.remaining_capacity() {
+        return Err(CapacityError::new(()));
+    }
+    gathered.try_extend_from_slice(second)?;
+    gathered.push(b'\n');
+    Ok(())
 }
 
 /// Gathers a length, if there is room for it. Most have a digit or two, which need no buffer of their own.
@@ -348,13 +330,12 @@ fn gather_long_length(gathered: &mut Gathered, length: usize) -> Result<(), Capa
 
 /// Writes `D`, a number, a length and a text.
 fn put_diversion<W: ByteSink>(number: i32, text: &[u8], writer: &mut W) -> Result<(), DeviceFault>
-    ensures puts { PutsAll W.takes_whole result (W.contents writer.old) (W.contents writer.new)
-        (directives.Diversion number text.now ∷ []) }
+    ensures puts { Puts result (W.contents writer.old) (W.contents writer.new) (texts.spelling (directives.Diversion number text.now)) }
     ensures counted { W.failures writer.new ≡ count_after result (W.failures writer.old) }
 {
     let mut digits = Buffer::new();
     let digits = digits.format(number).as_bytes();
     let mut length = Buffer::new();
     let length = length.format(text.len()).as_bytes();
-    write_pieces(writer, &[b"\nD", digits, b",", length, b"\n", text])
+    write_pieces(writer, &[b"D", digits, b",", length, b"\n", text, b"\n"])
 }

@@ -102,8 +102,3 @@ flat_map-drop f xs i d lt = ap (flat_map f) (drop-cons xs i d lt) ∙ ap (λ (j 
 pub Puts-refused : {A E : Type 0} (r : Result A E) (old new : Option (List ℕ)) (text : List ℕ) → IsErr r → HasBegun old new text → Puts r old new text
 Puts-refused (Ok x) old new text is p = absurd cc
 Puts-refused (Err x) old new text is p = p
-
--- what holds in any case holds of a failure
-pub OnErr-is : {A E : Type 0} {P : Type 0} (r : Result A E) → P → OnErr r P
-OnErr-is (Ok x) p = tt
-OnErr-is (Err x) p = p

@@ -4,7 +4,7 @@
 //! They know no bytes of std's readers and writers. Every device counts its failures, so a contract can
 //! state that a read fault is returned only if the reader failed.
 
-ghost use Rattle.std.specs.Prelude.{◌≡◌, ◌<◌, ◌≤◌, ℕ, Bool, true, List, length, take, Option, OnErr, IfOk, Ok};
+ghost use Rattle.std.specs.Prelude.{◌≡◌, ◌<◌, ◌≤◌, ℕ, List, length, take, Option, OnErr, IfOk, Ok};
 ghost use Rattle.m4_state.specs.Device.{Script, after_bytes, IsAtEnd, IsAtFault, with_bytes, count_after};
 
 /// A read or a write failed. No byte was read or written.
@@ -44,16 +44,12 @@ pub trait ByteSink {
     /// The number of puts that have failed.
     ghost failures: { Self → ℕ };
 
-    /// Whether each put takes all of the bytes or none.
-    ghost takes_whole: { Bool };
-
     /// Writes a prefix of the bytes that is not empty, and returns its length.
     fn put(&mut self, bytes: &[u8]) -> Result<usize, DeviceFault>
         requires { 0 < length bytes.now }
         ensures within { IfOk result (λ n. n ≤ length bytes.now) }
         ensures some { IfOk result (λ n. 0 < n) }
         ensures takes { IfOk result (λ n. contents self.new ≡ with_bytes (contents self.old) (take n bytes.now)) }
-        ensures whole { takes_whole ≡ true → IfOk result (λ n. n ≡ length bytes.now) }
 
         // a fault writes no byte
         ensures unchanged { OnErr result (contents self.new ≡ contents self.old) }

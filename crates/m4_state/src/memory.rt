@@ -179,8 +179,6 @@ impl MemSink {
 impl ByteSink for MemSink {
     ghost contents = { λ s. Some s.held };
 
-    ghost takes_whole = { false };
-
     ghost failures = { λ s. s.failures };
 
     fn put(&mut self, bytes: &[u8]) -> Result<usize, DeviceFault>
@@ -188,7 +186,6 @@ impl ByteSink for MemSink {
         ensures within { IfOk result (λ n. n ≤ length bytes.now) }
         ensures some { IfOk result (λ n. 0 < n) }
         ensures takes { IfOk result (λ n. Some self.new.held ≡ with_bytes (Some self.old.held) (take n bytes.now)) }
-        ensures whole { false ≡ true → IfOk result (λ n. n ≡ length bytes.now) }
         ensures unchanged { OnErr result (Some self.new.held ≡ Some self.old.held) }
         ensures counted { self.new.failures ≡ count_after result self.old.failures }
         // it stores no more bytes than it may at once, nor than it has room for, and nothing else changes

@@ -1,15 +1,13 @@
 //! Writes complete texts to a writer.
 
-ghost use Rattle.std.specs.Prelude.{◌≡◌, true, OnErr};
-ghost use Rattle.m4_state.specs.Device.{count_after, Puts, joined, HasPutPieces};
+ghost use Rattle.std.specs.Prelude.{◌≡◌};
+ghost use Rattle.m4_state.specs.Device.{count_after, Puts, joined};
 
 use crate::device::{ByteSink, DeviceFault};
 
 /// Writes all of the bytes. If it fails, the bytes written are a prefix of them.
 pub fn write_all<W: ByteSink>(writer: &mut W, bytes: &[u8]) -> Result<(), DeviceFault>
     ensures puts { Puts result (W.contents writer.old) (W.contents writer.new) bytes.now }
-    // they are put as one
-    ensures whole { W.takes_whole ≡ true → OnErr result (W.contents writer.new ≡ W.contents writer.old) }
     ensures counted { W.failures writer.new ≡ count_after result (W.failures writer.old) }
 {
     let mut rest = bytes;
@@ -23,9 +21,6 @@ pub fn write_all<W: ByteSink>(writer: &mut W, bytes: &[u8]) -> Result<(), Device
 /// Writes the pieces in order. If it fails, the bytes written are a prefix of them, joined.
 pub fn write_pieces<W: ByteSink>(writer: &mut W, pieces: &[&[u8]]) -> Result<(), DeviceFault>
     ensures puts { Puts result (W.contents writer.old) (W.contents writer.new) (joined pieces.now) }
-    // each is put as one
-    ensures whole { W.takes_whole ≡ true → OnErr result (HasPutPieces (W.contents writer.old)
-        (W.contents writer.new) pieces.now) }
     ensures counted { W.failures writer.new ≡ count_after result (W.failures writer.old) }
 {
     for piece in pieces {

@@ -11,7 +11,7 @@ mod ModeLines
 mod OpenedFiles
 mod Places
 mod RanFiles
+mod MarkedFiles
 mod ReadFaults
 mod RefusalLemmas
 mod RowLemmas
-mod TornFiles

@@ -1,6 +1,6 @@
 -- Late: the files while one of them is made at its first byte.
 -- Not believed: `LateFile` is stated with these words, and `follow` without them.
--- Words: written, after_writing, is_tried, begun_in.
+-- Words: written, after_writing, is_tried, begun_in, text_of.
 use Rattle.std.specs.Prelude.{ℕ, zero, suc, Bool, true, false, List, [], ◌∷◌, Option, Some, None, option_map, unwrap_or}
 use Rattle.m4_state.specs.Device.{Script}
 use Rattle.m4_tool.specs.World.{Files, with_file}
@@ -33,3 +33,7 @@ is_tried true (suc n) (Some []) = true
 abbrev pub begun_in : Bool → List ℕ → Option Files → Option Files
 begun_in false name files = option_map (with_file name []) files
 begun_in true name files = files
+
+-- the bytes that were written; none if they are not known
+abbrev pub text_of : Option (List ℕ) → List ℕ
+text_of text = unwrap_or text []

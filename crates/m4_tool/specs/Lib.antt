@@ -12,5 +12,5 @@ pub mod LineSteps
 pub mod Memory
 pub mod ModeFault
 pub mod Modes
-pub mod TornFile
+pub mod Unfinished
 pub mod World

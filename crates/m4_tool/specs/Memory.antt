@@ -1,5 +1,5 @@
 -- Memory: the files of a world in memory.
--- Believed. Words: given_files, memory_files.
+-- Believed. Words: given_files, memory_files, unmarked.
 use Rattle.std.specs.Prelude.{List, [], ◌∷◌, ℕ, Option, Some, None, if◌then◌else◌}
 use Rattle.std.specs.Str.{bytes_eq}
 use Rattle.m4_tool.specs.declared.given.Given.{Given}
@@ -15,3 +15,8 @@ given_files (g ∷ gs) =
 abbrev pub memory_files : List ℕ → Option (List ℕ) → List Given → Files
 memory_files name None gs = given_files gs
 memory_files name (Some bytes) gs = with_file name bytes (given_files gs)
+
+-- the bytes with their true first byte
+abbrev pub unmarked : ℕ → List ℕ → List ℕ
+unmarked first [] = []
+unmarked first (b ∷ bs) = first ∷ bs

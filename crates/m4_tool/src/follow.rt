@@ -1,7 +1,7 @@
 //! A line that is followed in a world: a mode, or a run over the files of the line, which starts from a
 //! frozen file and freezes to one. Manual: "Invoking m4".
 
-ghost use Rattle.std.specs.Prelude.{◌≡◌, List, Option, None, Some, IfSome, true, option_map};
+ghost use Rattle.std.specs.Prelude.{◌≡◌, ◌≢◌, List, Option, None, Some, IfSome, true, option_map};
 ghost use Rattle.m4_state.specs.Device.{Script};
 ghost use Rattle.m4_engine.specs.RunSources.{DescribesFrozen};
 ghost use Rattle.m4_engine.specs.File.{Source as Said};
@@ -15,7 +15,7 @@ ghost use Rattle.m4_tool.specs.Known.{AnyFails, ExtendFiles, Knows, KnowsFiles, 
 ghost use Rattle.m4_tool.specs.LineEnd.{AllShown, EndsBy, Follows, seen};
 ghost use Rattle.m4_tool.specs.LineMode.{ModeFollows, ends_of, mode_of};
 ghost use Rattle.m4_tool.specs.Modes.{RunsBy};
-ghost use Rattle.m4_tool.specs.TornFile.{FreezesOrTears};
+ghost use Rattle.m4_tool.specs.Unfinished.{LeavesMarked};
 
 mod closing;
 mod opening;
@@ -54,12 +54,10 @@ pub fn follow<W: World, O: Shows, M: Shows>(
         → MayGive (request_of line.now) files input r
         → Follows (request_of line.now) r result.status result.failure
         (seen O.contents M.contents M.failures W.files out.old out.new messages.old messages.new world result.world) }
-    // torn files: if each append takes all of its bytes or none, the frozen file has all of its text, or is as it
-    // was, or is refused by a run that reloads it
-    ensures torn { (files : Files) (input : Script) (r : LineResult)
-        → mode_of line.now ≡ None → W.appends_whole ≡ true → Knows W.making W.files W.input world files input
-        → MayGive (request_of line.now) files input r
-        → FreezesOrTears (freeze_name (request_of line.now)) r.frozen (W.files world) (W.files result.world) }
+    // unfinished files: if something failed after the frozen file was made, that file begins with a byte with which no
+    // frozen file begins, or is empty
+    ensures unfinished { mode_of line.now ≡ None → IfSome result.failure (λ failure. failure ≢ failures.Report
+        → LeavesMarked (freeze_name (request_of line.now)) (W.kept world) (W.kept result.world)) }
     // line in a world: a mode is followed on the file of its name
     ensures mode { IfSome (mode_of line.now) (λ found. (files : Files)
         → KnowsFiles W.making W.files world files
@@ -159,10 +157,8 @@ fn follow_run<W: World, O: Shows, M: Shows>(
         → MayGive (request_of line.now) files input r
         → Follows (request_of line.now) r result.status result.failure
         (seen O.contents M.contents M.failures W.files out.old out.new messages.old messages.new world result.world) }
-    ensures torn { (files : Files) (input : Script) (r : LineResult)
-        → W.appends_whole ≡ true → Knows W.making W.files W.input world files input
-        → MayGive (request_of line.now) files input r
-        → FreezesOrTears (freeze_name (request_of line.now)) r.frozen (W.files world) (W.files result.world) }
+    ensures unfinished { IfSome result.failure (λ failure. failure ≢ failures.Report
+        → LeavesMarked (freeze_name (request_of line.now)) (W.kept world) (W.kept result.world)) }
     ensures read { (files : Files) (input : Script) → Knows W.making W.files W.input world files input
         → result.failure ≡ Some failures.Read → AnyFails files input (words_of (request_of line.now).names) }
     ensures counted { FailedAs result.failure (counts_of O.failures M.failures W.failures
@@ -184,7 +180,7 @@ fn follow_run<W: World, O: Shows, M: Shows>(
                     out,
                     messages,
                 ),
-                None => close_unopened(file, world, out, messages),
+                None => close_unopened(file, frozen_name(line), world, out, messages),
             }
         }
     }
@@ -206,13 +202,8 @@ fn follow_from<W: World, O: Shows, M: Shows>(
         → EndsBy result.failure (freeze_name (request_of line.now)) file.now
         (result_of_run file.now (defined line.now.options script ss)) result.status
         (seen O.contents M.contents M.failures W.files out.old out.new messages.old messages.new world result.world) }
-    ensures torn { (files : Files) (input : Script) (script : Option Script) (ss : List Said)
-        → W.appends_whole ≡ true
-        → Knows W.making W.files W.input world files input → DescribesFrozen W.Reader.script frozen.old script
-        → ExtendFiles files input (words_of (request_of line.now).names) ss
-        → FreezesOrTears (freeze_name (request_of line.now))
-        (result_of_run file.now (defined line.now.options script ss)).frozen
-        (W.files world) (W.files result.world) }
+    ensures unfinished { IfSome result.failure (λ failure. failure ≢ failures.Report
+        → LeavesMarked (freeze_name (request_of line.now)) (W.kept world) (W.kept result.world)) }
     ensures read { (files : Files) (input : Script) → Knows W.making W.files W.input world files input
         → result.failure ≡ Some failures.Read → AnyFails files input (words_of (request_of line.now).names) }
     ensures counted { FailedAs result.failure (counts_of O.failures M.failures W.failures
@@ -221,5 +212,15 @@ fn follow_from<W: World, O: Shows, M: Shows>(
         → AllShown O.shown O.contents M.shown M.contents W.kept W.files out.new messages.new result.world }
 {
     let ran = run_line(alloc, line, frozen, world, out, messages);
-    close(ran.ending, file, ran.world, out, messages)
+    close(ran.ending, file, frozen_name(line), ran.world, out, messages)
+}
+
+/// Returns the name of the file to which a line freezes; it is empty if there is none.
+fn frozen_name(line: &Line) -> &[u8]
+    ensures { result.now ≡ freeze_name (request_of line.now) }
+{
+    match &line.freeze {
+        Some(name) => name.as_str().as_bytes(),
+        None => b"",
+    }
 }

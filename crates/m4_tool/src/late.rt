@@ -10,7 +10,9 @@ ghost use Rattle.std.proofs.Props.{props};
 ghost use Rattle.m4_state.specs.Device.{count_after};
 ghost use Rattle.m4_tool.specs.World.{Files};
 ghost use Rattle.m4_tool.specs.FailureCounts.{Rose};
-ghost use Rattle.m4_tool.specs.Late.{after_writing, begun_in, is_tried, written};
+ghost use Rattle.m4_tool.specs.Late.{after_writing, begun_in, is_tried, text_of, written};
+ghost use Rattle.m4_frozen.specs.Unfinished.{is_marked};
+ghost use Rattle.m4_tool.specs.Unfinished.{HasMarked, LeavesMarked};
 
 use crate::std_world::StdFiles;
 use crate::world::World;
@@ -26,6 +28,9 @@ pub trait LateStart {
     /// The files before it; none if they are not known.
     ghost before: { Option Files };
 
+    /// The same, as another program finds them.
+    ghost kept: { Option Files };
+
     /// Its name, if the files are known.
     ghost name: { List ℕ };
 
@@ -36,6 +41,8 @@ pub trait LateStart {
 /// The start of a file of which contracts know nothing. A caller that knows more picks it.
 impl LateStart for Brand {
     ghost before = { None };
+
+    ghost kept = { None };
 
     ghost name = { [] };
 
@@ -54,6 +61,10 @@ pub struct LateFile<W: World, K: LateStart> {
     ghost named: { ForSome K.before (λ _. name ≡ K.name) },
     ghost agrees: { W.files world
         ≡ after_writing created K.name (written created K.name (W.files world)) K.before } by { Prim.hlevel props },
+    ghost kept_named: { ForSome K.kept (λ _. name ≡ K.name) },
+    ghost keeps: { W.kept world
+        ≡ after_writing created K.name (written created K.name (W.kept world)) K.kept } by { Prim.hlevel props },
+    ghost marked: { is_marked (text_of (written created K.name (W.kept world))) ≡ true },
     ghost tried: { is_tried created failures (written created K.name (W.files world)) ≡ true },
     ghost unfailed: { failures ≡ 0 → W.failures world ≡ K.failures },
     ghost failed: { 0 < failures → Rose K.failures (W.failures world) },
@@ -78,6 +89,8 @@ impl<W: World, K: LateStart> LateFile<W, K> {
     pub fn over(world: W, name: Bytes) -> LateFile<W, K>
         requires before { W.files world ≡ K.before }
         requires name { ForSome K.before (λ _. name ≡ K.name) }
+        requires kept { W.kept world ≡ K.kept }
+        requires kept_name { ForSome K.kept (λ _. name ≡ K.name) }
         requires failures { W.failures world ≡ K.failures }
         ensures created { result.created ≡ false }
         ensures world { result.world ≡ world }
@@ -97,6 +110,7 @@ impl<W: World, K: LateStart> LateFile<W, K> {
         ensures world { result ≡ self.world }
         ensures files { W.files result ≡ after_writing self.created K.name
             (written self.created K.name (W.files self.world)) K.before }
+        ensures marked { LeavesMarked K.name K.kept (W.kept result) }
         ensures unfailed { self.failures ≡ 0 → W.failures result ≡ K.failures }
         ensures failed { 0 < self.failures → Rose K.failures (W.failures result) }
         ensures tried { is_tried self.created self.failures (written self.created K.name (W.files self.world)) ≡ true }
@@ -114,8 +128,6 @@ impl<W: World, K: LateStart> LateFile<W, K> {
 
 impl<W: World, K: LateStart> ByteSink for LateFile<W, K> {
     ghost contents = { λ s. written s.created K.name (W.files s.world) };
-
-    ghost takes_whole = { W.appends_whole };
 
     ghost failures = { λ s. s.failures };
 
@@ -139,6 +151,9 @@ impl<W: World, K: LateStart> ByteSink for LateFile<W, K> {
 fn create_once<W: World>(world: &mut W, name: &[u8], created: bool) -> Result<(), DeviceFault>
     ensures begun { OnOk result (W.files world.new ≡ begun_in created name.now (W.files world.old)) }
     ensures unchanged { OnErr result (W.files world.new ≡ W.files world.old) }
+    ensures marked { created ≡ false → OnOk result (HasMarked name.now (W.kept world.old) (W.kept world.new)) }
+    ensures still_marked { created ≡ true → OnOk result (W.kept world.new ≡ W.kept world.old) }
+    ensures kept { OnErr result (W.kept world.new ≡ W.kept world.old) }
     ensures counted { W.failures world.new ≡ count_after result (W.failures world.old) }
 {
     if !created {

@@ -1,18 +1,23 @@
 //! A world in memory: given files, a given standard input, and one file that is made. Contracts know
 //! all of it.
 
-ghost use Rattle.std.specs.Prelude.{◌≡◌, Option, Some, None, false, true, is_some, option_map};
+ghost use Rattle.std.specs.Prelude.{◌≡◌, ◌<◌, ◌++◌, Option, Some, None, OnOk, OnErr, false, true, is_some, length};
+ghost use Rattle.std.specs.Prelude.{option_map};
 ghost use Rattle.m4_state.specs.Device.{Script};
-ghost use Rattle.m4_tool.specs.Memory.{given_files, memory_files};
+ghost use Rattle.m4_tool.specs.Memory.{given_files, memory_files, unmarked};
+ghost use Rattle.m4_frozen.specs.Unfinished.{is_marked};
 
 use crate::given::Given;
 use crate::world::{Shows, World};
 use m4_state::device::{ByteSource, DeviceFault};
 use m4_state::memory::{MemSink, MemSource};
-use std::alloc::Global;
+use std::alloc::{AllocError, Global};
 
 /// How many bytes a reader returns for each take, at most.
 const AT_MOST: usize = 4096;
+
+/// The byte with which the made file begins until it is finished.
+const MARK: u8 = 0;
 
 /// A world of given files, a given standard input, and the file that was made. One file can be made, and none if
 /// `makes` is false.
@@ -25,6 +30,7 @@ pub struct MemWorld<'a> {
     makes: bool,
     name: Vec<u8>,
     made: Option<Vec<u8>>,
+    first: u8,
     failures: u64,
 }
 
@@ -45,6 +51,7 @@ impl<'a> MemWorld<'a> {
             makes,
             name: Vec::new(alloc),
             made: None,
+            first: MARK,
             failures: 0,
         }
     }
@@ -68,7 +75,7 @@ impl<'a> MemWorld<'a> {
         self.name.as_slice()
     }
 
-    /// Returns the bytes of the file that was made, if one was.
+    /// Returns the bytes of the file that was made, if one was. It begins with the mark until it is finished.
     pub fn made(&self) -> Option<&[u8]>
         ensures { option_map (λ bytes. bytes.now) result ≡ option_map (λ v. v.items) self.now.made }
     {
@@ -82,15 +89,14 @@ impl<'a> MemWorld<'a> {
 impl<'a> World for MemWorld<'a> {
     type Reader = MemSource<'a>;
 
-    ghost files = { λ w. Some (memory_files w.name.items (option_map (λ v. v.items) w.made) w.given.now) };
+    ghost files = { λ w. Some (memory_files w.name.items
+        (option_map (λ v. unmarked w.first v.items) w.made) w.given.now) };
 
     ghost input = { λ w. Some (record { bytes = w.input.now; fails = w.input_fails }) };
 
     ghost making = { λ w. is_some w.made };
 
     ghost kept = { λ w. Some (memory_files w.name.items (option_map (λ v. v.items) w.made) w.given.now) };
-
-    ghost appends_whole = { true };
 
     ghost failures = { λ w. w.failures };
 
@@ -125,7 +131,7 @@ impl<'a> World for MemWorld<'a> {
             return Err(DeviceFault);
         }
         match &mut self.made {
-            Some(made) => match made.extend_from_slice(bytes) {
+            Some(made) => match add_marked(made, &mut self.first, bytes) {
                 Ok(()) => Ok(bytes.len()),
                 Err(_refused) => {
                     self.failures = self.failures.saturating_add(1);
@@ -139,8 +145,37 @@ impl<'a> World for MemWorld<'a> {
         }
     }
 
-    fn finish(&mut self) -> Result<(), DeviceFault> {
+    fn finish(&mut self, _name: &[u8]) -> Result<(), DeviceFault> {
+        if let Some(made) = &mut self.made {
+            unmark(made, self.first);
+        }
         Ok(())
+    }
+}
+
+/// Adds bytes to a file that begins with the mark in place of this first byte.
+fn add_marked(made: &mut Vec<u8>, first: &mut u8, bytes: &[u8]) -> Result<(), AllocError>
+    requires { 0 < length bytes.now }
+    ensures text { OnOk result (unmarked first.new made.new.items ≡ unmarked first.old made.old.items ++ bytes.now) }
+    ensures marked { OnOk result (is_marked made.new.items ≡ true) }
+    ensures made { OnErr result (made.new.items ≡ made.old.items) }
+    ensures first { OnErr result (first.new ≡ first.old) }
+{
+    let begins = made.is_empty();
+    made.extend_from_slice(bytes)?;
+    if begins {
+        *first = bytes[0];
+    }
+    unmark(made, MARK);
+    Ok(())
+}
+
+/// Puts a first byte in place of the mark.
+fn unmark(made: &mut Vec<u8>, first: u8)
+    ensures { made.new.items ≡ unmarked first made.old.items }
+{
+    if !made.is_empty() {
+        made[0] = first;
     }
 }
 

@@ -14,7 +14,7 @@ use m4_state::standard::{StdSink, StdSource};
 use std::alloc::Global;
 use std::cell::Cell;
 use std::fs::{self, OpenFile};
-use std::io::{self, BufWriter, Empty, ErrorKind, Read, Sink, Write};
+use std::io::{self, BufWriter, Empty, ErrorKind, Read, Seek, Sink, Write};
 use std::rt::Files;
 
 /// The system's numbers of the two errors for too many open files: in the system, and in the process.
@@ -24,10 +24,42 @@ const TOO_MANY: [i32; 2] = [23, 24];
 /// small file touches little memory.
 const FROZEN_BUFFER: usize = 32768;
 
+/// The byte with which a regular file begins until all behind it was written. No frozen file begins with it.
+const MARK: u8 = 0;
+
 /// A writer to the file that was made. If none was, each write fails, and a flush has nothing to do.
 #[derive(Drop)]
 struct Made<F> {
     file: Option<F>,
+    begins: Begins,
+}
+
+/// How the file that was made begins.
+#[derive(Clone, Copy)]
+enum Begins {
+    /// As it is written: it is no regular file, or all of it was written.
+    AsWritten,
+    /// With the mark, once its first byte is written.
+    Marked,
+    /// With the mark, in place of this byte.
+    MarkedFor(u8),
+}
+
+impl<F: Write + Seek> Made<F> {
+    /// Writes the true first byte over the mark, if there is one.
+    fn unmark(&mut self) -> io::Result<()> {
+        let Begins::MarkedFor(first) = self.begins else {
+            return Ok(());
+        };
+        let Some(file) = &mut self.file else {
+            return Ok(());
+        };
+        file.rewind()?;
+        file.write_all(&[first])?;
+        file.flush()?;
+        self.begins = Begins::AsWritten;
+        Ok(())
+    }
 }
 
 impl<F: Write> Write for Made<F> {
@@ -90,7 +122,7 @@ impl<'a, R: Files + Alloc<A = Global>, I, W, E> StdWorld<'a, R, I, W, E> {
         ensures out_of_memory { IfErr result (λ error. error_kind error ≡ ErrorKind.OutOfMemory) }
         ensures failures { IfOk result (λ world. world.failures ≡ 0) }
     {
-        let made = BufWriter::with_capacity(rt.alloc(), FROZEN_BUFFER, Made { file: None })?;
+        let made = BufWriter::with_capacity(rt.alloc(), FROZEN_BUFFER, Made { file: None, begins: Begins::AsWritten })?;
         Ok(StdWorld {
             rt,
             input,
@@ -144,6 +176,26 @@ fn flush_outputs<W: Write, E: Write>(outputs: Option<&SharedOutputs<W, E>>) -> b
     }
 }
 
+/// Makes an empty file, and returns how it begins.
+fn create_file<R: Files>(rt: &R, path: &str) -> io::Result<(<R as Files>::File, Begins)> {
+    let file = fs::create(rt, path)?;
+    let begins = if file.metadata()?.is_file() {
+        Begins::Marked
+    } else {
+        Begins::AsWritten
+    };
+    Ok((file, begins))
+}
+
+/// Flushes the file that was made, and then writes its true first byte, unless a write of it has failed.
+fn flush_unmarked<F: Write + Seek + Drop>(made: &mut BufWriter<Made<F>>, failed: bool) -> io::Result<()> {
+    made.flush()?;
+    if failed {
+        return Err(io::Error::from(ErrorKind::Other));
+    }
+    made.get_mut().unmark()
+}
+
 /// Opens a file that is no directory.
 fn open_file<R: Files>(rt: &R, path: &str) -> io::Result<<R as Files>::File> {
     let file = fs::open(rt, path)?;
@@ -186,8 +238,6 @@ impl<'a, R: Files + Alloc<A = Global>, I: Read + Copy, W: Write, E: Write> World
 
     ghost kept = { λ _. None };
 
-    ghost appends_whole = { false };
-
     ghost failures = { λ w. w.failures };
 
     fn open(
@@ -218,9 +268,11 @@ impl<'a, R: Files + Alloc<A = Global>, I: Read + Copy, W: Write, E: Write> World
             self.failures = self.failures.saturating_add(1);
             return Err(DeviceFault);
         };
-        match fs::create(self.rt, path) {
-            Ok(file) => {
-                self.made.get_mut().file = Some(file);
+        match create_file(self.rt, path) {
+            Ok((file, begins)) => {
+                let made = self.made.get_mut();
+                made.file = Some(file);
+                made.begins = begins;
                 Ok(())
             }
             Err(_fault) => {
@@ -231,7 +283,14 @@ impl<'a, R: Files + Alloc<A = Global>, I: Read + Copy, W: Write, E: Write> World
     }
 
     fn append(&mut self, _name: &[u8], bytes: &[u8]) -> Result<usize, DeviceFault> {
-        match self.made.write(bytes) {
+        let written = match (self.made.get_ref().begins, bytes) {
+            (Begins::Marked, [first, ..]) => {
+                self.made.get_mut().begins = Begins::MarkedFor(*first);
+                self.made.write(&[MARK])
+            }
+            _ => self.made.write(bytes),
+        };
+        match written {
             Ok(n) if n > 0 => Ok(n),
             _ => {
                 self.failures = self.failures.saturating_add(1);
@@ -240,8 +299,10 @@ impl<'a, R: Files + Alloc<A = Global>, I: Read + Copy, W: Write, E: Write> World
         }
     }
 
-    fn finish(&mut self) -> Result<(), DeviceFault> {
-        match self.made.flush() {
+    fn finish(&mut self, _name: &[u8]) -> Result<(), DeviceFault> {
+        // A file of which a write failed stays marked, also if the rest can be flushed now.
+        let failed = self.failures > 0;
+        match flush_unmarked(&mut self.made, failed) {
             Ok(()) => Ok(()),
             Err(_fault) => {
                 self.failures = self.failures.saturating_add(1);

@@ -7,6 +7,7 @@
 ghost use Rattle.std.specs.Prelude.{◌≡◌, ◌<◌, ◌≤◌, length, take, List, ℕ, Option, Some, [], OnOk, OnErr, IfOk};
 ghost use Rattle.std.specs.Prelude.{IfSome, option_map, true, false, Bool};
 ghost use Rattle.m4_state.specs.Device.{Script, count_after};
+ghost use Rattle.m4_tool.specs.Unfinished.{HasMarked, LeavesMarked};
 ghost use Rattle.m4_tool.specs.World.{Files, with_file, with_more};
 
 use m4_state::device::{ByteSink, ByteSource, DeviceFault};
@@ -16,7 +17,7 @@ pub trait World: Drop {
     /// The reader of a file or of standard input.
     type Reader: ByteSource + Drop;
 
-    /// The files that there are, with what was written; none if they are not known.
+    /// The files that there are, with the whole text that was written; none if they are not known.
     ghost files: { Self → Option Files };
 
     /// The rest of standard input; none if it is not known.
@@ -25,11 +26,9 @@ pub trait World: Drop {
     /// Whether a file was made. Until then the readers of files are known.
     ghost making: { Self → Bool };
 
-    /// The files with the bytes that were flushed; none if they are not known.
+    /// The files as another program finds them; none if they are not known. The one that was made is marked as
+    /// unfinished by its first byte until it was finished.
     ghost kept: { Self → Option Files };
-
-    /// Whether each append takes all of the bytes or none.
-    ghost appends_whole: { Bool };
 
     /// How often making, writing or flushing the file has failed.
     ghost failures: { Self → ℕ };
@@ -46,12 +45,15 @@ pub trait World: Drop {
             ≡ Some (record { bytes = []; fails = false })) }
         ensures making { making self.new ≡ making self.old }
         ensures files { files self.new ≡ files self.old }
+        ensures kept { kept self.new ≡ kept self.old }
         ensures failures { failures self.new ≡ failures self.old };
 
     /// Makes an empty file of this name, in place of an old one.
     fn create(&mut self, name: &[u8]) -> Result<(), DeviceFault>
         ensures emptied { OnOk result (files self.new ≡ option_map (with_file name.now []) (files self.old)) }
+        ensures marked { OnOk result (HasMarked name.now (kept self.old) (kept self.new)) }
         ensures unchanged { OnErr result (files self.new ≡ files self.old) }
+        ensures kept { OnErr result (kept self.new ≡ kept self.old) }
         ensures counted { failures self.new ≡ count_after result (failures self.old) };
 
     /// Writes a prefix of the bytes that is not empty to the end of the file that was made last, which
@@ -60,15 +62,17 @@ pub trait World: Drop {
         requires { 0 < length bytes.now }
         ensures within { IfOk result (λ n. n ≤ length bytes.now) }
         ensures some { IfOk result (λ n. 0 < n) }
-        ensures whole { appends_whole ≡ true → IfOk result (λ n. n ≡ length bytes.now) }
         ensures appended { IfOk result (λ n. files self.new
             ≡ option_map (with_more name.now (take n bytes.now)) (files self.old)) }
+        ensures marked { LeavesMarked name.now (kept self.old) (kept self.new) }
         ensures unchanged { OnErr result (files self.new ≡ files self.old) }
         ensures counted { failures self.new ≡ count_after result (failures self.old) };
 
-    /// Flushes the file that was made, if one was.
-    fn finish(&mut self) -> Result<(), DeviceFault>
+    /// Flushes the file that was made, which has this name, if one was, and then puts its true first byte in place
+    /// of the mark.
+    fn finish(&mut self, name: &[u8]) -> Result<(), DeviceFault>
         ensures kept { OnOk result (kept self.new ≡ files self.new) }
+        ensures marked { OnErr result (LeavesMarked name.now (kept self.old) (kept self.new)) }
         ensures files { files self.new ≡ files self.old }
         ensures counted { failures self.new ≡ count_after result (failures self.old) };
 }

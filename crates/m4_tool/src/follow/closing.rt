@@ -1,11 +1,12 @@
 //! Ends a line: flushes its outputs and the file that was made, and reports its failure.
 
-ghost use Rattle.std.specs.Prelude.{◌≡◌, ◌≢◌, [], List, ℕ, None, Some, false, true};
+ghost use Rattle.std.specs.Prelude.{◌≡◌, ◌≢◌, [], List, ℕ, None, Some, IfSome, false, true};
 ghost use Rattle.m4_tool.specs.declared.followed.Failure.TheVariants as failures;
 ghost use Rattle.m4_tool.specs.Failure.{failure_lines};
 ghost use Rattle.m4_tool.specs.Line.{refusals, unreloaded};
 ghost use Rattle.m4_tool.specs.FailureCounts.{FailedAs, counts_of};
-ghost use Rattle.m4_tool.specs.LineEnd.{AllShown, EndsBy, Reports, seen};
+ghost use Rattle.m4_tool.specs.LineEnd.{AllShown, EndsBy, Reports, failure_of, seen};
+ghost use Rattle.m4_tool.specs.Unfinished.{LeavesMarked};
 ghost use Rattle.m4_tool.specs.LineRun.{ClosedAs, Closes, FlushedAs, ModeCloses, RefusedAs, failure_after};
 
 use crate::endings::{failure_of, put_refused};
@@ -17,10 +18,12 @@ use m4_state::device::DeviceFault;
 use m4_state::transfer::write_all;
 
 /// Ends a line whose run had this ending: flushes everything, and reports a refused frozen file, and a failure.
-/// `file` is the name of its frozen file. If a report can't be written, only the status shows it.
+/// `file` is the name of its frozen file, and `name` that of the file to which it froze. If a report can't be written,
+/// only the status shows it.
 pub fn close<W: World, O: Shows, M: Shows>(
     ending: Ending,
     file: &[u8],
+    name: &[u8],
     world: W,
     out: &mut O,
     messages: &mut M,
@@ -29,11 +32,13 @@ pub fn close<W: World, O: Shows, M: Shows>(
         (seen O.contents M.contents M.failures W.files out.old out.new messages.old messages.new world result.world) }
     ensures counted { ClosedAs ending.cause result.failure (counts_of O.failures M.failures W.failures
         out.old out.new messages.old messages.new world result.world) }
+    ensures unfinished { IfSome result.failure (λ failure. failure ≢ failures.Report
+        → LeavesMarked name.now (W.kept world) (W.kept result.world)) }
     ensures shown { result.failure ≡ None
         → AllShown O.shown O.contents M.shown M.contents W.kept W.files out.new messages.new result.world }
 {
     let mut world = world;
-    let flushed = flush_all(&mut world, out, messages);
+    let flushed = flush_all(ending.cause, name, &mut world, out, messages);
     let is_reported = report_refusal(ending.cause, file, messages);
     let failure = failure_of(ending.cause, flushed);
     report_last(failure, messages);
@@ -44,20 +49,31 @@ pub fn close<W: World, O: Shows, M: Shows>(
     }
 }
 
-/// Flushes the output, then the messages, and then the file that was made. Returns whether all were flushed.
-fn flush_all<W: World, O: Shows, M: Shows>(world: &mut W, out: &mut O, messages: &mut M) -> bool
+/// Flushes the output, then the messages, and then, if nothing has failed, finishes the file of this name that was made.
+/// Returns whether all that was flushed could be.
+fn flush_all<W: World, O: Shows, M: Shows>(
+    cause: Cause,
+    name: &[u8],
+    world: &mut W,
+    out: &mut O,
+    messages: &mut M,
+) -> bool
     ensures output { O.contents out.new ≡ O.contents out.old }
     ensures messages { M.contents messages.new ≡ M.contents messages.old }
     ensures counted { FlushedAs result (counts_of O.failures M.failures W.failures
         out.old out.new messages.old messages.new world.old world.new) }
     ensures files { W.files world.new ≡ W.files world.old }
-    ensures shown { result ≡ true
+    ensures unfinished { failure_of cause result ≢ None → LeavesMarked name.now (W.kept world.old) (W.kept world.new) }
+    ensures shown { failure_of cause result ≡ None
         → AllShown O.shown O.contents M.shown M.contents W.kept W.files out.new messages.new world.new }
 {
     let output = out.flush().is_ok();
     let others = messages.flush().is_ok();
-    let file = world.finish().is_ok();
-    output && others && file
+    let flushed = output && others;
+    match failure_of(cause, flushed) {
+        None => world.finish(name).is_ok(),
+        Some(_failure) => flushed,
+    }
 }
 
 /// Reports a frozen file that was refused. Returns whether that could be written and flushed.
@@ -116,16 +132,19 @@ fn failure_after(failure: Option<Failure>, is_reported: bool) -> Option<Failure>
 /// Ends a line whose frozen file can't be opened: reports that, and does nothing else.
 pub fn close_unopened<W: World, O: Shows, M: Shows>(
     file: &[u8],
+    name: &[u8],
     world: W,
     out: &mut O,
     messages: &mut M,
 ) -> Followed<W>
-    ensures ends { (name : List ℕ) → EndsBy result.failure name file.now (unreloaded file.now) result.status
+    ensures ends { (freezes : List ℕ) → EndsBy result.failure freezes file.now (unreloaded file.now) result.status
         (seen O.contents M.contents M.failures W.files out.old out.new messages.old messages.new world result.world) }
     ensures unread { result.failure ≢ Some failures.Read }
     ensures counted { FailedAs result.failure (counts_of O.failures M.failures W.failures
         out.old out.new messages.old messages.new world result.world) }
     ensures files { W.files result.world ≡ W.files world }
+    ensures unfinished { IfSome result.failure (λ failure. failure ≢ failures.Report
+        → LeavesMarked name.now (W.kept world) (W.kept result.world)) }
     ensures shown { result.failure ≡ None
         → AllShown O.shown O.contents M.shown M.contents W.kept W.files out.new messages.new result.world }
 {
@@ -138,7 +157,7 @@ pub fn close_unopened<W: World, O: Shows, M: Shows>(
         cause,
         wrapped: false,
     };
-    close(ending, file, world, out, messages)
+    close(ending, file, name, world, out, messages)
 }
 
 /// Ends a line with a mode that returned this status: flushes everything, and reports a flush that fails unless the
@@ -164,10 +183,10 @@ pub fn close_mode<W: World, O: Shows, M: Shows>(
             cause: Cause::Done,
             wrapped: false,
         };
-        return close(ending, b"", world, out, messages);
+        return close(ending, b"", b"", world, out, messages);
     }
     let mut world = world;
-    let flushed = flush_all(&mut world, out, messages);
+    let flushed = flush_all(Cause::Done, b"", &mut world, out, messages);
     Followed {
         status,
         failure: failure_of(Cause::Done, flushed),

@@ -22,6 +22,7 @@ pub fn sources_of<W: World>(
         → Knows W.making W.files W.input world.old fs input
         → map (named_of W.Reader.script) all.items ≡ named_in fs input (words_of (map string_bytes files.now))) }
     ensures files { W.files world.new ≡ W.files world.old }
+    ensures kept { W.kept world.new ≡ W.kept world.old }
     ensures failures { W.failures world.new ≡ W.failures world.old }
 {
     if files.is_empty() {
@@ -36,6 +37,7 @@ fn input_alone<W: World>(alloc: Global, world: &mut W) -> Result<Vec<Source<W::R
         → Knows W.making W.files W.input world.old fs input
         → map (named_of W.Reader.script) all.items ≡ named_in fs input (words_of [])) }
     ensures files { W.files world.new ≡ W.files world.old }
+    ensures kept { W.kept world.new ≡ W.kept world.old }
     ensures failures { W.failures world.new ≡ W.failures world.old }
 {
     let mut sources = Vec::new(alloc);
@@ -54,6 +56,7 @@ fn opened_files<W: World>(
         → Knows W.making W.files W.input world.old fs input
         → map (named_of W.Reader.script) all.items ≡ named_in fs input (map string_bytes files.now)) }
     ensures files { W.files world.new ≡ W.files world.old }
+    ensures kept { W.kept world.new ≡ W.kept world.old }
     ensures failures { W.failures world.new ≡ W.failures world.old }
 {
     let mut sources = Vec::new(alloc);
@@ -77,6 +80,7 @@ fn opened<W: World>(
         → W.input world.new ≡ Some (input_after input file.now)) }
     ensures making { W.making world.new ≡ W.making world.old }
     ensures files { W.files world.new ≡ W.files world.old }
+    ensures kept { W.kept world.new ≡ W.kept world.old }
     ensures failures { W.failures world.new ≡ W.failures world.old }
 {
     let name = source_name(alloc, file)?;

@@ -12,7 +12,7 @@ ghost use Rattle.m4_tool.specs.FailureCounts.{counts_of};
 ghost use Rattle.m4_tool.specs.Known.{AnyFails, ExtendFiles, Knows};
 ghost use Rattle.m4_tool.specs.LineEnd.{seen};
 ghost use Rattle.m4_tool.specs.LineRun.{RanBy, RanCounts, named_in, named_of};
-ghost use Rattle.m4_tool.specs.TornFile.{TearsFile};
+ghost use Rattle.m4_tool.specs.Unfinished.{LeavesMarked};
 
 use super::opening::sources_of;
 use crate::followed::FAILED;
@@ -51,12 +51,7 @@ pub fn run_line<W: World, O: Shows, M: Shows>(
         → ExtendFiles files input (words_of (request_of line.now).names) ss
         → RanBy (freeze_name (request_of line.now)) (defined line.now.options script ss) result.ending
         (seen O.contents M.contents M.failures W.files out.old out.new messages.old messages.new world result.world) }
-    ensures torn { W.appends_whole ≡ true
-        → (files : Files) (input : Script) (script : Option Script) (ss : List Said)
-        → Knows W.making W.files W.input world files input → DescribesFrozen W.Reader.script frozen.old script
-        → ExtendFiles files input (words_of (request_of line.now).names) ss
-        → result.ending.cause ≡ Cause.Write
-        → TearsFile (freeze_name (request_of line.now)) (W.files world) (W.files result.world) }
+    ensures unfinished { LeavesMarked (freeze_name (request_of line.now)) (W.kept world) (W.kept result.world) }
     ensures read { (files : Files) (input : Script) → Knows W.making W.files W.input world files input
         → result.ending.cause ≡ Cause.Read → AnyFails files input (words_of (request_of line.now).names) }
     ensures counted { RanCounts result.ending.cause (counts_of O.failures M.failures W.failures
@@ -119,6 +114,7 @@ fn run_late<W: World, K: LateStart, O: Shows, M: Shows>(
     name: Bytes,
 ) -> RunEnd<W>
     requires before { W.files world ≡ K.before }
+    requires kept { W.kept world ≡ K.kept }
     requires name { name ≡ K.name }
     requires failures { W.failures world ≡ K.failures }
     ensures ran { (files : Files) (input : Script) (names : List (List ℕ)) (script : Option Script) (ss : List Said)
@@ -126,11 +122,7 @@ fn run_late<W: World, K: LateStart, O: Shows, M: Shows>(
         → DescribesFrozen W.Reader.script frozen.old script → ExtendFiles files input names ss
         → RanBy K.name (defined options script ss) result.ending
         (seen O.contents M.contents M.failures W.files out.old out.new messages.old messages.new world result.world) }
-    ensures torn { W.appends_whole ≡ true → (files : Files) (input : Script) (names : List (List ℕ))
-        (script : Option Script) (ss : List Said)
-        → map (named_of W.Reader.script) sources.old ≡ named_in files input names
-        → DescribesFrozen W.Reader.script frozen.old script → ExtendFiles files input names ss
-        → result.ending.cause ≡ Cause.Write → TearsFile K.name (W.files world) (W.files result.world) }
+    ensures unfinished { LeavesMarked K.name (W.kept world) (W.kept result.world) }
     ensures read { (files : Files) (input : Script) (names : List (List ℕ))
         → map (named_of W.Reader.script) sources.old ≡ named_in files input names
         → result.ending.cause ≡ Cause.Read → AnyFails files input names }

@@ -129,8 +129,6 @@ struct Unflushed {
 impl ByteSink for Unflushed {
     ghost contents = { λ s. ⟦<MemSink as ByteSink>⟧.contents s.sink };
 
-    ghost takes_whole = { false };
-
     ghost failures = { λ s. s.failures };
 
     fn put(&mut self, bytes: &[u8]) -> Result<usize, DeviceFault> {

@@ -34,6 +34,7 @@ fn after_pieces<W: World>(world: W, name: Bytes, pieces: &[&[u8]]) -> W {
 // Does so for a late file with this start.
 fn after_late<W: World, K: LateStart>(world: W, name: Bytes, pieces: &[&[u8]]) -> W
     requires before { W.files world ≡ K.before }
+    requires kept { W.kept world ≡ K.kept }
     requires name { name ≡ K.name }
     requires failures { W.failures world ≡ K.failures }
 {
@@ -41,7 +42,9 @@ fn after_late<W: World, K: LateStart>(world: W, name: Bytes, pieces: &[&[u8]]) -
     for piece in pieces {
         let _written = write_all(&mut late, piece);
     }
-    late.into_world()
+    let mut world = late.into_world();
+    let _finished = world.finish(b"late");
+    world
 }
 
 #[test]
@@ -85,7 +88,7 @@ fn drop_late<R: Files + Alloc<A = Global> + Abort>(rt: &R) {
 fn are_written<W: World>(late: LateFile<W, Brand>, bytes: &[u8]) -> bool {
     let mut late = late;
     let written = write_all(&mut late, bytes).is_ok();
-    let finished = late.into_world().finish().is_ok();
+    let finished = late.into_world().finish(PATH.as_bytes()).is_ok();
     written && finished
 }
 

@@ -7,7 +7,6 @@ use Rattle.m4_engine.proofs.Whole.{early_so, late_so, well_so, sized_so}
 use Rattle.m4_engine.proofs.Starts.{close_left}
 use Rattle.m4_engine.proofs.Closing.{Closes, closes_so, finish_closes, freeze_closes, uses_so}
 use Rattle.m4_engine.proofs.RunReached.{early_reached, late_reached, closed_reached}
-use Rattle.m4_engine.proofs.Tears.{torn_so}
 use Rattle.m4_engine.proofs.Missed.{exited_late, same_stop}
 use Rattle.m4_engine.proofs.Ordering.{same_breaks, sources_step, end_step}
 use Rattle.m4_engine.proofs.run.read_to_end.Goals.{then-freezes, else-freezes}
@@ -25,7 +24,6 @@ returns-in_err-read_sources-clause-writes g c = λ ss s. record {
 pub returns-in_err-read_sources-clause-frozen : goal.returns-in_err-read_sources-clause-frozen
 returns-in_err-read_sources-clause-frozen g c = λ ss s. record {
   sized = search rules;
-  torn = λ whole e. inl refl;
 }
 
 pub returns-in_err-read_sources-clause-reads : goal.returns-in_err-read_sources-clause-reads
@@ -48,26 +46,26 @@ returns-in_err-read_sources-clause-marks g c = record {
 -- the end of the run is broken off
 pub returns-in_err-closed : goal.returns-in_err-closed
 returns-in_err-closed g c =
-    let k : Closes g.O.ByteSink.contents g.M.ByteSink.contents g.Z.ByteSink.contents g.O.ByteSink.failures g.M.ByteSink.failures g.Z.ByteSink.failures g.Z.ByteSink.takes_whole
+    let k : Closes g.O.ByteSink.contents g.M.ByteSink.contents g.Z.ByteSink.contents g.O.ByteSink.failures g.M.ByteSink.failures g.Z.ByteSink.failures
     c.args.freezes c.read_sources.new.session c.read_sources.new.out c.read_sources.new.messages c.args.freeze_to.now
     c.if-freezes.session c.if-freezes.out c.if-freezes.messages c.if-freezes.freeze_to c.if-freezes.closed = elim c.if-freezes.branch [
       | then-freezes w ↦ closes_so
-          g.O.ByteSink.contents g.M.ByteSink.contents g.Z.ByteSink.contents g.O.ByteSink.failures g.M.ByteSink.failures g.Z.ByteSink.failures g.Z.ByteSink.takes_whole
+          g.O.ByteSink.contents g.M.ByteSink.contents g.Z.ByteSink.contents g.O.ByteSink.failures g.M.ByteSink.failures g.Z.ByteSink.failures
           c.args.freezes c.read_sources.new.session c.read_sources.new.out c.read_sources.new.messages c.args.freeze_to.now
           w.freeze-closed.new.self c.if-freezes.session w.freeze-closed.new.out c.if-freezes.out w.freeze-closed.new.messages c.if-freezes.messages w.freeze-closed.new.freeze_to c.if-freezes.freeze_to w.freeze-closed.result c.if-freezes.closed
           (search rules) (search rules) (search rules) (search rules) (search rules)
           (freeze_closes
-          g.O.ByteSink.contents g.M.ByteSink.contents g.Z.ByteSink.contents g.O.ByteSink.failures g.M.ByteSink.failures g.Z.ByteSink.failures g.Z.ByteSink.takes_whole
+          g.O.ByteSink.contents g.M.ByteSink.contents g.Z.ByteSink.contents g.O.ByteSink.failures g.M.ByteSink.failures g.Z.ByteSink.failures
           c.args.freezes c.read_sources.new.session c.read_sources.new.out c.read_sources.new.messages c.args.freeze_to.now
           w.freeze-closed.new.self w.freeze-closed.new.out w.freeze-closed.new.messages w.freeze-closed.new.freeze_to w.freeze-closed.result (search rules)
-          w.freeze-closed.ensures.gives w.freeze-closed.ensures.order w.freeze-closed.ensures.torn w.freeze-closed.ensures.any_missing w.freeze-closed.ensures.write)
+          w.freeze-closed.ensures.gives w.freeze-closed.ensures.order w.freeze-closed.ensures.any_missing w.freeze-closed.ensures.write)
       | else-freezes w ↦ closes_so
-          g.O.ByteSink.contents g.M.ByteSink.contents g.Z.ByteSink.contents g.O.ByteSink.failures g.M.ByteSink.failures g.Z.ByteSink.failures g.Z.ByteSink.takes_whole
+          g.O.ByteSink.contents g.M.ByteSink.contents g.Z.ByteSink.contents g.O.ByteSink.failures g.M.ByteSink.failures g.Z.ByteSink.failures
           c.args.freezes c.read_sources.new.session c.read_sources.new.out c.read_sources.new.messages c.args.freeze_to.now
           w.finish-closed.new.self c.if-freezes.session w.finish-closed.new.out c.if-freezes.out w.finish-closed.new.messages c.if-freezes.messages c.args.freeze_to.now c.if-freezes.freeze_to w.finish-closed.result c.if-freezes.closed
           (search rules) (search rules) (search rules) (search rules) (search rules)
           (finish_closes
-          g.O.ByteSink.contents g.M.ByteSink.contents g.Z.ByteSink.contents g.O.ByteSink.failures g.M.ByteSink.failures g.Z.ByteSink.failures g.Z.ByteSink.takes_whole
+          g.O.ByteSink.contents g.M.ByteSink.contents g.Z.ByteSink.contents g.O.ByteSink.failures g.M.ByteSink.failures g.Z.ByteSink.failures
           c.args.freezes c.read_sources.new.session c.read_sources.new.out c.read_sources.new.messages c.args.freeze_to.now
           w.finish-closed.new.self w.finish-closed.new.out w.finish-closed.new.messages w.finish-closed.result (search rules)
           w.finish-closed.ensures.gives w.finish-closed.ensures.order w.finish-closed.ensures.any_missing w.finish-closed.ensures.write)
@@ -85,10 +83,6 @@ returns-in_err-closed g c =
       };
       frozen = λ ss s. record {
         sized = search rules;
-        torn = λ whole e. torn_so c.args.session.now.limits (after_sources c.args.session.now.limits ss (progress_of c.args.session.now))
-            c.args.session.now c.read_sources.new.session _ _ _ refl (c.in_ok-read_sources.ensures.writes ss s).goes
-            c.in_err-closed.field-0.0 c.if-freezes.closed c.from_residual-in_err-closed.result (search rules) (search rules) e
-            (k.torn whole);
       };
       reads = record {
         reached = λ n. late_reached g.R.ByteSource.script c.args.sources.now
@@ -114,26 +108,26 @@ returns-in_err-closed g c =
 -- the run came to its end
 pub returns : goal.returns
 returns g c =
-    let k : Closes g.O.ByteSink.contents g.M.ByteSink.contents g.Z.ByteSink.contents g.O.ByteSink.failures g.M.ByteSink.failures g.Z.ByteSink.failures g.Z.ByteSink.takes_whole
+    let k : Closes g.O.ByteSink.contents g.M.ByteSink.contents g.Z.ByteSink.contents g.O.ByteSink.failures g.M.ByteSink.failures g.Z.ByteSink.failures
     c.args.freezes c.read_sources.new.session c.read_sources.new.out c.read_sources.new.messages c.args.freeze_to.now
     c.if-freezes.session c.if-freezes.out c.if-freezes.messages c.if-freezes.freeze_to (Ok tt) = elim c.if-freezes.branch [
       | then-freezes w ↦ closes_so
-          g.O.ByteSink.contents g.M.ByteSink.contents g.Z.ByteSink.contents g.O.ByteSink.failures g.M.ByteSink.failures g.Z.ByteSink.failures g.Z.ByteSink.takes_whole
+          g.O.ByteSink.contents g.M.ByteSink.contents g.Z.ByteSink.contents g.O.ByteSink.failures g.M.ByteSink.failures g.Z.ByteSink.failures
           c.args.freezes c.read_sources.new.session c.read_sources.new.out c.read_sources.new.messages c.args.freeze_to.now
           w.freeze-closed.new.self c.if-freezes.session w.freeze-closed.new.out c.if-freezes.out w.freeze-closed.new.messages c.if-freezes.messages w.freeze-closed.new.freeze_to c.if-freezes.freeze_to w.freeze-closed.result (Ok tt)
           (search rules) (search rules) (search rules) (search rules) (sym c.in_ok-closed.was ∙ w.closed-is)
           (freeze_closes
-          g.O.ByteSink.contents g.M.ByteSink.contents g.Z.ByteSink.contents g.O.ByteSink.failures g.M.ByteSink.failures g.Z.ByteSink.failures g.Z.ByteSink.takes_whole
+          g.O.ByteSink.contents g.M.ByteSink.contents g.Z.ByteSink.contents g.O.ByteSink.failures g.M.ByteSink.failures g.Z.ByteSink.failures
           c.args.freezes c.read_sources.new.session c.read_sources.new.out c.read_sources.new.messages c.args.freeze_to.now
           w.freeze-closed.new.self w.freeze-closed.new.out w.freeze-closed.new.messages w.freeze-closed.new.freeze_to w.freeze-closed.result (search rules)
-          w.freeze-closed.ensures.gives w.freeze-closed.ensures.order w.freeze-closed.ensures.torn w.freeze-closed.ensures.any_missing w.freeze-closed.ensures.write)
+          w.freeze-closed.ensures.gives w.freeze-closed.ensures.order w.freeze-closed.ensures.any_missing w.freeze-closed.ensures.write)
       | else-freezes w ↦ closes_so
-          g.O.ByteSink.contents g.M.ByteSink.contents g.Z.ByteSink.contents g.O.ByteSink.failures g.M.ByteSink.failures g.Z.ByteSink.failures g.Z.ByteSink.takes_whole
+          g.O.ByteSink.contents g.M.ByteSink.contents g.Z.ByteSink.contents g.O.ByteSink.failures g.M.ByteSink.failures g.Z.ByteSink.failures
           c.args.freezes c.read_sources.new.session c.read_sources.new.out c.read_sources.new.messages c.args.freeze_to.now
           w.finish-closed.new.self c.if-freezes.session w.finish-closed.new.out c.if-freezes.out w.finish-closed.new.messages c.if-freezes.messages c.args.freeze_to.now c.if-freezes.freeze_to w.finish-closed.result (Ok tt)
           (search rules) (search rules) (search rules) (search rules) (sym c.in_ok-closed.was ∙ w.closed-is)
           (finish_closes
-          g.O.ByteSink.contents g.M.ByteSink.contents g.Z.ByteSink.contents g.O.ByteSink.failures g.M.ByteSink.failures g.Z.ByteSink.failures g.Z.ByteSink.takes_whole
+          g.O.ByteSink.contents g.M.ByteSink.contents g.Z.ByteSink.contents g.O.ByteSink.failures g.M.ByteSink.failures g.Z.ByteSink.failures
           c.args.freezes c.read_sources.new.session c.read_sources.new.out c.read_sources.new.messages c.args.freeze_to.now
           w.finish-closed.new.self w.finish-closed.new.out w.finish-closed.new.messages w.finish-closed.result (search rules)
           w.finish-closed.ensures.gives w.finish-closed.ensures.order w.finish-closed.ensures.any_missing w.finish-closed.ensures.write)
@@ -148,7 +142,6 @@ returns g c =
       frozen = λ ss s. record {
         sized = sized_so c.args.freezes c.args.session.now.limits ss (after_sources c.args.session.now.limits ss (progress_of c.args.session.now)) c.args.session.now c.read_sources.new.session
             c.if-freezes.session _ _ _ _ _ _ _ _ refl (c.in_ok-read_sources.ensures.writes ss s).goes k.gives;
-        torn = search rules;
       };
       reads = record {
         reached = λ n. closed_reached g.R.ByteSource.script c.args.sources.now c.read_sources.new.sources

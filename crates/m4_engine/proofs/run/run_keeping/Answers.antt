@@ -9,8 +9,6 @@ use Rattle.m4_engine.proofs.Whole.{left_status}
 use Rattle.m4_engine.proofs.Starts as starts
 use Rattle.m4_engine.proofs.Readers.{none_taken_yet, all_sound, run_fails}
 use Rattle.m4_engine.proofs.RunReached.{never_passed, passed}
-use Rattle.m4_engine.specs.Session.{FreezeLeaves}
-use Rattle.m4_engine.proofs.Tears.{ended_write}
 use Rattle.m4_engine.proofs.Ordering.{never_told, run_told}
 use Rattle.m4_engine.proofs.Missed.{begun_unmissed, left_exited, never_exited, status_so}
 use Rattle.m4_engine.proofs.run.run_keeping.Goals.{in-Some, in-None}
@@ -42,7 +40,6 @@ returns-in-Err g c =
       status = status_so c.args.sources.now _ d (starts.never_status c.args.options c.match-frozen.begun c.in-Err.stop (starts.status_after c.in-Err.stop) d _ (search rules) refl ends b.begun)
           (λ code e. never_exited c.args.options c.match-frozen.begun c.in-Err.stop (starts.status_after c.in-Err.stop) d code (search rules) ends b.begun e);
       sized = search rules;
-      torn = λ whole file t ss s e. inl refl;
       read = (
         starts.never_read g.R.ByteSource.script g.R.ByteSource.failures
             c.args.sources.now c.args.sources.now c.args.options c.match-frozen.begun c.in-Err.stop (starts.status_after c.in-Err.stop) d (search rules) refl ends b.begun (all_sound g.R.ByteSource.failures c.args.sources.now),
@@ -87,10 +84,6 @@ returns g c =
       sized = λ file t ss s e f.
           starts.begun_state IsSized c.args.options (start_of c.args.options.prefix file) ss c.in-Ok.session c.match-frozen.begun _ _ (search rules) (b.gives file t)
           (starts.ended_done _ c.read_to_end-answer.new.session _ c.read_to_end-answer.result c.ending.result c.ending.ensures c.read_to_end-answer.ensures.left e (c.read_to_end-answer.ensures.frozen ss s).sized f);
-      torn = λ whole file t ss s e.
-          let left : State → Type 0 = λ x. FreezeLeaves x (g.Z.ByteSink.contents c.args.freeze_to.now) (g.Z.ByteSink.contents c.read_to_end-answer.new.freeze_to) in
-          starts.begun_state left c.args.options (start_of c.args.options.prefix file) ss c.in-Ok.session c.match-frozen.begun _ _ (search rules) (b.gives file t)
-          (ended_write _ _ c.read_to_end-answer.result c.ending.result c.ending.ensures e ((c.read_to_end-answer.ensures.frozen ss s).torn whole));
       read = (
         run_fails g.R.ByteSource.script g.R.ByteSource.failures _ c.args.sources.now c.read_to_end-answer.new.sources c.read_to_end-answer.result c.ending.result c.ending.ensures c.read_to_end-answer.ensures.reads.failed,
         starts.begun_frozen g.R.ByteSource.failures c.args.frozen.now c.match-frozen.frozen c.in-Ok.session c.match-frozen.begun c.read_to_end-answer.new.session _ c.read_to_end-answer.result c.ending.result (search rules) c.ending.ensures c.read_to_end-answer.ensures.left b.read,

@@ -3,15 +3,15 @@ use Rattle.std.specs.Prelude.{FitsSigned}
 use Rattle.std.specs.Int.{w32}
 use Rattle.std.proofs.Math.Facts.{sfits_lit}
 use Rattle.std.proofs.lemmas.Int.{to_z-of_z}
-use Rattle.m4_frozen.proofs.Lates.{HasPutAll-start, HasPutAll-put, HasPutAll-cut, HasPutAll-last, PutsAll-refused}
+use Rattle.m4_state.proofs.CallerLaws.{HasPut-start, HasPut-put, HasPut-cut, HasPut-last, Puts-refused}
 use Rattle.m4_frozen.proofs.FreezeParts.{last_fits}
 use Rattle.m4_frozen.proofs.writer.put_diversions.Goals as goal
 
 -- a text failed
 pub returns-in_err-last-clause-puts : goal.returns-in_err-last-clause-puts
 returns-in_err-last-clause-puts g c =
-    PutsAll-refused g.W.ByteSink.takes_whole c.from_residual.result _ _ _ c.from_residual.ensures.0
-    (HasPutAll-cut g.W.ByteSink.takes_whole _ _ _ (HasPutAll-start _ _) c.in_err-last.ensures.puts)
+    Puts-refused c.from_residual.result _ _ _ c.from_residual.ensures.0
+    (HasPut-cut _ _ _ (HasPut-start _ _) c.in_err-last.ensures.puts.0 c.in_err-last.ensures.puts.1)
 
 -- the current number decides
 pub returns-clause-puts : goal.returns-clause-puts
@@ -19,4 +19,4 @@ returns-clause-puts g c =
     let current_fits : FitsSigned w32 c.current.result = rw c.current.ensures.current c.current.ensures.valid.current in
     let last_is_fit : FitsSigned w32 c.in_ok-last.last = rw c.in_ok-last.ensures.last (last_fits (pos 0) c.args.state.now.diversions (sfits_lit tt) c.current.ensures.valid.diversions.each) in
     let current = rw (to_z-of_z w32 c.current.result current_fits, to_z-of_z w32 c.in_ok-last.last last_is_fit, c.current.ensures.current, c.in_ok-last.ensures.last) at c.put_current.ensures.puts in
-    HasPutAll-last _ g.W.ByteSink.takes_whole _ _ _ (HasPutAll-put _ _ _ (HasPutAll-start _ _) c.in_ok-last.ensures.puts) current
+    HasPut-last _ _ _ _ (HasPut-put _ _ _ (HasPut-start _ _) c.in_ok-last.ensures.puts) current

@@ -1,9 +1,4 @@
 use Rattle.m4_state.proofs.CallerLaws.{HasPut-start, HasPut-put, HasPut-cut, HasPut-last, Puts-refused}
-use Rattle.m4_frozen.proofs.Lates.{torn_stops, stop_whole, OnErr-so}
-use Rattle.m4_state.proofs.CallerLaws.{OnErr-is}
-use Rattle.m4_frozen.specs.WriterSteps.{late, all_directives}
-use Rattle.std.specs.List.{flat_map}
-use Rattle.std.proofs.Common.{◌∙◌}
 use Rattle.m4_frozen.proofs.writer.put_frozen.Goals as goal
 
 -- the header failed
@@ -16,21 +11,9 @@ returns-in_err-write_all-clause-puts g c =
 pub returns-in_err-put_directives-clause-puts : goal.returns-in_err-put_directives-clause-puts
 returns-in_err-put_directives-clause-puts g c =
     Puts-refused c.from_residual-in_err-put_directives.result _ _ _ c.from_residual-in_err-put_directives.ensures.0
-    (HasPut-cut _ _ _ (HasPut-put _ _ _ (HasPut-start _ _) c.in_ok-write_all.ensures.puts) c.in_err-put_directives.ensures.puts.0.0 c.in_err-put_directives.ensures.puts.0.1)
+    (HasPut-cut _ _ _ (HasPut-put _ _ _ (HasPut-start _ _) c.in_ok-write_all.ensures.puts) c.in_err-put_directives.ensures.puts.0 c.in_err-put_directives.ensures.puts.1)
 
 -- the end line decides
 pub returns-clause-puts : goal.returns-clause-puts
 returns-clause-puts g c =
     HasPut-last _ _ _ _ (HasPut-put _ _ _ (HasPut-put _ _ _ (HasPut-start _ _) c.in_ok-write_all.ensures.puts) c.in_ok-put_directives.ensures.puts) c.write_all-2.ensures.puts
-
-pub returns-in_err-put_directives-clause-torn : goal.returns-in_err-put_directives-clause-torn
-returns-in_err-put_directives-clause-torn g c whole =
-    OnErr-is c.from_residual-in_err-put_directives.result
-    (torn_stops _ c.in_ok-write_all.ensures.puts (c.in_err-put_directives.ensures.puts.1 whole))
-
-pub returns-clause-torn : goal.returns-clause-torn
-returns-clause-torn g c whole =
-    let ds = all_directives c.args.state.now c.args.pairs.now in
-    OnErr-so c.write_all-2.result
-    (λ same. torn_stops ds c.in_ok-write_all.ensures.puts (flat_map late ds, same ∙ c.in_ok-put_directives.ensures.puts, stop_whole ds))
-    (c.write_all-2.ensures.whole whole)

@@ -1,15 +1,16 @@
 use Rattle.std.proofs.Common.{◌≡◌, length, pos}
+use Rattle.m4_state.specs.Device.{HasPut}
 use Rattle.m4_state.specs.State.{AreDiversions}
 use Rattle.m4_frozen.specs.Freeze.{last_number}
+use Rattle.m4_frozen.specs.WriterSteps.{texts_text}
 use Rattle.m4_state.specs.NumbersAbove.{above}
-use Rattle.m4_frozen.specs.WriterSteps.{texts_directives, HasPutAll}
 use Rattle.m4_frozen.proofs.writer.put_texts.Given as goal
 
 -- of a state that is valid, the diversions above the last number are the rest of the text
 abbrev pub invariant-loop-number : goal.invariant-loop-number
 invariant-loop-number g l =
     (AreDiversions l.state.diversions
-    → HasPutAll (g.W.ByteSink.contents l.initial.writer) (g.W.ByteSink.contents l.writer) (texts_directives l.state.diversions) (texts_directives (above l.last l.state.diversions))
+    → HasPut (g.W.ByteSink.contents l.initial.writer) (g.W.ByteSink.contents l.writer) (texts_text l.state.diversions) (texts_text (above l.last l.state.diversions))
     × (last_number l.last (above l.last l.state.diversions) ≡ last_number (pos 0) l.state.diversions))
     × (g.W.ByteSink.failures l.writer ≡ g.W.ByteSink.failures l.initial.writer)
 

@@ -1,7 +1,7 @@
 use Rattle.std.proofs.Common.{ap, subst, ◌∙◌}
 use Rattle.m4_state.specs.Device.{with_bytes, HasBegun}
-use Rattle.m4_frozen.specs.WriterSteps.{all_directives, frozen_text, StopsTorn}
-use Rattle.m4_frozen.proofs.FreezeParts.{all_directives-canonical, frozen_text-freeze}
+use Rattle.m4_frozen.specs.WriterSteps.{frozen_text}
+use Rattle.m4_frozen.proofs.FreezeParts.{frozen_text-freeze}
 use Rattle.m4_frozen.proofs.writer.write_frozen.Goals as goal
 
 -- the parts that were begun are those of the canonical text
@@ -15,9 +15,3 @@ pub returns-clause-written : goal.returns-clause-written
 returns-clause-written g c =
     let text = ap (frozen_text c.args.state.now) (c.deref.ensures.value ∙ c.in_ok-pairs.ensures.pairs) ∙ frozen_text-freeze c.args.state.now in
     c.in_ok-put_frozen.ensures.puts ∙ ap (with_bytes (g.W.ByteSink.contents c.args.writer.now)) text
-
--- what is left there is torn
-pub returns-in_err-put_frozen-clause-torn : goal.returns-in_err-put_frozen-clause-torn
-returns-in_err-put_frozen-clause-torn g c whole fault =
-    let ds = ap (all_directives c.args.state.now) (c.deref.ensures.value ∙ c.in_ok-pairs.ensures.pairs) ∙ all_directives-canonical c.args.state.now in
-    subst (StopsTorn (g.W.ByteSink.contents c.args.writer.now) (g.W.ByteSink.contents c.put_frozen.new.writer)) ds (c.in_err-put_frozen.ensures.torn whole)

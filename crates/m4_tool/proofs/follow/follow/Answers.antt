@@ -10,8 +10,5 @@ returns-in-None-clause-runs g c = λ files input r n k e.
 pub returns-in-None-clause-extends : goal.returns-in-None-clause-extends
 returns-in-None-clause-extends g c = λ files input r n k e. c.follow_run.ensures.follows files input r k e
 
-pub returns-in-None-clause-torn : goal.returns-in-None-clause-torn
-returns-in-None-clause-torn g c = λ files input r n whole k e. c.follow_run.ensures.torn files input r whole k e
-
 pub returns-in-None-clause-read : goal.returns-in-None-clause-read
 returns-in-None-clause-read g c = λ files input n k e. c.follow_run.ensures.read files input k e

@@ -5,7 +5,6 @@ use Rattle.m4_engine.specs.Run.{run}
 use Rattle.m4_tool.specs.Line.{LineResult, result_of_run, unreloaded}
 use Rattle.m4_tool.proofs.OpenedFiles.{fresh_result, thawed_at, reloads_so, missing_so}
 use Rattle.m4_tool.proofs.LineEnds.{ends_as}
-use Rattle.m4_tool.proofs.TornFiles.{freezes_as}
 use Rattle.m4_tool.proofs.follow.follow_run.Goals as goal
 
 pub returns-in-None-clause-follows : goal.returns-in-None-clause-follows
@@ -41,32 +40,6 @@ returns-in-None-open-clause-follows g c = λ files input r known l.
     let name = unwrap_or (option_map string_bytes line.freeze) [] in
     ends_as c.close_unopened.result.failure name given file (unreloaded given) r c.close_unopened.result.status _ e k
     (c.close_unopened.ensures.ends name)
-
-pub returns-in-None-clause-torn : goal.returns-in-None-clause-torn
-returns-in-None-clause-torn g c = λ files input r whole known l.
-    let line = c.args.line.now in
-    let file = unwrap_or (option_map string_bytes line.reload) [] in
-    let k = fresh_result files (option_map string_bytes line.reload) line.options file l.0 r (ap (option_map string_bytes) c.in-None.is) l.2 in
-    let e = sym (ap (λ o. unwrap_or (option_map string_bytes o) []) c.in-None.is) in
-    freezes_as (unwrap_or (option_map string_bytes line.freeze) []) _ r.frozen (g.W.World.files c.args.world) (g.W.World.files c.follow_from.result.world)
-    (ap (λ (x : LineResult). x.frozen) (ap (λ (x : List ℕ). result_of_run x (run line.options None l.0)) e ∙ k))
-    (c.follow_from.ensures.torn files input None l.0 whole known refl l.1)
-
-pub returns-in-Some-open-clause-torn : goal.returns-in-Some-open-clause-torn
-returns-in-Some-open-clause-torn g c = λ files input r whole known l.
-    let line = c.args.line.now in
-    let given = c.as_bytes-file.result.now in
-    let file = unwrap_or (option_map string_bytes line.reload) [] in
-    let is = c.as_bytes-file.ensures.value ∙ c.as_str.ensures.value in
-    let e = is ∙ sym (ap (λ o. unwrap_or (option_map string_bytes o) []) c.in-Some.is) in
-    let t = thawed_at files (option_map string_bytes line.reload) given line.options file (Some l.0) r (ap (option_map string_bytes) c.in-Some.is ∙ ap (λ (n : List ℕ). Some n) (sym is)) l.2 in
-    let k = reloads_so g.W.Reader.ByteSource.script c.in-Some-open.reader given (files given) line.options file l.0 r (rw known.0.1 at (c.in-Some-open.ensures known.0.0)) t in
-    freezes_as (unwrap_or (option_map string_bytes line.freeze) []) _ r.frozen (g.W.World.files c.args.world) (g.W.World.files c.follow_from-in-Some-open.result.world)
-    (ap (λ (x : LineResult). x.frozen) (ap (λ (x : List ℕ). result_of_run x (run line.options k.frozen l.0)) e ∙ k.result))
-    (c.follow_from-in-Some-open.ensures.torn files input k.frozen l.0 whole known k.describes l.1)
-
-pub returns-in-None-open-clause-torn : goal.returns-in-None-open-clause-torn
-returns-in-None-open-clause-torn g c = λ files input r whole known l. inr (inl c.close_unopened.ensures.files)
 
 pub returns-in-None-clause-read : goal.returns-in-None-clause-read
 returns-in-None-clause-read g c = λ files input known e. c.follow_from.ensures.read files input known e

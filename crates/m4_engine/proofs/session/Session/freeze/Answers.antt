@@ -3,7 +3,6 @@ use Rattle.std.specs.Prelude.{Ok}
 use Rattle.m4_engine.specs.Session.{IsOpen}
 use Rattle.m4_engine.proofs.Sessions.{froze, freeze_broke}
 use Rattle.m4_engine.proofs.Wrapping.{freeze_then, freeze_stops, gone_on}
-use Rattle.m4_engine.proofs.Tears.{freeze_torn}
 use Rattle.m4_engine.proofs.Begins.{nothing_begun}
 use Rattle.m4_engine.proofs.Ordering.{any_breaks, same_breaks, rounds_end, end_breaks}
 use Rattle.m4_engine.proofs.session.Session.freeze.Goals as goal
@@ -28,13 +27,6 @@ returns-clause-gives g c =
 
 pub returns-clause-write : goal.returns-clause-write
 returns-clause-write g c = search rules
-
-pub returns-in_err-read_saved-clause-torn : goal.returns-in_err-read_saved-clause-torn
-returns-in_err-read_saved-clause-torn g c = λ whole e. inl refl
-
-pub returns-in-Err-Write-clause-torn : goal.returns-in-Err-Write-clause-torn
-returns-in-Err-Write-clause-torn g c = λ whole e.
-    freeze_torn c.args.self.now c.read_saved.new.self c.state.result.now _ _ _ c.in_ok-read_saved.ensures.goes.0 (search rules) (search rules) (c.write_frozen.ensures.torn whole (search rules))
 
 pub returns-in_err-read_saved-clause-order : goal.returns-in_err-read_saved-clause-order
 returns-in_err-read_saved-clause-order g c = same_breaks Unit Unit c.in_err-read_saved.field-0.0 c.read_saved.result c.from_residual.result _ _ (search rules) (search rules) (rounds_end c.args.self.now.limits _ _) c.read_saved.ensures.order

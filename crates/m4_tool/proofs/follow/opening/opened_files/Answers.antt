@@ -11,8 +11,9 @@ loop-file-preserved g c = (
   c.opened.ensures.files ∙ c.loop-file.invariant.0,
   c.opened.ensures.making ∙ c.loop-file.invariant.1,
   c.opened.ensures.failures ∙ c.loop-file.invariant.2,
+  c.opened.ensures.kept ∙ c.loop-file.invariant.3,
   λ fs input m f i.
-      let o = c.loop-file.invariant.3 fs input m f i in
+      let o = c.loop-file.invariant.4 fs input m f i in
       let is = c.as_str.ensures.value ∙ ap string_bytes c.file-item.is in
       let t = c.in_ok-source.ensures.source fs o.left ((c.loop-file.invariant.1 ∙ m, c.loop-file.invariant.0 ∙ f), o.is) in
       let e = c.in_ok-source.ensures.input o.left o.is in
@@ -26,4 +27,4 @@ loop-file-preserved g c = (
 
 pub returns-clause-sources : goal.returns-clause-sources
 returns-clause-sources g c = λ fs input k.
-    all_opened g.W.Reader.ByteSource.script string_bytes fs input c.args.files.now c.loop-file.file-index c.loop-file.sources.items _ (search rules) (c.loop-file.invariant.3 fs input k.0.0 k.0.1 k.1)
+    all_opened g.W.Reader.ByteSource.script string_bytes fs input c.args.files.now c.loop-file.file-index c.loop-file.sources.items _ (search rules) (c.loop-file.invariant.4 fs input k.0.0 k.0.1 k.1)

@@ -11,5 +11,6 @@ invariant-loop-file g l =
     (g.W.World.files l.world ≡ g.W.World.files l.fn.world)
     × (g.W.World.making l.world ≡ g.W.World.making l.fn.world)
     × (g.W.World.failures l.world ≡ g.W.World.failures l.fn.world)
+    × (g.W.World.kept l.world ≡ g.W.World.kept l.fn.world)
     × ((fs : Files) (input : Script) → g.W.World.making l.fn.world ≡ false → g.W.World.files l.fn.world ≡ Some fs → g.W.World.input l.fn.world ≡ Some input
     → Opening g.W.Reader.ByteSource.script string_bytes fs input l.files l.file-index l.sources.items (g.W.World.input l.world))

@@ -7,7 +7,6 @@ use Rattle.m4_engine.specs.Start.{start_of}
 use Rattle.m4_engine.proofs.Reloads.{frozen_in_order}
 use Rattle.m4_tool.proofs.RanFiles.{ran_so}
 use Rattle.m4_tool.proofs.ReadFaults.{run_fails}
-use Rattle.m4_tool.proofs.TornFiles.{tears_from}
 use Rattle.m4_tool.proofs.follow.running.run_late.Goals as goal
 
 pub returns-clause-ran : goal.returns-clause-ran
@@ -20,15 +19,6 @@ returns-clause-ran g c = λ files input names script ss n t e.
     c.over-late.ensures.created (ap g.W.World.files c.over-late.ensures.world ∙ c.requires.before) c.over-late.ensures.failures
     (c.run_keeping-session.ensures.gives script t ss (inr (all_extend g.W.Reader.ByteSource.script files input names c.args.sources.now c.run_keeping-session.new.sources ss n c.run_keeping-session.ensures.taken e))) c.run_keeping-session.ensures.write c.run_keeping-session.ensures.status.1
     c.run_keeping-session.new.freeze_to.agrees c.run_keeping-session.new.freeze_to.tried))
-
-pub returns-clause-torn : goal.returns-clause-torn
-returns-clause-torn g c = λ whole files input names script ss n t e cause.
-    let sources = inr (all_extend g.W.Reader.ByteSource.script files input names c.args.sources.now c.run_keeping-session.new.sources ss n c.run_keeping-session.ensures.taken e) in
-    rw c.requires.before (rw c.into_world.ensures.world (tears_from (frozen_state c.args.options (start_of c.args.options.prefix script) ss) g.K.LateStart.name g.K.LateStart.before
-    (g.W.World.files c.run_keeping-session.new.freeze_to.world) (g.W.World.files c.over-late.result.world) c.run_keeping-session.new.freeze_to.created c.over-late.result.created
-    (frozen_in_order c.args.options script ss)
-    c.over-late.ensures.created (ap g.W.World.files c.over-late.ensures.world ∙ c.requires.before) c.run_keeping-session.new.freeze_to.agrees
-    (c.run_keeping-session.ensures.torn whole script t ss sources cause)))
 
 pub returns-clause-read : goal.returns-clause-read
 returns-clause-read g c = λ files input names n e.

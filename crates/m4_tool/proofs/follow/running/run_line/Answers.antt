@@ -4,7 +4,6 @@ use Rattle.std.specs.Prelude.{map, option_map, string_bytes, unwrap_or, []}
 use Rattle.m4_tool.specs.Line.{words_of}
 use Rattle.m4_engine.specs.Run.{run as defined}
 use Rattle.m4_tool.proofs.RanFiles.{not_begun, ran_as}
-use Rattle.m4_tool.proofs.TornFiles.{tears_as}
 use Rattle.m4_tool.proofs.ReadFaults.{never_read}
 use Rattle.m4_tool.proofs.follow.running.run_line.Goals as goal
 
@@ -28,22 +27,6 @@ returns-clause-ran g c = λ files input script ss k t e.
     c.in-Ok-name_of.ensures c.sources_of.ensures.files
     (c.run_late.ensures.ran files input (words_of (map string_bytes c.args.line.now.files.items)) script ss
     (rw c.deref_mut.ensures.value (rw c.as_slice.ensures.value at (c.in-Ok.ensures.sources files input k))) t e)
-
-pub returns-in_default-clause-torn : goal.returns-in_default-clause-torn
-returns-in_default-clause-torn g c = λ whole files input script ss k t e cause.
-    inl (ap g.W.World.files c.without_memory.ensures.world ∙ c.sources_of.ensures.files)
-
-pub returns-in_default-name_of-clause-torn : goal.returns-in_default-name_of-clause-torn
-returns-in_default-name_of-clause-torn g c = λ whole files input script ss k t e cause.
-    inl (ap g.W.World.files c.without_memory-in_default-name_of.ensures.world ∙ c.sources_of.ensures.files)
-
-pub returns-clause-torn : goal.returns-clause-torn
-returns-clause-torn g c = λ whole files input script ss k t e cause.
-    tears_as c.in-Ok-name_of.name (unwrap_or (option_map string_bytes c.args.line.now.freeze) [])
-    (g.W.World.files c.sources_of.new.world) (g.W.World.files c.args.world) (g.W.World.files c.run_late.result.world)
-    c.in-Ok-name_of.ensures c.sources_of.ensures.files
-    (c.run_late.ensures.torn whole files input (words_of (map string_bytes c.args.line.now.files.items)) script ss
-    (rw c.deref_mut.ensures.value (rw c.as_slice.ensures.value at (c.in-Ok.ensures.sources files input k))) t e cause)
 
 pub returns-in_default-clause-read : goal.returns-in_default-clause-read
 returns-in_default-clause-read g c = λ files input k e. never_read c.without_memory.result.ending c.without_memory.ensures.ending e
