@@ -75,7 +75,7 @@ hostile: m4r
 refused-memory: m4r
 	tests/refused_memory
 
-# Frozen files as they are after each write of a run, reloaded.
+# Frozen files that are cut while they are written, reloaded.
 torn: m4r
 	tests/torn
 

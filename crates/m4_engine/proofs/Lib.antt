@@ -28,6 +28,7 @@ pub mod Limits
 pub mod InOrder
 pub mod Reloads
 pub mod RunsEnd
+pub mod Unrefused
 pub mod Calls
 pub mod Longer
 pub mod Inputs

@@ -72,7 +72,7 @@ froze_by None saved r any_missing c e = (freeze r.state, refl)
 froze_by (Some h) saved r any_missing c e = absurd (c (ap Some e))
 
 -- a run that freezes and read everything has a frozen text
-has_text : (o : Options) (start : Start) (ss : List Source) → (run_from (freezing true o) start ss).reason ≡ Ends causes.Done → (text : List ℕ) × ((run_from (freezing true o) start ss).frozen ≡ Some text)
+pub has_text : (o : Options) (start : Start) (ss : List Source) → (run_from (freezing true o) start ss).reason ≡ Ends causes.Done → (text : List ℕ) × ((run_from (freezing true o) start ss).frozen ≡ Some text)
 has_text o start ss e =
     let limits : Limits = limits_of o in
     let p : Progress = after_sources limits ss (begun start) in
@@ -86,7 +86,7 @@ text_is frozen t text v e old new h =
     let m : Some text ≡ Some t = sym new ∙ k ∙ ap (λ (x : Option (List ℕ)). with_bytes x t) old in
     e ∙ sym m
 
-none_saved : (saved : List (List ℕ)) → false ≡ is_saved saved → saved ≡ []
+pub none_saved : (saved : List (List ℕ)) → false ≡ is_saved saved → saved ≡ []
 none_saved [] e = refl
 none_saved (x ∷ xs) e = cc
 

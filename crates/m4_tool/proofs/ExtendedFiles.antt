@@ -90,7 +90,7 @@ file_given : (name : List ℕ) (given : Option Script) → ExtendsFile name give
 file_given name None = refl
 file_given name (Some script) = ([], ap (Opened name) (sym (append-nil script.bytes)), λ _. refl)
 
-files_given : (files : Files) (input : Script) (names : List (List ℕ)) → (ss : List Source) × ExtendFiles files input names ss
+pub files_given : (files : Files) (input : Script) (names : List (List ℕ)) → (ss : List Source) × ExtendFiles files input names ss
 files_given files input [] = ([], tt)
 files_given files input (n ∷ ns) =
     let rest = files_given files (input_after input n) ns in

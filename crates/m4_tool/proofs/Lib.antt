@@ -2,8 +2,8 @@ mod Counts
 mod EndLemmas
 mod Examples
 mod ExtendedFiles
+mod FollowedCalls
 mod FoundLemmas
-mod FrozenLines
 mod LineEnds
 mod MadeFiles
 mod MemoryFiles
@@ -15,3 +15,4 @@ mod MarkedFiles
 mod ReadFaults
 mod RefusalLemmas
 mod RowLemmas
+mod ThreeCalls

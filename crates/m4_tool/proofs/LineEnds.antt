@@ -60,7 +60,7 @@ frozen_all kinds.SeparatorExpected r e w n g = g
 frozen_all kinds.PrematureEnd r e w n g = g
 frozen_all kinds.Read r e w n g = g
 
-wrote_all : (c : Cause) (b : Bool) (r : RunResult) (e : Ending) (w : Contents) → failure_of c b ≡ None → GivesBy c r e w → WroteAll r e w
+pub wrote_all : (c : Cause) (b : Bool) (r : RunResult) (e : Ending) (w : Contents) → failure_of c b ≡ None → GivesBy c r e w → WroteAll r e w
 wrote_all causes.Read true r e w n g = absurd cc
 wrote_all causes.Write true r e w n g = absurd cc
 wrote_all causes.OutOfMemory true r e w n g = absurd cc

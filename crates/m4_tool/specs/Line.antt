@@ -27,11 +27,11 @@ pub record Request : Type 0 where
   pub freeze : Option (List ℕ)
 
 abbrev pub request_of : Line → Request
-request_of line = record {
-  options = line.options;
-  names = map string_bytes line.files.items;
-  reload = option_map string_bytes line.reload;
-  freeze = option_map string_bytes line.freeze;
+request_of asked = record {
+  options = asked.options;
+  names = map string_bytes asked.files.items;
+  reload = option_map string_bytes asked.reload;
+  freeze = option_map string_bytes asked.freeze;
 }
 
 -- the names to which it freezes, and from which it reloads; they are empty if there are none

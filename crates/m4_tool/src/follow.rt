@@ -1,14 +1,15 @@
 //! A line that is followed in a world: a mode, or a run over the files of the line, which starts from a
 //! frozen file and freezes to one. Manual: "Invoking m4".
 
-ghost use Rattle.std.specs.Prelude.{◌≡◌, ◌≢◌, List, Option, None, Some, IfSome, true, option_map};
+ghost use Rattle.std.specs.Prelude.{◌≡◌, ◌≢◌, ℕ, List, Option, None, Some, IfSome, true, option_map};
 ghost use Rattle.m4_state.specs.Device.{Script};
 ghost use Rattle.m4_engine.specs.RunSources.{DescribesFrozen};
 ghost use Rattle.m4_engine.specs.File.{Source as Said};
 ghost use Rattle.m4_engine.specs.Run.{run as defined};
 ghost use Rattle.m4_tool.specs.World.{Files};
-ghost use Rattle.m4_tool.specs.Line.{LineResult, freeze_name, line as line_result, request_of, result_of_run};
-ghost use Rattle.m4_tool.specs.Line.{words_of};
+ghost use Rattle.m4_tool.specs.FollowPromises.{EndsRun, IsFollowed};
+ghost use Rattle.m4_tool.specs.Line.{LineResult, Starts, freeze_name, line as line_result, request_of, result_of_run};
+ghost use Rattle.m4_tool.specs.Line.{thaw_in, words_of};
 ghost use Rattle.m4_tool.specs.FailureCounts.{AnyRose, FailedAs, counts_of};
 ghost use Rattle.m4_tool.specs.declared.followed.Failure.TheVariants as failures;
 ghost use Rattle.m4_tool.specs.Known.{AnyFails, ExtendFiles, Knows, KnowsFiles, MayGive};
@@ -54,6 +55,24 @@ pub fn follow<W: World, O: Shows, M: Shows>(
         → MayGive (request_of line.now) files input r
         → Follows (request_of line.now) r result.status result.failure
         (seen O.contents M.contents M.failures W.files out.old out.new messages.old messages.new world result.world) }
+    // split: each call is one of those that the law `three_lines` takes, with the bytes and files of its devices
+    ensures followed { (files files_new : Files) (input : Script) (o o' m m' : List ℕ)
+        → mode_of line.now ≡ None → Knows W.making W.files W.input world files input
+        → W.files result.world ≡ Some files_new → O.contents out.old ≡ Some o → O.contents out.new ≡ Some o'
+        → M.contents messages.old ≡ Some m → M.contents messages.new ≡ Some m'
+        → IsFollowed (record {
+          request = request_of line.now;
+          files = files;
+          input = input;
+          files_new = files_new;
+          out_old = o;
+          out_new = o';
+          messages_old = m;
+          messages_new = m';
+          status = result.status;
+          ending = result.ending;
+          failure = result.failure;
+        }) }
     // unfinished files: if something failed after the frozen file was made, that file begins with a byte with which no
     // frozen file begins, or is empty
     ensures unfinished { mode_of line.now ≡ None → IfSome result.failure (λ failure. failure ≢ failures.Report
@@ -157,6 +176,11 @@ fn follow_run<W: World, O: Shows, M: Shows>(
         → MayGive (request_of line.now) files input r
         → Follows (request_of line.now) r result.status result.failure
         (seen O.contents M.contents M.failures W.files out.old out.new messages.old messages.new world result.world) }
+    ensures ended { (files : Files) (input : Script) (script : Option Script) (ss : List Said)
+        → Knows W.making W.files W.input world files input
+        → thaw_in files (request_of line.now).reload ≡ Starts script
+        → ExtendFiles files input (words_of (request_of line.now).names) ss → result.failure ≡ None
+        → EndsRun line.now.options script ss result.ending }
     ensures unfinished { IfSome result.failure (λ failure. failure ≢ failures.Report
         → LeavesMarked (freeze_name (request_of line.now)) (W.kept world) (W.kept result.world)) }
     ensures read { (files : Files) (input : Script) → Knows W.making W.files W.input world files input
@@ -202,6 +226,10 @@ fn follow_from<W: World, O: Shows, M: Shows>(
         → EndsBy result.failure (freeze_name (request_of line.now)) file.now
         (result_of_run file.now (defined line.now.options script ss)) result.status
         (seen O.contents M.contents M.failures W.files out.old out.new messages.old messages.new world result.world) }
+    ensures ended { (files : Files) (input : Script) (script : Option Script) (ss : List Said)
+        → Knows W.making W.files W.input world files input → DescribesFrozen W.Reader.script frozen.old script
+        → ExtendFiles files input (words_of (request_of line.now).names) ss → result.failure ≡ None
+        → EndsRun line.now.options script ss result.ending }
     ensures unfinished { IfSome result.failure (λ failure. failure ≢ failures.Report
         → LeavesMarked (freeze_name (request_of line.now)) (W.kept world) (W.kept result.world)) }
     ensures read { (files : Files) (input : Script) → Knows W.making W.files W.input world files input

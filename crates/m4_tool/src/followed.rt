@@ -3,6 +3,8 @@
 ghost use Rattle.std.specs.Prelude.{◌≡◌};
 ghost use Rattle.m4_tool.specs.Failure.{failure_line, status_after};
 
+use m4_engine::ending::Ending;
+
 /// The status of a line whose work was not done.
 pub(crate) const FAILED: u8 = 1;
 
@@ -51,6 +53,8 @@ pub(crate) fn status_after(failure: Option<Failure>, status: u8) -> u8
 pub struct Followed<W> {
     /// The exit status.
     pub status: u8,
+    /// How the run ended. Where there was no run, it has read everything, with the status of the line.
+    pub ending: Ending,
     /// The failure, if there was one.
     pub failure: Option<Failure>,
     /// The world.

@@ -1,12 +1,13 @@
 //! Laws of the definitions: no code runs here.
 //!
-//! The contract of each function is a law of `specs/LineLaws.antt`.
+//! The contract of the function is a law of `specs/ThreeLines.antt`.
 
-ghost use Rattle.m4_tool.specs.LineLaws.{FreezeThenReload};
+ghost use Rattle.m4_tool.specs.ThreeLines.{ThreeLines};
 
-/// A line that freezes, and then a line that reloads what it froze, write one after the other what one line
-/// over the files of both writes, with the later status. Manual: "Fast loading of frozen state".
-pub fn freeze_then_reload()
-    // split: for two command lines
-    ensures { FreezeThenReload }
+/// A call of [`follow`](crate::follow::follow) for a line that freezes, and then one for a line that reloads what it
+/// froze, leave in the writers and in the files what one call over the files of both leaves, and end as it does. This
+/// follows from the contract of `follow`. Manual: "Fast loading of frozen state".
+pub fn three_lines()
+    // split: for three calls of `follow`
+    ensures { ThreeLines }
 {}

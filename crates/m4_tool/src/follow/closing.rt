@@ -28,6 +28,7 @@ pub fn close<W: World, O: Shows, M: Shows>(
     out: &mut O,
     messages: &mut M,
 ) -> Followed<W>
+    ensures ending { result.ending ≡ ending }
     ensures closes { Closes file.now ending result.status result.failure
         (seen O.contents M.contents M.failures W.files out.old out.new messages.old messages.new world result.world) }
     ensures counted { ClosedAs ending.cause result.failure (counts_of O.failures M.failures W.failures
@@ -44,6 +45,7 @@ pub fn close<W: World, O: Shows, M: Shows>(
     report_last(failure, messages);
     Followed {
         status: status_after(failure, ending.status),
+        ending,
         failure: failure_after(failure, is_reported),
         world,
     }
@@ -177,18 +179,19 @@ pub fn close_mode<W: World, O: Shows, M: Shows>(
     ensures shown { result.failure ≡ None
         → AllShown O.shown O.contents M.shown M.contents W.kept W.files out.new messages.new result.world }
 {
+    let ending = Ending {
+        status,
+        cause: Cause::Done,
+        wrapped: false,
+    };
     if status == 0 {
-        let ending = Ending {
-            status,
-            cause: Cause::Done,
-            wrapped: false,
-        };
         return close(ending, b"", b"", world, out, messages);
     }
     let mut world = world;
     let flushed = flush_all(Cause::Done, b"", &mut world, out, messages);
     Followed {
         status,
+        ending,
         failure: failure_of(Cause::Done, flushed),
         world,
     }

@@ -6,6 +6,9 @@ ghost use Rattle.m4_state.specs.Device.{Script};
 ghost use Rattle.m4_engine.specs.File.{Source as Said};
 ghost use Rattle.m4_engine.specs.RunSources.{DescribesFrozen};
 ghost use Rattle.m4_engine.specs.Run.{run as defined};
+ghost use Rattle.m4_engine.specs.Start.{start_of};
+ghost use Rattle.m4_engine.specs.Carries.{frozen_state};
+ghost use Rattle.m4_state.specs.State.{IsSized};
 ghost use Rattle.m4_tool.specs.World.{Files};
 ghost use Rattle.m4_tool.specs.Line.{freeze_name, request_of, words_of};
 ghost use Rattle.m4_tool.specs.FailureCounts.{counts_of};
@@ -51,6 +54,11 @@ pub fn run_line<W: World, O: Shows, M: Shows>(
         → ExtendFiles files input (words_of (request_of line.now).names) ss
         → RanBy (freeze_name (request_of line.now)) (defined line.now.options script ss) result.ending
         (seen O.contents M.contents M.failures W.files out.old out.new messages.old messages.new world result.world) }
+    ensures sized { (files : Files) (input : Script) (script : Option Script) (ss : List Said)
+        → Knows W.making W.files W.input world files input → DescribesFrozen W.Reader.script frozen.old script
+        → ExtendFiles files input (words_of (request_of line.now).names) ss
+        → result.ending.cause ≡ Cause.Done → line.now.options.freeze ≡ true
+        → IsSized (frozen_state line.now.options (start_of line.now.options.prefix script) ss) }
     ensures unfinished { LeavesMarked (freeze_name (request_of line.now)) (W.kept world) (W.kept result.world) }
     ensures read { (files : Files) (input : Script) → Knows W.making W.files W.input world files input
         → result.ending.cause ≡ Cause.Read → AnyFails files input (words_of (request_of line.now).names) }
@@ -122,6 +130,11 @@ fn run_late<W: World, K: LateStart, O: Shows, M: Shows>(
         → DescribesFrozen W.Reader.script frozen.old script → ExtendFiles files input names ss
         → RanBy K.name (defined options script ss) result.ending
         (seen O.contents M.contents M.failures W.files out.old out.new messages.old messages.new world result.world) }
+    ensures sized { (files : Files) (input : Script) (names : List (List ℕ)) (script : Option Script) (ss : List Said)
+        → map (named_of W.Reader.script) sources.old ≡ named_in files input names
+        → DescribesFrozen W.Reader.script frozen.old script → ExtendFiles files input names ss
+        → result.ending.cause ≡ Cause.Done → options.freeze ≡ true
+        → IsSized (frozen_state options (start_of options.prefix script) ss) }
     ensures unfinished { LeavesMarked K.name (W.kept world) (W.kept result.world) }
     ensures read { (files : Files) (input : Script) (names : List (List ℕ))
         → map (named_of W.Reader.script) sources.old ≡ named_in files input names

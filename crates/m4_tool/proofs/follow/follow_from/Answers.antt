@@ -7,6 +7,7 @@ use Rattle.std.specs.Prelude.{◌≢◌}
 use Rattle.m4_tool.specs.Line.{freeze_name, request_of}
 use Rattle.m4_tool.specs.declared.followed.Failure.TheVariants as failures
 use Rattle.m4_tool.proofs.MarkedFiles.{leaves_at_end}
+use Rattle.m4_tool.proofs.FollowedCalls.{ends_as, ends_run}
 use Rattle.m4_tool.proofs.follow.follow_from.Goals as goal
 
 pub returns-clause-ends : goal.returns-clause-ends
@@ -27,3 +28,9 @@ returns-clause-unfinished g c =
     leaves_at_end (λ failure. failure ≢ failures.Report) c.close.result.failure (freeze_name (request_of c.args.line.now)) c.frozen_name.result.now
     (g.W.World.kept c.args.world) (g.W.World.kept c.run_line-ran.result.world) (g.W.World.kept c.close.result.world)
     c.frozen_name.ensures c.run_line-ran.ensures.unfinished c.close.ensures.unfinished
+
+pub returns-clause-ended : goal.returns-clause-ended
+returns-clause-ended g c = λ files input script ss k t e n.
+    ends_as c.args.line.now.options script ss c.run_line-ran.result.ending c.close.result.ending c.close.ensures.ending
+    (ends_run c.args.line.now.options script ss (unwrap_or (option_map string_bytes c.args.line.now.freeze) []) c.args.file.now c.run_line-ran.result.ending c.close.result.status c.close.result.failure _ _
+    (c.run_line-ran.ensures.ran files input script ss k t e) c.close.ensures.closes n (c.run_line-ran.ensures.sized files input script ss k t e))

@@ -5,6 +5,7 @@ use Rattle.m4_engine.specs.Run.{run}
 use Rattle.m4_tool.specs.Line.{LineResult, result_of_run, unreloaded}
 use Rattle.m4_tool.proofs.OpenedFiles.{fresh_result, thawed_at, reloads_so, missing_so}
 use Rattle.m4_tool.proofs.LineEnds.{ends_as}
+use Rattle.m4_tool.proofs.FollowedCalls.{fresh_start, missing_start, opened_start}
 use Rattle.m4_tool.proofs.follow.follow_run.Goals as goal
 
 pub returns-in-None-clause-follows : goal.returns-in-None-clause-follows
@@ -49,3 +50,25 @@ returns-in-Some-open-clause-read g c = λ files input known e. c.follow_from-in-
 
 pub returns-in-None-open-clause-read : goal.returns-in-None-open-clause-read
 returns-in-None-open-clause-read g c = λ files input known e. absurd (c.close_unopened.ensures.unread e)
+
+pub returns-in-None-clause-ended : goal.returns-in-None-clause-ended
+returns-in-None-clause-ended g c = λ files input script ss known t e n.
+    c.follow_from.ensures.ended files input script ss known
+    (fresh_start files (option_map string_bytes c.args.line.now.reload) script (ap (option_map string_bytes) c.in-None.is) t) e n
+
+pub returns-in-Some-open-clause-ended : goal.returns-in-Some-open-clause-ended
+returns-in-Some-open-clause-ended g c = λ files input script ss known t e n.
+    let line = c.args.line.now in
+    let given = c.as_bytes-file.result.now in
+    let is = c.as_bytes-file.ensures.value ∙ c.as_str.ensures.value in
+    c.follow_from-in-Some-open.ensures.ended files input script ss known
+    (opened_start g.W.Reader.ByteSource.script c.in-Some-open.reader files (option_map string_bytes line.reload) given script
+    (ap (option_map string_bytes) c.in-Some.is ∙ ap (λ (n : List ℕ). Some n) (sym is)) (rw known.0.1 at (c.in-Some-open.ensures known.0.0)) t) e n
+
+pub returns-in-None-open-clause-ended : goal.returns-in-None-open-clause-ended
+returns-in-None-open-clause-ended g c = λ files input script ss known t e n.
+    let line = c.args.line.now in
+    let given = c.as_bytes-file.result.now in
+    let is = c.as_bytes-file.ensures.value ∙ c.as_str.ensures.value in
+    missing_start files (option_map string_bytes line.reload) given script
+    (ap (option_map string_bytes) c.in-Some.is ∙ ap (λ (n : List ℕ). Some n) (sym is)) (rw known.0.1 at (c.in-None-open.ensures known.0.0)) t

@@ -24,3 +24,8 @@ pub returns-clause-read : goal.returns-clause-read
 returns-clause-read g c = λ files input names n e.
     run_fails g.W.Reader.ByteSource.script g.W.Reader.ByteSource.failures files input names c.args.sources.now c.run_keeping-session.new.sources
     c.run_keeping-session.result.0.cause n c.run_keeping-session.ensures.taken c.run_keeping-session.ensures.read.0 e
+
+pub returns-clause-sized : goal.returns-clause-sized
+returns-clause-sized g c = λ files input names script ss n t e cause freezes.
+    let sources = inr (all_extend g.W.Reader.ByteSource.script files input names c.args.sources.now c.run_keeping-session.new.sources ss n c.run_keeping-session.ensures.taken e) in
+    c.run_keeping-session.ensures.sized script t ss sources cause freezes

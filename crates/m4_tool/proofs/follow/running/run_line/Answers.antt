@@ -5,6 +5,7 @@ use Rattle.m4_tool.specs.Line.{words_of}
 use Rattle.m4_engine.specs.Run.{run as defined}
 use Rattle.m4_tool.proofs.RanFiles.{not_begun, ran_as}
 use Rattle.m4_tool.proofs.ReadFaults.{never_read}
+use Rattle.m4_tool.proofs.FollowedCalls.{never_done}
 use Rattle.m4_tool.proofs.follow.running.run_line.Goals as goal
 
 pub returns-in_default-clause-ran : goal.returns-in_default-clause-ran
@@ -39,3 +40,16 @@ pub returns-clause-read : goal.returns-clause-read
 returns-clause-read g c = λ files input k e.
     c.run_late.ensures.read files input (words_of (map string_bytes c.args.line.now.files.items))
     (rw c.deref_mut.ensures.value (rw c.as_slice.ensures.value at (c.in-Ok.ensures.sources files input k))) e
+
+pub returns-in_default-clause-sized : goal.returns-in_default-clause-sized
+returns-in_default-clause-sized g c = λ files input script ss k t e d.
+    never_done c.without_memory.result.ending c.without_memory.ensures.ending d
+
+pub returns-in_default-name_of-clause-sized : goal.returns-in_default-name_of-clause-sized
+returns-in_default-name_of-clause-sized g c = λ files input script ss k t e d.
+    never_done c.without_memory-in_default-name_of.result.ending c.without_memory-in_default-name_of.ensures.ending d
+
+pub returns-clause-sized : goal.returns-clause-sized
+returns-clause-sized g c = λ files input script ss k t e d freezes.
+    c.run_late.ensures.sized files input (words_of (map string_bytes c.args.line.now.files.items)) script ss
+    (rw c.deref_mut.ensures.value (rw c.as_slice.ensures.value at (c.in-Ok.ensures.sources files input k))) t e d freezes
